@@ -171,7 +171,7 @@ static void remove_new(struct state *own) {
     else if (fd >= 0) close(fd);
 }
 
-/* Puts a whole file in the place of the last one, which is on the disk before if it `lasts`; answers it, or -errno. */
+/* Puts a whole file in the place of the last one; it is on the disk, and so is its name, if it `lasts`. Answers it, or -errno. */
 static int replace_file(struct state *own, int folder, const char *name, bool lasts) {
     char new_name[NEW_ROOM];
     int kept;
@@ -187,7 +187,9 @@ static int replace_file(struct state *own, int folder, const char *name, bool la
     }
     write_state(own, file);
     kept = fflush(file) == 0 && !ferror(file) && (!lasts || fsync(fd) == 0) ? fcntl(fd, F_DUPFD_CLOEXEC, 0) : -1;
-    if (fclose(file) == 0 && kept >= 0 && !own->carry->process->broken && renameat(folder, new_name, folder, name) == 0) return kept;
+    if (fclose(file) == 0 && kept >= 0 && !own->carry->process->broken && renameat(folder, new_name, folder, name) == 0
+        && (!lasts || fsync(folder) == 0))
+        return kept;
     fd = last_fault();
     if (kept >= 0) close(kept);
     (void)unlinkat(folder, new_name, 0);
@@ -215,13 +217,15 @@ void keep_port(struct state *own, uint16_t number, uint16_t port) {
     keep_file(own, -1);
 }
 
-/* Removes a state, or what it has; answers 0, or -errno. */
-static int remove_file(int folder, const char *name) {
-    if (unlinkat(folder, name, 0) == 0 || errno == ENOENT) return 0;
-    int emptied = openat(folder, name, O_WRONLY | O_TRUNC | O_NOFOLLOW | O_CLOEXEC);
-    if (emptied < 0) return last_fault();
-    close(emptied);
-    return 0;
+/* Removes a state, or what it has, on the disk too if it `lasts`; answers 0, or -errno. */
+static int remove_file(int folder, const char *name, bool lasts) {
+    int emptied = -1, fault = unlinkat(folder, name, 0) < 0 ? last_fault() : 0;
+    if (fault == -ENOENT) return 0;
+    if (fault < 0) emptied = openat(folder, name, O_WRONLY | O_TRUNC | O_NOFOLLOW | O_CLOEXEC);
+    if (fault < 0 && emptied < 0) return last_fault();
+    fault = lasts && fsync(emptied < 0 ? folder : emptied) < 0 ? last_fault() : 0;
+    if (emptied >= 0) close(emptied);
+    return fault;
 }
 
 static void note_removal(struct process *process, const char *name, int fault) {
@@ -238,7 +242,7 @@ struct copied {
 /* Writes the copy, where some port would go on from it; else there is none. */
 static struct copied write_copy(struct state *own, bool wanted) {
     int copy = wanted ? replace_file(own, own->kept_folder, own->kept_name, true) : -1;
-    if (copy < 0) return (struct copied){wanted ? copy : 0, remove_file(own->kept_folder, own->kept_name)};
+    if (copy < 0) return (struct copied){wanted ? copy : 0, remove_file(own->kept_folder, own->kept_name, true)};
     close(copy);
     return (struct copied){0, 0};
 }
@@ -355,9 +359,9 @@ void end_state(struct state *own) {
     own->over = true;
     keep_file(own, -1);
     end_copier(own);
-    note_removal(process, own->name, remove_file(process->folder, own->name));
+    note_removal(process, own->name, remove_file(process->folder, own->name, false));
     if (own->kept_folder >= 0) remove_new(own);
-    if (own->kept_folder >= 0) note_removal(process, own->kept_name, remove_file(own->kept_folder, own->kept_name));
+    if (own->kept_folder >= 0) note_removal(process, own->kept_name, remove_file(own->kept_folder, own->kept_name, true));
 }
 
 static bool read_hex(const char *text, uint8_t *octets) {
