@@ -37,6 +37,8 @@
 /* On older kernels the daemon has fewer files open. */
 #define MOST_OPENED 4096
 #define NEW_ROOM (NAME_ROOM + 64)
+/* A fault of a copy: who writes it waits for the disk. */
+#define HANGS (-ETIME)
 
 struct state {
     struct carry *carry; /* what is saved, as far as it concerns data */
@@ -228,10 +230,14 @@ static int remove_file(int folder, const char *name, bool lasts) {
     return fault;
 }
 
+static const char *fault_text(int fault) {
+    return fault == HANGS ? "its disk does not answer" : strerror(-fault);
+}
+
 static void note_removal(struct process *process, const char *name, int fault) {
     if (fault < 0)
         (void)say(process, LOG_ERR | ABOUT_HANDOVER,
-            "its state cannot be removed: %s: remove %s, or start no daemon for as long as a partner is waited for", strerror(-fault), name);
+            "its state cannot be removed: %s: remove %s, or start no daemon for as long as a partner is waited for", fault_text(fault), name);
 }
 
 /* What became of a copy: each is 0, or -errno. */
@@ -247,14 +253,17 @@ static struct copied write_copy(struct state *own, bool wanted) {
     return (struct copied){0, 0};
 }
 
-/* What is wrong with a copy has a line, and of several in a row the first one. */
+/* What is wrong with a copy has a line, of several faults in a row the first one, and so has their end. */
 static void note_copy(struct state *own, struct copied copied) {
     struct process *process = own->carry->process;
+    const char *folder = own->carry->settings->state_dir;
+    bool failed = copied.written < 0 || copied.removed < 0;
     if (copied.written < 0 && !own->copy_failed)
-        (void)say(process, LOG_WARNING | ABOUT_HANDOVER, "its state cannot be kept in %s, so a start after a reboot begins anew: %s",
-            own->carry->settings->state_dir, strerror(-copied.written));
+        (void)say(process, LOG_WARNING | ABOUT_HANDOVER, "its state cannot be kept in %s, so a start after a reboot begins anew: %s", folder,
+            fault_text(copied.written));
     if (!own->copy_failed) note_removal(process, own->kept_name, copied.removed);
-    own->copy_failed = copied.written < 0 || copied.removed < 0;
+    if (own->copy_failed && !failed) (void)say(process, LOG_NOTICE | ABOUT_HANDOVER, "its state can be kept in %s again", folder);
+    own->copy_failed = failed;
 }
 
 /* The ports that would go on after a reboot, a bit for each: those whose ends wait for 90 s. */
@@ -316,6 +325,7 @@ static void see_copy(struct state *own) {
 static void pass_copy_second(struct state *own) {
     uint64_t ports = lasting_ports(own->carry->ports), now = boottime();
     see_copy(own);
+    if (own->copied >= 0 && now - own->copied_at >= COPIED_EVERY && !own->copy_failed) note_copy(own, (struct copied){HANGS, 0});
     if (own->copied >= 0 || (ports == 0 && !own->has_copy) || (ports == own->copied_ports && now - own->copied_at < COPIED_EVERY)) return;
     own->copied_ports = ports;
     own->copied_at = now;
