@@ -1,7 +1,7 @@
 /* The state that a daemon leaves to the next one: a file beside the status socket, written each second and at the end. A line is added to it
  * before the first frame of a conversation goes on another link. It goes with each stop of which the peers are told. With state-dir there is a
  * copy for the first daemon after a reboot, which knows interfaces by their names, and times by the clock on the wall. It may be on a disk that
- * takes long, so a process of its own writes it while the daemon runs. */
+ * takes long, so a process of its own writes it. */
 #include "team/team.h"
 
 #include <dirent.h>
@@ -28,7 +28,7 @@
 #define MOST_AWAY 3000
 /* How often a copy is written while the same ports would go on from it, in milliseconds: the oldest one that is of use is 90 s old. */
 #define COPIED_EVERY 10000
-/* How long a daemon that ends waits for who writes a copy, and then for the end of that one, in milliseconds. */
+/* How long a daemon that ends waits for who writes a copy, and then for who writes the last one, in milliseconds. */
 #define MOST_COPYING 500
 /* Of Linux 5.9, and not in older headers. */
 #ifndef SYS_close_range
@@ -248,6 +248,7 @@ struct copied {
 /* Writes the copy, where some port would go on from it; else there is none. */
 static struct copied write_copy(struct state *own, bool wanted) {
     int copy = wanted ? replace_file(own, own->kept_folder, own->kept_name, true) : -1;
+    if (copy < 0) remove_new(own);
     if (copy < 0) return (struct copied){wanted ? copy : 0, remove_file(own->kept_folder, own->kept_name, true)};
     close(copy);
     return (struct copied){0, 0};
@@ -334,16 +335,25 @@ static void pass_copy_second(struct state *own) {
     if (fault < 0) note_copy(own, (struct copied){fault, 0});
 }
 
-/* Nobody writes a copy from here on. */
-static void end_copier(struct state *own) {
+/* Waits for who writes a copy; answers whether that one is done, or there is none. */
+static bool await_copier(struct state *own) {
     struct pollfd told = {own->copied, POLLIN, 0};
-    if (own->copied < 0) return;
-    if (poll(&told, 1, MOST_COPYING) == 0) {
-        (void)kill(own->copier, SIGKILL);
-        (void)poll(&told, 1, MOST_COPYING);
-    }
-    close(own->copied);
+    bool done = own->copied < 0 || poll(&told, 1, MOST_COPYING) > 0;
+    see_copy(own);
+    if (own->copied >= 0) close(own->copied);
     own->copied = -1;
+    return done;
+}
+
+/* At the end of the daemon the copy is written, or removed, for the last time. A disk that hangs is left alone. */
+static void finish_copy(struct state *own, bool wanted) {
+    if (!await_copier(own)) (void)kill(own->copier, SIGKILL);
+    own->copied_ports = wanted;
+    own->copy_failed = false;
+    if (start_copier(own) < 0)
+        note_copy(own, write_copy(own, wanted));
+    else if (!await_copier(own))
+        note_copy(own, (struct copied){wanted ? HANGS : 0, wanted ? 0 : HANGS});
 }
 
 /* Writes the state; answers whether it did. Where that fails there is none. */
@@ -354,12 +364,8 @@ bool save_state(struct state *own, bool leaves) {
     keep_file(own, file);
     if (file < 0) lose_file(own, file);
     if (file >= 0) own->failed = false;
-    if (own->kept_folder >= 0 && leaves && file >= 0) {
-        end_copier(own);
-        note_copy(own, write_copy(own, true));
-    } else if (own->kept_folder >= 0 && !leaves) {
-        pass_copy_second(own);
-    }
+    if (own->kept_folder >= 0 && leaves && file >= 0) finish_copy(own, true);
+    if (own->kept_folder >= 0 && !leaves) pass_copy_second(own);
     return file >= 0;
 }
 
@@ -368,10 +374,8 @@ void end_state(struct state *own) {
     struct process *process = own->carry->process;
     own->over = true;
     keep_file(own, -1);
-    end_copier(own);
     note_removal(process, own->name, remove_file(process->folder, own->name, false));
-    if (own->kept_folder >= 0) remove_new(own);
-    if (own->kept_folder >= 0) note_removal(process, own->kept_name, remove_file(own->kept_folder, own->kept_name, true));
+    if (own->kept_folder >= 0) finish_copy(own, false);
 }
 
 static bool read_hex(const char *text, uint8_t *octets) {
