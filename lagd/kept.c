@@ -63,12 +63,19 @@ bool end_kept(int folder, const struct link *link, const char *kind, FILE *file,
     name_next(link, kind, next);
     name_file(link, kind, name);
     done = done && !ferror(file);
-    return fclose(file) == 0 && done && renameat(folder, next, folder, name) == 0;
+    done = fclose(file) == 0 && done && renameat(folder, next, folder, name) == 0;
+    int fault = errno;
+    if (!done) (void)unlinkat(folder, next, 0);
+    errno = fault;
+    return done;
 }
 
+/* Removes what is kept of an interface, and what a daemon that was killed began of it. */
 void drop_kept(int folder, const struct link *link, const char *kind) {
-    char name[64];
+    char next[64], name[64];
+    name_next(link, kind, next);
     name_file(link, kind, name);
+    (void)unlinkat(folder, next, 0);
     (void)unlinkat(folder, name, 0);
 }
 

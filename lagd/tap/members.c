@@ -235,7 +235,7 @@ void move_member(struct plane *plane, struct link *link, const uint8_t *mac) {
     struct tap_plane *tap = plane->tap;
     struct member *member = member_of(tap, link);
     if (member->socket < 0) return;
-    move_former(tap->process->folder, link, mac);
+    move_former(tap->process, link, mac);
     write_settings(tap->process, link, &member->guard.before);
 }
 

@@ -53,26 +53,31 @@ static const char *wanted_of(const struct link *link, enum setting setting, unsi
     return mask;
 }
 
-/* An interface has another MAC address from now on: what its queues had stays known by that one. */
-void move_former(int folder, struct link *link, const uint8_t *mac) {
+/* Copies what is known of queues; answers whether all of it was read. */
+static bool copy_known(FILE *file, FILE *next) {
     char name[NAME_OCTETS], mask[PROCESSORS_ROOM];
-    FILE *file = read_kept(folder, link, "queues"), *next;
-    memcpy(link->mac, mac, sizeof link->mac);
-    next = file ? begin_kept(folder, link, "queues") : NULL;
-    while (next && fscanf(file, READ_LINE, name, mask) == 2) fprintf(next, "%s %s\n", name, mask);
-    if (next) (void)end_kept(folder, link, "queues", next, true);
-    if (file) fclose(file);
+    while (fscanf(file, READ_LINE, name, mask) == 2) fprintf(next, "%s %s\n", name, mask);
+    return !ferror(file);
 }
 
-/* Whether it is known what a setting was before an earlier daemon changed it; with `next`, all that is known is written there. */
-static bool is_known(int folder, const struct link *link, const char *wanted, FILE *next) {
+/* An interface has another MAC address from now on: what its queues had stays known by that one. */
+void move_former(struct process *process, struct link *link, const uint8_t *mac) {
+    FILE *file = read_kept(process->folder, link, "queues"), *next;
+    memcpy(link->mac, mac, sizeof link->mac);
+    if (!file) return;
+    next = begin_kept(process->folder, link, "queues");
+    if (!next || !end_kept(process->folder, link, "queues", next, copy_known(file, next)))
+        (void)say(process, LOG_WARNING | ABOUT_DATA, "port %u %s: nobody knows any more what its queues had: %s", link->settings.number,
+            link->name, strerror(errno));
+    fclose(file);
+}
+
+/* Whether it is known what a setting was before an earlier daemon changed it. */
+static bool is_known(int folder, const struct link *link, const char *wanted) {
     char name[NAME_OCTETS], mask[PROCESSORS_ROOM];
     bool found = false;
     FILE *file = read_kept(folder, link, "queues");
-    while (file && fscanf(file, READ_LINE, name, mask) == 2) {
-        if (next) fprintf(next, "%s %s\n", name, mask);
-        found = found || (wanted && strcmp(name, wanted) == 0);
-    }
+    while (file && !found && fscanf(file, READ_LINE, name, mask) == 2) found = strcmp(name, wanted) == 0;
     if (file) fclose(file);
     return found;
 }
@@ -88,7 +93,7 @@ static bool change_processors(int folder, const struct link *link, FILE *next) {
             name_setting(setting, queue, name);
             if (!path_of_queue(link->index, name, path, sizeof path) || !read_processors(path, now, sizeof now)) continue;
             const char *wanted = wanted_of(link, setting, queue, now, mask);
-            if (wanted && next) done = (is_known(folder, link, name, NULL) || fprintf(next, "%s %s\n", name, now) > 0) && done;
+            if (wanted && next) done = (is_known(folder, link, name) || fprintf(next, "%s %s\n", name, now) > 0) && done;
             if (wanted && !next) done = write_processors(path, wanted) && done;
         }
     }
@@ -97,10 +102,10 @@ static bool change_processors(int folder, const struct link *link, FILE *next) {
 
 /* Keeps what the queues have now, before it is changed, beside what they had before an earlier daemon changed it; answers whether it did. */
 static bool keep_all(int folder, const struct link *link) {
-    FILE *next = begin_kept(folder, link, "queues");
-    if (!next) return false;
-    (void)is_known(folder, link, NULL, next);
-    return end_kept(folder, link, "queues", next, change_processors(folder, link, next));
+    FILE *file = read_kept(folder, link, "queues"), *next = begin_kept(folder, link, "queues");
+    bool copied = next && (!file || copy_known(file, next));
+    if (file) fclose(file);
+    return next && end_kept(folder, link, "queues", next, change_processors(folder, link, next) && copied);
 }
 
 /* How many queues an interface has, those that send above those that receive; 0 where the kernel does not tell of both. */

@@ -244,7 +244,7 @@ void stop_spreading(struct store_private *store, const struct link *link, struct
 void note_channels(const struct link *link, struct guard *guard);
 bool has_usual_queues(struct tap_plane *tap, const struct guard *guard);
 bool is_spread_anew(const struct system_private *own, const struct link *link, const struct guard *guard);
-void move_former(int folder, struct link *link, const uint8_t *mac);
+void move_former(struct process *process, struct link *link, const uint8_t *mac);
 void gather_back(int folder, const struct link *link, bool whole);
 bool may_spread(int folder, const struct link *link);
 
