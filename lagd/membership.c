@@ -320,7 +320,8 @@ static const char *add_by_words(struct protocol *protocol, char *text, uint16_t 
     const char *found, *expected = read_port(&protocol->process->words, text, &wanted, &found), *fault;
     struct link *known = expected ? NULL : link_of(protocol->ports, wanted.ports[0].name);
     text[strcspn(text, ":")] = 0;
-    snprintf(room, ORDER_ROOM, "expected %s", expected ? expected : "");
+    if (expected && found != text) snprintf(room, ORDER_ROOM, "%.32s: expected %s", found, expected);
+    else snprintf(room, ORDER_ROOM, "expected %s", expected ? expected : "");
     if (expected) return room;
     if (known && !known->leaving) return "it is a port already";
     if (known) {
