@@ -30,8 +30,8 @@ static const char *fault_of(int folder) {
     return found.st_mode & (S_IWGRP | S_IWOTH) ? "other users may write the folder" : NULL;
 }
 
-/* Opens the folder, and makes it where it is missing; or answers -1, and why not, which errno tells where `fault` is NULL. One of another user, one that others may write, and a symbolic
- * link to one are refused: whoever has it could put a link or a socket of his own in it. */
+/* Opens the folder, and makes it where it is missing; or answers -1, and why not, which errno tells where `fault` is NULL. One of another user,
+ * one that others may write, and a symbolic link to one are refused: whoever has it could put a link or a socket of his own in it. */
 int try_folder(const char *folder, const char **fault) {
     bool made = mkdir(folder, 0755) == 0;
     int opened = made || errno == EEXIST ? open(folder, O_RDONLY | O_DIRECTORY | O_NOFOLLOW | O_CLOEXEC) : -1;

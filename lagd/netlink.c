@@ -79,7 +79,7 @@ bool ask_netlink(int bus, const union message *question, message_reader read_one
 }
 
 /* Has the kernel do something of interfaces. */
-bool order(const union message *wanted) {
+bool ask_kernel(const union message *wanted) {
     return ask_netlink(NETLINK_ROUTE, wanted, NULL, NULL);
 }
 

@@ -1,5 +1,5 @@
-/* The manager of services, if one started the daemon: it is told what that does. And its store: files that it keeps open while no daemon runs, so that the next one goes on with them. Each has the
- * name of its kind, of its network namespace, and a number, mostly that of an interface. */
+/* The manager of services, if one started the daemon: it is told what that does. And its store: files that it keeps open while no daemon runs,
+ * so that the next one goes on with them. Each has the name of its kind, of its network namespace, and a number, mostly that of an interface. */
 #include "lagd.h"
 
 #ifdef HAVE_SYSTEMD

@@ -47,14 +47,14 @@ static bool set_fifo(int index, uint32_t megabits, unsigned flags, uint32_t pare
     struct tc_fifo_qopt most = {most_queued(megabits)};
     mnl_attr_put_strz(&question.head, TCA_KIND, "bfifo");
     mnl_attr_put(&question.head, TCA_OPTIONS, sizeof most, &most);
-    return order(&question);
+    return ask_kernel(&question);
 }
 
 /* Gives an interface a discipline that has a queue for each of its own, in place of what the kernel gave it by itself. */
 static bool give_queues(int index) {
     union message question = question_of(RTM_NEWQDISC, NLM_F_CREATE, index, TC_H_ROOT, FIFO);
     mnl_attr_put_strz(&question.head, TCA_KIND, "mq");
-    return order(&question);
+    return ask_kernel(&question);
 }
 
 /* What is seen of the queueing disciplines of an interface. */
@@ -128,14 +128,14 @@ void fit_each_fifo(int index, unsigned queues, uint32_t megabits) {
 /* The kernel gives an interface what it chooses by itself, if its queue is one of the daemon. */
 void drop_fifo(int index) {
     union message question = question_of(RTM_DELQDISC, 0, index, TC_H_ROOT, FIFO);
-    (void)order(&question);
+    (void)ask_kernel(&question);
 }
 
 /* An interface gets no queueing discipline, unless an administrator gave it one. Which it has then is told with all interfaces. */
 void give_no_queue(int index) {
     union message question = question_of(RTM_NEWQDISC, NLM_F_CREATE | NLM_F_EXCL, index, TC_H_ROOT, 0);
     mnl_attr_put_strz(&question.head, TCA_KIND, "noqueue");
-    (void)order(&question);
+    (void)ask_kernel(&question);
 }
 
 static union message question_of_place(uint16_t type, unsigned flags, int index) {
@@ -154,7 +154,7 @@ static union message question_of_classifier(uint16_t type, unsigned flags, int i
 
 static bool has_classifier(int index, uint32_t handle) {
     union message question = question_of_classifier(RTM_GETTFILTER, 0, index, handle);
-    return order(&question);
+    return ask_kernel(&question);
 }
 
 /* Whether a message tells of nothing but the classifier of the daemon: first of its priority, and then of itself. */
@@ -182,20 +182,20 @@ static void leave_place(int index, bool made) {
     bool alone = made && has_own_alone(index, TC_H_MIN_INGRESS) && has_own_alone(index, TC_H_MIN_EGRESS);
     union message place = question_of_place(RTM_DELQDISC, 0, index);
     union message own = question_of_classifier(RTM_DELTFILTER, 0, index, made ? PLACE_MADE : PLACE_FOUND);
-    (void)order(alone ? &place : &own);
+    (void)ask_kernel(alone ? &place : &own);
 }
 
 /* Has a program look at what the stack of an interface would get, on a kernel without TCX. It stays when the daemon is killed, and the next
  * one takes it over. */
 enum classifier set_classifier(int program, int index) {
     union message place = question_of_place(RTM_NEWQDISC, NLM_F_CREATE | NLM_F_EXCL, index), question;
-    bool made = order(&place) || has_classifier(index, PLACE_MADE);
+    bool made = ask_kernel(&place) || has_classifier(index, PLACE_MADE);
     question = question_of_classifier(RTM_NEWTFILTER, NLM_F_CREATE, index, made ? PLACE_MADE : PLACE_FOUND);
     struct nlattr *nest = mnl_attr_nest_start(&question.head, TCA_OPTIONS);
     mnl_attr_put_u32(&question.head, TCA_BPF_FD, (uint32_t)program);
     mnl_attr_put_u32(&question.head, TCA_BPF_FLAGS, TCA_BPF_FLAG_ACT_DIRECT);
     mnl_attr_nest_end(&question.head, nest);
-    if (order(&question)) return made ? CLASSIFIER_ALONE : CLASSIFIER_BEHIND_OTHERS;
+    if (ask_kernel(&question)) return made ? CLASSIFIER_ALONE : CLASSIFIER_BEHIND_OTHERS;
     if (made) leave_place(index, true);
     return NO_CLASSIFIER;
 }
