@@ -33,8 +33,10 @@ static const char *fault_of(int folder) {
 /* Opens the folder, and makes it where it is missing; or answers -1, and why not, which errno tells where `fault` is NULL. One of another user,
  * one that others may write, and a symbolic link to one are refused: whoever has it could put a link or a socket of his own in it. */
 int try_folder(const char *folder, const char **fault) {
-    bool made = mkdir(folder, 0755) == 0;
-    int opened = made || errno == EEXIST ? open(folder, O_RDONLY | O_DIRECTORY | O_NOFOLLOW | O_CLOEXEC) : -1;
+    const int flags = O_RDONLY | O_DIRECTORY | O_NOFOLLOW | O_CLOEXEC;
+    int opened = open(folder, flags); /* one that is there needs nothing of its disk */
+    bool made = opened < 0 && errno == ENOENT && mkdir(folder, 0755) == 0;
+    if (made || (opened < 0 && errno == EEXIST)) opened = open(folder, flags);
     *fault = errno == ELOOP || errno == ENOTDIR ? "a symbolic link, or no folder" : NULL;
     if (opened < 0) return -1;
     if (made) (void)fchmod(opened, 0755); /* whatever the umask is */

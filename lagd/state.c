@@ -247,8 +247,8 @@ struct copied {
 
 /* Writes the copy, where some port would go on from it; else there is none. */
 static struct copied write_copy(struct state *own, bool wanted) {
+    remove_new(own);
     int copy = wanted ? replace_file(own, own->kept_folder, own->kept_name, true) : -1;
-    if (copy < 0) remove_new(own);
     if (copy < 0) return (struct copied){wanted ? copy : 0, remove_file(own->kept_folder, own->kept_name, true)};
     close(copy);
     return (struct copied){0, 0};
@@ -544,7 +544,8 @@ static FILE *open_state(int folder, const char *name) {
 static bool lock_copy(struct state *own) {
     char name[NAME_ROOM + 40];
     snprintf(name, sizeof name, "%s.lock", own->kept_name);
-    own->lock = openat(own->kept_folder, name, O_RDWR | O_CREAT | O_NOFOLLOW | O_CLOEXEC, 0600);
+    own->lock = openat(own->kept_folder, name, O_RDONLY | O_NOFOLLOW | O_CLOEXEC);
+    if (own->lock < 0 && errno == ENOENT) own->lock = openat(own->kept_folder, name, O_RDONLY | O_CREAT | O_NOFOLLOW | O_CLOEXEC, 0600);
     if (own->lock >= 0 && flock(own->lock, LOCK_EX | LOCK_NB) == 0) return true;
     int fault = errno;
     if (own->lock >= 0) close(own->lock);
@@ -563,7 +564,6 @@ static void open_kept_folder(struct state *own) {
         close(own->kept_folder);
         own->kept_folder = -1;
     }
-    if (own->kept_folder >= 0) remove_new(own);
     own->has_copy = own->kept_folder >= 0;
     own->copied_ports = UINT64_MAX;
     if (own->kept_folder < 0)

@@ -6,6 +6,7 @@ import contextlib
 import glob
 import os
 import re
+import shutil
 import signal
 import time
 from typing import Callable, Iterator, Sequence
@@ -335,6 +336,48 @@ def full_disk(part: Part, theirs: Daemon, kept: str) -> None:
     check(not os.path.exists(f"{kept}/a0.state"), "a stop leaves none", os.listdir(kept))
 
 
+def hangs_on_disk(part: Part) -> None:
+    """A disk that hangs disturbs neither a daemon that runs, nor the next one, nor an end; whoever still writes then leaves nothing behind."""
+    image, disk = os.path.join(part.folder, "image"), os.path.join(part.folder, "disk")
+    os.makedirs(disk)
+    with open(image, "wb") as it:
+        it.truncate(32 << 20)
+    if not shutil.which("mkfs.ext4") or command("mkfs.ext4", "-q", image).returncode or command("mount", "-o", "loop", image, disk).returncode:
+        raise Skipped("no file system of its own")
+    try:
+        frozen_disk(part, disk)
+    finally:
+        command("fsfreeze", "-u", disk)
+        command("umount", "-l", disk)
+
+
+def frozen_disk(part: Part, disk: str) -> None:
+    kept = f"{disk}/kept"
+    options = ["--timeout", "long", "--state-dir", kept]
+    ours, theirs = part.ours(options=options), part.theirs(options=["--timeout", "long"])
+    both_up(ours, theirs, "both links come to distribute")
+    check(within(COPIED, lambda: carried_in(f"{kept}/a0.state") == ["1", "1"]), "there is a copy", os.listdir(kept))
+    lines = theirs.printed()
+    if command("fsfreeze", "-f", disk).returncode:
+        raise Skipped("no fsfreeze")
+    text = "its disk does not answer"
+    check(within(2 * RENEWED, lambda: text in ours.printed()), "a disk that hangs has a line", ours.printed())
+    ours = hand_over(part, ours, by=signal.SIGKILL, options=options)
+    check(within(ENDS, lambda: WENT_ON in ours.printed()), "the next daemon goes on meanwhile", ours.printed())
+    time.sleep(TIMEOUT)
+    check(theirs.printed() == lines, "its peer has seen nothing", theirs.printed())
+    ours.ends("it")
+    check(f"its state cannot be removed: {text}" in ours.printed(), "a stop says that the copy stays", ours.printed())
+    command("fsfreeze", "-u", disk)
+    ours = part.ours(options=options)
+    both_up(ours, theirs, "both links come back")
+    found = within(RENEWED, lambda: carried_in(f"{kept}/a0.state") == ["1", "1"] and sorted(os.listdir(kept)) == ["a0.state", "a0.state.lock"])
+    check(found, "there is a copy again, and nothing else", os.listdir(kept))
+    ours.ends("the daemon")
+    check(os.listdir(kept) == ["a0.state.lock"], "a stop leaves none", os.listdir(kept))
+
+
 PARTS = {"the next daemon goes on": goes_on, "a state beyond a reboot": outlives_boot, "a state beyond a crash": outlives_crash,
+         "a disk that hangs": hangs_on_disk,
          "restarts in a row": in_a_row, "a limit of links through a restart": keeps_limit,
          "a state of no use": begins_anew, "what changes between two daemons": things_change}
