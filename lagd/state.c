@@ -36,7 +36,6 @@
 #endif
 /* On older kernels the daemon has fewer files open. */
 #define MOST_OPENED 4096
-#define NEW_ROOM (NAME_ROOM + 64)
 /* A fault of a copy: who writes it waits for the disk. */
 #define HANGS (-ETIME)
 
@@ -155,11 +154,6 @@ static void keep_file(struct state *own, int file) {
     own->file = file;
 }
 
-/* A copy that is being written: each process has a file of its own. */
-static void name_new(const char *name, pid_t writer, char room[static NEW_ROOM]) {
-    snprintf(room, NEW_ROOM, "%s.%d.new", name, (int)writer);
-}
-
 /* Removes what processes that were killed wrote of a copy: one that still hangs on the disk finds nothing then to put in the place of another. */
 static void remove_new(struct state *own) {
     size_t length = strlen(own->kept_name);
@@ -175,11 +169,11 @@ static void remove_new(struct state *own) {
 
 /* Puts a whole file in the place of the last one; it is on the disk, and so is its name, if it `lasts`. Answers it, or -errno. */
 static int replace_file(struct state *own, int folder, const char *name, bool lasts) {
-    char new_name[NEW_ROOM];
+    char new_name[NAME_ROOM + 64];
     int kept;
     FILE *file;
     snprintf(new_name, sizeof new_name, "%s.new", name);
-    if (lasts) name_new(name, getpid(), new_name);
+    if (lasts) snprintf(new_name, sizeof new_name, "%s.%d.new", name, (int)getpid()); /* whoever writes a copy has a file of its own */
     int fd = openat(folder, new_name, O_WRONLY | O_CREAT | O_TRUNC | O_APPEND | O_NOFOLLOW | O_CLOEXEC, 0600);
     file = fd < 0 ? NULL : fdopen(fd, "a");
     if (!file) {
