@@ -306,9 +306,14 @@ static int start_copier(struct state *own) {
     return fault;
 }
 
+/* Why what was to be done last of a copy is not. */
+static struct copied fault_of_copy(const struct state *own, int fault) {
+    return own->copied_ports != 0 ? (struct copied){fault, 0} : (struct copied){0, fault};
+}
+
 /* Sees whether a copy was written. One whose process was killed is there, or is not. */
 static void see_copy(struct state *own) {
-    struct copied copied = {-ECANCELED, 0};
+    struct copied copied = fault_of_copy(own, -ECANCELED);
     if (own->copied < 0 || (read(own->copied, &copied, sizeof copied) < 0 && errno == EAGAIN)) return;
     close(own->copied);
     own->copied = -1;
@@ -320,13 +325,13 @@ static void see_copy(struct state *own) {
 static void pass_copy_second(struct state *own) {
     uint64_t ports = lasting_ports(own->carry->ports), now = boottime();
     see_copy(own);
-    if (own->copied >= 0 && now - own->copied_at >= COPIED_EVERY && !own->copy_failed) note_copy(own, (struct copied){HANGS, 0});
+    if (own->copied >= 0 && now - own->copied_at >= COPIED_EVERY && !own->copy_failed) note_copy(own, fault_of_copy(own, HANGS));
     if (own->copied >= 0 || (ports == 0 && !own->has_copy) || (ports == own->copied_ports && now - own->copied_at < COPIED_EVERY)) return;
     own->copied_ports = ports;
     own->copied_at = now;
     own->has_copy = true;
     int fault = start_copier(own);
-    if (fault < 0) note_copy(own, (struct copied){fault, 0});
+    if (fault < 0) note_copy(own, fault_of_copy(own, fault));
 }
 
 /* Waits for who writes a copy; answers whether that one is done, or there is none. */
@@ -347,7 +352,7 @@ static void finish_copy(struct state *own, bool wanted) {
     if (start_copier(own) < 0)
         note_copy(own, write_copy(own, wanted));
     else if (!await_copier(own))
-        note_copy(own, (struct copied){wanted ? HANGS : 0, wanted ? 0 : HANGS});
+        note_copy(own, fault_of_copy(own, HANGS));
 }
 
 /* Writes the state; answers whether it did. Where that fails there is none. */

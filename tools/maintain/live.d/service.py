@@ -277,6 +277,8 @@ def ports_change(part: Part) -> None:
     check("min_links: 7" in ours.text() and "status: down, 1 of 1 links carry" in ours.text(), "with more min-links than ports it is down", ours.text())
     reloaded(head, 1, {})
     reloaded(FILE, 2, {"a0": 1, "a1": 2})
+    told = inside(OURS, ours.program, "--folder", ours.folder, "--add", "a2:long,slow")
+    check(told.returncode == 1 and "refused: a2: slow: expected key=N" in told.stderr, "a refused --add names the word that is wrong", told.stderr)
     ours.ends("the daemon")
     write(path, head)
     alone = Filed(part, path)
