@@ -3,6 +3,7 @@
 from __future__ import annotations
 
 import os
+import subprocess
 from pathlib import Path
 
 import pytest
@@ -56,3 +57,32 @@ def test_a_status_says_how_a_check_ended(status: int, how: str, tmp_path: Path, 
     monkeypatch.setitem(check.CHECKS, "pages", check.Check("tool", "", ""))
     ended = check.ends("pages", [])
     assert (ended.how, ended.last) == (how, "last line")
+
+
+def test_the_rest_is_what_has_not_passed_on_these_files(tmp_path: Path, monkeypatch: pytest.MonkeyPatch) -> None:
+    tool, read = tmp_path / "tool", tmp_path / "read"
+    tool.write_text("#!/bin/sh\necho 1 passed, 0 failed\n")
+    tool.chmod(0o755)
+    read.write_text("as it was")
+    subprocess.run(["git", "init", "-q", str(tmp_path)], check=True)
+    for name in ("TOP", "TOOLS"):
+        monkeypatch.setattr(check, name, str(tmp_path))
+    monkeypatch.setattr(check, "LOGS", str(tmp_path / ".git"))
+    monkeypatch.setattr(check, "CHECKS", {"pages": check.Check("tool", "", ""), "live": check.Check("tool", "", "")})
+    monkeypatch.setattr(check, "READS", {"live": "read"})
+    assert check.ends("pages", []).how == check.ends("live", []).how == "passed"
+    assert check.asked(["--rest"]) == []
+    (tmp_path / "other").write_text("new")
+    assert check.asked(["--rest"]) == [("pages", [])]
+    read.write_text("as it is")
+    assert check.asked(["--rest"]) == [("pages", []), ("live", [])]
+
+
+def test_what_failed_or_ran_with_words_of_its_own_is_of_the_rest(tmp_path: Path, monkeypatch: pytest.MonkeyPatch) -> None:
+    (tmp_path / "tool").write_text('#!/bin/sh\n[ "$1" = part ]\n')
+    (tmp_path / "tool").chmod(0o755)
+    monkeypatch.setattr(check, "TOOLS", str(tmp_path))
+    monkeypatch.setattr(check, "LOGS", str(tmp_path))
+    monkeypatch.setattr(check, "CHECKS", {"pages": check.Check("tool", "", "")})
+    assert [check.ends("pages", words).how for words in ([], ["part"])] == ["FAILED", "passed"]
+    assert check.asked(["--rest"]) == [("pages", [])]
