@@ -96,7 +96,7 @@ const ofUnheard = ({ at, seconds }, { link }) => {
     };
     if (other) return {
         title, lines: [`LACPDUs of ${other.short} are in this capture, and do not reach ${at.short}`],
-        advice: "Look at the receiver of the end that hears nobody, a filter there, or a device between.",
+        advice: `Look at the receiver of the end that hears nobody, a filter there, or a device between. A capture at ${other.short} itself has frames that its own card drops: then capture at ${at.short}, too.`,
     };
     return { title, advice: "No LACPDU of its partner is in this capture: set LACP on there (switch: mode active, not on; bonding: mode=802.3ad), or look at the path to here." };
 };
@@ -145,7 +145,7 @@ function ofOneWay({ at }) {
         advice: "Look for a loop: a port that is looped back, or a cable that leads back to it. Linux drops LACPDUs of its own system (dmesg: \"An illegal loopback occurred\").",
     };
     return { advice: "It names no partner: look whether LACP runs at the other end (switch: mode active, not on; bonding: mode=802.3ad), and whether the cable leads straight there: "
-        + "a bridge or switch between drops LACPDUs." };
+        + "a bridge or switch between drops LACPDUs. A card may keep them for an LLDP or LACP agent of its own: turn that off, and capture again." };
 }
 
 /* A third system that ended before the partner of now began is the partner of before. Two ends of one system are told as that (rule 30). */

@@ -19,7 +19,7 @@ const QUICKENING = [11, 12, 16, 23, 26];
 /* All, in the order in which they are told: whoever explains others comes first, what is usual at a start last. */
 const ORDER = [...LEADING, 15, 10, 9, 7, 5, 14, 18, 11, 12, 16, 2, 3, 4, 23, 25, 24, 20, 19, 21, 22, 17, 13, 1, 27, 6, 8];
 /* What is said of effects on links of two systems that have no fault. */
-export const CAUSELESS = "this capture does not show why: ask both ends, and capture all links.";
+export const CAUSELESS = "this capture does not show why: ask both ends, and capture all links for 100 s.";
 const AT_START = [13, "Right after a start rule 13 is normal if both ends distribute later."];
 
 const isFault = (finding) => !isRemark(finding) && !FOLLOWING.includes(finding.rule);

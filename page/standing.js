@@ -20,10 +20,12 @@ const isPassive = (it) => !(it.state & ACTIVITY_BIT);
 /* ---- Facts: a name, ports, a title and what to do; one without ports is none ---- */
 
 function linkFacts({ name, told, ports, hash }) {
-    const down = ports.filter((it) => it.link === false && !it.isWaiting), waiting = ports.filter((it) => it.isWaiting), up = ports.filter((it) => isLinked(it) && it.aggregator !== null), linked = ports.filter(isLinked);
+    const down = ports.filter((it) => it.link === false && !it.isWaiting && !it.isOff), off = ports.filter((it) => it.isOff), waiting = ports.filter((it) => it.isWaiting), up = ports.filter((it) => isLinked(it) && it.aggregator !== null), linked = ports.filter(isLinked);
     const parts = [...new Set(up.map((it) => it.aggregator))], standing = ports.filter((it) => it.standsBy), away = ports.filter((it) => it.isAway);
     return [
         { name: "link-down", ports: down, title: `the link of ${namesIn(down)} is down`, advice: "Nothing of LACP is to be judged there: look at the cable and at the other end's port." },
+        { name: "device-down", ports: off, title: `the device of ${told} is down: LACP has ended on ${namesIn(off)}`,
+            advice: "Set it up: ip link set DEVICE up (the status names it behind `carry:`)." },
         { name: "away", ports: away, title: `the carrier of ${namesIn(away)} is away, and LACP takes the link as up (delay-down): it passes nothing now`,
             advice: "Read the status again: it comes back within delay-down, or it is down." },
         { name: "waiting", ports: waiting, title: `the link of ${namesIn(waiting)} is back, and waits until its carrier was steady for so long (wait-to-restore): it is not used before`,
@@ -130,7 +132,7 @@ export function factsIn(texts) {
 /* ---- Causes ---- */
 
 /* What explains the rest comes first: facts by name, rules by number. */
-const RANKS = ["no-lacp", "no-state", "no-root", "set-down", 30, "own-address", "never-heard", "copied", 29, 15, "apart", "link-down", "speeds", "stands-by", 5, "passive-unheard", 14, "deaf-there", 12, 22, 17, 2, 3, 4, "too-few"];
+const RANKS = ["no-lacp", "no-state", "no-root", "set-down", 30, "own-address", "never-heard", "copied", 29, 15, "apart", "device-down", "link-down", "speeds", "stands-by", 5, "passive-unheard", 14, "deaf-there", 12, 22, 17, 2, 3, 4, "too-few"];
 const isUnheard = ({ rank }) => rank === 12;
 /* What calls for nothing by itself. */
 const ASIDE = ["away", "waiting", "aggregators", "same-partner-port", "one-system", "several", "note", "said"];
@@ -226,6 +228,7 @@ function whyDetached(port, { ports }) {
 
 /* Why a port of a text does not carry. */
 function whyIdle(port, bundle) {
+    if (port.isOff) return "the device is down";
     if (port.isWaiting) return "its link is back, and waits for wait-to-restore";
     if (port.link === false) return "its link is down";
     if (port.isAway) return "its carrier is away now";

@@ -55,7 +55,7 @@ const bundleOfText = (name, told, ports, given) => ({ name, told, ports, hash: n
 
 /* A port with what a form has of it. */
 const portOfText = (given) => ({
-    link: null, isAway: false, isWaiting: false, source: "", actor: null, partner: null, aggregator: null, isUsed: null, isAlone: false, isLasting: false, speed: "", facts: [], ...given,
+    link: null, isAway: false, isWaiting: false, isOff: false, source: "", actor: null, partner: null, aggregator: null, isUsed: null, isAlone: false, isLasting: false, speed: "", facts: [], ...given,
 });
 
 const times = (number) => Number(number) === 1 ? "once" : `${number} times`;
@@ -278,6 +278,9 @@ function factsOfShow(part, said, receive, actor) {
 
 const isChurning = (churns) => churns.includes("CHURN");
 
+/* What lagd says of each port while the device that carries its data is down: LACP has ended there. */
+const DEVICE_DOWN = "the device is down";
+
 /* The link of a port, as lagd says it: with `away` LACP takes it as up (delay-down), and nothing passes; with `waiting` it is back, and LACP takes it as
  * down (wait-to-restore). */
 const linkOfLagd = (said) => ({ link: said === "up" || said === "away", isAway: said === "away", isWaiting: said === "waiting" });
@@ -288,7 +291,7 @@ function memberOfShow(part, active) {
     const of = said.has("link") ? linkOfLagd(said.get("link")) : {};
     const isUsed = mayEnable === undefined ? null : mayEnable === "true" && !of.isAway && (active === null || aggregator === active), known = knownPartner(actor, partner);
     return portOfText({
-        name, ...of, source: macOf(said.get("address") ?? said.get("actor sys_id")), actor, partner: known,
+        name, ...of, isOff: said.get("status") === DEVICE_DOWN, source: macOf(said.get("address") ?? said.get("actor sys_id")), actor, partner: known,
         aggregator, isUsed, isAlone: isUsed === true && actor !== null && !known, isLasting: isChurning([said.get("actor_churn"), said.get("partner_churn")]),
         facts: factsOfShow(part, said, receive, actor), isWhole: actor !== null && partner !== null,
     });
@@ -336,7 +339,7 @@ function memberOfLagd(bundle, port) {
     const actor = partyOf(port.actor, bundle.system, bundle.system_priority), known = knownPartner(actor, partyOf(port.partner, port.partner.system, port.partner.system_priority));
     const of = linkOfLagd(port.link), isUsed = port.carries && !of.isAway && port.aggregator === bundle.aggregator;
     return portOfText({
-        name: port.interface, ...of, source: macOf(port.address), actor, partner: known, aggregator: port.aggregator,
+        name: port.interface, ...of, isOff: port.status === DEVICE_DOWN, source: macOf(port.address), actor, partner: known, aggregator: port.aggregator,
         isUsed, isAlone: isUsed && !known, isLasting: isChurning([port.actor_churn, port.partner_churn]),
         facts: [...port.status !== "it distributes" ? [`lagd says: ${port.status}`] : [], ...port.other_system ? [`another system speaks: ${port.other_system.system}`] : [], ...countsSaid(port.counters ?? {})],
     });

@@ -172,7 +172,7 @@ export function headlineOf(lines, causes) {
     if (!all) return ["", ""];
     const idle = lines.find(({ how, isVague }) => how === IDLE && !isVague);
     if (idle) return [`${head}. ${capitalized(idle.why)}; ${CAUSELESS}`, ""];
-    if (carry - apart < all) return [`${head}. No cause is in this capture: ask both ends, and capture all links.`, ""];
+    if (carry - apart < all) return [`${head}. No cause is in this capture: ask both ends, and capture all links for 100 s.`, ""];
     if (causes.some(({ kind }) => kind === EFFECT)) return [`${all === 1 ? "The link carries" : `${all} links carry`}, both ways, at the end.`, ""];
     return ofHealthy(lines, causes);
 }

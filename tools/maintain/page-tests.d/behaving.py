@@ -17,8 +17,8 @@ CHOSEN = "[document.activeElement.dataset.packet ?? '', document.querySelector('
 VERDICT = "[document.getElementById('verdict').textContent, document.getElementById('verdict').className]"
 TITLES = "[...document.querySelectorAll('#findings > li > strong')].map((it) => it.firstChild.textContent)"
 UNSHOWN, ONE = "This capture does not show why", "The link carries, both ways. It is one link: of a bundle capture all links, since keys and partners are compared between them."
-ALONE = "No cause is in this capture: ask both ends, and capture all links."
-NOT_WHY = "this capture does not show why: ask both ends, and capture all links."
+ALONE = "No cause is in this capture: ask both ends, and capture all links for 100 s."
+NOT_WHY = "this capture does not show why: ask both ends, and capture all links for 100 s."
 UNATTACHED = "02-00-00-00-00-01 port 1 has not attached it: another aggregator is in use there, or it has links enough"
 OPEN = "document.querySelectorAll('#findings details').forEach((it) => { it.open = true; }), 1"
 # The fields of each frame that is drawn, by a click on it.

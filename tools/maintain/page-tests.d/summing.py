@@ -54,7 +54,7 @@ def of_keys(tests: Tests, browser: Browser, folder: str) -> None:
     tests.same("two groups at one end", said_of(browser, path), ["2 of 3 links carry. Keys differ within one pair of systems.", ["Keys differ within one pair of systems"], [idle, link(1, up), link(2, up)]])
     made.keyed(path, [(10, 10), (20, 20)], (10, 10))
     apart = "has key 20 at both ends, and the link that carries key 10 at both ends: another group, as a link of another speed or duplex is to Linux bonding"
-    wanted = [f"1 of 2 links carries. It {apart}; this capture does not show why: ask both ends, and capture all links.", [], [link(2, f"does not carry: it {apart}"), link(1, up)]]
+    wanted = [f"1 of 2 links carries. It {apart}; this capture does not show why: ask both ends, and capture all links for 100 s.", [], [link(2, f"does not carry: it {apart}"), link(1, up)]]
     tests.same("a link of another speed", said_of(browser, path), wanted)
     made.keyed(path, [(10, 10), (10, 20), (20, 10), (20, 20), (10, 10), (20, 20)])
     crossed = "cables of two bundles are crossed, or a port is in the group of another link"
@@ -107,7 +107,7 @@ def of_ends(tests: Tests, browser: Browser, folder: str) -> None:
         "a link that comes and goes": (made.flaps, "1 of 1 link carries. A link is silent at both ends for a while.", ["A link is silent at both ends for a while"], [link(1, up)]),
         "an end that hears nobody": (made.deaf, "0 of 1 link carries. An end hears nobody for longer than 6 seconds.", ["An end hears nobody for longer than 6 seconds"],
                                      [link(1, f"does not carry: {SYSTEM}1 port 1 hears nobody")]),
-        "an end that has heard nobody for 4 seconds": (made.lately_deaf, f"1 of 2 links carries. {SYSTEM}1 port 2 hears nobody; this capture does not show why: ask both ends, and capture all links.", ["Likely effect: synchronization lost"],
+        "an end that has heard nobody for 4 seconds": (made.lately_deaf, f"1 of 2 links carries. {SYSTEM}1 port 2 hears nobody; this capture does not show why: ask both ends, and capture all links for 100 s.", ["Likely effect: synchronization lost"],
                                                        [link(2, f"does not carry: {SYSTEM}1 port 2 hears nobody"), link(1, up)]),
         "two ends of one system that hear nobody": (made.looped, "0 of 1 link carries. Both ends of a link have one system address.", ["Both ends of a link have one system address"],
                                                     [f"{SYSTEM}1 port 1 - {SYSTEM}1 port 2: does not carry: both ends have one system: a loop, or a copied identifier"]),

@@ -129,6 +129,16 @@ def of_away(tests: Tests) -> None:
         tests.same(f"a carrier that is away for a moment, as {form}", [ended, said.partition("\n")[0], "\n1. remark: the carrier of p2 is away" in said], [1, word, True])
 
 
+def of_a_device_that_is_down(tests: Tests) -> None:
+    """While the device of lagd is down its ports say so: that is the cause, not their cables."""
+    word, told = "0 of 2 links carry. The device of the bundle", "LACP has ended on p1, p2."
+    off = read(os.path.join(STATUS, "healthy-lagd.txt")).replace("it distributes", "the device is down").replace("link: up", "link: down").replace("may_enable: true", "may_enable: false")
+    line = read(os.path.join(STATUS, "healthy-lagd-json.json")).replace("it distributes", "the device is down").replace('"link":"up"', '"link":"down"').replace('"carries":true', '"carries":false')
+    for form, text in ("text", off), ("JSON", line):
+        first = told_of(text)[1].partition("\n")[0]
+        tests.same(f"a device that is down, as {form}", [first.startswith(word), first.endswith(told), "cable" in first], [True, True, False])
+
+
 def of_speeds(tests: Tests) -> None:
     """Where keys differ because speeds do, the speeds come first, and the keys below them; else the keys."""
     text = read(os.path.join(STATUS, "speeds-bonding.txt"))
@@ -244,7 +254,7 @@ def of_texts(tests: Tests, browser: Browser) -> None:
     of_ways(tests, browser)
     of_cuts(tests, browser)
     of_explain(tests, browser)
-    for it in of_words, of_endings, of_programs, of_away, of_waiting, of_speeds, of_partners, of_partner_states, of_one_file, of_hashes:
+    for it in of_words, of_endings, of_programs, of_away, of_a_device_that_is_down, of_waiting, of_speeds, of_partners, of_partner_states, of_one_file, of_hashes:
         it(tests)
     passive = read(os.path.join(STATUS, "healthy-bonding.txt")).replace("port state: 63", "port state: 62")
     tests.same("two passive ends do not carry, as in a capture", pasted(browser, passive)[0], "0 of 2 links carry. Both ends are passive: p1, p2.")

@@ -78,6 +78,15 @@ def test_the_rest_is_what_has_not_passed_on_these_files(tmp_path: Path, monkeypa
     assert check.asked(["--rest"]) == [("pages", []), ("live", [])]
 
 
+def test_what_was_inconclusive_is_counted(tmp_path: Path, monkeypatch: pytest.MonkeyPatch) -> None:
+    (tmp_path / "tool").write_text("#!/bin/sh\necho 'row: inconclusive, the machine was too slow: a restart'\necho inconclusive: another\necho 2 passed, 0 failed\n")
+    (tmp_path / "tool").chmod(0o755)
+    monkeypatch.setattr(check, "TOOLS", str(tmp_path))
+    monkeypatch.setattr(check, "LOGS", str(tmp_path))
+    monkeypatch.setitem(check.CHECKS, "pages", check.Check("tool", "", ""))
+    assert check.ends("pages", []).last == "2 passed, 0 failed, 2 inconclusive"
+
+
 def test_what_failed_or_ran_with_words_of_its_own_is_of_the_rest(tmp_path: Path, monkeypatch: pytest.MonkeyPatch) -> None:
     (tmp_path / "tool").write_text('#!/bin/sh\n[ "$1" = part ]\n')
     (tmp_path / "tool").chmod(0o755)
