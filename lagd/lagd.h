@@ -264,10 +264,6 @@ EACH_FILE_OF_PROTOCOL(MAKES)
     struct protocol *protocol; \
     struct device *device; \
     struct plane *plane;
-struct parts {
-    PARTS
-};
-#define KNOWS_PARTS union { struct parts parts; struct { PARTS }; };
 
 /* Room for what a file keeps, of zeros. There is no daemon without it. */
 static inline void *make_room(size_t octets) {
