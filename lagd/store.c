@@ -32,6 +32,9 @@ struct store_private {
 
 MAKES_ROOM(store)
 
+/* Each file that the last daemon left. */
+#define EACH_STORED(it, of) for (struct stored *it = (of)->stored; it < (of)->stored + (of)->count; it++)
+
 /* Tells the manager what the daemon does. */
 void notify(const char *what UNUSED) {
     (void)sd_notify(0, what);
@@ -63,8 +66,8 @@ bool has_store(void) {
 static bool is_stored(struct store_private *own, const char *kind, int number, int fd) {
     char name[NAME_OF_FILE];
     name_stored(kind, number, name);
-    for (size_t i = 0; i < own->count; i++)
-        if (own->stored[i].taken == fd && strcmp(own->stored[i].name, name) == 0) return true;
+    EACH_STORED(it, own)
+        if (it->taken == fd && strcmp(it->name, name) == 0) return true;
     return false;
 }
 
@@ -76,8 +79,8 @@ void put_stored(struct store_private *own, const char *kind, int number, int fd)
 void drop_stored(struct store_private *own, const char *kind, int number) {
     char name[NAME_OF_FILE];
     name_stored(kind, number, name);
-    for (size_t i = 0; i < own->count; i++)
-        if (strcmp(own->stored[i].name, name) == 0) own->stored[i].taken = -1;
+    EACH_STORED(it, own)
+        if (strcmp(it->name, name) == 0) it->taken = -1;
     if (has_store()) tell_store("FDSTOREREMOVE", kind, number, -1);
 }
 
@@ -85,12 +88,11 @@ void drop_stored(struct store_private *own, const char *kind, int number) {
 int claim_stored(struct store_private *own, const char *kind, int number) {
     char name[NAME_OF_FILE];
     name_stored(kind, number, name);
-    for (size_t i = 0; i < own->count; i++) {
-        int fd = own->stored[i].fd;
-        if (fd < 0 || strcmp(own->stored[i].name, name) != 0) continue;
-        own->stored[i].fd = -1;
-        own->stored[i].taken = fd;
-        return fd;
+    EACH_STORED(it, own) {
+        if (it->fd < 0 || strcmp(it->name, name) != 0) continue;
+        it->taken = it->fd;
+        it->fd = -1;
+        return it->taken;
     }
     return -1;
 }
@@ -99,10 +101,10 @@ int claim_stored(struct store_private *own, const char *kind, int number) {
 void return_stored(struct store_private *own, const char *kind, int number, int fd) {
     char name[NAME_OF_FILE];
     name_stored(kind, number, name);
-    for (size_t i = 0; i < own->count; i++) {
-        if (own->stored[i].fd >= 0 || strcmp(own->stored[i].name, name) != 0) continue;
-        own->stored[i].fd = fd;
-        own->stored[i].taken = -1;
+    EACH_STORED(it, own) {
+        if (it->fd >= 0 || strcmp(it->name, name) != 0) continue;
+        it->fd = fd;
+        it->taken = -1;
         return;
     }
     close(fd);
@@ -111,8 +113,8 @@ void return_stored(struct store_private *own, const char *kind, int number, int 
 /* Whether a file keeps a program that one in use keeps, too: the manager may hand over the same file twice. */
 static bool is_twin(struct store_private *own, int fd) {
     uint32_t number = program_keeper(fd);
-    for (size_t i = 0; number != 0 && i < own->count; i++)
-        if (own->stored[i].taken >= 0 && program_keeper(own->stored[i].taken) == number) return true;
+    EACH_STORED(it, own)
+        if (number != 0 && it->taken >= 0 && program_keeper(it->taken) == number) return true;
     return false;
 }
 
@@ -120,23 +122,20 @@ static bool is_twin(struct store_private *own, int fd) {
 static void put_again(struct store_private *own, const char *name) {
     char text[NAME_OF_FILE + 32];
     snprintf(text, sizeof text, "FDSTORE=1\nFDPOLL=0\nFDNAME=%s", name);
-    for (size_t i = 0; i < own->count; i++)
-        if (own->stored[i].taken >= 0 && strcmp(own->stored[i].name, name) == 0)
-            (void)sd_pid_notify_with_fds(0, 0, text, &own->stored[i].taken, 1);
-}
-
-static void drop_at(struct store_private *own, size_t place) {
-    if (own->stored[place].fd < 0) return;
-    (void)sd_notifyf(0, "FDSTOREREMOVE=1\nFDNAME=%s", own->stored[place].name);
-    put_again(own, own->stored[place].name);
-    if (!is_twin(own, own->stored[place].fd)) detach_program(own->stored[place].fd);
-    close(own->stored[place].fd);
-    own->stored[place].fd = -1;
+    EACH_STORED(it, own)
+        if (it->taken >= 0 && strcmp(it->name, name) == 0) (void)sd_pid_notify_with_fds(0, 0, text, &it->taken, 1);
 }
 
 /* What nobody took is kept no more. */
 void drop_unclaimed(struct store_private *own) {
-    for (size_t i = 0; i < own->count; i++) drop_at(own, i);
+    EACH_STORED(it, own) {
+        if (it->fd < 0) continue;
+        (void)sd_notifyf(0, "FDSTOREREMOVE=1\nFDNAME=%s", it->name);
+        put_again(own, it->name);
+        if (!is_twin(own, it->fd)) detach_program(it->fd);
+        close(it->fd);
+        it->fd = -1;
+    }
 }
 
 void leave_store(struct store_private *own) {
@@ -147,7 +146,7 @@ void leave_store(struct store_private *own) {
 static void empty_store(void *given) {
     struct store_private *own = given;
     if (own->stays) return;
-    for (size_t i = 0; i < own->count; i++) (void)sd_notifyf(0, "FDSTOREREMOVE=1\nFDNAME=%s", own->stored[i].name);
+    EACH_STORED(it, own) (void)sd_notifyf(0, "FDSTOREREMOVE=1\nFDNAME=%s", it->name);
 }
 
 void open_store(struct process *process) {
@@ -155,14 +154,17 @@ void open_store(struct process *process) {
     char **names = NULL;
     int found = sd_listen_fds_with_names(1, &names);
     for (int i = 0; i < found; i++) {
-        int fd = SD_LISTEN_FDS_START + i;
-        if (own->count == MOST_FILES) close(fd);
-        if (own->count == MOST_FILES) continue;
-        snprintf(own->stored[own->count].name, sizeof own->stored[own->count].name, "%s", names[i]);
-        own->stored[own->count].taken = -1;
-        own->stored[own->count++].fd = fd;
+        struct stored *stored = &own->stored[own->count];
+        if (own->count == MOST_FILES) {
+            close(SD_LISTEN_FDS_START + i);
+        } else {
+            own->count++;
+            stored->fd = SD_LISTEN_FDS_START + i;
+            stored->taken = -1;
+            snprintf(stored->name, sizeof stored->name, "%s", names[i]);
+        }
+        free(names[i]);
     }
-    for (int i = 0; i < found; i++) free(names[i]);
     free(names);
     call_at_exit(process, empty_store, own);
 }
