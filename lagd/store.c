@@ -121,7 +121,7 @@ static bool is_twin(struct store_private *own, int fd) {
 /* The manager keeps again what is in use, where it was told to forget all files of a name. */
 static void put_again(struct store_private *own, const char *name) {
     char text[NAME_OF_FILE + 32];
-    snprintf(text, sizeof text, "FDSTORE=1\nFDPOLL=0\nFDNAME=%s", name);
+    snprintf(text, sizeof text, "FDSTORE=1\nFDPOLL=0\nFDNAME=%.*s", NAME_OF_FILE - 1, name);
     EACH_STORED(it, own)
         if (it->taken >= 0 && strcmp(it->name, name) == 0) (void)sd_pid_notify_with_fds(0, 0, text, &it->taken, 1);
 }
