@@ -49,10 +49,9 @@ static void name_stored(const char *kind, int number, char room[static NAME_OF_F
     snprintf(room, NAME_OF_FILE, "%s-%lu-%d", kind, network_namespace(), number);
 }
 
-static void tell_store(const char *what, const char *kind, int number, int fd) {
-    char name[NAME_OF_FILE], text[128];
-    name_stored(kind, number, name);
-    snprintf(text, sizeof text, "%s=1\n%sFDNAME=%s", what, fd < 0 ? "" : "FDPOLL=0\n", name);
+static void tell_store(const char *what, const char *name, int fd) {
+    char text[128];
+    snprintf(text, sizeof text, "%s=1\n%sFDNAME=%.*s", what, fd < 0 ? "" : "FDPOLL=0\n", NAME_OF_FILE - 1, name);
     (void)sd_pid_notify_with_fds(0, 0, text, &fd, fd < 0 ? 0 : 1);
 }
 
@@ -62,18 +61,13 @@ bool has_store(void) {
     return HAS_LIBRARY && manager && manager[0] && most && atoi(most) > 0;
 }
 
-/* Whether the manager keeps this file already. Where the kernel cannot compare files (kcmp), it would keep it twice. */
-static bool is_stored(struct store_private *own, const char *kind, int number, int fd) {
+/* The manager keeps a file, too, until drop_stored. Where the kernel cannot compare files (kcmp), it would keep one twice that it has already. */
+void put_stored(struct store_private *own, const char *kind, int number, int fd) {
     char name[NAME_OF_FILE];
     name_stored(kind, number, name);
     EACH_STORED(it, own)
-        if (it->taken == fd && strcmp(it->name, name) == 0) return true;
-    return false;
-}
-
-/* The manager keeps a file, too, until drop_stored. */
-void put_stored(struct store_private *own, const char *kind, int number, int fd) {
-    if (has_store() && !is_stored(own, kind, number, fd)) tell_store("FDSTORE", kind, number, fd);
+        if (it->taken == fd && strcmp(it->name, name) == 0) return;
+    if (has_store()) tell_store("FDSTORE", name, fd);
 }
 
 void drop_stored(struct store_private *own, const char *kind, int number) {
@@ -81,7 +75,7 @@ void drop_stored(struct store_private *own, const char *kind, int number) {
     name_stored(kind, number, name);
     EACH_STORED(it, own)
         if (strcmp(it->name, name) == 0) it->taken = -1;
-    if (has_store()) tell_store("FDSTOREREMOVE", kind, number, -1);
+    if (has_store()) tell_store("FDSTOREREMOVE", name, -1);
 }
 
 /* Takes a file that the last daemon left; or -1. */
@@ -118,20 +112,13 @@ static bool is_twin(struct store_private *own, int fd) {
     return false;
 }
 
-/* The manager keeps again what is in use, where it was told to forget all files of a name. */
-static void put_again(struct store_private *own, const char *name) {
-    char text[NAME_OF_FILE + 32];
-    snprintf(text, sizeof text, "FDSTORE=1\nFDPOLL=0\nFDNAME=%.*s", NAME_OF_FILE - 1, name);
-    EACH_STORED(it, own)
-        if (it->taken >= 0 && strcmp(it->name, name) == 0) (void)sd_pid_notify_with_fds(0, 0, text, &it->taken, 1);
-}
-
-/* What nobody took is kept no more. */
+/* What nobody took is kept no more. The manager forgets all files of a name: it keeps again what of them is in use. */
 void drop_unclaimed(struct store_private *own) {
     EACH_STORED(it, own) {
         if (it->fd < 0) continue;
-        (void)sd_notifyf(0, "FDSTOREREMOVE=1\nFDNAME=%s", it->name);
-        put_again(own, it->name);
+        tell_store("FDSTOREREMOVE", it->name, -1);
+        EACH_STORED(other, own)
+            if (other->taken >= 0 && strcmp(other->name, it->name) == 0) tell_store("FDSTORE", other->name, other->taken);
         if (!is_twin(own, it->fd)) detach_program(it->fd);
         close(it->fd);
         it->fd = -1;
@@ -146,7 +133,7 @@ void leave_store(struct store_private *own) {
 static void empty_store(void *given) {
     struct store_private *own = given;
     if (own->stays) return;
-    EACH_STORED(it, own) (void)sd_notifyf(0, "FDSTOREREMOVE=1\nFDNAME=%s", it->name);
+    EACH_STORED(it, own) tell_store("FDSTOREREMOVE", it->name, -1);
 }
 
 void open_store(struct process *process) {

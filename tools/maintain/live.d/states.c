@@ -1,10 +1,12 @@
 /* What a daemon leaves to the next one (lagd/state.c), cut off at each octet, as by a loss of power, and with a disk that fails at each octet: a
  * state that is not whole counts for nothing, and of the lines behind its end those that are whole are taken. So it is with the copy beyond a
- * reboot. Linked with the files of the daemon but for main.c, and with --wrap of open_in.
+ * reboot. An end at which the kernel makes no process waits for none for long, and touches no copy. Linked with the files of the daemon but for
+ * main.c, and with --wrap of open_in and fork.
  *
  * It prints a line for each check that fails, and then 'states: N passed, M failed'; status 1 if one failed. */
 #define _GNU_SOURCE
 #include <fcntl.h>
+#include <net/if.h>
 #include <stdio.h>
 #include <stdlib.h>
 #include <string.h>
@@ -24,9 +26,12 @@ static struct lagd *lagd;
 static char folder[] = "/tmp/lagd-states-XXXXXX";
 static int broken; /* a file of which no octet can be read */
 static size_t readable = ROOM; /* how many octets of a state can be read */
+static bool forks = true; /* whether the kernel makes processes */
 
 FILE *__real_open_in(int in, const char *name, int flags, const char *mode);
 FILE *__wrap_open_in(int in, const char *name, int flags, const char *mode);
+pid_t __real_fork(void);
+pid_t __wrap_fork(void);
 
 bool await_input(int epoll_file UNUSED, int fd UNUSED, uint32_t tag UNUSED) {
     return true;
@@ -46,6 +51,11 @@ FILE *__wrap_open_in(int in, const char *name, int flags, const char *mode) {
     if (readable > 0 && (setvbuf(file, buffer, _IOFBF, readable) != 0 || ungetc(getc(file), file) == EOF)) abort();
     if (dup2(broken, fileno(file)) < 0) abort();
     return file;
+}
+
+pid_t __wrap_fork(void) {
+    errno = EAGAIN;
+    return forks ? __real_fork() : -1;
 }
 
 /* A daemon with a port that carries, whose interface goes by the name of one that is there, and a port whose interface is missing. */
@@ -85,6 +95,7 @@ static void check_read(const char *text, size_t length, bool fails) {
     if (!whole) CHECK(memcmp(&lagd->inherited, &nothing, sizeof nothing) == 0);
     if (!whole) return;
     CHECK(lagd->inherited.port_count == 2 && lagd->inherited.link_count == 1 && lagd->inherited.links[0].carried);
+    CHECK(lagd->inherited.links[0].index == (lagd->inherited.ahead == 0 ? INDEX : (int)if_nametoindex("lo")));
     CHECK(lagd->inherited.members[CONVERSATION] == (moves && lagd->inherited.ahead == 0 ? INDEX : 0));
 }
 
@@ -105,6 +116,15 @@ static void check_state(const char *name) {
     (void)unlinkat(lagd->process.folder, name, 0);
 }
 
+/* An end without a process that would remove the copy: that stays, and the end comes soon. */
+static void check_end(void) {
+    uint64_t began = milliseconds();
+    forks = false;
+    end_state(lagd->state);
+    CHECK(milliseconds() - began < 5000 && faccessat(lagd->process.folder, "states.state", F_OK, 0) == 0);
+    (void)unlinkat(lagd->process.folder, "states.state", 0);
+}
+
 int main(void) {
     char name[64 + NAME_ROOM];
     if (!mkdtemp(folder)) abort();
@@ -115,6 +135,8 @@ int main(void) {
     snprintf(name, sizeof name, "%lu.states.state", network_namespace());
     check_state(name);
     check_state("states.state");
+    CHECK(save_state(lagd->state, true));
+    check_end();
     (void)unlinkat(lagd->process.folder, "states.state.lock", 0);
     (void)rmdir(folder);
     return tell_checks();
