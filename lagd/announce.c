@@ -1,8 +1,8 @@
 /* Tells neighbours where this host is, once data goes another way, so that bridges learn its MAC addresses there: gratuitous ARP, and
  * unsolicited neighbour advertisements (RFC 4861, 7.2.6), of the TAP device and of what stands above it. The kernel does not do so of itself
  * for such a device. */
-#include "carry.h"
 #include "netlink.h"
+#include "tap/tap.h"
 
 #include <linux/if_packet.h>
 #include <linux/netconf.h>
@@ -21,8 +21,6 @@ enum { ADVERTISED_OCTETS = 32, HOP_LIMIT = 255, ADVERTISEMENT = 136, FROM_ROUTER
 #define MOST_ABOVE 64
 /* How many of these stand one above the other at most. */
 #define MOST_LEVELS 4
-/* The types of attributes that are of use here are no higher: NETCONFA_IFINDEX, NETCONFA_FORWARDING, IFA_ADDRESS, IFA_LOCAL. */
-#define MOST_TYPE 2
 
 /* An interface whose addresses are announced. The first one is the device. */
 struct place {
@@ -68,12 +66,6 @@ static void announce_ipv4(struct announce_private *own, const struct place *plac
     send_from(own, place, frame, sizeof frame);
 }
 
-/* Adds 16 bits at a time, as the checksum of the Internet has it. */
-static uint32_t add_sum(uint32_t sum, const uint8_t *octets, size_t length) {
-    for (size_t i = 0; i + 1 < length; i += 2) sum += (uint32_t)octets[i] << 8 | octets[i + 1];
-    return sum;
-}
-
 /* An advertisement of an address to all nodes, which overrides what they know. */
 static void announce_ipv6(struct announce_private *own, const struct place *place, const uint8_t *address) {
     static const uint8_t all[ETH_ALEN] = {0x33, 0x33, 0, 0, 0, 1}, all_nodes[16] = {0xff, 2, [15] = 1};
@@ -89,11 +81,9 @@ static void announce_ipv6(struct announce_private *own, const struct place *plac
     at[24] = TARGET_LINK_ADDRESS;
     at[25] = 1; /* of 8 octets */
     memcpy(at + 26, place->mac, ETH_ALEN);
-    uint32_t sum = add_sum(ADVERTISED_OCTETS + IPPROTO_ICMPV6, ip + IPV6_ADDRESSES, 32 + ADVERTISED_OCTETS);
-    sum = (sum & 0xffff) + (sum >> 16);
-    sum = ~((sum & 0xffff) + (sum >> 16));
-    at[2] = (uint8_t)(sum >> 8);
-    at[3] = (uint8_t)sum;
+    uint16_t sum = fold(add_octets(htons(ADVERTISED_OCTETS + IPPROTO_ICMPV6), ip + IPV6_ADDRESSES, 32));
+    memcpy(at + 2, &sum, sizeof sum);
+    put_sum(at, ADVERTISED_OCTETS, 2);
     send_from(own, place, frame, sizeof frame);
 }
 
@@ -125,20 +115,10 @@ static void read_place(struct announce_private *own, const struct nlmsghdr *mess
     if (interface.has_mac) memcpy(place->mac, interface.mac, sizeof place->mac);
 }
 
-/* Notes an attribute by its type, in a table of MOST_TYPE + 1. */
-static int note_attribute(const struct nlattr *attribute, void *into) {
-    const struct nlattr **table = into;
-    if (mnl_attr_type_valid(attribute, MOST_TYPE) > 0) table[mnl_attr_get_type(attribute)] = attribute;
-    return MNL_CB_OK;
-}
-
 /* The kernel told whether an interface is one of a router: hosts forget a router whose advertisement says that it is none. */
 static void read_forwarding(struct announce_private *own, const struct nlmsghdr *message) {
-    const struct nlattr *told[MOST_TYPE + 1] = {0};
-    const int *index, *forwarding;
-    read_attributes(message, sizeof(struct netconfmsg), note_attribute, told);
-    index = value_of(told[NETCONFA_IFINDEX], sizeof *index);
-    forwarding = value_of(told[NETCONFA_FORWARDING], sizeof *forwarding);
+    const int *index = value_of(attribute_of(message, sizeof(struct netconfmsg), NETCONFA_IFINDEX), sizeof *index);
+    const int *forwarding = value_of(attribute_of(message, sizeof(struct netconfmsg), NETCONFA_FORWARDING), sizeof *forwarding);
     struct place *place = index && forwarding ? place_of(own, *index) : NULL;
     if (!place) return;
     place->is_known = true;
@@ -147,13 +127,11 @@ static void read_forwarding(struct announce_private *own, const struct nlmsghdr 
 
 /* The kernel told of an address. One of IPv6 that may be another host's is not announced. */
 static void read_address(struct announce_private *own, const struct nlmsghdr *message) {
-    const struct nlattr *told[MOST_TYPE + 1] = {0};
     const struct ifaddrmsg *about = mnl_nlmsg_get_payload(message);
     if (mnl_nlmsg_get_payload_len(message) < sizeof *about) return;
-    read_attributes(message, sizeof *about, note_attribute, told);
     size_t octets = about->ifa_family == AF_INET ? 4 : 16;
-    const uint8_t *address = value_of(told[IFA_LOCAL], octets);
-    if (!address && about->ifa_family == AF_INET6) address = value_of(told[IFA_ADDRESS], octets);
+    const uint8_t *address = value_of(attribute_of(message, sizeof *about, IFA_LOCAL), octets);
+    if (!address && about->ifa_family == AF_INET6) address = value_of(attribute_of(message, sizeof *about, IFA_ADDRESS), octets);
     const struct place *place = place_of(own, (int)about->ifa_index);
     if (!address || !place) return;
     if (about->ifa_family == AF_INET) announce_ipv4(own, place, address);

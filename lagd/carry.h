@@ -38,7 +38,7 @@ struct conversation {
  * tell for how long nothing was. */
 #define EACH_FILE_OF_CARRY(DO) DO(announce, announce) DO(carry, carry_private) DO(probe, probe)
 struct carry {
-    KNOWS_PARTS
+    PARTS
     struct state *state;
     uint64_t time;                 /* of the last tick */
     uint16_t active;               /* the aggregator whose ports carry the data, or 0 */

@@ -15,7 +15,7 @@ struct report {
 /* What is told of a daemon, and what is done for who asks. */
 #define EACH_FILE_OF_CONTROL(DO) DO(asking, asking) DO(options, options)
 struct control {
-    KNOWS_PARTS
+    PARTS
     struct carry *carry;
     struct tap_plane *tap;
     struct team_plane *team;

@@ -20,16 +20,17 @@ struct lagd {
 };
 
 /* Joins the parts of a daemon that has nothing yet. */
+#define PARTS_OF(lagd) .process = &(lagd)->process, .settings = &(lagd)->settings, .ports = &(lagd)->ports, .protocol = &(lagd)->protocol, \
+    .device = (lagd)->device, .plane = &(lagd)->plane
 static inline void join_parts(struct lagd *lagd) {
-    struct parts parts = {&lagd->process, &lagd->settings, &lagd->ports, &lagd->protocol, lagd->device, &lagd->plane};
     lagd->process = (struct process){.settings = &lagd->settings, .inherited = &lagd->inherited, .epoll_file = -1, .output = -1, .journal = -1};
     lagd->plane = (struct plane){.device = lagd->device, .carry = &lagd->carry, .tap = &lagd->tap, .team = &lagd->team, .changed = true};
     lagd->protocol = (struct protocol){.process = &lagd->process, .settings = &lagd->settings, .ports = &lagd->ports, .device = lagd->device,
         .plane = &lagd->plane, .control = &lagd->control};
-    lagd->carry = (struct carry){.parts = parts, .state = lagd->state};
-    lagd->tap = (struct tap_plane){.parts = parts, .carry = &lagd->carry, .dropper = -1};
-    lagd->team = (struct team_plane){.parts = parts, .carry = &lagd->carry, .lock = -1};
-    lagd->control = (struct control){.parts = parts, .carry = &lagd->carry, .tap = &lagd->tap, .team = &lagd->team};
+    lagd->carry = (struct carry){PARTS_OF(lagd), .state = lagd->state};
+    lagd->tap = (struct tap_plane){PARTS_OF(lagd), .carry = &lagd->carry, .dropper = -1};
+    lagd->team = (struct team_plane){PARTS_OF(lagd), .carry = &lagd->carry, .lock = -1};
+    lagd->control = (struct control){PARTS_OF(lagd), .carry = &lagd->carry, .tap = &lagd->tap, .team = &lagd->team};
 }
 
 /* daemon.c */

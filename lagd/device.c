@@ -33,7 +33,6 @@ struct device {
     uint32_t most_mtu; /* the longest payload that each member takes, and the device may */
     uint32_t less_mtu; /* one below that which an administrator set, or 0 */
     uint32_t set_mtu; /* what was set last */
-    bool persists; /* whether the daemon made it outlive itself */
     uint32_t speed; /* in Mb/s, as it was to be last; 0: as the kernel made the device */
     bool refused; /* of set_carrier */
     bool told; /* of set_speed */
@@ -291,13 +290,9 @@ void end_tap(int index) {
 void keep_tap(struct plane *plane, bool keeps) {
     struct device *own = plane->device;
     struct ifreq device = {0};
-    if (own->persists == keeps || ioctl(own->tap, TUNGETIFF, &device) < 0 || (keeps && (has_store() || (device.ifr_flags & IFF_PERSIST))))
+    if (plane->made_device == keeps || ioctl(own->tap, TUNGETIFF, &device) < 0 || (keeps && (has_store() || (device.ifr_flags & IFF_PERSIST))))
         return;
-    if (ioctl(own->tap, TUNSETPERSIST, keeps) == 0) own->persists = keeps;
-}
-
-bool tap_persists(struct plane *plane) {
-    return plane->device->persists;
+    if (ioctl(own->tap, TUNSETPERSIST, keeps) == 0) plane->made_device = keeps;
 }
 
 /* A lower MTU than the members take, which an administrator set, or 0. */

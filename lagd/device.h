@@ -23,7 +23,6 @@ bool read_tap_mac(struct device *own, uint8_t *mac);
 bool is_tap_up(struct device *own);
 void end_tap(int index);
 void keep_tap(struct plane *plane, bool keeps);
-bool tap_persists(struct plane *plane);
 uint32_t mtu_of_administrator(const struct device *own);
 
 #endif

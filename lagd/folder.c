@@ -22,10 +22,20 @@ uint64_t namespace_cookie(void) {
     return cookie;
 }
 
-/* Why a folder that is open is refused, or NULL. */
-static const char *fault_of(int folder) {
+/* Opens a file of a folder, for who owns it alone, and follows no link; or answers NULL, and errno tells why not. */
+FILE *open_in(int folder, const char *name, int flags, const char *mode) {
+    int opened = openat(folder, name, flags | O_NOFOLLOW | O_CLOEXEC, 0600);
+    FILE *file = opened < 0 ? NULL : fdopen(opened, mode);
+    int fault = errno;
+    if (!file && opened >= 0) close(opened);
+    errno = fault;
+    return file;
+}
+
+/* Why a folder, or a file, that is open is refused, or NULL: others may have written it. */
+const char *fault_of_owner(int opened) {
     struct stat found;
-    if (fstat(folder, &found) < 0) return strerror(errno);
+    if (fstat(opened, &found) < 0) return strerror(errno);
     if (found.st_uid != 0 && found.st_uid != geteuid()) return "the folder belongs to another user";
     return found.st_mode & (S_IWGRP | S_IWOTH) ? "other users may write the folder" : NULL;
 }
@@ -40,7 +50,7 @@ int try_folder(const char *folder, const char **fault) {
     *fault = errno == ELOOP || errno == ENOTDIR ? "a symbolic link, or no folder" : NULL;
     if (opened < 0) return -1;
     if (made) (void)fchmod(opened, 0755); /* whatever the umask is */
-    *fault = fault_of(opened);
+    *fault = fault_of_owner(opened);
     if (!*fault) return opened;
     close(opened);
     return -1;

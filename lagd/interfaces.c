@@ -4,10 +4,9 @@
 #include <linux/if_link.h>
 #include <linux/rtnetlink.h>
 
-static int parse_kind(const struct nlattr *attribute, void *into) {
-    struct interface *interface = into;
-    if (mnl_attr_get_type(attribute) == IFLA_INFO_KIND) copy_text(attribute, interface->kind, sizeof interface->kind);
-    return MNL_CB_OK;
+static void parse_kind(struct interface *interface, const struct nlattr *attribute) {
+    EACH_NESTED(part, attribute)
+        if (mnl_attr_get_type(part) == IFLA_INFO_KIND) copy_text(part, interface->kind, sizeof interface->kind);
 }
 
 static void parse_counts(struct interface *interface, const struct nlattr *attribute) {
@@ -33,7 +32,7 @@ static int parse_attribute(const struct nlattr *attribute, void *into) {
     case IFLA_LINK_NETNSID: interface->elsewhere = value_of(attribute, sizeof(int)) != NULL; break;
     case IFLA_NEW_NETNSID: interface->moved = true; break;
     case IFLA_MASTER: (void)copy_value(attribute, &interface->master, sizeof interface->master); break;
-    case IFLA_LINKINFO: (void)mnl_attr_parse_nested(attribute, parse_kind, interface); break;
+    case IFLA_LINKINFO: parse_kind(interface, attribute); break;
     case IFLA_PROP_LIST: interface->others = attribute; break;
     case IFLA_STATS64: parse_counts(interface, attribute); break;
     default: break;

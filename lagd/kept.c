@@ -8,8 +8,9 @@
 #define FORM "joins=%u\nqueues=%u %u %u %u\nrps=%s\nend\n"
 #define READ_FORM " joins=%u queues=%u %u %u %u rps=%" PROCESSORS_LENGTH "s %7s"
 
-static void name_file(const struct link *link, const char *kind, char room[static 64]) {
-    snprintf(room, 64, "%lu.%d.%s", network_namespace(), link->index, kind);
+/* The name of a file, or with `.new` behind it that of the one that is to take its place. */
+static void name_file(const struct link *link, const char *kind, const char *behind, char room[static 64]) {
+    snprintf(room, 64, "%lu.%d.%s%s", network_namespace(), link->index, kind, behind);
 }
 
 /* The number of this boot; "unknown" where it may not be read, as under the unit, whose folder does not outlive a boot. */
@@ -20,21 +21,11 @@ const char *boot_id(char room[static BOOT_ROOM]) {
     return room;
 }
 
-static FILE *open_kept(int folder, const char *name, int flags, const char *mode) {
-    int opened = openat(folder, name, flags | O_NOFOLLOW | O_CLOEXEC, 0600), fault;
-    FILE *file = opened < 0 ? NULL : fdopen(opened, mode);
-    if (file || opened < 0) return file;
-    fault = errno;
-    close(opened);
-    errno = fault;
-    return NULL;
-}
-
 /* Opens what is kept of an interface, behind the head; or answers NULL. What is of another boot, or another interface, counts for nothing. */
 FILE *read_kept(int folder, const struct link *link, const char *kind) {
     char name[64], boot[BOOT_ROOM], now[BOOT_ROOM], mac[32], own[32];
-    name_file(link, kind, name);
-    FILE *file = open_kept(folder, name, O_RDONLY, "r");
+    name_file(link, kind, "", name);
+    FILE *file = open_in(folder, name, O_RDONLY, "r");
     if (!file) return NULL;
     if (fscanf(file, READ_HEAD, boot, mac) == 2 && strcmp(boot, boot_id(now)) == 0 && strcmp(mac, mac_text(link->mac, own)) == 0)
         return file;
@@ -42,17 +33,11 @@ FILE *read_kept(int folder, const struct link *link, const char *kind) {
     return NULL;
 }
 
-static void name_next(const struct link *link, const char *kind, char room[static 64]) {
-    char name[64];
-    name_file(link, kind, name);
-    snprintf(room, 64, "%.59s.new", name);
-}
-
 /* Begins a file that end_kept puts in the place of the one that is there; or answers NULL, and errno tells why not. */
 FILE *begin_kept(int folder, const struct link *link, const char *kind) {
     char next[64], boot[BOOT_ROOM], mac[32];
-    name_next(link, kind, next);
-    FILE *file = open_kept(folder, next, O_WRONLY | O_CREAT | O_TRUNC, "w");
+    name_file(link, kind, ".new", next);
+    FILE *file = open_in(folder, next, O_WRONLY | O_CREAT | O_TRUNC, "w");
     if (file) fprintf(file, HEAD, boot_id(boot), mac_text(link->mac, mac));
     return file;
 }
@@ -60,8 +45,8 @@ FILE *begin_kept(int folder, const struct link *link, const char *kind) {
 /* Ends it; answers whether it is there, and else what was there before still is, and errno tells why. */
 bool end_kept(int folder, const struct link *link, const char *kind, FILE *file, bool done) {
     char next[64], name[64];
-    name_next(link, kind, next);
-    name_file(link, kind, name);
+    name_file(link, kind, ".new", next);
+    name_file(link, kind, "", name);
     done = done && !ferror(file);
     done = fclose(file) == 0 && done && renameat(folder, next, folder, name) == 0;
     int fault = errno;
@@ -73,25 +58,24 @@ bool end_kept(int folder, const struct link *link, const char *kind, FILE *file,
 /* Removes what is kept of an interface, and what a daemon that was killed began of it. */
 void drop_kept(int folder, const struct link *link, const char *kind) {
     char next[64], name[64];
-    name_next(link, kind, next);
-    name_file(link, kind, name);
+    name_file(link, kind, ".new", next);
+    name_file(link, kind, "", name);
     (void)unlinkat(folder, next, 0);
     (void)unlinkat(folder, name, 0);
 }
 
-/* Reads what an interface had before an earlier daemon changed it; answers whether there is something. */
-static bool recall(int folder, const struct link *link, struct kept *kept) {
+/* What an interface had before an earlier daemon changed it; zeros, where nobody knows. */
+void recall_settings(int folder, const struct link *link, struct kept *kept) {
     struct ethtool_channels *queues = &kept->queues;
     char end[8] = "";
     FILE *file = read_kept(folder, link, "member");
-    if (!file) return false;
     *kept = (struct kept){0};
+    if (!file) return;
     int found = fscanf(file, READ_FORM, &kept->joins, &queues->rx_count, &queues->tx_count, &queues->other_count, &queues->combined_count,
         kept->steered, end);
     fclose(file);
-    if (found != 7 || strcmp(end, "end") != 0) return false;
+    if (found != 7 || strcmp(end, "end") != 0) *kept = (struct kept){0};
     if (strcmp(kept->steered, "-") == 0) kept->steered[0] = 0;
-    return true;
 }
 
 /* Keeps what an interface has to get back, for the next daemon, where this one is killed. */
@@ -109,17 +93,11 @@ void write_settings(struct process *process, const struct link *link, const stru
 /* Keeps what an interface has now, before it is changed, and adds to it what it had before an earlier daemon changed it. */
 void keep_settings(struct process *process, const struct link *link, struct kept *kept) {
     struct kept first;
-    if (recall(process->folder, link, &first)) {
-        kept->joins |= first.joins;
-        if (first.queues.combined_count + first.queues.rx_count + first.queues.tx_count > 0) kept->queues = first.queues;
-        if (first.steered[0]) memcpy(kept->steered, first.steered, sizeof kept->steered);
-    }
+    recall_settings(process->folder, link, &first);
+    kept->joins |= first.joins;
+    if (first.queues.combined_count + first.queues.rx_count + first.queues.tx_count > 0) kept->queues = first.queues;
+    if (first.steered[0]) memcpy(kept->steered, first.steered, sizeof kept->steered);
     write_settings(process, link, kept);
-}
-
-/* What an interface had before an earlier daemon changed it; zeros, where nobody knows. */
-void recall_settings(int folder, const struct link *link, struct kept *kept) {
-    if (!recall(folder, link, kept)) *kept = (struct kept){0};
 }
 
 void forget_settings(int folder, const struct link *link) {

@@ -264,10 +264,6 @@ EACH_FILE_OF_PROTOCOL(MAKES)
     struct protocol *protocol; \
     struct device *device; \
     struct plane *plane;
-struct parts {
-    PARTS
-};
-#define KNOWS_PARTS union { struct parts parts; struct { PARTS }; };
 
 /* Room for what a file keeps, of zeros. There is no daemon without it. */
 static inline void *make_room(size_t octets) {
@@ -440,6 +436,7 @@ void send_again(struct protocol *protocol);
 bool pass_system_tick(struct protocol *protocol);
 uint64_t ticks_passed(const struct system_private *own);
 uint64_t seconds_passed(const struct system_private *own);
+uint64_t milliseconds_of(clockid_t clock);
 uint64_t milliseconds(void);
 void expect_lacpdu(struct link *link);
 void tell_end(struct protocol *protocol);
@@ -519,6 +516,8 @@ void forget_interface(int folder, const struct link *link);
 /* folder.c */
 int try_folder(const char *folder, const char **fault);
 int open_folder(const char *folder);
+FILE *open_in(int folder, const char *name, int flags, const char *mode);
+const char *fault_of_owner(int opened);
 unsigned long network_namespace(void);
 uint64_t namespace_cookie(void);
 

@@ -250,7 +250,7 @@ void leave_left_ports(struct protocol *protocol) {
  * the device is made. */
 bool may_put_in(struct protocol *protocol, const struct link *link) {
     return !protocol->settings->follow || link->puts_in
-        || (!protocol->process->has_started && ASK(protocol->plane->carrying->is_new, false, protocol->plane));
+        || (!protocol->process->has_started && protocol->plane->is_new);
 }
 
 /* Whether an interface is no port, as others choose the ports of the device and it is not in there. */

@@ -104,6 +104,15 @@ void read_attributes(const struct nlmsghdr *message, size_t before, mnl_attr_cb_
     if (length > begin) (void)mnl_attr_parse_payload(mnl_nlmsg_get_payload_offset(message, begin), length - begin, take, into);
 }
 
+/* The attribute of a type behind so many octets of a message, or NULL. */
+const struct nlattr *attribute_of(const struct nlmsghdr *message, size_t before, uint16_t type) {
+    size_t length = mnl_nlmsg_get_payload_len(message), begin = NLMSG_ALIGN(before);
+    if (length <= begin) return NULL;
+    EACH_ATTRIBUTE(attribute, mnl_nlmsg_get_payload_offset(message, begin), length - begin)
+        if (mnl_attr_get_type(attribute) == type) return attribute;
+    return NULL;
+}
+
 /* The value of an attribute, if that is there and its value is as long as is wanted; else NULL. */
 const void *value_of(const struct nlattr *attribute, size_t octets) {
     return attribute && mnl_attr_get_payload_len(attribute) == octets ? mnl_attr_get_payload(attribute) : NULL;

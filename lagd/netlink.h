@@ -15,6 +15,12 @@ union message {
 /* What is done with each message of an answer. It asks nothing itself. */
 typedef void (*message_reader)(const struct nlmsghdr *message, void *into);
 
+/* Each attribute of so many octets, and of another attribute; those of libmnl convert numbers without a word. */
+#define EACH_ATTRIBUTE(attribute, payload, length) \
+    for (const struct nlattr *attribute = (payload); mnl_attr_ok(attribute, (int)((const char *)(payload) + (length) - (const char *)attribute)); \
+        attribute = mnl_attr_next(attribute))
+#define EACH_NESTED(attribute, nest) EACH_ATTRIBUTE(attribute, mnl_attr_get_payload(nest), mnl_attr_get_payload_len(nest))
+
 /* netlink.c */
 union message message_of(uint16_t type, unsigned flags, const void *about, size_t length);
 union message message_of_interface(uint16_t type, unsigned flags, int index);
@@ -24,6 +30,7 @@ bool ask_list(int bus, const union message *question, message_reader read_one, v
 bool is_whole(const struct nlmsghdr *message, int left);
 int error_of(const struct nlmsghdr *message);
 void read_attributes(const struct nlmsghdr *message, size_t before, mnl_attr_cb_t take, void *into);
+const struct nlattr *attribute_of(const struct nlmsghdr *message, size_t before, uint16_t type);
 const void *value_of(const struct nlattr *attribute, size_t octets);
 bool copy_value(const struct nlattr *attribute, void *into, size_t octets);
 void copy_text(const struct nlattr *attribute, char *into, size_t room);

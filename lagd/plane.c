@@ -4,7 +4,7 @@
 static const struct carrying NO_DEVICE = {0};
 
 static const struct carrying TAP_DEVICE = {
-    .open = open_tap_plane, .end = end_tap_plane, .lose_device = lose_device, .keep_device = keep_tap, .has_made_device = tap_persists,
+    .open = open_tap_plane, .end = end_tap_plane, .lose_device = lose_device, .keep_device = keep_tap,
     .give_carrier = give_tap_carrier, .settle_mtu = settle_tap_mtu, .add = open_member, .remove = close_member, .renew = renew_for_discipline,
     .move = move_member, .follow_mtu = follow_member_mtu, .follow_speed = follow_speed, .can_empty = can_empty, .empty = empty_port,
     .drain = drain_member, .lose = lose_data, .forget = forget_member, .send_marker = send_new_marker, .note_response = note_response,
@@ -16,8 +16,8 @@ static const struct carrying TAP_DEVICE = {
 };
 
 static const struct carrying TEAM_DEVICE = {
-    .open = open_team, .end = end_team_plane, .lose_device = lose_device, .has_made_device = has_made_team, .give_carrier = give_team_carrier,
-    .add = open_team_port, .remove = close_team_port, .is_new = is_team_new, .still_has = is_still_team_port, .settle = settle_team, .tick = pass_tick_of_team, .keeps_aggregator = hears_peer,
+    .open = open_team, .end = end_team_plane, .lose_device = lose_device, .give_carrier = give_team_carrier,
+    .add = open_team_port, .remove = close_team_port, .still_has = is_still_team_port, .settle = settle_team, .tick = pass_tick_of_team, .keeps_aggregator = hears_peer,
     .frames_heard = team_frames_received, .resume = resume_conversations, .go_on = choose_ports, .member_of = bucket_member_of,
     .end_resuming = release_former_members, .show = show_carry, .show_member = show_member,
     .show_waiting = show_waiting_buckets, .first_count = MOVES, .end_count = WOKEN + 1,

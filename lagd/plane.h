@@ -32,7 +32,6 @@ struct carrying {
     void (*end)(struct plane *plane);                   /* nothing goes or comes from here on, and members are as they were */
     void (*lose_device)(struct plane *plane);           /* it was deleted, or moved to another namespace */
     void (*keep_device)(struct plane *plane, bool keeps); /* it outlives the daemon, or goes with it */
-    bool (*has_made_device)(struct plane *plane);       /* whether the next daemon is to take it away at its end */
     bool (*give_carrier)(struct plane *plane, bool on); /* whether the kernel does so */
     void (*settle_mtu)(struct plane *plane); /* the longest MTU that each member takes, or a lower one of an administrator */
     int (*add)(struct plane *plane, struct link *link); /* takes an interface up: 0, or -errno */
@@ -48,7 +47,6 @@ struct carrying {
     void (*forget)(struct plane *plane, uint16_t port);  /* another interface is to be this port: its counts begin anew */
     void (*send_marker)(struct plane *plane, struct link *link, const uint8_t *marker); /* one is due */
     void (*note_response)(struct plane *plane, const struct link *link); /* its partner answered a marker */
-    bool (*is_new)(struct plane *plane);                 /* whether this start made the device, into which it puts the ports of the file */
     bool (*still_has)(struct plane *plane, const struct link *link, int master); /* whether an interface of this master is a port still */
     void (*settle)(struct plane *plane);                 /* calls may have changed something */
     void (*tick)(struct plane *plane);                   /* 100 ms passed */
@@ -114,6 +112,8 @@ struct plane {
     bool wants_fifo; /* whether members get a queueing discipline that keeps the order */
     bool renews;     /* whether a member with another one is taken up anew */
     bool changed;    /* whether the library may answer otherwise now, so that conversations go or come */
+    bool made_device; /* whether the next daemon is to take the device away at its end */
+    bool is_new;      /* whether this start made the device, into which it puts the ports of the file */
     /* What the functions of the tables work with. Nobody else looks into these. */
     struct device *device;
     struct carry *carry;

@@ -16,14 +16,10 @@ static const struct inherited_link *inherited_of(const struct inherited *inherit
     return NULL;
 }
 
-static uint64_t timeout_of(bool is_short) {
-    return is_short ? SHORT_TIMEOUT : LONG_TIMEOUT;
-}
-
-/* Whether so much time passed since then, and not more than that. What is of later than now is of another clock; what is of before this boot
- * wraps around, and still counts right. */
-static bool is_within(uint64_t began, uint64_t then, uint64_t most) {
-    return began - then < most;
+/* Whether an LACPDU of then still holds. What is of later than now is of another clock; what is of before this boot wraps around, and still
+ * counts right. */
+static bool holds(const struct protocol *protocol, uint64_t then, bool short_timeout) {
+    return protocol->resumed_at - then < (uint64_t)(short_timeout ? SHORT_TIMEOUT : LONG_TIMEOUT);
 }
 
 /* Whether a port goes on: its carrier did not go, neither end has given the other one up, and its partner may be that. */
@@ -31,8 +27,8 @@ static bool goes_on(struct protocol *protocol, const struct link *link) {
     const struct inherited_link *was = link->up && !link->held ? inherited_of(protocol->process->inherited, link) : NULL;
     struct system_id actor;
     return was && was->carried && (was->losses == link->kernel_losses || protocol->process->inherited->ahead != 0)
-        && is_within(protocol->resumed_at, was->heard, timeout_of(link->settings.short_timeout))
-        && is_within(protocol->resumed_at, was->spoken, timeout_of((was->lacpdu[ACTOR_STATE] & NIW_STATE_TIMEOUT) != 0))
+        && holds(protocol, was->heard, link->settings.short_timeout)
+        && holds(protocol, was->spoken, (was->lacpdu[ACTOR_STATE] & NIW_STATE_TIMEOUT) != 0)
         && may_be_partner(link, was->lacpdu, &actor);
 }
 
@@ -82,7 +78,6 @@ void release_former_members(struct plane *plane) {
  * was set of members is set back. */
 void begin_resuming(struct protocol *protocol) {
     struct process *process = protocol->process;
-    protocol->resumed_at = boottime() + process->inherited->ahead;
     for (unsigned i = 0; i < process->inherited->link_count; i++) process->resuming = process->resuming || process->inherited->links[i].carried;
     if (process->inherited->others && !protocol->plane->carrying->keeps_members) release_former_members(protocol->plane);
 }

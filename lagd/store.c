@@ -32,6 +32,9 @@ struct store_private {
 
 MAKES_ROOM(store)
 
+/* Each file that the last daemon left. */
+#define EACH_STORED(it, of) for (struct stored *it = (of)->stored; it < (of)->stored + (of)->count; it++)
+
 /* Tells the manager what the daemon does. */
 void notify(const char *what UNUSED) {
     (void)sd_notify(0, what);
@@ -46,10 +49,9 @@ static void name_stored(const char *kind, int number, char room[static NAME_OF_F
     snprintf(room, NAME_OF_FILE, "%s-%lu-%d", kind, network_namespace(), number);
 }
 
-static void tell_store(const char *what, const char *kind, int number, int fd) {
-    char name[NAME_OF_FILE], text[128];
-    name_stored(kind, number, name);
-    snprintf(text, sizeof text, "%s=1\n%sFDNAME=%s", what, fd < 0 ? "" : "FDPOLL=0\n", name);
+static void tell_store(const char *what, const char *name, int fd) {
+    char text[128];
+    snprintf(text, sizeof text, "%s=1\n%sFDNAME=%.*s", what, fd < 0 ? "" : "FDPOLL=0\n", NAME_OF_FILE - 1, name);
     (void)sd_pid_notify_with_fds(0, 0, text, &fd, fd < 0 ? 0 : 1);
 }
 
@@ -59,38 +61,32 @@ bool has_store(void) {
     return HAS_LIBRARY && manager && manager[0] && most && atoi(most) > 0;
 }
 
-/* Whether the manager keeps this file already. Where the kernel cannot compare files (kcmp), it would keep it twice. */
-static bool is_stored(struct store_private *own, const char *kind, int number, int fd) {
+/* The manager keeps a file, too, until drop_stored. Where the kernel cannot compare files (kcmp), it would keep one twice that it has already. */
+void put_stored(struct store_private *own, const char *kind, int number, int fd) {
     char name[NAME_OF_FILE];
     name_stored(kind, number, name);
-    for (size_t i = 0; i < own->count; i++)
-        if (own->stored[i].taken == fd && strcmp(own->stored[i].name, name) == 0) return true;
-    return false;
-}
-
-/* The manager keeps a file, too, until drop_stored. */
-void put_stored(struct store_private *own, const char *kind, int number, int fd) {
-    if (has_store() && !is_stored(own, kind, number, fd)) tell_store("FDSTORE", kind, number, fd);
+    EACH_STORED(it, own)
+        if (it->taken == fd && strcmp(it->name, name) == 0) return;
+    if (has_store()) tell_store("FDSTORE", name, fd);
 }
 
 void drop_stored(struct store_private *own, const char *kind, int number) {
     char name[NAME_OF_FILE];
     name_stored(kind, number, name);
-    for (size_t i = 0; i < own->count; i++)
-        if (strcmp(own->stored[i].name, name) == 0) own->stored[i].taken = -1;
-    if (has_store()) tell_store("FDSTOREREMOVE", kind, number, -1);
+    EACH_STORED(it, own)
+        if (strcmp(it->name, name) == 0) it->taken = -1;
+    if (has_store()) tell_store("FDSTOREREMOVE", name, -1);
 }
 
 /* Takes a file that the last daemon left; or -1. */
 int claim_stored(struct store_private *own, const char *kind, int number) {
     char name[NAME_OF_FILE];
     name_stored(kind, number, name);
-    for (size_t i = 0; i < own->count; i++) {
-        int fd = own->stored[i].fd;
-        if (fd < 0 || strcmp(own->stored[i].name, name) != 0) continue;
-        own->stored[i].fd = -1;
-        own->stored[i].taken = fd;
-        return fd;
+    EACH_STORED(it, own) {
+        if (it->fd < 0 || strcmp(it->name, name) != 0) continue;
+        it->taken = it->fd;
+        it->fd = -1;
+        return it->taken;
     }
     return -1;
 }
@@ -99,10 +95,10 @@ int claim_stored(struct store_private *own, const char *kind, int number) {
 void return_stored(struct store_private *own, const char *kind, int number, int fd) {
     char name[NAME_OF_FILE];
     name_stored(kind, number, name);
-    for (size_t i = 0; i < own->count; i++) {
-        if (own->stored[i].fd >= 0 || strcmp(own->stored[i].name, name) != 0) continue;
-        own->stored[i].fd = fd;
-        own->stored[i].taken = -1;
+    EACH_STORED(it, own) {
+        if (it->fd >= 0 || strcmp(it->name, name) != 0) continue;
+        it->fd = fd;
+        it->taken = -1;
         return;
     }
     close(fd);
@@ -111,32 +107,22 @@ void return_stored(struct store_private *own, const char *kind, int number, int 
 /* Whether a file keeps a program that one in use keeps, too: the manager may hand over the same file twice. */
 static bool is_twin(struct store_private *own, int fd) {
     uint32_t number = program_keeper(fd);
-    for (size_t i = 0; number != 0 && i < own->count; i++)
-        if (own->stored[i].taken >= 0 && program_keeper(own->stored[i].taken) == number) return true;
+    EACH_STORED(it, own)
+        if (number != 0 && it->taken >= 0 && program_keeper(it->taken) == number) return true;
     return false;
 }
 
-/* The manager keeps again what is in use, where it was told to forget all files of a name. */
-static void put_again(struct store_private *own, const char *name) {
-    char text[NAME_OF_FILE + 32];
-    snprintf(text, sizeof text, "FDSTORE=1\nFDPOLL=0\nFDNAME=%s", name);
-    for (size_t i = 0; i < own->count; i++)
-        if (own->stored[i].taken >= 0 && strcmp(own->stored[i].name, name) == 0)
-            (void)sd_pid_notify_with_fds(0, 0, text, &own->stored[i].taken, 1);
-}
-
-static void drop_at(struct store_private *own, size_t place) {
-    if (own->stored[place].fd < 0) return;
-    (void)sd_notifyf(0, "FDSTOREREMOVE=1\nFDNAME=%s", own->stored[place].name);
-    put_again(own, own->stored[place].name);
-    if (!is_twin(own, own->stored[place].fd)) detach_program(own->stored[place].fd);
-    close(own->stored[place].fd);
-    own->stored[place].fd = -1;
-}
-
-/* What nobody took is kept no more. */
+/* What nobody took is kept no more. The manager forgets all files of a name: it keeps again what of them is in use. */
 void drop_unclaimed(struct store_private *own) {
-    for (size_t i = 0; i < own->count; i++) drop_at(own, i);
+    EACH_STORED(it, own) {
+        if (it->fd < 0) continue;
+        tell_store("FDSTOREREMOVE", it->name, -1);
+        EACH_STORED(other, own)
+            if (other->taken >= 0 && strcmp(other->name, it->name) == 0) tell_store("FDSTORE", other->name, other->taken);
+        if (!is_twin(own, it->fd)) detach_program(it->fd);
+        close(it->fd);
+        it->fd = -1;
+    }
 }
 
 void leave_store(struct store_private *own) {
@@ -147,7 +133,7 @@ void leave_store(struct store_private *own) {
 static void empty_store(void *given) {
     struct store_private *own = given;
     if (own->stays) return;
-    for (size_t i = 0; i < own->count; i++) (void)sd_notifyf(0, "FDSTOREREMOVE=1\nFDNAME=%s", own->stored[i].name);
+    EACH_STORED(it, own) tell_store("FDSTOREREMOVE", it->name, -1);
 }
 
 void open_store(struct process *process) {
@@ -155,14 +141,17 @@ void open_store(struct process *process) {
     char **names = NULL;
     int found = sd_listen_fds_with_names(1, &names);
     for (int i = 0; i < found; i++) {
-        int fd = SD_LISTEN_FDS_START + i;
-        if (own->count == MOST_FILES) close(fd);
-        if (own->count == MOST_FILES) continue;
-        snprintf(own->stored[own->count].name, sizeof own->stored[own->count].name, "%s", names[i]);
-        own->stored[own->count].taken = -1;
-        own->stored[own->count++].fd = fd;
+        struct stored *stored = &own->stored[own->count];
+        if (own->count == MOST_FILES) {
+            close(SD_LISTEN_FDS_START + i);
+        } else {
+            own->count++;
+            stored->fd = SD_LISTEN_FDS_START + i;
+            stored->taken = -1;
+            snprintf(stored->name, sizeof stored->name, "%s", names[i]);
+        }
+        free(names[i]);
     }
-    for (int i = 0; i < found; i++) free(names[i]);
     free(names);
     call_at_exit(process, empty_store, own);
 }

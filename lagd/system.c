@@ -22,10 +22,14 @@ uint64_t seconds_passed(const struct system_private *own) {
     return (uint64_t)(now.tv_sec - own->began.tv_sec);
 }
 
-uint64_t milliseconds(void) {
+uint64_t milliseconds_of(clockid_t clock) {
     struct timespec now;
-    clock_gettime(CLOCK_MONOTONIC, &now);
+    clock_gettime(clock, &now);
     return (uint64_t)now.tv_sec * 1000 + (uint64_t)now.tv_nsec / 1000000;
+}
+
+uint64_t milliseconds(void) {
+    return milliseconds_of(CLOCK_MONOTONIC);
 }
 
 /* An identifier for the first marker that nobody can guess. More than two thousand million are above it, of which none comes twice. */

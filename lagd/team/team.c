@@ -18,15 +18,6 @@ bool is_team_port(const struct team_plane *team, uint16_t port) {
     return team->taken[port - 1];
 }
 
-bool has_made_team(struct plane *plane) {
-    return plane->team->made;
-}
-
-/* Whether this daemon made the device, so that nobody has put a port there yet. */
-bool is_team_new(struct plane *plane) {
-    return plane->team->is_new;
-}
-
 /* Whether the driver takes the mode: at a device of its own, which stays. */
 bool has_team_mode(const struct team_netlink_private *own) {
     static const uint8_t mac[ETH_ALEN] = {2, 0, 0, 0, 0, 1};
@@ -83,7 +74,7 @@ static void adopt_device(struct team_plane *team, const struct interface *device
         stop(REFUSED, team->settings->carry, "a team device of another mode is there");
     if (!team->settings->follow && !has_own_ports(team->settings, &now) && !known)
         stop(REFUSED, team->settings->carry, "a team device with ports of others is there");
-    team->made = known && team->process->inherited->persists;
+    team->plane->made_device = known && team->process->inherited->persists;
     need(known || set_address(device->index, mac), team->settings->carry);
     use_team_device(team->device, device->index);
 }
@@ -221,7 +212,7 @@ static void end_team(void *given) {
     if (!team->opened || team->process->has_left) return;
     EACH_LINK(link, team->ports) close_team_port(team->plane, link);
     if (tap_index(team->device) != 0) free_inherited_ports(team->process->inherited, tap_index(team->device));
-    if (team->made && tap_index(team->device) != 0) (void)remove_device(tap_index(team->device));
+    if (team->plane->made_device && tap_index(team->device) != 0) (void)remove_device(tap_index(team->device));
     if (team->lock >= 0) close_stored(team->process->store, "lock", team->locked, team->lock);
     team->opened = false;
 }
@@ -241,7 +232,7 @@ void open_team(struct plane *plane) {
     } else {
         need(make_team_device(name, mac, least_mtu(team->settings)) && ask_interface(0, name, &device), name);
         lock_device(team, device.index); /* another one may have taken it at once */
-        team->made = team->is_new = true;
+        plane->made_device = plane->is_new = true;
         use_team_device(team->device, device.index);
     }
     need(read_team(team->team_netlink, tap_index(team->device), &now), "team");

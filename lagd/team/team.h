@@ -23,11 +23,9 @@ struct team_now {
 
 #define EACH_FILE_OF_TEAM(DO) DO(buckets, buckets) DO(team_netlink, team_netlink)
 struct team_plane {
-    KNOWS_PARTS
+    PARTS
     struct carry *carry;
     bool opened;
-    bool made; /* whether a daemon made the device, so that it goes at the end */
-    bool is_new; /* whether this one did */
     bool taken[NIW_MOST_PORTS]; /* whether the interface of a port is a port of the device */
     int lock, locked; /* by which no other lagd has the device, whatever members are there; and its index */
     EACH_FILE_OF_TEAM(KEEPS)
@@ -54,8 +52,6 @@ bool read_team(struct team_netlink_private *own, int index, struct team_now *now
 size_t make_team_hash(const struct settings *settings, struct sock_filter steps[static MOST_HASH_STEPS]);
 
 /* team.c */
-bool has_made_team(struct plane *plane);
-bool is_team_new(struct plane *plane);
 bool has_team_mode(const struct team_netlink_private *own);
 void open_team(struct plane *plane);
 void end_team_plane(struct plane *plane);

@@ -17,13 +17,8 @@ struct team_netlink_private {
 
 MAKES_ROOM(team_netlink)
 
-static int parse_family(const struct nlattr *attribute, void *into) {
-    if (mnl_attr_get_type(attribute) == CTRL_ATTR_FAMILY_ID) (void)copy_value(attribute, into, sizeof(uint16_t));
-    return MNL_CB_OK;
-}
-
 static void read_family(const struct nlmsghdr *message, void *into) {
-    read_attributes(message, sizeof(struct genlmsghdr), parse_family, into);
+    (void)copy_value(attribute_of(message, sizeof(struct genlmsghdr), CTRL_ATTR_FAMILY_ID), into, sizeof(uint16_t));
 }
 
 static bool find_family(struct team_netlink_private *own) {
@@ -139,16 +134,18 @@ struct option {
     struct place place;
 };
 
-static int parse_part(const struct nlattr *part, void *into) {
-    struct option *option = into;
-    switch (mnl_attr_get_type(part)) {
-    case TEAM_ATTR_OPTION_NAME: copy_text(part, option->name, sizeof option->name); break;
-    case TEAM_ATTR_OPTION_DATA: option->value = part; break;
-    case TEAM_ATTR_OPTION_PORT_IFINDEX: (void)copy_value(part, &option->place.port, sizeof option->place.port); break;
-    case TEAM_ATTR_OPTION_ARRAY_INDEX: (void)copy_value(part, &option->place.number, sizeof option->place.number); break;
-    default: break;
+static struct option option_of(const struct nlattr *item) {
+    struct option option = {.place = {0, -1}};
+    EACH_NESTED(part, item) {
+        switch (mnl_attr_get_type(part)) {
+        case TEAM_ATTR_OPTION_NAME: copy_text(part, option.name, sizeof option.name); break;
+        case TEAM_ATTR_OPTION_DATA: option.value = part; break;
+        case TEAM_ATTR_OPTION_PORT_IFINDEX: (void)copy_value(part, &option.place.port, sizeof option.place.port); break;
+        case TEAM_ATTR_OPTION_ARRAY_INDEX: (void)copy_value(part, &option.place.number, sizeof option.place.number); break;
+        default: break;
+        }
     }
-    return MNL_CB_OK;
+    return option;
 }
 
 static void note_port(struct team_now *now, const struct option *option) {
@@ -168,21 +165,13 @@ static void note_option(struct team_now *now, const struct option *option) {
     if (strcmp(option->name, "lb_hash_stats") == 0) (void)copy_value(option->value, &now->octets[number], sizeof now->octets[number]);
 }
 
-static int parse_option(const struct nlattr *item, void *into) {
-    struct option option = {.place = {0, -1}};
-    if (mnl_attr_get_type(item) != TEAM_ATTR_ITEM_OPTION) return MNL_CB_OK;
-    (void)mnl_attr_parse_nested(item, parse_part, &option);
-    note_option(into, &option);
-    return MNL_CB_OK;
-}
-
-static int parse_list(const struct nlattr *list, void *into) {
-    if (mnl_attr_get_type(list) == TEAM_ATTR_LIST_OPTION) (void)mnl_attr_parse_nested(list, parse_option, into);
-    return MNL_CB_OK;
-}
-
 static void parse_team(const struct nlmsghdr *message, void *into) {
-    read_attributes(message, sizeof(struct genlmsghdr), parse_list, into);
+    const struct nlattr *list = attribute_of(message, sizeof(struct genlmsghdr), TEAM_ATTR_LIST_OPTION);
+    if (!list) return;
+    EACH_NESTED(item, list) {
+        struct option option = option_of(item);
+        if (mnl_attr_get_type(item) == TEAM_ATTR_ITEM_OPTION) note_option(into, &option);
+    }
 }
 
 bool read_team(struct team_netlink_private *own, int index, struct team_now *now) {

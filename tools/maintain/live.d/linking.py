@@ -171,6 +171,14 @@ def build_buckets(folder: str) -> str:
     return build(os.path.join(folder, "buckets"), sources, [], *STRICT, f"-I{DAEMON}", *SANITIZED)
 
 
+def build_states(folder: str, libraries: Sequence[str]) -> str:
+    """Builds what reads and writes the state of a daemon, with ASan and UBSan, and all of the daemon but its turns; answers the path of the program."""
+    compiled, linked = daemon_words()
+    sources = [*(f"{MAINTAIN}/live.d/{name}.c" for name in ("states", "checks")), *(path for path in daemon_sources() if os.path.basename(path) != "main.c")]
+    words = [*STRICT, *compiled, f"-I{DAEMON}", *SANITIZED, *(f"-Wl,--wrap={name}" for name in ("open_in", "fork"))]
+    return build(os.path.join(folder, "states"), sources, [*libraries, *linked], *words)
+
+
 def build_kernel(folder: str, libraries: Sequence[str]) -> str:
     """Builds what runs the programs of the kernel for frames, with ASan and UBSan; answers the path of the program."""
     sources = [*(f"{MAINTAIN}/live.d/{name}.c" for name in ("programs", "checks")), *sources_of("hash", "bpf", "names", "programs", "settings")]
