@@ -3,15 +3,8 @@
 
 /* What cannot be changed without a restart, or NULL. */
 static const char *restart_for(struct protocol *protocol, const struct settings *wanted) {
-    if (wanted->config.priority != protocol->settings->config.priority || memcmp(wanted->config.mac, protocol->settings->config.mac, 6) != 0)
-        return "another system";
-    if (wanted->key_by_speed != protocol->settings->key_by_speed) return "another key-by-speed";
-    if (strcmp(wanted->carry, protocol->settings->carry) != 0) return "another carry";
-    if (strcmp(wanted->state_dir, protocol->settings->state_dir) != 0) return "another state-dir";
-    if (wanted->plane != protocol->settings->plane) return "another plane";
-    if (wanted->hash != protocol->settings->hash || wanted->hash_seed != protocol->settings->hash_seed) return "another hash or hash-seed";
-    if (wanted->offload != protocol->settings->offload || wanted->fast != protocol->settings->fast) return "another offload or fast";
-    if (wanted->all_queues != protocol->settings->all_queues) return "another queues";
+    for (const struct key *key = BUNDLE_KEYS; key->name; key++)
+        if (key->restart && !is_same_value(key, wanted, protocol->settings)) return key->restart;
     for (uint16_t port = 1; port <= wanted->port_count; port++)
         if (wanted->ports[port - 1].name[0] && !has_aggregator(protocol->keys, port_of(wanted, port).key))
             return "a key that no port had at the start";
@@ -97,31 +90,22 @@ static bool carries_alike(const struct settings *now, const struct settings *wan
 
 /* Takes what can be changed; answers how many ports have something else now. */
 static unsigned apply_settings(struct protocol *protocol, const struct settings *wanted) {
+    struct settings *now = protocol->settings;
+    bool alike = carries_alike(now, wanted);
     unsigned changed = 0;
-    protocol->settings->active = wanted->active;
-    protocol->settings->short_timeout = wanted->short_timeout;
-    protocol->settings->port_priority = wanted->port_priority;
-    if (has_aggregator(protocol->keys, wanted->key)) protocol->settings->key = wanted->key;
+    now->active = wanted->active;
+    now->short_timeout = wanted->short_timeout;
+    now->port_priority = wanted->port_priority;
+    if (has_aggregator(protocol->keys, wanted->key)) now->key = wanted->key;
     for (uint16_t port = 1; port <= protocol->ports->slots; port++) changed += apply_port(protocol, port, wanted);
     limit_links(protocol, wanted->config.max_links);
     change_policy(protocol, wanted);
-    protocol->settings->partner_required = wanted->partner_required;
-    if (carries_alike(protocol->settings, wanted)) {
-        protocol->settings->follow = wanted->follow;
-        protocol->settings->flight = wanted->flight;
-        protocol->settings->answer_after = wanted->answer_after;
-    }
-    protocol->settings->min_links = wanted->min_links;
-    if (wanted->select != protocol->settings->select) ask_links(protocol); /* for their speeds */
-    protocol->settings->select = wanted->select;
-    protocol->settings->marker_responses = wanted->marker_responses;
-    protocol->settings->wait_to_restore = wanted->wait_to_restore;
-    protocol->settings->delay_down = wanted->delay_down;
-    protocol->settings->revert = wanted->revert;
-    memcpy(protocol->settings->hook, wanted->hook, sizeof protocol->settings->hook);
+    if (wanted->select != now->select) ask_links(protocol); /* for their speeds */
+    for (const struct key *key = BUNDLE_KEYS; key->name; key++)
+        if (key->change == AT_ONCE || (key->change == WITH_DATA && alike)) copy_setting(key, wanted, now);
     EACH_LINK(link, protocol->ports) {
         link->changed = true;
-        if (wanted->select != SELECT_BANDWIDTH && !protocol->settings->key_by_speed) link->has_speed = false; /* nobody reads it any more */
+        if (wanted->select != SELECT_BANDWIDTH && !now->key_by_speed) link->has_speed = false; /* nobody reads it any more */
     }
     return changed;
 }

@@ -250,13 +250,13 @@ void write_json_event(struct control *control, const struct link *link) {
 void write_config(struct control *control) {
     char text[LINE_ROOM];
     add(control->report, "# %s\n[Bundle]\n", control->settings->name);
-    for (size_t i = 0; write_bundle_key(control->settings, i, text); i++)
-        if (text[0]) add(control->report, "%s\n", text);
+    for (const struct key *key = BUNDLE_KEYS; key->name; key++)
+        if (write_bundle_key(key, control->settings, text)) add(control->report, "%s\n", text);
     EACH_LINK(link, control->ports) {
         const struct port_settings *port = &control->settings->ports[link - control->ports->links];
         if (!link->used || link->leaving || link->followed) continue;
         add(control->report, "\n[Port %s]\n", port->name);
-        for (size_t i = 0; write_port_key(port, i, text); i++)
-            if (text[0]) add(control->report, "%s\n", text);
+        for (const struct key *key = PORT_KEYS; key->name; key++)
+            if (write_port_key(key, port, text)) add(control->report, "%s\n", text);
     }
 }
