@@ -83,15 +83,11 @@ static bool apply_port(struct protocol *protocol, uint16_t port, const struct se
     return change_all(protocol, port, wanted) || was_leaving;
 }
 
-/* Whether data is carried in the same way: what only one way has is taken with it, at a restart. */
-static bool carries_alike(const struct settings *now, const struct settings *wanted) {
-    return strcmp(now->carry, wanted->carry) == 0 && now->plane == wanted->plane && now->all_queues == wanted->all_queues;
-}
-
 /* Takes what can be changed; answers how many ports have something else now. */
 static unsigned apply_settings(struct protocol *protocol, const struct settings *wanted) {
     struct settings *now = protocol->settings;
-    bool alike = carries_alike(now, wanted);
+    /* Whether data is carried in the same way: what only one way has is taken with it, at a restart. */
+    bool alike = strcmp(now->carry, wanted->carry) == 0 && now->plane == wanted->plane && now->all_queues == wanted->all_queues;
     unsigned changed = 0;
     now->active = wanted->active;
     now->short_timeout = wanted->short_timeout;
@@ -115,9 +111,7 @@ static bool read_again(struct process *process, const char *file, struct setting
     if (!read_file(process, file, wanted)) return false;
     if (!wanted->system_auto || !process->settings->system_auto) return true;
     memcpy(wanted->config.mac, process->settings->config.mac, sizeof wanted->config.mac);
-    struct lack lack = lack_of(wanted);
-    if (lack.expected) complain(process, "%s:%u: expected %s: %s", file, line_of(wanted, lack.key), lack.expected, lack.key);
-    return !lack.expected;
+    return look_at_all(process, file, wanted);
 }
 
 /* Reads the file again. One that is wrong changes nothing. */

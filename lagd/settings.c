@@ -162,7 +162,7 @@ const struct key BUNDLE_KEYS[] = {
     /* A processor takes what its card gave it within a few milliseconds; this is more than ten programs on it have in turn, of 4 ms each. */
     {"answer-after", 'A', MILLISECONDS(answer_after, 1, 500), .usual = 50, .change = WITH_DATA,
         .help = "how long a response to a marker waits with --queues all; 50 if not given"},
-    {NULL},
+    {0},
 };
 _Static_assert(sizeof BUNDLE_KEYS / sizeof *BUNDLE_KEYS - 1 <= MOST_BUNDLE_KEYS, "each key has room for its line");
 
@@ -173,7 +173,7 @@ const struct key PORT_KEYS[] = {
     {"activity", 0, A_SWITCH, IN(port_settings, active), .words = ACTIVITIES},
     {"individual", 0, A_SWITCH, IN(port_settings, individual), .words = YES_OR_NO},
     {"hold", 0, A_SWITCH, IN(port_settings, hold), .words = YES_OR_NO},
-    {NULL},
+    {0},
 };
 
 static void *value_in(const struct key *key, const struct settings *settings) {
@@ -207,8 +207,9 @@ static bool read_value(const struct key *key, const char *text, struct settings 
     case A_SYSTEM: return read_system_or_auto(text, settings);
     case A_PARTNER: return read_partner(text, settings);
     case A_TEXT:
-        if (key->is_right(text)) strcpy(value_in(key, settings), text);
-        return key->is_right(text);
+        if (!key->is_right(text)) return false;
+        strcpy(value_in(key, settings), text);
+        return true;
     default:
         number = number_of(key, text);
         if (number >= 0) put_number(key, number, settings);
