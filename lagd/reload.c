@@ -60,25 +60,23 @@ static void change_policy(struct protocol *protocol, const struct settings *want
 
 /* A port is another one than it was: it goes, comes or changes. Answers whether anything differs. */
 static bool apply_port(struct protocol *protocol, uint16_t port, const struct settings *wanted) {
-    const struct link *link = &protocol->ports->links[port - 1];
-    const char *name = wanted->ports[port - 1].name;
-    bool was_leaving = link->leaving;
-    if (link->used && !name[0] && wanted->follow && link->socket >= 0) {
-        protocol->ports->links[port - 1].followed = true;
-        return false;
-    }
-    if (link->used && !name[0]) {
-        leave_port(protocol, port);
-        return !was_leaving;
-    }
-    if (!name[0]) return false;
+    struct link *link = &protocol->ports->links[port - 1];
+    bool was_leaving = link->leaving, is_wanted = wanted->ports[port - 1].name[0] != 0;
+    if (!link->used && (!is_wanted || !has_aggregator(protocol->keys, port_of(wanted, port).key))) return false;
     if (!link->used) {
-        if (!has_aggregator(protocol->keys, port_of(wanted, port).key)) return false;
         join_port(protocol, port, &wanted->ports[port - 1]);
         return true;
     }
+    if (!is_wanted && wanted->follow && link->socket >= 0) {
+        link->followed = true;
+        return false;
+    }
+    if (!is_wanted) {
+        leave_port(protocol, port);
+        return !was_leaving;
+    }
     stay_port(protocol, port);
-    protocol->ports->links[port - 1].followed = false;
+    link->followed = false;
     protocol->settings->ports[port - 1] = wanted->ports[port - 1];
     return change_all(protocol, port, wanted) || was_leaving;
 }
