@@ -100,6 +100,7 @@ const char *selection_text(enum selection selection) {
     return SELECTIONS[selection];
 }
 
+/* Parts of a row: the place of a value in a struct, and what else its kind wants. */
 #define IN(type, field) .at = offsetof(struct type, field), .size = sizeof ((struct type *)NULL)->field
 #define FROM(from, to, of, word) .least = from, .most = to, .expected = "a number " of "from " #from " to " #to, .value = word
 #define NUMBER(field, from, to) A_NUMBER, IN(settings, field), FROM(from, to, "", "N")
@@ -208,7 +209,7 @@ static bool read_value(const struct key *key, const char *text, struct settings 
     case A_PARTNER: return read_partner(text, settings);
     case A_TEXT:
         if (!key->is_right(text)) return false;
-        strcpy(value_in(key, settings), text);
+        strncpy(value_in(key, settings), text, key->size); /* which has room for a zero, as is_right knows */
         return true;
     default:
         number = number_of(key, text);
@@ -242,7 +243,7 @@ bool is_same_value(const struct key *key, const struct settings *one, const stru
     return strcmp(value, other_value) == 0;
 }
 
-/* Copies a value that stands in one place. */
+/* Copies a value, but for a system or a partner, which stand in several places. */
 void copy_setting(const struct key *key, const struct settings *from, struct settings *to) {
     memcpy(value_in(key, to), value_in(key, from), key->size);
 }

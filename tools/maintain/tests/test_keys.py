@@ -25,3 +25,9 @@ def test_letters_and_names_of_options_and_keys_stand_once() -> None:
     assert len(bundle) > 25 and len(others) == 14 and len(ports) == 6
     for words in [letter for _, letter in bundle if letter] + [letter for letter, _ in others], [name for name, _ in bundle] + [name for _, name in others], ports:
         assert sorted(words) == sorted(set(words))
+
+
+def test_docs_name_the_keys_of_a_bundle_that_a_reload_changes() -> None:
+    rows = re.findall(r"^    \{\"([\w-]+)\", (.*?)\},$", table("settings.c", "BUNDLE_KEYS"), re.M | re.S)
+    told = re.search(r"^What ports have of their own .*? change at once", Path(TOP, "docs/LAGD.md").read_text(encoding="utf-8"), re.M | re.S)
+    assert told and set(re.findall(r"`([\w-]+)`", told[0])) == {name for name, row in rows if ".restart" not in row} - {"key", "port-priority"}
