@@ -161,12 +161,6 @@ static _Noreturn void refuse_all(const struct asking_private *own, const char *f
     stop(REFUSED, "no lagd answers in", folder);
 }
 
-/* Prints what came of a daemon that is watched. */
-static void print_lines_of(struct control *control, unsigned daemon, char *text, size_t length) {
-    text[length] = 0;
-    if (!is_refusal(control->process, control->asking->daemons[daemon].path, text)) print(control->asking, text, length);
-}
-
 /* Prints what the daemons say, one after the other as each has a line, until they end. */
 static int print_changes_of_all(struct control *control) {
     struct asking_private *own = control->asking;
@@ -181,7 +175,8 @@ static int print_changes_of_all(struct control *control) {
         for (unsigned i = 0; i < own->count; i++) {
             if (!waits[i].revents) continue;
             ssize_t got = recv(waits[i].fd, text, sizeof text - 1, 0);
-            if (got > 0) print_lines_of(control, i, text, (size_t)got);
+            text[got > 0 ? got : 0] = 0;
+            if (got > 0 && !is_refusal(control->process, own->daemons[i].path, text)) print(own, text, (size_t)got);
             if (got <= 0) waits[i].fd = -1;
             left -= got <= 0;
         }

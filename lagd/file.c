@@ -23,18 +23,14 @@ struct reading {
     struct settings *settings;
 };
 
-static void expect_at(struct process *process, struct reading *reading, unsigned line, const char *expected, const char *found) {
-    reading->faults++;
-    complain(process, "%s:%u: expected %s: %s", reading->path, line, expected, found);
-}
-
 /* In the line that was read last. */
-static void expect(struct process *process, struct reading *reading, const char *expected, const char *found) {
-    expect_at(process, reading, reading->line, expected, found);
+static void expect(struct reading *reading, const char *expected, const char *found) {
+    reading->faults++;
+    complain(reading->process, "%s:%u: expected %s: %s", reading->path, reading->line, expected, found);
 }
 
 /* Takes the head of a section: `line` begins with a bracket. */
-static void parse_section(struct process *process, struct reading *reading, const char *line) {
+static void parse_section(struct reading *reading, const char *line) {
     const char *end = strrchr(line, ']'), *fault = "[Bundle] or [Port INTERFACE]";
     reading->section = WRONG_SECTION;
     if (strcmp(line, "[Bundle]") == 0) {
@@ -45,7 +41,7 @@ static void parse_section(struct process *process, struct reading *reading, cons
         fault = add_port(reading->settings, line + 6, (size_t)(end - line) - 6);
         if (!fault) reading->section = PORT_SECTION;
     }
-    if (fault) expect(process, reading, fault, line);
+    if (fault) expect(reading, fault, line);
 }
 
 /* What is wrong with a line, before its key and value are looked at, or NULL. The library would cut a line that is too long, take one
@@ -61,7 +57,6 @@ static const char *fault_of(const char *line, size_t length) {
 /* Hands the library the next line; an empty one in place of the head of a section, and of one that is wrong. */
 static char *next_line(char *into, int room, void *given) {
     struct reading *reading = given;
-    struct process *process = reading->process;
     char *line = NULL;
     size_t size = 0;
     ssize_t got = getline(&line, &size, reading->file);
@@ -70,8 +65,8 @@ static char *next_line(char *into, int room, void *given) {
         reading->line++;
         while (got > 0 && (line[got - 1] == '\n' || line[got - 1] == '\r' || line[got - 1] == ' ')) line[--got] = 0;
         fault = fault_of(line, (size_t)got);
-        if (fault) expect(process, reading, fault, line);
-        if (!fault && line[0] == '[') parse_section(process, reading, line);
+        if (fault) expect(reading, fault, line);
+        if (!fault && line[0] == '[') parse_section(reading, line);
         snprintf(into, (size_t)room, "%s\n", fault || line[0] == '[' ? "" : line);
     }
     free(line);
@@ -81,19 +76,19 @@ static char *next_line(char *into, int room, void *given) {
 /* Takes a key and its value, of the section that came last. */
 static int parse_pair(void *given, const char *section UNUSED, const char *name, const char *value) {
     struct reading *reading = given;
-    struct process *process = reading->process;
+    struct words *words = &reading->process->words;
     struct settings *wanted = reading->settings;
     const char *expected = NULL;
     switch (reading->section) {
-    case BUNDLE_SECTION: expected = set_bundle(&process->words, wanted, name, value, reading->line); break;
-    case PORT_SECTION: expected = set_port(&process->words, &wanted->ports[wanted->port_count - 1], name, value); break;
+    case BUNDLE_SECTION: expected = set_bundle(words, wanted, name, value, reading->line); break;
+    case PORT_SECTION: expected = set_port(words, &wanted->ports[wanted->port_count - 1], name, value); break;
     case WRONG_SECTION: break;
     default: expected = "[Bundle] or [Port INTERFACE] before keys"; break;
     }
     if (expected) {
         char found[2 * LONGEST_FILE_LINE];
         snprintf(found, sizeof found, "%s=%s", name, value);
-        expect(process, reading, expected, found);
+        expect(reading, expected, found);
     }
     return expected == NULL;
 }
@@ -123,16 +118,14 @@ static FILE *open_file(struct process *process, const char *path) {
     return file;
 }
 
-/* Looks at what only all lines say together. */
-static void look_at_all(struct process *process, struct reading *reading) {
-    struct lack lack = lack_of(reading->settings);
-    if (!lack.expected) return;
-    if (lack.key) {
-        expect_at(process, reading, line_of(reading->settings, lack.key), lack.expected, lack.key);
-    } else {
-        reading->faults++;
-        complain(process, "%s: expected %s", reading->path, lack.expected);
-    }
+/* Looks at what only all lines say together; answers whether that is right. */
+bool look_at_all(struct process *process, const char *path, const struct settings *settings) {
+    struct lack lack = lack_of(settings);
+    if (lack.key)
+        complain(process, "%s:%u: expected %s: %s", path, line_of(settings, lack.key), lack.expected, lack.key);
+    else if (lack.expected)
+        complain(process, "%s: expected %s", path, lack.expected);
+    return !lack.expected;
 }
 
 /* Reads a file; answers whether it is right. There is a line for each fault. */
@@ -146,6 +139,5 @@ bool read_file(struct process *process, const char *path, struct settings *wante
     ini_allow_inline_comments = false;
     (void)ini_parse_stream(next_line, &reading, parse_pair, &reading);
     fclose(reading.file);
-    if (reading.faults == 0) look_at_all(process, &reading);
-    return reading.faults == 0;
+    return reading.faults == 0 && look_at_all(process, path, wanted);
 }

@@ -297,11 +297,8 @@ static inline int last_fault(void) {
 const char *status_text(unsigned status);
 /* All counts of a port, by their places. */
 #define ALL_COUNTS ((unsigned)LIBRARY_COUNTS + COUNTS)
-const char *count_name(unsigned place);
-const char *count_help(unsigned place);
+struct count_text count_text(unsigned place);
 uint64_t count_at(const struct link *link, unsigned place);
-const char *bit_name(unsigned bit);
-const char *link_name(const struct link *link);
 const char *bundle_state_text(enum bundle_state state);
 const char *system_text(const struct system_id *system, char room[static 32]);
 const char *mac_text(const uint8_t *mac, char room[static 32]);
@@ -583,7 +580,7 @@ const char *read_port(struct words *words, char *text, struct settings *settings
 void open_status(struct process *process, const char *folder);
 void accept_callers(struct process *process);
 void pass_tick_of_callers(struct process *process);
-void tell_watchers(struct status_private *own, const char *line, size_t length);
+void tell_watchers(struct status_private *own, const char *text, size_t length, bool json);
 void tell_watchers_of(struct control *control, const struct link *link);
 
 /* state.c, resume.c */

@@ -84,8 +84,8 @@ void write_metrics(struct control *control) {
     }
     for (unsigned count = 0; count < ALL_COUNTS; count++) {
         char name[64];
-        snprintf(name, sizeof name, "port_%s_total", count_name(count));
-        add_head(control->report, name, "counter", count_help(count));
+        snprintf(name, sizeof name, "port_%s_total", count_text(count).name);
+        add_head(control->report, name, "counter", count_text(count).help);
         EACH_LINK(link, control->ports)
             if (link->used) add_port_value(control, name, link, count_at(link, count));
     }

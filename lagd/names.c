@@ -7,9 +7,6 @@ static const struct count_text TEXTS_OF_COUNTS[] = {EACH_LIBRARY_COUNT(COUNT_TEX
 #define COUNT_PLACE(field, name, help) offsetof(struct link, field),
 static const size_t PLACES_OF_COUNTS[] = {EACH_LIBRARY_COUNT(COUNT_PLACE)};
 
-static const char *const BIT_NAMES[8] = {"activity", "timeout", "aggregation", "synchronization", "collecting", "distributing",
-    "defaulted", "expired"};
-
 static const char *const OWN_STATUSES[] = {"the interface is missing", "it distributes without a partner",
     "a partner is required, and it has none", "the link is back, and waits for wait-to-restore",
     "the device is down", "it leaves the bundle", "it is not in the device", "its carrier is away, for less than delay-down so far"};
@@ -18,12 +15,8 @@ const char *status_text(unsigned status) {
     return status >= MISSING ? OWN_STATUSES[status - MISSING] : niw_port_status_text(status);
 }
 
-const char *count_name(unsigned place) {
-    return TEXTS_OF_COUNTS[place].name;
-}
-
-const char *count_help(unsigned place) {
-    return TEXTS_OF_COUNTS[place].help;
+struct count_text count_text(unsigned place) {
+    return TEXTS_OF_COUNTS[place];
 }
 
 uint64_t count_at(const struct link *link, unsigned place) {
@@ -31,14 +24,6 @@ uint64_t count_at(const struct link *link, unsigned place) {
     if (place >= LIBRARY_COUNTS) return link->counts[place - LIBRARY_COUNTS];
     memcpy(&count, (const char *)link + PLACES_OF_COUNTS[place], sizeof count);
     return count;
-}
-
-const char *bit_name(unsigned bit) {
-    return BIT_NAMES[bit];
-}
-
-const char *link_name(const struct link *link) {
-    return link->socket < 0 ? "missing" : link->away ? "away" : link->up ? "up" : link->waits ? "waiting" : "down";
 }
 
 const char *bundle_state_text(enum bundle_state state) {

@@ -20,31 +20,32 @@ static const char HELP_ENDS[] = "  -h, --help      -V, --version\n"
     "Words of an interface stand over the options: %s.\n"
     "Status: 0; 1: the kernel or another lagd is in the way, or none answers; 2: a wrong word or file.\n";
 
-/* An option: a key of the bundle, or one that says what the program is to do. */
+/* An option that no file has: what the program is to do. */
 struct option_text {
     char letter;
     const char *name, *value, *help; /* `value`: the word for it in the help; NULL: it has none */
+    enum action action;              /* RUN: it is none of these */
 };
 
-static const struct option_text BEFORE_KEYS[] = {
-    {'c', "config", "FILE", "runs the bundle of this file"},
-    {'k', "check", "FILE", "says what is wrong with a file, or what this machine lacks for it"},
-};
-
-static const struct option_text BEHIND_KEYS[] = {
-    {'f', "folder", "FOLDER", "of status sockets; /run/lagd if not given"},
-    {'s', "status", NULL, "prints the state of each lagd of this network namespace and folder"},
-    {'D', "show-config", NULL, "prints the settings that it has now, as a file has them"},
-    {'w', "watch", NULL, "prints each change of one, as it happens"},
-    {'j', "json", NULL, "prints either as JSON, a line for each"},
-    {'M', "metrics", NULL, "prints counts and states in the form of Prometheus"},
+/* In the order of the help, which has the keys of a bundle behind LAST_BEFORE_KEYS. */
+#define LAST_BEFORE_KEYS 'k'
+static const struct option_text OPTIONS[] = {
+    {'c', "config", "FILE", "runs the bundle of this file", RUN},
+    {'k', "check", "FILE", "says what is wrong with a file, or what this machine lacks for it", CHECK},
+    {'f', "folder", "FOLDER", "of status sockets; /run/lagd if not given", RUN},
+    {'s', "status", NULL, "prints the state of each lagd of this network namespace and folder", SHOW},
+    {'D', "show-config", NULL, "prints the settings that it has now, as a file has them", SHOW_CONFIG},
+    {'w', "watch", NULL, "prints each change of one, as it happens", WATCH},
+    {'j', "json", NULL, "prints either as JSON, a line for each", RUN},
+    {'M', "metrics", NULL, "prints counts and states in the form of Prometheus", METRICS},
     {'I', "add", "IFACE[:WORD,..]",
-        "has this interface join the bundle of the one lagd of the folder, until the next reload or\nrestart; root alone may, as the next three"},
-    {'E', "remove", "IFACE", "has it leave: its peer is told first; the program ends once it left"},
-    {'L', "hold", "IFACE", "has its data leave it, as before a cable is taken away, and ends once that is so"},
-    {'G', "release", "IFACE", "has it used again"},
-    {'h', "help", NULL, NULL},
-    {'V', "version", NULL, NULL},
+        "has this interface join the bundle of the one lagd of the folder, until the next reload or\nrestart; root alone may, as the next three", ORDER},
+    {'E', "remove", "IFACE", "has it leave: its peer is told first; the program ends once it left", ORDER},
+    {'L', "hold", "IFACE", "has its data leave it, as before a cable is taken away, and ends once that is so", ORDER},
+    {'G', "release", "IFACE", "has it used again", ORDER},
+    {'h', "help", NULL, NULL, RUN},
+    {'V', "version", NULL, NULL, RUN},
+    {0},
 };
 
 /* The words of an interface: the key of a port that each gives, and its value; NULL: that is the number behind `=`. */
@@ -62,48 +63,46 @@ static const struct {
 
 enum { PORT_WORD_COUNT = sizeof PORT_WORDS / sizeof *PORT_WORDS };
 
-enum { OPTION_ROOM = MOST_BUNDLE_KEYS + sizeof BEFORE_KEYS / sizeof *BEFORE_KEYS + sizeof BEHIND_KEYS / sizeof *BEHIND_KEYS };
+enum { OPTION_ROOM = MOST_BUNDLE_KEYS + sizeof OPTIONS / sizeof *OPTIONS };
 
 struct options_private {
-    struct option_text rows[OPTION_ROOM];
-    size_t row_count;
     struct options options;
     bool has_words; /* whether an option stands there that a file has, too */
 };
 
 MAKES_WITH(options, .options.folder = "/run/lagd")
 
-/* The options in the order of the help, from the tables above and from that of the keys. */
-static void make_rows(struct options_private *own) {
-    for (size_t i = 0; i < sizeof BEFORE_KEYS / sizeof *BEFORE_KEYS; i++) own->rows[own->row_count++] = BEFORE_KEYS[i];
-    for (size_t i = 0; bundle_key(i); i++)
-        if (bundle_key(i)->letter)
-            own->rows[own->row_count++] = (struct option_text){bundle_key(i)->letter, bundle_key(i)->name, bundle_key(i)->value, bundle_key(i)->help};
-    for (size_t i = 0; i < sizeof BEHIND_KEYS / sizeof *BEHIND_KEYS; i++) own->rows[own->row_count++] = BEHIND_KEYS[i];
-}
-
 /* The column of the help in which texts begin, if there is room before it. */
 enum { TEXT_AT = 30, LEAST_GAP = 3 };
 
 /* An option of the help; each line of its text begins in the same column, but behind a long word. */
-static void print_row(const struct option_text *row) {
-    int width = printf("  -%c, --%s%s%s", row->letter, row->name, row->value ? " " : "", row->value ? row->value : "");
-    const char *text = row->help;
+static void print_row(char letter, const char *name, const char *value, const char *help) {
+    int width = printf("  -%c, --%s%s%s", letter, name, value ? " " : "", value ? value : "");
     printf("%*s", width + LEAST_GAP > TEXT_AT ? LEAST_GAP : TEXT_AT - width, "");
-    for (size_t length; text[length = strcspn(text, "\n")]; text += length + 1) printf("%.*s\n%*s", (int)length, text, TEXT_AT, "");
-    printf("%s\n", text);
+    for (size_t length; help[length = strcspn(help, "\n")]; help += length + 1) printf("%.*s\n%*s", (int)length, help, TEXT_AT, "");
+    printf("%s\n", help);
 }
 
-static const char *port_word(size_t index) {
-    return PORT_WORDS[index].word;
+static const char *list_port_words(struct words *words, const char *last_joint) {
+    words->text[0] = 0;
+    for (size_t i = 0; i < PORT_WORD_COUNT; i++) add_word(words, i + 1 < PORT_WORD_COUNT ? ", " : last_joint, PORT_WORDS[i].word);
+    return words->text;
 }
 
-static void print_help(struct control *control) {
-    struct options_private *own = control->options;
+/* The word for the value of a key in the help; NULL where the option alone says yes. */
+static const char *value_word(struct words *words, const struct key *key) {
+    if (!key->words) return key->value;
+    return strcmp(key->words[0], "yes") == 0 ? NULL : list_choice(words, key, "|", "|");
+}
+
+static void print_help(struct words *words) {
     fputs(HELP_BEGINS, stdout);
-    for (size_t i = 0; i < own->row_count; i++)
-        if (own->rows[i].help) print_row(&own->rows[i]);
-    printf(HELP_ENDS, list_words(&control->process->words, port_word, PORT_WORD_COUNT, ", ", ""));
+    for (const struct option_text *row = OPTIONS; row->name; row++) {
+        if (row->help) print_row(row->letter, row->name, row->value, row->help);
+        for (const struct key *key = BUNDLE_KEYS; row->letter == LAST_BEFORE_KEYS && key->name; key++)
+            if (key->letter) print_row(key->letter, key->name, value_word(words, key), key->help);
+    }
+    printf(HELP_ENDS, list_port_words(words, ", "));
 }
 
 /* A command line is one line. */
@@ -117,30 +116,26 @@ static void expect(const char *expected, const char *name, const char *value) {
     stop(WRONG_WORD, found, value);
 }
 
-static void apply_option(struct control *control, int letter, const char *text) {
+/* An option that is a key of the bundle. */
+static void apply_key(struct control *control, int letter, const char *text) {
     struct options_private *own = control->options;
-    const struct option_text *row = own->rows;
-    while (row->letter != letter) row++;
-    text = row->value ? text : "yes";
+    const struct key *key = BUNDLE_KEYS;
+    while (key->letter != letter) key++;
     own->has_words = true;
-    expect(set_bundle(&control->process->words, &own->options.settings, row->name, text, THE_LINE), row->name, text);
+    expect(set_bundle(&control->process->words, &own->options.settings, key->name, text, THE_LINE), key->name, text);
 }
 
-static void choose(struct options_private *own, enum action action) {
-    if (own->options.action != RUN)
+static void choose(struct options *options, const struct option_text *row, const char *interface) {
+    if (options->action != RUN)
         stop(WRONG_WORD, "usage", "one of --check, --status, --watch, --metrics, --add, --remove, --hold and --release; lagd --help tells more");
-    own->options.action = action;
+    options->action = row->action;
+    options->order = row->name;
+    options->interface = interface;
 }
 
-static void note_file(struct options_private *own, const char *file) {
-    if (own->options.file) stop(WRONG_WORD, "usage", "one file, by --config or by --check; lagd --help tells more");
-    own->options.file = file;
-}
-
-static void choose_order(struct options_private *own, const char *order, const char *interface) {
-    choose(own, ORDER);
-    own->options.order = order;
-    own->options.interface = interface;
+static void note_file(struct options *options, const char *file) {
+    if (options->file) stop(WRONG_WORD, "usage", "one file, by --config or by --check; lagd --help tells more");
+    options->file = file;
 }
 
 /* A text that the library of c/lag.c has, and the native one has not. */
@@ -158,25 +153,18 @@ static _Noreturn void end_printing(void) {
 
 /* One option. --help and --version end the program. */
 static void act_on_letter(struct control *control, int option, const char *last) {
-    struct options_private *own = control->options;
-    const char letter[] = {'-', (char)optopt, 0};
+    struct options *options = &control->options->options;
+    const struct option_text *row = OPTIONS;
+    while (row->name && row->letter != option) row++;
+    if (row->action != RUN) choose(options, row, optarg);
     switch (option) {
-    case 'c': note_file(control->options, optarg); break;
-    case 'k': choose(control->options, CHECK); note_file(control->options, optarg); break;
-    case 'f': own->options.folder = optarg; break;
-    case 's': choose(control->options, SHOW); break;
-    case 'D': choose(control->options, SHOW_CONFIG); break;
-    case 'w': choose(control->options, WATCH); break;
-    case 'M': choose(control->options, METRICS); break;
-    case 'I': choose_order(control->options, "add", optarg); break;
-    case 'E': choose_order(control->options, "remove", optarg); break;
-    case 'L': choose_order(control->options, "hold", optarg); break;
-    case 'G': choose_order(control->options, "release", optarg); break;
-    case 'j': own->options.json = true; break;
-    case 'h': print_help(control); end_printing();
+    case 'c': case 'k': note_file(options, optarg); break;
+    case 'f': options->folder = optarg; break;
+    case 'j': options->json = true; break;
+    case 'h': print_help(&control->process->words); end_printing();
     case 'V': print_version(); end_printing();
-    case '?': case ':': stop(WRONG_WORD, "not an option, or its word is missing", optopt ? letter : last);
-    default: apply_option(control, option, optarg); break;
+    case '?': case ':': stop(WRONG_WORD, "not an option, or its word is missing", optopt ? (const char[]){'-', (char)optopt, 0} : last);
+    default: if (!row->name) apply_key(control, option, optarg ? optarg : "yes");
     }
 }
 
@@ -188,7 +176,7 @@ static const char *read_port_word(struct words *words, const char *word, struct 
         if (value ? strcmp(word, PORT_WORDS[i].word) == 0 : strncmp(word, PORT_WORDS[i].word, begin) == 0)
             return set_port(words, port, PORT_WORDS[i].key, value ? value : word + begin);
     }
-    return list_words(words, port_word, PORT_WORD_COUNT, " or ", "");
+    return list_port_words(words, " or ");
 }
 
 /* INTERFACE[:WORD,..], for the next port of settings, which ends the name there; answers NULL, or what was expected in the place of `found`. */
@@ -218,15 +206,15 @@ static void read_words(struct control *control, int count, char **words) {
 }
 
 static void read_rows(struct control *control, int argc, char **argv) {
-    struct options_private *own = control->options;
     struct option names[OPTION_ROOM + 1] = {{NULL, 0, NULL, 0}};
     char letters[2 * OPTION_ROOM + 1] = "";
-    size_t length = 0;
-    make_rows(control->options);
-    for (size_t i = 0; i < own->row_count; i++) {
-        names[i] = (struct option){own->rows[i].name, own->rows[i].value ? required_argument : no_argument, NULL, own->rows[i].letter};
-        letters[length++] = own->rows[i].letter;
-        if (own->rows[i].value) letters[length++] = ':';
+    size_t count = 0, length = 0;
+    for (const struct option_text *row = OPTIONS; row->name; row++) names[count++] = (struct option){row->name, row->value != NULL, NULL, row->letter};
+    for (const struct key *key = BUNDLE_KEYS; key->name; key++)
+        if (key->letter) names[count++] = (struct option){key->name, value_word(&control->process->words, key) != NULL, NULL, key->letter};
+    for (size_t i = 0; i < count; i++) {
+        letters[length++] = (char)names[i].val;
+        if (names[i].has_arg) letters[length++] = ':';
     }
     opterr = 0;
     for (int option; (option = getopt_long(argc, argv, letters, names, NULL)) >= 0;) act_on_letter(control, option, argv[optind - 1]);

@@ -3,15 +3,8 @@
 
 /* What cannot be changed without a restart, or NULL. */
 static const char *restart_for(struct protocol *protocol, const struct settings *wanted) {
-    if (wanted->config.priority != protocol->settings->config.priority || memcmp(wanted->config.mac, protocol->settings->config.mac, 6) != 0)
-        return "another system";
-    if (wanted->key_by_speed != protocol->settings->key_by_speed) return "another key-by-speed";
-    if (strcmp(wanted->carry, protocol->settings->carry) != 0) return "another carry";
-    if (strcmp(wanted->state_dir, protocol->settings->state_dir) != 0) return "another state-dir";
-    if (wanted->plane != protocol->settings->plane) return "another plane";
-    if (wanted->hash != protocol->settings->hash || wanted->hash_seed != protocol->settings->hash_seed) return "another hash or hash-seed";
-    if (wanted->offload != protocol->settings->offload || wanted->fast != protocol->settings->fast) return "another offload or fast";
-    if (wanted->all_queues != protocol->settings->all_queues) return "another queues";
+    for (const struct key *key = BUNDLE_KEYS; key->name; key++)
+        if (key->restart && !is_same_value(key, wanted, protocol->settings)) return key->restart;
     for (uint16_t port = 1; port <= wanted->port_count; port++)
         if (wanted->ports[port - 1].name[0] && !has_aggregator(protocol->keys, port_of(wanted, port).key))
             return "a key that no port had at the start";
@@ -67,61 +60,46 @@ static void change_policy(struct protocol *protocol, const struct settings *want
 
 /* A port is another one than it was: it goes, comes or changes. Answers whether anything differs. */
 static bool apply_port(struct protocol *protocol, uint16_t port, const struct settings *wanted) {
-    const struct link *link = &protocol->ports->links[port - 1];
-    const char *name = wanted->ports[port - 1].name;
-    bool was_leaving = link->leaving;
-    if (link->used && !name[0] && wanted->follow && link->socket >= 0) {
-        protocol->ports->links[port - 1].followed = true;
-        return false;
-    }
-    if (link->used && !name[0]) {
-        leave_port(protocol, port);
-        return !was_leaving;
-    }
-    if (!name[0]) return false;
+    struct link *link = &protocol->ports->links[port - 1];
+    bool was_leaving = link->leaving, is_wanted = wanted->ports[port - 1].name[0] != 0;
+    if (!link->used && (!is_wanted || !has_aggregator(protocol->keys, port_of(wanted, port).key))) return false;
     if (!link->used) {
-        if (!has_aggregator(protocol->keys, port_of(wanted, port).key)) return false;
         join_port(protocol, port, &wanted->ports[port - 1]);
         return true;
     }
+    if (!is_wanted && wanted->follow && link->socket >= 0) {
+        link->followed = true;
+        return false;
+    }
+    if (!is_wanted) {
+        leave_port(protocol, port);
+        return !was_leaving;
+    }
     stay_port(protocol, port);
-    protocol->ports->links[port - 1].followed = false;
+    link->followed = false;
     protocol->settings->ports[port - 1] = wanted->ports[port - 1];
     return change_all(protocol, port, wanted) || was_leaving;
 }
 
-/* Whether data is carried in the same way: what only one way has is taken with it, at a restart. */
-static bool carries_alike(const struct settings *now, const struct settings *wanted) {
-    return strcmp(now->carry, wanted->carry) == 0 && now->plane == wanted->plane && now->all_queues == wanted->all_queues;
-}
-
 /* Takes what can be changed; answers how many ports have something else now. */
 static unsigned apply_settings(struct protocol *protocol, const struct settings *wanted) {
+    struct settings *now = protocol->settings;
+    /* Whether data is carried in the same way: what only one way has is taken with it, at a restart. */
+    bool alike = strcmp(now->carry, wanted->carry) == 0 && now->plane == wanted->plane && now->all_queues == wanted->all_queues;
     unsigned changed = 0;
-    protocol->settings->active = wanted->active;
-    protocol->settings->short_timeout = wanted->short_timeout;
-    protocol->settings->port_priority = wanted->port_priority;
-    if (has_aggregator(protocol->keys, wanted->key)) protocol->settings->key = wanted->key;
+    now->active = wanted->active;
+    now->short_timeout = wanted->short_timeout;
+    now->port_priority = wanted->port_priority;
+    if (has_aggregator(protocol->keys, wanted->key)) now->key = wanted->key;
     for (uint16_t port = 1; port <= protocol->ports->slots; port++) changed += apply_port(protocol, port, wanted);
     limit_links(protocol, wanted->config.max_links);
     change_policy(protocol, wanted);
-    protocol->settings->partner_required = wanted->partner_required;
-    if (carries_alike(protocol->settings, wanted)) {
-        protocol->settings->follow = wanted->follow;
-        protocol->settings->flight = wanted->flight;
-        protocol->settings->answer_after = wanted->answer_after;
-    }
-    protocol->settings->min_links = wanted->min_links;
-    if (wanted->select != protocol->settings->select) ask_links(protocol); /* for their speeds */
-    protocol->settings->select = wanted->select;
-    protocol->settings->marker_responses = wanted->marker_responses;
-    protocol->settings->wait_to_restore = wanted->wait_to_restore;
-    protocol->settings->delay_down = wanted->delay_down;
-    protocol->settings->revert = wanted->revert;
-    memcpy(protocol->settings->hook, wanted->hook, sizeof protocol->settings->hook);
+    if (wanted->select != now->select) ask_links(protocol); /* for their speeds */
+    for (const struct key *key = BUNDLE_KEYS; key->name; key++)
+        if (key->change == AT_ONCE || (key->change == WITH_DATA && alike)) copy_setting(key, wanted, now);
     EACH_LINK(link, protocol->ports) {
         link->changed = true;
-        if (wanted->select != SELECT_BANDWIDTH && !protocol->settings->key_by_speed) link->has_speed = false; /* nobody reads it any more */
+        if (wanted->select != SELECT_BANDWIDTH && !now->key_by_speed) link->has_speed = false; /* nobody reads it any more */
     }
     return changed;
 }
@@ -131,9 +109,7 @@ static bool read_again(struct process *process, const char *file, struct setting
     if (!read_file(process, file, wanted)) return false;
     if (!wanted->system_auto || !process->settings->system_auto) return true;
     memcpy(wanted->config.mac, process->settings->config.mac, sizeof wanted->config.mac);
-    struct lack lack = lack_of(wanted);
-    if (lack.expected) complain(process, "%s:%u: expected %s: %s", file, line_of(wanted, lack.key), lack.expected, lack.key);
-    return !lack.expected;
+    return look_at_all(process, file, wanted);
 }
 
 /* Reads the file again. One that is wrong changes nothing. */

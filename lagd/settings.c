@@ -5,23 +5,16 @@
 #include <ctype.h>
 
 #define EACH_KEY_ONCE "each key once"
-#define A_NUMBER "a number from 0 to 65535"
-#define YES_OR_NO "yes or no"
-/* The most seconds that a link may be kept waiting. */
-#define LONGEST_WAIT 3600
-#define A_SYSTEM "PRIORITY,MAC, as 32768,02:00:00:00:00:01, whose MAC address is neither zero nor one of a group"
+#define A_MAC_SYSTEM "PRIORITY,MAC, as 32768,02:00:00:00:00:01, whose MAC address is neither zero nor one of a group"
+/* The priority of a system by `auto`, and of a port if nothing else is given: the one in the middle. */
+#define USUAL_PRIORITY 32768
 
-static bool read_number(const char *text, unsigned long least, unsigned long most, uint16_t *into) {
+static bool read_number(const char *text, unsigned least, unsigned most, uint16_t *into) {
     size_t digits = strspn(text, "0123456789");
-    unsigned long found = digits > 0 && digits < 6 && !text[digits] ? strtoul(text, NULL, 10) : most + 1;
+    unsigned long found = digits > 0 && digits < 6 && !text[digits] ? strtoul(text, NULL, 10) : most + 1ul;
     if (found < least || found > most) return false;
     *into = (uint16_t)found;
     return true;
-}
-
-static bool read_choice(const char *text, const char *first, const char *second, bool *is_first) {
-    *is_first = strcmp(text, first) == 0;
-    return *is_first || strcmp(text, second) == 0;
 }
 
 /* Twelve hexadecimal digits: in pairs joined by colons or by hyphens, in fours joined by points, or alone. */
@@ -47,19 +40,8 @@ static bool read_system(const char *text, struct system_id *into) {
     return read_number(priority, 0, UINT16_MAX, &into->priority) && read_mac(text + digits + 1, into->mac);
 }
 
-static void *value_in(const struct bundle_key *key, const struct settings *settings) {
-    return (char *)settings + key->at;
-}
-
-static bool parse_number(const struct bundle_key *key, const char *text, struct settings *settings) {
-    return read_number(text, key->least, key->most, value_in(key, settings));
-}
-
-static bool parse_choice(const struct bundle_key *key, const char *text, struct settings *settings) {
-    return read_choice(text, key->first, key->second, value_in(key, settings));
-}
-
-static bool parse_system(const struct bundle_key *key UNUSED, const char *text, struct settings *settings) {
+/* PRIORITY,MAC; or auto, where the address comes later. */
+static bool read_system_or_auto(const char *text, struct settings *settings) {
     struct system_id own = {.priority = USUAL_PRIORITY};
     settings->system_auto = strcmp(text, "auto") == 0;
     if (!settings->system_auto && !read_system(text, &own)) return false;
@@ -68,8 +50,8 @@ static bool parse_system(const struct bundle_key *key UNUSED, const char *text, 
     return true;
 }
 
-static bool parse_partner(const struct bundle_key *key UNUSED, const char *text, struct settings *settings) {
-    bool any, named = !read_choice(text, "any", "first", &any);
+static bool read_partner(const char *text, struct settings *settings) {
+    bool any = strcmp(text, "any") == 0, named = !any && strcmp(text, "first") != 0;
     settings->policy = named ? PARTNER_GIVEN : any ? PARTNER_ANY : PARTNER_FIRST;
     return !named || read_system(text, &settings->partner);
 }
@@ -78,16 +60,9 @@ static bool is_path(const char *text) {
     return text[0] == '/' && strlen(text) < PATH_ROOM;
 }
 
-static bool parse_hook(const struct bundle_key *key UNUSED, const char *text, struct settings *settings) {
+static bool is_path_of_program(const char *text) {
     struct stat found;
-    if (!is_path(text) || stat(text, &found) < 0 || !S_ISREG(found.st_mode) || access(text, X_OK) < 0) return false;
-    strcpy(settings->hook, text);
-    return true;
-}
-
-static bool parse_state_dir(const struct bundle_key *key UNUSED, const char *text, struct settings *settings) {
-    if (is_path(text)) strcpy(settings->state_dir, text);
-    return is_path(text);
+    return is_path(text) && stat(text, &found) == 0 && S_ISREG(found.st_mode) && access(text, X_OK) == 0;
 }
 
 /* Whether the kernel would take a name of an interface. */
@@ -97,12 +72,8 @@ static bool is_name(const char *text, size_t length) {
     return right;
 }
 
-static bool parse_carry(const struct bundle_key *key UNUSED, const char *text, struct settings *settings) {
-    size_t length = strlen(text);
-    if (length >= sizeof settings->carry || strchr(text, '%') || !is_name(text, length)) return false;
-    memset(settings->carry, 0, sizeof settings->carry);
-    memcpy(settings->carry, text, length);
-    return true;
+static bool is_name_of_device(const char *text) {
+    return strlen(text) < DEVICE_ROOM && !strchr(text, '%') && is_name(text, strlen(text));
 }
 
 const char *way_text(const struct settings *settings) {
@@ -110,6 +81,11 @@ const char *way_text(const struct settings *settings) {
     return settings->fast ? "fast" : settings->offload ? "offload" : "plain";
 }
 
+static const char *const YES_OR_NO[] = {"yes", "no", NULL};
+static const char *const TIMEOUTS[] = {"short", "long", NULL};
+static const char *const ACTIVITIES[] = {"active", "passive", NULL};
+static const char *const OF_WHOM[] = {"given", "follow", NULL};
+static const char *const QUEUES[] = {"one", "all", NULL};
 static const char *const PLANES[] = {[PLANE_TAP] = "tap", [PLANE_TEAM] = "team", NULL};
 static const char *const HASHES[] = {[HASH_LAYER2] = "layer2", [HASH_LAYER2_3] = "layer2+3", [HASH_LAYER3_4] = "layer3+4",
     [HASH_ENCAP3_4] = "encap3+4", [HASH_VLAN_SRCMAC] = "vlan+srcmac", NULL};
@@ -124,205 +100,233 @@ const char *selection_text(enum selection selection) {
     return SELECTIONS[selection];
 }
 
-static bool parse_word(const struct bundle_key *key, const char *text, struct settings *settings) {
-    for (unsigned i = 0; key->words[i]; i++) {
-        if (strcmp(text, key->words[i]) != 0) continue;
-        *(unsigned *)value_in(key, settings) = i;
-        return true;
-    }
-    return false;
-}
+/* Parts of a row: the place of a value in a struct, and what else its kind wants. */
+#define IN(type, field) .at = offsetof(struct type, field), .size = sizeof ((struct type *)NULL)->field
+#define FROM(from, to, of, word) .least = from, .most = to, .expected = "a number " of "from " #from " to " #to, .value = word
+#define NUMBER(field, from, to) A_NUMBER, IN(settings, field), FROM(from, to, "", "N")
+#define SECONDS(field, from, to) A_NUMBER, IN(settings, field), FROM(from, to, "of seconds ", "SECONDS")
+#define MILLISECONDS(field, from, to) A_NUMBER, IN(settings, field), FROM(from, to, "of milliseconds ", "MILLISECONDS")
+#define SWITCH(field, two) A_SWITCH, IN(settings, field), .words = two
+#define WORD(field, several) A_WORD, IN(settings, field), .words = several
+#define TEXT(field, of, check) A_TEXT, IN(settings, field), .expected = of, .is_right = check
+const struct key BUNDLE_KEYS[] = {
+    {"key", 0, NUMBER(key, 0, 65535)},
+    {"system", 0, A_SYSTEM, .expected = "auto or " A_MAC_SYSTEM, .restart = "another system"},
+    {"port-priority", 'p', NUMBER(port_priority, 0, 65535), .usual = USUAL_PRIORITY, .help = "0 to 65535; 32768 if not given"},
+    {"timeout", 't', SWITCH(short_timeout, TIMEOUTS), .usual = true,
+        .help = "what is asked of the peers: an LACPDU each second, as if not given, or each 30 seconds"},
+    {"activity", 'a', SWITCH(active, ACTIVITIES), .usual = true, .help = "whether it speaks first: active, if not given"},
+    {"max-links", 'm', NUMBER(config.max_links, 0, 64), .help = "the most links of an aggregator, 1 to 64; 0, as if not given: no limit"},
+    {"min-links", 'n', NUMBER(min_links, 1, 64), .usual = 1, .change = AT_ONCE,
+        .help = "with fewer links that carry the bundle is down: 1 to 64; 1, if not given"},
+    {"select", 'e', WORD(select, SELECTIONS), .change = AT_ONCE,
+        .help = "which of several aggregators carries: of most links, as if not given, the fastest, or that of\n"
+                "the port with the lowest priority; stable: one that carries stays"},
+    {"revert", 'R', SWITCH(revert, YES_OR_NO), .change = AT_ONCE,
+        .help = "with max-links the ports with the lowest priorities are used, not those that come first"},
+    {"wait-to-restore", 'W', SECONDS(wait_to_restore, 0, 3600), .change = AT_ONCE,
+        .help = "how long the carrier of a link that comes back has to be steady; 0 if not given"},
+    {"delay-down", 'd', MILLISECONDS(delay_down, 0, 3000), .change = AT_ONCE,
+        .help = "how long the carrier of a link may be away while the link counts as up; 0 if not given"},
+    {"partner", 'r', A_PARTNER, .expected = "any, first or " A_MAC_SYSTEM, .value = "any|first|PRIORITY,MAC",
+        .help = "whose LACPDUs are taken: any, if not given; first: of whom is learnt first, until the\nlink goes down"},
+    {"partner-required", 'q', SWITCH(partner_required, YES_OR_NO), .change = AT_ONCE, .help = "a port without a partner does not carry"},
+    {"key-by-speed", 'b', SWITCH(key_by_speed, YES_OR_NO), .restart = "another key-by-speed",
+        .help = "links of another speed or duplex have another key, so that they share no group"},
+    /* As often as IEEE 802.3, annex 57A, lets one of the slow protocols send. */
+    {"marker-responses", 'o', NUMBER(marker_responses, 0, 10000), .usual = 10, .change = AT_ONCE,
+        .help = "the most that a port sends in a second; 10 if not given"},
+    {"hook", 'x', TEXT(hook, "a path that begins with /, of at most 175 characters, of a program that may be run", is_path_of_program),
+        .change = AT_ONCE, .value = "PROGRAM", .help = "is run when the bundle becomes up, degraded or down"},
+    {"state-dir", 'T', TEXT(state_dir, "a path that begins with /, of at most 175 characters", is_path), .restart = "another state-dir",
+        .value = "FOLDER", .help = "keeps there what a start after a reboot goes on from"},
+    {"carry", 'C', TEXT(carry, "a name of an interface of at most 15 characters", is_name_of_device), .restart = "another carry",
+        .value = "NAME", .help = "carries the data of a device of this name, which it makes, with the MAC address of the system"},
+    {"plane", 'P', WORD(plane, PLANES), .restart = "another plane",
+        .help = "what that device is: a TAP device, as if not given, or one of the kernel's team driver,\nby which the kernel carries"},
+    {"members", 'B', WORD(follow, OF_WHOM), .change = WITH_DATA,
+        .help = "with --plane team, who says which interfaces are ports: given here, or follow: whoever puts\n"
+                "them into the device or takes them out, as the network manager does"},
+    {"hash", 'H', WORD(hash, HASHES), .restart = "another hash or hash-seed",
+        .help = "what frames of one conversation have in common; layer2, if not given"},
+    {"hash-seed", 'S', NUMBER(hash_seed, 0, 65535), .restart = "another hash or hash-seed",
+        .help = "another number spreads conversations in another way, but by layer2; 0 if not given"},
+    /* On a direct cable a frame is on its way for far less. */
+    {"flight", 'F', MILLISECONDS(flight, 1, 60000), .usual = 500, .change = WITH_DATA,
+        .help = "how long a frame can be on its way; 500 if not given"},
+    {"offload", 'O', SWITCH(offload, YES_OR_NO), .restart = "another offload or fast",
+        .help = "passes frames of several segments, which the kernel or the card cuts"},
+    {"fast", 'K', SWITCH(fast, YES_OR_NO), .restart = "another offload or fast",
+        .help = "the kernel passes data on by itself (Linux 6.6), of several segments too"},
+    {"queues", 'Q', WORD(all_queues, QUEUES), .restart = "another queues",
+        .help = "how many queues of its members data goes by: one, if not given; all (Linux 6.6): each\nconversation by one of them"},
+    /* A processor takes what its card gave it within a few milliseconds; this is more than ten programs on it have in turn, of 4 ms each. */
+    {"answer-after", 'A', MILLISECONDS(answer_after, 1, 500), .usual = 50, .change = WITH_DATA,
+        .help = "how long a response to a marker waits with --queues all; 50 if not given"},
+    {0},
+};
+_Static_assert(sizeof BUNDLE_KEYS / sizeof *BUNDLE_KEYS - 1 <= MOST_BUNDLE_KEYS, "each key has room for its line");
 
-/* The keys of a bundle, in the order of the help. */
-#define NUMBER(field, least, most) offsetof(struct settings, field), least, most, NULL, NULL, NULL
-#define CHOICE(field, first, second) offsetof(struct settings, field), 0, 0, first, second, NULL
-#define WORD(field, words) offsetof(struct settings, field), 0, 0, NULL, NULL, words
-#define TEXT(field) offsetof(struct settings, field), 0, 0, NULL, NULL, NULL
-#define OF_ITS_OWN 0, 0, 0, NULL, NULL, NULL
-static const struct bundle_key BUNDLE_KEYS[] = {
-    {"key", A_NUMBER, parse_number, 0, NULL, NULL, NUMBER(key, 0, UINT16_MAX)},
-    {"system", "auto or " A_SYSTEM, parse_system, 0, NULL, NULL, OF_ITS_OWN},
-    {"port-priority", A_NUMBER, parse_number, 'p', "N", "0 to 65535; 32768 if not given", NUMBER(port_priority, 0, UINT16_MAX)},
-    {"timeout", "short or long", parse_choice, 't', "short|long",
-        "what is asked of the peers: an LACPDU each second, as if not given, or each 30 seconds", CHOICE(short_timeout, "short", "long")},
-    {"activity", "active or passive", parse_choice, 'a', "active|passive", "whether it speaks first: active, if not given",
-        CHOICE(active, "active", "passive")},
-    {"max-links", "a number from 0 to 64", parse_number, 'm', "N",
-        "the most links of an aggregator, 1 to 64; 0, as if not given: no limit", NUMBER(config.max_links, 0, NIW_MOST_PORTS)},
-    {"min-links", "a number from 1 to 64", parse_number, 'n', "N",
-        "with fewer links that carry the bundle is down: 1 to 64; 1, if not given", NUMBER(min_links, 1, NIW_MOST_PORTS)},
-    {"select", "count, bandwidth, priority or priority-stable", parse_word, 'e', "count|bandwidth|priority|priority-stable",
-        "which of several aggregators carries: of most links, as if not given, the fastest, or that of\n"
-        "the port with the lowest priority; stable: one that carries stays", WORD(select, SELECTIONS)},
-    {"revert", YES_OR_NO, parse_choice, 'R', NULL,
-        "with max-links the ports with the lowest priorities are used, not those that come first", CHOICE(revert, "yes", "no")},
-    {"wait-to-restore", "a number of seconds from 0 to 3600", parse_number, 'W', "SECONDS",
-        "how long the carrier of a link that comes back has to be steady; 0 if not given", NUMBER(wait_to_restore, 0, LONGEST_WAIT)},
-    {"delay-down", "a number of milliseconds from 0 to 3000", parse_number, 'd', "MILLISECONDS",
-        "how long the carrier of a link may be away while the link counts as up; 0 if not given", NUMBER(delay_down, 0, 3000)},
-    {"partner", "any, first or " A_SYSTEM, parse_partner, 'r', "any|first|PRIORITY,MAC",
-        "whose LACPDUs are taken: any, if not given; first: of whom is learnt first, until the\nlink goes down", OF_ITS_OWN},
-    {"partner-required", YES_OR_NO, parse_choice, 'q', NULL, "a port without a partner does not carry", CHOICE(partner_required, "yes", "no")},
-    {"key-by-speed", YES_OR_NO, parse_choice, 'b', NULL,
-        "links of another speed or duplex have another key, so that they share no group", CHOICE(key_by_speed, "yes", "no")},
-    {"marker-responses", "a number from 0 to 10000", parse_number, 'o', "N",
-        "the most that a port sends in a second; 10 if not given", NUMBER(marker_responses, 0, 10000)},
-    {"hook", "a path that begins with /, of at most 175 characters, of a program that may be run", parse_hook, 'x', "PROGRAM",
-        "is run when the bundle becomes up, degraded or down", TEXT(hook)},
-    {"state-dir", "a path that begins with /, of at most 175 characters", parse_state_dir, 'T', "FOLDER",
-        "keeps there what a start after a reboot goes on from", TEXT(state_dir)},
-    {"carry", "a name of an interface of at most 15 characters", parse_carry, 'C', "NAME",
-        "carries the data of a device of this name, which it makes, with the MAC address of the system", TEXT(carry)},
-    {"plane", "tap or team", parse_word, 'P', "tap|team",
-        "what that device is: a TAP device, as if not given, or one of the kernel's team driver,\nby which the kernel carries", WORD(plane, PLANES)},
-    {"members", "given or follow", parse_choice, 'B', "given|follow",
-        "with --plane team, who says which interfaces are ports: given here, or follow: whoever puts\n"
-        "them into the device or takes them out, as the network manager does", CHOICE(follow, "follow", "given")},
-    {"hash", "layer2, layer2+3, layer3+4, encap3+4 or vlan+srcmac", parse_word, 'H', "layer2|layer2+3|layer3+4|encap3+4|vlan+srcmac",
-        "what frames of one conversation have in common; layer2, if not given", WORD(hash, HASHES)},
-    {"hash-seed", A_NUMBER, parse_number, 'S', "N", "another number spreads conversations in another way, but by layer2; 0 if not given",
-        NUMBER(hash_seed, 0, UINT16_MAX)},
-    {"flight", "a number of milliseconds from 1 to 60000", parse_number, 'F', "MILLISECONDS",
-        "how long a frame can be on its way; 500 if not given", NUMBER(flight, 1, 60000)},
-    {"offload", YES_OR_NO, parse_choice, 'O', NULL, "passes frames of several segments, which the kernel or the card cuts",
-        CHOICE(offload, "yes", "no")},
-    {"fast", YES_OR_NO, parse_choice, 'K', NULL, "the kernel passes data on by itself (Linux 6.6), of several segments too",
-        CHOICE(fast, "yes", "no")},
-    {"queues", "one or all", parse_choice, 'Q', "one|all",
-        "how many queues of its members data goes by: one, if not given; all (Linux 6.6): each\nconversation by one of them",
-        CHOICE(all_queues, "all", "one")},
-    {"answer-after", "a number of milliseconds from 1 to 500", parse_number, 'A', "MILLISECONDS",
-        "how long a response to a marker waits with --queues all; 50 if not given", NUMBER(answer_after, 1, 500)},
+const struct key PORT_KEYS[] = {
+    {"key", 0, A_NUMBER, IN(port_settings, key), FROM(0, 65535, "", "N")},
+    {"priority", 0, A_NUMBER, IN(port_settings, priority), FROM(0, 65535, "", "N")},
+    {"timeout", 0, A_SWITCH, IN(port_settings, short_timeout), .words = TIMEOUTS},
+    {"activity", 0, A_SWITCH, IN(port_settings, active), .words = ACTIVITIES},
+    {"individual", 0, A_SWITCH, IN(port_settings, individual), .words = YES_OR_NO},
+    {"hold", 0, A_SWITCH, IN(port_settings, hold), .words = YES_OR_NO},
+    {0},
 };
 
-enum { BUNDLE_KEY_COUNT = sizeof BUNDLE_KEYS / sizeof *BUNDLE_KEYS };
-_Static_assert(BUNDLE_KEY_COUNT <= MOST_BUNDLE_KEYS, "each key has room for its line");
-
-const struct bundle_key *bundle_key(size_t index) {
-    return index < BUNDLE_KEY_COUNT ? &BUNDLE_KEYS[index] : NULL;
+static void *value_in(const struct key *key, const struct settings *settings) {
+    return (char *)settings + key->at;
 }
 
-/* Writes the value that a key has, as it is read; nothing where it has none. */
-static void write_value(const struct bundle_key *key, const struct settings *settings, char text[static PATH_ROOM]) {
+static int *value_of_port(const struct key *key, const struct port_settings *port) {
+    return (int *)(void *)((char *)port + key->at);
+}
+
+/* What a text stands for, if that is a number, a switch or a word: else -1. */
+static int number_of(const struct key *key, const char *text) {
+    uint16_t number;
+    if (key->kind == A_NUMBER) return read_number(text, key->least, key->most, &number) ? number : -1;
+    for (int i = 0; key->words[i]; i++)
+        if (strcmp(text, key->words[i]) == 0) return key->kind == A_SWITCH ? i == 0 : i;
+    return -1;
+}
+
+static void put_number(const struct key *key, int number, struct settings *settings) {
+    void *into = value_in(key, settings);
+    if (key->kind == A_NUMBER) *(uint16_t *)into = (uint16_t)number;
+    if (key->kind == A_SWITCH) *(bool *)into = number != 0;
+    if (key->kind == A_WORD) *(unsigned *)into = (unsigned)number;
+}
+
+/* Gives a key of the bundle the value that a text has for it; answers whether it has one. */
+static bool read_value(const struct key *key, const char *text, struct settings *settings) {
+    int number;
+    switch (key->kind) {
+    case A_SYSTEM: return read_system_or_auto(text, settings);
+    case A_PARTNER: return read_partner(text, settings);
+    case A_TEXT:
+        if (!key->is_right(text)) return false;
+        strncpy(value_in(key, settings), text, key->size); /* which has room for a zero, as is_right knows */
+        return true;
+    default:
+        number = number_of(key, text);
+        if (number >= 0) put_number(key, number, settings);
+        return number >= 0;
+    }
+}
+
+/* Writes the value that a key of the bundle has, as it is read; nothing where it has none. */
+static void write_value(const struct key *key, const struct settings *settings, char text[static PATH_ROOM]) {
+    const void *value = value_in(key, settings);
     struct system_id own = own_system(settings);
     char room[32];
-    text[0] = 0;
-    if (key->parse == parse_number) snprintf(text, PATH_ROOM, "%u", *(const uint16_t *)value_in(key, settings));
-    if (key->parse == parse_choice) snprintf(text, PATH_ROOM, "%s", *(const bool *)value_in(key, settings) ? key->first : key->second);
-    if (key->parse == parse_system) snprintf(text, PATH_ROOM, "%s", system_text(&own, room));
-    if (key->parse == parse_partner) snprintf(text, PATH_ROOM, "%s", settings->policy == PARTNER_FIRST ? "first" : "any");
-    if (key->parse == parse_partner && settings->policy == PARTNER_GIVEN)
-        snprintf(text, PATH_ROOM, "%s", system_text(&settings->partner, room));
-    if (key->parse == parse_hook || key->parse == parse_state_dir || key->parse == parse_carry)
-        snprintf(text, PATH_ROOM, "%s", (const char *)value_in(key, settings));
-    if (key->parse == parse_word) snprintf(text, PATH_ROOM, "%s", key->words[*(const unsigned *)value_in(key, settings)]);
+    switch (key->kind) {
+    case A_NUMBER: snprintf(text, PATH_ROOM, "%u", *(const uint16_t *)value); break;
+    case A_SWITCH: snprintf(text, PATH_ROOM, "%s", key->words[*(const bool *)value ? 0 : 1]); break;
+    case A_WORD: snprintf(text, PATH_ROOM, "%s", key->words[*(const unsigned *)value]); break;
+    case A_TEXT: snprintf(text, PATH_ROOM, "%s", (const char *)value); break;
+    case A_SYSTEM: snprintf(text, PATH_ROOM, "%s", system_text(&own, room)); break;
+    case A_PARTNER:
+        snprintf(text, PATH_ROOM, "%s", settings->policy == PARTNER_GIVEN ? system_text(&settings->partner, room)
+            : settings->policy == PARTNER_FIRST ? "first" : "any");
+        break;
+    }
 }
 
-/* Writes what is not as it is if nothing is given, and what has to be given: `KEY=VALUE` of this key, from 0 on, or nothing. Answers whether there
- * is such a key. */
-bool write_bundle_key(const struct settings *settings, size_t index, char text[static LINE_ROOM]) {
+bool is_same_value(const struct key *key, const struct settings *one, const struct settings *other) {
+    char value[PATH_ROOM], other_value[PATH_ROOM];
+    write_value(key, one, value);
+    write_value(key, other, other_value);
+    return strcmp(value, other_value) == 0;
+}
+
+/* Copies a value, but for a system or a partner, which stand in several places. */
+void copy_setting(const struct key *key, const struct settings *from, struct settings *to) {
+    memcpy(value_in(key, to), value_in(key, from), key->size);
+}
+
+/* Writes a key with its value where that has to be given, or is not as it is if nothing is given; answers whether it did. */
+bool write_bundle_key(const struct key *key, const struct settings *settings, char text[static LINE_ROOM]) {
     const struct settings usual = usual_settings();
-    const struct bundle_key *key = bundle_key(index);
-    char value[PATH_ROOM], without[PATH_ROOM];
-    text[0] = 0;
-    if (!key) return false;
+    char value[PATH_ROOM];
     write_value(key, settings, value);
-    write_value(key, &usual, without);
-    if (key->letter == 0 || strcmp(value, without) != 0) snprintf(text, LINE_ROOM, "%s=%s", key->name, value);
+    snprintf(text, LINE_ROOM, "%s=%s", key->name, value);
+    return key->letter == 0 || !is_same_value(key, settings, &usual);
+}
+
+/* The same of a key that a port has of its own. */
+bool write_port_key(const struct key *key, const struct port_settings *port, char text[static LINE_ROOM]) {
+    int value = *value_of_port(key, port);
+    if (value == AS_BUNDLE) return false;
+    if (key->words)
+        snprintf(text, LINE_ROOM, "%s=%s", key->name, key->words[value ? 0 : 1]);
+    else
+        snprintf(text, LINE_ROOM, "%s=%d", key->name, value);
     return true;
 }
 
-/* The keys of a port: a number, or one of two words, the first of which stands for 1. */
-static const struct {
-    const char *name, *expected, *first, *second;
-    size_t at; /* in struct port_settings */
-} PORT_KEYS[] = {
-    {"key", A_NUMBER, NULL, NULL, offsetof(struct port_settings, key)},
-    {"priority", A_NUMBER, NULL, NULL, offsetof(struct port_settings, priority)},
-    {"timeout", "short or long", "short", "long", offsetof(struct port_settings, short_timeout)},
-    {"activity", "active or passive", "active", "passive", offsetof(struct port_settings, active)},
-    {"individual", YES_OR_NO, "yes", "no", offsetof(struct port_settings, individual)},
-    {"hold", YES_OR_NO, "yes", "no", offsetof(struct port_settings, hold)},
-};
-
-enum { PORT_KEY_COUNT = sizeof PORT_KEYS / sizeof *PORT_KEYS };
-
-static int *value_at(struct port_settings *port, size_t index) {
-    return (int *)(void *)((char *)port + PORT_KEYS[index].at);
+/* Adds a word to a row of them, behind `joint` if it is not the first one. */
+void add_word(struct words *words, const char *joint, const char *word) {
+    size_t length = strlen(words->text);
+    snprintf(words->text + length, sizeof words->text - length, "%s%s", length > 0 ? joint : "", word);
 }
 
-static const char *name_of_bundle_key(size_t index) {
-    return BUNDLE_KEYS[index].name;
-}
-
-static const char *name_of_port_key(size_t index) {
-    return PORT_KEYS[index].name;
-}
-
-/* Words in a row, with `before_last` before the last one and `end` behind it. They stand until the next call. */
-const char *list_words(struct words *words, const char *(*word)(size_t index), size_t count, const char *before_last, const char *end) {
-    size_t length = 0;
-    for (size_t i = 0; i < count && length < sizeof words->text; i++) {
-        const char *joint = i == 0 ? "" : i + 1 < count ? ", " : before_last;
-        length += (size_t)snprintf(words->text + length, sizeof words->text - length, "%s%s", joint, word(i));
-    }
-    if (length < sizeof words->text) snprintf(words->text + length, sizeof words->text - length, "%s", end);
+/* The words of a key in a row. They stand until words are put into a row again. */
+const char *list_choice(struct words *words, const struct key *key, const char *joint, const char *last_joint) {
+    words->text[0] = 0;
+    for (size_t i = 0; key->words[i]; i++) add_word(words, key->words[i + 1] ? joint : last_joint, key->words[i]);
     return words->text;
+}
+
+static const struct key *find_key(const struct key *keys, const char *name) {
+    while (keys->name && strcmp(name, keys->name) != 0) keys++;
+    return keys->name ? keys : NULL;
+}
+
+static const char *list_keys(struct words *words, const struct key *keys, const char *section) {
+    words->text[0] = 0;
+    for (; keys->name; keys++) add_word(words, keys[1].name ? ", " : " or ", keys->name);
+    add_word(words, " as a key of ", section);
+    return words->text;
+}
+
+static const char *expected_of(struct words *words, const struct key *key) {
+    return key->words ? list_choice(words, key, ", ", " or ") : key->expected;
 }
 
 /* Gives a key of the bundle a value, in a line from 1; answers NULL, or what was expected. A command line is one line: of a key that
  * stands there twice the last value holds. */
 const char *set_bundle(struct words *words, struct settings *settings, const char *name, const char *text, unsigned line) {
-    for (size_t i = 0; i < BUNDLE_KEY_COUNT; i++) {
-        if (strcmp(name, BUNDLE_KEYS[i].name) != 0) continue;
-        if (settings->lines[i] && settings->lines[i] < line) return EACH_KEY_ONCE;
-        settings->lines[i] = line;
-        return BUNDLE_KEYS[i].parse(&BUNDLE_KEYS[i], text, settings) ? NULL : BUNDLE_KEYS[i].expected;
-    }
-    return list_words(words, name_of_bundle_key, BUNDLE_KEY_COUNT, " or ", " as a key of [Bundle]");
+    const struct key *key = find_key(BUNDLE_KEYS, name);
+    if (!key) return list_keys(words, BUNDLE_KEYS, "[Bundle]");
+    unsigned *last = &settings->lines[key - BUNDLE_KEYS];
+    if (*last && *last < line) return EACH_KEY_ONCE;
+    *last = line;
+    return read_value(key, text, settings) ? NULL : expected_of(words, key);
 }
 
 unsigned line_of(const struct settings *settings, const char *name) {
-    size_t i = 0;
-    while (i < BUNDLE_KEY_COUNT && strcmp(name, BUNDLE_KEYS[i].name) != 0) i++;
-    return i < BUNDLE_KEY_COUNT ? settings->lines[i] : 0;
+    const struct key *key = find_key(BUNDLE_KEYS, name);
+    return key ? settings->lines[key - BUNDLE_KEYS] : 0;
 }
 
 /* Gives a key of a port a value; answers NULL, or what was expected. */
 const char *set_port(struct words *words, struct port_settings *port, const char *name, const char *text) {
-    size_t i = 0;
-    uint16_t number;
-    bool is_first;
-    while (i < PORT_KEY_COUNT && strcmp(name, PORT_KEYS[i].name) != 0) i++;
-    if (i == PORT_KEY_COUNT) return list_words(words, name_of_port_key, PORT_KEY_COUNT, " or ", " as a key of [Port]");
-    int *value = value_at(port, i);
+    const struct key *key = find_key(PORT_KEYS, name);
+    if (!key) return list_keys(words, PORT_KEYS, "[Port]");
+    int *value = value_of_port(key, port), number = number_of(key, text);
     if (*value != AS_BUNDLE) return EACH_KEY_ONCE;
-    if (!PORT_KEYS[i].first) {
-        if (!read_number(text, 0, UINT16_MAX, &number)) return PORT_KEYS[i].expected;
-        *value = number;
-    } else {
-        if (!read_choice(text, PORT_KEYS[i].first, PORT_KEYS[i].second, &is_first)) return PORT_KEYS[i].expected;
-        *value = is_first;
-    }
+    if (number < 0) return expected_of(words, key);
+    *value = number;
     return NULL;
-}
-
-/* The same of a key of a port. */
-bool write_port_key(const struct port_settings *port, size_t index, char text[static LINE_ROOM]) {
-    struct port_settings own = *port;
-    text[0] = 0;
-    if (index >= PORT_KEY_COUNT) return false;
-    int value = *value_at(&own, index);
-    if (value != AS_BUNDLE && PORT_KEYS[index].first)
-        snprintf(text, LINE_ROOM, "%s=%s", PORT_KEYS[index].name, value ? PORT_KEYS[index].first : PORT_KEYS[index].second);
-    else if (value != AS_BUNDLE)
-        snprintf(text, LINE_ROOM, "%s=%d", PORT_KEYS[index].name, value);
-    return true;
 }
 
 struct port_settings unset_port(void) {
     struct port_settings port = {.name = ""};
-    for (size_t i = 0; i < PORT_KEY_COUNT; i++) *value_at(&port, i) = AS_BUNDLE;
+    for (const struct key *key = PORT_KEYS; key->name; key++) *value_of_port(key, &port) = AS_BUNDLE;
     return port;
 }
 
@@ -341,29 +345,20 @@ const char *add_port(struct settings *settings, const char *name, size_t length)
 
 /* What holds where nothing else is given. */
 struct settings usual_settings(void) {
-    return (struct settings){
-        .config = {.conversations = 256},
-        .port_priority = USUAL_PRIORITY,
-        .active = true,
-        .short_timeout = true,
-        .min_links = 1,
-        .marker_responses = USUAL_RESPONSES,
-        .flight = USUAL_FLIGHT,
-        .answer_after = USUAL_ANSWER_AFTER,
-    };
+    struct settings settings = {.config = {.conversations = 256}};
+    for (const struct key *key = BUNDLE_KEYS; key->name; key++)
+        if (key->usual) put_number(key, key->usual, &settings);
+    return settings;
 }
 
 /* A key that says something of data, or NULL. */
 static const char *key_of_data(const struct settings *settings) {
+    static const char *const keys[] = {"hash", "hash-seed", "plane", "members", "queues", "answer-after", "flight"};
     if (settings->fast) return "fast";
     if (settings->offload) return "offload";
-    if (line_of(settings, "hash")) return "hash";
-    if (line_of(settings, "hash-seed")) return "hash-seed";
-    if (line_of(settings, "plane")) return "plane";
-    if (line_of(settings, "members")) return "members";
-    if (line_of(settings, "queues")) return "queues";
-    if (line_of(settings, "answer-after")) return "answer-after";
-    return line_of(settings, "flight") ? "flight" : NULL;
+    for (size_t i = 0; i < sizeof keys / sizeof *keys; i++)
+        if (line_of(settings, keys[i])) return keys[i];
+    return NULL;
 }
 
 /* Whether the bundle could never have a partner: LACPDUs of its own system are not taken. */

@@ -15,16 +15,6 @@ struct process;
 #define NAME_ROOM 128
 /* The room of the path of a hook or a folder: with its key it fits into a line of a file. */
 #define PATH_ROOM 176
-/* How many marker responses a port sends in a second, if nothing else is given: as often as IEEE 802.3, annex 57A, lets one of the
- * slow protocols send. */
-#define USUAL_RESPONSES 10
-/* The priority of a system by `auto`, and of a port if nothing else is given: the one in the middle. */
-#define USUAL_PRIORITY 32768
-/* How long a frame can be on its way, in milliseconds, if nothing else is given: on a direct cable it is far less. */
-#define USUAL_FLIGHT 500
-/* How long a response to a marker waits where data comes by several queues, in milliseconds, if nothing else is given. A processor takes
- * what its card gave it within a few of them; this is more than ten programs on it have in turn, of 4 ms each. */
-#define USUAL_ANSWER_AFTER 50
 /* The most keys of a bundle. */
 #define MOST_BUNDLE_KEYS 28
 /* The room of the name of a device that is made, with a zero: IFNAMSIZ of linux/if.h. */
@@ -84,13 +74,13 @@ struct settings {
     char state_dir[PATH_ROOM]; /* a folder of a state that outlives a reboot, or empty */
     char carry[DEVICE_ROOM]; /* the device whose data is carried, or empty */
     enum plane_kind plane;        /* what that is */
-    bool follow;             /* whether its ports are those that the device has, whoever put them there */
+    unsigned follow;         /* 1: its ports are those that the device has, whoever put them there; 0: those that are given */
     enum hash hash;          /* of that data */
     uint16_t hash_seed;      /* by which bundles with the same hash differ; not of layer2 */
     uint16_t flight;         /* how long a frame of it can be on its way, in milliseconds */
     bool offload;            /* whether frames of several segments are passed */
     bool fast;               /* whether the kernel passes data on by itself, of several segments too */
-    bool all_queues;         /* whether members keep all their queues */
+    unsigned all_queues;     /* 1: members keep all their queues; 0: one */
     uint16_t answer_after;   /* how long a response to a marker waits then, in milliseconds */
     bool revert;              /* whether a port that stands by takes the place of one with a higher identifier */
     uint16_t wait_to_restore; /* for how many seconds the carrier of a link that comes back has to be steady */
@@ -104,24 +94,47 @@ static inline struct system_id own_system(const struct settings *settings) {
     return (struct system_id){settings->config.priority, {mac[0], mac[1], mac[2], mac[3], mac[4], mac[5]}};
 }
 
-/* A key of a bundle: the file and the long option have its name. */
-struct bundle_key {
-    const char *name, *expected; /* `expected`: of its value */
-    bool (*parse)(const struct bundle_key *key, const char *text, struct settings *settings); /* whether the text is a value of the key */
-    char letter;                 /* of its option; 0: the command line gives it by its place */
-    const char *value, *help;    /* in the help: the word for its value, NULL where the option alone says yes; and its lines */
-    size_t at;            /* of its value in struct settings, if that is a number or one of two words, */
-    uint16_t least, most; /* of the number, */
-    const char *first, *second; /* or the words for true and false, */
-    const char *const *words;   /* or those of an enum */
+/* What a key has for a value. */
+enum kind {
+    A_NUMBER, /* a uint16_t from `least` to `most` */
+    A_SWITCH, /* a bool: whether it is the first one of two words */
+    A_WORD,   /* an enum: the place of the word */
+    A_TEXT,   /* char[] that `is_right` takes */
+    A_SYSTEM, /* that of the bundle */
+    A_PARTNER,
 };
+
+/* What a reload does with a value that can change while the daemon runs. */
+enum change {
+    BY_RELOAD, /* reload.c knows what it wants beside */
+    AT_ONCE,
+    WITH_DATA, /* it changes at once if data is carried in the same way */
+};
+
+/* A key of a bundle or of a port: the file has its name, and so has the long option of a bundle. */
+struct key {
+    const char *name;
+    char letter; /* of its option; 0: it is none */
+    enum kind kind;
+    size_t at, size;             /* of its value in struct settings, or in struct port_settings, where it is an int */
+    uint16_t least, most, usual; /* `usual`: the number, or the bool, if nothing is given */
+    const char *const *words;    /* up to NULL */
+    bool (*is_right)(const char *text);
+    const char *expected;        /* of its value, if that has no words */
+    const char *restart;         /* what a line calls its change, for which a restart is needed, or NULL */
+    enum change change;
+    const char *value, *help;    /* in the help: the word for its value, if that has no words; and its lines */
+};
+
+/* The keys of a bundle, in the order of the help, up to one without a name. */
+extern const struct key BUNDLE_KEYS[], PORT_KEYS[];
 
 /* What is wrong with all of it: what was expected, and the key that says otherwise; NULL where nothing is, or no key does. */
 struct lack {
     const char *expected, *key;
 };
 
-/* Words in a row, as list_words makes them. */
+/* Words in a row. */
 struct words {
     char text[512];
 };
@@ -133,13 +146,15 @@ struct settings usual_settings(void);
 const char *hash_text(enum hash hash);
 const char *selection_text(enum selection selection);
 const char *way_text(const struct settings *settings);
-const struct bundle_key *bundle_key(size_t index);
-const char *list_words(struct words *words, const char *(*word)(size_t index), size_t count, const char *before_last, const char *end);
+void add_word(struct words *words, const char *joint, const char *word);
+const char *list_choice(struct words *words, const struct key *key, const char *joint, const char *last_joint);
 const char *set_bundle(struct words *words, struct settings *settings, const char *name, const char *text, unsigned line);
 unsigned line_of(const struct settings *settings, const char *name);
 const char *set_port(struct words *words, struct port_settings *port, const char *name, const char *text);
-bool write_bundle_key(const struct settings *settings, size_t index, char text[static LINE_ROOM]);
-bool write_port_key(const struct port_settings *port, size_t index, char text[static LINE_ROOM]);
+bool is_same_value(const struct key *key, const struct settings *one, const struct settings *other);
+void copy_setting(const struct key *key, const struct settings *from, struct settings *to);
+bool write_bundle_key(const struct key *key, const struct settings *settings, char text[static LINE_ROOM]);
+bool write_port_key(const struct key *key, const struct port_settings *port, char text[static LINE_ROOM]);
 struct port_settings unset_port(void);
 const char *add_port(struct settings *settings, const char *name, size_t length);
 struct lack lack_of(const struct settings *settings);
@@ -147,6 +162,7 @@ struct niw_port port_of(const struct settings *settings, uint16_t port);
 bool wants_hold(const struct settings *settings, uint16_t port);
 
 /* file.c */
+bool look_at_all(struct process *process, const char *path, const struct settings *settings);
 bool read_file(struct process *process, const char *path, struct settings *wanted);
 
 #endif

@@ -68,10 +68,11 @@ static void add_bundle(struct control *control) {
 }
 
 static void add_state(struct report *report, enum form form, uint8_t state) {
+    static const char *const names[8] = {"activity", "timeout", "aggregation", "synchronization", "collecting", "distributing", "defaulted", "expired"};
     const char *between = "";
     for (unsigned bit = 0; bit < 8; bit++) {
         if (!(state >> bit & 1)) continue;
-        add(report, form == AS_TEXT ? "%s %s" : "%s\"%s\"", between, bit_name(bit));
+        add(report, form == AS_TEXT ? "%s %s" : "%s\"%s\"", between, names[bit]);
         if (form == AS_JSON) between = ",";
     }
     add(report, form == AS_TEXT ? "\n" : "]}");
@@ -125,9 +126,9 @@ static void add_counts(struct report *report, const struct link *link, enum form
     add(report, form == AS_TEXT ? "\n" : ",\"counters\":{");
     for (unsigned i = 0; i < ALL_COUNTS; i++) {
         if (form == AS_TEXT)
-            add(report, "%s %s %" PRIu64 "%s", i % 4 == 0 ? " " : "", count_name(i), count_at(link, i), i % 4 == 3 || i == ALL_COUNTS - 1 ? "\n" : "");
+            add(report, "%s %s %" PRIu64 "%s", i % 4 == 0 ? " " : "", count_text(i).name, count_at(link, i), i % 4 == 3 || i == ALL_COUNTS - 1 ? "\n" : "");
         else
-            add(report, "%s\"%s\":%" PRIu64, i ? "," : "", count_name(i), count_at(link, i));
+            add(report, "%s\"%s\":%" PRIu64, i ? "," : "", count_text(i).name, count_at(link, i));
     }
     if (form == AS_JSON) add(report, "}");
 }
@@ -145,8 +146,9 @@ static void add_name(struct report *report, const struct link *link, enum form f
 }
 
 static void add_link(struct control *control, const struct link *link, enum form form) {
+    const char *name = link->socket < 0 ? "missing" : link->away ? "away" : link->up ? "up" : link->waits ? "waiting" : "down";
     char text[64];
-    snprintf(text, sizeof text, link->away && form == AS_TEXT ? "%s for %" PRIu64 " of %u ms, while it counts as up" : "%s", link_name(link),
+    snprintf(text, sizeof text, link->away && form == AS_TEXT ? "%s for %" PRIu64 " of %u ms, while it counts as up" : "%s", name,
         milliseconds() - link->carried_at, control->settings->delay_down);
     add_words(control->report, form, "link", "link", text);
 }
@@ -250,13 +252,13 @@ void write_json_event(struct control *control, const struct link *link) {
 void write_config(struct control *control) {
     char text[LINE_ROOM];
     add(control->report, "# %s\n[Bundle]\n", control->settings->name);
-    for (size_t i = 0; write_bundle_key(control->settings, i, text); i++)
-        if (text[0]) add(control->report, "%s\n", text);
+    for (const struct key *key = BUNDLE_KEYS; key->name; key++)
+        if (write_bundle_key(key, control->settings, text)) add(control->report, "%s\n", text);
     EACH_LINK(link, control->ports) {
         const struct port_settings *port = &control->settings->ports[link - control->ports->links];
         if (!link->used || link->leaving || link->followed) continue;
         add(control->report, "\n[Port %s]\n", port->name);
-        for (size_t i = 0; write_port_key(port, i, text); i++)
-            if (text[0]) add(control->report, "%s\n", text);
+        for (const struct key *key = PORT_KEYS; key->name; key++)
+            if (write_port_key(key, port, text)) add(control->report, "%s\n", text);
     }
 }

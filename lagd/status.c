@@ -196,17 +196,13 @@ void pass_tick_of_callers(struct process *process) {
     if (!own->listens) own->listens = await_input(process->epoll_file, own->listener, STATUS);
 }
 
-/* Tells those who watch; who does not keep up is let go. */
-static void tell(struct status_private *own, const char *text, size_t length, bool json) {
+/* Tells those who watch, by lines or in JSON; who does not keep up is let go. */
+void tell_watchers(struct status_private *own, const char *text, size_t length, bool json) {
     for (unsigned i = 0; i < MOST_CALLERS; i++) {
         struct caller *caller = &own->callers[i];
         if (caller->fd < 0 || !caller->watches || caller->json != json) continue;
         if (send(caller->fd, text, length, MSG_NOSIGNAL | MSG_DONTWAIT) != (ssize_t)length) close_caller(caller);
     }
-}
-
-void tell_watchers(struct status_private *own, const char *line, size_t length) {
-    tell(own, line, length, false);
 }
 
 /* Tells those who watch in JSON how a port is now, or the bundle, where `link` is null. */
@@ -217,7 +213,7 @@ void tell_watchers_of(struct control *control, const struct link *link) {
     if (!any) return;
     control->report->length = 0;
     write_json_event(control, link);
-    if (!control->process->broken) tell(control->process->status, control->report->text, control->report->length, true);
+    if (!control->process->broken) tell_watchers(own, control->report->text, control->report->length, true);
 }
 
 static void remove_socket(void *given) {

@@ -41,7 +41,7 @@ def check_page(program: str) -> None:
     with open(os.path.join(TOP, "docs", "LAGD.md"), encoding="utf-8") as it:
         page = it.read()
     with open(os.path.join(TOP, "lagd", "settings.c"), encoding="utf-8") as it:
-        keys = re.findall(r'^    \{"([\w-]+)", .*\bparse_\w+, ', it.read(), re.M)
+        keys = re.findall(r'^    \{"([\w-]+)"', it.read().partition(" BUNDLE_KEYS[] = {")[2].partition("\n};")[0], re.M)
     told = command(program, "--help").stdout
     options, rows = {tuple(names) for names, _ in completion.options(told)}, described(page)
     check(len(options) > 15 and options == rows.keys(), f"docs/LAGD.md has the {len(options)} options of --help", options ^ rows.keys())

@@ -19,9 +19,15 @@ def table(file: str, name: str) -> str:
 
 
 def test_letters_and_names_of_options_and_keys_stand_once() -> None:
-    bundle = re.findall(r"^    \{\"([\w-]+)\", .*?, parse_\w+, (?:'(\w)'|0),", table("settings.c", "BUNDLE_KEYS"), re.M | re.S)
-    others = [row for name in ("BEFORE_KEYS", "BEHIND_KEYS") for row in re.findall(r"^    \{'(\w)', \"([\w-]+)\"", table("options.c", name), re.M)]
+    bundle = re.findall(r"^    \{\"([\w-]+)\", (?:'(\w)'|0), ", table("settings.c", "BUNDLE_KEYS"), re.M)
+    others = re.findall(r"^    \{'(\w)', \"([\w-]+)\"", table("options.c", "OPTIONS"), re.M)
     ports = re.findall(r"^    \{\"([\w-]+)\"", table("settings.c", "PORT_KEYS"), re.M)
-    assert len(bundle) == table("settings.c", "BUNDLE_KEYS").count(", parse_") and len(others) == 14 and len(ports) == 6
+    assert len(bundle) > 25 and len(others) == 14 and len(ports) == 6
     for words in [letter for _, letter in bundle if letter] + [letter for letter, _ in others], [name for name, _ in bundle] + [name for _, name in others], ports:
         assert sorted(words) == sorted(set(words))
+
+
+def test_docs_name_the_keys_of_a_bundle_that_a_reload_changes() -> None:
+    rows = re.findall(r"^    \{\"([\w-]+)\", (.*?)\},$", table("settings.c", "BUNDLE_KEYS"), re.M | re.S)
+    told = re.search(r"^What ports have of their own .*? change at once", Path(TOP, "docs/LAGD.md").read_text(encoding="utf-8"), re.M | re.S)
+    assert told and set(re.findall(r"`([\w-]+)`", told[0])) == {name for name, row in rows if ".restart" not in row} - {"key", "port-priority"}
