@@ -15,6 +15,7 @@ from lagconform.memory import FLOWS, Stack, World, flow
 from lagconform.model import Result
 from lagconform.model import Test as Case
 from lagconform.runner import meet, ordered, run_all
+from lagconform.wires import Hook
 from niwhopera import Config, LagError, Mac, PortConfig, State, System, SystemId
 
 __all__ = ["World"]
@@ -229,7 +230,7 @@ def faults(base: Type[Device], attribute: str, *rows: Row) -> list[Type[Device]]
 
 
 @contextmanager
-def beside(world: World, hook: Optional[World] = None, flaps: bool = False) -> Iterator[Bench]:
+def beside(world: World, hook: Optional[Hook] = None, flaps: bool = False) -> Iterator[Bench]:
     """A bench beside the device of a world, which ends with it."""
     b = Bench(world, hook, flaps=flaps)
     try:

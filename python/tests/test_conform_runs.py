@@ -8,12 +8,13 @@ import re
 import shutil
 import subprocess
 import xml.etree.ElementTree as xml
+from contextlib import ExitStack
 from dataclasses import replace
 from pathlib import Path
 from typing import Iterable, Iterator, Type
 
 import pytest
-from conform_device import Device, World, put
+from conform_device import Device, World, beside, put
 from conform_faults import CutOff, KeyUnchecked, PartnerLength, RestartsOnChange, SecondPartnerKey, WrongEcho
 from conform_frames import OtherId, VersionChecked
 from conform_machines import NoNtt
@@ -35,18 +36,13 @@ HEADER = Path(__file__).parents[2] / "crates" / "lagffi" / "include"
 @pytest.fixture
 def bench() -> Iterator[object]:
     """Makes benches beside devices."""
-    made: list[tuple[Bench, Device]] = []
+    with ExitStack() as made:
 
-    def make(kind: Type[Device]) -> Bench:
-        device = kind()
-        world = World(device)
-        made.append((Bench(world, world), device))
-        return made[-1][0]
+        def make(kind: Type[Device]) -> Bench:
+            world = World(kind())
+            return made.enter_context(beside(world, world))
 
-    yield make
-    for b, device in made:
-        b.close()
-        device.stop()
+        yield make
 
 
 class Loop(Device):
@@ -100,15 +96,12 @@ def test_a_fail_beside_the_traffic_of_others_stays_and_tells_of_it() -> None:
         def received(self, link: int) -> int:
             return int(self.clock * 20000)
 
-    device = KeyUnchecked()
-    world = Busy(device)
-    b = Bench(world, world)
-    meet(b)
-    fails, passes = (run_times(b, BY_NAME[it], None, 1) for it in ("RX-07c", "FM-01"))
-    assert fails.verdict == FAIL and "has to be at most 0.65 s. Beside it, link 1 (link1) is flooded: 20000 frames came a second" in fails.why
-    assert passes.verdict == PASS and not fails.stuck
-    b.close()
-    device.stop()
+    world = Busy(KeyUnchecked())
+    with beside(world, world) as b:
+        meet(b)
+        fails, passes = (run_times(b, BY_NAME[it], None, 1) for it in ("RX-07c", "FM-01"))
+        assert fails.verdict == FAIL and "has to be at most 0.65 s. Beside it, link 1 (link1) is flooded: 20000 frames came a second" in fails.why
+        assert passes.verdict == PASS and not fails.stuck
 
 
 def test_a_device_that_answers_all_of_a_storm_is_no_flood() -> None:
