@@ -6,8 +6,6 @@ from typing import Iterator
 
 import pytest
 from niwhopera import (
-    Answers,
-    Assignment,
     BadConfig,
     ConversationState,
     Held,
@@ -18,7 +16,6 @@ from niwhopera import (
     Reason,
     ReceivedKind,
     SavedPort,
-    SentKind,
     State,
     Status,
     System,
@@ -75,43 +72,6 @@ def test_what_a_moving_conversation_shows(world: TwoSystems) -> None:
     assert world.systems[1].load(1) == 1 and world.systems[1].next_marker() == 2
     assert world.systems[1].force_port(1) == 1
     assert world.systems[1].conversation_state(1, 48).state is ConversationState.FREE
-
-
-def test_conversations_go_by_their_numbers(world: TwoSystems) -> None:
-    system = world.systems[1]
-    assert (system.offer_conversation(1, 6), system.offer_conversation(1, 9)) == (1, 2)
-    ports = system.conversation_ports(1)
-    assert len(ports) == 256 and {place: port for place, port in enumerate(ports) if port} == {6: 1, 9: 2}
-    busy, freed = system.released(1)
-    assert (busy, freed) == ({6, 9}, frozenset())
-    system.leave_conversation(1, 9)
-    with pytest.raises(Held):
-        system.rest(1, 9)
-    assert (system.held(2), system.held(1), system.load(1)) == (1, 0, 1)
-    assert system.conversation_ports(1)[9] is None and system.released(1, busy) == (busy, frozenset())
-    play(world, "emit 1 2 -> lacpdu 3d sent; emit 1 2 -> marker 1 sent")
-    play(world, "deliver 2 2 -> took; deliver 2 2 -> responded sent; deliver 2 1 -> released 1")
-    assert system.released(1, busy) == ({6}, {9})
-    system.rest(1, 6)
-    assert system.conversation_state(1, 6) == Assignment(ConversationState.FREE) and system.released(1, {6}) == (frozenset(), {6})
-    for call in system.leave_conversation, system.rest:
-        with pytest.raises(LagError) as told:
-            call(1, 6)
-        assert told.value.status is Status.NOT_ASSIGNED
-
-
-def test_a_marker_asks_whether_the_peer_answers(world: TwoSystems) -> None:
-    assert world.systems[1].answers(1) is Answers.NEVER_ASKED
-    sent = world.systems[1].probe(1)
-    assert sent is not None and sent.kind is SentKind.MARKER and world.systems[1].next_marker() == 2
-    assert world.systems[1].answers(1) is Answers.ASKED
-    asked = world.systems[2].receive(1, sent.frame)
-    assert asked.kind is ReceivedKind.RESPOND and asked.response is not None
-    answered = world.systems[1].receive(1, asked.response)
-    assert (answered.kind, answered.released) == (ReceivedKind.RELEASED, 0)
-    assert (world.systems[1].answers(1), world.systems[1].answers(2)) == (Answers.ANSWERED, Answers.NEVER_ASKED)
-    world.systems[1].set_link(1, False)
-    assert world.systems[1].probe(1) is None and world.systems[1].answers(1) is Answers.NEVER_ASKED
 
 
 def test_a_warm_start_tells_its_peer_nothing_new(world: TwoSystems) -> None:

@@ -14,7 +14,7 @@ import time
 from typing import Iterator
 
 from bonds import (COMES_BACK, COMES_UP, DEVICE, FLOWS, MIDDLE, RATE, End, Event, Programs, cables, check_end, check_order, every, move_all, pair, run_flows)
-from checking import Failed, Skipped, check, command, within
+from checking import Failed, Skipped, check, within
 from fast_parts import check_fast, fast_pair
 from speeds import FULL, Cable, Settings, make_tap, renew
 from spaces import OURS, THEIRS, inside, ip, packet_socket
