@@ -127,20 +127,15 @@ def reverts_there(programs: Programs) -> None:
 def two_limits(programs: Programs) -> None:
     """Both ends have a limit and want other links: no link that carries makes way for one that the peer does not use."""
     with cables(programs, ()):
-        ends = []
-        try:
-            ends.append(End(programs, OURS, names=("a0:priority=1", "a1:priority=2"), options=["--max-links", "1", "--revert"]))
-            ends.append(End(programs, THEIRS, names=("b0:priority=2", "b1:priority=1"), options=["--max-links", "1", "--revert"]))
-            ip(OURS, "link", "set", "a1", "down")
-            check(within(COMES_UP, lambda: all(end.links() == 1 for end in ends)), "one link carries", ends[0].text())
-            ip(OURS, "link", "set", "a1", "up")
-            time.sleep(8)
-            check(all(end.links() == 1 for end in ends), "it carries still", *(end.text() for end in ends))
-            check(not any("makes way" in end.printed() for end in ends), "and makes no way", *(end.printed() for end in ends))
-            check_order(run_flows(programs, 2), "with a limit at both ends", ends[0].text())
-        finally:
-            for end in ends:
-                end.stop()
+        wanted = (OURS, ("a0:priority=1", "a1:priority=2")), (THEIRS, ("b0:priority=2", "b1:priority=1"))
+        ends = [End(programs, space, names=names, options=["--max-links", "1", "--revert"]) for space, names in wanted]
+        ip(OURS, "link", "set", "a1", "down")
+        check(within(COMES_UP, lambda: all(end.links() == 1 for end in ends)), "one link carries", ends[0].text())
+        ip(OURS, "link", "set", "a1", "up")
+        time.sleep(8)
+        check(all(end.links() == 1 for end in ends), "it carries still", *(end.text() for end in ends))
+        check(not any("makes way" in end.printed() for end in ends), "and makes no way", *(end.printed() for end in ends))
+        check_order(run_flows(programs, 2), "with a limit at both ends", ends[0].text())
 
 
 AWAY = "its carrier is away, for less than delay-down so far"

@@ -24,7 +24,7 @@ LACP, GAP_MS = 5, 4500
 def two_peers(programs: Programs, *options: str) -> Iterator[tuple[Cables, End]]:
     """Two links to one peer, and one to another one; all carry."""
     with cables(programs, (0, 5000, 0)) as laid:
-        ours, peers = End(programs, OURS, names=NAMES, options=options), [End(programs, THEIRS)]
+        ours, _ = End(programs, OURS, names=NAMES, options=options), End(programs, THEIRS)
         given = ["--carry", ANOTHER, "--flight", str(FLIGHT)]
         second = Daemon(programs.daemon, programs.folder, THEIRS, SECOND, "5", "b2", options=given)
         try:
@@ -38,8 +38,6 @@ def two_peers(programs: Programs, *options: str) -> Iterator[tuple[Cables, End]]
                 raise Failed("all links come up", ours.text())
             yield laid, ours
         finally:
-            for end in (ours, *peers):
-                end.stop()
             second.process.kill()
             second.process.wait()
 
