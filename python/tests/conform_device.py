@@ -183,6 +183,18 @@ class Device(Stack):
         return bool(self.on.state(port) & bit)
 
 
+class LongTimeouts(Device):
+    """Asks for long timeouts."""
+
+    short = False
+
+
+class Individual(Device):
+    """Its ports are individual."""
+
+    aggregatable = False
+
+
 class Hears(Device):
     """Takes each LACPDU for another one."""
 

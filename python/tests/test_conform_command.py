@@ -15,7 +15,7 @@ from pathlib import Path
 from typing import Any, Iterator, Sequence, Type
 
 import pytest
-from conform_device import Device, World, beside
+from conform_device import Device, Individual, LongTimeouts, World, beside
 from conform_faults import KeyUnchecked, NoWait, SystemUnchecked
 from conform_frames import NoMarkers
 
@@ -32,18 +32,6 @@ from lagconform.sockets import Command
 BY_NAME = {it.id: it for it in TESTS}
 # What stands behind the counts in the last line.
 LAST = f". {CAVEAT}\n"
-
-
-class LongTimeouts(Device):
-    """Asks for long timeouts."""
-
-    short = False
-
-
-class Individual(Device):
-    """Its ports are individual."""
-
-    aggregatable = False
 
 
 @pytest.fixture

@@ -12,7 +12,7 @@ import conform_faults
 import conform_frames
 import conform_machines
 import pytest
-from conform_device import Device, World, play
+from conform_device import Device, LongTimeouts, World, play
 
 from lagconform.groups import TESTS
 from lagconform.model import FAIL, INCONCLUSIVE, PASS, Result
@@ -33,19 +33,13 @@ def told(results: Sequence[Result]) -> list[str]:
     return [f"{it.test.id} {it.verdict}: {it.why}" for it in results if it.verdict != PASS]
 
 
-class LongDevice(Device):
-    """A right device that asks for long timeouts."""
-
-    short = False
-
-
 def test_the_right_device_fails_nothing() -> None:
     results = found_by(Device, [it for it in TESTS if not it.is_long or it.id in ("PT-07", "PT-08")])
     assert not told(results)
 
 
 def test_a_right_device_of_long_timeouts_fails_nothing() -> None:
-    results = found_by(LongDevice, TESTS)
+    results = found_by(LongTimeouts, TESTS)
     assert not [it for it in told(results) if FAIL in it or INCONCLUSIVE in it]
 
 

@@ -5,19 +5,13 @@ from __future__ import annotations
 from typing import Iterable, Sequence, Type
 
 import pytest
-from conform_device import Device, World, is_lacpdu, play, put
+from conform_device import Device, Individual, LongTimeouts, World, is_lacpdu, play, put
 from conform_faults import set_bits
 from niwhopera import State
 
 from lagconform.groups import TESTS
 from lagconform.model import FAIL, INCONCLUSIVE, PASS, Result
 from lagconform.model import Test as Case
-
-
-class LongTimeouts(Device):
-    """Asks for long timeouts."""
-
-    short = False
 
 
 class Passive(Device):
@@ -50,12 +44,6 @@ class PassiveOfLongTimeouts(Device):
     """Is passive, and asks for long timeouts."""
 
     active = short = False
-
-
-class Individual(Device):
-    """Its ports are individual."""
-
-    aggregatable = False
 
 
 class Independent(Device):

@@ -32,7 +32,7 @@ FILES = {
         ("tools/dist.d/abi.py", "tools of users"),
         ("tools/dist.d/debian/control", None),
         ("crates/lagffi/include/lag.h", "header"),
-        ("crates/example_a/src/lib.rt", None),
+        ("crates/example_a/src/lib.rt", "code of examples"),
         ("hosts/teamd/lacp_team.h", "hosts"),
         ("hosts/teamd/tests/kept.c", "tests of hosts"),
         ("hosts/README.md", None),
