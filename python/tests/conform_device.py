@@ -1,14 +1,21 @@
 """A device in memory for the tests of `lagconform`: a system of niwhopera at the far end of two links, with a clock that the bench moves.
 
-`Device` is right. A fault is a class below it that changes one thing: what it hears, what it says, its clock, or its data.
+`Device` is right. A fault is a class below it that changes one thing: what it hears, what it says, its clock, or its data. Where an expression
+says the change, the fault is a row of a table (`faults`).
 """
 
 from __future__ import annotations
 
 from collections import defaultdict, deque
-from typing import DefaultDict, Deque, Iterable, Iterator, Optional
+from contextlib import contextmanager
+from typing import DefaultDict, Deque, Iterable, Iterator, Optional, Sequence, Type
 
+from lagconform.bench import Bench
 from lagconform.memory import FLOWS, Stack, World, flow
+from lagconform.model import Result
+from lagconform.model import Test as Case
+from lagconform.runner import meet, ordered, run_all
+from lagconform.wires import Hook
 from niwhopera import Config, LagError, Mac, PortConfig, State, System, SystemId
 
 __all__ = ["World"]
@@ -174,3 +181,80 @@ class Device(Stack):
     def is_on(self, port: int, bit: State) -> bool:
         """Whether a bit of the state of a port is 1."""
         return bool(self.on.state(port) & bit)
+
+
+class LongTimeouts(Device):
+    """Asks for long timeouts."""
+
+    short = False
+
+
+class Individual(Device):
+    """Its ports are individual."""
+
+    aggregatable = False
+
+
+class Hears(Device):
+    """Takes each LACPDU for another one."""
+
+    def heard(self, port: int, frame: bytes) -> bytes:
+        """An LACPDU, as the system gets it."""
+        return frame
+
+    def hears(self, port: int, frame: bytes) -> Iterable[bytes]:
+        yield self.heard(port, frame) if is_lacpdu(frame) else frame
+
+
+class Drops(Device):
+    """Drops LACPDUs of some shape."""
+
+    def drops(self, port: int, frame: bytes) -> bool:
+        """Whether an LACPDU is dropped."""
+        return False
+
+    def hears(self, port: int, frame: bytes) -> Iterable[bytes]:
+        if not (is_lacpdu(frame) and self.drops(port, frame)):
+            yield frame
+
+
+class Says(Device):
+    """Changes each LACPDU that it sends."""
+
+    def said(self, port: int, frame: bytes) -> bytes:
+        """An LACPDU of the system, as it goes out."""
+        return frame
+
+    def says(self, port: int, frame: bytes) -> Iterable[bytes]:
+        yield self.said(port, frame)
+
+
+# Of a fault: its name, what it does, the tests that find it, and what it has in place of one attribute of its base.
+Row = tuple[str, str, str, object]
+
+
+def faults(base: Type[Device], attribute: str, *rows: Row) -> list[Type[Device]]:
+    """The devices of a table."""
+    return [type(name, (base,), {"__doc__": what, "finds": finds, attribute: given}) for name, what, finds, given in rows]
+
+
+# Benches beside devices.
+
+
+@contextmanager
+def beside(world: World, hook: Optional[Hook] = None, flaps: bool = False) -> Iterator[Bench]:
+    """A bench beside the device of a world, which ends with it."""
+    b = Bench(world, hook, flaps=flaps)
+    try:
+        yield b
+    finally:
+        b.close()
+
+
+def play(world: World, tests: Sequence[Case]) -> list[Result]:
+    """Runs tests beside the device of a world, whose hook is there."""
+    results: list[Result] = []
+    with beside(world, world) as b:
+        meet(b)
+        run_all(b, ordered(tests), results.append)
+    return results

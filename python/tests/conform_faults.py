@@ -1,10 +1,13 @@
-"""Devices with one fault each, and the tests that have to find it: the frames that it sends, and the receive machine."""
+"""Devices with one fault each, and the tests that have to find it: the frames that it sends, and the receive machine.
+
+A fault that other tests name, or that takes more than an expression, is a class. The others are rows of `ROWS`.
+"""
 
 from __future__ import annotations
 
 from typing import Iterable
 
-from conform_device import OWN, Device, is_lacpdu, part, put
+from conform_device import OWN, Device, Drops, Hears, Says, faults, is_lacpdu, part, put
 from niwhopera import MuxState, ReceiveState
 
 SYNC = 8
@@ -19,49 +22,7 @@ def set_bits(frame: bytes, at: int, bits: int, on: bool) -> bytes:
     return put(frame, at, bytes([octet | bits if on else octet & ~bits]))
 
 
-class Says(Device):
-    """Changes octets of each LACPDU that it sends."""
-
-    at, octets = 0, b""
-
-    def says(self, port: int, frame: bytes) -> Iterable[bytes]:
-        yield put(frame, self.at, self.octets)
-
-
-class UnicastDestination(Device):
-    """Sends to an individual address."""
-
-    finds = "FM-01"
-
-    def says(self, port: int, frame: bytes) -> Iterable[bytes]:
-        yield b"\2" + frame[1:]
-
-
-class LongFrame(Device):
-    """Sends four octets too many."""
-
-    finds = "FM-02"
-
-    def says(self, port: int, frame: bytes) -> Iterable[bytes]:
-        yield frame + bytes(4)
-
-
-class OtherVersion(Says):
-    """Sends version 9."""
-
-    finds, at, octets = "FM-02", 1, b"\x09"
-
-
-class OtherTlvType(Says):
-    """Sends another type of the Partner TLV."""
-
-    finds, at, octets = "FM-03 IV-03", 22, b"\x07"
-
-
-class ReservedOctets(Says):
-    """Sends a reserved octet that is not 0."""
-
-    finds, at, octets = "FM-04", 39, b"\1"
+# The frames that it sends.
 
 
 class PortZero(Device):
@@ -79,7 +40,10 @@ class PortZero(Device):
 class WrongEcho(Says):
     """Tells another port priority of the partner."""
 
-    finds, at, octets = "FM-06", 34, b"\0\0"
+    finds = "FM-06"
+
+    def said(self, port: int, frame: bytes) -> bytes:
+        return put(frame, 34, b"\0\0")
 
 
 class SecondPort(Device):
@@ -102,24 +66,6 @@ class SecondPartnerKey(SecondPort):
         return put(frame, 32, part(frame, 32, 2)[::-1])
 
 
-class SecondShape(SecondPort):
-    """Sends to an individual address, with another type of the Partner TLV, a reserved octet that is not 0, and four octets too many."""
-
-    finds = "FM-01 FM-02 FM-03 FM-04"
-
-    def wrong(self, frame: bytes) -> bytes:
-        return b"\2" + put(put(frame, 22, b"\x07"), 39, b"\1")[1:] + bytes(4)
-
-
-class SecondNumber(SecondPort):
-    """Has port number 0."""
-
-    finds = "FM-05"
-
-    def wrong(self, frame: bytes) -> bytes:
-        return put(frame, 16, bytes(2))
-
-
 class SecondTimeout(SecondPort):
     """Tells Timeout now and then."""
 
@@ -131,37 +77,22 @@ class SecondTimeout(SecondPort):
         return set_bits(frame, 18, 0x02, bool(self.count % 2))
 
 
-class EchoMasked(Device):
-    """Tells Expired and Defaulted of the partner as 0."""
-
-    finds = "FM-09"
-
-    def says(self, port: int, frame: bytes) -> Iterable[bytes]:
-        yield set_bits(frame, 38, 0xC0, False)
-
-
-class CutOff(Device):
+class CutOff(Says):
     """Sends 60 octets: the least length of a frame."""
 
     finds = "FM-02 FM-03"
 
-    def says(self, port: int, frame: bytes) -> Iterable[bytes]:
-        yield frame[:60]
+    def said(self, port: int, frame: bytes) -> bytes:
+        return frame[:60]
 
 
 class PartnerLength(Says):
     """Sends a Partner TLV of length 22."""
 
-    finds, at, octets = "FM-03", 23, b"\x16"
+    finds = "FM-03"
 
-
-class EchoesNoCollecting(Device):
-    """Tells Collecting of the partner as 1."""
-
-    finds = "FM-07"
-
-    def says(self, port: int, frame: bytes) -> Iterable[bytes]:
-        yield set_bits(frame, 38, 0x10, True)
+    def said(self, port: int, frame: bytes) -> bytes:
+        return put(frame, 23, b"\x16")
 
 
 class FlickeringTimeout(Device):
@@ -173,6 +104,33 @@ class FlickeringTimeout(Device):
     def says(self, port: int, frame: bytes) -> Iterable[bytes]:
         self.turn ^= port
         yield set_bits(frame, 18, 2, bool(self.turn & port))
+
+
+ROWS = [
+    *faults(
+        Says, "said",
+        ("UnicastDestination", "Sends to an individual address.", "FM-01", lambda self, port, frame: b"\2" + frame[1:]),
+        ("LongFrame", "Sends four octets too many.", "FM-02", lambda self, port, frame: frame + bytes(4)),
+        ("OtherVersion", "Sends version 9.", "FM-02", lambda self, port, frame: put(frame, 1, b"\x09")),
+        ("OtherTlvType", "Sends another type of the Partner TLV.", "FM-03 IV-03", lambda self, port, frame: put(frame, 22, b"\x07")),
+        ("ReservedOctets", "Sends a reserved octet that is not 0.", "FM-04", lambda self, port, frame: put(frame, 39, b"\1")),
+        ("EchoMasked", "Tells Expired and Defaulted of the partner as 0.", "FM-09", lambda self, port, frame: set_bits(frame, 38, 0xC0, False)),
+        ("EchoesNoCollecting", "Tells Collecting of the partner as 1.", "FM-07", lambda self, port, frame: set_bits(frame, 38, 0x10, True)),
+        ("NeverDefaulted", "Stays in EXPIRED.", "RX-03",
+         lambda self, port, frame: set_bits(set_bits(frame, 18, 0x40, False), 18, 0x80, True) if frame[32] & 0x40 else frame),
+        ("SyncOnDefaults", "Stays synchronized when it defaults.", "RX-06",
+         lambda self, port, frame: set_bits(frame, 18, SYNC, True) if frame[32] & 0x40 else frame),
+    ),
+    *faults(
+        SecondPort, "wrong",
+        ("SecondShape", "Sends to an individual address, with another type of the Partner TLV, a reserved octet that is not 0, and four octets too many.",
+         "FM-01 FM-02 FM-03 FM-04", lambda self, frame: b"\2" + put(put(frame, 22, b"\x07"), 39, b"\1")[1:] + bytes(4)),
+        ("SecondNumber", "Has port number 0.", "FM-05", lambda self, frame: put(frame, 16, bytes(2))),
+    ),
+]  # fmt: skip
+
+
+# The receive machine.
 
 
 class FirstOneLost(Device):
@@ -188,10 +146,8 @@ class FirstOneLost(Device):
         yield frame
 
 
-class Repeats(Device):
-    """Hears the last LACPDU once more, two seconds later: current_while is 5 s."""
-
-    finds = "RX-02 RX-03 SL-08"
+class KeepsLast(Device):
+    """Keeps the last LACPDU of each port, and when it came."""
 
     def __init__(self) -> None:
         super().__init__()
@@ -201,6 +157,12 @@ class Repeats(Device):
         if is_lacpdu(frame):
             self.last[port] = self.now, frame
 
+
+class Repeats(KeepsLast):
+    """Hears the last LACPDU once more, two seconds later: current_while is 5 s."""
+
+    finds = "RX-02 RX-03 SL-08"
+
     def ticked(self) -> None:
         for port, (when, frame) in list(self.last.items()):
             if self.now - when >= 2:
@@ -208,13 +170,15 @@ class Repeats(Device):
                 self.on.receive(port, frame)
 
 
-class NeverDefaulted(Device):
-    """Stays in EXPIRED."""
+class TimeoutOfPartner(KeepsLast):
+    """current_while goes by the partner's LACP_Timeout: each LACPDU of a partner that asks for long ones is heard on for 30 s."""
 
-    finds = "RX-03"
+    finds = "RX-16"
 
-    def says(self, port: int, frame: bytes) -> Iterable[bytes]:
-        yield set_bits(set_bits(frame, 18, 0x40, False), 18, 0x80, True) if frame[32] & 0x40 else frame
+    def ticked(self) -> None:
+        for port, (when, frame) in self.last.items():
+            if not frame[32] & 2 and 1 < self.now - when < 30 and int(self.now * 10) % 10 == 0:
+                self.on.receive(port, frame)
 
 
 class ShortCurrentWhile(Device):
@@ -225,6 +189,16 @@ class ShortCurrentWhile(Device):
     def ticked(self) -> None:
         if any(self.on.receive_state(port) is ReceiveState.CURRENT and self.on.current_while(port) == 8 for port in (1, 2)):
             self.on.tick(8)
+
+
+class LongTimer(Device):
+    """Asks for long timeouts, and waits 80 s."""
+
+    finds, short, long = "RX-14", False, True
+
+    def ticked(self) -> None:
+        if any(self.on.receive_state(port) is ReceiveState.CURRENT and self.on.current_while(port) == 100 for port in (1, 2)):
+            self.on.tick(100)
 
 
 class RestartsOnChange(Device):
@@ -255,7 +229,26 @@ class ReturnsSlowly(Device):
         yield frame
 
 
-class NoWaitAfterDefaults(Device):
+class Hurries(Device):
+    """wait_while does not run: a new partner is synchronized at once."""
+
+    def hurries(self, port: int) -> bool:
+        """Whether it does so now."""
+        return True
+
+    def took(self, port: int, frame: bytes) -> None:
+        if is_lacpdu(frame) and self.on.mux_state(port) is MuxState.WAITING and self.hurries(port):
+            self.on.tick(20)
+            self.on.receive(port, frame)
+
+
+class NoWait(Hurries):
+    """wait_while does not run: a new partner is synchronized at once."""
+
+    finds = "RX-06 RX-12a RX-12b RX-12c RX-12d RX-12e RX-12f MX-01 MX-05 MX-06 MX-08 SL-09 SL-12"
+
+
+class NoWaitAfterDefaults(Hurries):
     """A partner that comes to a port on defaults is carried for at once."""
 
     finds = "RX-06"
@@ -264,10 +257,11 @@ class NoWaitAfterDefaults(Device):
         super().__init__()
         self.was_defaulted: dict[int, bool] = {}
 
+    def hurries(self, port: int) -> bool:
+        return self.was_defaulted.get(port, False)
+
     def took(self, port: int, frame: bytes) -> None:
-        if is_lacpdu(frame) and self.was_defaulted.get(port) and self.on.mux_state(port) is MuxState.WAITING:
-            self.on.tick(20)
-            self.on.receive(port, frame)
+        super().took(port, frame)
         self.was_defaulted[port] = self.on.defaulted(port)
 
     def ticked(self) -> None:
@@ -275,47 +269,31 @@ class NoWaitAfterDefaults(Device):
             self.was_defaulted[port] = self.on.defaulted(port)
 
 
-class NoWait(Device):
-    """wait_while does not run: a new partner is synchronized at once."""
+class StartsCarrying(Hurries):
+    """Does not wait after its start."""
 
-    finds = "RX-06 RX-12a RX-12b RX-12c RX-12d RX-12e RX-12f MX-01 MX-05 MX-06 MX-08 SL-09 SL-12"
+    finds = "RX-15"
+    until = 0.0
 
-    def took(self, port: int, frame: bytes) -> None:
-        if is_lacpdu(frame) and self.on.mux_state(port) is MuxState.WAITING:
-            self.on.tick(20)
-            self.on.receive(port, frame)
+    def start(self) -> None:
+        super().start()
+        self.until = self.now + 5 if self.now else 0.0
 
-
-class AnyNaming(Device):
-    """Takes each partner as though it named the device."""
-
-    finds = "RX-07a RX-07b RX-07c RX-07d RX-07e RX-07g RX-08 RX-11"
-
-    def hears(self, port: int, frame: bytes) -> Iterable[bytes]:
-        yield put(frame, 24, self.own(port)) if is_lacpdu(frame) else frame
+    def hurries(self, port: int) -> bool:
+        return self.now < self.until
 
 
-class FieldUnchecked(Device):
+class FieldUnchecked(Hears):
     """Does not compare a field of the partner's naming."""
 
     field = ""
 
-    def hears(self, port: int, frame: bytes) -> Iterable[bytes]:
-        if not is_lacpdu(frame):
-            yield frame
-            return
+    def heard(self, port: int, frame: bytes) -> bytes:
         at, count = FIELDS[self.field]
         own = self.own(port)[at - 4 : at - 4 + count]
         if self.field == "aggregation":
-            yield set_bits(frame, 38, AGGREGATION, bool(own[0] & AGGREGATION))
-        else:
-            yield put(frame, 20 + at, own)
-
-
-class PriorityUnchecked(FieldUnchecked):
-    """Does not compare its system priority."""
-
-    finds, field = "RX-07a TX-02a", "priority"
+            return set_bits(frame, 38, AGGREGATION, bool(own[0] & AGGREGATION))
+        return put(frame, 20 + at, own)
 
 
 class SystemUnchecked(FieldUnchecked):
@@ -328,61 +306,6 @@ class KeyUnchecked(FieldUnchecked):
     """Does not compare its key."""
 
     finds, field = "RX-07c TX-02c", "key"
-
-
-class PortPriorityUnchecked(FieldUnchecked):
-    """Does not compare its port priority."""
-
-    finds, field = "RX-07d TX-02d", "port_priority"
-
-
-class PortUnchecked(FieldUnchecked):
-    """Does not compare its port number."""
-
-    finds, field = "RX-07e TX-02e", "port"
-
-
-class AggregationUnchecked(FieldUnchecked):
-    """Does not compare its Aggregation."""
-
-    finds, field = "RX-07f TX-02f", "aggregation"
-
-
-class VendorUnchecked(Device):
-    """Does not compare the first three octets of its system."""
-
-    finds = "RX-07g"
-
-    def hears(self, port: int, frame: bytes) -> Iterable[bytes]:
-        yield put(frame, 26, OWN.mac[:3]) if is_lacpdu(frame) and any(part(frame, 26, 6)) else frame
-
-
-class SyncIgnored(Device):
-    """Does not look at Synchronization of the partner."""
-
-    finds = "RX-09 MX-02 MX-03 TX-06"
-
-    def hears(self, port: int, frame: bytes) -> Iterable[bytes]:
-        yield set_bits(frame, 18, SYNC, True) if is_lacpdu(frame) else frame
-
-
-class PassiveRefused(Device):
-    """Takes no LACPDU of a passive partner."""
-
-    finds = "RX-10"
-
-    def hears(self, port: int, frame: bytes) -> Iterable[bytes]:
-        if not is_lacpdu(frame) or frame[32] & 1:
-            yield frame
-
-
-class ActivityUnchecked(Device):
-    """Does not look at its Activity as the partner tells it."""
-
-    finds = "RX-11 TX-03a"
-
-    def hears(self, port: int, frame: bytes) -> Iterable[bytes]:
-        yield set_bits(frame, 38, 1, True) if is_lacpdu(frame) else frame
 
 
 class SelectionUnchanged(Device):
@@ -422,43 +345,7 @@ class SelectionUnchanged(Device):
         yield self.changed(frame, at + 20, outside) if inside and told == inside else frame
 
 
-class NewPriority(SelectionUnchanged):
-    """Does not select anew for another priority of the partner."""
-
-    finds, field = "RX-12a", "priority"
-
-
-class NewSystem(SelectionUnchanged):
-    """Does not select anew for another system of the partner."""
-
-    finds, field = "RX-12b MX-01", "system"
-
-
-class NewKey(SelectionUnchanged):
-    """Does not select anew for another key of the partner."""
-
-    finds, field = "RX-12c MX-05 SL-07", "key"
-
-
-class NewPortPriority(SelectionUnchanged):
-    """Does not select anew for another port priority of the partner."""
-
-    finds, field = "RX-12d", "port_priority"
-
-
-class NewPort(SelectionUnchanged):
-    """Does not select anew for another port number of the partner."""
-
-    finds, field = "RX-12e", "port"
-
-
-class NewAggregation(SelectionUnchanged):
-    """Does not select anew for another Aggregation of the partner."""
-
-    finds, field = "RX-12f", "aggregation"
-
-
-class LowOctet(Device):
+class LowOctet(Hears):
     """Compares the low octet of the partner's keys alone."""
 
     finds = "RX-12g SL-13"
@@ -467,60 +354,12 @@ class LowOctet(Device):
         super().__init__()
         self.high = {1: b"\0", 2: b"\0"}
 
-    def hears(self, port: int, frame: bytes) -> Iterable[bytes]:
-        if is_lacpdu(frame):
-            self.high[port], frame = part(frame, 12, 1), put(frame, 12, b"\0")
-        yield frame
+    def heard(self, port: int, frame: bytes) -> bytes:
+        self.high[port] = part(frame, 12, 1)
+        return put(frame, 12, b"\0")
 
     def says(self, port: int, frame: bytes) -> Iterable[bytes]:
         yield put(frame, 32, self.high[port])
-
-
-class VendorOfPartner(Device):
-    """Compares the last three octets of the partner's system alone."""
-
-    finds = "RX-12h"
-
-    def hears(self, port: int, frame: bytes) -> Iterable[bytes]:
-        yield put(frame, 6, b"\2\xcf\0") if is_lacpdu(frame) else frame
-
-
-class NamedToTheBit(Device):
-    """A partner has to tell its state to the bit."""
-
-    finds = "RX-19"
-
-    def hears(self, port: int, frame: bytes) -> Iterable[bytes]:
-        wrong = is_lacpdu(frame) and (frame[52] ^ self.own(port)[14]) & 0x3A
-        yield set_bits(frame, 18, SYNC, False) if wrong else frame
-
-
-class TimeoutOfPartner(Device):
-    """current_while goes by the partner's LACP_Timeout: each LACPDU of a partner that asks for long ones is heard on for 30 s."""
-
-    finds = "RX-16"
-
-    def __init__(self) -> None:
-        super().__init__()
-        self.last: dict[int, tuple[float, bytes]] = {}
-
-    def took(self, port: int, frame: bytes) -> None:
-        if is_lacpdu(frame):
-            self.last[port] = self.now, frame
-
-    def ticked(self) -> None:
-        for port, (when, frame) in self.last.items():
-            if not frame[32] & 2 and 1 < self.now - when < 30 and int(self.now * 10) % 10 == 0:
-                self.on.receive(port, frame)
-
-
-class SyncOnDefaults(Device):
-    """Stays synchronized when it defaults."""
-
-    finds = "RX-06"
-
-    def says(self, port: int, frame: bytes) -> Iterable[bytes]:
-        yield set_bits(frame, 18, SYNC, True) if frame[32] & 0x40 else frame
 
 
 class LinkUnseen(Device):
@@ -532,27 +371,40 @@ class LinkUnseen(Device):
         pass
 
 
-class StartsCarrying(Device):
-    """Does not wait after its start."""
-
-    finds = "RX-15"
-    hurries = 0.0
-
-    def start(self) -> None:
-        super().start()
-        self.hurries = self.now + 5 if self.now else 0.0
-
-    def took(self, port: int, frame: bytes) -> None:
-        if self.now < self.hurries and is_lacpdu(frame) and self.on.mux_state(port) is MuxState.WAITING:
-            self.on.tick(20)
-            self.on.receive(port, frame)
-
-
-class LongTimer(Device):
-    """Asks for long timeouts, and waits 80 s."""
-
-    finds, short, long = "RX-14", False, True
-
-    def ticked(self) -> None:
-        if any(self.on.receive_state(port) is ReceiveState.CURRENT and self.on.current_while(port) == 100 for port in (1, 2)):
-            self.on.tick(100)
+ROWS += [
+    *faults(
+        FieldUnchecked, "field",
+        ("PriorityUnchecked", "Does not compare its system priority.", "RX-07a TX-02a", "priority"),
+        ("PortPriorityUnchecked", "Does not compare its port priority.", "RX-07d TX-02d", "port_priority"),
+        ("PortUnchecked", "Does not compare its port number.", "RX-07e TX-02e", "port"),
+        ("AggregationUnchecked", "Does not compare its Aggregation.", "RX-07f TX-02f", "aggregation"),
+    ),
+    *faults(
+        SelectionUnchanged, "field",
+        ("NewPriority", "Does not select anew for another priority of the partner.", "RX-12a", "priority"),
+        ("NewSystem", "Does not select anew for another system of the partner.", "RX-12b MX-01", "system"),
+        ("NewKey", "Does not select anew for another key of the partner.", "RX-12c MX-05 SL-07", "key"),
+        ("NewPortPriority", "Does not select anew for another port priority of the partner.", "RX-12d", "port_priority"),
+        ("NewPort", "Does not select anew for another port number of the partner.", "RX-12e", "port"),
+        ("NewAggregation", "Does not select anew for another Aggregation of the partner.", "RX-12f", "aggregation"),
+    ),
+    *faults(
+        Hears, "heard",
+        ("AnyNaming", "Takes each partner as though it named the device.", "RX-07a RX-07b RX-07c RX-07d RX-07e RX-07g RX-08 RX-11",
+         lambda self, port, frame: put(frame, 24, self.own(port))),
+        ("VendorUnchecked", "Does not compare the first three octets of its system.", "RX-07g",
+         lambda self, port, frame: put(frame, 26, OWN.mac[:3]) if any(part(frame, 26, 6)) else frame),
+        ("SyncIgnored", "Does not look at Synchronization of the partner.", "RX-09 MX-02 MX-03 TX-06",
+         lambda self, port, frame: set_bits(frame, 18, SYNC, True)),
+        ("ActivityUnchecked", "Does not look at its Activity as the partner tells it.", "RX-11 TX-03a",
+         lambda self, port, frame: set_bits(frame, 38, 1, True)),
+        ("VendorOfPartner", "Compares the last three octets of the partner's system alone.", "RX-12h",
+         lambda self, port, frame: put(frame, 6, b"\2\xcf\0")),
+        ("NamedToTheBit", "A partner has to tell its state to the bit.", "RX-19",
+         lambda self, port, frame: set_bits(frame, 18, SYNC, False) if (frame[52] ^ self.own(port)[14]) & 0x3A else frame),
+    ),
+    *faults(
+        Drops, "drops",
+        ("PassiveRefused", "Takes no LACPDU of a passive partner.", "RX-10", lambda self, port, frame: not frame[32] & 1),
+    ),
+]  # fmt: skip

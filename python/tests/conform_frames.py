@@ -1,34 +1,15 @@
-"""Devices with one fault each, and the tests that have to find it: frames of other shapes, markers, storms, and two links."""
+"""Devices with one fault each, and the tests that have to find it: frames of other shapes, markers, storms, and two links.
+
+A fault that other tests name, or that takes more than an expression, is a class. The others are rows of `ROWS`.
+"""
 
 from __future__ import annotations
 
 from typing import Iterable, Iterator, Optional
 
-from conform_device import OWN, SLOW, Device, is_lacpdu, part, put
+from conform_device import OWN, SLOW, Device, Drops, faults, is_lacpdu, part, put
 from conform_faults import set_bits
 from niwhopera import ReceiveState, State
-
-
-class Drops(Device):
-    """Drops LACPDUs of some shape."""
-
-    def drops(self, frame: bytes) -> bool:
-        """Whether an LACPDU is dropped."""
-        return False
-
-    def hears(self, port: int, frame: bytes) -> Iterable[bytes]:
-        if not (is_lacpdu(frame) and self.drops(frame)):
-            yield frame
-
-
-class CollectingOnly(Device):
-    """Takes no LACPDU of a partner that stops collecting."""
-
-    finds = "VN-01"
-
-    def hears(self, port: int, frame: bytes) -> Iterable[bytes]:
-        if not (is_lacpdu(frame) and self.is_on(port, State.COLLECTING) and frame[32] & 0x18 == 8):
-            yield frame
 
 
 class VersionChecked(Drops):
@@ -36,137 +17,20 @@ class VersionChecked(Drops):
 
     finds = "VN-02 VN-03 VN-04 VN-05 VN-10"
 
-    def drops(self, frame: bytes) -> bool:
+    def drops(self, port: int, frame: bytes) -> bool:
         return frame[15] != 1
-
-
-class TypesChecked(Drops):
-    """Looks at the types of the Actor and Partner TLV."""
-
-    finds = "VN-07"
-
-    def drops(self, frame: bytes) -> bool:
-        return frame[16] != 1 or frame[36] != 2
-
-
-class CollectorChecked(Drops):
-    """Looks at the type of the Collector TLV."""
-
-    finds = "VN-08"
-
-    def drops(self, frame: bytes) -> bool:
-        return frame[56] != 3
-
-
-class TerminatorChecked(Drops):
-    """Looks at the Terminator."""
-
-    finds = "VN-05 VN-09"
-
-    def drops(self, frame: bytes) -> bool:
-        return frame[72] != 0
-
-
-class ReservedChecked(Drops):
-    """Looks at reserved octets."""
-
-    finds = "VN-06"
-
-    def drops(self, frame: bytes) -> bool:
-        return any(part(frame, 60, 50)) or any(part(frame, 46, 12))
-
-
-class LongerDropped(Drops):
-    """Takes LACPDUs of 110 octets alone."""
-
-    finds = "VN-10"
-
-    def drops(self, frame: bytes) -> bool:
-        return len(frame) > 124
 
 
 class Upset(Device):
     """A port begins anew after frames of some shape."""
 
-    def upsets(self, port: int, frame: bytes) -> bool:
+    def upsets(self, frame: bytes) -> bool:
         """Whether a frame does harm."""
         return False
 
     def took(self, port: int, frame: bytes) -> None:
-        if self.upsets(port, frame):
+        if self.upsets(frame):
             self.restart(port)
-
-
-class UpsetByLengths(Upset):
-    """A wrong length of a TLV takes the link down."""
-
-    finds = "VN-11 VN-12 VN-13"
-
-    def upsets(self, port: int, frame: bytes) -> bool:
-        return is_lacpdu(frame) and (frame[17], frame[37], frame[57]) != (20, 20, 16)
-
-
-class UpsetByTerminator(Upset):
-    """A Terminator with a length takes the link down."""
-
-    finds = "VN-13a"
-
-    def upsets(self, port: int, frame: bytes) -> bool:
-        return is_lacpdu(frame) and frame[72:73] == b"\0" and frame[73] != 0
-
-
-class UpsetByAddress(Upset):
-    """A frame to another address takes the link down."""
-
-    finds = "VN-19 MK-12"
-
-    def upsets(self, port: int, frame: bytes) -> bool:
-        return frame[12:14] == SLOW and frame[:6] != b"\x01\x80\xc2\0\0\2"
-
-
-class UpsetByTag(Upset):
-    """A tag takes the link down."""
-
-    finds = "VN-20"
-
-    def upsets(self, port: int, frame: bytes) -> bool:
-        return frame[12:14] == b"\x81\0"
-
-
-class UpsetByShort(Upset):
-    """A frame of Slow Protocols that is cut off takes the link down."""
-
-    finds = "VN-21 RB-01 RB-04"
-
-    def upsets(self, port: int, frame: bytes) -> bool:
-        return frame[12:14] == SLOW and len(frame) < 124
-
-
-class UpsetBySubtype(Upset):
-    """A frame of another subtype takes the link down."""
-
-    finds = "RB-03"
-
-    def upsets(self, port: int, frame: bytes) -> bool:
-        return frame[12:14] == SLOW and frame[14:15] not in (b"\1", b"\2")
-
-
-class UpsetBySource(Upset):
-    """An LACPDU from a group address takes the link down."""
-
-    finds = "RB-07"
-
-    def upsets(self, port: int, frame: bytes) -> bool:
-        return bool(frame[6] & 1)
-
-
-class UpsetByLongFrame(Upset):
-    """A frame of more than 1500 octets takes the link down."""
-
-    finds = "RB-08"
-
-    def upsets(self, port: int, frame: bytes) -> bool:
-        return len(frame) > 1500
 
 
 class UpsetByStorm(Upset):
@@ -175,7 +39,7 @@ class UpsetByStorm(Upset):
     finds = "RB-06"
     second, count = -1, 0
 
-    def upsets(self, port: int, frame: bytes) -> bool:
+    def upsets(self, frame: bytes) -> bool:
         if int(self.now) != self.second:
             self.second, self.count = int(self.now), 0
         self.count += is_lacpdu(frame)
@@ -264,15 +128,6 @@ class OtherId(Responds):
         return put(response, 15, bytes([response[29] ^ 1]))
 
 
-class OtherSystem(Responds):
-    """Answers with another system."""
-
-    finds = "MK-01 MK-02"
-
-    def says_back(self, marker: bytes, response: bytes) -> Optional[bytes]:
-        return put(response, 6, OWN.mac)
-
-
 class ThirdId(Responds):
     """Each third response has another identifier."""
 
@@ -282,24 +137,6 @@ class ThirdId(Responds):
     def says_back(self, marker: bytes, response: bytes) -> Optional[bytes]:
         self.count += 1
         return response if self.count % 3 else put(response, 15, bytes([response[29] ^ 1]))
-
-
-class OtherSource(Responds):
-    """Answers from another address."""
-
-    finds = "MK-03"
-
-    def says_back(self, marker: bytes, response: bytes) -> Optional[bytes]:
-        return response[:6] + b"\2\0\0\0\0\1" + response[12:]
-
-
-class MarkerVersion(Responds):
-    """Answers markers of version 1 alone."""
-
-    finds = "MK-04"
-
-    def says_back(self, marker: bytes, response: bytes) -> Optional[bytes]:
-        return response if marker[15] == 1 else None
 
 
 class MarkerSlow(Responds):
@@ -315,49 +152,17 @@ class MarkerSlow(Responds):
         return response
 
 
-class LongResponse(Responds):
-    """Sends back all octets of a marker."""
+class AnswersMore(Device):
+    """Answers Marker PDUs that want no answer."""
 
-    finds = "MK-13"
-
-    def says_back(self, marker: bytes, response: bytes) -> Optional[bytes]:
-        return response + marker[124:]
-
-
-class ManyResponses(Device):
-    """Answers each marker, however many come."""
-
-    finds, most_responses = "MK-06", 10**9
-
-
-class AnswersResponses(Device):
-    """Answers responses."""
-
-    finds = "MK-07"
+    def answers(self, frame: bytes) -> bytes:
+        """The payload of a response to a Marker PDU, or none."""
+        return b""
 
     def took(self, port: int, frame: bytes) -> None:
-        if frame[12:17] == SLOW + b"\2\1\2" and len(frame) >= 124:
-            self.world.emit(port, frame[:6] + bytes([2, 0, 0, 0, 0xBB, port]) + frame[12:])
-
-
-class AnswersUnknown(Device):
-    """Answers Marker PDUs of each TLV type."""
-
-    finds = "MK-08"
-
-    def took(self, port: int, frame: bytes) -> None:
-        if frame[12:15] == SLOW + b"\2" and len(frame) >= 124 and frame[16] > 2:
-            self.world.emit(port, put(frame[:6] + bytes([2, 0, 0, 0, 0xBB, port]) + frame[12:], 2, b"\2"))
-
-
-class AnswersShort(Device):
-    """Sends markers back that are cut off."""
-
-    finds = "MK-09 IV-03"
-
-    def took(self, port: int, frame: bytes) -> None:
-        if frame[12:17] == SLOW + b"\2\1\1" and len(frame) < 124:
-            self.world.emit(port, put(frame[:6] + bytes([2, 0, 0, 0, 0xBB, port]) + frame[12:], 2, b"\2") + bytes(1))
+        payload = self.answers(frame) if frame[12:15] == SLOW + b"\2" else b""
+        if payload:
+            self.world.emit(port, frame[:6] + bytes([2, 0, 0, 0, 0xBB, port]) + SLOW + payload)
 
 
 class MarkersWhenCollecting(Device):
@@ -428,26 +233,51 @@ class LateUnderData(Device):
 
 
 class OneAggregator(Device):
-    """Its client uses each link that distributes, whatever the aggregator."""
+    """Its client uses each of two links that distributes, whatever the aggregator."""
 
     finds = "SL-03 SL-04 SL-05 SL-06 SL-07"
+    used = 2
 
     def port_of(self, frame: bytes) -> Optional[int]:
-        ports = [port for port in (1, 2) if self.on.distributes(port)]
+        ports = [port for port in self.links if port <= self.used and self.on.distributes(port)]
         return ports[frame[11] % len(ports)] if ports else None
 
 
-class SecondLinkDrops(Device):
-    """Drops the second link three seconds after it carries."""
+class AllAggregators(OneAggregator):
+    """Its client uses each of three links that distributes, whatever the aggregator."""
 
-    finds = "SL-01 EN-02"
+    finds, used = "SL-15", 3
+
+
+class LinkDrops(Device):
+    """A link begins anew some seconds after so many links carry."""
+
+    wanted, seconds, dropped = 2, 3, 2
     since = 0.0
 
     def ticked(self) -> None:
-        if not all(self.on.distributes(port) for port in (1, 2)):
+        if sum(self.on.distributes(port) for port in self.links if port <= self.wanted) < self.wanted:
             self.since = self.now
-        elif self.now - self.since > 3:
-            self.restart(2)
+        elif self.now - self.since > self.seconds:
+            self.restart(self.dropped)
+
+
+class SecondLinkDrops(LinkDrops):
+    """Drops the second link three seconds after it carries."""
+
+    finds = "SL-01 EN-02"
+
+
+class ThirdLinkDrops(LinkDrops):
+    """Drops the third link three seconds after all carry."""
+
+    finds, wanted, dropped = "SL-14 EN-04", 3, 3
+
+
+class Restless(LinkDrops):
+    """Begins anew each four seconds."""
+
+    finds, wanted, seconds, dropped = "EN-01 RX-04", 1, 4, 1
 
 
 class SendsTwice(Device):
@@ -480,29 +310,6 @@ class KeepsBack(Device):
             for it in self.kept:
                 self.world.emit(2, it)
             self.kept = []
-
-
-class ThirdLinkDrops(Device):
-    """Drops the third link three seconds after all carry."""
-
-    finds = "SL-14 EN-04"
-    since = 0.0
-
-    def ticked(self) -> None:
-        if len(self.links) < 3 or not all(self.on.distributes(port) for port in self.links):
-            self.since = self.now
-        elif self.now - self.since > 3:
-            self.restart(3)
-
-
-class AllAggregators(Device):
-    """Its client uses each of three links that distributes, whatever the aggregator."""
-
-    finds = "SL-15"
-
-    def port_of(self, frame: bytes) -> Optional[int]:
-        ports = [port for port in self.links if self.on.distributes(port)]
-        return ports[frame[11] % len(ports)] if ports else None
 
 
 class AllLeave(Device):
@@ -561,19 +368,6 @@ class CarriesForItself(Device):
         yield put(frame, 26, OWN.mac) if part(frame, 26, 6) == self.STRANGER else frame
 
 
-class Restless(Device):
-    """Begins anew each four seconds."""
-
-    finds = "EN-01 RX-04"
-    last = 0.0
-
-    def ticked(self) -> None:
-        if not self.on.distributes(1):
-            self.last = self.now
-        elif self.now - self.last > 4:
-            self.restart(1)
-
-
 class BadLengths(Device):
     """Sends a wrong length of the Collector TLV in each second LACPDU."""
 
@@ -593,3 +387,49 @@ class ForgetsNaming(Device):
     def hears(self, port: int, frame: bytes) -> Iterable[bytes]:
         nobody = is_lacpdu(frame) and not any(part(frame, 24, 14))
         yield set_bits(put(frame, 24, self.own(port)), 38, 4, True) if nobody else frame
+
+
+ROWS = [
+    *faults(
+        Drops, "drops",
+        ("CollectingOnly", "Takes no LACPDU of a partner that stops collecting.", "VN-01",
+         lambda self, port, frame: self.is_on(port, State.COLLECTING) and frame[32] & 0x18 == 8),
+        ("TypesChecked", "Looks at the types of the Actor and Partner TLV.", "VN-07", lambda self, port, frame: frame[16] != 1 or frame[36] != 2),
+        ("CollectorChecked", "Looks at the type of the Collector TLV.", "VN-08", lambda self, port, frame: frame[56] != 3),
+        ("TerminatorChecked", "Looks at the Terminator.", "VN-05 VN-09", lambda self, port, frame: frame[72] != 0),
+        ("ReservedChecked", "Looks at reserved octets.", "VN-06", lambda self, port, frame: any(part(frame, 60, 50)) or any(part(frame, 46, 12))),
+        ("LongerDropped", "Takes LACPDUs of 110 octets alone.", "VN-10", lambda self, port, frame: len(frame) > 124),
+    ),
+    *faults(
+        Upset, "upsets",
+        ("UpsetByLengths", "A wrong length of a TLV takes the link down.", "VN-11 VN-12 VN-13",
+         lambda self, frame: is_lacpdu(frame) and (frame[17], frame[37], frame[57]) != (20, 20, 16)),
+        ("UpsetByTerminator", "A Terminator with a length takes the link down.", "VN-13a",
+         lambda self, frame: is_lacpdu(frame) and frame[72:73] == b"\0" and frame[73] != 0),
+        ("UpsetByAddress", "A frame to another address takes the link down.", "VN-19 MK-12",
+         lambda self, frame: frame[12:14] == SLOW and frame[:6] != b"\x01\x80\xc2\0\0\2"),
+        ("UpsetByTag", "A tag takes the link down.", "VN-20", lambda self, frame: frame[12:14] == b"\x81\0"),
+        ("UpsetByShort", "A frame of Slow Protocols that is cut off takes the link down.", "VN-21 RB-01 RB-04",
+         lambda self, frame: frame[12:14] == SLOW and len(frame) < 124),
+        ("UpsetBySubtype", "A frame of another subtype takes the link down.", "RB-03",
+         lambda self, frame: frame[12:14] == SLOW and frame[14:15] not in (b"\1", b"\2")),
+        ("UpsetBySource", "An LACPDU from a group address takes the link down.", "RB-07", lambda self, frame: bool(frame[6] & 1)),
+        ("UpsetByLongFrame", "A frame of more than 1500 octets takes the link down.", "RB-08", lambda self, frame: len(frame) > 1500),
+    ),
+    *faults(
+        Responds, "says_back",
+        ("OtherSystem", "Answers with another system.", "MK-01 MK-02", lambda self, marker, response: put(response, 6, OWN.mac)),
+        ("OtherSource", "Answers from another address.", "MK-03", lambda self, marker, response: response[:6] + b"\2\0\0\0\0\1" + response[12:]),
+        ("MarkerVersion", "Answers markers of version 1 alone.", "MK-04", lambda self, marker, response: response if marker[15] == 1 else None),
+        ("LongResponse", "Sends back all octets of a marker.", "MK-13", lambda self, marker, response: response + marker[124:]),
+    ),
+    *faults(
+        AnswersMore, "answers",
+        ("AnswersResponses", "Answers responses.", "MK-07", lambda self, frame: frame[14:] if frame[15:17] == b"\1\2" and len(frame) >= 124 else b""),
+        ("AnswersUnknown", "Answers Marker PDUs of each TLV type.", "MK-08",
+         lambda self, frame: put(frame, 2, b"\2")[14:] if len(frame) >= 124 and frame[16] > 2 else b""),
+        ("AnswersShort", "Sends markers back that are cut off.", "MK-09 IV-03",
+         lambda self, frame: put(frame, 2, b"\2")[14:] + bytes(1) if frame[15:17] == b"\1\1" and len(frame) < 124 else b""),
+    ),
+    *faults(Device, "most_responses", ("ManyResponses", "Answers each marker, however many come.", "MK-06", 10**9)),
+]  # fmt: skip

@@ -1,20 +1,24 @@
-"""Devices with one fault each, and the tests that have to find it: the periodic, mux and transmit machines of a link."""
+"""Devices with one fault each, and the tests that have to find it: the periodic, mux and transmit machines of a link.
+
+A fault that other tests name, or that takes more than an expression, is a class. The others are rows of `ROWS`.
+"""
 
 from __future__ import annotations
 
 from typing import Iterable, Optional
 
-from conform_device import SLOW, Device, is_lacpdu, part, put
+from conform_device import SLOW, Device, Drops, Hears, Says, faults, is_lacpdu, part, put
 from conform_faults import AGGREGATION, SYNC, set_bits
 from niwhopera import MuxState, State
 
 CARRIES = 0x30
 
 
-class DisabledByChurn(Device):
+class DisabledByChurn(Drops):
     """A partner that is out of sync for 10 s takes the port out for 30 s."""
 
     finds = "MX-09"
+    most = 10
 
     def __init__(self) -> None:
         super().__init__()
@@ -25,35 +29,27 @@ class DisabledByChurn(Device):
         for port in (1, 2):
             if self.on.mux_state(port) is not MuxState.ATTACHED:
                 self.since[port] = self.now
-            elif self.now - self.since.get(port, self.now) > 10:
+            elif self.now - self.since.get(port, self.now) > self.most:
                 self.out[port], self.since[port] = self.now + 30, self.now
 
-    def hears(self, port: int, frame: bytes) -> Iterable[bytes]:
-        if self.now >= self.out.get(port, 0):
-            yield frame
+    def drops(self, port: int, frame: bytes) -> bool:
+        return self.now < self.out.get(port, 0)
 
 
 class DisabledByLongChurn(DisabledByChurn):
     """A partner that is out of sync for 60 s takes the port out: what churn detection finds."""
 
-    finds, long = "MX-10", True
-
-    def ticked(self) -> None:
-        for port in (1, 2):
-            if self.on.mux_state(port) is not MuxState.ATTACHED:
-                self.since[port] = self.now
-            elif self.now - self.since.get(port, self.now) > 60:
-                self.out[port], self.since[port] = self.now + 30, self.now
+    finds, long, most = "MX-10", True, 60
 
 
-class AnswersOtherBits(Device):
+class AnswersOtherBits(Hears):
     """Answers an LACPDU that tells any bit of its state otherwise."""
 
     finds = "TX-07"
 
-    def hears(self, port: int, frame: bytes) -> Iterable[bytes]:
-        other = is_lacpdu(frame) and frame[52] ^ self.own(port)[14]
-        yield put(frame, 38, bytes([frame[52] ^ 2])) if other and not (frame[52] ^ self.own(port)[14]) & 0x0F else frame
+    def heard(self, port: int, frame: bytes) -> bytes:
+        other = frame[52] ^ self.own(port)[14]
+        return put(frame, 38, bytes([frame[52] ^ 2])) if other and not other & 0x0F else frame
 
 
 class OneASecond(Device):
@@ -70,36 +66,6 @@ class OneASecond(Device):
             return False
         self.sent = self.now if self.on.due() else self.sent
         return True
-
-
-class SlowClock(Device):
-    """Its clock is slow: a second has 1.45 s."""
-
-    finds, tick_seconds = "PT-01 RX-02", 0.145
-
-
-class FastClock(Device):
-    """Its clock is fast."""
-
-    finds, tick_seconds = "PT-01 MX-01 RX-02", 0.055
-
-
-class AlwaysShort(Device):
-    """Sends each second, whatever the partner asks for."""
-
-    finds = "PT-02 PT-04 TX-04"
-
-    def hears(self, port: int, frame: bytes) -> Iterable[bytes]:
-        yield set_bits(frame, 18, 2, True) if is_lacpdu(frame) else frame
-
-
-class AlwaysLong(Device):
-    """Sends each 30 s, whatever the partner asks for."""
-
-    finds = "PT-01 PT-03 PT-06"
-
-    def hears(self, port: int, frame: bytes) -> Iterable[bytes]:
-        yield set_bits(frame, 18, 2, False) if is_lacpdu(frame) else frame
 
 
 class LateToShort(Device):
@@ -148,15 +114,6 @@ class QuietToPassive(Device):
             yield frame
 
 
-class CollectsAsPartner(Device):
-    """Takes a partner that does not collect for one out of sync."""
-
-    finds = "MX-02 MX-04"
-
-    def hears(self, port: int, frame: bytes) -> Iterable[bytes]:
-        yield set_bits(frame, 18, SYNC, False) if is_lacpdu(frame) and not frame[32] & 0x10 else frame
-
-
 class TellsOldBits(Device):
     """Tells once more that it carries when it has detached."""
 
@@ -185,24 +142,6 @@ class LateBits(Device):
             self.since[port] = self.now
         late = self.now - self.since.get(port, -9) < 1.05
         yield set_bits(frame, 18, CARRIES | SYNC, True) if late else frame
-
-
-class AggregatesAlways(Device):
-    """Tells a partner that is individual as aggregatable."""
-
-    finds = "MX-08"
-
-    def says(self, port: int, frame: bytes) -> Iterable[bytes]:
-        yield set_bits(frame, 38, AGGREGATION, True) if any(part(frame, 26, 6)) else frame
-
-
-class CollectsAlone(Device):
-    """Tells Collecting without Synchronization."""
-
-    finds = "IV-01"
-
-    def says(self, port: int, frame: bytes) -> Iterable[bytes]:
-        yield frame if frame[32] & SYNC else set_bits(frame, 18, 0x10, True)
 
 
 class MixesLinks(Device):
@@ -262,24 +201,6 @@ class LooksOnceASecond(Device):
         return True
 
 
-class TimeoutUnchecked(Device):
-    """Does not look at its LACP_Timeout as the partner tells it."""
-
-    finds = "TX-03b"
-
-    def hears(self, port: int, frame: bytes) -> Iterable[bytes]:
-        yield set_bits(frame, 38, 2, self.is_on(port, State.TIMEOUT)) if is_lacpdu(frame) else frame
-
-
-class OwnSyncUnchecked(Device):
-    """Does not look at its Synchronization as the partner tells it."""
-
-    finds = "TX-03c"
-
-    def hears(self, port: int, frame: bytes) -> Iterable[bytes]:
-        yield set_bits(frame, 38, SYNC, self.is_on(port, State.SYNCHRONIZATION)) if is_lacpdu(frame) else frame
-
-
 class Stale(Device):
     """What waits behind three LACPDUs is told three seconds long as it was when it began to wait."""
 
@@ -332,12 +253,6 @@ class SharedLimit(Device):
                 self.world.emit(port, sent.frame)
 
 
-class SlowPeriod(Device):
-    """Its clock is a twentieth slow."""
-
-    finds, tick_seconds, long = "PT-07", 0.105, True
-
-
 class SilentOnDefaults(Device):
     """Says nothing where it has no partner."""
 
@@ -346,3 +261,36 @@ class SilentOnDefaults(Device):
     def says(self, port: int, frame: bytes) -> Iterable[bytes]:
         if not frame[32] & 0x40:
             yield frame
+
+
+class SlowPeriod(Device):
+    """Its clock is a twentieth slow."""
+
+    finds, tick_seconds, long = "PT-07", 0.105, True
+
+
+ROWS = [
+    *faults(
+        Device, "tick_seconds",
+        ("SlowClock", "Its clock is slow: a second has 1.45 s.", "PT-01 RX-02", 0.145),
+        ("FastClock", "Its clock is fast.", "PT-01 MX-01 RX-02", 0.055),
+    ),
+    *faults(
+        Hears, "heard",
+        ("AlwaysShort", "Sends each second, whatever the partner asks for.", "PT-02 PT-04 TX-04", lambda self, port, frame: set_bits(frame, 18, 2, True)),
+        ("AlwaysLong", "Sends each 30 s, whatever the partner asks for.", "PT-01 PT-03 PT-06", lambda self, port, frame: set_bits(frame, 18, 2, False)),
+        ("CollectsAsPartner", "Takes a partner that does not collect for one out of sync.", "MX-02 MX-04",
+         lambda self, port, frame: frame if frame[32] & 0x10 else set_bits(frame, 18, SYNC, False)),
+        ("TimeoutUnchecked", "Does not look at its LACP_Timeout as the partner tells it.", "TX-03b",
+         lambda self, port, frame: set_bits(frame, 38, 2, self.is_on(port, State.TIMEOUT))),
+        ("OwnSyncUnchecked", "Does not look at its Synchronization as the partner tells it.", "TX-03c",
+         lambda self, port, frame: set_bits(frame, 38, SYNC, self.is_on(port, State.SYNCHRONIZATION))),
+    ),
+    *faults(
+        Says, "said",
+        ("AggregatesAlways", "Tells a partner that is individual as aggregatable.", "MX-08",
+         lambda self, port, frame: set_bits(frame, 38, AGGREGATION, True) if any(part(frame, 26, 6)) else frame),
+        ("CollectsAlone", "Tells Collecting without Synchronization.", "IV-01",
+         lambda self, port, frame: frame if frame[32] & SYNC else set_bits(frame, 18, 0x10, True)),
+    ),
+]  # fmt: skip

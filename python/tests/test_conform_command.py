@@ -15,7 +15,7 @@ from pathlib import Path
 from typing import Any, Iterator, Sequence, Type
 
 import pytest
-from conform_device import Device, World
+from conform_device import Device, Individual, LongTimeouts, World, beside
 from conform_faults import KeyUnchecked, NoWait, SystemUnchecked
 from conform_frames import NoMarkers
 
@@ -32,18 +32,6 @@ from lagconform.sockets import Command
 BY_NAME = {it.id: it for it in TESTS}
 # What stands behind the counts in the last line.
 LAST = f". {CAVEAT}\n"
-
-
-class LongTimeouts(Device):
-    """Asks for long timeouts."""
-
-    short = False
-
-
-class Individual(Device):
-    """Its ports are individual."""
-
-    aggregatable = False
 
 
 @pytest.fixture
@@ -380,13 +368,10 @@ def test_a_silent_device_is_refused_with_the_usual_causes() -> None:
         def may_send(self) -> bool:
             return False
 
-    device = Silent()
-    b = Bench(World(device))
-    with pytest.raises(NoDevice, match="no LACPDU came in 35 s on link1, link2. The usual causes"):
-        meet(b)
-    assert b.now() >= 35
-    b.close()
-    device.stop()
+    with beside(World(Silent())) as b:
+        with pytest.raises(NoDevice, match="no LACPDU came in 35 s on link1, link2. The usual causes"):
+            meet(b)
+        assert b.now() >= 35
 
 
 def result(name: str, verdict: str = FAIL) -> Result:
@@ -405,37 +390,28 @@ def test_each_cause_is_a_test() -> None:
 
 
 def test_a_busy_machine_gives_no_fail() -> None:
-    device = Device()
-    b = Bench(World(device))
-    found = Result(BY_NAME["FM-01"], claims=[Claim(False, "it was seen", ())])
-    b.late = 0.3
-    judge(b, found)
-    assert found.verdict == INCONCLUSIVE and "too busy" in found.why
-    b.close()
-    device.stop()
+    with beside(World(Device())) as b:
+        found = Result(BY_NAME["FM-01"], claims=[Claim(False, "it was seen", ())])
+        b.late = 0.3
+        judge(b, found)
+        assert found.verdict == INCONCLUSIVE and "too busy" in found.why
 
 
 def test_a_test_without_its_hook_is_skipped() -> None:
-    device = Device()
-    b = Bench(World(device))
-    meet(b)
-    assert run_one(b, BY_NAME["RX-15"]).verdict == SKIPPED
-    assert run_one(b, BY_NAME["RX-14"]).verdict == NOT_APPLICABLE
-    b.close()
-    device.stop()
+    with beside(World(Device())) as b:
+        meet(b)
+        assert run_one(b, BY_NAME["RX-15"]).verdict == SKIPPED
+        assert run_one(b, BY_NAME["RX-14"]).verdict == NOT_APPLICABLE
 
 
 def test_a_fault_of_the_bench_is_no_fail() -> None:
     def wrong(_: Bench) -> None:
         raise ZeroDivisionError
 
-    device = Device()
-    b = Bench(World(device))
-    one = BY_NAME["FM-01"]
-    found = run_one(b, Case(*[wrong if name == "run" else getattr(one, name) for name in one.__dataclass_fields__]))
-    assert found.verdict == INCONCLUSIVE and "ZeroDivisionError" in found.why
-    b.close()
-    device.stop()
+    with beside(World(Device())) as b:
+        one = BY_NAME["FM-01"]
+        found = run_one(b, Case(*[wrong if name == "run" else getattr(one, name) for name in one.__dataclass_fields__]))
+        assert found.verdict == INCONCLUSIVE and "ZeroDivisionError" in found.why
 
 
 def test_the_list_has_each_test(capsys: pytest.CaptureFixture[str]) -> None:
@@ -470,16 +446,13 @@ def test_each_test_tells_what_it_does() -> None:
 
 def test_the_shadow_agrees_with_a_right_device() -> None:
     for kind, differs in (Device, False), (NoWait, True), (SystemUnchecked, True):
-        device = kind()
-        world = World(device)
-        b = Bench(world, world)
-        meet(b)
-        for name in "RX-01", "RX-07b", "RX-12b", "RX-02", "MX-01", "VN-01", "SL-03":
-            run_one(b, BY_NAME[name])
-        shadow = compare(b)
-        assert shadow.compared > 20 and bool(shadow.differences) == differs, shadow.text
-        b.close()
-        device.stop()
+        world = World(kind())
+        with beside(world, world) as b:
+            meet(b)
+            for name in "RX-01", "RX-07b", "RX-12b", "RX-02", "MX-01", "VN-01", "SL-03":
+                run_one(b, BY_NAME[name])
+            shadow = compare(b)
+            assert shadow.compared > 20 and bool(shadow.differences) == differs, shadow.text
 
 
 def test_most_within() -> None:
@@ -530,14 +503,11 @@ def test_the_page_says_what_makes_the_counts_differ() -> None:
         return
     long, three = listed([it.id for it in TESTS if it.is_long]), listed([it.id for it in TESTS if it.links == 3])
     assert f"`--long` adds {long}, which take more than {LONG} s each. Three links add {three}." in " ".join(text.split())
-    device = Device()
-    b = Bench(World(device))
-    meet(b)
-    wanted = [run_one(b, it) for it in TESTS if it.hooks and it.links < 3]
-    skipped = listed([it.test.id for it in wanted if it.verdict == SKIPPED]).replace("RX-13", "RX-13 (but with `--flap`)")
-    assert f"without `--hook`, {skipped} are skipped" in " ".join(text.split())
-    b.close()
-    device.stop()
+    with beside(World(Device())) as b:
+        meet(b)
+        wanted = [run_one(b, it) for it in TESTS if it.hooks and it.links < 3]
+        skipped = listed([it.test.id for it in wanted if it.verdict == SKIPPED]).replace("RX-13", "RX-13 (but with `--flap`)")
+        assert f"without `--hook`, {skipped} are skipped" in " ".join(text.split())
 
 
 def listed(names: Sequence[str]) -> str:

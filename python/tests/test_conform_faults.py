@@ -12,51 +12,34 @@ import conform_faults
 import conform_frames
 import conform_machines
 import pytest
-from conform_device import Device, World
+from conform_device import Device, LongTimeouts, World, play
 
-from lagconform.bench import Bench
 from lagconform.groups import TESTS
 from lagconform.model import FAIL, INCONCLUSIVE, PASS, Result
 from lagconform.model import Test as Case
-from lagconform.runner import meet, ordered, run_all
 
-NAMED = [it for module in (conform_faults, conform_machines, conform_frames) for it in vars(module).values()]
-FAULTS: list[Type[Device]] = [it for it in NAMED if isinstance(it, type) and issubclass(it, Device) and it.finds]
+MODULES = conform_faults, conform_machines, conform_frames
+CLASSES = [it for module in MODULES for it in vars(module).values() if isinstance(it, type) and issubclass(it, Device) and it.finds]
+FAULTS: list[Type[Device]] = [*CLASSES, *(it for module in MODULES for it in module.ROWS)]
 BY_NAME = {it.id: it for it in TESTS}
 
 
-def play(kind: Type[Device], tests: Sequence[Case]) -> list[Result]:
-    """Runs tests beside a device of a kind, on as many links as they want."""
-    device = kind()
-    world = World(device, max(2, *(it.links for it in tests), 2))
-    b = Bench(world, world)
-    try:
-        meet(b)
-        results: list[Result] = []
-        run_all(b, ordered(tests), results.append)
-        return results
-    finally:
-        b.close()
-        device.stop()
+def found_by(kind: Type[Device], tests: Sequence[Case]) -> list[Result]:
+    """What tests find beside a device of a kind, on as many links as they want."""
+    return play(World(kind(), max(2, *(it.links for it in tests), 2)), tests)
 
 
 def told(results: Sequence[Result]) -> list[str]:
     return [f"{it.test.id} {it.verdict}: {it.why}" for it in results if it.verdict != PASS]
 
 
-class LongDevice(Device):
-    """A right device that asks for long timeouts."""
-
-    short = False
-
-
 def test_the_right_device_fails_nothing() -> None:
-    results = play(Device, [it for it in TESTS if not it.is_long or it.id in ("PT-07", "PT-08")])
+    results = found_by(Device, [it for it in TESTS if not it.is_long or it.id in ("PT-07", "PT-08")])
     assert not told(results)
 
 
 def test_a_right_device_of_long_timeouts_fails_nothing() -> None:
-    results = play(LongDevice, TESTS)
+    results = found_by(LongTimeouts, TESTS)
     assert not [it for it in told(results) if FAIL in it or INCONCLUSIVE in it]
 
 
@@ -74,5 +57,5 @@ def test_each_test_has_a_fault_that_it_finds() -> None:
 @pytest.mark.parametrize("kind", FAULTS, ids=[it.__name__ for it in FAULTS])
 def test_a_fault_is_found(kind: Type[Device]) -> None:
     wanted = kind.finds.split()
-    results = play(kind, [BY_NAME[it] for it in wanted])
+    results = found_by(kind, [BY_NAME[it] for it in wanted])
     assert {it.test.id: it.verdict for it in results} == dict.fromkeys((it.test.id for it in results), FAIL), told(results)

@@ -8,9 +8,8 @@ import subprocess
 from pathlib import Path
 
 import pytest
-from conform_device import Device, World
+from conform_device import Device, World, beside
 
-from lagconform.bench import Bench
 
 FOLDER = Path(__file__).parents[2] / "examples" / "conform"
 HOOKS = ["lagd", "bonding", "teamd", "openvswitch", "testpmd"]
@@ -78,13 +77,10 @@ def test_a_switch_gets_its_lines(name: str, words: str, lines: list[str], tmp_pa
 
 def test_the_flows_are_those_that_the_bench_counts() -> None:
     flow = runpy.run_path(str(FOLDER / "flows.py"))["flow"]
-    device = Device()
-    b = Bench(World(device))
-    for number in range(64):
-        octets = flow(number)
-        header = octets[14:34]
-        assert sum(int.from_bytes(header[at : at + 2], "big") for at in range(0, 20, 2)) % 0xFFFF == 0
-        b.log(1, 0.0, False, octets)
-    assert b.data(0, 1) == 64 and b.data(0, 2) == 0
-    b.close()
-    device.stop()
+    with beside(World(Device())) as b:
+        for number in range(64):
+            octets = flow(number)
+            header = octets[14:34]
+            assert sum(int.from_bytes(header[at : at + 2], "big") for at in range(0, 20, 2)) % 0xFFFF == 0
+            b.log(1, 0.0, False, octets)
+        assert b.data(0, 1) == 64 and b.data(0, 2) == 0

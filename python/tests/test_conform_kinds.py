@@ -5,21 +5,13 @@ from __future__ import annotations
 from typing import Iterable, Sequence, Type
 
 import pytest
-from conform_device import Device, World, is_lacpdu, put
+from conform_device import Device, Individual, LongTimeouts, World, is_lacpdu, play, put
 from conform_faults import set_bits
 from niwhopera import State
 
-from lagconform.bench import Bench
 from lagconform.groups import TESTS
 from lagconform.model import FAIL, INCONCLUSIVE, PASS, Result
 from lagconform.model import Test as Case
-from lagconform.runner import meet, ordered, run_all
-
-
-class LongTimeouts(Device):
-    """Asks for long timeouts."""
-
-    short = False
 
 
 class Passive(Device):
@@ -52,12 +44,6 @@ class PassiveOfLongTimeouts(Device):
     """Is passive, and asks for long timeouts."""
 
     active = short = False
-
-
-class Individual(Device):
-    """Its ports are individual."""
-
-    aggregatable = False
 
 
 class Independent(Device):
@@ -127,32 +113,23 @@ class Doubled(Device):
 KINDS = [LongTimeouts, Passive, SpokenTo, PassiveOfLongTimeouts, Individual, Independent, AtTicks, LongTicks, OneSource, SecondVersion, Doubled]
 
 
-def play(kind: Type[Device], tests: Sequence[Case], phase: float = 0.037) -> list[Result]:
-    """Runs tests beside a device of a kind, whose clock has a phase."""
+def found_by(kind: Type[Device], tests: Sequence[Case], phase: float = 0.037) -> list[Result]:
+    """What tests find beside a device of a kind, whose clock has a phase."""
     device = kind()
     device.due = phase
-    world = World(device)
-    b = Bench(world, world)
-    try:
-        meet(b)
-        results: list[Result] = []
-        run_all(b, ordered(tests), results.append)
-        return results
-    finally:
-        b.close()
-        device.stop()
+    return play(World(device), tests)
 
 
 @pytest.mark.parametrize("kind", KINDS, ids=[it.__name__ for it in KINDS])
 def test_a_right_device_of_another_kind_fails_nothing(kind: Type[Device]) -> None:
-    results = play(kind, [it for it in TESTS if it.id != "PT-07"])
+    results = found_by(kind, [it for it in TESTS if it.id != "PT-07"])
     assert not [f"{it.test.id} {it.verdict}: {it.why}" for it in results if it.verdict in (FAIL, INCONCLUSIVE)]
 
 
 @pytest.mark.parametrize("phase", [0.001, 0.02, 0.06, 0.099])
 def test_the_phase_of_the_clock_has_no_part(phase: float) -> None:
     for kind in Device, Independent:
-        results = play(kind, [it for it in TESTS if it.group in ("MX", "TX") and not it.is_long], phase)
+        results = found_by(kind, [it for it in TESTS if it.group in ("MX", "TX") and not it.is_long], phase)
         assert not [f"{it.test.id} {it.verdict}: {it.why}" for it in results if it.verdict in (FAIL, INCONCLUSIVE)]
 
 
@@ -196,14 +173,14 @@ SELECTION = ("SL-01", "SL-03", "SL-04", "SL-05", "SL-06", "SL-07", "SL-13")
     "kind, fails, open_ones", [(Bridge, [], ["SL-01"]), (JoinsKeys, ["SL-04", "SL-06", "SL-07", "SL-13"], ["SL-01"]), (NeverJoins, ["SL-01"], [])]
 )
 def test_broadcasts_tell_aggregators_apart(kind: Type[Device], fails: list[str], open_ones: list[str]) -> None:
-    results = play(kind, [it for it in TESTS if it.id in SELECTION])
+    results = found_by(kind, [it for it in TESTS if it.id in SELECTION])
     assert [it.test.id for it in results if it.verdict == FAIL] == fails, [f"{it.test.id} {it.verdict} {it.why}" for it in results]
     assert [it.test.id for it in results if it.verdict == INCONCLUSIVE] == open_ones
 
 
 def test_where_a_device_is_known_to_forward_broadcasts_two_links_are_seen_to_aggregate() -> None:
     tests = [BY_NAME["SL-03"], BY_NAME["SL-01"]]
-    assert [it.verdict for it in play(Bridge, tests)] == [PASS, PASS]
+    assert [it.verdict for it in found_by(Bridge, tests)] == [PASS, PASS]
 
 
 def test_what_forwards_nothing_has_no_answer() -> None:
@@ -211,6 +188,6 @@ def test_what_forwards_nothing_has_no_answer() -> None:
         def data(self, on: bool) -> None:
             raise NotImplementedError
 
-    found = {it.test.id: it for it in play(Host, [it for it in TESTS if it.id in ("SL-01", "SL-03")])}
+    found = {it.test.id: it for it in found_by(Host, [it for it in TESTS if it.id in ("SL-01", "SL-03")])}
     assert found["SL-01"].verdict == INCONCLUSIVE and "one aggregator, or two of a device that forwards none. Data of its client would show it" in found["SL-01"].why
     assert found["SL-03"].verdict == INCONCLUSIVE and "of 20 broadcasts into link 1, 0 come out of link 2: one aggregator, or a device that forwards none" in found["SL-03"].why

@@ -6,7 +6,7 @@ import xml.etree.ElementTree as xml
 from typing import Iterable, Iterator, Optional, Sequence, Type
 
 import pytest
-from conform_device import Device, World, is_lacpdu
+from conform_device import Device, World, beside, is_lacpdu
 from conform_faults import KeyUnchecked, LinkUnseen, set_bits
 
 from lagconform import command, junit, options, report
@@ -23,15 +23,10 @@ BY_NAME = {it.id: it for it in TESTS}
 
 def play(kind: Type[Device], *names: str, world: Type[World] = World, flaps: bool = False) -> list[Result]:
     """Runs tests beside a device; a hook is there."""
-    device = kind()
-    wire = world(device)
-    b = Bench(wire, wire, flaps=flaps)
-    try:
+    wire = world(kind())
+    with beside(wire, wire, flaps) as b:
         meet(b)
         return [run_one(b, BY_NAME[it]) for it in names]
-    finally:
-        b.close()
-        device.stop()
 
 
 class NoIndividual(Device):
@@ -145,14 +140,12 @@ def test_a_run_ends_where_an_interface_is_gone() -> None:
                 raise Gone("the interface link1 is gone")
             return super().wait(seconds)
 
-    device, results = KeyUnchecked(), list[Result]()
-    b = Bench(Leaves(device))
-    meet(b)
-    with pytest.raises(Gone, match="link1 is gone"):
-        run_all(b, [BY_NAME[it] for it in ("RX-07c", "FM-01", "FM-02", "FM-03", "FM-04")], results.append)
-    assert results[-1].verdict == INCONCLUSIVE and results[-1].why == "the interface link1 is gone" and len(results) < 5
-    b.close()
-    device.stop()
+    results = list[Result]()
+    with beside(Leaves(KeyUnchecked())) as b:
+        meet(b)
+        with pytest.raises(Gone, match="link1 is gone"):
+            run_all(b, [BY_NAME[it] for it in ("RX-07c", "FM-01", "FM-02", "FM-03", "FM-04")], results.append)
+        assert results[-1].verdict == INCONCLUSIVE and results[-1].why == "the interface link1 is gone" and len(results) < 5
 
 
 class Told(World):
@@ -180,15 +173,12 @@ class Told(World):
 
 @pytest.mark.parametrize("name, flaps, done", [("RX-13", True, "down up"), ("RX-13", False, "down 1 up 1"), ("RX-15", False, "stop start")])
 def test_an_end_within_a_test_leaves_the_device_as_it_was(name: str, flaps: bool, done: str) -> None:
-    device = Device()
-    world = Told(device)
-    b = Bench(world, world, flaps=flaps)
-    meet(b)
-    with pytest.raises(KeyboardInterrupt):
-        run_one(b, BY_NAME[name])
-    assert " ".join(world.done) == done
-    b.close()
-    device.stop()
+    world = Told(Device())
+    with beside(world, world, flaps=flaps) as b:
+        meet(b)
+        with pytest.raises(KeyboardInterrupt):
+            run_one(b, BY_NAME[name])
+        assert " ".join(world.done) == done
 
 
 class Endless:
@@ -207,22 +197,17 @@ class Endless:
 
 
 def test_a_hook_that_does_not_end_is_refused() -> None:
-    device, hook = Device(), Endless()
-    b = Bench(World(device), hook)
-    with pytest.raises(Refused, match="the hook did not end in 40 s: reset"):
-        command.prepare_device(options.reader().parse_args(["a", "--hook", "x"]), b)
-    assert hook.stopped and HOOK_SECONDS <= b.now() < HOOK_SECONDS + 1
-    b.close()
-    device.stop()
+    hook = Endless()
+    with beside(World(Device()), hook) as b:
+        with pytest.raises(Refused, match="the hook did not end in 40 s: reset"):
+            command.prepare_device(options.reader().parse_args(["a", "--hook", "x"]), b)
+        assert hook.stopped and HOOK_SECONDS <= b.now() < HOOK_SECONDS + 1
 
 
 def test_a_test_without_its_hook_leaves_nothing_for_the_shadow() -> None:
-    device = Device()
-    b = Bench(World(device))
-    meet(b)
-    assert run_one(b, BY_NAME["RX-15"]).verdict == SKIPPED and not b.events
-    b.close()
-    device.stop()
+    with beside(World(Device())) as b:
+        meet(b)
+        assert run_one(b, BY_NAME["RX-15"]).verdict == SKIPPED and not b.events
 
 
 def test_a_closed_bench_closes_its_links() -> None:
@@ -231,6 +216,7 @@ def test_a_closed_bench_closes_its_links() -> None:
     class Closes(World):
         def close(self) -> None:
             closed.append(True)
+            super().close()
 
     play(Device, world=Closes)
     assert closed == [True]

@@ -8,12 +8,14 @@ import re
 import shutil
 import subprocess
 import xml.etree.ElementTree as xml
+from contextlib import ExitStack
 from dataclasses import replace
 from pathlib import Path
+from textwrap import dedent, indent
 from typing import Iterable, Iterator, Type
 
 import pytest
-from conform_device import Device, World, put
+from conform_device import Device, World, beside, put
 from conform_faults import CutOff, KeyUnchecked, PartnerLength, RestartsOnChange, SecondPartnerKey, WrongEcho
 from conform_frames import OtherId, VersionChecked
 from conform_machines import NoNtt
@@ -30,23 +32,19 @@ LAST = f". {CAVEAT}\n"
 EXAMPLES = Path(__file__).parents[2] / "examples" / "conform"
 PAGE = Path(__file__).parents[2] / "docs" / "CONFORM.md"
 HEADER = Path(__file__).parents[2] / "crates" / "lagffi" / "include"
+needs_library = pytest.mark.skipif(not HEADER.exists() or not shutil.which("cc") or "NIWHOPERA_LIBRARY" not in os.environ, reason="no C compiler, or no library")
 
 
 @pytest.fixture
 def bench() -> Iterator[object]:
     """Makes benches beside devices."""
-    made: list[tuple[Bench, Device]] = []
+    with ExitStack() as made:
 
-    def make(kind: Type[Device]) -> Bench:
-        device = kind()
-        world = World(device)
-        made.append((Bench(world, world), device))
-        return made[-1][0]
+        def make(kind: Type[Device]) -> Bench:
+            world = World(kind())
+            return made.enter_context(beside(world, world))
 
-    yield make
-    for b, device in made:
-        b.close()
-        device.stop()
+        yield make
 
 
 class Loop(Device):
@@ -100,15 +98,12 @@ def test_a_fail_beside_the_traffic_of_others_stays_and_tells_of_it() -> None:
         def received(self, link: int) -> int:
             return int(self.clock * 20000)
 
-    device = KeyUnchecked()
-    world = Busy(device)
-    b = Bench(world, world)
-    meet(b)
-    fails, passes = (run_times(b, BY_NAME[it], None, 1) for it in ("RX-07c", "FM-01"))
-    assert fails.verdict == FAIL and "has to be at most 0.65 s. Beside it, link 1 (link1) is flooded: 20000 frames came a second" in fails.why
-    assert passes.verdict == PASS and not fails.stuck
-    b.close()
-    device.stop()
+    world = Busy(KeyUnchecked())
+    with beside(world, world) as b:
+        meet(b)
+        fails, passes = (run_times(b, BY_NAME[it], None, 1) for it in ("RX-07c", "FM-01"))
+        assert fails.verdict == FAIL and "has to be at most 0.65 s. Beside it, link 1 (link1) is flooded: 20000 frames came a second" in fails.why
+        assert passes.verdict == PASS and not fails.stuck
 
 
 def test_a_device_that_answers_all_of_a_storm_is_no_flood() -> None:
@@ -137,6 +132,18 @@ def run(monkeypatch: pytest.MonkeyPatch, tmp_path: Path) -> object:
     def play(kind: Type[Device], *words: str) -> int:
         (tmp_path / "device.py").write_text(f"from {kind.__module__} import {kind.__name__} as Device\n")
         monkeypatch.chdir(tmp_path)
+        return command.main(["--memory", "device.py", *words])
+
+    return play
+
+
+@pytest.fixture
+def stack(monkeypatch: pytest.MonkeyPatch, tmp_path: Path) -> object:
+    """Runs the command beside a stack in a file, whose class has these lines in the place of the right device's; its status."""
+    monkeypatch.chdir(tmp_path)
+
+    def play(lines: str, *words: str) -> int:
+        (tmp_path / "device.py").write_text("from conform_device import Device as Right\n\nclass Device(Right):\n" + indent(dedent(lines), "    "))
         return command.main(["--memory", "device.py", *words])
 
     return play
@@ -172,12 +179,10 @@ def test_a_late_bench_excuses_no_count_of_lacpdus(bench) -> None:  # type: ignor
     assert flooded.verdict == INCONCLUSIVE
 
 
-def test_status_junit_and_tap_agree_on_what_has_no_answer(tmp_path: Path, monkeypatch: pytest.MonkeyPatch, capsys: pytest.CaptureFixture[str]) -> None:
+def test_status_junit_and_tap_agree_on_what_has_no_answer(stack, tmp_path: Path) -> None:  # type: ignore[no-untyped-def]
     words = ["--only", "FM-01", "--only", "SL-06", "--junit", "r.xml", "--tap", "r.tap"]
-    (tmp_path / "device.py").write_text("from conform_device import Device as Right\n\nclass Device(Right):\n    def data(self, on):\n        raise NotImplementedError\n")
-    monkeypatch.chdir(tmp_path)
     for strict, status, tag, point in ((), 0, "skipped", "ok 2 - SL-06"), (("--strict",), 1, "errors", "not ok 2 - SL-06"):
-        assert command.main(["--memory", "device.py", *words, *strict]) == status
+        assert stack("def data(self, on):\n    raise NotImplementedError", *words, *strict) == status
         root = xml.parse(tmp_path / "r.xml").getroot()
         assert (root.get(tag), root.get("failures")) == ("1", "0")
         assert f"\n{point}" in (tmp_path / "r.tap").read_text()
@@ -303,28 +308,22 @@ def test_a_stack_that_is_none_is_refused(words: list[str], why: str, capsys: pyt
     assert command.main(["--memory", "empty.py"]) == 2 and "no class Device below lagconform.memory.Stack" in capsys.readouterr().err
 
 
-def test_a_stack_that_raises_fails_the_test_and_begins_again(tmp_path: Path, monkeypatch: pytest.MonkeyPatch, capsys: pytest.CaptureFixture[str]) -> None:
-    monkeypatch.chdir(tmp_path)
-    text = "from conform_device import Device as Right\n\nclass Device(Right):\n    def ticked(self):\n        if WHEN:\n            raise ValueError('no partner')\n"
-    (tmp_path / "device.py").write_text(text.replace("WHEN", "self.now > 0") + "\n    def take(self, port, frame):\n        pass\n")
-    assert command.main(["--memory", "device.py", "--only", "FM-*", "--json", "r.json"]) == 2
+def test_a_stack_that_raises_fails_the_test_and_begins_again(stack, tmp_path: Path, capsys: pytest.CaptureFixture[str]) -> None:  # type: ignore[no-untyped-def]
+    lines = "def ticked(self):\n    if {}:\n        raise ValueError('no partner')\n"
+    assert stack(lines.format("self.now > 0") + "def take(self, port, frame):\n    pass\n", "--only", "FM-*", "--json", "r.json") == 2
     said = capsys.readouterr().err
     assert "the stack broke by ValueError in tick: no partner" in said and "in ticked" in said
-    (tmp_path / "device.py").write_text(text.replace("WHEN", "8 < self.now < 8.2"))
-    assert command.main(["--memory", "device.py", "--only", "FM-*", "--json", "r.json", "--shadow", "--captures", "each"]) == 1
+    assert stack(lines.format("8 < self.now < 8.2"), "--only", "FM-*", "--json", "r.json", "--shadow", "--captures", "each") == 1
     told = json.loads((tmp_path / "r.json").read_text())
     (failed,) = [it for it in told["tests"] if it["verdict"] == "fail"]
     assert told["counts"]["pass"] == 8 and failed["why"] == "the stack broke by ValueError in tick: no partner; has to go on"
     assert "in ticked" in failed["notes"][-1] and told["about"]["the stack broke"] == f"and was started again 1 time, in {failed['id']}"
 
 
-def test_a_stack_that_breaks_too_often_ends_its_run(tmp_path: Path, monkeypatch: pytest.MonkeyPatch, capsys: pytest.CaptureFixture[str]) -> None:
-    monkeypatch.chdir(tmp_path)
+def test_a_stack_that_breaks_too_often_ends_its_run(stack, tmp_path: Path, monkeypatch: pytest.MonkeyPatch, capsys: pytest.CaptureFixture[str]) -> None:  # type: ignore[no-untyped-def]
     monkeypatch.setattr(memory, "MOST_STARTS", 2)
-    lines = "class Device(Right):\n    def hears(self, port, frame):\n        assert frame[17] == 20\n        return super().hears(port, frame)\n"
-    (tmp_path / "device.py").write_text(f"from conform_device import Device as Right\n\n{lines}")
-    words = ["--memory", "device.py", *(f"--only={it}" for it in ("FM-01", "VN-11", "VN-12", "VN-14", "MK-*")), "--junit", "r.xml", "--repeat", "2"]
-    assert command.main(words) == 2
+    words = [*(f"--only={it}" for it in ("FM-01", "VN-11", "VN-12", "VN-14", "MK-*")), "--junit", "r.xml", "--repeat", "2"]
+    assert stack("def hears(self, port, frame):\n    assert frame[17] == 20\n    return super().hears(port, frame)\n", *words) == 2
     said = capsys.readouterr()
     assert "the stack broke 3 times, and is not started again; the last time in" in said.err and "the reports have what was run" in said.err
     suites = xml.parse(tmp_path / "r.xml").getroot()
@@ -359,7 +358,7 @@ def test_the_first_fail_is_as_the_page_has_it(tmp_path: Path, monkeypatch: pytes
     assert len(blocks) == 1 + len(numbers) and (tmp_path / "out" / "many.html").read_text().count('class="a bad"') >= len(numbers)
 
 
-@pytest.mark.skipif(not HEADER.exists() or not shutil.which("cc") or "NIWHOPERA_LIBRARY" not in os.environ, reason="no C compiler, or no library")
+@needs_library
 def test_the_example_in_c_passes_all(tmp_path: Path, capsys: pytest.CaptureFixture[str]) -> None:
     made = str(tmp_path / "device.so")
     line = ["cc", "-Wall", "-Wextra", "-Wconversion", "-Werror", "-shared", "-fPIC", f"-I{HEADER}", "-o", made, str(EXAMPLES / "device.c")]
@@ -376,14 +375,11 @@ def test_a_fail_that_the_profile_does_not_carry_has_a_mark(run, tmp_path: Path, 
     assert "  basis: two devices\n" in (tmp_path / "r.tap").read_text()
 
 
-def test_what_a_stack_can_not_do_is_told_as_such(tmp_path: Path, monkeypatch: pytest.MonkeyPatch, capsys: pytest.CaptureFixture[str]) -> None:
-    monkeypatch.chdir(tmp_path)
-    lacks = "class Device(Right):\n    def link(self, port, up):\n        raise NotImplementedError\n"
-    (tmp_path / "device.py").write_text(f"from conform_device import Device as Right\n\n{lacks}")
-    assert command.main(["--memory", "device.py", "--only", "RX-13", "--only", "FM-01"]) == 0
+def test_what_a_stack_can_not_do_is_told_as_such(stack, capsys: pytest.CaptureFixture[str]) -> None:  # type: ignore[no-untyped-def]
+    lacks = "def link(self, port, up):\n    raise NotImplementedError\n"
+    assert stack(lacks, "--only", "RX-13", "--only", "FM-01") == 0
     assert "the stack does not do: down 1: it has no function `link`\n" in capsys.readouterr().out
-    (tmp_path / "device.py").write_text(f"from conform_device import Device as Right\n\n{lacks}    def may_send(self):\n        return False\n")
-    assert command.main(["--memory", "device.py"]) == 2
+    assert stack(f"{lacks}def may_send(self):\n    return False\n") == 2
     said = capsys.readouterr().err
     assert "no LACPDU came in 35 s on link1, link2, link3. The usual causes: the stack does not call send" in said and "cable" not in said
 
@@ -398,26 +394,21 @@ def test_what_is_looked_past_is_that_one_parameter(bench) -> None:  # type: igno
     assert partner.is_named_by(pdu) and not partner.is_named_by(replace(pdu, partner=replace(pdu.partner, key=7)))
 
 
-HANGS = """from conform_device import Device as Right
-
-class Device(Right):
-    def {name}(self, *words):
-        while {when}:
-            try:
-                pass
-            except Exception:
-                pass
-        super().{name}(*words)
+HANGS = """def {name}(self, *words):
+    while {when}:
+        try:
+            pass
+        except Exception:
+            pass
+    super().{name}(*words)
 """
 
 
 @pytest.mark.parametrize("name, when, why", [("tick", "self.now > 40", "in tick"), ("take", "self.now > 40", "in take"), ("start", "True", "in start")])
-def test_a_stack_in_python_that_goes_on_to_hang_ends_its_run(name: str, when: str, why: str, tmp_path: Path, capsys: pytest.CaptureFixture[str], monkeypatch: pytest.MonkeyPatch) -> None:
+def test_a_stack_in_python_that_goes_on_to_hang_ends_its_run(stack, name: str, when: str, why: str, tmp_path: Path, capsys: pytest.CaptureFixture[str], monkeypatch: pytest.MonkeyPatch) -> None:  # type: ignore[no-untyped-def]
     monkeypatch.setattr(child, "CALL_SECONDS", 0.5)
     monkeypatch.setattr(memory, "MOST_STARTS", 1)
-    monkeypatch.chdir(tmp_path)
-    (tmp_path / "device.py").write_text(HANGS.format(name=name, when=when))
-    assert command.main(["--memory", "device.py", "--only", "FM-*", "--only", "RX-*", "--junit", "r.xml", "--tap", "r.tap"]) == 2
+    assert stack(HANGS.format(name=name, when=when), "--only", "FM-*", "--only", "RX-*", "--junit", "r.xml", "--tap", "r.tap") == 2
     said = capsys.readouterr()
     assert f"the stack hangs {why}: no return in 0.5 s" in said.err
     assert name == "start" or f"the stack hangs {why}: no return in 0.5 s; has to go on" in said.out
@@ -434,7 +425,7 @@ def test_a_stack_that_breaks_where_it_is_loaded_is_refused(tmp_path: Path, capsy
         assert f"{path} breaks where it is loaded, by {why}" in capsys.readouterr().err
 
 
-@pytest.mark.skipif(not HEADER.exists() or not shutil.which("cc") or "NIWHOPERA_LIBRARY" not in os.environ, reason="no C compiler, or no library")
+@needs_library
 @pytest.mark.parametrize(
     "fault, why",
     [
@@ -464,7 +455,7 @@ def broken(folder: Path, line: str, other: str) -> str:
     return made
 
 
-@pytest.mark.skipif(not HEADER.exists() or not shutil.which("cc") or "NIWHOPERA_LIBRARY" not in os.environ, reason="no C compiler, or no library")
+@needs_library
 def test_a_library_that_crashes_on_a_runt_fails_the_tests_that_send_one(tmp_path: Path, monkeypatch: pytest.MonkeyPatch) -> None:
     monkeypatch.chdir(tmp_path)
     begin = "    uint8_t response[NIW_FRAME];\n"

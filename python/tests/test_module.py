@@ -225,15 +225,6 @@ def test_a_held_frame_raises_held() -> None:
         assert none.value.status is Status.NO_AGGREGATOR
 
 
-def test_a_limit_of_links_leaves_a_port_standby() -> None:
-    with System(dataclasses.replace(CONFIG, aggregators=(7,), max_links=1)) as system:
-        for port in (3, 5):
-            system.set_link(port, True)
-            system.receive(port, lacpdu(OTHER, Side(4096, OTHER, 19, 21, port, ALL_STATES), Side(32768, OWN, 7, 11, port, ALL_STATES)))
-        assert system.choice(3) == 1 and not system.is_standby(3) and system.wait_while(3) == 20
-        assert system.is_standby(5) and system.port_status(5) is PortStatus.STANDBY
-
-
 def test_every_export_of_the_module_is_documented() -> None:
     for name in niwhopera.__all__:
         thing = getattr(niwhopera, name)

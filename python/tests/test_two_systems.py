@@ -1,4 +1,4 @@
-"""Worked runs of two systems: each entry with its reply."""
+"""What the module shows of two systems that came up. Whole runs of two systems are those of crates/tests_world."""
 
 from __future__ import annotations
 
@@ -6,8 +6,6 @@ from typing import Iterator
 
 import pytest
 from niwhopera import (
-    Answers,
-    Assignment,
     BadConfig,
     ConversationState,
     Held,
@@ -18,7 +16,6 @@ from niwhopera import (
     Reason,
     ReceivedKind,
     SavedPort,
-    SentKind,
     State,
     Status,
     System,
@@ -37,56 +34,6 @@ tick 1 20 -> ticked; tick 2 20 -> ticked
 emit 1 1 -> lacpdu 0d sent; emit 1 2 -> lacpdu 0d sent; deliver 1 2 -> took; deliver 2 2 -> took
 emit 2 1 -> lacpdu 3d sent; emit 2 2 -> lacpdu 3d sent; deliver 1 1 -> took; deliver 2 1 -> took
 """
-# A conversation moves behind a marker: its frames are held until the response came, and stay in order.
-MOVES = f"""
-offer 1 1 {F} -> port 1 serial 0 sent; offer 1 1 {F} -> port 1 serial 1 sent; offer 1 1 {F} -> port 1 serial 2 sent
-move 1 1 48 2 -> moved; offer 1 1 {F} -> refused 5 held; emit 1 1 -> lacpdu 3d sent; emit 1 1 -> marker 1 sent
-deliver 1 2 -> up 1; deliver 1 2 -> up 1; deliver 1 2 -> up 1; deliver 1 2 -> took; deliver 1 2 -> responded sent
-offer 1 1 {F} -> refused 5 held; deliver 1 1 -> released 1; offer 1 1 {F} -> port 2 serial 3 sent; deliver 2 2 -> up 1
-"""
-# No response comes for 30 ticks: a second marker goes, and the response to the first one releases nothing.
-MARKER_AGAIN = f"""
-offer 1 1 {F} -> port 1 serial 0 sent; move 1 1 48 2 -> moved; emit 1 1 -> lacpdu 3d sent; emit 1 1 -> marker 1 sent
-tick 1 30 -> ticked; emit 1 1 -> marker 2 sent; deliver 1 2 -> up 1; deliver 1 2 -> took; deliver 1 2 -> responded sent
-deliver 1 1 -> released 0; offer 1 1 {F} -> refused 5 held; deliver 1 2 -> responded sent; repeat 1 1 -> released 1
-deliver 1 1 -> released 0; offer 1 1 {F} -> port 2 serial 1 sent; deliver 2 2 -> up 1
-"""
-# A cable is cut and the ends are told: the conversation is free, and goes on the other port.
-CUT = f"""
-offer 1 1 {F} -> port 1 serial 0 sent; cut 1 -> cut; offer 1 1 {F} -> port 1 serial 1 lost; sense 1 1 -> down
-offer 1 1 {F} -> port 2 serial 2 sent; deliver 2 2 -> up 1
-"""
-# A conversation is forced: its frames overtake one another.
-FORCED = f"""
-offer 1 1 {F} -> port 1 serial 0 sent; move 1 1 48 2 -> moved; force 1 1 48 -> forced
-offer 1 1 {F} -> port 2 serial 1 sent; deliver 2 2 -> up 1; deliver 1 2 -> up 1
-"""
-# A system restarts: its links are down, and it has forgotten its partner.
-RESTARTS = f"""
-offer 1 1 {F} -> port 1 serial 0 sent; restart 1 -> restarted; deliver 1 2 -> empty
-offer 1 1 {F} -> refused 6 none-distributing
-offer 2 1 0200000000100200000000200800 -> port 1 serial 0 sent; deliver 1 1 -> disabled
-"""
-# One port each, with short timeouts, from the first LACPDU until both distribute.
-ONE_PORT = """
-sense 1 1 -> up; sense 1 2 -> up; tick 1 10 -> ticked; tick 2 10 -> ticked; emit 1 1 -> lacpdu c7 sent; deliver 1 2 -> took
-emit 2 1 -> lacpdu 07 sent; deliver 1 1 -> took; tick 1 10 -> ticked; tick 2 10 -> ticked; emit 1 1 -> lacpdu 07 sent
-deliver 1 2 -> took; tick 1 10 -> ticked; tick 2 10 -> ticked; emit 1 1 -> lacpdu 0f sent; deliver 1 2 -> took
-emit 2 1 -> lacpdu 3f sent; deliver 1 1 -> took; emit 1 1 -> lacpdu 3f sent; deliver 1 2 -> took
-"""
-# A port that hears nobody goes on defaults, and distributes alone.
-ALONE = f"""
-sense 1 1 -> up; tick 1 9 -> ticked; emit 1 1 -> nothing; tick 1 1 -> ticked; emit 1 1 -> lacpdu c7 sent; tick 1 20 -> ticked
-emit 1 1 -> lacpdu 47 sent; tick 1 19 -> ticked; offer 1 1 {F} -> refused 6 none-distributing; tick 1 1 -> ticked
-offer 1 1 {F} -> port 1 serial 0 sent; emit 1 1 -> lacpdu 7f sent
-"""
-# Individual links: a key that changes takes the port out, and its conversation is held, while another one goes on the next port.
-INDIVIDUAL = f"""
-sense 1 1 -> up; sense 2 1 -> up; tick 1 50 -> ticked; offer 1 1 {F} -> port 1 serial 0 sent
-configure 1 1 2 128 individual -> configured; offer 1 1 {F} -> refused 5 held
-offer 1 1 0200000000210200000000100800 -> refused 6 none-distributing; tick 1 20 -> ticked
-offer 1 1 0200000000210200000000100800 -> port 2 serial 0 sent
-"""
 
 
 def play(world: TwoSystems, entries: str) -> None:
@@ -100,7 +47,7 @@ def play(world: TwoSystems, entries: str) -> None:
 @pytest.fixture
 def world() -> Iterator[TwoSystems]:
     """Two systems of two ports that came up."""
-    made = TwoSystems(config(1), config(2))
+    made = TwoSystems()
     play(made, COMES_UP)
     yield made
     made.close()
@@ -115,23 +62,8 @@ def test_two_systems_come_up_in_thirty_ticks(world: TwoSystems) -> None:
     assert str(world.systems[1].partner(2)) == "32768/02-00-00-00-00-02 key 1 port 128/2 state 3d"
 
 
-@pytest.mark.parametrize(
-    "entries, sent, collected",
-    [(MOVES, 4, [0, 1, 2, 3]), (MARKER_AGAIN, 2, [0, 1]), (CUT, 3, [2]), (FORCED, 2, [1, 0])],
-)
-def test_a_conversation(world: TwoSystems, entries: str, sent: int, collected: list[int]) -> None:
-    play(world, entries)
-    assert world.flows == {(1, 1, 48): (sent, collected)}
-
-
-def test_a_system_restarts(world: TwoSystems) -> None:
-    play(world, RESTARTS)
-    assert world.flows == {(1, 1, 48): (1, []), (2, 1, 48): (1, [])}
-    assert world.systems[1].port_status(1) is PortStatus.LINK_DOWN
-
-
 def test_what_a_moving_conversation_shows(world: TwoSystems) -> None:
-    play(world, f"offer 1 1 {F} -> port 1 serial 0 sent; move 1 1 48 2 -> moved")
+    play(world, f"offer 1 1 {F} -> port 1 sent; move 1 1 48 2 -> moved")
     wanted = world.systems[1].conversation_state(1, 48)
     assert (wanted.state, wanted.port, wanted.preferred, wanted.marker) == (ConversationState.WANTED, 1, 2, None)
     play(world, "emit 1 1 -> lacpdu 3d sent; emit 1 1 -> marker 1 sent; tick 1 7 -> ticked")
@@ -140,43 +72,6 @@ def test_what_a_moving_conversation_shows(world: TwoSystems) -> None:
     assert world.systems[1].load(1) == 1 and world.systems[1].next_marker() == 2
     assert world.systems[1].force_port(1) == 1
     assert world.systems[1].conversation_state(1, 48).state is ConversationState.FREE
-
-
-def test_conversations_go_by_their_numbers(world: TwoSystems) -> None:
-    system = world.systems[1]
-    assert (system.offer_conversation(1, 6), system.offer_conversation(1, 9)) == (1, 2)
-    ports = system.conversation_ports(1)
-    assert len(ports) == 256 and {place: port for place, port in enumerate(ports) if port} == {6: 1, 9: 2}
-    busy, freed = system.released(1)
-    assert (busy, freed) == ({6, 9}, frozenset())
-    system.leave_conversation(1, 9)
-    with pytest.raises(Held):
-        system.rest(1, 9)
-    assert (system.held(2), system.held(1), system.load(1)) == (1, 0, 1)
-    assert system.conversation_ports(1)[9] is None and system.released(1, busy) == (busy, frozenset())
-    play(world, "emit 1 2 -> lacpdu 3d sent; emit 1 2 -> marker 1 sent")
-    play(world, "deliver 2 2 -> took; deliver 2 2 -> responded sent; deliver 2 1 -> released 1")
-    assert system.released(1, busy) == ({6}, {9})
-    system.rest(1, 6)
-    assert system.conversation_state(1, 6) == Assignment(ConversationState.FREE) and system.released(1, {6}) == (frozenset(), {6})
-    for call in system.leave_conversation, system.rest:
-        with pytest.raises(LagError) as told:
-            call(1, 6)
-        assert told.value.status is Status.NOT_ASSIGNED
-
-
-def test_a_marker_asks_whether_the_peer_answers(world: TwoSystems) -> None:
-    assert world.systems[1].answers(1) is Answers.NEVER_ASKED
-    sent = world.systems[1].probe(1)
-    assert sent is not None and sent.kind is SentKind.MARKER and world.systems[1].next_marker() == 2
-    assert world.systems[1].answers(1) is Answers.ASKED
-    asked = world.systems[2].receive(1, sent.frame)
-    assert asked.kind is ReceivedKind.RESPOND and asked.response is not None
-    answered = world.systems[1].receive(1, asked.response)
-    assert (answered.kind, answered.released) == (ReceivedKind.RELEASED, 0)
-    assert (world.systems[1].answers(1), world.systems[1].answers(2)) == (Answers.ANSWERED, Answers.NEVER_ASKED)
-    world.systems[1].set_link(1, False)
-    assert world.systems[1].probe(1) is None and world.systems[1].answers(1) is Answers.NEVER_ASKED
 
 
 def test_a_warm_start_tells_its_peer_nothing_new(world: TwoSystems) -> None:
@@ -253,13 +148,3 @@ def test_a_warm_start_is_refused(world: TwoSystems) -> None:
         assert (told.value.status, told.value.port) == (why, 2)
     with pytest.raises(ValueError):
         SavedPort(1, 0, one.frame[:100])
-
-
-@pytest.mark.parametrize(
-    "entries, aggregatable, ports",
-    [(ONE_PORT, True, 1), (ALONE, True, 1), (INDIVIDUAL, False, 2)],
-)
-def test_a_start(entries: str, aggregatable: bool, ports: int) -> None:
-    made = TwoSystems(config(1, ports, True, aggregatable), config(2, ports, True))
-    play(made, entries)
-    made.close()

@@ -114,25 +114,22 @@ def queues_kept(programs: Programs) -> None:
             inside(OURS, "sh", "-c", "echo 2 >/sys/class/net/a0/queues/tx-1/xps_cpus; echo 3 >/sys/class/net/a0/queues/rx-2/rps_cpus")
             before = settings_of(OURS, "a0")
             ours = End(programs, OURS, options=[*way, *ALL])
-            try:
-                check(within(FOLLOWS, lambda: ours.told()["ports"][0]["data"]["queues"] == QUEUES), f"{name}: a member has its queues", ours.printed())
-                check(settings_of(OURS, "a0") != before, f"{name}: RPS and XPS are changed", before)
-                check(ask_gro(OURS, "a0") == bool(way), f"{name}: GRO is {'on' if way else 'off'}", ours.printed())
-                ours.process.send_signal(signal.SIGKILL)
-                ours.process.wait()
-                ours = End(programs, OURS, options=[*way, *ALL])
-                ours.ends("the daemon")
-                check(settings_of(OURS, "a0") == before and ask_gro(OURS, "a0"), f"{name}: they are as they were", before, settings_of(OURS, "a0"))
-                ours = End(programs, OURS, options=[*way, "--queues", "one"])
-                one = lambda: setting(OURS, "a0", "tx-1/xps_cpus") == ""
-                check(within(FOLLOWS, one), f"{name}: one queue is left", ours.printed())
-                ours.process.send_signal(signal.SIGKILL)
-                ours.process.wait()
-                ours = End(programs, OURS, options=[*way, *ALL])
-                check(within(FOLLOWS, lambda: not one()), f"{name}: the next daemon gives all back", ours.printed())
-                check("gets one queue" not in ours.printed(), f"{name}: and keeps them", ours.printed())
-            finally:
-                ours.stop()
+            check(within(FOLLOWS, lambda: ours.told()["ports"][0]["data"]["queues"] == QUEUES), f"{name}: a member has its queues", ours.printed())
+            check(settings_of(OURS, "a0") != before, f"{name}: RPS and XPS are changed", before)
+            check(ask_gro(OURS, "a0") == bool(way), f"{name}: GRO is {'on' if way else 'off'}", ours.printed())
+            ours.process.send_signal(signal.SIGKILL)
+            ours.process.wait()
+            ours = End(programs, OURS, options=[*way, *ALL])
+            ours.ends("the daemon")
+            check(settings_of(OURS, "a0") == before and ask_gro(OURS, "a0"), f"{name}: they are as they were", before, settings_of(OURS, "a0"))
+            ours = End(programs, OURS, options=[*way, "--queues", "one"])
+            one = lambda: setting(OURS, "a0", "tx-1/xps_cpus") == ""
+            check(within(FOLLOWS, one), f"{name}: one queue is left", ours.printed())
+            ours.process.send_signal(signal.SIGKILL)
+            ours.process.wait()
+            ours = End(programs, OURS, options=[*way, *ALL])
+            check(within(FOLLOWS, lambda: not one()), f"{name}: the next daemon gives all back", ours.printed())
+            check("gets one queue" not in ours.printed(), f"{name}: and keeps them", ours.printed())
 
 
 def queues_restarted(programs: Programs) -> None:
@@ -176,21 +173,17 @@ def queues_unlike(programs: Programs) -> None:
             if inside(OURS, "tc", "qdisc", "add", "dev", "a0", "root", "handle", "6c61:", "mq").returncode:
                 raise Skipped("tc gives no queue a discipline of its own")
             ours, theirs = (End(programs, space, program=program, options=[*way, *ALL]) for space in (OURS, THEIRS))
-            try:
-                ready = lambda: all(end.links() == 2 and end.carry()["markers"] == "answered" for end in (ours, theirs))
-                check(within(COMES_UP, ready), "two links carry", ours.text(), ours.printed())
-                for queue in range(1, QUEUES):
-                    words = ("parent", f"6c61:{queue + 1}", "tbf", "rate", f"{1000 + 300 * queue}kbit", "burst", "2000", "limit", "20000")
-                    if inside(OURS, "tc", "qdisc", "replace", "dev", "a0", *words).returncode:
-                        raise Skipped("tc slows no queue (tbf)")
-                outcome = run_flows(programs, SECONDS, every(0.5, SECONDS - 1, move_all(ours)), rate=RATE // 2)
-                if not program:
-                    check_order(outcome, f"{name_of(way)}, slow queues", ours.text())
-                else:
-                    check(outcome.overtaken > 0, f"moves that are forced turn {outcome.overtaken} frames round", outcome)
-            finally:
-                ours.stop()
-                theirs.stop()
+            ready = lambda: all(end.links() == 2 and end.carry()["markers"] == "answered" for end in (ours, theirs))
+            check(within(COMES_UP, ready), "two links carry", ours.text(), ours.printed())
+            for queue in range(1, QUEUES):
+                words = ("parent", f"6c61:{queue + 1}", "tbf", "rate", f"{1000 + 300 * queue}kbit", "burst", "2000", "limit", "20000")
+                if inside(OURS, "tc", "qdisc", "replace", "dev", "a0", *words).returncode:
+                    raise Skipped("tc slows no queue (tbf)")
+            outcome = run_flows(programs, SECONDS, every(0.5, SECONDS - 1, move_all(ours)), rate=RATE // 2)
+            if not program:
+                check_order(outcome, f"{name_of(way)}, slow queues", ours.text())
+            else:
+                check(outcome.overtaken > 0, f"moves that are forced turn {outcome.overtaken} frames round", outcome)
 
 
 def channels(count: int, name: str = "a0") -> None:
@@ -277,11 +270,8 @@ def queues_refused(programs: Programs) -> None:
         sealed = ("sh", "-c", 'mount -o remount,bind,ro /sys && exec "$@"', "sh")
         channels(QUEUES)
         ours = End(programs, OURS, names=("a0",), options=ALL, before=sealed)
-        try:
-            line = "a0: it gets one queue: RPS or XPS of its queues cannot be set"
-            check(within(FOLLOWS, lambda: line in ours.printed()), "where /sys is read-only it gets one", ours.printed())
-        finally:
-            ours.stop()
+        line = "a0: it gets one queue: RPS or XPS of its queues cannot be set"
+        check(within(FOLLOWS, lambda: line in ours.printed()), "where /sys is read-only it gets one", ours.printed())
 
 
 def queues_disciplines(programs: Programs) -> None:
@@ -293,14 +283,11 @@ def queues_disciplines(programs: Programs) -> None:
         shown = lambda: inside(OURS, "tc", "qdisc", "show", "dev", "q0").stdout
         before = shown()
         ours = End(programs, OURS, names=("q0",), options=ALL)
-        try:
-            given = lambda: "qdisc mq 6c61: root" in shown() and shown().count("qdisc bfifo") == QUEUES
-            check(within(FOLLOWS, given), "each queue has a discipline that keeps the order", shown(), ours.printed())
-            check("gets one queue" not in ours.printed(), "the member keeps its queues", ours.printed())
-            ours.ends("the daemon")
-            check(shown() == before, "the former disciplines are back", before, shown())
-        finally:
-            ours.stop()
+        given = lambda: "qdisc mq 6c61: root" in shown() and shown().count("qdisc bfifo") == QUEUES
+        check(within(FOLLOWS, given), "each queue has a discipline that keeps the order", shown(), ours.printed())
+        check("gets one queue" not in ours.printed(), "the member keeps its queues", ours.printed())
+        ours.ends("the daemon")
+        check(shown() == before, "the former disciplines are back", before, shown())
 
 
 @contextlib.contextmanager
@@ -310,13 +297,9 @@ def given_queues(programs: Programs, way: tuple[str, ...] = ()) -> Iterator[tupl
         if inside(OURS, "tc", "qdisc", "add", "dev", "a0", "root", "handle", "6c61:", "mq").returncode:
             raise Skipped("tc gives no queue a discipline of its own")
         ours, theirs = (End(programs, space, options=[*way, *ALL]) for space in (OURS, THEIRS))
-        try:
-            ready = lambda: all(end.links() == 2 and end.carry()["markers"] == "answered" for end in (ours, theirs))
-            check(within(COMES_UP, ready), "two links carry", ours.text(), ours.printed())
-            yield ours, theirs
-        finally:
-            ours.stop()
-            theirs.stop()
+        ready = lambda: all(end.links() == 2 and end.carry()["markers"] == "answered" for end in (ours, theirs))
+        check(within(COMES_UP, ready), "two links carry", ours.text(), ours.printed())
+        yield ours, theirs
 
 
 def give_classes(parent: str, handle: str) -> None:
@@ -393,21 +376,18 @@ def queues_back(programs: Programs) -> None:
                 inside(OURS, "sh", "-c", f"cd /sys/class/net/a0/queues; echo 2 >tx-{queue}/xps_cpus; echo 3 >rx-{queue}/rps_cpus")
             before = settings_of(OURS, "a0")
             ours = End(programs, OURS, options=ALL)
-            try:
-                used = lambda: ours.told()["ports"][0]["data"]["queues"]
-                check(within(FOLLOWS, lambda: used() == QUEUES and settings_of(OURS, "a0") != before), f"{name}: RPS and XPS are changed", before)
-                for event in events:
-                    event()
-                    time.sleep(2)
-                check(within(COMES_BACK, lambda: used() == queues), f"{name}: {queues} queues are used", used(), ours.printed())
-                if killed:
-                    ours.process.send_signal(signal.SIGKILL)
-                    ours.process.wait()
-                    ours = End(programs, OURS, options=ALL)
-                ours.ends("the daemon")
-                check(settings_of(OURS, "a0") == before, f"{name}: they are as they were", before, settings_of(OURS, "a0"), ours.printed())
-            finally:
-                ours.stop()
+            used = lambda: ours.told()["ports"][0]["data"]["queues"]
+            check(within(FOLLOWS, lambda: used() == QUEUES and settings_of(OURS, "a0") != before), f"{name}: RPS and XPS are changed", before)
+            for event in events:
+                event()
+                time.sleep(2)
+            check(within(COMES_BACK, lambda: used() == queues), f"{name}: {queues} queues are used", used(), ours.printed())
+            if killed:
+                ours.process.send_signal(signal.SIGKILL)
+                ours.process.wait()
+                ours = End(programs, OURS, options=ALL)
+            ours.ends("the daemon")
+            check(settings_of(OURS, "a0") == before, f"{name}: they are as they were", before, settings_of(OURS, "a0"), ours.printed())
 
 
 def queues_steady(programs: Programs) -> None:
@@ -415,19 +395,16 @@ def queues_steady(programs: Programs) -> None:
     with cables(programs, (), QUEUES):
         set_discipline(*SLOW_ROW)
         ours = End(programs, OURS, options=ALL)
-        try:
-            changes = lambda: inside(OURS, "cat", "/sys/class/net/a0/carrier_changes").stdout
-            check(within(FOLLOWS, lambda: "a0: it gets one queue" in ours.printed()), "a member gets one queue", ours.printed())
-            time.sleep(1)
-            before = changes()
-            for by in signal.SIGUSR1, signal.SIGKILL:
-                ours.process.send_signal(by)
-                ours.process.wait()
-                ours = End(programs, OURS, options=ALL)
-                check(within(FOLLOWS, lambda: "a0: it gets one queue" in ours.printed()), f"{by.name}: the next daemon leaves it one", ours.printed())
-                check(changes() == before, f"{by.name}: the link stays up", before, changes())
-        finally:
-            ours.stop()
+        changes = lambda: inside(OURS, "cat", "/sys/class/net/a0/carrier_changes").stdout
+        check(within(FOLLOWS, lambda: "a0: it gets one queue" in ours.printed()), "a member gets one queue", ours.printed())
+        time.sleep(1)
+        before = changes()
+        for by in signal.SIGUSR1, signal.SIGKILL:
+            ours.process.send_signal(by)
+            ours.process.wait()
+            ours = End(programs, OURS, options=ALL)
+            check(within(FOLLOWS, lambda: "a0: it gets one queue" in ours.printed()), f"{by.name}: the next daemon leaves it one", ours.printed())
+            check(changes() == before, f"{by.name}: the link stays up", before, changes())
 
 
 def queues_fewer(programs: Programs) -> None:

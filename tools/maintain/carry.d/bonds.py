@@ -19,7 +19,7 @@ from checking import Failed, Skipped, check, command, within
 from daemon import OTHER, SYSTEM, Daemon
 from lateness import since, waited
 from linking import DAEMON, STRICT, build, build_daemon, sources_of
-from repository import CACHE, MAINTAIN, TOP, WARNINGS
+from repository import CACHE, MAINTAIN, WARNINGS
 from spaces import OURS, THEIRS, inside, ip, within_space
 
 MIDDLE = f"lag-middle-{os.getpid()}"
@@ -150,6 +150,7 @@ class End(Daemon):
         given = ["--carry", DEVICE, "--flight", str(FLIGHT), *options]
         super().__init__(program or programs.daemon, programs.folder, space, SYSTEM if ours else OTHER, "23" if ours else "5", *names,
                          options=given, before=before, files=files)
+        started.append(self)
         if not within(COMES_UP, lambda: inside(space, "ip", "link", "show", DEVICE).returncode == 0):
             raise Failed(f"there is a device {DEVICE}", self.printed())
         if self.sets_up:
@@ -187,6 +188,10 @@ class End(Daemon):
         if self.process.poll() is None:
             self.process.kill()
         self.process.wait()
+
+
+# The ends that were started at the cables that are laid.
+started: list[End] = []
 
 
 def kernel_count(space: str, device: str, name: str) -> int:
@@ -257,12 +262,14 @@ class Cables:
 
 @contextlib.contextmanager
 def cables(programs: Programs, delays: Sequence[int] = DELAYS, queues: int = 1) -> Iterator[Cables]:
-    """The cables of a part; all is gone behind it."""
+    """The cables of a part; all is gone behind it, its ends first."""
     laid = None
     try:
         laid = Cables(programs, delays, queues)
         yield laid
     finally:
+        while started:
+            started.pop().stop()
         if laid:
             laid.drop()
         for space in (OURS, THEIRS, MIDDLE):
@@ -276,17 +283,12 @@ def pair(programs: Programs, *, delays: Sequence[int] = DELAYS, program: str = "
          before: Sequence[str] = (), queues: int = 1) -> Iterator[tuple[Cables, End, End]]:
     """Two ends whose links all carry, and who know that the other one answers markers."""
     with cables(programs, delays, queues) as laid:
-        ends: list[End] = []
-        try:
-            count = len(laid.delays) or DIRECT
-            ends += [End(programs, space, program=program, options=options, links=count, before=before) for space in (OURS, THEIRS)]
-            ready = lambda: all(end.links() == count and end.carry()["markers"] == "answered" for end in ends)
-            if not within(COMES_UP, ready):
-                raise Failed(f"{count} links carry", *(end.text() for end in ends))
-            yield laid, ends[0], ends[1]
-        finally:
-            for end in ends:
-                end.stop()
+        count = len(laid.delays) or DIRECT
+        ends = [End(programs, space, program=program, options=options, links=count, before=before) for space in (OURS, THEIRS)]
+        ready = lambda: all(end.links() == count and end.carry()["markers"] == "answered" for end in ends)
+        if not within(COMES_UP, ready):
+            raise Failed(f"{count} links carry", *(end.text() for end in ends))
+        yield laid, ends[0], ends[1]
 
 
 @dataclass

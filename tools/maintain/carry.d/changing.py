@@ -10,7 +10,7 @@ from typing import Callable
 
 from bonds import COMES_UP, DEVICE, RATE, End, Outcome, Programs, cables, check_order, kernel_count, lay_direct, run_flows
 from checking import Failed, check, within
-from restarting import WAYS, Kept, Manager, seen
+from restarting import WAYS, Kept, Manager
 from spaces import OURS, THEIRS, inside, ip
 
 # How many links there are, and how many changes.
@@ -73,29 +73,25 @@ def changes(programs: Programs) -> None:
             for number in range(2, LINKS):
                 lay_direct(number)
             ours, theirs = End(programs, OURS, options=options, links=2), End(programs, THEIRS, options=options, links=LINKS)
-            try:
-                if not within(COMES_UP, lambda: ours.links() == theirs.links() == 2 and ours.carry()["markers"] == "answered"):
-                    raise Failed("two links carry", ours.text(), theirs.text())
-                outcome = flow_while(programs, ours, ["a2", "a3"], f"{way}, at the sending end")
-                what = f"{outcome.sent - outcome.received} of {outcome.sent:,} frames are lost, {outcome.refused} of them before the daemon"
-                check(outcome.lost() <= outcome.lost_here, f"{way}: {what}", outcome, ours.text(), theirs.text())
-                check(carried(ours) == {"a0": 1, "a1": 2} and ours.links() == 2, f"{way}: two ports are left", ours.text())
-                changed = [ours.count(name, "distributed") for name in ("a0", "a1")]
-                check(changed == [1, 1], f"{way}: they distribute since the start", changed, ours.printed())
-                order(ours, "--add", "a2")
-                order(ours, "--add", "a3")
-                if not within(COMES_UP, lambda: theirs.links() == LINKS):
-                    raise Failed("four links carry", theirs.text())
-                for name in "b2", "b3":
-                    order(theirs, "--remove", name)
-                outcome = flow_while(programs, theirs, ["b2", "b3"], f"{way}, at the receiving end")
-                check(outcome.lost() <= CHANGES // 2 * ON_THEIR_WAY, f"{way}: {outcome.lost()} of {outcome.sent:,} frames were on their way on links that left", outcome,
-                      ours.text(), theirs.text())
-                ours.ends("the daemon")
-                theirs.ends("the other one")
-            finally:
-                ours.stop()
-                theirs.stop()
+            if not within(COMES_UP, lambda: ours.links() == theirs.links() == 2 and ours.carry()["markers"] == "answered"):
+                raise Failed("two links carry", ours.text(), theirs.text())
+            outcome = flow_while(programs, ours, ["a2", "a3"], f"{way}, at the sending end")
+            what = f"{outcome.sent - outcome.received} of {outcome.sent:,} frames are lost, {outcome.refused} of them before the daemon"
+            check(outcome.lost() <= outcome.lost_here, f"{way}: {what}", outcome, ours.text(), theirs.text())
+            check(carried(ours) == {"a0": 1, "a1": 2} and ours.links() == 2, f"{way}: two ports are left", ours.text())
+            changed = [ours.count(name, "distributed") for name in ("a0", "a1")]
+            check(changed == [1, 1], f"{way}: they distribute since the start", changed, ours.printed())
+            order(ours, "--add", "a2")
+            order(ours, "--add", "a3")
+            if not within(COMES_UP, lambda: theirs.links() == LINKS):
+                raise Failed("four links carry", theirs.text())
+            for name in "b2", "b3":
+                order(theirs, "--remove", name)
+            outcome = flow_while(programs, theirs, ["b2", "b3"], f"{way}, at the receiving end")
+            check(outcome.lost() <= CHANGES // 2 * ON_THEIR_WAY, f"{way}: {outcome.lost()} of {outcome.sent:,} frames were on their way on links that left", outcome,
+                  ours.text(), theirs.text())
+            ours.ends("the daemon")
+            theirs.ends("the other one")
 
 
 def fewer(programs: Programs) -> None:
@@ -137,29 +133,25 @@ def none_left(programs: Programs) -> None:
     """All members leave, and come back: with fewer than min-links the bundle is down."""
     with cables(programs, ()):
         ours, theirs = End(programs, OURS, options=["--min-links", "2"], links=1), End(programs, THEIRS)
-        try:
-            check(within(COMES_UP, lambda: carried(ours) == {"a0": 1}) and ours.told()["state"] == "down", "one link of two that are wanted is down", ours.text())
-            order(ours, "--add", "a1")
-            check(within(COMES_UP, lambda: ours.told()["state"] == "up"), "two are up", ours.text())
-            for name in "a1", "a0":
-                check(order(ours, "--remove", name).returncode == 0, f"{name} leaves", ours.printed())
-            told = ours.told()
-            check(told["state"] == "down" and not told["ports"] and not told["carry"]["carrier"], "without a port it is down", told)
-            check(not theirs.carry()["carrier"], "and so is the other end", theirs.text())
-            for name in "a1", "a0":
-                order(ours, "--add", name)
-            check(within(COMES_UP, lambda: ours.links() == theirs.links() == 2), "both come back", ours.text())
-            ip(OURS, "link", "set", "a0", "down")
-            time.sleep(1)
-            check(order(ours, "--remove", "a0").returncode == 0, "one whose link is down leaves at once", ours.printed())
-            refused = order(ours, "--remove", "a0")
-            check(refused.returncode == 1 and "it is no port of this bundle" in refused.stderr, "once", refused)
-            nobody = inside(OURS, "setpriv", "--reuid", "65534", "--clear-groups", ours.program, "--folder", ours.folder, "--remove", "a1")
-            check(nobody.returncode == 1 and carried(ours) == {"a1": 1}, "and only for root", nobody, ours.text())
-            ours.ends("the daemon")
-        finally:
-            ours.stop()
-            theirs.stop()
+        check(within(COMES_UP, lambda: carried(ours) == {"a0": 1}) and ours.told()["state"] == "down", "one link of two that are wanted is down", ours.text())
+        order(ours, "--add", "a1")
+        check(within(COMES_UP, lambda: ours.told()["state"] == "up"), "two are up", ours.text())
+        for name in "a1", "a0":
+            check(order(ours, "--remove", name).returncode == 0, f"{name} leaves", ours.printed())
+        told = ours.told()
+        check(told["state"] == "down" and not told["ports"] and not told["carry"]["carrier"], "without a port it is down", told)
+        check(not theirs.carry()["carrier"], "and so is the other end", theirs.text())
+        for name in "a1", "a0":
+            order(ours, "--add", name)
+        check(within(COMES_UP, lambda: ours.links() == theirs.links() == 2), "both come back", ours.text())
+        ip(OURS, "link", "set", "a0", "down")
+        time.sleep(1)
+        check(order(ours, "--remove", "a0").returncode == 0, "one whose link is down leaves at once", ours.printed())
+        refused = order(ours, "--remove", "a0")
+        check(refused.returncode == 1 and "it is no port of this bundle" in refused.stderr, "once", refused)
+        nobody = inside(OURS, "setpriv", "--reuid", "65534", "--clear-groups", ours.program, "--folder", ours.folder, "--remove", "a1")
+        check(nobody.returncode == 1 and carried(ours) == {"a1": 1}, "and only for root", nobody, ours.text())
+        ours.ends("the daemon")
 
 
 PARTS: dict[str, Callable[[Programs], None]] = {it.__name__: it for it in (changes, fewer, none_left)}

@@ -13,7 +13,7 @@ from typing import Any, ContextManager
 
 from bonds import (COMES_BACK, COMES_UP, DEVICE, FLOWS, RIGHTS, Cables, End, Programs, cables, check_end, check_none_lost, check_order, check_taken, check_whole,
                    every, kernel_count, lay_direct, move_all, pair, run_flows)
-from checking import Failed, Skipped, check, command, within
+from checking import Failed, Skipped, check, within
 from spaces import OURS, THEIRS, inside, ip, packet_socket, within_space
 from streams import run_stream
 
@@ -118,23 +118,19 @@ def fast_ends(programs: Programs) -> None:
     with cables(programs, ()):
         ip(OURS, "tuntap", "add", DEVICE, "mode", "tap", "vnet_hdr")
         ours, theirs = End(programs, OURS, options=["--fast"]), End(programs, THEIRS, options=["--fast"])
-        try:
-            if not within(COMES_UP, lambda: ours.links() == theirs.links() == 2 and ours.carry()["markers"] == "answered"):
-                raise Failed("two links carry", ours.text())
-            run_flows(programs, 2)
-            check_fast(ours)
-            check(count_programs(OURS, DEVICE) > 0, "the kernel runs programs at the TAP device")
-            ours.process.send_signal(signal.SIGKILL)
-            ours.process.wait()
-            time.sleep(0.5)
-            check(count_programs(OURS, DEVICE) == count_programs(OURS, "a0") == 0, "with the daemon killed it runs none")
-            before = [kernel_count(OURS, name, "tx_packets") for name in ("a0", "a1")]
-            run_flows(programs, 1)
-            after = [kernel_count(OURS, name, "tx_packets") for name in ("a0", "a1")]
-            check(before == after, "and passes nothing on", before, after)
-        finally:
-            ours.stop()
-            theirs.stop()
+        if not within(COMES_UP, lambda: ours.links() == theirs.links() == 2 and ours.carry()["markers"] == "answered"):
+            raise Failed("two links carry", ours.text())
+        run_flows(programs, 2)
+        check_fast(ours)
+        check(count_programs(OURS, DEVICE) > 0, "the kernel runs programs at the TAP device")
+        ours.process.send_signal(signal.SIGKILL)
+        ours.process.wait()
+        time.sleep(0.5)
+        check(count_programs(OURS, DEVICE) == count_programs(OURS, "a0") == 0, "with the daemon killed it runs none")
+        before = [kernel_count(OURS, name, "tx_packets") for name in ("a0", "a1")]
+        run_flows(programs, 1)
+        after = [kernel_count(OURS, name, "tx_packets") for name in ("a0", "a1")]
+        check(before == after, "and passes nothing on", before, after)
 
 
 def fast_away(programs: Programs) -> None:
@@ -160,19 +156,15 @@ def fast_refused(programs: Programs) -> None:
         if inside(OURS, "tc", "qdisc", "replace", "dev", "a1", "root", "pfifo_fast").returncode:
             raise Skipped("tc sets no queueing discipline")
         ours, theirs = End(programs, OURS, options=["--fast"]), End(programs, THEIRS, options=["--fast"])
-        try:
-            line = "a1: its data stays with the daemon: its queueing discipline is neither noqueue, bfifo nor pfifo"
-            check(within(COMES_UP, lambda: line in ours.printed()), "a member with pfifo_fast is left to the daemon", ours.printed())
-            if not within(COMES_UP, lambda: ours.links() == theirs.links() == 2 and ours.carry()["markers"] == "answered"):
-                raise Failed("two links carry", ours.text())
-            outcome = run_flows(programs, 5, every(1, 4, move_all(ours)))
-            check_order(outcome, "by the kernel on one link, by the daemon on the other", ours.text())
-            check_whole(outcome, ours, theirs, cables_lose=True)
-            passed = [port["data"]["passed_on"] for port in ours.told()["ports"]]
-            check(passed[0] > 0 and passed[1] == 0, f"the kernel passed on {passed}", ours.text())
-        finally:
-            ours.stop()
-            theirs.stop()
+        line = "a1: its data stays with the daemon: its queueing discipline is neither noqueue, bfifo nor pfifo"
+        check(within(COMES_UP, lambda: line in ours.printed()), "a member with pfifo_fast is left to the daemon", ours.printed())
+        if not within(COMES_UP, lambda: ours.links() == theirs.links() == 2 and ours.carry()["markers"] == "answered"):
+            raise Failed("two links carry", ours.text())
+        outcome = run_flows(programs, 5, every(1, 4, move_all(ours)))
+        check_order(outcome, "by the kernel on one link, by the daemon on the other", ours.text())
+        check_whole(outcome, ours, theirs, cables_lose=True)
+        passed = [port["data"]["passed_on"] for port in ours.told()["ports"]]
+        check(passed[0] > 0 and passed[1] == 0, f"the kernel passed on {passed}", ours.text())
 
 
 def fast_requeued(programs: Programs) -> None:
@@ -185,26 +177,22 @@ def fast_requeued(programs: Programs) -> None:
             ip(space, "link", "set", name, "up")
         had = inside(OURS, "ethtool", "-l", "a0").stdout
         ours, theirs = End(programs, OURS, options=["--fast"]), End(programs, THEIRS, options=["--fast"])
-        try:
-            if not within(COMES_UP, lambda: ours.links() == theirs.links() == 2 and ours.carry()["markers"] == "answered"):
-                raise Failed("two links carry", ours.text())
-            changes = lambda: inside(OURS, "cat", "/sys/class/net/a0/carrier_changes").stdout
-            before, line = changes(), "a0: its data stays with the daemon"
-            if inside(OURS, "tc", "qdisc", "replace", "dev", "a0", "root", "pfifo_fast").returncode:
-                raise Skipped("tc sets no queueing discipline")
-            check(within(3, lambda: line in ours.printed()), "a member that gets pfifo_fast is left to the daemon", ours.printed())
-            inside(OURS, "tc", "qdisc", "del", "dev", "a0", "root")
-            time.sleep(1)
-            check(changes() == before, "its carrier stays on meanwhile", before, changes(), ours.printed())
-            outcome = run_flows(programs, 3, every(1, 2, move_all(ours)))
-            check_order(outcome, "by the kernel on both links again", ours.text())
-            passed = [port["data"]["passed_on"] for port in ours.told()["ports"]]
-            check(min(passed) > 0, f"the kernel passed on {passed}", ours.text())
-            ours.ends("the daemon")
-            check(inside(OURS, "ethtool", "-l", "a0").stdout == had, "it has the queues back that it had before the daemon", had)
-        finally:
-            ours.stop()
-            theirs.stop()
+        if not within(COMES_UP, lambda: ours.links() == theirs.links() == 2 and ours.carry()["markers"] == "answered"):
+            raise Failed("two links carry", ours.text())
+        changes = lambda: inside(OURS, "cat", "/sys/class/net/a0/carrier_changes").stdout
+        before, line = changes(), "a0: its data stays with the daemon"
+        if inside(OURS, "tc", "qdisc", "replace", "dev", "a0", "root", "pfifo_fast").returncode:
+            raise Skipped("tc sets no queueing discipline")
+        check(within(3, lambda: line in ours.printed()), "a member that gets pfifo_fast is left to the daemon", ours.printed())
+        inside(OURS, "tc", "qdisc", "del", "dev", "a0", "root")
+        time.sleep(1)
+        check(changes() == before, "its carrier stays on meanwhile", before, changes(), ours.printed())
+        outcome = run_flows(programs, 3, every(1, 2, move_all(ours)))
+        check_order(outcome, "by the kernel on both links again", ours.text())
+        passed = [port["data"]["passed_on"] for port in ours.told()["ports"]]
+        check(min(passed) > 0, f"the kernel passed on {passed}", ours.text())
+        ours.ends("the daemon")
+        check(inside(OURS, "ethtool", "-l", "a0").stdout == had, "it has the queues back that it had before the daemon", had)
 
 
 def fast_unfit(programs: Programs) -> None:

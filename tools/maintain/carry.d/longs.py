@@ -6,7 +6,7 @@ import os
 from typing import Callable
 
 from beside import print_rows, switches
-from bonds import DEVICE, Cables, Event, Outcome, Programs, move_all, pair, run_flows
+from bonds import Cables, Event, Outcome, Programs, move_all, pair, run_flows
 from checking import Skipped, check
 from measuring import seconds_of
 

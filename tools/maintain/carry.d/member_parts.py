@@ -74,34 +74,30 @@ def stacks(programs: Programs) -> None:
             raise Skipped("tc sets no clsact")
         start = functools.partial(End, programs, OURS, program=programs.old_kernel)
         ours, theirs = start(), End(programs, THEIRS)
-        try:
-            wait_for_links(ours, theirs)
-            give_addresses((DEVICE, DEVICE))
-            answers = answers_of_arp()
-            check(answers == [SYSTEM], f"{len(answers)} answers who has the address of {DEVICE}", answers, ours.printed())
-            check("a1: it has a clsact already" in ours.printed() and "a0: it has" not in ours.printed(),
-                  "a line tells of filters of others", ours.printed())
-            ours.process.send_signal(signal.SIGKILL)
-            ours.process.wait()
-            check(filters("a0") == filters("a1") == (1, True), "a killed daemon leaves its filters", filters("a0"), filters("a1"))
+        wait_for_links(ours, theirs)
+        give_addresses((DEVICE, DEVICE))
+        answers = answers_of_arp()
+        check(answers == [SYSTEM], f"{len(answers)} answers who has the address of {DEVICE}", answers, ours.printed())
+        check("a1: it has a clsact already" in ours.printed() and "a0: it has" not in ours.printed(),
+              "a line tells of filters of others", ours.printed())
+        ours.process.send_signal(signal.SIGKILL)
+        ours.process.wait()
+        check(filters("a0") == filters("a1") == (1, True), "a killed daemon leaves its filters", filters("a0"), filters("a1"))
+        ours = start()
+        wait_for_links(ours, theirs)
+        check(filters("a0") == filters("a1") == (1, True), "the next one takes them over", filters("a0"), filters("a1"))
+        ours.ends("the daemon")
+        check(filters("a0") == (0, False), "and takes them away, as it ends", filters("a0"))
+        check(filters("a1") == (0, True), "but not the place that an administrator made", filters("a1"))
+        for way in "ingress", "egress":
             ours = start()
-            wait_for_links(ours, theirs)
-            check(filters("a0") == filters("a1") == (1, True), "the next one takes them over", filters("a0"), filters("a1"))
+            check(within(COMES_UP, lambda: filters("a0") == (1, True)), "the daemon makes a place", filters("a0"))
+            inside(OURS, "tc", "filter", "add", "dev", "a0", way, "protocol", "ip", "pref", "7", "u32", "match", "u32", "0", "0")
             ours.ends("the daemon")
-            check(filters("a0") == (0, False), "and takes them away, as it ends", filters("a0"))
-            check(filters("a1") == (0, True), "but not the place that an administrator made", filters("a1"))
-            for way in "ingress", "egress":
-                ours = start()
-                check(within(COMES_UP, lambda: filters("a0") == (1, True)), "the daemon makes a place", filters("a0"))
-                inside(OURS, "tc", "filter", "add", "dev", "a0", way, "protocol", "ip", "pref", "7", "u32", "match", "u32", "0", "0")
-                ours.ends("the daemon")
-                stays = "u32" in inside(OURS, "tc", "filter", "show", "dev", "a0", way).stdout
-                check(stays, f"a filter of others stays where the daemon made the place, for {way}")
-                check(filters("a0") == (0, True), "and that of the daemon goes", filters("a0"))
-                inside(OURS, "tc", "qdisc", "del", "dev", "a0", "clsact")
-        finally:
-            ours.stop()
-            theirs.stop()
+            stays = "u32" in inside(OURS, "tc", "filter", "show", "dev", "a0", way).stdout
+            check(stays, f"a filter of others stays where the daemon made the place, for {way}")
+            check(filters("a0") == (0, True), "and that of the daemon goes", filters("a0"))
+            inside(OURS, "tc", "qdisc", "del", "dev", "a0", "clsact")
 
 
 def carries_both_ways(kind: socket.SocketKind, family: socket.AddressFamily, hosts: tuple[str, str]) -> bool:
@@ -145,19 +141,15 @@ def sums(programs: Programs) -> None:
     """The other end leaves checksums, and segments, to cards that there are none: ours, without `offload`, hands up what comes."""
     with cables(programs, ()):
         ours, theirs = End(programs, OURS), End(programs, THEIRS, options=["--offload"])
-        try:
-            wait_for_links(ours, theirs)
-            give_addresses((DEVICE, DEVICE))
-            for space, address in zip((OURS, THEIRS), ADDRESSES6):
-                inside(space, "sysctl", "-qw", f"net.ipv6.conf.{DEVICE}.disable_ipv6=0")
-                ip(space, "address", "add", f"{address}/64", "dev", DEVICE, "nodad")
-            for family, hosts, version in (socket.AF_INET, ADDRESSES, 4), (socket.AF_INET6, ADDRESSES6, 6):
-                for kind, name in (socket.SOCK_DGRAM, "UDP"), (socket.SOCK_STREAM, "TCP"):
-                    check(carries_both_ways(kind, family, hosts), f"{name} over IPv{version} goes both ways", ours.text(), theirs.text())
-            check(ours.data("without_sums") > 0, f"{ours.data('without_sums')} frames came without their sums", ours.text())
-        finally:
-            ours.stop()
-            theirs.stop()
+        wait_for_links(ours, theirs)
+        give_addresses((DEVICE, DEVICE))
+        for space, address in zip((OURS, THEIRS), ADDRESSES6):
+            inside(space, "sysctl", "-qw", f"net.ipv6.conf.{DEVICE}.disable_ipv6=0")
+            ip(space, "address", "add", f"{address}/64", "dev", DEVICE, "nodad")
+        for family, hosts, version in (socket.AF_INET, ADDRESSES, 4), (socket.AF_INET6, ADDRESSES6, 6):
+            for kind, name in (socket.SOCK_DGRAM, "UDP"), (socket.SOCK_STREAM, "TCP"):
+                check(carries_both_ways(kind, family, hosts), f"{name} over IPv{version} goes both ways", ours.text(), theirs.text())
+        check(ours.data("without_sums") > 0, f"{ours.data('without_sums')} frames came without their sums", ours.text())
 
 
 def set_features(space: str, name: str, *words: str) -> None:
@@ -172,23 +164,19 @@ def uncut(programs: Programs) -> None:
             for name in "a0", "a1":
                 set_features(OURS, name, "tso", "off", "gso", "off")
             ours, theirs = End(programs, OURS, options=[way, "--hash", "layer3+4"]), End(programs, THEIRS, options=[way])
-            try:
-                wait_for_links(ours, theirs)
-                stream = run_stream(2)
-                unsent, cut = ours.data("data_unsent"), ours.carry()["segmented"]
-                check(unsent == 0, f"{way}: {stream.bits / 1e9:.2f} Gb/s, {unsent} of {cut:,} frames of several segments lost", ours.text())
-                check(cut > 0 or way == "--fast", f"{way}: {cut:,} frames of several segments came to the daemon", ours.text())
-                for name in "a0", "a1":
-                    set_features(OURS, name, "tso", "on", "gso", "on")
-                stream = run_stream(1)
-                check(ours.data("data_unsent") == 0, f"{way}: {stream.bits / 1e9:.2f} Gb/s once they can", ours.text())
-                for name in "a0", "a1":
-                    set_features(OURS, name, "tx", "off")
-                stream = run_stream(1)
-                check(ours.data("data_unsent") == 0, f"{way}: {stream.bits / 1e9:.2f} Gb/s where they leave the sums to the kernel, too", ours.text())
-            finally:
-                ours.stop()
-                theirs.stop()
+            wait_for_links(ours, theirs)
+            stream = run_stream(2)
+            unsent, cut = ours.data("data_unsent"), ours.carry()["segmented"]
+            check(unsent == 0, f"{way}: {stream.bits / 1e9:.2f} Gb/s, {unsent} of {cut:,} frames of several segments lost", ours.text())
+            check(cut > 0 or way == "--fast", f"{way}: {cut:,} frames of several segments came to the daemon", ours.text())
+            for name in "a0", "a1":
+                set_features(OURS, name, "tso", "on", "gso", "on")
+            stream = run_stream(1)
+            check(ours.data("data_unsent") == 0, f"{way}: {stream.bits / 1e9:.2f} Gb/s once they can", ours.text())
+            for name in "a0", "a1":
+                set_features(OURS, name, "tx", "off")
+            stream = run_stream(1)
+            check(ours.data("data_unsent") == 0, f"{way}: {stream.bits / 1e9:.2f} Gb/s where they leave the sums to the kernel, too", ours.text())
 
 
 def discipline_of(name: str) -> str:
@@ -239,23 +227,20 @@ def rooms(programs: Programs) -> None:
         ip(OURS, "tuntap", "add", "t0", "mode", "tap")
         ip(OURS, "link", "set", "t0", "up")
         ours = End(programs, OURS, options=["--offload"], names=("t0",))
-        try:
-            check(within(COMES_UP, lambda: discipline_of("t0") == OWN_QUEUE), "a member gets a queue", discipline_of("t0"))
-            for speed, octets_queued in (10, 64 * 1514), (100, 625000), (10000, 4 << 20):
-                if inside(OURS, "ethtool", "-s", "t0", "speed", str(speed), "duplex", "full").returncode:
-                    raise Skipped("no ethtool sets the speed of a TAP device (Debian: ethtool)")
-                with within_space(OURS):
-                    device = os.open("/dev/net/tun", os.O_RDWR)
-                try:
-                    fcntl.ioctl(device, SET_DEVICE, struct.pack("16sH22x", b"t0", TAP_PLAIN))
-                    right = within(COMES_UP, lambda: abs(octets_of("t0") - octets_queued) < 1024)
-                    check(right, f"at {speed} Mb/s {octets_queued:,} octets wait", octets_of("t0"), ours.text())
-                finally:
-                    os.close(device)
-                check(within(COMES_UP, lambda: "NO-CARRIER" in inside(OURS, "ip", "link", "show", "t0").stdout), "its link goes down")
-                time.sleep(1.5)
-        finally:
-            ours.stop()
+        check(within(COMES_UP, lambda: discipline_of("t0") == OWN_QUEUE), "a member gets a queue", discipline_of("t0"))
+        for speed, octets_queued in (10, 64 * 1514), (100, 625000), (10000, 4 << 20):
+            if inside(OURS, "ethtool", "-s", "t0", "speed", str(speed), "duplex", "full").returncode:
+                raise Skipped("no ethtool sets the speed of a TAP device (Debian: ethtool)")
+            with within_space(OURS):
+                device = os.open("/dev/net/tun", os.O_RDWR)
+            try:
+                fcntl.ioctl(device, SET_DEVICE, struct.pack("16sH22x", b"t0", TAP_PLAIN))
+                right = within(COMES_UP, lambda: abs(octets_of("t0") - octets_queued) < 1024)
+                check(right, f"at {speed} Mb/s {octets_queued:,} octets wait", octets_of("t0"), ours.text())
+            finally:
+                os.close(device)
+            check(within(COMES_UP, lambda: "NO-CARRIER" in inside(OURS, "ip", "link", "show", "t0").stdout), "its link goes down")
+            time.sleep(1.5)
 
 
 PARTS: dict[str, Callable[[Programs], None]] = {it.__name__: it for it in (asks_kernel, stacks, sums, uncut, disciplines, rooms)}

@@ -8,24 +8,24 @@ import subprocess
 import time
 from typing import Callable
 
-from above import PARTS as ABOVE
-from all_queues import PARTS as ALL_QUEUES
+import above
+import all_queues
+import changing
+import forged
+import guests
+import halted
+import member_parts
+import restarting
+import restoring
+import selecting
+import stream_parts
 from announced import announced
 from bonds import (COMES_BACK, COMES_UP, DEVICE, FLOWS, PEERS, RIGHTS, Cables, Carry, End, Event, Programs, ask_gro, cables, check_end,
                    check_none_lost, check_order, check_whole, every, lay_direct, move_all, pair, run_flows)
-from changing import PARTS as CHANGING
 from fast_parts import (fast, fast_away, fast_ends, fast_filtered, fast_hash, fast_overload, fast_refused, fast_requeued, fast_troubles, fast_unfit,
                         fast_unwaited, offload)
-from forged import PARTS as FORGED
-from guests import PARTS as GUESTS
-from halted import PARTS as HALTED
-from member_parts import PARTS as MEMBERS
 from models import model
-from restarting import PARTS as RESTARTS
-from restoring import PARTS as RESTORING
 from rows import rows
-from selecting import PARTS as SELECTING
-from stream_parts import PARTS as STREAMS
 from checking import Skipped, check, within
 from fetching import Packages
 from openvswitch import OpenVSwitch
@@ -91,23 +91,19 @@ def switches(programs: Programs) -> None:
     more links, and by the same one at both ends. Where both have as many, it stays while the other end sends there."""
     with cables(programs, (0, 20000, 5000, 0)) as laid:
         ours, theirs = End(programs, OURS, links=4), End(programs, THEIRS, names=("b2:key=6", "b3:key=6", "b0", "b1"))
-        try:
-            two = lambda: ours.links() == theirs.links() == 2 and ours.carry()["markers"] == "answered"
-            check(within(COMES_UP, two), "two of four links carry", ours.text(), theirs.text())
-            time.sleep(LINKWATCH)
-            first, before = ours.carry()["aggregator"], ours.carry()
-            outcome = run_flows(programs, 10, [(1, lambda: laid.tell("cut", 0)), (4, lambda: laid.tell("join", 0))])
-            carry = ours.carry()
-            told = f"it switched {carry['switches'] - before['switches']} times, and is at aggregator {first} again"
-            check(carry["switches"] - before["switches"] == 2 and carry["aggregator"] == first, told, ours.printed())
-            freed = carry["rested"] - before["rested"] + carry["forced"] - before["forced"]
-            check(freed == 0, "conversations left the other one behind markers, none after a rest or by force", ours.text())
-            check_order(outcome, "through two switches of the aggregator", ours.text())
-            check_whole(outcome, ours, theirs, cables_lose=True)
-            stays_while_heard(programs, laid, ours, theirs)
-        finally:
-            ours.stop()
-            theirs.stop()
+        two = lambda: ours.links() == theirs.links() == 2 and ours.carry()["markers"] == "answered"
+        check(within(COMES_UP, two), "two of four links carry", ours.text(), theirs.text())
+        time.sleep(LINKWATCH)
+        first, before = ours.carry()["aggregator"], ours.carry()
+        outcome = run_flows(programs, 10, [(1, lambda: laid.tell("cut", 0)), (4, lambda: laid.tell("join", 0))])
+        carry = ours.carry()
+        told = f"it switched {carry['switches'] - before['switches']} times, and is at aggregator {first} again"
+        check(carry["switches"] - before["switches"] == 2 and carry["aggregator"] == first, told, ours.printed())
+        freed = carry["rested"] - before["rested"] + carry["forced"] - before["forced"]
+        check(freed == 0, "conversations left the other one behind markers, none after a rest or by force", ours.text())
+        check_order(outcome, "through two switches of the aggregator", ours.text())
+        check_whole(outcome, ours, theirs, cables_lose=True)
+        stays_while_heard(programs, laid, ours, theirs)
 
 
 def stays_while_heard(programs: Programs, laid: Cables, ours: End, theirs: End) -> None:
@@ -202,20 +198,16 @@ def mute(programs: Programs) -> None:
         for number in range(2):
             laid.tell("mute", number)
         ours, theirs = End(programs, OURS), End(programs, THEIRS)
-        try:
-            known = lambda: ours.carry()["markers"] == "not answered"
-            check(within(COMES_UP, known), "the daemon finds out that the peer answers no markers", ours.text())
-            line = "the peer answers no markers"
-            check(within(2, lambda: line in ours.printed()), "and says so", ours.printed())
-            outcome = run_flows(programs, 6, every(1, 5, move_all(ours)))
-            check_order(outcome, "towards a peer that answers no markers", ours.text())
-            carry = ours.carry()
-            check(carry["moves"] == carry["forced"] == 0, "nothing is moved or forced", ours.text())
-            check(within(3, lambda: ours.carry()["rested"] >= FLOWS), "conversations are free once they rested", ours.text())
-            check_whole(outcome, ours, theirs, cables_lose=False)
-        finally:
-            ours.stop()
-            theirs.stop()
+        known = lambda: ours.carry()["markers"] == "not answered"
+        check(within(COMES_UP, known), "the daemon finds out that the peer answers no markers", ours.text())
+        line = "the peer answers no markers"
+        check(within(2, lambda: line in ours.printed()), "and says so", ours.printed())
+        outcome = run_flows(programs, 6, every(1, 5, move_all(ours)))
+        check_order(outcome, "towards a peer that answers no markers", ours.text())
+        carry = ours.carry()
+        check(carry["moves"] == carry["forced"] == 0, "nothing is moved or forced", ours.text())
+        check(within(3, lambda: ours.carry()["rested"] >= FLOWS), "conversations are free once they rested", ours.text())
+        check_whole(outcome, ours, theirs, cables_lose=False)
 
 
 def open_vswitch(programs: Programs) -> None:
@@ -244,13 +236,9 @@ def frames(programs: Programs) -> None:
     """Frames with a tag, of the longest kind, too long and of the slow protocols; and the MTU."""
     with cables(programs, ()):
         ours, theirs = End(programs, OURS), End(programs, THEIRS)
-        try:
-            up = within(COMES_UP, lambda: ours.links() == theirs.links() == 2)
-            check(up, "two links without delay carry", ours.text())
-            try_frames(ours, theirs)
-        finally:
-            ours.stop()
-            theirs.stop()
+        up = within(COMES_UP, lambda: ours.links() == theirs.links() == 2)
+        check(up, "two links without delay carry", ours.text())
+        try_frames(ours, theirs)
 
 
 def try_frames(ours: End, theirs: End) -> None:
@@ -298,22 +286,19 @@ def rights(programs: Programs) -> None:
     with cables(programs, ()):
         ask_gro(OURS, "a0", True)
         ours = End(programs, OURS, options=["--min-links", "2"], before=RIGHTS if shutil.which("setpriv") else ())
-        try:
-            alone = lambda: effective_rights(ours) == f"{1 << 12 | 1 << 13:016x}"
-            check(within(COMES_UP, alone), "it has CAP_NET_RAW and CAP_NET_ADMIN alone", effective_rights(ours))
-            check(not ask_gro(OURS, "a0"), "GRO of a member is off", ours.printed())
-            check("network stack has" not in ours.printed(), "and no member hands frames to its own network stack", ours.printed())
-            check(not ours.carry()["carrier"], "with fewer links than min-links there is no carrier", ours.text())
-            taken = inside(OURS, "timeout", "3", programs.daemon, "--folder", f"{programs.folder}/other", "--carry", DEVICE, "9",
-                           "32768,02:00:00:00:00:cc", "lo")
-            check(taken.returncode == 1 and DEVICE in taken.stderr, "a device that another one has is refused", taken.stderr)
-            text, told = ours.text(), inside(OURS, programs.daemon, "--folder", ours.folder, "--metrics").stdout
-            check(f"carry: {DEVICE}, carrier off, hash layer2" in text, "the status tells of the data", text)
-            check("lagd_carry_from_host_total" in told and "lagd_port_data_sent_total" in told, "so do the metrics", told[:2000])
-            ours.ends("the daemon")
-            check(ask_gro(OURS, "a0"), "GRO of a member that had it is on again")
-        finally:
-            ours.stop()
+        alone = lambda: effective_rights(ours) == f"{1 << 12 | 1 << 13:016x}"
+        check(within(COMES_UP, alone), "it has CAP_NET_RAW and CAP_NET_ADMIN alone", effective_rights(ours))
+        check(not ask_gro(OURS, "a0"), "GRO of a member is off", ours.printed())
+        check("network stack has" not in ours.printed(), "and no member hands frames to its own network stack", ours.printed())
+        check(not ours.carry()["carrier"], "with fewer links than min-links there is no carrier", ours.text())
+        taken = inside(OURS, "timeout", "3", programs.daemon, "--folder", f"{programs.folder}/other", "--carry", DEVICE, "9",
+                       "32768,02:00:00:00:00:cc", "lo")
+        check(taken.returncode == 1 and DEVICE in taken.stderr, "a device that another one has is refused", taken.stderr)
+        text, told = ours.text(), inside(OURS, programs.daemon, "--folder", ours.folder, "--metrics").stdout
+        check(f"carry: {DEVICE}, carrier off, hash layer2" in text, "the status tells of the data", text)
+        check("lagd_carry_from_host_total" in told and "lagd_port_data_sent_total" in told, "so do the metrics", told[:2000])
+        ours.ends("the daemon")
+        check(ask_gro(OURS, "a0"), "GRO of a member that had it is on again")
 
 
 PARTS: dict[str, Callable[[Programs], None]] = {it.__name__: it for it in
@@ -321,14 +306,5 @@ PARTS: dict[str, Callable[[Programs], None]] = {it.__name__: it for it in
      model, fast, fast_hash, fast_troubles, fast_overload, fast_refused, fast_requeued, fast_unfit, fast_unwaited, fast_away,
      fast_ends, fast_filtered, fast_outage, fast_start, fast_moved, fast_queues, gone, administered, long_frames,
      queues, segments, speed, announced)}
-PARTS.update(CHANGING)
-PARTS.update(FORGED)
-PARTS.update(GUESTS)
-PARTS.update(HALTED)
-PARTS.update(MEMBERS)
-PARTS.update(RESTORING)
-PARTS.update(SELECTING)
-PARTS.update(ABOVE)
-PARTS.update(RESTARTS)
-PARTS.update(ALL_QUEUES)
-PARTS.update(STREAMS)
+for module in (changing, forged, guests, halted, member_parts, restoring, selecting, above, restarting, all_queues, stream_parts):
+    PARTS.update(module.PARTS)

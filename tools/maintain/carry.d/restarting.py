@@ -151,18 +151,15 @@ def managed(programs: Programs, options: Sequence[str], *, space: str = OURS, ha
             queues: int = 1, delays: Sequence[int] = ()) -> Iterator[tuple[Kept, End]]:
     """Two ends whose links all carry; the daemon of the first one is started again."""
     manager = Manager(programs.folder) if has_manager else None
-    ends: list[End] = []
     try:
         with cables(programs, delays, queues):
             kept = Kept(programs, space, options, manager)
-            ends += [kept, End(programs, THEIRS if space == OURS else OURS, options=options)]
+            ends = [kept, End(programs, THEIRS if space == OURS else OURS, options=options)]
             ip(space, "address", "add", ADDRESS, "dev", DEVICE)
             if not within(COMES_UP, lambda: all(end.links() == DIRECT and end.carry()["markers"] == "answered" for end in ends)):
                 raise Failed("two links carry", *(end.text() for end in ends))
             yield kept, ends[1]
     finally:
-        for end in ends:
-            end.stop()
         if manager:
             manager.drop()
 
@@ -436,12 +433,9 @@ def handover_anew(programs: Programs) -> None:
             for path in glob.glob(f"{programs.folder}/run/*.a0.state"):
                 os.rename(path, own)
             ours = End(programs, OURS)
-            try:
-                check(within(ENDS, lambda: tells_of_device(own)), "the state tells of the device", ours.printed())
-                told = inside(OURS, "ip", "link", "show", DEVICE).stdout
-                check(SYSTEM in told and f"qlen {HOST_QUEUE}" in told, f"{DEVICE} has its address, and room for {HOST_QUEUE} frames", told, ours.printed())
-            finally:
-                ours.stop()
+            check(within(ENDS, lambda: tells_of_device(own)), "the state tells of the device", ours.printed())
+            told = inside(OURS, "ip", "link", "show", DEVICE).stdout
+            check(SYSTEM in told and f"qlen {HOST_QUEUE}" in told, f"{DEVICE} has its address, and room for {HOST_QUEUE} frames", told, ours.printed())
 
 
 def handover_foreign(programs: Programs) -> None:
@@ -462,12 +456,9 @@ def handover_foreign(programs: Programs) -> None:
         with open(left.format(os.stat(f"/run/netns/{OURS}").st_ino), "w", encoding="ascii", opener=lambda name, flags: os.open(name, flags, 0o600)) as state:
             state.write(text)
         ours = End(programs, OURS, options=("--fast",))
-        try:
-            said = within(ENDS, lambda: "of another network namespace" in ours.printed())
-            check(said, "a line says that the state is of another network namespace", ours.printed())
-            check(inside(OURS, "ip", "link", "show", "foreign0").returncode == 0, "the device of others is still there", ours.printed())
-        finally:
-            ours.stop()
+        said = within(ENDS, lambda: "of another network namespace" in ours.printed())
+        check(said, "a line says that the state is of another network namespace", ours.printed())
+        check(inside(OURS, "ip", "link", "show", "foreign0").returncode == 0, "the device of others is still there", ours.printed())
 
 
 def handover_old_kernel(programs: Programs) -> None:

@@ -85,29 +85,25 @@ def reverts(programs: Programs) -> None:
             laid.tell("cut", 1)
             ours = End(programs, OURS, names=names, options=["--max-links", "2", "--revert", *way])
             theirs = End(programs, THEIRS, links=3, options=way)
-            try:
-                used = lambda wanted: lambda: standing(ours) == wanted and ours.links() == theirs.links() == 2
-                first = within(COMES_UP, lambda: ours.links() == 2)
-                check(first and statuses(ours)[1] == "the link is down", "the first two links carry", ours.text())
-                if not within(COMES_UP, lambda: ours.carry()["markers"] == "answered"):
-                    raise Failed("the peer answers markers", ours.text())
-                outcome = run_flows(programs, 9, [(1, lambda: laid.tell("join", 1)), *halts(theirs, 1.2, 8.8)])
-                check(used([True, False, False])(), "the third one takes the place of the highest priority", ours.text(), theirs.text())
-                check("port 1 a0: it makes way for port 2 a1" in ours.printed(), "a line says so", ours.printed())
-                check_order(outcome, f"through a link that makes way {way}", ours.text())
-                check(outcome.gap_ms < 2000, f"no flow rests for longer than {outcome.gap_ms} ms", ours.text())
-                counted = theirs.data("uncollected")
-                holds = outcome.lost() == counted and not (way and counted)
-                check(holds, f"{outcome.lost()} of {outcome.sent:,} frames are lost, which the peer counts", outcome, ours.text(), theirs.text())
-                check_end(ours, "the sending end")
-                outcome = run_flows(programs, 10, [(1, lambda: laid.tell("cut", 2)), (4, lambda: laid.tell("join", 2))])
-                check(used([True, False, False])(), "one that was away gets its place back", ours.text())
-                check(ours.printed().count("it makes way") == 2, "the one that stood for it makes way", ours.printed())
-                check_order(outcome, "through both", ours.text())
-                check_end(ours, "the sending end")
-            finally:
-                ours.stop()
-                theirs.stop()
+            used = lambda wanted: lambda: standing(ours) == wanted and ours.links() == theirs.links() == 2
+            first = within(COMES_UP, lambda: ours.links() == 2)
+            check(first and statuses(ours)[1] == "the link is down", "the first two links carry", ours.text())
+            if not within(COMES_UP, lambda: ours.carry()["markers"] == "answered"):
+                raise Failed("the peer answers markers", ours.text())
+            outcome = run_flows(programs, 9, [(1, lambda: laid.tell("join", 1)), *halts(theirs, 1.2, 8.8)])
+            check(used([True, False, False])(), "the third one takes the place of the highest priority", ours.text(), theirs.text())
+            check("port 1 a0: it makes way for port 2 a1" in ours.printed(), "a line says so", ours.printed())
+            check_order(outcome, f"through a link that makes way {way}", ours.text())
+            check(outcome.gap_ms < 2000, f"no flow rests for longer than {outcome.gap_ms} ms", ours.text())
+            counted = theirs.data("uncollected")
+            holds = outcome.lost() == counted and not (way and counted)
+            check(holds, f"{outcome.lost()} of {outcome.sent:,} frames are lost, which the peer counts", outcome, ours.text(), theirs.text())
+            check_end(ours, "the sending end")
+            outcome = run_flows(programs, 10, [(1, lambda: laid.tell("cut", 2)), (4, lambda: laid.tell("join", 2))])
+            check(used([True, False, False])(), "one that was away gets its place back", ours.text())
+            check(ours.printed().count("it makes way") == 2, "the one that stood for it makes way", ours.printed())
+            check_order(outcome, "through both", ours.text())
+            check_end(ours, "the sending end")
 
 
 def reverts_there(programs: Programs) -> None:
@@ -116,39 +112,30 @@ def reverts_there(programs: Programs) -> None:
         laid.tell("cut", 1)
         ours = End(programs, OURS, links=3)
         theirs = End(programs, THEIRS, names=("b0:priority=200", "b1:priority=100", "b2:priority=300"), options=["--max-links", "2", "--revert"])
-        try:
-            check(within(COMES_UP, lambda: ours.links() == theirs.links() == 2), "the first two links carry", ours.text())
-            if not within(COMES_UP, lambda: ours.carry()["markers"] == "answered"):
-                raise Failed("the peer answers markers", ours.text())
-            outcome = run_flows(programs, 9, [(1, lambda: laid.tell("join", 1))])
-            check(standing(theirs) == [False, False, True], "the third one takes the place of the highest priority", theirs.text())
-            check_order(outcome, "to an end whose link makes way", ours.text())
-            uncollected, lost = theirs.data("uncollected"), outcome.lost()
-            told = f"{lost} of {outcome.sent:,} frames are lost, which were on their way there"
-            check(lost == uncollected < RATE // 10, told, outcome, theirs.text())
-            check_whole(outcome, ours, theirs, cables_lose=True)
-        finally:
-            ours.stop()
-            theirs.stop()
+        check(within(COMES_UP, lambda: ours.links() == theirs.links() == 2), "the first two links carry", ours.text())
+        if not within(COMES_UP, lambda: ours.carry()["markers"] == "answered"):
+            raise Failed("the peer answers markers", ours.text())
+        outcome = run_flows(programs, 9, [(1, lambda: laid.tell("join", 1))])
+        check(standing(theirs) == [False, False, True], "the third one takes the place of the highest priority", theirs.text())
+        check_order(outcome, "to an end whose link makes way", ours.text())
+        uncollected, lost = theirs.data("uncollected"), outcome.lost()
+        told = f"{lost} of {outcome.sent:,} frames are lost, which were on their way there"
+        check(lost == uncollected < RATE // 10, told, outcome, theirs.text())
+        check_whole(outcome, ours, theirs, cables_lose=True)
 
 
 def two_limits(programs: Programs) -> None:
     """Both ends have a limit and want other links: no link that carries makes way for one that the peer does not use."""
     with cables(programs, ()):
-        ends = []
-        try:
-            ends.append(End(programs, OURS, names=("a0:priority=1", "a1:priority=2"), options=["--max-links", "1", "--revert"]))
-            ends.append(End(programs, THEIRS, names=("b0:priority=2", "b1:priority=1"), options=["--max-links", "1", "--revert"]))
-            ip(OURS, "link", "set", "a1", "down")
-            check(within(COMES_UP, lambda: all(end.links() == 1 for end in ends)), "one link carries", ends[0].text())
-            ip(OURS, "link", "set", "a1", "up")
-            time.sleep(8)
-            check(all(end.links() == 1 for end in ends), "it carries still", *(end.text() for end in ends))
-            check(not any("makes way" in end.printed() for end in ends), "and makes no way", *(end.printed() for end in ends))
-            check_order(run_flows(programs, 2), "with a limit at both ends", ends[0].text())
-        finally:
-            for end in ends:
-                end.stop()
+        wanted = (OURS, ("a0:priority=1", "a1:priority=2")), (THEIRS, ("b0:priority=2", "b1:priority=1"))
+        ends = [End(programs, space, names=names, options=["--max-links", "1", "--revert"]) for space, names in wanted]
+        ip(OURS, "link", "set", "a1", "down")
+        check(within(COMES_UP, lambda: all(end.links() == 1 for end in ends)), "one link carries", ends[0].text())
+        ip(OURS, "link", "set", "a1", "up")
+        time.sleep(8)
+        check(all(end.links() == 1 for end in ends), "it carries still", *(end.text() for end in ends))
+        check(not any("makes way" in end.printed() for end in ends), "and makes no way", *(end.printed() for end in ends))
+        check_order(run_flows(programs, 2), "with a limit at both ends", ends[0].text())
 
 
 AWAY = "its carrier is away, for less than delay-down so far"

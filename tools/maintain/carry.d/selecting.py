@@ -24,7 +24,7 @@ LACP, GAP_MS = 5, 4500
 def two_peers(programs: Programs, *options: str) -> Iterator[tuple[Cables, End]]:
     """Two links to one peer, and one to another one; all carry."""
     with cables(programs, (0, 5000, 0)) as laid:
-        ours, peers = End(programs, OURS, names=NAMES, options=options), [End(programs, THEIRS)]
+        ours, _ = End(programs, OURS, names=NAMES, options=options), End(programs, THEIRS)
         given = ["--carry", ANOTHER, "--flight", str(FLIGHT)]
         second = Daemon(programs.daemon, programs.folder, THEIRS, SECOND, "5", "b2", options=given)
         try:
@@ -38,8 +38,6 @@ def two_peers(programs: Programs, *options: str) -> Iterator[tuple[Cables, End]]
                 raise Failed("all links come up", ours.text())
             yield laid, ours
         finally:
-            for end in (ours, *peers):
-                end.stop()
             second.process.kill()
             second.process.wait()
 
@@ -92,26 +90,22 @@ def selected_apart(programs: Programs) -> None:
     with cables(programs, (0, 5000, 0)) as laid:
         ours = End(programs, OURS, names=NAMES, options=["--select", "priority"])
         theirs = End(programs, THEIRS, names=("b2:key=6", "b0", "b1"))
-        try:
-            up = lambda: all(port["status"] == "it distributes" for port in ours.ports().values())
-            check(within(COMES_UP, lambda: up() and active(ours) == "a2"), "the preferred link carries", ours.text())
-            back: list[int] = []
-            sends = subprocess.Popen(["ip", "netns", "exec", THEIRS, programs.flows, "send", DEVICE, "500", "8", "11", "macs"], stdout=subprocess.DEVNULL)
-            outcome = run_flows(programs, 12, [(9, lambda: back.append(theirs.carry()["handed_up"]))])
-            sends.wait()
-            check(active(ours) == "a0 a1", "with data of the peer this end goes where that comes", ours.text())
-            check("the peer sends in aggregator" in ours.printed() and "alone" in ours.text(), "and says so", ours.printed(), ours.text())
-            check(theirs.carry()["handed_up"] > back[0], "data arrives", outcome, theirs.text())
-            ours.process.send_signal(signal.SIGUSR1)
-            ours.process.wait()
-            ours = End(programs, OURS, names=NAMES, options=["--select", "priority"])
-            stays = lambda: active(ours) == "a0 a1" and "it follows the peer" in ours.text()
-            check(within(1, stays), "the next daemon goes on there", ours.text(), ours.printed())
-            both(laid, "cut")()
-            check(within(LACP, lambda: active(ours) == "a2" and ours.links() == 1), "without that group the preferred link carries", ours.text())
-        finally:
-            ours.stop()
-            theirs.stop()
+        up = lambda: all(port["status"] == "it distributes" for port in ours.ports().values())
+        check(within(COMES_UP, lambda: up() and active(ours) == "a2"), "the preferred link carries", ours.text())
+        back: list[int] = []
+        sends = subprocess.Popen(["ip", "netns", "exec", THEIRS, programs.flows, "send", DEVICE, "500", "8", "11", "macs"], stdout=subprocess.DEVNULL)
+        outcome = run_flows(programs, 12, [(9, lambda: back.append(theirs.carry()["handed_up"]))])
+        sends.wait()
+        check(active(ours) == "a0 a1", "with data of the peer this end goes where that comes", ours.text())
+        check("the peer sends in aggregator" in ours.printed() and "alone" in ours.text(), "and says so", ours.printed(), ours.text())
+        check(theirs.carry()["handed_up"] > back[0], "data arrives", outcome, theirs.text())
+        ours.process.send_signal(signal.SIGUSR1)
+        ours.process.wait()
+        ours = End(programs, OURS, names=NAMES, options=["--select", "priority"])
+        stays = lambda: active(ours) == "a0 a1" and "it follows the peer" in ours.text()
+        check(within(1, stays), "the next daemon goes on there", ours.text(), ours.printed())
+        both(laid, "cut")()
+        check(within(LACP, lambda: active(ours) == "a2" and ours.links() == 1), "without that group the preferred link carries", ours.text())
 
 
 PARTS: dict[str, Callable[[Programs], None]] = {it.__name__: it for it in (selected, selected_away, selected_apart)}

@@ -14,7 +14,7 @@ import time
 from typing import Iterator
 
 from bonds import (COMES_BACK, COMES_UP, DEVICE, FLOWS, MIDDLE, RATE, End, Event, Programs, cables, check_end, check_order, every, move_all, pair, run_flows)
-from checking import Failed, Skipped, check, command, within
+from checking import Failed, Skipped, check, within
 from fast_parts import check_fast, fast_pair
 from speeds import FULL, Cable, Settings, make_tap, renew
 from spaces import OURS, THEIRS, inside, ip, packet_socket
@@ -76,9 +76,8 @@ def fast_start(programs: Programs) -> None:
         ip(OURS, "link", "set", DEVICE, "up")
         words = ["ip", "netns", "exec", OURS, programs.flows, "send", DEVICE, str(RATE), str(FLOWS), "10", "macs"]
         sender = subprocess.Popen(words, stdout=subprocess.DEVNULL)
-        ends: list[End] = []
         try:
-            ends += [End(programs, space, options=["--fast"]) for space in (OURS, THEIRS)]
+            ends = [End(programs, space, options=["--fast"]) for space in (OURS, THEIRS)]
             if not within(COMES_UP, lambda: ends[0].links() == ends[1].links() == 2):
                 raise Failed("two links carry", ends[0].text())
             sender.wait(30)
@@ -86,8 +85,6 @@ def fast_start(programs: Programs) -> None:
         finally:
             sender.kill()
             sender.wait()
-            for end in ends:
-                end.stop()
 
 
 @contextlib.contextmanager
@@ -265,11 +262,11 @@ def speed_of(device: str) -> int:
 def speed(programs: Programs) -> None:
     """The TAP device is as fast as the members that carry are together, while one gets another speed, or one that nobody knows, or goes."""
     with cables(programs, ()):
-        lines, ends = [Cable(make_tap(OURS, name), make_tap(THEIRS, f"u{name[1:]}")) for name in ("t0", "t1")], []
+        lines = [Cable(make_tap(OURS, name), make_tap(THEIRS, f"u{name[1:]}")) for name in ("t0", "t1")]
         try:
             renew(0, 1000, FULL)
             renew(1, 2500, FULL)
-            ends += [End(programs, space, names=names) for space, names in ((OURS, ("t0", "t1")), (THEIRS, ("u0", "u1")))]
+            ends = [End(programs, space, names=names) for space, names in ((OURS, ("t0", "t1")), (THEIRS, ("u0", "u1")))]
             ours, begun = ends[0], speed_of(DEVICE)
             check(begun in (UNKNOWN_SPEED, 1000, 2500), "it has none before both links carry", begun)
             check(within(COMES_UP, lambda: all(end.links() == 2 for end in ends)), "two links carry", ours.text())
@@ -285,8 +282,6 @@ def speed(programs: Programs) -> None:
                   speed_of("other0"))
             check("its speed stays" not in ours.printed(), "no line tells of a kernel that refuses", ours.printed())
         finally:
-            for end in ends:
-                end.stop()
             for line in lines:
                 line.cut()
 

@@ -10,7 +10,7 @@ import signal
 import subprocess
 from typing import Any, Callable, NoReturn, Protocol, Sequence
 
-from checking import Skipped, check, command, within
+from checking import Skipped, check, within
 from spaces import OURS, THEIRS, inside
 
 SYSTEM, OTHER, KEY = "02:00:00:00:00:aa", "02:00:00:00:00:bb", "23"

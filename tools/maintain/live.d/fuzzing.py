@@ -10,7 +10,7 @@ import struct
 
 from checking import check, command
 from linking import DAEMON, INCLUDE, STRICT, daemon_sources
-from repository import MAINTAIN, TOP, daemon_words
+from repository import MAINTAIN, daemon_words
 from spaces import GROUP, SLOW_PROTOCOLS, lacpdu, octets
 
 # A message that an interface is there, with its name, the count of its losses, and an alternative name.

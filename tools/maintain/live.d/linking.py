@@ -7,7 +7,7 @@ import os
 import re
 import shutil
 from subprocess import CompletedProcess
-from typing import Sequence
+from typing import NamedTuple, Sequence
 
 from checking import Failed, check, command
 from processors import FOR_EACH_X86
@@ -113,41 +113,39 @@ def build_subagent(folder: str, words: Sequence[str] = FAULTS) -> str:
     return build(os.path.join(folder, "lagd-snmp"), subagent_sources(), ["-lnetsnmpagent", "-lnetsnmp", "-ljansson"], *STRICT, *words)
 
 
-def build_held(folder: str, libraries: Sequence[str]) -> str:
-    """Builds the queues of the daemon's held frames alone, with ASan and UBSan; answers the path of the program."""
-    sources = [f"{MAINTAIN}/live.d/held.c", f"{MAINTAIN}/live.d/checks.c", *sources_of("held")]
-    return build(os.path.join(folder, "held-frames"), sources, libraries, *STRICT, f"-I{DAEMON}", *SANITIZED)
-
-
-def build_markers(folder: str, libraries: Sequence[str]) -> str:
-    """Builds what the daemon makes of Marker PDUs alone, with ASan and UBSan; answers the path of the program."""
-    sources = [*(f"{MAINTAIN}/live.d/{name}.c" for name in ("markers", "checks")), *sources_of("markers", "probe")]
-    wraps = [f"-Wl,--wrap=lagffi_{name}" for name in ("probe", "answers")]
-    return build(os.path.join(folder, "markers"), sources, libraries, *STRICT, f"-I{DAEMON}", *SANITIZED, *wraps)
-
-
-def build_flights(folder: str) -> str:
-    """Builds the markers of each queue and the responses that wait alone, with ASan and UBSan; answers the path of the program."""
-    sources = [*(f"{MAINTAIN}/live.d/{name}.c" for name in ("flights", "checks")), *sources_of("queues", "answers")]
-    return build(os.path.join(folder, "flights"), sources, [], *STRICT, f"-I{DAEMON}", *SANITIZED)
-
-
-def build_segments(folder: str) -> str:
-    """Builds what cuts frames and puts them together alone, with ASan and UBSan, over a device in memory; answers the path of the program."""
-    sources = [*(f"{MAINTAIN}/live.d/{name}.c" for name in ("segments", "checks")), *sources_of("gro", "gso", "packets", "sums")]
-    return build(os.path.join(folder, "segments"), sources, [], *STRICT, f"-I{DAEMON}", *SANITIZED)
-
-
 def has_mnl() -> bool:
     """Whether what speaks netlink is here (Debian: libmnl-dev)."""
     return not command("pkg-config", "--exists", "libmnl").returncode
 
 
-def build_lists(folder: str) -> str:
-    """Builds what reads the lists of the kernel alone, with ASan and UBSan; answers the path of the program."""
-    sources = [*(f"{MAINTAIN}/live.d/{name}.c" for name in ("lists", "checks")), *sources_of("netlink")]
-    wraps = [f"-Wl,--wrap=mnl_socket_{name}" for name in ("sendto", "recvfrom")]
-    return build(os.path.join(folder, "lists"), sources, ["-lmnl"], *STRICT, f"-I{DAEMON}", *SANITIZED, *wraps)
+class Alone(NamedTuple):
+    """A program of live.d over sources of the daemon alone: its name, those sources, what it shows, which functions it takes the place of, whether the
+    sources include libmnl's header, and what is linked, of this machine."""
+
+    name: str
+    sources: Sequence[str]
+    shows: str
+    wrapped: Sequence[str] = ()
+    wants_mnl: bool = False
+    linked: Sequence[str] = ()
+
+
+ALONE = (
+    Alone("held", ("held",), "the daemon's queues keep no slot of a frame that is refused, and each frame with its time"),
+    Alone("markers", ("markers", "probe"), "any second has ten marker responses at most, and a peer is told of once, however it answers",
+          ("lagffi_probe", "lagffi_answers")),
+    Alone("flights", ("queues", "answers"), "a marker counts as answered once each queue is that had frames"),
+    Alone("lists", ("netlink",), "a list of the kernel that changes while it is told is asked for again", ("mnl_socket_sendto", "mnl_socket_recvfrom"), True,
+          ("-lmnl",)),
+    Alone("segments", ("gro", "gso", "packets", "sums"), "what goes up together is, cut again, what came"),
+    Alone("buckets", ("buckets",), "buckets are on links that carry, and leave one that does only after a rest", (), True),
+)  # fmt: skip
+
+
+def build_alone(folder: str, libraries: Sequence[str], it: Alone) -> str:
+    """Builds a program over sources of the daemon alone, with ASan and UBSan; answers its path."""
+    sources = [*(f"{MAINTAIN}/live.d/{name}.c" for name in (it.name, "checks")), *sources_of(*it.sources)]
+    return build(os.path.join(folder, f"{it.name}-alone"), sources, [*libraries, *it.linked], *STRICT, f"-I{DAEMON}", *SANITIZED, *(f"-Wl,--wrap={name}" for name in it.wrapped))
 
 
 def build_policy(folder: str, libraries: Sequence[str]) -> str:
@@ -162,13 +160,6 @@ def build_memory(folder: str, libraries: Sequence[str]) -> str:
     """Builds what counts the memory that the library asks for; answers the path of the program."""
     sources = [f"{MAINTAIN}/live.d/{name}.c" for name in ("memory", "checks")]
     return build(os.path.join(folder, "memory"), sources, libraries, *STRICT, *COUNTED)
-
-
-def build_buckets(folder: str) -> str:
-    """Builds where the daemon puts the buckets of the team driver alone, with ASan and UBSan, over a driver and a library in memory; answers
-    the path of the program."""
-    sources = [*(f"{MAINTAIN}/live.d/{name}.c" for name in ("buckets", "checks")), *sources_of("buckets")]
-    return build(os.path.join(folder, "buckets"), sources, [], *STRICT, f"-I{DAEMON}", *SANITIZED)
 
 
 def build_states(folder: str, libraries: Sequence[str]) -> str:

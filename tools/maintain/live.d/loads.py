@@ -13,7 +13,7 @@ import time
 from checking import Failed, check, command, within
 from daemon import ENDS, KEY, OTHER, SYSTEM, Daemon, Part
 from daemons import COMES_UP, both_up
-from repository import CC, COMPILER, MAINTAIN, TOP
+from repository import CC, COMPILER, MAINTAIN
 from service import Filed, write
 from spaces import OURS, THEIRS, inside, ip, make_pair
 

@@ -16,7 +16,7 @@ from checking import Skipped, check, within
 from daemon import ENDS, OTHER, SYSTEM, Daemon, Part
 from daemons import COMES_UP, NOBODY, both_up
 from service import Filed
-from spaces import OURS, THEIRS, inside, ip, octets, packet_socket, within_space
+from spaces import OURS, THEIRS, inside, ip, octets, packet_socket
 
 # A program that takes all names that a lock of one of the first interfaces may have, as a user without rights.
 SQUATTER = """import os, socket, sys, time

@@ -7,12 +7,12 @@ import os
 from typing import Callable, NamedTuple
 
 from checking import check
-from ends import COMES_UP, OVER, comes_up, journal, ping, status, traffic, up_again
+from ends import COMES_UP, OVER, journal, ping, status, traffic, up_again
 from fetched import USER_MODE
 from guest import Guest, MACS
 from native import CARD
 from repository import TOP
-from rows import boots, handed_over, orderly, pings, tried
+from rows import booted, boots, handed_over, no_unit_failed, orderly, pings, tried
 
 
 class Task(NamedTuple):
@@ -136,12 +136,6 @@ def server_files() -> dict[str, str]:
     return {**files, "etc/lagd/uplink.conf": SERVER, "etc/udev/rules.d/90-lagd.rules": of_server("90-lagd.rules")}
 
 
-def reaches(guest: Guest, space: str, to: str, octets: int, what: str) -> str:
-    ended = ping(guest, to, octets, space=space)
-    check(ended.status == 0, what, ended.text, journal(guest))
-    return "10 of 10" if ended.status == 0 else "FAILED"
-
-
 def tags(guest: Guest) -> str:
     """A VLAN that the bridge does not have goes nowhere."""
     listens = "timeout 4 ip netns exec vm tcpdump -c 1 -i eth0 -nn 'arp host 10.30.0.1 or vlan 30' 2>&1"
@@ -184,9 +178,7 @@ def server_stays(guest: Guest) -> str:
 
 
 def server_boots(guest: Guest) -> str:
-    took = guest.boots()
-    up = comes_up(guest, seconds=2 * COMES_UP)
-    check(up is not None, "both links carry to the pair of switches at boot", journal(guest))
+    took = booted(guest, "both links carry to the pair of switches at boot")
     way = status(guest).get("carry", {}).get("way")
     check(way == "fast", "the way is fast", way)
     left_alone(guest)
@@ -196,15 +188,14 @@ def server_boots(guest: Guest) -> str:
     laid = guest.within(COMES_UP, lambda: guest.run(look).status == 0)
     told = "" if laid else guest.text("networkctl --no-pager; journalctl --no-pager -b -u systemd-networkd | tail -25")
     check(laid, "lag0 is a port of the bridge, which has a VLAN", told)
-    failed = guest.text("systemctl --failed --plain --no-legend")
-    check(failed == "", "no unit failed", failed)
-    return f"{took:.0f} s"
+    no_unit_failed(guest)
+    return took
 
 
 SERVER_ROWS: dict[str, Callable[[Guest], str]] = {
     "boots, with both links": server_boots,
-    "pings of 8,972 octets in VLAN 10, from the server": lambda guest: reaches(guest, "", "10.10.0.2", JUMBO_PING, "the server reaches a host in VLAN 10"),
-    "pings of 8,972 octets in VLAN 20, from a virtual machine": lambda guest: reaches(guest, "vm", "10.20.0.2", JUMBO_PING, "a virtual machine reaches a host"),
+    "pings of 8,972 octets in VLAN 10, from the server": lambda guest: pings(guest, JUMBO_PING, "10.10.0.2", "the server reaches a host in VLAN 10"),
+    "pings of 8,972 octets in VLAN 20, from a virtual machine": lambda guest: pings(guest, JUMBO_PING, "10.20.0.2", "a virtual machine reaches a host", "vm"),
     "frames of another VLAN": tags,
     "frames lost, and longest gap": lambda guest: server_moves(guest, lambda: None, "frames of the virtual machine", 0),
     "systemctl restart": server_stays,
@@ -265,26 +256,23 @@ def router_files() -> dict[str, str]:
 
 
 def router_boots(guest: Guest) -> str:
-    took = guest.boots()
-    up = comes_up(guest, seconds=2 * COMES_UP)
-    check(up is not None, "both links carry to the named partner at boot", journal(guest))
+    took = booted(guest, "both links carry to the named partner at boot")
     way = status(guest).get("carry", {}).get("way")
     check(way == "fast", "the way is fast", way)
     left_alone(guest)
-    failed = guest.text("systemctl --failed --plain --no-legend")
-    check(failed == "", "no unit failed", failed)
-    return f"{took:.0f} s"
+    no_unit_failed(guest)
+    return took
 
 
 def routes(guest: Guest) -> str:
-    reaches(guest, "", "2001:db8::2", 1400, "the router reaches its provider by IPv6")
-    return reaches(guest, "lan", "203.0.113.1", 1472, "a host behind the router reaches one behind the provider")
+    pings(guest, 1400, "2001:db8::2", "the router reaches its provider by IPv6")
+    return pings(guest, 1472, "203.0.113.1", "a host behind the router reaches one behind the provider", "lan")
 
 
 def two_tags(guest: Guest) -> str:
     ended = guest.run(TWO_TAGS.format(at="-n far", device="bond0", n=2) + TWO_TAGS.format(at="", device="isp0", n=1))
     check(ended.status == 0, "both ends have a VLAN in a VLAN", ended.text)
-    return reaches(guest, "", "198.51.100.2", 1472, "packets of 1,500 octets pass with two tags")
+    return pings(guest, 1472, "198.51.100.2", "packets of 1,500 octets pass with two tags")
 
 
 def router_restarts(guest: Guest) -> str:
@@ -301,7 +289,7 @@ def one_link(guest: Guest) -> str:
     """One link is enough, and none is too few: the device has no carrier then."""
     guest.set_link(False, "eth1", "far1")
     up_again(guest, 1)
-    reaches(guest, "lan", "203.0.113.1", 1472, "with one link packets pass")
+    pings(guest, 1472, "203.0.113.1", "with one link packets pass", "lan")
     guest.set_link(False, "eth2", "far2")
     down = guest.within(COMES_UP, lambda: guest.text("cat /sys/class/net/isp0/carrier") == "0")
     check(down, "with none isp0 has no carrier, which routing sees", journal(guest))

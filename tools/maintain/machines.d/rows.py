@@ -7,7 +7,7 @@ import time
 from typing import Callable, NamedTuple
 
 from checking import Failed, check
-from ends import BOND, COMES_UP, NO_BOND, RATE, Outcome, comes_up, journal, ping, status, stream, traffic, up_again, use
+from ends import BOND, COMES_UP, FAR_AT, NO_BOND, RATE, Outcome, comes_up, journal, ping, status, stream, traffic, up_again, use
 from guest import Guest
 
 # What a link may lose when it goes: the frames of some seconds, until LACP times out, where one end alone sees it. What the other end still
@@ -66,22 +66,32 @@ def handed_over(guest: Guest, what: str, outcomes: list[Outcome], most: int, ord
     return f"{orderly(guest, what, outcomes, most, ordered)}, {away:.1f} s without a daemon"
 
 
-def boots(guest: Guest) -> str:
+def booted(guest: Guest, what: str) -> str:
+    """The guest boots, and both links carry; answers how long it took."""
     took = guest.boots()
     up = comes_up(guest, seconds=2 * COMES_UP)
-    check(up is not None, "the unit brings the bundle up at boot", journal(guest))
+    check(up is not None, what, journal(guest))
+    return f"{took:.0f} s"
+
+
+def no_unit_failed(guest: Guest) -> None:
+    failed = guest.text("systemctl --failed --plain --no-legend")
+    check(failed == "", "no unit failed", failed)
+
+
+def boots(guest: Guest) -> str:
+    took = booted(guest, "the unit brings the bundle up at boot")
     said = guest.text("systemctl show --value -p StatusText lagd@uplink")
     check(said == "up, 2 of 2 links carry", "systemctl status says so", said)
     addressed = guest.within(COMES_UP, lambda: "192.0.2.1/24" in guest.text("ip -br address show lag0"))
     check(addressed, "lag0 has its address", guest.text("ip -br address"))
-    failed = guest.text("systemctl --failed --plain --no-legend")
-    check(failed == "", "no unit failed", failed)
-    return f"{took:.0f} s"
+    no_unit_failed(guest)
+    return took
 
 
-def pings(guest: Guest) -> str:
-    ended = ping(guest)
-    check(ended.status == 0, "each of ten pings is answered", ended.text, journal(guest))
+def pings(guest: Guest, octets: int = 1472, to: str = FAR_AT, what: str = "each of ten pings of {} octets is answered", space: str = "") -> str:
+    ended = ping(guest, to, octets, space=space)
+    check(ended.status == 0, what.format(octets), ended.text, journal(guest))
     return "10 of 10" if ended.status == 0 else "FAILED"
 
 
@@ -225,7 +235,6 @@ def other_way(guest: Guest, way: str) -> str:
 
 def bonding(guest: Guest) -> str:
     """The far end is the kernel's bonding."""
-    use(guest, "")
     guest.run("systemctl stop far")
     ended = guest.run(BOND)
     if ended.status:
@@ -234,6 +243,11 @@ def bonding(guest: Guest) -> str:
     pings(guest)
     orderly(guest, "frames to and from bonding", traffic(guest, SECONDS, devices=("lag0", "bond0")), 0)
     return f"{took:.1f} s"
+
+
+def plain_to_bonding(guest: Guest) -> str:
+    use(guest, "")
+    return bonding(guest)
 
 
 def bonding_cable(guest: Guest) -> str:
@@ -267,7 +281,7 @@ ROWS: dict[str, Callable[[Guest], str]] = {
     "SIGKILL": is_killed,
     "an upgrade, and a restart": is_upgraded,
     "a stop leaves nothing": stops,
-    "bonding is the peer: up after": bonding,
+    "bonding is the peer: up after": plain_to_bonding,
     "its cable is pulled": bonding_cable,
 }
 WAYS = ("offload", "fast")

@@ -7,12 +7,12 @@ from typing import Callable
 
 from checking import Failed, check
 from deployments import Task, run_rows
-from ends import BOND, COMES_UP, FAR, FAR_AT, NEAR, OVER, carrying, comes_up, journal, ping, status, traffic, up_again, use
+from ends import COMES_UP, FAR, NEAR, OVER, carrying, comes_up, journal, ping, status, traffic, up_again, use
 from fetched import USER_MODE
 from guest import Guest
 from native import CARD
-from rows import (SECONDS, bonding_cable, boots, cable_is_pulled, card_is_pulled, is_killed, is_upgraded, near_carrier_goes, orderly, peer_is_killed,
-                  peer_is_stopped, restarts, steady, streams)
+from rows import (SECONDS, bonding, bonding_cable, boots, cable_is_pulled, card_is_pulled, is_killed, is_upgraded, near_carrier_goes, orderly,
+                  peer_is_killed, peer_is_stopped, pings, restarts, steady, streams)
 
 TEAM = "plane=team"
 FILES = {**OVER, "etc/lagd/uplink.conf": NEAR.format(more=TEAM), "etc/lagd/far.conf": FAR.format(more=TEAM)}
@@ -52,12 +52,6 @@ def comes_up_by_team(guest: Guest) -> str:
     ended = guest.run("lagd --check /etc/lagd/uplink.conf; ip -d link show lag0 | grep -c ' team '")
     check(ended.text == "1", "lagd --check has no fault of this kernel, and lag0 is a team device", ended.text)
     return took
-
-
-def pings(guest: Guest, octets: int = 1472, to: str = FAR_AT) -> str:
-    ended = ping(guest, to, octets)
-    check(ended.status == 0, f"each of ten pings of {octets} octets is answered", ended.text, journal(guest))
-    return "10 of 10" if ended.status == 0 else "FAILED"
 
 
 def jumbo(guest: Guest) -> str:
@@ -221,18 +215,6 @@ def stops(guest: Guest) -> str:
     guest.run("systemctl start lagd@uplink")
     up_again(guest)
     return "yes"
-
-
-def bonding(guest: Guest) -> str:
-    """The far end is the kernel's bonding."""
-    guest.run("systemctl stop far")
-    ended = guest.run(BOND)
-    if ended.status:
-        raise Failed("the far end is a bond", ended.text)
-    took = up_again(guest)
-    pings(guest)
-    orderly(guest, "frames to and from bonding", traffic(guest, SECONDS, devices=("lag0", "bond0")), 0)
-    return f"{took:.1f} s"
 
 
 ROWS: dict[str, Callable[[Guest], str]] = {

@@ -45,141 +45,138 @@ def pcap(path: str, packets: Iterable[tuple[float, bytes]], most: int = 262144) 
             out.write(time + struct.pack("<II", len(octets[:most]), len(octets)) + octets[:most])
 
 
-def exchange(one: Party, other: Party, seconds: Iterable[float]) -> list[tuple[float, bytes]]:
+Packets = list[tuple[float, bytes]]
+
+
+def sends(one: Party, other: Party | None, seconds: Iterable[float], source: bytes = b"") -> Packets:
+    """One end sends to the other at these times."""
+    octets = frame(source or one.source(), lacpdu(one, other))
+    return [(second, octets) for second in seconds]
+
+
+def exchange(one: Party, other: Party, seconds: Iterable[float]) -> Packets:
     """Both ends of a link, each once at these times."""
     frames = frame(one.source(), lacpdu(one, other)), frame(other.source(), lacpdu(other, one))
     return [(second + way / 250, frames[way]) for second in seconds for way in (0, 1)]
 
 
+def at(begin: float, *seconds: int) -> list[float]:
+    """Each second of a range, so much later."""
+    return [second + begin for second in range(*seconds)]
+
+
+def capture(path: str, *parts: Packets) -> None:
+    """A capture of what several send, in the order of its times."""
+    pcap(path, sorted(it for part in parts for it in part))
+
+
+def one_link(state: int, other: int | None = None, port: int = 1) -> tuple[Party, Party]:
+    """The ends of a link of the systems 1 and 2, in one state or each in its own."""
+    return Party(1, 7, port, state), Party(2, 8, port, state if other is None else other)
+
+
 def keyed(path: str, keys: Iterable[tuple[int, int]], up: tuple[int, int] | None = None) -> None:
     """Links of two systems, port to port, with the keys of both; those with the keys `up` carry, or all where nothing is said."""
-    packets: list[tuple[float, bytes]] = []
-    for port, (own, far) in enumerate(keys, 1):
-        state = FAST if up in (None, (own, far)) else FAST_DOWN
-        packets += exchange(Party(1, own, port, state), Party(2, far, port, state), (second + port / 100 for second in range(20)))
-    pcap(path, sorted(packets))
+    states = [(port, key, FAST if up in (None, key) else FAST_DOWN) for port, key in enumerate(keys, 1)]
+    capture(path, *(exchange(Party(1, own, port, state), Party(2, far, port, state), at(port / 100, 20)) for port, (own, far), state in states))
 
 
 def led(path: str, systems: Iterable[int]) -> None:
     """Links of system 1, with one key, each to one of these systems; all carry."""
-    packets: list[tuple[float, bytes]] = []
-    for port, far in enumerate(systems, 1):
-        packets += exchange(Party(1, 7, port, FAST), Party(far, 8, port, FAST), (second + port / 100 for second in range(20)))
-    pcap(path, sorted(packets))
+    capture(path, *(exchange(Party(1, 7, port, FAST), Party(far, 8, port, FAST), at(port / 100, 20)) for port, far in enumerate(systems, 1)))
 
 
 def dead(path: str) -> None:
     """From 20 s on system 1 sends nothing more on link 2: system 2 is Expired there, and then sends each 30 s."""
-    packets = exchange(Party(1, 7, 1, FAST), Party(2, 8, 1, FAST), range(100))
-    one, other = Party(1, 7, 2, FAST), Party(2, 8, 2, FAST)
-    packets += exchange(one, other, (second + 0.1 for second in range(20)))
-    expired, gone = Party(2, 8, 2, EXPIRED), Party(2, 8, 2, 0x45)
-    packets += [(second + 0.1, frame(other.source(), lacpdu(other, one))) for second in (20, 21, 22)]
-    packets += [(second + 0.1, frame(other.source(), lacpdu(expired, one))) for second in (23, 24, 25)]
-    packets += [(second + 0.1, frame(other.source(), lacpdu(gone, None))) for second in (55, 85)]
-    pcap(path, sorted(packets))
+    one, other = one_link(FAST, port=2)
+    capture(path, exchange(*one_link(FAST), range(100)), exchange(one, other, at(0.1, 20)), sends(other, one, at(0.1, 20, 23)),
+            sends(other._replace(state=EXPIRED), one, at(0.1, 23, 26)), sends(other._replace(state=DEFAULTED), None, at(0.1, 55, 86, 30)))
 
 
 def silent_beside_slow(path: str) -> None:
     """Link 2 goes down at 9 s, where system 1 sends each second, and system 2 each 30 s."""
-    packets = exchange(Party(1, 7, 1, FAST), Party(2, 8, 1, FAST), range(20))
-    one, other = Party(1, 7, 2, UP), Party(2, 8, 2, FAST)
-    packets += exchange(one, other, [0.1]) + [(second + 0.1, frame(one.source(), lacpdu(one, other))) for second in range(1, 9)]
-    pcap(path, sorted(packets))
+    one, other = one_link(UP, FAST, 2)
+    capture(path, exchange(*one_link(FAST), range(20)), exchange(one, other, [0.1]), sends(one, other, at(0.1, 1, 9)))
 
 
 def late_at_the_end(path: str) -> None:
     """The last LACPDU of system 1 comes behind a gap of 3.3 s, and the capture ends."""
-    one, other = Party(1, 7, 1, FAST), Party(2, 8, 1, FAST)
-    packets = exchange(one, other, range(11))
-    packets += [(13.3, frame(one.source(), lacpdu(one, other)))] + [(second, frame(other.source(), lacpdu(other, one))) for second in (11, 12, 13, 13.7)]
-    pcap(path, sorted(packets))
+    one, other = one_link(FAST)
+    capture(path, exchange(one, other, range(11)), sends(one, other, [13.3]), sends(other, one, (11, 12, 13, 13.7)))
 
 
 def gone(path: str) -> None:
     """From 20 s on neither end sends on link 2."""
-    packets = exchange(Party(1, 7, 1, FAST), Party(2, 8, 1, FAST), range(60))
-    pcap(path, sorted([*packets, *exchange(Party(1, 7, 2, FAST), Party(2, 8, 2, FAST), (second + 0.1 for second in range(20)))]))
+    capture(path, exchange(*one_link(FAST), range(60)), exchange(*one_link(FAST, port=2), at(0.1, 20)))
 
 
 def flaps(path: str) -> None:
     """A link that neither end sends on from 10 s to 17 s and from 27 s to 34 s."""
-    times = [float(it) for it in range(60) if not (10 < it < 17 or 27 < it < 34)]
-    pcap(path, exchange(Party(1, 7, 1, FAST), Party(2, 8, 1, FAST), times))
+    capture(path, exchange(*one_link(FAST), [*at(0, 11), *at(0, 17, 28), *at(0, 34, 60)]))
 
 
 def deaf(path: str) -> None:
     """System 1 hears nobody; its partner hears it, and loses it again and again since it sends each 30 s."""
-    one, other, lost = Party(1, 7, 1, 0x45), Party(2, 8, 1, FAST_DOWN), Party(2, 8, 1, EXPIRED)
-    packets = [(float(second), frame(one.source(), lacpdu(one, None))) for second in range(0, 100, 25)]
-    for second in range(100):
-        packets.append((second + 0.1, frame(other.source(), lacpdu(other if second % 25 < 4 else lost, one))))
-    pcap(path, sorted(packets))
+    one, other = one_link(DEFAULTED, FAST_DOWN)
+    heard, lost = ([second + 0.1 for second in range(100) if second % 25 in of] for of in (range(4), range(4, 25)))
+    capture(path, sends(one, None, at(0, 0, 100, 25)), sends(other, one, heard), sends(other._replace(state=EXPIRED), one, lost))
 
 
 def looped(path: str) -> None:
     """Both ends of a link are ports of system 1, which drops LACPDUs of its own, as Linux does: they hear nobody."""
-    ends = Party(1, 7, 1, 0xC7), Party(1, 7, 2, 0xC7)
-    pcap(path, sorted((second + it.port / 10, frame(it.source(), lacpdu(it, None))) for second in range(20) for it in ends))
+    capture(path, *(sends(Party(1, 7, port, 0xC7), None, at(port / 10, 20)) for port in (1, 2)))
 
 
 def passive(path: str) -> None:
     """Both ends are passive, and say that they carry."""
-    pcap(path, exchange(Party(1, 7, 1, FAST & ~1), Party(2, 8, 1, FAST & ~1), range(4)))
+    capture(path, exchange(*one_link(FAST & ~1), range(4)))
 
 
 def lately_deaf(path: str) -> None:
     """On link 2 system 1 is Expired for the last 4 seconds."""
-    packets = exchange(Party(1, 7, 1, FAST), Party(2, 8, 1, FAST), range(20))
-    packets += exchange(Party(1, 7, 2, FAST), Party(2, 8, 2, FAST), (second + 0.1 for second in range(16)))
-    pcap(path, sorted([*packets, *exchange(Party(1, 7, 2, EXPIRED), Party(2, 8, 2, FAST_DOWN), (second + 0.1 for second in range(16, 20)))]))
+    capture(path, exchange(*one_link(FAST), range(20)), exchange(*one_link(FAST, port=2), at(0.1, 16)),
+            exchange(*one_link(EXPIRED, FAST_DOWN, 2), at(0.1, 16, 20)))
 
 
 def stranger(path: str) -> None:
     """Two systems that hear each other, and on the same interface a third that hears nobody."""
-    third = Party(3, 9, 5, 0x47)
-    packets = exchange(Party(1, 7, 1, FAST), Party(2, 8, 1, FAST), range(60))
-    pcap(path, sorted([*packets, *((second + 0.5, frame(third.source(), lacpdu(third, None))) for second in range(60))]))
+    capture(path, exchange(*one_link(FAST), range(60)), sends(Party(3, 9, 5, 0x47), None, at(0.5, 60)))
 
 
 def set_back(path: str) -> None:
     """A good link; in the middle the clock is set back an hour."""
-    packets = exchange(Party(1, 7, 1, FAST), Party(2, 8, 1, FAST), range(60))
-    pcap(path, [(seconds + (3600 if seconds < 30 else 0), octets) for seconds, octets in packets])
+    pcap(path, exchange(*one_link(FAST), [*at(3600, 30), *at(0, 30, 60)]))
 
 
 def restarted(path: str) -> None:
     """System 2 sends nothing from 20 s to 50 s, and knows nobody then."""
-    one, other, gone, new = Party(1, 7, 1, FAST), Party(2, 8, 1, FAST), Party(1, 7, 1, 0x45), Party(2, 8, 1, 0x47)
-    packets = exchange(one, other, range(20))
-    packets += [(20.0, frame(one.source(), lacpdu(one, other))), (21.0, frame(one.source(), lacpdu(one, other)))]
-    packets += [(23.0 + it, frame(one.source(), lacpdu(one._replace(state=EXPIRED), other))) for it in range(3)]
-    packets += [(50.0, frame(other.source(), lacpdu(new, None))), (50.1, frame(one.source(), lacpdu(gone._replace(state=FAST_DOWN), new)))]
-    pcap(path, sorted([*packets, *exchange(one, other, range(51, 100))]))
+    one, other = one_link(FAST)
+    new = other._replace(state=0x47)
+    capture(path, exchange(one, other, range(20)), sends(one, other, at(0, 20, 22)), sends(one._replace(state=EXPIRED), other, at(0, 23, 26)),
+            sends(new, None, [50]), sends(one._replace(state=FAST_DOWN), new, [50.1]), exchange(one, other, range(51, 100)))
 
 
 def burst(path: str) -> None:
     """Two links with unequal keys, of which system 1 sends faster than it may at its start."""
-    packets: list[tuple[float, bytes]] = []
-    for port, key in (1, 10), (2, 20):
-        one, other = Party(1, 7, port, FAST if port == 1 else FAST_DOWN), Party(2, key, port, FAST if port == 1 else FAST_DOWN)
-        start = [(0.2 + it / 20 + port / 100, frame(one.source(), lacpdu(one, other))) for it in range(6)]
-        packets += [*start, *exchange(one, other, (second + port / 100 for second in range(1, 30)))]
-    pcap(path, sorted(packets))
+    packets: Packets = []
+    for port, key, state in (1, 10, FAST), (2, 20, FAST_DOWN):
+        one, other = Party(1, 7, port, state), Party(2, key, port, state)
+        packets += [*sends(one, other, (0.2 + it / 20 + port / 100 for it in range(6))), *exchange(one, other, at(port / 100, 1, 30))]
+    capture(path, packets)
 
 
 def crowded(path: str, count: int) -> None:
     """So many links with five keys at system 2; on each, system 1 sends tagged frames, of version 2, and too many."""
-    packets: list[tuple[float, bytes]] = []
+    packets: Packets = []
     for port in range(1, count + 1):
         one, other = Party(1, 7, port, FAST_DOWN), Party(2, 10 + port % 5, port, FAST_DOWN)
+        octets = frame(one.source(), b"\x01\x02" + lacpdu(one, other)[2:])
+        tagged = octets[:12] + b"\x81\x00\x00\x64" + octets[12:]
         for second in range(20):
-            octets = frame(one.source(), b"\x01\x02" + lacpdu(one, other)[2:])
-            tagged = octets[:12] + b"\x81\x00\x00\x64" + octets[12:]
             times = [0.0, 0.1, 0.2, 0.3, 0.4] if second % 9 == 3 else [0.0]
             packets += [(second + it + port / 1000, tagged if second == 5 else octets) for it in times]
-            packets.append((second + 0.5 + port / 1000, frame(other.source(), lacpdu(other, one))))
-    pcap(path, sorted(packets))
+        packets += sends(other, one, [second + 0.5 + port / 1000 for second in range(20)])
+    capture(path, packets)
 
 
 def option(code: int, octets: bytes) -> bytes:
@@ -213,65 +210,40 @@ def pcapng(path: str, packets: Iterable[bytes]) -> None:
 
 def bundle(path: str) -> None:
     """Eight links of two systems: link 3 has another key at system 2, and on link 5 nobody answers."""
-    packets: list[tuple[float, bytes]] = []
-    for second in range(60):
-        for port in range(1, 9):
-            state, at = UP if second > 3 and port != 3 else DOWN, second + port / 100
-            one, other = Party(1, 7, port, DEFAULTED if port == 5 else state), Party(2, 9 if port == 3 else 7, port, state)
-            packets.append((at, frame(one.source(), lacpdu(one, None if port == 5 else other))))
-            if port != 5:
-                packets.append((at + 0.004, frame(other.source(), lacpdu(other, one))))
-    pcap(path, packets)
+    packets: Packets = []
+    for port in range(1, 9):
+        for state, seconds in (DOWN, at(port / 100, 4)), (DOWN if port == 3 else UP, at(port / 100, 4, 60)):
+            one, other = Party(1, 7, port, state), Party(2, 9 if port == 3 else 7, port, state)
+            packets += sends(one._replace(state=DEFAULTED), None, seconds) if port == 5 else exchange(one, other, seconds)
+    capture(path, packets)
 
 
 def links(path: str, states: Iterable[int]) -> None:
     """Links of two systems whose ends name each other: both ends of each have one state all the time."""
-    packets: list[tuple[float, bytes]] = []
-    for port, state in enumerate(states, 1):
-        one, other = Party(1, 7, port, state), Party(2, 8, port, state)
-        for second in range(20):
-            packets.append((second + port / 100, frame(one.source(), lacpdu(one, other))))
-            packets.append((second + port / 100 + 0.004, frame(other.source(), lacpdu(other, one))))
-    pcap(path, sorted(packets))
+    capture(path, *(exchange(*one_link(state, port=port), at(port / 100, 20)) for port, state in enumerate(states, 1)))
 
 
 def split(path: str) -> None:
     """Two ports of system 1, with one key, lead to the systems 2 and 3."""
-    packets: list[tuple[float, bytes]] = []
-    for second in range(10):
-        for port in 1, 2:
-            one, other = Party(1, 7, port, UP), Party(port + 1, 8, 4, UP)
-            packets.append((second + port / 100, frame(one.source(), lacpdu(one, other))))
-            packets.append((second + port / 100 + 0.004, frame(other.source(), lacpdu(other, one))))
-    pcap(path, packets)
+    capture(path, *(exchange(Party(1, 7, port, UP), Party(port + 1, 8, 4, UP), at(port / 100, 10)) for port in (1, 2)))
 
 
 def attached(path: str, heard: bool) -> None:
     """System 2 is attached, and system 1 is not: it hears nothing, or has no room for the link."""
-    packets: list[tuple[float, bytes]] = []
-    for second in range(20):
-        one, other = Party(1, 7, 1, DOWN if heard else DEFAULTED), Party(2, 8, 1, ATTACHED)
-        packets.append((second, frame(one.source(), lacpdu(one, other if heard else None))))
-        packets.append((second + 0.004, frame(other.source(), lacpdu(other, one))))
-    pcap(path, packets)
+    one, other = one_link(DOWN if heard else DEFAULTED, ATTACHED)
+    capture(path, sends(one, other if heard else None, range(20)), sends(other, one, at(0.004, 20)))
 
 
 def astray(path: str) -> None:
     """Two ends that hear nothing: the frames of one go to another address."""
-    one, other = Party(1, 7, 1, DEFAULTED), Party(2, 8, 1, DEFAULTED)
-    frames = [frame(one.source(), lacpdu(one, None)), SLOW[:-1] + b"\x00" + frame(other.source(), lacpdu(other, None))[6:]]
-    pcap(path, ((second + way / 250, frames[way]) for second in range(20) for way in (0, 1)))
+    one, other = one_link(DEFAULTED)
+    capture(path, sends(one, None, range(20)), [(second, SLOW[:-1] + b"\x00" + octets[6:]) for second, octets in sends(other, None, at(0.004, 20))])
 
 
 def copied(path: str) -> None:
     """Two machines with one system, one key and one port number; and a port of the system that hears itself."""
-    packets: list[tuple[float, bytes]] = []
     one, itself = Party(1, 7, 1, DOWN), Party(1, 7, 2, DOWN)
-    for second in range(10):
-        packets.append((second, frame(one.source(), lacpdu(one, one))))
-        packets.append((second + 0.1, frame(Party(9, 7, 1, DOWN).source(), lacpdu(one, one))))
-        packets.append((second + 0.2, frame(itself.source(), lacpdu(itself, itself))))
-    pcap(path, packets)
+    capture(path, sends(one, one, range(10)), sends(one, one, at(0.1, 10), Party(9, 7, 1, DOWN).source()), sends(itself, itself, at(0.2, 10)))
 
 
 def crowd(path: str, count: int) -> None:
@@ -282,41 +254,30 @@ def crowd(path: str, count: int) -> None:
 
 def slow(path: str) -> None:
     """System 2 sends each 30 s, whatever it is asked for: system 1 loses it behind each."""
-    one, other, lost = Party(1, 7, 1, FAST), Party(2, 8, 1, FAST), Party(1, 7, 1, EXPIRED)
-    packets = [(second + 0.004, frame(other.source(), lacpdu(other, one._replace(state=UP)))) for second in range(0, 100, 30)]
-    packets += [(float(second), frame(one.source(), lacpdu(one if second % 30 < 4 else lost, other))) for second in range(0, 100) if second % 30 < 8]
-    pcap(path, sorted(packets))
+    one, other = one_link(FAST)
+    heard, lost = ([second for second in range(100) if second % 30 in of] for of in (range(4), range(4, 8)))
+    capture(path, sends(other, one._replace(state=UP), at(0.004, 0, 100, 30)), sends(one, other, heard), sends(one._replace(state=EXPIRED), other, lost))
 
 
 def often(path: str) -> None:
     """System 2 sends each 3.2 s, where short timeouts are asked for: it answers the end that lost it."""
-    one, other, lost = Party(1, 7, 1, FAST), Party(2, 8, 1, FAST), Party(1, 7, 1, EXPIRED)
-    packets = [(turn * 3.2, frame(other.source(), lacpdu(other, one))) for turn in range(30)]
-    for turn in range(30):
-        packets += [(turn * 3.2 + it, frame(one.source(), lacpdu(one, other))) for it in (0.1, 1.1, 2.1)]
-        packets.append((turn * 3.2 + 3.1, frame(one.source(), lacpdu(lost, other))))
-    pcap(path, sorted(packets))
+    one, other = one_link(FAST)
+    turns = [turn * 3.2 for turn in range(30)]
+    capture(path, sends(other, one, turns), sends(one, other, (turn + it for turn in turns for it in (0.1, 1.1, 2.1))),
+            sends(one._replace(state=EXPIRED), other, (turn + 3.1 for turn in turns)))
 
 
 def behind(path: str) -> None:
     """Two links of one time, one behind the other; system 2 has two keys."""
-    whole: list[tuple[float, bytes]] = []
-    for port, key in (1, 10), (2, 20):
-        whole += exchange(Party(1, 7, port, FAST), Party(2, key, port, FAST), (second + port / 10 for second in range(10)))
-    pcap(path, whole)
+    pcap(path, [it for port in (1, 2) for it in exchange(Party(1, 7, port, FAST), Party(2, 10 * port, port, FAST), at(port / 10, 10))])
 
 
 def between(path: str) -> None:
     """System 1 has two bundles, to the systems 2 and 3: the second link and the third one are crossed."""
-    packets: list[tuple[float, bytes]] = []
-    for port, (key, system, far) in enumerate([(10, 2, 1), (10, 3, 1), (20, 2, 2), (20, 3, 2)], 1):
-        packets += exchange(Party(1, key, port, FAST), Party(system, 8, far, FAST), (second + port / 100 for second in range(20)))
-    pcap(path, sorted(packets))
+    ends = enumerate([(10, 2, 1), (10, 3, 1), (20, 2, 2), (20, 3, 2)], 1)
+    capture(path, *(exchange(Party(1, key, port, FAST), Party(system, 8, far, FAST), at(port / 100, 20)) for port, (key, system, far) in ends))
 
 
 def priorities(path: str) -> None:
     """Both links of system 1 lead to one address, by two system priorities."""
-    packets: list[tuple[float, bytes]] = []
-    for port, priority in (1, 32768), (2, 65535):
-        packets += exchange(Party(1, 7, port, FAST), Party(2, 8, port, FAST, priority), (second + port / 100 for second in range(20)))
-    pcap(path, sorted(packets))
+    capture(path, *(exchange(Party(1, 7, port, FAST), Party(2, 8, port, FAST, priority), at(port / 100, 20)) for port, priority in ((1, 32768), (2, 65535))))

@@ -18,6 +18,7 @@ GB = 1_000_000_000
     [(4, 23 * GB, 4), (16, 23 * GB, 7), (8, 3 * GB, 1), (8, 3 * GB - 1, 1), (2, 0, 1), (5, 15 * GB, 5), (6, 15 * GB, 5)],
 )
 def test_a_lane_has_a_processor_and_3_gb(monkeypatch: pytest.MonkeyPatch, processors: int, memory: int, found: int) -> None:
+    monkeypatch.delenv("RT_JOBS", raising=False)
     monkeypatch.setattr(lanes, "processors", lambda: processors)
     monkeypatch.setattr(lanes, "memory", lambda: memory)
     assert lanes.lanes() == found

@@ -27,6 +27,19 @@ FILES = {
         ("tools/maintain/wrong-bodies.d/low.edits", "edits"),
         ("tools/maintain/live.d/a.c", "tools"),
         ("tools/maintain/tests/test_a.py", "tests of the tools"),
+        ("tools/maintain/bench.d/lagbench/codec.rt.txt", "tools"),
+        ("tools/check", "tools"),
+        ("tools/dist.d/abi.py", "tools of users"),
+        ("tools/dist.d/debian/control", None),
+        ("crates/lagffi/include/lag.h", "header"),
+        ("crates/example_a/src/lib.rt", "code of examples"),
+        ("hosts/teamd/lacp_team.h", "hosts"),
+        ("hosts/teamd/tests/kept.c", "tests of hosts"),
+        ("hosts/README.md", None),
+        ("python/lagconform/pics.py", "Python modules"),
+        ("python/tests/conversations/ports.txt", None),
+        ("python/tests/test_lines.py", "tests of Python"),
+        ("page/parts/a.js", "page"),
         ("docs/USING.md", None),
     ],
 )
@@ -56,3 +69,8 @@ def test_empty_lines_are_left_out() -> None:
 def test_edits_and_changes_are_not_touched() -> None:
     files = {"docs/A.md": "`is_new`", "python/niwhopera/_numbers.py": "is_new", "CHANGELOG.md": "is_new", "crates/a/must-fail/b.edit": "is_new"}
     assert measure.counted(measure.touched(files, r"\bis_new\b")) == "2 / 1"
+
+
+def test_the_product_stands_beside_what_checks_it() -> None:
+    told = measure.figures({**FILES, "tools/check": "1\n2\n3\n", "python/tests/test_a.py": "4\n", "docs/A.md": "5\n"})
+    assert (told["lines: product"], told["lines: tests and tools"], told["tests and tools, a line of the product"]) == ("20", "4", "0.20")
