@@ -104,8 +104,7 @@ static void drop_member(struct fast_private *own, uint16_t number) {
 void end_fast(struct tap_plane *tap) {
     struct fast_private *own = tap->fast;
     open_host(tap, false);
-    for (uint16_t number = 0; number < CONVERSATIONS; number++)
-        drop_member(own, number);
+    for (uint16_t number = 0; number < CONVERSATIONS; number++) drop_member(own, number);
     for (uint16_t i = 0; i < tap->ports->count; i++) __atomic_store_n(&own->entries[i].up_to, 0, __ATOMIC_SEQ_CST);
     if (own->sender >= 0) detach_stored(tap->process->store, "sender", tap_index(tap->device), own->sender);
     if (own->handover >= 0) detach_stored(tap->process->store, "handover", tap_index(tap->device), own->handover);

@@ -35,7 +35,8 @@ struct members_private {
 
 struct members_private *make_members_private(void) {
     struct members_private *made = make_room(sizeof *made);
-    for (unsigned i = 0; i < NIW_MOST_PORTS; i++) made->members[i].sockets[DATA] = made->members[i].sockets[MARKERS] = made->members[i].sockets[DIRECT] = -1;
+    for (unsigned i = 0; i < NIW_MOST_PORTS; i++)
+        for (enum socket_kind kind = DATA; kind < SOCKETS; kind++) made->members[i].sockets[kind] = -1;
     return made;
 }
 
@@ -517,7 +518,10 @@ void drain_member(struct plane *plane, uint16_t port) {
 }
 
 void receive_data(struct tap_plane *tap, uint16_t port) {
-    if (tap->members->members[port - 1].sockets[MARKERS] < 0) receive_packets(tap, port, DATA);
+    if (tap->members->members[port - 1].sockets[MARKERS] < 0) {
+        receive_packets(tap, port, DATA);
+        return;
+    }
     receive_packets(tap, port, MARKERS);
     receive_packets(tap, port, DIRECT);
 }

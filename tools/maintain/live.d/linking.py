@@ -134,7 +134,7 @@ def build_flights(folder: str) -> str:
 
 def build_segments(folder: str) -> str:
     """Builds what cuts frames and puts them together alone, with ASan and UBSan, over a device in memory; answers the path of the program."""
-    sources = [*(f"{MAINTAIN}/live.d/{name}.c" for name in ("segments", "checks")), *sources_of("gro", "gso", "packets", "sums")]
+    sources = [*(f"{MAINTAIN}/live.d/{name}.c" for name in ("segments", "checks")), *sources_of("gro", "gso", "packets")]
     return build(os.path.join(folder, "segments"), sources, [], *STRICT, f"-I{DAEMON}", *SANITIZED)
 
 
