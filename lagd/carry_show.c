@@ -99,7 +99,7 @@ static void write_metrics_of_carry(struct control *control) {
         snprintf(name, sizeof name, "port_%s_total", MEMBER_COUNTERS[i].name);
         add_head(control->report, name, "counter", MEMBER_COUNTERS[i].help);
         EACH_LINK(link, control->ports)
-            if (link->used) add_port_value(control, name, link, member_count(control->tap->members, link->settings.number, i));
+            if (link->used) add_port_value(control, name, link, member_counts(control->tap->members, link->settings.number)[i]);
     }
 }
 
@@ -118,7 +118,7 @@ void show_member(struct control *control, const struct link *link, enum form for
         count_busy(control->carry, link->settings.number));
     for (unsigned i = 0; i < control->plane->carrying->member_counts; i++)
         add(control->report, form == AS_JSON ? ",\"%s\":%" PRIu64 : " %s %" PRIu64, MEMBER_COUNTERS[i].name,
-            member_count(control->tap->members, link->settings.number, i));
+            member_counts(control->tap->members, link->settings.number)[i]);
     CALL(control->plane->queueing->show, control, link, form);
     add(control->report, form == AS_JSON ? "}" : "\n");
 }

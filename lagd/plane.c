@@ -33,12 +33,12 @@ static const struct passing BY_KERNEL = {
 };
 
 static const struct queueing ONE_QUEUE = {
-    .set = join_queues, .set_again = look_at_discipline, .send_marker = send_by_one_queue, .accept_response = accept_only_response,
+    .set = join_queues, .send_marker = send_by_one_queue, .accept_response = accept_only_response,
     .answer = answer_at_once, .text = "", .markers_at_once = 1,
 };
 
 static const struct queueing ALL_QUEUES = {
-    .start = start_all_queues, .fifos_of = count_fifos, .set = keep_queues, .set_again = keep_queues_again, .follow = follow_member_queues,
+    .start = start_all_queues, .fifos_of = count_fifos, .set = keep_queues, .follow = follow_member_queues,
     .watch = watch_queues, .mark = mark_conversation, .send_marker = send_by_queues, .accept_response = accept_response_of_queue,
     .answer = answer_later, .show = show_queues, .text = ", all queues", .markers_at_once = MARKERS_AT_ONCE,
 };

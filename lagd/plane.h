@@ -18,7 +18,7 @@ struct settings;
 struct tap_plane;
 struct team_plane;
 
-/* CALL calls a function of a table, or does nothing without one; ASK answers `usual` without one. run_programs, set, set_again, send_marker,
+/* CALL calls a function of a table, or does nothing without one; ASK answers `usual` without one. run_programs, set, send_marker,
  * accept_response and answer of the last two tables are in each one. */
 #define CALL(function, ...) do { if (function) (function)(__VA_ARGS__); } while (0)
 #define ASK(function, usual, ...) ((function) ? (function)(__VA_ARGS__) : (usual))
@@ -91,8 +91,8 @@ struct passing {
 struct queueing {
     void (*start)(struct tap_plane *tap); /* a fault ends the program */
     unsigned (*fifos_of)(int index); /* how many disciplines that keep the order a member gets */
-    bool (*set)(struct tap_plane *tap, struct link *link, struct guard *guard); /* false where that is looked at again once it has queues */
-    void (*set_again)(struct tap_plane *tap, struct link *link, struct guard *guard); /* after its discipline changed */
+    /* False where that is looked at again once it has queues; `again`: after its discipline changed. */
+    bool (*set)(struct tap_plane *tap, struct link *link, struct guard *guard, bool again);
     bool (*follow)(struct tap_plane *tap, struct link *link); /* a discipline changed: whether the member is still taken up */
     void (*watch)(struct tap_plane *tap); /* 100 ms passed: a member whose queues others changed is taken up anew */
     void (*mark)(struct tap_plane *tap, uint16_t port, uint16_t number, struct msghdr *message); /* which queue a frame of a conversation goes by */

@@ -52,11 +52,8 @@ static void accept_fit(struct tap_plane *tap, struct conversation *conversation,
 void accept_from_host(struct tap_plane *tap, uint8_t *packet, size_t length) {
     uint64_t number;
     tap->carry->counts[FROM_HOST]++;
-    if (length < head_octets() + ETH_HLEN) {
-        tap->carry->counts[UNFIT]++;
-        return;
-    }
-    if (!is_told(tap->process, conversation_of(tap->protocol, packet + head_octets(), length - head_octets()), "niw_conversation", &number)) {
+    if (length < head_octets() + ETH_HLEN
+        || !is_told(tap->process, conversation_of(tap->protocol, packet + head_octets(), length - head_octets()), "niw_conversation", &number)) {
         tap->carry->counts[UNFIT]++;
         return;
     }

@@ -11,8 +11,8 @@
 #define DOWN_WAIT 100
 /* With more frames left than this, while none waits, frames were lost on their way to the daemon. */
 #define MOST_BETWEEN 64
-/* For how long frames of the host are taken without a word of the daemon, in nanoseconds: as long as the peer waits for an LACPDU. */
-#define OPEN_FOR 3000000000u
+/* For how long frames of the host are taken without a word of the daemon, in milliseconds: as long as the peer waits for an LACPDU. */
+#define OPEN_FOR 3000
 
 struct fast_private {
     struct fast_row *rows;
@@ -20,11 +20,10 @@ struct fast_private {
     struct fast_host *host;
     struct fast_place *places;
     int receiver; /* the program of the members */
-    int tap_at; /* the index of the TAP device */
-    int sender, handover; /* what keeps its programs there */
+    int sender, handover; /* what keeps its programs at the TAP device, or -1 */
     bool queue_holds; /* whether its queueing discipline may hold frames */
     struct fast_member counted[NIW_MOST_PORTS];
-    uint64_t counted_overflows, counted_unfit;
+    struct fast_host counted_host;
 };
 
 MAKES_WITH(fast, .sender = -1, .handover = -1)
@@ -41,7 +40,7 @@ static int needed(int program) {
 
 /* Has a program run at the TAP device; answers what keeps it there. */
 static int keep_program(struct tap_plane *tap, const char *kind, int program, bool egress) {
-    int opened = attach_stored(tap->process->store, kind, program, tap->fast->tap_at, egress);
+    int opened = attach_stored(tap->process->store, kind, program, tap_index(tap->device), egress);
     if (opened < 0) stop(REFUSED, "fast: no program of an interface, which Linux has from 6.6 on", strerror(-opened));
     close(program);
     return opened;
@@ -51,7 +50,7 @@ static int keep_program(struct tap_plane *tap, const char *kind, int program, bo
 static void *open_map(struct tap_plane *tap, int number, uint32_t size, uint32_t count, int *map) {
     int left = tap->process->inherited->tap;
     *map = claim_stored(tap->process->store, "map", number);
-    void *at = *map >= 0 && left != 0 && left == tap->fast->tap_at ? map_again(size, count, *map) : NULL;
+    void *at = *map >= 0 && left != 0 && left == tap_index(tap->device) ? map_again(size, count, *map) : NULL;
     if (at) return at;
     if (*map >= 0) close_stored(tap->process->store, "map", number, *map);
     at = make_map(size, count, map);
@@ -60,18 +59,24 @@ static void *open_map(struct tap_plane *tap, int number, uint32_t size, uint32_t
     return at;
 }
 
+/* How much more a count of the kernel is than it was when it was looked at last. */
+static uint64_t more_of(const uint64_t *count, uint64_t *counted) {
+    uint64_t before = *counted;
+    *counted = __atomic_load_n(count, __ATOMIC_ACQUIRE);
+    return *counted - before;
+}
+
 /* What the kernel did for the last daemon is no count of this one. */
 static void begin_counts(struct tap_plane *tap) {
     struct fast_private *own = tap->fast;
     for (uint16_t number = 0; number < CONVERSATIONS; number++) {
         struct fast *fast = &tap->carry->conversations[number].fast;
-        fast->counted = __atomic_load_n(&own->rows[number].passed, __ATOMIC_ACQUIRE);
-        fast->overflowed = __atomic_load_n(&own->rows[number].overflowed, __ATOMIC_ACQUIRE);
+        (void)more_of(&own->rows[number].passed, &fast->counted);
+        (void)more_of(&own->rows[number].overflowed, &fast->overflowed);
     }
     memcpy(own->counted, own->entries, sizeof own->counted);
     for (uint16_t i = tap->ports->count; i < NIW_MOST_PORTS; i++) __atomic_store_n(&own->entries[i].up_to, 0, __ATOMIC_SEQ_CST);
-    own->counted_overflows = __atomic_load_n(&own->host->overflowed, __ATOMIC_RELAXED);
-    own->counted_unfit = __atomic_load_n(&own->host->unfit, __ATOMIC_RELAXED);
+    own->counted_host = *own->host;
 }
 
 /* Loads all that the kernel is to run, while the daemon may. */
@@ -79,7 +84,6 @@ void start_fast(struct tap_plane *tap) {
     struct fast_private *own = tap->fast;
     struct fast_maps maps;
     need(wait_for_programs(), "fast: the kernel cannot wait for its programs (membarrier)");
-    own->tap_at = tap_index(tap->device);
     own->rows = open_map(tap, 0, sizeof *own->rows, CONVERSATIONS, &maps.rows);
     own->entries = open_map(tap, 1, sizeof *own->entries, NIW_MOST_PORTS, &maps.members);
     own->host = open_map(tap, 2, sizeof *own->host, 1, &maps.host);
@@ -91,17 +95,20 @@ void start_fast(struct tap_plane *tap) {
     own->sender = keep_program(tap, "sender", needed(load_program(tap->settings, "sender", &maps)), true);
 }
 
+/* The kernel passes nothing on any more by this row. */
+static void drop_member(struct fast_private *own, uint16_t number) {
+    (void)__atomic_and_fetch(&own->rows[number].word, ~(uint64_t)UINT32_MAX, __ATOMIC_SEQ_CST);
+}
+
 /* Nothing is passed on any more, from the first line on. */
 void end_fast(struct tap_plane *tap) {
     struct fast_private *own = tap->fast;
     open_host(tap, false);
-    for (uint16_t number = 0; number < CONVERSATIONS; number++)
-        (void)__atomic_and_fetch(&own->rows[number].word, ~(uint64_t)UINT32_MAX, __ATOMIC_SEQ_CST);
+    for (uint16_t number = 0; number < CONVERSATIONS; number++) drop_member(own, number);
     for (uint16_t i = 0; i < tap->ports->count; i++) __atomic_store_n(&own->entries[i].up_to, 0, __ATOMIC_SEQ_CST);
-    if (own->sender >= 0) detach_stored(tap->process->store, "sender", own->tap_at, own->sender);
-    if (own->handover >= 0) detach_stored(tap->process->store, "handover", own->tap_at, own->handover);
+    if (own->sender >= 0) detach_stored(tap->process->store, "sender", tap_index(tap->device), own->sender);
+    if (own->handover >= 0) detach_stored(tap->process->store, "handover", tap_index(tap->device), own->handover);
     own->sender = own->handover = -1;
-    own->tap_at = 0;
 }
 
 /* The place of a member, and what stands there for it. */
@@ -114,13 +121,10 @@ static uint64_t place_word(const struct link *link) {
 }
 
 /* Whether another member of now has the place of this one. */
-static bool is_place_taken(struct tap_plane *tap, const struct link *link) {
-    for (uint16_t i = 0; i < tap->ports->count; i++) {
-        const struct link *other = &tap->ports->links[i];
-        if (other != link && other->socket >= 0 && member_place((uint32_t)other->index) == member_place((uint32_t)link->index)
-            && __atomic_load_n(place_at(tap->fast, other), __ATOMIC_SEQ_CST) == place_word(other))
-            return true;
-    }
+static bool is_place_taken(struct tap_plane *tap, const struct link *wanted) {
+    uint64_t word = __atomic_load_n(place_at(tap->fast, wanted), __ATOMIC_SEQ_CST);
+    EACH_LINK_AS_IS(link, tap->ports)
+        if (link != wanted && link->socket >= 0 && place_word(link) == word) return true;
     return false;
 }
 
@@ -155,53 +159,55 @@ static void subtract(struct fast_private *own, uint16_t number, uint32_t segment
 }
 
 static void subtract_overflowed(struct tap_plane *tap, struct conversation *conversation) {
-    uint64_t overflowed = __atomic_load_n(&tap->fast->rows[number_in(tap->carry, conversation)].overflowed, __ATOMIC_ACQUIRE);
-    if (overflowed == conversation->fast.overflowed) return;
-    subtract(tap->fast, number_in(tap->carry, conversation), (uint32_t)(overflowed - conversation->fast.overflowed));
-    conversation->fast.overflowed = overflowed;
+    uint16_t number = number_in(tap->carry, conversation);
+    uint64_t more = more_of(&tap->fast->rows[number].overflowed, &conversation->fast.overflowed);
+    if (more == 0) return;
+    subtract(tap->fast, number, (uint32_t)more);
     conversation->fast.suspected = false;
 }
 
-/* Counts what the kernel passed on of a conversation; answers whether there was something. */
-static bool count_passed(struct tap_plane *tap, struct conversation *conversation) {
-    uint64_t passed = __atomic_load_n(&tap->fast->rows[number_in(tap->carry, conversation)].passed, __ATOMIC_ACQUIRE);
-    uint64_t more = passed - conversation->fast.counted;
-    conversation->fast.counted = passed;
-    if (more == 0 || conversation->fast.port == 0) return false;
+/* Counts what the kernel passed on of a conversation. */
+static void count_passed(struct tap_plane *tap, struct conversation *conversation) {
+    uint64_t more = more_of(&tap->fast->rows[number_in(tap->carry, conversation)].passed, &conversation->fast.counted);
+    if (more == 0 || conversation->fast.port == 0) return;
+    uint64_t *counts = member_counts(tap->members, conversation->fast.port);
     conversation->used = true;
-    note_passed(tap, conversation->fast.port, more);
-    return true;
+    counts[DATA_SENT] += more;
+    counts[PASSED_ON] += more;
+    tap->carry->counts[FROM_HOST] += more;
+}
+
+/* Counts what the kernel handed up, or lost, of what came on a port. */
+static void count_handed_up(struct tap_plane *tap, uint16_t port) {
+    const struct fast_member *now = &tap->fast->entries[port - 1];
+    struct fast_member *counted = &tap->fast->counted[port - 1];
+    uint64_t *counts = member_counts(tap->members, port);
+    uint64_t passed_up = more_of(&now->passed_up, &counted->passed_up), uncollected = more_of(&now->uncollected, &counted->uncollected);
+    uint64_t wrong_length = more_of(&now->wrong_length, &counted->wrong_length);
+    counts[DATA_RECEIVED] += passed_up + uncollected + wrong_length;
+    counts[PASSED_UP] += passed_up;
+    counts[UNCOLLECTED] += uncollected;
+    counts[WRONG_LENGTH] += wrong_length;
+    tap->carry->counts[HANDED_UP] += passed_up;
+    if (uncollected > 0) suspect_aggregator(tap->carry, tap->ports->links[port - 1].view.aggregator);
 }
 
 void count_fast_frames(struct tap_plane *tap) {
     struct fast_private *own = tap->fast;
-    for (uint16_t number = 0; number < CONVERSATIONS; number++) (void)count_passed(tap, &tap->carry->conversations[number]);
-    for (uint16_t i = 0; i < tap->ports->count; i++) {
-        struct fast_member now = {
-            .passed_up = __atomic_load_n(&own->entries[i].passed_up, __ATOMIC_RELAXED),
-            .uncollected = __atomic_load_n(&own->entries[i].uncollected, __ATOMIC_RELAXED),
-            .wrong_length = __atomic_load_n(&own->entries[i].wrong_length, __ATOMIC_RELAXED),
-        };
-        struct fast_member more = {0, now.passed_up - own->counted[i].passed_up, now.uncollected - own->counted[i].uncollected,
-            now.wrong_length - own->counted[i].wrong_length};
-        own->counted[i] = now;
-        add_fast_counts(tap, (uint16_t)(i + 1), &more);
-    }
-    uint64_t overflowed = __atomic_load_n(&own->host->overflowed, __ATOMIC_RELAXED);
-    tap->carry->counts[FROM_HOST] += overflowed - own->counted_overflows;
-    tap->carry->counts[OVERFLOWED] += overflowed - own->counted_overflows;
-    own->counted_overflows = overflowed;
-    uint64_t unfit = __atomic_load_n(&own->host->unfit, __ATOMIC_RELAXED);
-    tap->carry->counts[FROM_HOST] += unfit - own->counted_unfit;
-    tap->carry->counts[UNFIT] += unfit - own->counted_unfit;
-    own->counted_unfit = unfit;
+    for (uint16_t number = 0; number < CONVERSATIONS; number++) count_passed(tap, &tap->carry->conversations[number]);
+    for (uint16_t port = 1; port <= tap->ports->count; port++) count_handed_up(tap, port);
+    uint64_t overflowed = more_of(&own->host->overflowed, &own->counted_host.overflowed);
+    uint64_t unfit = more_of(&own->host->unfit, &own->counted_host.unfit);
+    tap->carry->counts[FROM_HOST] += overflowed + unfit;
+    tap->carry->counts[OVERFLOWED] += overflowed;
+    tap->carry->counts[UNFIT] += unfit;
 }
 
 /* Whether the kernel may pass a conversation on at a port. */
 static bool may_pass(struct tap_plane *tap, const struct conversation *conversation, uint16_t port) {
     struct fast_private *own = tap->fast;
     struct niw_assignment state;
-    if (own->tap_at == 0 || own->queue_holds || conversation->home != tap->carry->active || tap->carry->active == 0
+    if (own->sender < 0 || own->queue_holds || conversation->home != tap->carry->active || tap->carry->active == 0
         || !has_fast_member(tap->members, port))
         return false;
     return ask_state(tap->protocol, tap->carry->active, number_in(tap->carry, conversation), &state) && state.what == NIW_CONVERSATION_ON
@@ -218,21 +224,21 @@ static void wait_or_end(struct tap_plane *tap) {
     end_fast(tap);
 }
 
-/* Takes the rows back that are chosen; once that is done, all that they passed on is with the members, and counted. */
+/* Takes the rows back that are chosen, or all; once that is done, all that they passed on is with the members, and counted. */
 static void withdraw_chosen(struct tap_plane *tap, bool (*is_chosen)(struct tap_plane *tap, const struct conversation *conversation, uint16_t port),
     uint16_t port) {
     bool taken[CONVERSATIONS] = {false}, any = false;
     for (uint16_t number = 0; number < CONVERSATIONS; number++) {
         const struct conversation *conversation = &tap->carry->conversations[number];
-        if (conversation->fast.port == 0 || !is_chosen(tap, conversation, port)) continue;
-        (void)__atomic_and_fetch(&tap->fast->rows[number].word, ~(uint64_t)UINT32_MAX, __ATOMIC_SEQ_CST);
+        if (conversation->fast.port == 0 || (is_chosen && !is_chosen(tap, conversation, port))) continue;
+        drop_member(tap->fast, number);
         taken[number] = any = true;
     }
     if (any) wait_or_end(tap);
     for (uint16_t number = 0; any && number < CONVERSATIONS; number++) {
         struct conversation *conversation = &tap->carry->conversations[number];
         if (!taken[number]) continue;
-        (void)count_passed(tap, conversation);
+        count_passed(tap, conversation);
         conversation->fast.port = 0;
         tap->carry->counts[WITHDRAWN]++;
     }
@@ -241,11 +247,6 @@ static void withdraw_chosen(struct tap_plane *tap, bool (*is_chosen)(struct tap_
 static bool is_wrong(struct tap_plane *tap, const struct conversation *conversation, uint16_t port UNUSED) {
     return tap->carry->port_of[number_in(tap->carry, conversation)] != conversation->fast.port
         || !has_fast_member(tap->members, conversation->fast.port);
-}
-
-/* Where the library refuses to tell, or the queue of the TAP device holds frames, the kernel passes nothing on. */
-static bool is_any(struct tap_plane *tap UNUSED, const struct conversation *conversation UNUSED, uint16_t port UNUSED) {
-    return true;
 }
 
 static bool is_on(struct tap_plane *tap UNUSED, const struct conversation *conversation, uint16_t port) {
@@ -271,16 +272,17 @@ void resume_fast(struct tap_plane *tap) {
         if (conversation->port != 0 && member == tap->ports->links[conversation->port - 1].index && may_pass(tap, conversation, conversation->port)) {
             conversation->fast.port = conversation->port;
         } else {
-            (void)__atomic_and_fetch(&tap->fast->rows[number].word, ~(uint64_t)UINT32_MAX, __ATOMIC_SEQ_CST);
+            drop_member(tap->fast, number);
             any = true;
         }
     }
     if (any) wait_or_end(tap);
 }
 
-/* Takes back what is not, or no longer, on the port where the kernel passes it on: before a marker goes there. */
+/* Takes back what is not, or no longer, on the port where the kernel passes it on, before a marker goes there; all, where the library refuses
+ * to tell. */
 void withdraw(struct tap_plane *tap) {
-    withdraw_chosen(tap, ask_ports(tap->protocol, tap->carry->active, tap->carry->port_of) ? is_wrong : is_any, 0);
+    withdraw_chosen(tap, ask_ports(tap->protocol, tap->carry->active, tap->carry->port_of) ? is_wrong : NULL, 0);
 }
 
 /* The link of a port goes down, or its interface: before the library hears of it. */
@@ -301,7 +303,7 @@ void follow_host_queue(struct tap_plane *tap, const char *discipline) {
         && strcmp(discipline, "noop") != 0; /* it has that one until it is up */
     if (!discipline[0] || holds == own->queue_holds) return;
     own->queue_holds = holds;
-    if (holds) withdraw_chosen(tap, is_any, 0);
+    if (holds) withdraw_chosen(tap, NULL, 0);
     (void)say(tap->process, LOG_WARNING | ABOUT_DATA, "carry %s: its queueing discipline is %s: its data %s", tap->settings->carry,
         discipline, holds ? "stays with the daemon, since that discipline may hold frames" : "may go by the kernel");
 }
@@ -310,15 +312,11 @@ void follow_host_queue(struct tap_plane *tap, const char *discipline) {
  * markers, too, which go up behind the data. */
 void set_collecting(struct tap_plane *tap) {
     struct fast_private *own = tap->fast;
-    bool tap_up = is_tap_up(tap->device);
-    for (uint16_t i = 0; i < tap->ports->count; i++) {
-        uint16_t port = tap->ports->links[i].settings.number;
-        uint64_t state = 0;
-        bool up = tap_up && own->tap_at != 0 && tap->carry->active != 0 && tap->ports->links[i].view.aggregator == tap->carry->active
-            && has_fast_member(tap->members, port)
-            && is_told(tap->process, niw_state(&tap->protocol->own_system, port), "niw_state", &state)
-            && (state & NIW_STATE_COLLECTING) != 0;
-        __atomic_store_n(&own->entries[i].up_to, up ? (uint64_t)own->tap_at : 0, __ATOMIC_SEQ_CST);
+    bool any_up = own->sender >= 0 && tap->carry->active != 0 && is_tap_up(tap->device);
+    EACH_LINK_AS_IS(link, tap->ports) {
+        bool up = any_up && link->view.aggregator == tap->carry->active && (link->view.state & NIW_STATE_COLLECTING) != 0
+            && has_fast_member(tap->members, link->settings.number);
+        __atomic_store_n(&own->entries[link - tap->ports->links].up_to, up ? (uint64_t)tap_index(tap->device) : 0, __ATOMIC_SEQ_CST);
     }
 }
 
@@ -326,11 +324,8 @@ void set_collecting(struct tap_plane *tap) {
  * each frame, and a row that counted it would keep it; so they are lost before they are counted. Those of a host whose daemon is stopped go
  * nowhere once the peer may have given the links up. */
 void open_host(struct tap_plane *tap, bool open) {
-    struct timespec now;
     if (!tap->fast->host) return; /* its tables are still to be made */
-    clock_gettime(CLOCK_MONOTONIC, &now);
-    __atomic_store_n(&tap->fast->host->open_until, open ? (uint64_t)now.tv_sec * 1000000000u + (uint64_t)now.tv_nsec + OPEN_FOR : 0,
-        __ATOMIC_SEQ_CST);
+    __atomic_store_n(&tap->fast->host->open_until, open ? (milliseconds() + OPEN_FOR) * 1000000 : 0, __ATOMIC_SEQ_CST);
 }
 
 void note_taken(struct conversation *conversation, uint32_t segments) {

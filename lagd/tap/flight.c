@@ -50,19 +50,14 @@ static void drop_old(struct tap_plane *tap, uint16_t number) {
         continue;
 }
 
-/* Frees a conversation from the port that it is on: nothing of it was sent for a flight, so its next frame overtakes none. */
-static void rest(struct carry *carry, struct conversation *conversation, uint16_t number) {
-    if (!is_done(carry->process, niw_rest(&carry->protocol->own_system, conversation->home, number), "niw_rest")) return;
-    carry->counts[RESTED]++;
-    carry->plane->changed = true;
-    conversation->since = 0;
-}
-
-/* Frees a conversation that is held, and whose marker nobody answered: nothing of it was sent since. */
-static void force(struct carry *carry, struct conversation *conversation, uint16_t number) {
-    if (!is_done(carry->process, niw_force(&carry->protocol->own_system, conversation->home, number), "niw_force")) return;
-    if (conversation->home == carry->active) suspect_partner(carry->probe);
-    carry->counts[FORCED]++;
+/* Frees a conversation from the port that it is on, or that holds it since nobody answered its marker (`held`): nothing of it was sent for a
+ * flight, so its next frame overtakes none. */
+static void set_free(struct carry *carry, struct conversation *conversation, uint16_t number, bool held) {
+    struct niw_system *system = &carry->protocol->own_system;
+    uint32_t status = held ? niw_force(system, conversation->home, number) : niw_rest(system, conversation->home, number);
+    if (!is_done(carry->process, status, held ? "niw_force" : "niw_rest")) return;
+    if (held && conversation->home == carry->active) suspect_partner(carry->probe);
+    carry->counts[held ? FORCED : RESTED]++;
     carry->plane->changed = true;
     conversation->since = 0;
 }
@@ -74,20 +69,17 @@ static void watch_free(struct carry *carry, struct conversation *conversation, u
     if (peer_answering(carry->probe) != MUTE || state->what != NIW_CONVERSATION_ON || conversation->fast.port != 0
         || carry->time - conversation->last < carry->settings->flight)
         return;
-    rest(carry, conversation, number);
+    set_free(carry, conversation, number, false);
 }
 
 /* A conversation that is held for long goes on: nothing of it was sent since. It waits for a peer that answers markers, which may have
  * been stopped for a while, and for a flight else. What is held on a port that does not distribute is for watch_port. */
 static void watch_held(struct carry *carry, struct conversation *conversation, uint16_t number, const struct niw_assignment *state) {
-    bool answered = is_held(state) && peer_answering(carry->probe) != MUTE && carry->settings->flight < UNANSWERED;
+    bool held = is_held(state), answered = held && peer_answering(carry->probe) != MUTE && carry->settings->flight < UNANSWERED;
     if (conversation->since == 0) conversation->since = carry->time;
     if (carry->time - conversation->since < (answered ? UNANSWERED : carry->settings->flight)) return;
-    if (is_held(state) && !distributes(carry->protocol, state->port, true)) return;
-    if (is_held(state))
-        force(carry, conversation, number);
-    else
-        rest(carry, conversation, number);
+    if (held && !distributes(carry->protocol, state->port, true)) return;
+    set_free(carry, conversation, number, held);
 }
 
 static void watch_conversation(struct tap_plane *tap, uint16_t number, uint64_t *again) {

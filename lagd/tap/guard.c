@@ -2,14 +2,9 @@
  * and hand them to its own network stack. */
 #include "tap.h"
 
-#include <linux/ethtool.h>
-#include <linux/sockios.h>
-#include <net/if.h>
-#include <sys/ioctl.h>
-
-/* The program that keeps data from the stack of a member is loaded once, while the daemon may. */
-void load_guard(struct tap_plane *tap) {
-    tap->dropper = load_program(tap->settings, "dropper", NULL);
+/* A line about what troubles the data of a member, and why, where there is more to tell. */
+void warn_of(struct process *process, const struct link *link, const char *what, const char *why) {
+    (void)say(process, LOG_WARNING | ABOUT_DATA, "port %u %s: %s%s%s", link->settings.number, link->name, what, why ? ": " : "", why ? why : "");
 }
 
 /* How many queues the kernel has for one direction of an interface whose driver does not tell. */
@@ -49,37 +44,10 @@ static bool part_queues(int index, struct ethtool_channels *wanted) {
     return has_channels(index, wanted) || ask_driver(index, wanted) || has_channels(index, wanted);
 }
 
-/* The file in which the kernel has which processors take what an interface receives (RPS). */
-static bool path_of_processors(int index, char *path, size_t room) {
-    return path_of_queue(index, "rx-0/rps_cpus", path, room);
-}
-
-/* Has one processor take all that an interface receives, so that it stands in one row, whatever processors it was sent from. */
-static bool steer(const struct link *link) {
-    char path[128], mask[16], now[PROCESSORS_ROOM];
-    if (!path_of_processors(link->index, path, sizeof path) || !read_processors(path, now, sizeof now)) return false;
-    if (is_one(now)) return true;
-    mask_of(link->settings.number - 1u, mask);
-    return write_processors(path, mask);
-}
-
-/* What goes up is not spread over processors at the TAP device: a marker would be answered before the data that came before it went up. */
-void gather(struct process *process, int index) {
-    char path[128], now[PROCESSORS_ROOM];
-    if (!path_of_processors(index, path, sizeof path) || !read_processors(path, now, sizeof now)) return;
-    if (is_one(now) || is_none(now) || write_processors(path, "0")) return;
-    (void)say(process, LOG_WARNING | ABOUT_DATA, "carry %s: RPS spreads what goes up over processors, and markers may be answered before data",
-        process->settings->carry);
-}
-
 static void look_before(const struct plane *plane, const struct link *link, struct kept *before) {
-    char path[128];
     *before = (struct kept){.joins = read_joins(link->index).wanted};
     if (queues_of(link->index, &before->queues) <= 1) before->queues = (struct ethtool_channels){0};
-    if (!plane->passing->steers || !path_of_processors(link->index, path, sizeof path)
-        || !read_processors(path, before->steered, sizeof before->steered)
-        || is_one(before->steered))
-        before->steered[0] = 0;
+    if (!plane->passing->steers || !read_steering(link->index, before->steered)) before->steered[0] = 0;
 }
 
 /* Whether an interface has no queueing discipline yet: it gets one when it comes up. */
@@ -103,9 +71,7 @@ void look_at_discipline(struct tap_plane *tap, struct link *link, struct guard *
     link->has_fifos = given && strcmp(link->discipline, "mq") == 0;
     guard->in_order = keeps_order(link->discipline) || link->has_fifos;
     if (tap->plane->segments && !guard->in_order && !is_unqueued(link))
-        (void)say(tap->process, LOG_WARNING | ABOUT_DATA,
-            "port %u %s: its queueing discipline is neither noqueue, bfifo nor pfifo: it loses frames of "
-            "several segments, if its card cannot cut them", link->settings.number, link->name);
+        warn_of(tap->process, link, DISORDER, "it loses frames of several segments, if its card cannot cut them");
 }
 
 /* The link comes up: the queue of its interface, if that is one of the daemon, has the length of its speed from now on. */
@@ -117,40 +83,33 @@ void fit_queue(const struct plane *plane, const struct link *link) {
 /* Why the kernel may not pass on what goes and comes at an interface, or NULL: a marker would overtake the data before it. */
 static const char *fault_of_fast(const struct link *link, const struct guard *guard) {
     struct ethtool_channels queues;
-    if (link->stacked) return "it stands on another interface, whose queues are not seen";
+    if (link->stacked) return STACKED;
     if (!guard->spread && queues_of(link->index, &queues) > 1) return "it has several queues";
     if (guard->unusual) return "it has another number of queues than the first member";
-    if (!guard->in_order) return "its queueing discipline is neither noqueue, bfifo nor pfifo";
+    if (!guard->in_order) return DISORDER;
     if (!guard->spread && !steer(link)) return "RPS cannot be set to one processor";
     return NULL;
 }
 
+/* Keeps data from the stack of an interface: by TCX, or, where the kernel has none, by a classifier. */
+void keep_from_stack(struct tap_plane *tap, const struct link *link, struct guard *guard) {
+    if (tap->dropper >= 0) guard->opened = attach_stored(tap->process->store, "guard", tap->dropper, link->index, false);
+    if (tap->dropper >= 0 && guard->opened < 0) guard->classifier = set_classifier(tap->dropper, link->index);
+    if (guard->classifier == CLASSIFIER_BEHIND_OTHERS)
+        warn_of(tap->process, link, "it has a clsact already", "its own network stack has what filters there accept");
+    if (guard->opened < 0 && guard->classifier == NO_CLASSIFIER) warn_of(tap->process, link, "its own network stack has its frames, too", NULL);
+}
+
 /* Has the kernel pass on what goes and comes at a member, where it may; a line says why not. */
-static void open_fast(struct tap_plane *tap, const struct link *link, struct guard *guard) {
+void run_fast_programs(struct tap_plane *tap, const struct link *link, struct guard *guard) {
     guard->unusual = guard->spread && !has_usual_queues(tap, guard);
     const char *fault = fault_of_fast(link, guard);
     if (!fault) guard->opened = open_fast_receiver(tap, link);
     guard->fast = guard->opened >= 0;
-    if (!fault && !guard->fast) fault = strerror(-guard->opened);
-    if (fault && !is_unqueued(link)) /* it is looked at again then */
-        (void)say(tap->process, LOG_WARNING | ABOUT_DATA, "port %u %s: its data stays with the daemon: %s", link->settings.number, link->name, fault);
-}
-
-/* Keeps data from the stack of an interface: by TCX, or, where the kernel has none, by a classifier. */
-void keep_from_stack(struct tap_plane *tap, const struct link *link, struct guard *guard) {
-    uint16_t port = link->settings.number;
-    if (tap->dropper >= 0) guard->opened = attach_stored(tap->process->store, "guard", tap->dropper, link->index, false);
-    if (tap->dropper >= 0 && guard->opened < 0) guard->classifier = set_classifier(tap->dropper, link->index);
-    if (guard->classifier == CLASSIFIER_BEHIND_OTHERS)
-        (void)say(tap->process, LOG_WARNING | ABOUT_DATA,
-            "port %u %s: it has a clsact already: its own network stack has what filters there accept", port, link->name);
-    if (guard->opened < 0 && guard->classifier == NO_CLASSIFIER)
-        (void)say(tap->process, LOG_WARNING | ABOUT_DATA, "port %u %s: its own network stack has its frames, too", port, link->name);
-}
-
-void run_fast_programs(struct tap_plane *tap, const struct link *link, struct guard *guard) {
-    open_fast(tap, link, guard);
-    if (guard->opened < 0) keep_from_stack(tap, link, guard);
+    if (guard->fast) return;
+    if (!is_unqueued(link)) /* it is looked at again then */
+        warn_of(tap->process, link, "its data stays with the daemon", fault ? fault : strerror(-guard->opened));
+    keep_from_stack(tap, link, guard);
 }
 
 /* Which ways to put frames together may stay: GRO of the kernel, where responses wait for longer than it keeps a frame. Where the daemon
@@ -169,14 +128,14 @@ static void regain_queues(int folder, const struct link *link, struct ethtool_ch
         (void)part_queues(link->index, before);
 }
 
-bool join_queues(struct tap_plane *tap, struct link *link, struct guard *guard) {
+bool join_queues(struct tap_plane *tap, struct link *link, struct guard *guard, bool again) {
     look_at_discipline(tap, link, guard);
-    give_one_queue(link->index);
+    if (!again) give_one_queue(link->index);
     return true;
 }
 
 /* Lets a member keep all its queues, where it can, or gives it one; answers false where it has no queue yet: it is looked at again then. */
-bool keep_queues(struct tap_plane *tap, struct link *link, struct guard *guard) {
+bool keep_queues(struct tap_plane *tap, struct link *link, struct guard *guard, bool again UNUSED) {
     struct ethtool_channels *before = &guard->before.queues;
     regain_queues(tap->process->folder, link, before);
     look_at_discipline(tap, link, guard);
@@ -188,16 +147,11 @@ bool keep_queues(struct tap_plane *tap, struct link *link, struct guard *guard) 
     return true;
 }
 
-void keep_queues_again(struct tap_plane *tap, struct link *link, struct guard *guard) {
-    (void)keep_queues(tap, link, guard);
-}
-
+/* Runs the programs of a member that has none yet. */
 static void run_programs(struct tap_plane *tap, const struct link *link, struct guard *guard) {
-    guard->opened = -1;
-    guard->classifier = NO_CLASSIFIER;
-    guard->fast = guard->unusual = false;
     tap->plane->passing->run_programs(tap, link, guard);
     if (guard->before.joins != 0) set_joins(link->index, guard->before.joins & joins_allowed(tap->settings, link, guard));
+    guard->channels = channels_of(link->index);
 }
 
 static void stop_programs(struct tap_plane *tap, const struct link *link, struct guard *guard) {
@@ -212,38 +166,23 @@ static void stop_programs(struct tap_plane *tap, const struct link *link, struct
 /* An interface has another queueing discipline: its programs are chosen anew. What it had before it was a member stays kept. */
 void reopen_guard(struct tap_plane *tap, struct link *link, struct guard *guard) {
     stop_programs(tap, link, guard);
-    tap->plane->queueing->set_again(tap, link, guard);
+    (void)tap->plane->queueing->set(tap, link, guard, true);
     run_programs(tap, link, guard);
-    note_channels(link, guard);
 }
 
 /* Prepares an interface. What it cannot be kept from has a line. */
 void open_guard(struct tap_plane *tap, struct link *link, struct guard *guard) {
     struct ethtool_channels queues;
-    uint16_t port = link->settings.number;
-    guard->spread = false;
-    guard->queues = 1;
-    guard->chooser = -1;
+    *guard = (struct guard){.opened = -1, .chooser = -1, .queues = 1};
     look_before(tap->plane, link, &guard->before);
     keep_settings(tap->process, link, &guard->before);
-    bool has_queues = tap->plane->queueing->set(tap, link, guard);
+    bool has_queues = tap->plane->queueing->set(tap, link, guard, false);
     run_programs(tap, link, guard);
-    note_channels(link, guard);
     if ((read_joins(link->index).on & ~joins_allowed(tap->settings, link, guard)) != 0)
-        (void)say(tap->process, LOG_WARNING | ABOUT_DATA, "port %u %s: GRO or LRO stays on, and markers may overtake data", port, link->name);
-    if (link->stacked && !tap->plane->passing->steers)
-        (void)say(tap->process, LOG_WARNING | ABOUT_DATA,
-            "port %u %s: it stands on another interface, whose queues are not seen: markers may overtake "
-            "data", port, link->name);
+        warn_of(tap->process, link, "GRO or LRO stays on, and markers may overtake data", NULL);
+    if (link->stacked && !tap->plane->passing->steers) warn_of(tap->process, link, STACKED, "markers may overtake data");
     if (!guard->spread && has_queues && queues_of(link->index, &queues) > 1)
-        (void)say(tap->process, LOG_WARNING | ABOUT_DATA, "port %u %s: it has several queues, and markers may overtake data", port, link->name);
-}
-
-/* Sets back which processors take what an interface receives; answers whether these do now. */
-static bool steer_back(int index, const char *mask) {
-    char path[128], now[PROCESSORS_ROOM];
-    if (!path_of_processors(index, path, sizeof path)) return false;
-    return write_processors(path, mask) || (read_processors(path, now, sizeof now) && strcmp(now, mask) == 0);
+        warn_of(tap->process, link, "it has several queues, and markers may overtake data", NULL);
 }
 
 /* The interface is no member any more. What cannot be set back stays kept, as without CAP_NET_ADMIN. */

@@ -63,26 +63,22 @@ static unsigned cut_segments(struct tap_plane *tap, const struct cut *cut, uint3
     return taken;
 }
 
-/* Puts a packet behind those that wait; answers whether there was room. */
-static bool put_uncut(struct host_private *own, const uint8_t *packet, size_t length, uint16_t number) {
+/* Has a packet wait behind those that do. Where there is no room for it, it is lost. */
+static void wait_uncut(struct tap_plane *tap, const uint8_t *packet, size_t length, uint16_t number) {
+    struct host_private *own = tap->host;
     unsigned place = (own->first + own->count) % MOST_WAITING;
     struct uncut *uncut = &own->waiting[place];
     uint8_t *room = room_at(own->rooms, place);
-    if (own->count == MOST_WAITING || own->of_one[number] == MOST_OF_ONE) return false;
+    if (own->count == MOST_WAITING || own->of_one[number] == MOST_OF_ONE) {
+        tap->carry->counts[FROM_HOST]++;
+        tap->carry->counts[QUEUE_FULL]++;
+        return;
+    }
     memcpy(room, packet, length);
     *uncut = (struct uncut){.number = number, .length = length};
     if (has_segments(room) && !read_cut(room, length, &uncut->cut)) uncut->cut.count = 0;
     own->of_one[number]++;
     own->count++;
-    return true;
-}
-
-/* Has a packet wait. Where there is no room for it, it is lost. */
-static unsigned wait_uncut(struct tap_plane *tap, const uint8_t *packet, size_t length, uint16_t number) {
-    if (put_uncut(tap->host, packet, length, number)) return 1;
-    tap->carry->counts[FROM_HOST]++;
-    tap->carry->counts[QUEUE_FULL]++;
-    return 1;
 }
 
 /* Takes a packet whose segments and checksum the host left to a card, but one of more segments than are cut at once; answers how many frames it
@@ -116,21 +112,19 @@ static void cut_waiting(struct tap_plane *tap, unsigned most) {
     }
 }
 
-/* Whether a packet has more segments than are cut at once. */
-static bool is_long(const uint8_t *packet, size_t length) {
-    struct cut cut;
-    return has_segments(packet) && read_cut(packet, length, &cut) && cut.count > MOST_AT_ONCE;
-}
-
-/* Takes a packet of a host that leaves segments and checksums to a card: one of many segments waits, and those of its conversation behind it;
- * answers how many frames it has. */
+/* Takes a packet of a host that leaves segments and checksums to a card: one of more segments than are cut at once waits, and those of its
+ * conversation behind it; answers how many frames it has. */
 static unsigned accept_in_turn(struct tap_plane *tap, uint8_t *packet, size_t length) {
+    struct cut cut;
     size_t head = head_octets();
-    if (length < head + ETH_HLEN || (!is_cutting(tap) && !is_long(packet, length))) return accept_whole(tap, packet, length);
-    struct niw_number number = conversation_of(tap->protocol, packet + head, length - head);
-    if (number.status != NIW_OK || (tap->host->of_one[number.number % CONVERSATIONS] == 0 && !is_long(packet, length)))
-        return accept_whole(tap, packet, length);
-    return wait_uncut(tap, packet, length, (uint16_t)(number.number % CONVERSATIONS));
+    if (length < head + ETH_HLEN) return accept_whole(tap, packet, length);
+    bool is_long = has_segments(packet) && read_cut(packet, length, &cut) && cut.count > MOST_AT_ONCE;
+    if (!is_long && !is_cutting(tap)) return accept_whole(tap, packet, length);
+    struct niw_number told = conversation_of(tap->protocol, packet + head, length - head);
+    uint16_t number = (uint16_t)(told.number % CONVERSATIONS);
+    if (told.status != NIW_OK || (!is_long && tap->host->of_one[number] == 0)) return accept_whole(tap, packet, length);
+    wait_uncut(tap, packet, length, number);
+    return 1;
 }
 
 /* Takes one packet of the TAP device; answers how many frames it has, or 0 where there is none. */
@@ -201,7 +195,7 @@ void open_tap_plane(struct plane *plane) {
     own->rooms = make_rooms();
     start_held(tap);
     start_members(tap->members);
-    load_guard(tap);
+    tap->dropper = load_program(tap->settings, "dropper", NULL);
     CALL(plane->queueing->start, tap);
     call_at_exit(tap->process, put_back_members, tap);
     own->tap = open_tap(tap->device, tap->settings->carry, tap->settings->config.mac);

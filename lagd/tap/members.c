@@ -12,11 +12,14 @@
 /* How many batches of a member are taken before its port is held. */
 #define MOST_DRAINED 64
 
+/* The sockets of a member: for data and its markers, of which it only sends where the kernel hands up what comes; and there one for the markers
+ * that it hands up to the TAP device behind the data, and one for those that come while no data goes up. */
+enum socket_kind { DATA, MARKERS, DIRECT, SOCKETS };
+static const char *const SOCKET_NAMES[SOCKETS] = {"data", "markers", "direct"};
+
 struct members_private {
     struct member {
-        int socket;  /* -1 while the interface is missing */
-        int markers; /* the socket for markers that the kernel hands up behind the data, or -1 */
-        int direct;  /* the one for those that come while it hands up no data, or -1 */
+        int sockets[SOCKETS]; /* -1 where there is none, as while the interface is missing */
         struct guard guard;
         uint32_t mtu;      /* 0: not known */
         uint32_t megabits; /* a second, or 0: not known */
@@ -32,19 +35,22 @@ struct members_private {
 
 struct members_private *make_members_private(void) {
     struct members_private *made = make_room(sizeof *made);
-    for (unsigned i = 0; i < NIW_MOST_PORTS; i++) {
-        made->members[i].socket = made->members[i].markers = made->members[i].direct = -1;
-        made->members[i].guard.opened = -1;
-    }
+    for (unsigned i = 0; i < NIW_MOST_PORTS; i++)
+        for (enum socket_kind kind = DATA; kind < SOCKETS; kind++) made->members[i].sockets[kind] = -1;
     return made;
+}
+
+/* Whether the interface of a member is taken up. */
+static bool is_open(const struct member *member) {
+    return member->sockets[DATA] >= 0;
 }
 
 static struct member *member_of(struct tap_plane *tap, const struct link *link) {
     return &tap->members->members[link - tap->ports->links];
 }
 
-uint64_t member_count(const struct members_private *own, uint16_t port, enum member_count count) {
-    return own->members[port - 1].counts[count];
+uint64_t *member_counts(struct members_private *own, uint16_t port) {
+    return own->members[port - 1].counts;
 }
 
 static bool attach(int fd, struct sock_filter *code, unsigned short count) {
@@ -105,36 +111,33 @@ static bool set_bypass(int fd, bool in_order) {
     return set_packet(fd, PACKET_QDISC_BYPASS, !in_order);
 }
 
-/* A packet socket of an interface: for its data and markers, of which it only sends where the kernel hands up what comes; or -errno. */
-static int open_data(struct process *process, int index, const struct guard *guard) {
-    struct sockaddr_ll address = {.sll_family = AF_PACKET, .sll_protocol = htons(ETH_P_ALL), .sll_ifindex = index};
+/* What the socket for data has more: room, frames to all addresses, and a head before each frame. */
+static bool set_up_data(int fd, int index, const struct guard *guard) {
     struct packet_mreq all = {index, PACKET_MR_PROMISC, 0, {0}};
-    int fd = packet_socket(process, "data", index, index, SOCK_RAW);
-    if (fd < 0) return fd;
     enlarge(fd, SO_RCVBUFFORCE, SO_RCVBUF);
     enlarge(fd, SO_SNDBUFFORCE, SO_SNDBUF);
-    (void)set_packet(fd, PACKET_IGNORE_OUTGOING, 1);
-    if ((guard->fast ? filter_marked(fd, 0) : filter(fd, true)) && set_bypass(fd, guard->in_order) && set_packet(fd, PACKET_VNET_HDR, 1)
-        && set_packet(fd, PACKET_AUXDATA, 1) && bind(fd, (struct sockaddr *)&address, sizeof address) == 0
-        && setsockopt(fd, SOL_PACKET, PACKET_ADD_MEMBERSHIP, &all, sizeof all) == 0)
-        return fd;
-    close_stored(process->store, "data", index, fd);
-    return last_fault();
+    return set_bypass(fd, guard->in_order) && set_packet(fd, PACKET_VNET_HDR, 1)
+        && setsockopt(fd, SOL_PACKET, PACKET_ADD_MEMBERSHIP, &all, sizeof all) == 0;
 }
 
-/* A packet socket for the markers that the kernel hands up to the TAP device, behind the data of this port, or, with 0, for those that come
- * to a member while no data goes up; or -errno. A socket for all protocols has them before the filters and bridges of an administrator, which
- * may take frames away there. */
-static int open_markers(struct process *process, const struct link *link, int index, uint16_t port) {
-    struct sockaddr_ll address = {.sll_family = AF_PACKET, .sll_protocol = htons(port > 0 ? ETH_P_ALL : ETH_P_SLOW), .sll_ifindex = index};
-    const char *kind = port > 0 ? "markers" : "direct";
-    int fd = packet_socket(process, kind, link->index, index, SOCK_RAW);
+/* Lets a socket have what it is for. */
+static bool filter_kind(int fd, enum socket_kind kind, const struct link *link, const struct guard *guard) {
+    if (kind == MARKERS) return filter_marked(fd, link->settings.number);
+    return kind == DATA && guard->fast ? filter_marked(fd, 0) : filter(fd, true);
+}
+
+/* Opens a socket of a member; answers it, or -errno. One for all protocols has markers before the filters and bridges of an administrator,
+ * which may take frames away there. */
+static int open_socket(struct tap_plane *tap, const struct link *link, const struct guard *guard, enum socket_kind kind) {
+    int index = kind == MARKERS ? tap_index(tap->device) : link->index;
+    struct sockaddr_ll address = {.sll_family = AF_PACKET, .sll_protocol = htons(kind == DIRECT ? ETH_P_SLOW : ETH_P_ALL), .sll_ifindex = index};
+    int fd = packet_socket(tap->process, SOCKET_NAMES[kind], link->index, index, SOCK_RAW);
     if (fd < 0) return fd;
     (void)set_packet(fd, PACKET_IGNORE_OUTGOING, 1);
-    if ((port > 0 ? filter_marked(fd, port) : filter(fd, true)) && set_packet(fd, PACKET_AUXDATA, 1)
+    if (filter_kind(fd, kind, link, guard) && (kind != DATA || set_up_data(fd, index, guard)) && set_packet(fd, PACKET_AUXDATA, 1)
         && bind(fd, (struct sockaddr *)&address, sizeof address) == 0)
         return fd;
-    close_stored(process->store, kind, link->index, fd);
+    close_stored(tap->process->store, SOCKET_NAMES[kind], link->index, fd);
     return last_fault();
 }
 
@@ -144,39 +147,36 @@ void start_members(struct members_private *own) {
 
 static void close_sockets(struct tap_plane *tap, struct member *member) {
     int index = tap->ports->links[member - tap->members->members].index;
-    if (member->socket >= 0) close_stored(tap->process->store, "data", index, member->socket);
-    if (member->markers >= 0) close_stored(tap->process->store, "markers", index, member->markers);
-    if (member->direct >= 0) close_stored(tap->process->store, "direct", index, member->direct);
-    member->socket = member->markers = member->direct = -1;
+    for (enum socket_kind kind = DATA; kind < SOCKETS; kind++) {
+        if (member->sockets[kind] >= 0) close_stored(tap->process->store, SOCKET_NAMES[kind], index, member->sockets[kind]);
+        member->sockets[kind] = -1;
+    }
 }
 
-static int open_member_sockets(struct tap_plane *tap, struct member *member, const struct link *link) {
-    int epoll_file = tap->process->epoll_file;
+/* Opens the sockets of a member; where the kernel hands up what comes, nothing comes by that for data. */
+static int open_sockets(struct tap_plane *tap, struct member *member, const struct link *link) {
+    const struct guard *guard = &member->guard;
     uint32_t tag = MEMBERS + (uint32_t)(member - tap->members->members);
-    member->socket = open_data(tap->process, link->index, &member->guard);
-    if (member->socket < 0) return member->socket;
-    if (!member->guard.fast) return await_input(epoll_file, member->socket, tag) ? 0 : last_fault();
-    member->markers = open_markers(tap->process, link, tap_index(tap->device), link->settings.number);
-    if (member->markers < 0) return member->markers;
-    member->direct = open_markers(tap->process, link, link->index, 0);
-    if (member->direct < 0) return member->direct;
-    return await_input(epoll_file, member->markers, tag) && await_input(epoll_file, member->direct, tag) ? 0 : last_fault();
+    for (enum socket_kind kind = DATA; kind < (guard->fast ? SOCKETS : MARKERS); kind++) {
+        member->sockets[kind] = open_socket(tap, link, guard, kind);
+        if (member->sockets[kind] < 0) return member->sockets[kind];
+        if ((kind != DATA || !guard->fast) && !await_input(tap->process->epoll_file, member->sockets[kind], tag)) return last_fault();
+    }
+    return 0;
 }
 
 /* Opens the sockets of a member whose programs run; answers 0, or -errno, and then it is no member any more. */
 static int open_or_close(struct tap_plane *tap, struct member *member, const struct link *link) {
-    struct store_private *store = tap->process->store;
-    int fault = open_member_sockets(tap, member, link);
-    if (fault == 0) {
-        put_stored(store, "data", link->index, member->socket);
-        if (member->markers >= 0) put_stored(store, "markers", link->index, member->markers);
-        if (member->direct >= 0) put_stored(store, "direct", link->index, member->direct);
-        begin_queues(tap->queues, link->settings.number, member->guard.queues);
-    } else {
+    int fault = open_sockets(tap, member, link);
+    if (fault != 0) {
         close_sockets(tap, member);
         close_guard(tap, link, &member->guard);
+        return fault;
     }
-    return fault;
+    for (enum socket_kind kind = DATA; kind < SOCKETS; kind++)
+        if (member->sockets[kind] >= 0) put_stored(tap->process->store, SOCKET_NAMES[kind], link->index, member->sockets[kind]);
+    begin_queues(tap->queues, link->settings.number, member->guard.queues);
+    return 0;
 }
 
 int open_member(struct plane *plane, struct link *link) {
@@ -192,7 +192,7 @@ int open_member(struct plane *plane, struct link *link) {
 static void count_loss(struct member *member) {
     struct tpacket_stats stats = {0};
     socklen_t length = sizeof stats;
-    if (member->socket >= 0 && getsockopt(member->socket, SOL_PACKET, PACKET_STATISTICS, &stats, &length) == 0)
+    if (is_open(member) && getsockopt(member->sockets[DATA], SOL_PACKET, PACKET_STATISTICS, &stats, &length) == 0)
         member->counts[SOCKET_FULL] += stats.tp_drops;
 }
 
@@ -207,6 +207,12 @@ static bool renew_member(struct tap_plane *tap, struct link *link) {
     return open_or_close(tap, member, link) == 0;
 }
 
+/* Others changed the queues of a member. */
+static bool renew_changed(struct tap_plane *tap, struct link *link) {
+    (void)say(tap->process, LOG_NOTICE | ABOUT_DATA, "port %u %s: its queues were changed", link->settings.number, link->name);
+    return renew_member(tap, link);
+}
+
 /* The interface has another queueing discipline: how data is sent is seen anew. Answers whether the member is still taken up. */
 bool reopen_member(struct plane *plane, struct link *link) {
     char before[DISCIPLINE_ROOM];
@@ -218,10 +224,10 @@ bool reopen_member(struct plane *plane, struct link *link) {
 bool renew_for_discipline(struct plane *plane, struct link *link) {
     struct tap_plane *tap = plane->tap;
     struct member *member = member_of(tap, link);
-    if (member->socket < 0) return true;
+    if (!is_open(member)) return true;
     if (plane->renews) return renew_member(tap, link);
     look_at_discipline(tap, link, &member->guard);
-    return set_bypass(member->socket, member->guard.in_order);
+    return set_bypass(member->sockets[DATA], member->guard.in_order);
 }
 
 void follow_address(struct plane *plane, struct link *link, const uint8_t *mac) {
@@ -234,7 +240,7 @@ void follow_address(struct plane *plane, struct link *link, const uint8_t *mac) 
 void move_member(struct plane *plane, struct link *link, const uint8_t *mac) {
     struct tap_plane *tap = plane->tap;
     struct member *member = member_of(tap, link);
-    if (member->socket < 0) return;
+    if (!is_open(member)) return;
     move_former(tap->process, link, mac);
     write_settings(tap->process, link, &member->guard.before);
 }
@@ -244,34 +250,31 @@ void move_member(struct plane *plane, struct link *link, const uint8_t *mac) {
 bool follow_member_queues(struct tap_plane *tap, struct link *link) {
     struct member *member = member_of(tap, link);
     bool kept = link->has_fifos ? have_order(link->index) : member->guard.in_order || !may_have_order(link->index);
-    if (member->socket < 0 || kept) return true;
-    (void)say(tap->process, LOG_NOTICE | ABOUT_DATA, "port %u %s: its queues were changed", link->settings.number, link->name);
-    return renew_member(tap, link);
+    if (!is_open(member) || kept) return true;
+    return renew_changed(tap, link);
 }
 
 /* Looks at the queues of all members, each second: one whose queues others changed is taken up anew, and one that has the number of queues of
  * the others by now. */
 void watch_queues(struct tap_plane *tap) {
-    struct members_private *own = tap->members;
     if (ticks_passed(tap->protocol->system) % SECOND != 0) return;
-    for (uint16_t i = 0; i < tap->ports->count; i++) {
-        struct link *link = &tap->ports->links[i];
-        const struct guard *guard = &own->members[i].guard;
-        bool anew = own->members[i].socket >= 0 && is_spread_anew(tap->protocol->system, link, guard);
-        if (anew) (void)say(tap->process, LOG_NOTICE | ABOUT_DATA, "port %u %s: its queues were changed", link->settings.number, link->name);
-        anew = anew || (own->members[i].socket >= 0 && guard->unusual && has_usual_queues(tap, guard));
-        if (!anew || renew_member(tap, link)) continue;
+    EACH_LINK(link, tap->ports) {
+        const struct member *member = member_of(tap, link);
+        if (!is_open(member)) continue;
+        bool changed = is_spread_anew(tap->protocol->system, link, &member->guard);
+        if (!changed && !(member->guard.unusual && has_usual_queues(tap, &member->guard))) continue;
+        if (changed ? renew_changed(tap, link) : renew_member(tap, link)) continue;
         look_again(tap->protocol->changes);
         lose_link(tap->protocol, link);
     }
 }
 
 unsigned member_queues(const struct members_private *own, uint16_t port) {
-    return own->members[port - 1].socket < 0 ? 0 : own->members[port - 1].guard.queues;
+    return is_open(&own->members[port - 1]) ? own->members[port - 1].guard.queues : 0;
 }
 
 bool has_fast_member(const struct members_private *own, uint16_t port) {
-    return own->members[port - 1].socket >= 0 && own->members[port - 1].guard.fast;
+    return is_open(&own->members[port - 1]) && own->members[port - 1].guard.fast;
 }
 
 void count_losses(struct tap_plane *tap) {
@@ -282,9 +285,8 @@ void count_losses(struct tap_plane *tap) {
 void close_member(struct plane *plane, struct link *link) {
     struct tap_plane *tap = plane->tap;
     struct member *member = member_of(tap, link);
-    if (member->socket < 0) return;
-    CALL(plane->passing->withdraw_port, tap, link->settings.number);
-    forget_answers(tap->answers, link->settings.number);
+    if (!is_open(member)) return;
+    lose_data(plane, link->settings.number);
     count_loss(member);
     close_sockets(tap, member);
     close_guard(tap, link, &member->guard);
@@ -301,12 +303,11 @@ void forget_member(struct plane *plane, uint16_t port) {
 /* The program ends, by whatever it is refused, and no other one goes on: its members get what they had. */
 void put_back_members(void *given) {
     struct tap_plane *tap = given;
-    struct members_private *own = tap->members;
-    if (tap->process->has_left) return;
-    for (uint16_t i = 0; i < tap->ports->count; i++) {
-        if (own->members[i].socket < 0) continue;
-        close_sockets(tap, &own->members[i]);
-        close_guard(tap, &tap->ports->links[i], &own->members[i].guard);
+    EACH_LINK(link, tap->ports) {
+        struct member *member = member_of(tap, link);
+        if (tap->process->has_left || !is_open(member)) continue;
+        close_sockets(tap, member);
+        close_guard(tap, link, &member->guard);
     }
 }
 
@@ -337,31 +338,12 @@ uint32_t sum_speeds(struct tap_plane *tap) {
     return sum < INT32_MAX ? (uint32_t)sum : INT32_MAX;
 }
 
-/* What the kernel alone handed up, or lost, of what came on a port, since the last time. */
-void add_fast_counts(struct tap_plane *tap, uint16_t port, const struct fast_member *more) {
-    uint64_t *counts = tap->members->members[port - 1].counts;
-    counts[DATA_RECEIVED] += more->passed_up + more->uncollected + more->wrong_length;
-    counts[PASSED_UP] += more->passed_up;
-    counts[UNCOLLECTED] += more->uncollected;
-    counts[WRONG_LENGTH] += more->wrong_length;
-    tap->carry->counts[HANDED_UP] += more->passed_up;
-    if (more->uncollected > 0) suspect_aggregator(tap->carry, tap->ports->links[port - 1].view.aggregator);
-}
-
-/* So many frames more were passed on by the kernel alone, on a port. */
-void note_passed(struct tap_plane *tap, uint16_t port, uint64_t frames) {
-    struct members_private *own = tap->members;
-    own->members[port - 1].counts[DATA_SENT] += frames;
-    own->members[port - 1].counts[PASSED_ON] += frames;
-    tap->carry->counts[FROM_HOST] += frames;
-}
-
 /* Sends what waits for a member. A frame that the kernel does not take is lost, as on a wire. */
 static void flush_member(struct changes_private *own, struct member *member) {
     unsigned at = 0;
     while (at < member->out) {
-        int sent = member->socket < 0 ? -1 : sendmmsg(member->socket, member->messages + at, member->out - at, 0);
-        if (sent < 0 && member->socket >= 0 && errno == EINTR) continue;
+        int sent = is_open(member) ? sendmmsg(member->sockets[DATA], member->messages + at, member->out - at, 0) : -1;
+        if (sent < 0 && is_open(member) && errno == EINTR) continue;
         if (sent < 0) suspect_carriers(own);
         member->counts[sent > 0 ? DATA_SENT : DATA_UNSENT] += sent > 0 ? (unsigned)sent : 1;
         at += sent > 0 ? (unsigned)sent : 1;
@@ -395,7 +377,7 @@ bool give_marker(struct tap_plane *tap, struct link *link, const uint8_t *marker
     message->msg_iovlen = 1;
     memcpy(sent + head_octets(), marker, NIW_FRAME);
     memcpy(sent + head_octets() + ETH_ALEN, link->mac, ETH_ALEN);
-    if (member->socket < 0 || sendmsg(member->socket, message, 0) != (ssize_t)part.iov_len) return false;
+    if (!is_open(member) || sendmsg(member->sockets[DATA], message, 0) != (ssize_t)part.iov_len) return false;
     return is_done(tap->process, niw_count_sent(&link->counters, marker, NIW_FRAME), "niw_count_sent");
 }
 
@@ -435,14 +417,14 @@ void accept_only_response(struct tap_plane *tap, struct link *link, const struct
 void accept_response_of_queue(struct tap_plane *tap, struct link *link, const struct arrival *arrival, uint32_t id) {
     uint8_t frame[NIW_FRAME];
     struct arrival last = {frame, sizeof frame, arrival->packet_type, arrival->index, arrival->tagged};
-    bool ends = ends_flight(tap->queues, link, &id);
-    if (!ends && !is_done(tap->process, niw_count_received(&link->counters, arrival->frame, arrival->length, NIW_RECEIVED_RELEASED),
-        "niw_count_received"))
+    if (ends_flight(tap->queues, link, &id)) {
+        memcpy(frame, arrival->frame, sizeof frame);
+        set_identifier(frame, id);
+        accept_response(tap->protocol, link, &last);
+    } else if (!is_done(tap->process, niw_count_received(&link->counters, arrival->frame, arrival->length, NIW_RECEIVED_RELEASED),
+        "niw_count_received")) {
         return;
-    if (!ends) return;
-    memcpy(frame, arrival->frame, sizeof frame);
-    set_identifier(frame, id);
-    accept_response(tap->protocol, link, &last);
+    }
 }
 
 /* Hands a frame of data to the library, and up. */
@@ -496,21 +478,21 @@ static void accept_packet(struct tap_plane *tap, struct link *link, struct mmsgh
 
 /* Takes the packets that wait in a socket of a member, some at most. What the kernel tells of links comes before them: what was sent after
  * a link went is not handed up before it. */
-static void receive_packets(struct tap_plane *tap, uint16_t port, const int *fd, bool only_markers) {
+static void receive_packets(struct tap_plane *tap, uint16_t port, enum socket_kind kind) {
     struct link *link = &tap->ports->links[port - 1];
     struct member *member = &tap->members->members[port - 1];
     struct mmsghdr messages[BATCH];
     struct iovec parts[BATCH];
     struct sockaddr_ll from[BATCH];
     _Alignas(struct cmsghdr) uint8_t controls[BATCH][CMSG_SPACE(sizeof(struct tpacket_auxdata))];
-    if (*fd < 0) return;
+    if (member->sockets[kind] < 0) return;
     for (unsigned i = 0; i < BATCH; i++) {
         parts[i] = (struct iovec){room_at(tap->members->member_packets, i), packet_room()};
         messages[i].msg_hdr = (struct msghdr){.msg_name = &from[i], .msg_namelen = sizeof from[i],
             .msg_iov = &parts[i], .msg_iovlen = 1, .msg_control = controls[i], .msg_controllen = sizeof controls[i]};
     }
-    int got = recvmmsg(*fd, messages, BATCH, MSG_DONTWAIT, NULL);
-    if (!only_markers) note_unread(tap->answers, port, got > 0 ? (unsigned)got : 0, got >= 0 ? got < BATCH : errno == EAGAIN);
+    int got = recvmmsg(member->sockets[kind], messages, BATCH, MSG_DONTWAIT, NULL);
+    if (kind == DATA) note_unread(tap->answers, port, got > 0 ? (unsigned)got : 0, got >= 0 ? got < BATCH : errno == EAGAIN);
     if (got < 0 && errno == EINVAL) { /* the kernel has a frame of segments that it cannot describe: it is lost */
         member->counts[DATA_RECEIVED]++;
         member->counts[WRONG_LENGTH]++;
@@ -519,7 +501,7 @@ static void receive_packets(struct tap_plane *tap, uint16_t port, const int *fd,
     receive_changes(tap->protocol);
     tap->carry->taken += (unsigned)got;
     if (got == BATCH) tap->carry->more_waits = true;
-    for (int i = 0; i < got; i++) accept_packet(tap, link, &messages[i], only_markers);
+    for (int i = 0; i < got; i++) accept_packet(tap, link, &messages[i], kind != DATA);
     flush_host(tap);
 }
 
@@ -527,7 +509,7 @@ static void receive_packets(struct tap_plane *tap, uint16_t port, const int *fd,
 void drain_member(struct plane *plane, uint16_t port) {
     struct tap_plane *tap = plane->tap;
     struct member *member = &tap->members->members[port - 1];
-    if (member->socket < 0) return;
+    if (!is_open(member)) return;
     for (unsigned turn = 0; turn < MOST_DRAINED && !tap->process->broken; turn++) {
         tap->carry->more_waits = false;
         receive_data(tap, port);
@@ -536,11 +518,10 @@ void drain_member(struct plane *plane, uint16_t port) {
 }
 
 void receive_data(struct tap_plane *tap, uint16_t port) {
-    struct member *member = &tap->members->members[port - 1];
-    if (member->markers < 0) {
-        receive_packets(tap, port, &member->socket, false);
+    if (tap->members->members[port - 1].sockets[MARKERS] < 0) {
+        receive_packets(tap, port, DATA);
         return;
     }
-    receive_packets(tap, port, &member->markers, true);
-    receive_packets(tap, port, &member->direct, true);
+    receive_packets(tap, port, MARKERS);
+    receive_packets(tap, port, DIRECT);
 }

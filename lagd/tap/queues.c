@@ -115,17 +115,6 @@ static uint32_t unanswered(struct members_private *own, const struct link *link,
     return found != 0 ? found : 1;
 }
 
-/* Sends a marker that is due; answers whether all of it went. */
-static bool send_anew(struct tap_plane *tap, struct link *link, const uint8_t *marker) {
-    struct queues_private *own = tap->queues;
-    struct queues *queues = &own->ports[link->settings.number - 1];
-    struct flight flight = {identifier_of(marker), unanswered(tap->members, link, queues), tap->carry->time, own->all++};
-    struct flight *place = next_flight(queues);
-    queues->dirty = 0;
-    *place = flight;
-    return send_flight(tap, link, marker, place);
-}
-
 /* Sends again what has no response, of each marker that may still get one; answers whether all of it went. */
 static bool send_again_by_queues(struct tap_plane *tap, struct link *link, const uint8_t *marker) {
     struct queues *queues = &tap->queues->ports[link->settings.number - 1];
@@ -143,7 +132,14 @@ static bool send_again_by_queues(struct tap_plane *tap, struct link *link, const
 
 /* Sends a marker by each queue that may have frames before it, or again by those that have no response; answers whether all of it went. */
 bool send_by_queues(struct tap_plane *tap, struct link *link, const uint8_t *marker, bool again) {
-    return again ? send_again_by_queues(tap, link, marker) : send_anew(tap, link, marker);
+    struct queues_private *own = tap->queues;
+    struct queues *queues = &own->ports[link->settings.number - 1];
+    if (again) return send_again_by_queues(tap, link, marker);
+    struct flight flight = {identifier_of(marker), unanswered(tap->members, link, queues), tap->carry->time, own->all++};
+    struct flight *place = next_flight(queues);
+    queues->dirty = 0;
+    *place = flight;
+    return send_flight(tap, link, marker, place);
 }
 
 /* A response to the marker of a queue came: answers whether it is the last one that was missing, and gives back the identifier of the library. */

@@ -43,16 +43,9 @@ static inline bool has_ipv6(const uint8_t *packet, const struct tcp_packet *tcp)
     return packet[tcp->network] >> 4 == 6;
 }
 
-/* Writes into a packet the length that it has in its header of IP, and the checksum of that. */
-static inline void write_length(uint8_t *packet, const struct tcp_packet *tcp) {
-    uint8_t *ip = packet + tcp->network;
-    if (has_ipv6(packet, tcp)) {
-        write16(ip + IPV6_LENGTH, tcp->length - tcp->network - IPV6_OCTETS);
-        return;
-    }
-    write16(ip + IPV4_LENGTH, tcp->length - tcp->network);
-    write16(ip + IPV4_SUM, 0);
-    put_sum(ip, 4 * (ip[0] & 15u), IPV4_SUM);
-}
+/* gso.c */
+uint64_t add_octets(uint64_t sum, const uint8_t *octets, size_t length);
+uint16_t fold(uint64_t sum);
+void write_length(uint8_t *packet, const struct tcp_packet *tcp);
 
 #endif

@@ -1,13 +1,21 @@
-/* A member that keeps all its queues. Each conversation goes by one of them, so nothing but the daemon may choose the queue of a frame: XPS
- * is off. What comes by one of them is taken by one processor. What the queues had is in a file beside the status socket until they
- * have it again. */
+/* By which queues a member sends and receives, and which processors serve them: what the kernel has of it in /sys. Where a member has one queue,
+ * one processor takes what comes. Where it keeps all of them, each conversation goes by one of them, so nothing but the daemon may choose
+ * the queue of a frame: XPS is off. What comes by one of them is taken by one processor. What the queues had is in a file beside the status
+ * socket until they have it again. */
 #include "tap.h"
 
+#include <dirent.h>
 #include <net/if.h>
 
 /* A line of the file: a setting, and what it was. */
 #define READ_LINE "%31s %" PROCESSORS_LENGTH "s"
 #define NAME_OCTETS 32
+/* The most processors that are named for RPS. */
+#define MOST_PROCESSORS 32
+#define PATH_OCTETS 128
+/* Where /sys has what is of a queue; and which processors take what an interface of one queue receives (RPS). */
+#define QUEUES "queues/"
+#define STEERING "rx-0/rps_cpus"
 
 /* What a queue has: the processors that take what it received (RPS), and those, and the queues that received, whose frames it sends (XPS). */
 enum setting { TAKEN_BY, SENT_FOR, SENT_BEHIND, SETTINGS };
@@ -18,6 +26,109 @@ struct spread_private {
 };
 
 MAKES_WITH(spread, .program = -1)
+
+/* A file or folder of an interface in /sys; answers whether it is of this interface. */
+static bool path_of(int index, const char *folder, const char *what, char path[static PATH_OCTETS]) {
+    char name[IF_NAMESIZE], number[16] = "";
+    FILE *file;
+    if (!if_indextoname((unsigned)index, name)) return false;
+    snprintf(path, PATH_OCTETS, "/sys/class/net/%s/ifindex", name);
+    file = fopen(path, "re");
+    if (!file) return false;
+    if (!fgets(number, sizeof number, file)) number[0] = 0;
+    fclose(file);
+    snprintf(path, PATH_OCTETS, "/sys/class/net/%s/%s%s", name, folder, what);
+    return atoi(number) == index;
+}
+
+unsigned count_entries(int index, const char *begin) {
+    char path[PATH_OCTETS];
+    unsigned count = 0;
+    DIR *folder = path_of(index, QUEUES, "", path) ? opendir(path) : NULL;
+    for (const struct dirent *entry; folder && (entry = readdir(folder));) count += strncmp(entry->d_name, begin, strlen(begin)) == 0;
+    if (folder) closedir(folder);
+    return count;
+}
+
+/* Whether an interface is one of a card, each of whose queues is served by one processor at a time. */
+static bool has_card(int index) {
+    char path[PATH_OCTETS];
+    return path_of(index, "", "device", path) && access(path, F_OK) == 0;
+}
+
+/* Reads the line of a file of an interface. One that is too long is none. */
+static bool read_line(int index, const char *folder, const char *what, char line[static PROCESSORS_ROOM]) {
+    char path[PATH_OCTETS];
+    FILE *file = path_of(index, folder, what, path) ? fopen(path, "re") : NULL;
+    bool done = file && fgets(line, PROCESSORS_ROOM, file) && strchr(line, '\n');
+    if (file) fclose(file);
+    if (done) line[strcspn(line, "\n")] = 0;
+    return done;
+}
+
+/* The processors of a queue, as a mask in hexadecimal. */
+static bool read_processors(int index, const char *what, char mask[static PROCESSORS_ROOM]) {
+    return read_line(index, QUEUES, what, mask);
+}
+
+static bool set_processors(int index, const char *what, const char *mask) {
+    char path[PATH_OCTETS];
+    FILE *file = path_of(index, QUEUES, what, path) ? fopen(path, "we") : NULL;
+    bool done = file && fputs(mask, file) >= 0;
+    return file && fclose(file) == 0 && done;
+}
+
+/* Whether GRO of an interface keeps frames for less than half the time for which a response to a marker waits. Without a time of its own it
+ * does so until the end of a turn. */
+bool keeps_briefly(const struct settings *settings, int index) {
+    char nanoseconds[PROCESSORS_ROOM];
+    return read_line(index, "", "gro_flush_timeout", nanoseconds) && strtoull(nanoseconds, NULL, 10) < settings->answer_after * 500000ull;
+}
+
+static bool is_one(const char *mask) {
+    unsigned bits = 0;
+    for (; *mask; mask++)
+        for (int digit = *mask == ',' ? 0 : (int)strtol((char[]){*mask, 0}, NULL, 16); digit; digit &= digit - 1) bits++;
+    return bits == 1;
+}
+
+static bool is_none(const char *mask) {
+    return strspn(mask, "0,") == strlen(mask);
+}
+
+/* A mask of one processor: another one for each place, in turn. */
+static void mask_of(unsigned place, char mask[static 16]) {
+    long processors = sysconf(_SC_NPROCESSORS_ONLN);
+    if (processors > MOST_PROCESSORS) processors = MOST_PROCESSORS;
+    snprintf(mask, 16, "%x", 1u << (place % (unsigned)(processors > 0 ? processors : 1)));
+}
+
+/* Reads which processors take what an interface of one queue receives; answers whether that is known, and not one alone. */
+bool read_steering(int index, char mask[static PROCESSORS_ROOM]) {
+    return read_processors(index, STEERING, mask) && !is_one(mask);
+}
+
+/* Has one processor take all that an interface receives, so that it stands in one row, whatever processors it was sent from. */
+bool steer(const struct link *link) {
+    char mask[16], now[PROCESSORS_ROOM];
+    if (!read_processors(link->index, STEERING, now)) return false;
+    mask_of(link->settings.number - 1u, mask);
+    return is_one(now) || set_processors(link->index, STEERING, mask);
+}
+
+/* What goes up is not spread over processors at the TAP device: a marker would be answered before the data that came before it went up. */
+void gather(struct process *process, int index) {
+    char now[PROCESSORS_ROOM];
+    if (!read_steering(index, now) || is_none(now) || set_processors(index, STEERING, "0")) return;
+    (void)say(process, LOG_WARNING | ABOUT_DATA, "carry %s: RPS spreads what goes up over processors, and markers may be answered before data",
+        process->settings->carry);
+}
+
+/* Sets back which processors take what an interface receives; answers whether these do now. */
+bool steer_back(int index, const char *mask) {
+    char now[PROCESSORS_ROOM];
+    return set_processors(index, STEERING, mask) || (read_processors(index, STEERING, now) && strcmp(now, mask) == 0);
+}
 
 /* Loads the program that chooses queues, while the daemon may, and opens what wakes it for responses. */
 void start_all_queues(struct tap_plane *tap) {
@@ -60,18 +171,6 @@ static bool copy_known(FILE *file, FILE *next) {
     return !ferror(file);
 }
 
-/* An interface has another MAC address from now on: what its queues had stays known by that one. */
-void move_former(struct process *process, struct link *link, const uint8_t *mac) {
-    FILE *file = read_kept(process->folder, link, "queues"), *next;
-    memcpy(link->mac, mac, sizeof link->mac);
-    if (!file) return;
-    next = begin_kept(process->folder, link, "queues");
-    if (!next || !end_kept(process->folder, link, "queues", next, copy_known(file, next)))
-        (void)say(process, LOG_WARNING | ABOUT_DATA, "port %u %s: nobody knows any more what its queues had: %s", link->settings.number,
-            link->name, strerror(errno));
-    fclose(file);
-}
-
 /* Whether it is known what a setting was before an earlier daemon changed it. */
 static bool is_known(int folder, const struct link *link, const char *wanted) {
     char name[NAME_OCTETS], mask[PROCESSORS_ROOM];
@@ -85,49 +184,57 @@ static bool is_known(int folder, const struct link *link, const char *wanted) {
 /* Changes each setting of an interface that is to be another one, or, with `next`, keeps there what it is now; answers whether all was done. One
  * that the kernel does not show for an interface, as XPS for one queue, is off. */
 static bool change_processors(int folder, const struct link *link, FILE *next) {
-    char name[NAME_OCTETS], path[128], now[PROCESSORS_ROOM], mask[16];
+    char name[NAME_OCTETS], now[PROCESSORS_ROOM], mask[16];
     bool done = true;
     for (enum setting setting = 0; setting < SETTINGS; setting++) {
         unsigned count = count_entries(link->index, setting == TAKEN_BY ? "rx-" : "tx-");
         for (unsigned queue = 0; queue < count; queue++) {
             name_setting(setting, queue, name);
-            if (!path_of_queue(link->index, name, path, sizeof path) || !read_processors(path, now, sizeof now)) continue;
+            if (!read_processors(link->index, name, now)) continue;
             const char *wanted = wanted_of(link, setting, queue, now, mask);
             if (wanted && next) done = (is_known(folder, link, name) || fprintf(next, "%s %s\n", name, now) > 0) && done;
-            if (wanted && !next) done = write_processors(path, wanted) && done;
+            if (wanted && !next) done = set_processors(link->index, name, wanted) && done;
         }
     }
     return done;
 }
 
-/* Keeps what the queues have now, before it is changed, beside what they had before an earlier daemon changed it; answers whether it did. */
-static bool keep_all(int folder, const struct link *link) {
-    FILE *file = read_kept(folder, link, "queues"), *next = begin_kept(folder, link, "queues");
-    bool copied = next && (!file || copy_known(file, next));
+/* Writes the file anew, from what is known, which is closed, and what the queues have `now`, before it is changed; answers whether it did. */
+static bool rewrite_known(int folder, const struct link *link, FILE *file, bool now) {
+    FILE *next = begin_kept(folder, link, "queues");
+    bool done = next && (!file || copy_known(file, next));
     if (file) fclose(file);
-    return next && end_kept(folder, link, "queues", next, change_processors(folder, link, next) && copied);
+    return next && end_kept(folder, link, "queues", next, (!now || change_processors(folder, link, next)) && done);
+}
+
+/* An interface has another MAC address from now on: what its queues had stays known by that one. */
+void move_former(struct process *process, struct link *link, const uint8_t *mac) {
+    FILE *file = read_kept(process->folder, link, "queues");
+    memcpy(link->mac, mac, sizeof link->mac);
+    if (file && !rewrite_known(process->folder, link, file, false))
+        warn_of(process, link, "nobody knows any more what its queues had", strerror(errno));
 }
 
 /* How many queues an interface has, those that send above those that receive; 0 where the kernel does not tell of both. */
-static unsigned channels_of(int index) {
+unsigned channels_of(int index) {
     unsigned sends = count_entries(index, "tx-"), receives = count_entries(index, "rx-");
     return sends > 0 && receives > 0 ? sends << 16 | receives : 0;
 }
 
 /* Why a member may not keep all its queues, or NULL. */
 static const char *fault_of_spreading(int folder, const struct link *link, const struct guard *guard, unsigned count) {
-    if (link->stacked) return "it stands on another interface, whose queues are not seen";
+    if (link->stacked) return STACKED;
     if (count == 0) return "/sys does not show its queues";
-    if (!guard->in_order) return "its queueing discipline is neither noqueue, bfifo nor pfifo";
-    if (!keep_all(folder, link)) return "what its queues have cannot be kept";
+    if (!guard->in_order) return DISORDER;
+    if (!rewrite_known(folder, link, read_kept(folder, link, "queues"), true)) return "what its queues have cannot be kept";
     if (!change_processors(folder, link, NULL)) return "RPS or XPS of its queues cannot be set";
     return NULL;
 }
 
 /* Whether the settings of the queues may be written, as far as the first one tells. */
 static bool may_set(int index) {
-    char path[128];
-    int opened = path_of_queue(index, "tx-0/xps_cpus", path, sizeof path) ? open(path, O_WRONLY | O_CLOEXEC) : -1;
+    char path[PATH_OCTETS];
+    int opened = path_of(index, QUEUES, "tx-0/xps_cpus", path) ? open(path, O_WRONLY | O_CLOEXEC) : -1;
     if (opened >= 0) close(opened);
     return opened >= 0;
 }
@@ -153,7 +260,7 @@ void spread(struct tap_plane *tap, const struct link *link, struct guard *guard)
     if (!fault) return;
     guard->queues = 1;
     stop_spreading(tap->process->store, link, guard);
-    (void)say(tap->process, LOG_WARNING | ABOUT_DATA, "port %u %s: it gets one queue: %s", link->settings.number, link->name, fault);
+    warn_of(tap->process, link, "it gets one queue", fault);
 }
 
 /* Frames of the daemon go by any queue again. */
@@ -163,52 +270,38 @@ void stop_spreading(struct store_private *store, const struct link *link, struct
     guard->spread = false;
 }
 
-/* A member is taken up with the queues that it has now. */
-void note_channels(const struct link *link, struct guard *guard) {
-    guard->channels = channels_of(link->index);
-}
-
 /* Whether somebody else changed the queues of a member, or what chooses them. Each time another queue is looked at. */
 bool is_spread_anew(const struct system_private *own, const struct link *link, const struct guard *guard) {
-    char name[NAME_OCTETS], path[128], now[PROCESSORS_ROOM], mask[16];
+    char name[NAME_OCTETS], now[PROCESSORS_ROOM], mask[16];
     unsigned channels = channels_of(link->index);
     if (channels == 0) return false;
     if (channels != guard->channels) return true;
     for (enum setting setting = 0; guard->spread && setting < SETTINGS; setting++) {
         unsigned queue = (unsigned)seconds_passed(own) % (setting == TAKEN_BY ? channels & 0xffff : channels >> 16);
         name_setting(setting, queue, name);
-        if (path_of_queue(link->index, name, path, sizeof path) && read_processors(path, now, sizeof now)
-            && wanted_of(link, setting, queue, now, mask))
-            return true;
+        if (read_processors(link->index, name, now) && wanted_of(link, setting, queue, now, mask)) return true;
     }
-    return false;
-}
-
-static bool has_any_fast(struct tap_plane *tap) {
-    for (uint16_t port = 1; port <= tap->ports->count; port++)
-        if (has_fast_member(tap->members, port)) return true;
     return false;
 }
 
 /* Whether the kernel may choose the queue of a member as that of others: it keeps the queue of a connection, also where that goes on by another
  * member. How many these have, the first one tells of which it passes data on. */
 bool has_usual_queues(struct tap_plane *tap, const struct guard *guard) {
-    struct spread_private *own = tap->spread;
-    if (!has_any_fast(tap)) own->usual = guard->queues;
-    return guard->queues == own->usual;
+    bool any = false;
+    for (uint16_t port = 1; port <= tap->ports->count; port++) any = any || has_fast_member(tap->members, port);
+    if (!any) tap->spread->usual = guard->queues;
+    return guard->queues == tap->spread->usual;
 }
 
 /* The queues of an interface get back what they had before. What cannot be set back stays kept: all of it, where not all are back (`whole`). */
 void gather_back(int folder, const struct link *link, bool whole) {
-    char name[NAME_OCTETS], path[128], interface[IF_NAMESIZE], mask[PROCESSORS_ROOM], now[PROCESSORS_ROOM];
+    char name[NAME_OCTETS], interface[IF_NAMESIZE], mask[PROCESSORS_ROOM], now[PROCESSORS_ROOM];
     bool done = whole && if_indextoname((unsigned)link->index, interface);
     FILE *file = read_kept(folder, link, "queues");
     if (!file) return;
     while (fscanf(file, READ_LINE, name, mask) == 2) {
-        if (!is_setting(name) || !path_of_queue(link->index, name, path, sizeof path)) continue;
-        if (write_processors(path, mask)) continue;
-        if (read_processors(path, now, sizeof now) && strcmp(now, mask) != 0)
-            done = false;
+        if (!is_setting(name) || set_processors(link->index, name, mask)) continue;
+        if (read_processors(link->index, name, now) && strcmp(now, mask) != 0) done = false;
     }
     fclose(file);
     if (done) drop_kept(folder, link, "queues");

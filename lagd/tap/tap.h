@@ -108,14 +108,15 @@ struct guard {
     unsigned channels;  /* how many it has, as spread.c has it */
     int chooser;        /* what keeps the program there by which a frame of the daemon goes by its queue, or -1 */
 };
-void load_guard(struct tap_plane *tap);
-void gather(struct process *process, int index);
+/* Why an interface is no member such as others. */
+#define DISORDER "its queueing discipline is neither noqueue, bfifo nor pfifo"
+#define STACKED "it stands on another interface, whose queues are not seen"
+void warn_of(struct process *process, const struct link *link, const char *what, const char *why);
 void open_guard(struct tap_plane *tap, struct link *link, struct guard *guard);
 void keep_from_stack(struct tap_plane *tap, const struct link *link, struct guard *guard);
 void run_fast_programs(struct tap_plane *tap, const struct link *link, struct guard *guard);
-bool join_queues(struct tap_plane *tap, struct link *link, struct guard *guard);
-bool keep_queues(struct tap_plane *tap, struct link *link, struct guard *guard);
-void keep_queues_again(struct tap_plane *tap, struct link *link, struct guard *guard);
+bool join_queues(struct tap_plane *tap, struct link *link, struct guard *guard, bool again);
+bool keep_queues(struct tap_plane *tap, struct link *link, struct guard *guard, bool again);
 unsigned count_fifos(int index);
 void look_at_discipline(struct tap_plane *tap, struct link *link, struct guard *guard);
 void reopen_guard(struct tap_plane *tap, struct link *link, struct guard *guard);
@@ -141,8 +142,6 @@ unsigned member_queues(const struct members_private *own, uint16_t port);
 void put_back_members(void *given);
 bool has_fast_member(const struct members_private *own, uint16_t port);
 uint32_t sum_speeds(struct tap_plane *tap);
-void add_fast_counts(struct tap_plane *tap, uint16_t port, const struct fast_member *more);
-void note_passed(struct tap_plane *tap, uint16_t port, uint64_t frames);
 void put_data(struct tap_plane *tap, uint16_t port, uint16_t number, uint8_t *packet, size_t length);
 void flush_data(struct tap_plane *tap);
 void receive_data(struct tap_plane *tap, uint16_t port);
@@ -150,7 +149,7 @@ bool send_marker_again(struct tap_plane *tap, uint16_t port);
 void accept_only_response(struct tap_plane *tap, struct link *link, const struct arrival *arrival, uint32_t id);
 void accept_response_of_queue(struct tap_plane *tap, struct link *link, const struct arrival *arrival, uint32_t id);
 void count_losses(struct tap_plane *tap);
-uint64_t member_count(const struct members_private *own, uint16_t port, enum member_count count);
+uint64_t *member_counts(struct members_private *own, uint16_t port);
 
 /* hash.c */
 struct niw_number conversation_of(struct protocol *protocol, const uint8_t *frame, size_t length);
@@ -172,11 +171,6 @@ uint8_t *put_tag(uint8_t *packet, uint16_t type, uint16_t tag);
 struct tcp_packet {
     size_t network, transport, payload, length;
 };
-
-/* sums.c */
-uint64_t add_octets(uint64_t sum, const uint8_t *octets, size_t length);
-uint16_t fold(uint64_t sum);
-void put_sum(uint8_t *octets, size_t length, size_t field);
 
 /* gso.c: a packet that is cut into `count` of them, each with so many octets of payload but for the last one */
 struct cut {
@@ -226,22 +220,17 @@ struct joins read_joins(int index);
 void set_joins(int index, unsigned wanted);
 #define JOINED_BY_KERNEL 1u
 
-/* processors.c: which processors an interface uses for what it sends and receives, by files of /sys */
-bool path_of_queue(int index, const char *what, char *path, size_t room);
+/* spread.c: queues of an interface, and the processors that serve them */
 unsigned count_entries(int index, const char *begin);
-bool has_card(int index);
+unsigned channels_of(int index);
 bool keeps_briefly(const struct settings *settings, int index);
-bool read_processors(const char *path, char *mask, size_t room);
-bool write_processors(const char *path, const char *mask);
-bool is_one(const char *mask);
-bool is_none(const char *mask);
-void mask_of(unsigned place, char mask[static 16]);
-
-/* spread.c: a member that keeps all its queues */
+bool read_steering(int index, char mask[static PROCESSORS_ROOM]);
+bool steer(const struct link *link);
+bool steer_back(int index, const char *mask);
+void gather(struct process *process, int index);
 void start_all_queues(struct tap_plane *tap);
 void spread(struct tap_plane *tap, const struct link *link, struct guard *guard);
 void stop_spreading(struct store_private *store, const struct link *link, struct guard *guard);
-void note_channels(const struct link *link, struct guard *guard);
 bool has_usual_queues(struct tap_plane *tap, const struct guard *guard);
 bool is_spread_anew(const struct system_private *own, const struct link *link, const struct guard *guard);
 void move_former(struct process *process, struct link *link, const uint8_t *mac);
