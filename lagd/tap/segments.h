@@ -44,8 +44,6 @@ static inline bool has_ipv6(const uint8_t *packet, const struct tcp_packet *tcp)
 }
 
 /* gso.c */
-uint64_t add_octets(uint64_t sum, const uint8_t *octets, size_t length);
-uint16_t fold(uint64_t sum);
 void write_length(uint8_t *packet, const struct tcp_packet *tcp);
 
 #endif

@@ -172,6 +172,11 @@ struct tcp_packet {
     size_t network, transport, payload, length;
 };
 
+/* sums.c */
+uint64_t add_octets(uint64_t sum, const uint8_t *octets, size_t length);
+uint16_t fold(uint64_t sum);
+void put_sum(uint8_t *octets, size_t length, size_t field);
+
 /* gso.c: a packet that is cut into `count` of them, each with so many octets of payload but for the last one */
 struct cut {
     const uint8_t *packet;
