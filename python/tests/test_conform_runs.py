@@ -358,11 +358,17 @@ def test_the_first_fail_is_as_the_page_has_it(tmp_path: Path, monkeypatch: pytes
     assert len(blocks) == 1 + len(numbers) and (tmp_path / "out" / "many.html").read_text().count('class="a bad"') >= len(numbers)
 
 
+def linked_to(example: str) -> list[str]:
+    """What an example in C is compiled with: the loop of a switch has the library as one file, and memory from one buffer."""
+    return ["-DNIW_POOL", str(EXAMPLES.parents[1] / "c" / "lag.c")] if example == "device_pool.c" else [os.environ["NIWHOPERA_LIBRARY"]]
+
+
 @needs_library
-def test_the_example_in_c_passes_all(tmp_path: Path, capsys: pytest.CaptureFixture[str]) -> None:
+@pytest.mark.parametrize("example", ["device.c", "device_pool.c"])
+def test_the_example_in_c_passes_all(example: str, tmp_path: Path, capsys: pytest.CaptureFixture[str]) -> None:
     made = str(tmp_path / "device.so")
-    line = ["cc", "-Wall", "-Wextra", "-Wconversion", "-Werror", "-shared", "-fPIC", f"-I{HEADER}", "-o", made, str(EXAMPLES / "device.c")]
-    subprocess.run([*line, os.environ["NIWHOPERA_LIBRARY"]], check=True)
+    line = ["cc", "-Wall", "-Wextra", "-Wconversion", "-Werror", "-shared", "-fPIC", f"-I{HEADER}", "-o", made, str(EXAMPLES / example)]
+    subprocess.run([*line, *linked_to(example)], check=True)
     assert command.main(["--memory", made, "--strict"]) == 0
     assert f"\n{len(TESTS) - 1} pass, 0 fail, 1 not applicable{LAST}" in capsys.readouterr().out
 

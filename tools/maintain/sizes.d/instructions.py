@@ -12,17 +12,29 @@ import board
 from library import PORTABLE, printed
 from repository import Missing
 
-PROGRAM = os.path.join(os.path.dirname(os.path.abspath(__file__)), "calls.c")
+PROGRAM, WORDS = (os.path.join(os.path.dirname(os.path.abspath(__file__)), name) for name in ("calls.c", "words.c"))
+KEEPS_LOOPS = "-fno-tree-loop-distribute-patterns"
 PORTS = (2, 8)
+NEW, TICK, SETTLED, DUE, SENDS, TAKEN = (
+    "`niw_new`",
+    "`niw_tick`, nothing due",
+    "`settle` of `pool.c` for one LAG, nothing due",
+    "`niw_tick` that makes an LACPDU due on each port",
+    "`settle`, an LACPDU due on each port",
+    "`niw_receive` of an LACPDU that changes nothing",
+)
 # The calls, in the order of the program.
 CALLS = [
-    "`niw_tick`, nothing due",
-    "`settle` of `pool.c`, nothing due",
-    "`niw_tick` that makes an LACPDU due on each port",
+    NEW,
+    TICK,
+    SETTLED,
+    DUE,
+    SENDS,
     "`niw_transmit` of an LACPDU",
-    "`niw_receive` of an LACPDU that changes nothing",
+    TAKEN,
     "`niw_receive` of one that flips Sync: the port leaves the trunk",
     "`niw_tick` at which all ports lose their partner",
+    "`niw_set_link`: the link of a port goes down that distributes",
 ]
 NOTHING: dict[str, str] = {}
 # What the functions of C libraries begin with that copy and fill memory: glibc's memmove calls others.
@@ -30,22 +42,26 @@ MEMORY = (b"mem", b"_wordcopy")
 
 
 class Counted(NamedTuple):
-    """A processor, and its C library: its compiler with its words, those that its programs are linked by, what runs them, and packages of Debian."""
+    """A processor, and its C library: its compiler with its words, those that its programs are linked by, what runs them, and packages of Debian; whether
+    WORDS takes the place of the library's memcpy and its like."""
 
     name: str
     compiler: list[str]
     linked: list[str]
     runs: list[str]
     packages: str
+    by_words: bool = False
 
 
 # picolibc's script for the linker wants to know where memory is; the program has a start of its own.
 PLACES = {"__flash": 1 << 20, "__flash_size": 1 << 20, "__ram": 1 << 24, "__ram_size": 1 << 20}
 RV32_LINKED = ["--specs=picolibc.specs", "-nostartfiles", *(f"-Wl,--defsym={name}={value}" for name, value in PLACES.items())]
+RV32 = Counted("RV32, picolibc", ["riscv64-unknown-elf-gcc", "-march=rv32imac", "-mabi=ilp32"], RV32_LINKED, ["qemu-riscv32"],
+               "gcc-riscv64-unknown-elf, picolibc-riscv64-unknown-elf, qemu-user")
 COUNTED = [
     Counted(f"{board.NAME}, newlib", board.COMPILER, board.LARGE.linked, board.LARGE.runs, board.PACKAGES),
-    Counted("RV32, picolibc", ["riscv64-unknown-elf-gcc", "-march=rv32imac", "-mabi=ilp32"], RV32_LINKED, ["qemu-riscv32"],
-            "gcc-riscv64-unknown-elf, picolibc-riscv64-unknown-elf, qemu-user"),
+    RV32,
+    RV32._replace(name="RV32, [words.c](../tools/maintain/sizes.d/words.c)", by_words=True),
     Counted("PowerPC, glibc", ["powerpc-linux-gnu-gcc", "-fno-pie"], ["-static"], ["qemu-ppc"], "gcc-powerpc-linux-gnu with what it recommends, qemu-user"),
 ]
 HEAD = f"|instructions ({'; '.join(f'{ports} ports' for ports in PORTS)})|" + "|".join(it.name for it in COUNTED) + "|\n|---|" + "---:|" * len(COUNTED) + "\n"
@@ -82,8 +98,11 @@ def counts(it: Counted, words: list[str]) -> list[list[tuple[int, int]]]:
     with tempfile.TemporaryDirectory() as folder:
         library, made = os.path.join(folder, "lag.o"), os.path.join(folder, "calls")
         printed(*it.compiler, *words, "-c", "-o", library, PORTABLE)
+        memory = [os.path.join(folder, "words.o")] if it.by_words else []
+        for made_of_words in memory:
+            printed(*it.compiler, *words, KEEPS_LOOPS, "-c", "-o", made_of_words, WORDS)
         for ports in PORTS:
-            printed(*it.compiler, *words, f"-DPORTS={ports}", *it.linked, "-o", made, PROGRAM, library)
+            printed(*it.compiler, *words, f"-DPORTS={ports}", *it.linked, "-o", made, PROGRAM, library, *memory)
             called = board.command([emulator, "-singlestep", "-d", "exec,nochain", *it.runs[1:]], os.path.basename(made))
             with subprocess.Popen(called, cwd=folder, env=NOTHING, stdin=subprocess.DEVNULL, stdout=subprocess.DEVNULL, stderr=subprocess.PIPE) as ran:
                 found.append(list(between(ran.stderr or ())))
@@ -92,10 +111,19 @@ def counts(it: Counted, words: list[str]) -> list[list[tuple[int, int]]]:
     return found
 
 
+def of_a_second(ports: int, told: list[tuple[int, int]]) -> int:
+    """What the loop of pool.c takes in a second of so many ports that all distribute, with short timeouts: ten ticks, at one of which all send, and an
+    LACPDU comes on each port; settle follows each of these."""
+    took = {call: whole for call, (whole, _) in zip(CALLS, told)}
+    return 9 * (took[TICK] + took[SETTLED]) + took[DUE] + took[SENDS] + ports * (took[TAKEN] + took[SETTLED])
+
+
 def table(words: list[str]) -> str:
-    """The table: by -Os and these words, of each call, and each number of ports, the instructions; at last how many of them copy and fill memory."""
+    """The table: by -Os and these words, of each call, and each number of ports, the instructions; what a second takes; at last how many of them copy and
+    fill memory."""
     found = [counts(it, words) for it in COUNTED]
     rows = [[call, *("; ".join(f"{its[place][0]:,}" for its in of) for of in found)] for place, call in enumerate(CALLS)]
+    rows.append(["**a second of the loop**, all ports distribute", *("; ".join(f"{of_a_second(*it):,}" for it in zip(PORTS, of)) for of in found)])
     shares = [[round(100 * memory / whole) for its in of for whole, memory in its] for of in found]
     rows.append(["of 100 of these in `memcpy`, `memmove`, `memset`", *(f"{min(it)} to {max(it)}" for it in shares)])
     return HEAD + "".join("|" + "|".join(row) + "|\n" for row in rows)
