@@ -109,8 +109,8 @@ class Test:
 @dataclass
 class Result:
     """What came of a test: packets `first` to `last`, seconds `begin` to `end`, and how late the bench was at most. `gone` says which
-    interface is no longer there, or why a stack is not started again, `known` why a fail is known, `stuck` that no test can go on like this, and `crashed` that a stack in memory broke. `times` counts the verdicts of a test
-    that ran several times."""
+    interface is no longer there, or why a stack is not started again, `known` why a fail is known, `stuck` that no test can go on like this, and
+    `crashed` that a stack in memory broke. `times` counts the verdicts of a test that ran several times."""
 
     test: Test
     verdict: str = PASS
@@ -154,7 +154,7 @@ class Stuck(Stop):
 
 
 class NotHere(Stop):
-    """The test wants what the bench was not given, or an answer that an earlier test did not get."""
+    """The test wants what the bench was not given, or an answer to a marker, which the device does not give."""
 
     verdict = SKIPPED
 

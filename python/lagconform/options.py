@@ -107,7 +107,8 @@ def add_device(it: argparse.ArgumentParser) -> None:
     """What the device is, claims and does."""
     it.add_argument("--memory", metavar="FILE", help="test a stack in memory, without links: a file of Python with a class Device, or a shared library")
     it.add_argument("--links", metavar="N", type=links, help=f"with --memory: how many links there are, 1 to 4 ({MEMORY_LINKS})")
-    it.add_argument("--pics", metavar="FILE", help="what the device claims: lines of yes or no for these items: " + "; ".join(map(": ".join, pics.ITEMS.items())))
+    items = "; ".join(f"{name}: {text}" for name, text in pics.ITEMS.items())
+    it.add_argument("--pics", metavar="FILE", help=f"what the device claims: lines of yes or no for these items: {items}")
     it.add_argument("--known", metavar="FILE", help="fails that are known: lines of a test and a reason")
     it.add_argument("--hook", metavar="COMMAND", help="a command that has the device do something, above")
     it.add_argument("--set", metavar="KEY=VALUE", action="append", default=[], help="a setting for the hook; may be given again")

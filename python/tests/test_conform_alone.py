@@ -113,7 +113,8 @@ def test_the_systems_of_a_bench_are_those_that_it_was_given(run, capsys: pytest.
     assert str(b.device().partner.system.mac) == "06-d1-00-00-01-03" and b.is_ours(b.new_mac())
     b.close()
     device.stop()
-    for text, why in ("03:d1:00:00:00:01", "is a multicast address"), ("06-d1-00-01-00-01", "counts its systems in octets 3 to 5"), ("lag0", "an address, as 02-cf"):
+    reasons = {"03:d1:00:00:00:01": "is a multicast address", "06-d1-00-01-00-01": "counts its systems in octets 3 to 5", "lag0": "an address, as 02-cf"}
+    for text, why in reasons.items():
         with pytest.raises(SystemExit) as ended:
             run(Device, "--system", text)
         assert ended.value.code == 2 and why in capsys.readouterr().err
@@ -147,7 +148,7 @@ def test_tests_of_ones_own_run_beside_those_of_the_bench(run, tmp_path: Path, ca
     ("", "no lagconform.model.Group"), ("raise ValueError('x')", "ValueError: x"), (OWN.replace('"LAB"', '"L/B"'), "a name of its own"),
     (OWN.replace('"01"', '"a"'), "a number of its own"), (OWN.replace("takes=3", "links=9"), "wants 9 links"),
 ])  # fmt: skip
-def test_tests_that_can_not_run_are_refused(run, text: str, why: str, tmp_path: Path, capsys: pytest.CaptureFixture[str]) -> None:  # type: ignore[no-untyped-def]
+def test_a_wrong_file_is_refused(run, text: str, why: str, tmp_path: Path, capsys: pytest.CaptureFixture[str]) -> None:  # type: ignore[no-untyped-def]
     (tmp_path / "lab.py").write_text(text)
     assert run(Device, "--tests", "lab.py") == 2 and why in capsys.readouterr().err and "LAB" not in [it.name for it in GROUPS]
 
