@@ -2,6 +2,7 @@
 
 from __future__ import annotations
 
+import math
 import random
 from contextlib import contextmanager, suppress
 from typing import Callable, Iterator, Mapping, Optional, Sequence, cast
@@ -26,6 +27,8 @@ REST = LIMIT + 0.1
 # How long a device may be quiet if it was asked for long timeouts, or is on defaults (6.4.4: 30 s).
 QUIET = 35.0
 HOOK_SECONDS = 40.0
+# The first of the bench's systems: each one has another number in the three octets that are 0 here.
+BASE = Mac("02cf00000001")
 Holds = Callable[[Lacpdu], object]
 
 
@@ -44,8 +47,8 @@ class Link:
 class Bench:
     """One loop over the links, and the log of what came and went."""
 
-    def __init__(self, wire: Wire, hook: Optional[Hook] = None, slack: float = 0.15, seed: int = 1, flaps: bool = False) -> None:
-        self.wire, self.slack, self.flaps = wire, slack, flaps
+    def __init__(self, wire: Wire, hook: Optional[Hook] = None, slack: float = 0.15, seed: int = 1, flaps: bool = False, base: Mac = BASE) -> None:
+        self.wire, self.slack, self.flaps, self.base = wire, slack, flaps, base
         self._hook, self._seed, self._count = hook, seed, 0
         self.frames: list[Frame] = []
         # What was done to the device, and when: words of the hook.
@@ -56,14 +59,18 @@ class Bench:
         self.latest = 0.0
         self.links = {number: Link(self, number, name) for number, name in enumerate(wire.names, 1)}
         self.result: Optional[Result] = None
-        # Whether data of one aggregator was seen on both links, and whether broadcasts came out of another link; whether a marker was answered, and
-        # when one went out last.
-        self.spreads = self.floods = self.answers = False
-        self.marked = -9.0
+        # When a test has to end.
+        self.ends = math.inf
+        # Whether data of one aggregator comes on both links, and whether broadcasts go from one aggregator to another, once a test found that out.
+        self.spreads: Optional[bool] = None
+        self.floods: Optional[bool] = None
+        # Whether a marker was answered, and when one went out last.
+        self.answers, self.marked = False, -9.0
         # What flooded a link in a test before, so that not all of its frames were kept.
         self.flood = ""
-        # Which of our six parameters the device tells wrong, by the tests before: the others go by the rest.
+        # Which of our six parameters the device tells wrong: tests go by the rest. What was found before the first test, it tells.
         self.mistold: set[str] = set()
+        self.untold: list[str] = []
         # The tests in which a stack in memory broke, and was started again.
         self.broke: list[str] = []
         # What the device claims of itself (--pics).
@@ -88,7 +95,11 @@ class Bench:
 
     def new_mac(self) -> Mac:
         """The MAC address of a system that was not there before."""
-        return Mac(b"\x02\xcf" + self.number().to_bytes(3, "big") + b"\x01")
+        return Mac(self.base[:2] + self.number().to_bytes(3, "big") + self.base[5:])
+
+    def is_ours(self, mac: Mac) -> bool:
+        """Whether an address may be that of a system of the bench."""
+        return mac[:2] == self.base[:2]
 
     def dice(self, test: str) -> random.Random:
         """Random numbers of a test, the same in each run with this seed."""
@@ -134,6 +145,8 @@ class Bench:
                 return True
             if now >= limit:
                 return False
+            if now >= self.ends:
+                raise Stop("the test took as long as it may: `lagconform --list --json` has its `most` seconds")
             planned = min([limit, *(it.partner.due() for it in self.links.values())])
             arrived = self.wire.wait(max(0.0, planned - self.now()))
             self.late = max(self.late, self.now() - planned)
@@ -241,11 +254,13 @@ class Bench:
                 raise Stuck(f"the device does not carry after {limit:g} s beside a right partner: {', '.join(map(self.stands, left))}")
         self.until(1.5, lambda: all(self.partner(it).tells_carrying for it in links))
 
-    def look_past(self, *links: int) -> None:
-        """Where the device names our system, and tells another of our parameters wrong: tests go on without that one."""
+    def look_past(self, *links: int, mixed: bool = True) -> None:
+        """Where the device names our system, and tells another of our parameters wrong: tests go on without that one; also where it is the one of
+        another link, if `mixed`."""
         for link in links:
             told, own = self.device(link).partner, self.partner(link).me.info
-            wrong = {it for it in PLACES if value(told, it) != value(own, it)} - self.mistold
+            right = [own, *(it.partner.me.info for it in self.links.values() if not mixed)]
+            wrong = {it for it in PLACES if value(told, it) not in [value(one, it) for one in right]} - self.mistold
             if told.system.mac == own.system.mac and wrong:
                 self.mistold |= wrong
                 self.note(f"the device tells our {', '.join(sorted(wrong))} wrong (FM-06): tests go by the other parameters from here on")
@@ -345,8 +360,7 @@ class Bench:
 
     def note(self, text: str) -> None:
         """Tells something that is right either way."""
-        assert self.result
-        self.result.notes.append(text)
+        (self.result.notes if self.result else self.untold).append(text)
 
     def timed(self, what: str, sent: Frame, seen: Optional[Frame], least: float, most: float, timer: bool = False) -> bool:
         """Claims that something was seen in time after a frame. `timer`: the times are those of one timer of 6.4.4, and the LACPDU that

@@ -15,8 +15,8 @@ from typing import Callable, Optional, Sequence
 from niwhopera import __version__
 from niwhopera._library import functions, library_text
 
-from . import capture, files, junit, known, matrix, page, pics, report
-from .bench import Bench
+from . import capture, files, junit, known, matrix, own, page, pics, report
+from .bench import BASE, Bench
 from .files import are_same, read_text, tell, undisturbed, written
 from .groups import GROUPS, TESTS
 from .listing import as_markdown, as_text
@@ -26,7 +26,7 @@ from .options import MEMORY_LINKS, check_words, reader, selected
 from .pdus import number_of
 from .refusals import MOST_LINKS, Refused, check_interfaces
 from .report import Run
-from .resume import taken
+from .resume import SYSTEM, base_of, taken
 from .runner import CameToNothing, NoDevice, meet, run_all
 from .shadow import Shadow, compare
 from .sockets import Command, PacketWire
@@ -34,7 +34,6 @@ from .wires import Gone
 
 # The statuses of a shell that cannot run a command.
 NO_COMMAND = {126: "may not run it", 127: "does not find it"}
-TITLES = {it.name: it.title for it in GROUPS}
 
 
 class Progress:
@@ -62,6 +61,11 @@ class Progress:
         self.show()
 
 
+def titles() -> dict[str, str]:
+    """The titles of the groups."""
+    return {it.name: it.title for it in GROUPS}
+
+
 def moment(seconds: float) -> str:
     """A time since 1970, as reports have it."""
     return time.strftime("%Y-%m-%dT%H:%M:%SZ", time.gmtime(seconds))
@@ -72,6 +76,7 @@ def about(given: argparse.Namespace, b: Bench, results: Sequence[Result]) -> dic
     begun = moment(b.wire.started)
     late = max((it.late for it in results), default=0.0)
     told = {"device": given.device, **report.about_device(b), "begun": begun, "slack": f"{given.slack:g} s, beside the 0.25 s of a timer (6.4.4)"}
+    told[SYSTEM] = str(b.base)
     told.update({"the bench was late": f"{late:.3f} s at most", "seed": str(given.seed), "rules": CAVEAT})
     told.update({"the stack broke": f"and was started again {number_of(len(b.broke), 'time')}, in {', '.join(b.broke)}"} if b.broke else {})
     told.update({"times": "seconds of the clock of the stack: nobody waited for them"} if given.memory else {})
@@ -87,7 +92,7 @@ def write_all(given: argparse.Namespace, run: Run) -> bool:
         (given.junit, lambda: junit.as_junit(run).encode()),
         (given.tap, lambda: junit.as_tap(run).encode("utf-8", "replace")),
         (given.matrix, lambda: matrix.as_markdown(run.results, TESTS).encode()),
-        (given.report, lambda: page.as_html(run, TITLES, TESTS).encode("utf-8", "replace")),
+        (given.report, lambda: page.as_html(run, titles(), TESTS).encode("utf-8", "replace")),
         (given.pcap, lambda: capture.octets(b.wire.started, b.wire.names, b.frames, comments)),
     ]
     for it in run.results if given.captures else ():
@@ -120,14 +125,14 @@ def stand(given: argparse.Namespace) -> Bench:
     """The bench at its links, with a device that speaks."""
     if given.memory:
         world = World(loaded(given.memory), given.links or MEMORY_LINKS, time.time())
-        b = Bench(world, world, given.slack, given.seed)
+        b = Bench(world, world, given.slack, given.seed, base=given.system or BASE)
     else:
         check_interfaces(given.interfaces)
         try:
             wire = PacketWire(given.interfaces)
         except PermissionError as why:
             raise Refused("packet sockets want CAP_NET_RAW: run it as root, or with that capability") from why
-        b = Bench(wire, Command(given.hook) if given.hook else None, given.slack, given.seed, given.flap)
+        b = Bench(wire, Command(given.hook) if given.hook else None, given.slack, given.seed, given.flap, given.system or BASE)
     try:
         if given.hook:
             prepare_device(given, b)
@@ -223,7 +228,7 @@ def listed(given: argparse.Namespace) -> int:
     tests = sorted(selected(given.only, True, MOST_LINKS, given.left_out), key=TESTS.index)
     if given.json:
         return 0 if written(given.json, lambda: (json.dumps([*map(report.about_test, tests)], indent=1) + "\n").encode()) else 2
-    tell(as_markdown(tests, TITLES) if given.markdown else as_text(tests, TITLES))
+    tell(as_markdown(tests, titles()) if given.markdown else as_text(tests, titles()))
     return 0
 
 
@@ -234,6 +239,8 @@ def main(words: Optional[Sequence[str]] = None) -> int:
         print(f"lagconform {__version__}", library_text(), sep="\n")
         return 0
     try:
+        for path in given.tests:
+            own.load(path)
         if given.list:
             return listed(given)
         check_words(given)
@@ -242,7 +249,9 @@ def main(words: Optional[Sequence[str]] = None) -> int:
         claimed = pics.parsed(read_text(given.pics)) if given.pics else {}
         reasons = known.parsed(read_text(given.known), (it.id for it in TESTS)) if given.known else {}
         if given.resume:
-            taken(given.resume, read_text(given.resume, files.MOST_OF_A_RUN), tests)
+            before = read_text(given.resume, files.MOST_OF_A_RUN)
+            taken(given.resume, before, tests)
+            given.system = given.system or base_of(before)
         gc.disable()  # no pauses
         signal.signal(signal.SIGTERM, interrupt)
         functions()  # without the library no stack is to blame

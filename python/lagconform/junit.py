@@ -51,7 +51,7 @@ def case(run: Run, it: Result) -> str:
     if kind == "skipped":
         out += f"<skipped message={quoteattr(text)}/>"
     elif kind:
-        out += f"<{kind} type={quoteattr(f'{it.verdict} by {it.test.basis}')} message={quoteattr(text)}>{body}</{kind}>"
+        out += f"<{kind} type={quoteattr(f'{it.verdict} by {it.basis}')} message={quoteattr(text)}>{body}</{kind}>"
     return f"{out}<system-out>{body}</system-out></testcase>"
 
 
@@ -112,7 +112,7 @@ def point(run: Run, number: int, it: Result) -> Iterable[str]:
     else:
         yield f"{'not ok' if kind else 'ok'} {name}"
     if kind in ("failure", "error"):
-        yield from ["  ---", f"  message: {json.dumps(it.why)}", f"  severity: {it.verdict}", f"  basis: {it.test.basis}", "  data:"]
+        yield from ["  ---", f"  message: {json.dumps(it.why)}", f"  severity: {it.verdict}", f"  basis: {it.basis}", "  data:"]
         yield from (f"    - {json.dumps(line)}" for line in words(run, it))
         yield "  ..."
 

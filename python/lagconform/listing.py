@@ -2,10 +2,13 @@
 
 from __future__ import annotations
 
+import math
 from typing import Sequence
 
+from .bench import HOOK_SECONDS, SOON
 from .model import CAVEAT, Test
 from .pdus import number_of
+from .runner import MEETS
 
 HEADS = "| test | clause | carried by | purpose | steps | passes if | tolerance |"
 
@@ -24,7 +27,27 @@ def as_text(tests: Sequence[Test], titles: dict[str, str]) -> str:
     for group in dict.fromkeys(it.group for it in tests):
         out += ["", f"{group}  {titles[group]}"]
         out += [f"  {it.id:7} {it.clause:34} {it.title}{marks(it)}" for it in tests if it.group == group]
-    return "\n".join([*out[1:], "", number_of(len(tests), "test")])
+    return "\n".join([*out[1:], "", number_of(len(tests), "test"), *times(tests)])
+
+
+# So long a device is waited for before the first test, at most: the hook, the first LACPDUs, and what it tells in them.
+BEFORE = HOOK_SECONDS + MEETS + SOON
+
+
+def most(tests: Sequence[Test]) -> int:
+    """After so many minutes a run of these tests ends."""
+    return math.ceil((BEFORE + sum(it.most for it in tests)) / 60)
+
+
+def times(tests: Sequence[Test]) -> list[str]:
+    """How long a run of these tests takes by its links."""
+    out = []
+    for links, name in enumerate(("one link", "two links", "three or four links"), 1):
+        for more in (False, True):
+            own = [it for it in tests if it.links <= links and (more or not it.is_long)]
+            minutes = max(1, round(sum(it.takes for it in own) / 60))
+            out.append(f"{name}{', --long' if more else ''}: {number_of(len(own), 'test')}, some {minutes} min, at most {most(own)} min")
+    return out
 
 
 def as_markdown(tests: Sequence[Test], titles: dict[str, str]) -> str:

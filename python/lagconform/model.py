@@ -14,10 +14,16 @@ PASS, FAIL, INCONCLUSIVE, SKIPPED, NOT_APPLICABLE = "pass", "fail", "inconclusiv
 VERDICTS = (PASS, FAIL, INCONCLUSIVE, SKIPPED, NOT_APPLICABLE)
 # What carries the rule of a test: docs/PROFILE.md; two devices that nobody of this project wrote, which do so; or memory of the standard.
 PROFILE, DEVICES, MEMORY = "PROFILE", "two devices", "memory"
+# What a fail of a stack that crashed or hangs goes by, which wants no rule.
+CRASH = "crash"
+# The group of tests that look at all frames of the run.
+WHOLE_RUN = "IV"
 # What stands with each report.
 CAVEAT = "Nobody compared the rules of the tests with the text of the standard."
 # A test that takes more seconds is long, and runs with --long alone.
 LONG = 25
+# So many seconds a test may wait beside those that it takes; then it ends.
+SPARE = 90
 
 
 @dataclass(frozen=True)
@@ -94,12 +100,17 @@ class Test:
         """Whether it runs with --long alone."""
         return self.takes > LONG
 
+    @property
+    def most(self) -> float:
+        """After so many seconds it ends."""
+        return self.takes + SPARE
+
 
 @dataclass
 class Result:
     """What came of a test: packets `first` to `last`, seconds `begin` to `end`, and how late the bench was at most. `gone` says which
-    interface is no longer there, or why a stack is not started again, `known` why a fail is known, and `stuck` that no test can go on like this. `times` counts the verdicts of a test
-    that ran several times."""
+    interface is no longer there, or why a stack is not started again, `known` why a fail is known, `stuck` that no test can go on like this, and
+    `crashed` that a stack in memory broke. `times` counts the verdicts of a test that ran several times."""
 
     test: Test
     verdict: str = PASS
@@ -114,7 +125,13 @@ class Result:
     known: str = ""
     gone: str = ""
     stuck: bool = False
+    crashed: bool = False
     times: dict[str, int] = field(default_factory=dict)
+
+    @property
+    def basis(self) -> str:
+        """What carries the verdict: the rule of the test, or that the stack broke."""
+        return CRASH if self.crashed else self.test.basis
 
     @property
     def packets(self) -> dict[int, bool]:
@@ -137,7 +154,7 @@ class Stuck(Stop):
 
 
 class NotHere(Stop):
-    """The test wants what the bench was not given, or an answer that an earlier test did not get."""
+    """The test wants what the bench was not given, or an answer to a marker, which the device does not give."""
 
     verdict = SKIPPED
 

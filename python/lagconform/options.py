@@ -8,7 +8,10 @@ import math
 import os
 from typing import Optional, Sequence
 
+from niwhopera import Mac
+
 from . import pics
+from .bench import BASE
 from .files import check_writable
 from .groups import TESTS
 from .model import LONG, Test
@@ -36,8 +39,21 @@ The hook is a command that gets words behind it, and ends with status 0 if it di
                            flows between them: UDP from 198.18.0.0/16, to other addresses
                            and ports in each flow
 
-The first two come before the first test, and a hook that the shell cannot run is refused there. Tests that want words which the hook does not
-know are skipped."""
+The first two come before the first test, and a hook that the shell cannot run is refused there. `start` does not: the device is configured, and
+sends LACPDUs, before the run begins. Tests that want words which the hook does not know are skipped."""
+
+
+def system(text: str) -> Mac:
+    """The first system of the bench, with a number in octets 3 to 5 that it counts."""
+    try:
+        mac = Mac(text)
+    except ValueError:
+        raise argparse.ArgumentTypeError(f"an address, as {BASE}, and not {text}") from None
+    if mac[0] & 1:
+        raise argparse.ArgumentTypeError(f"{text} is a multicast address; a system has an individual one")
+    if any(mac[2:5]) or not any(mac):
+        raise argparse.ArgumentTypeError(f"the bench counts its systems in octets 3 to 5, which are 0 in the first one, as in {BASE}; and not {text}")
+    return mac
 
 
 def seconds(text: str) -> float:
@@ -91,16 +107,19 @@ def add_device(it: argparse.ArgumentParser) -> None:
     """What the device is, claims and does."""
     it.add_argument("--memory", metavar="FILE", help="test a stack in memory, without links: a file of Python with a class Device, or a shared library")
     it.add_argument("--links", metavar="N", type=links, help=f"with --memory: how many links there are, 1 to 4 ({MEMORY_LINKS})")
-    it.add_argument("--pics", metavar="FILE", help=f"what the device claims: lines of yes or no for {', '.join(pics.ITEMS)}")
+    items = "; ".join(f"{name}: {text}" for name, text in pics.ITEMS.items())
+    it.add_argument("--pics", metavar="FILE", help=f"what the device claims: lines of yes or no for these items: {items}")
     it.add_argument("--known", metavar="FILE", help="fails that are known: lines of a test and a reason")
     it.add_argument("--hook", metavar="COMMAND", help="a command that has the device do something, above")
     it.add_argument("--set", metavar="KEY=VALUE", action="append", default=[], help="a setting for the hook; may be given again")
+    it.add_argument("--system", metavar="MAC", type=system, help=f"the bench's first system ({BASE}): each bench at one device, or MLAG pair, wants its own")
     it.add_argument("--flap", action="store_true", help="take our own end of a link down, where the device sees that; wants CAP_NET_ADMIN")
 
 
 def add_tests(it: argparse.ArgumentParser) -> None:
     """Which tests run, and how."""
     it.add_argument("--only", metavar="TEST", action="append", help="tests to run, as RX-02 or 'RX-*', also a long one by its name; may be given again")
+    it.add_argument("--tests", metavar="FILE", action="append", default=[], help="more tests: a file of Python; may be given again")
     it.add_argument("--not", metavar="TEST", action="append", dest="left_out", default=[], help="tests to leave out; may be given again")
     it.add_argument("--long", action="store_true", help=f"run tests of more than {LONG} s, too; with --memory they always run")
     it.add_argument("--repeat", metavar="N", type=times, default=1, help="run each test N times; its verdict is the worst of them")

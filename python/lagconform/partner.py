@@ -46,7 +46,7 @@ class Partner:
 
     def __init__(self, bench: Bench, link: int) -> None:
         self.bench, self.link = bench, link
-        self.me = Identity(SystemId(0x8000, Mac("02cf00000001")), PortId(0x80, link))
+        self.me = Identity(SystemId(0x8000, bench.base), PortId(0x80, link))
         self._system: Optional[System] = None
         self.heard: Optional[Frame] = None
         self.told: Optional[Lacpdu] = None

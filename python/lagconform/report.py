@@ -8,7 +8,7 @@ from typing import Mapping, Optional, Sequence
 
 from . import causes, matrix
 from .bench import Bench
-from .model import CAVEAT, FAIL, PROFILE, VERDICTS, Result, Test
+from .model import CAVEAT, CRASH, FAIL, PROFILE, VERDICTS, Result, Test
 from .pdus import end, mac
 from .shadow import Shadow
 
@@ -33,7 +33,7 @@ def why(it: Result) -> str:
 def line(it: Result) -> str:
     """A result as one line; behind it why, and of a fail which packets show it."""
     known = f" (known: {it.known})" if it.known else ""
-    rule = f"{it.test.clause}, by {it.test.basis}: " if it.verdict == FAIL else ""
+    rule = f"{it.test.clause}, by {it.basis}: " if it.verdict == FAIL else ""
     shown = ", ".join(str(number) for number, holds in it.packets.items() if it.verdict == FAIL and not holds)
     more = [*([f"{rule}{why(it)}"] if it.why else []), *([f"packets {shown}"] if shown else [])]
     return "\n".join([f"{it.verdict:15}{it.test.id:7} {it.test.title}{known}", *(f"{'':23}{text}" for text in more)])
@@ -46,9 +46,10 @@ def counts(results: Sequence[Result]) -> dict[str, int]:
 
 def summary(results: Sequence[Result]) -> str:
     """The counts as a line, without the verdicts that no test has but pass and fail; how many fails are known stands behind theirs, and how many
-    PROFILE does not carry."""
+    PROFILE does not carry, and how many are crashes, which go by no rule."""
     fails = [it for it in results if it.verdict == FAIL]
-    kinds = {"known": sum(bool(it.known) for it in fails), f"not by {PROFILE}": sum(it.test.basis != PROFILE for it in fails)}
+    kinds = {"known": sum(bool(it.known) for it in fails), f"by {CRASH}": sum(it.crashed for it in fails)}
+    kinds[f"not by {PROFILE}"] = sum(it.basis not in (PROFILE, CRASH) for it in fails)
     listed = ", ".join(f"{count} {kind}" for kind, count in kinds.items() if count)
     told = {FAIL: f" ({listed})"} if listed else {}
     return ", ".join(f"{count} {name}{told.get(name, '')}" for name, count in counts(results).items() if count or name in VERDICTS[:2])
@@ -68,7 +69,7 @@ def about_test(test: Test) -> dict[str, object]:
     """A test for JSON."""
     return {
         "id": test.id, "clause": test.clause, "basis": test.basis, "title": test.title, "purpose": test.purpose, "steps": test.steps,
-        "rule": test.rule, "tolerance": test.tolerance, "links": test.links, "takes": test.takes, "needs": test.needs, "hooks": test.hooks,
+        "rule": test.rule, "tolerance": test.tolerance, "links": test.links, "takes": test.takes, "most": test.most, "needs": test.needs, "hooks": test.hooks,
         "causes": test.causes,
     }  # fmt: skip
 
@@ -81,7 +82,7 @@ def record(b: Bench, it: Result) -> dict[str, object]:
         sender = "bench" if frame.out else "device"
         frames[number] = {"seconds": round(frame.time, 6), "link": frame.link, "from": sender, "octets": frame.octets.hex()}
     return {
-        **about_test(it.test), "verdict": it.verdict, "why": it.why, "known": it.known, "notes": it.notes, "times": it.times,
+        **about_test(it.test), "basis": it.basis, "verdict": it.verdict, "why": it.why, "known": it.known, "notes": it.notes, "times": it.times,
         "seconds": [round(it.begin, 3), round(it.end, 3)], "late": round(it.late, 3), "packets": [it.first, it.last],
         "claims": [{"holds": claim.holds, "text": claim.text, "packets": claim.packets} for claim in it.claims], "frames": frames,
     }  # fmt: skip

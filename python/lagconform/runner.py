@@ -2,15 +2,16 @@
 
 from __future__ import annotations
 
+import math
 import traceback
 from typing import Callable, Iterable, Mapping, NamedTuple, Optional, Sequence
 
 from niwhopera import State
 
-from .bench import QUIET, Bench
+from .bench import QUIET, SOON, Bench
 from .floods import FLOOD
 from .matrix import WORST
-from .model import FAIL, INCONCLUSIVE, PASS, SURE, Claim, DoesNotApply, NotHere, Result, Stop, Stuck, Test
+from .model import FAIL, INCONCLUSIVE, PASS, SURE, WHOLE_RUN, Claim, DoesNotApply, NotHere, Result, Stop, Stuck, Test
 from .pics import ITEMS, lacking
 from .wires import Broke, Gone
 
@@ -27,12 +28,20 @@ def meet(b: Bench) -> None:
     b.begin(*b.links)
     before = Traffic(b)
     if b.until(MEETS, lambda: all(it.spoke for it in b.links.values())):
+        learn(b)
         return
     missing = [it for it in b.links.values() if not it.spoke]
     names = ", ".join(it.name for it in missing)
     if flood := before.flood().text:
         raise NoDevice(f"no LACPDU came in {MEETS:g} s on {names}. {flood}")
     raise NoDevice(f"no LACPDU came in {MEETS:g} s on {names}. The usual causes: {b.wire.silence}")
+
+
+def learn(b: Bench) -> None:
+    """Finds out which of our parameters the device tells wrong, so that no test depends on one before it for that."""
+    read = [number for number, it in b.links.items() if it.frame]
+    if read and not b.until(SOON, lambda: all(map(b.names_us, read))):
+        b.look_past(*read, mixed=False)  # IV-04 finds what is mixed
 
 
 class Flood(NamedTuple):
@@ -95,7 +104,8 @@ def prepare(b: Bench, test: Test) -> None:
 def run_one(b: Bench, test: Test, claimed: Optional[Mapping[str, bool]] = None) -> Result:
     """Runs a test; answers its verdict."""
     result = Result(test, first=len(b.frames) + 1, begin=b.now())
-    b.result, b.late, b.refused, b.claimed = result, 0.0, 0, claimed or {}
+    b.result, b.late, b.refused, b.claimed, b.ends = result, 0.0, 0, claimed or {}, b.now() + test.most
+    result.notes, b.untold = b.untold, []
     b.wire.drops()  # what was lost before is of no test
     traffic = Traffic(b)
     broke: Optional[Broke] = None
@@ -110,11 +120,13 @@ def run_one(b: Bench, test: Test, claimed: Optional[Mapping[str, bool]] = None) 
         text, _, trace = str(why).partition("\n")
         last = [it.number for it in b.frames[result.first - 1 :] if it.out][-1:]
         result.claims.insert(0, Claim(False, f"{text}; has to go on", tuple(last), SURE))
+        result.crashed = True
         result.notes += [trace] if trace else []
     except Gone as why:
         result.verdict, result.why, result.gone = INCONCLUSIVE, str(why), str(why)
     except Exception:  # a fault of the bench
         result.verdict, result.why = INCONCLUSIVE, f"the bench has a fault: {traceback.format_exc(limit=-2)}"
+    b.ends = math.inf
     flood = traffic.flood()
     b.flood = flood.text if flood.hides else b.flood
     # What looks at all frames of the run lacks those that a flood hid in any test.
@@ -187,8 +199,6 @@ class CameToNothing(Exception):
     """Tests in turn came to nothing for one reason; the text says which."""
 
 
-# The group of tests that look at all frames of the run.
-WHOLE_RUN = "IV"
 # After so many tests in turn that can't begin, or in a flood, a run ends: each of them takes 9 s and more.
 IN_TURN = 5
 

@@ -170,7 +170,7 @@ SELECTION = ("SL-01", "SL-03", "SL-04", "SL-05", "SL-06", "SL-07", "SL-13")
 
 
 @pytest.mark.parametrize(
-    "kind, fails, open_ones", [(Bridge, [], ["SL-01"]), (JoinsKeys, ["SL-04", "SL-06", "SL-07", "SL-13"], ["SL-01"]), (NeverJoins, ["SL-01"], [])]
+    "kind, fails, open_ones", [(Bridge, [], []), (JoinsKeys, ["SL-04", "SL-06", "SL-07", "SL-13"], []), (NeverJoins, ["SL-01"], [])]
 )
 def test_broadcasts_tell_aggregators_apart(kind: Type[Device], fails: list[str], open_ones: list[str]) -> None:
     results = found_by(kind, [it for it in TESTS if it.id in SELECTION])

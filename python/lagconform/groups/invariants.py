@@ -11,8 +11,6 @@ from ..model import SURE, Frame, Group
 from ..pdus import PAYLOAD, SIX, SLOW, is_of_lag, number_of, put, read, value
 
 group = Group("IV", "All frames of the run")
-# The first octets of the systems that the bench is.
-OURS = b"\x02\xcf"
 Told = Tuple[object, ...]
 
 
@@ -73,7 +71,7 @@ def known(b: Bench) -> None:
         pdu = frame.lacpdu or (shown(frame) if frame.out else None)
         if pdu and frame.out:
             sent[frame.link].add(told_of(b, pdu.actor))
-        elif pdu and pdu.partner.system.mac[:2] == OURS and told_of(b, pdu.partner) not in sent[frame.link]:
+        elif pdu and b.is_ours(pdu.partner.system.mac) and told_of(b, pdu.partner) not in sent[frame.link]:
             wrong.append(frame)
     b.claim(not wrong, f"{len(wrong)} LACPDUs tell a partner that was never there; has to be none", *wrong[:3], bears=SURE)
 

@@ -5,7 +5,9 @@ LACPDUs don't tell in which aggregator a port is. Where the device carries on tw
 - A hook (`data start`, `data stop`) makes its one client send UDP of many flows from 198.18.0.0/16: if they come on both links, it is one
   aggregator.
 - Without a hook, broadcasts of the bench on one link come out of the other, if a bridge joins two aggregators: it sends none back into the
-  one that they came from. A device that does so once is a bridge, and where none comes out, it is one aggregator.
+  one that they came from. Beside such a device, where none comes out, it is one aggregator.
+
+What the device does is found out by the test that wants to know it, so that each test alone comes to what it comes to in a run.
 """
 
 from __future__ import annotations
@@ -40,6 +42,8 @@ def flows(b: Bench, links: Sequence[int] = (1, 2)) -> dict[int, int]:
 
 
 BROADCASTS = 20
+# So long two links are given to join an aggregator, or to find one each.
+JOINED, PARTED = 4.0, 8.0
 
 
 def broadcasts(b: Bench) -> int:
@@ -50,12 +54,32 @@ def broadcasts(b: Bench) -> int:
         b.send_raw(1, head + bytes([number]) + bytes(46 - len(PROBE)))
         b.wait(0.03)
     b.wait(0.5)
-    found = len({it.octets for it in b.frames[mark:] if not it.out and it.link == 2 and it.octets.startswith(head)})
-    b.floods = b.floods or found > 0
-    return found
+    return len({it.octets for it in b.frames[mark:] if not it.out and it.link == 2 and it.octets.startswith(head)})
 
 
-def apart(b: Bench, seconds: float = 8, one: bool = True) -> None:
+def spreads(b: Bench) -> bool:
+    """Whether data of one aggregator comes on both links: found out once, beside one partner."""
+    if b.spreads is None:
+        b.up(1, 2)
+        b.wait(JOINED)
+        b.spreads = all(flows(b).values())
+    return b.spreads
+
+
+def floods(b: Bench) -> bool:
+    """Whether broadcasts go from one aggregator to another: found out once, beside two partners that have nothing in common."""
+    if b.floods is None:
+        b.begin(1, 2, same=False, silent=True)
+        for field in ("priority", "key"):
+            b.partner(2).become_other(field)
+        for link in (1, 2):
+            b.partner(link).speak()
+        b.wait(PARTED)
+        b.floods = all(b.carries(it) and b.names_us(it) for it in (1, 2)) and broadcasts(b) > 0
+    return b.floods
+
+
+def apart(b: Bench, seconds: float = PARTED, one: bool = True) -> None:
     """Claims that after some seconds the device does not use both links in one aggregator, whatever its LACPDUs say of each; and, if
     `one`, that it uses one of them."""
     b.wait(seconds)
@@ -74,29 +98,29 @@ def apart(b: Bench, seconds: float = 8, one: bool = True) -> None:
         return
     if not any(found.values()):
         raise Stop("both links carry, and no data of the device came")
-    if not all(found.values()) and not b.spreads:
-        raise Stop("both links carry, and data came on one: but the device did so for one aggregator, too (SL-01)")
+    if not all(found.values()) and not spreads(b):
+        raise Stop("both links carry, and data came on one: but the device does so for one aggregator, too")
     text = f"flows of one client: {found[1]} on link 1, {found[2]} on link 2; has to be one link alone"
     b.claim(not all(found.values()), text, *frames, bears=1.0)
 
 
 def apart_by_broadcasts(b: Bench, frames: Sequence[Frame], why: str) -> None:
     """Claims that two links that carry are two aggregators, as broadcasts show it where the device is a bridge."""
-    floods, found = b.floods, broadcasts(b)
+    found = broadcasts(b)
     text = f"of {BROADCASTS} broadcasts into link 1, {found} come out of link 2"
     if found:
         b.claim(True, f"{text}: two aggregators", *frames)
-    elif floods:
-        b.claim(False, f"{text}: one aggregator; has to be two, between which this device forwarded broadcasts in a test before", *frames, bears=1.0)
+    elif floods(b):
+        b.claim(False, f"{text}: one aggregator; has to be two, between which this device forwards broadcasts", *frames, bears=1.0)
     else:
         raise Stop(f"both links carry, and {text}: one aggregator, or a device that forwards none. Data of its client would show it ({why})")
 
 
 def joined_by_broadcasts(b: Bench, why: str) -> None:
     """Claims that two links that carry are one aggregator, as broadcasts show it where the device is known to be a bridge."""
-    floods, found = b.floods, broadcasts(b)
+    found = broadcasts(b)
     text = f"of {BROADCASTS} broadcasts into link 1, {found} come out of link 2"
-    if found or floods:
+    if found or floods(b):
         b.claim(not found, f"{text}; has to be none: they are one aggregator")
     else:
         raise Stop(f"both links carry, and {text}: one aggregator, or two of a device that forwards none. Data of its client would show it ({why})")
@@ -109,7 +133,7 @@ def aggregates(b: Bench) -> None:
     """Links of one LAG ID share an aggregator."""
     b.up(1, 2)
     mark = b.mark()
-    b.wait(4)
+    b.wait(JOINED)
     wrong = [it for link in (1, 2) for it in b.heard(link, mark, lambda pdu: not carries(pdu))]
     b.holds(not wrong, "both carry for 4 s", *wrong[:2])
     try:
@@ -374,6 +398,8 @@ def two_and_one(b: Bench) -> None:
         if both and b.carries(3):
             raise Stop(f"all links carry; without data it cannot be seen in how many aggregators ({why})") from why
         return
+    if both and b.carries(3) and sum(map(bool, found.values())) < 2 and not spreads(b):
+        raise Stop("all links carry, and data came on one at most: but the device does so for one aggregator, too")
     mixed = found[3] and (found[1] or found[2])
     b.claim(not mixed, f"flows of one client by link: {found}; has to be links 1 and 2, or link 3", *frames, bears=1.0)
 

@@ -1,0 +1,227 @@
+"""Each test comes to the same alone as in a run of all, and behind `--resume`; the bench's systems; tests of one's own; and how long a test may take."""
+
+from __future__ import annotations
+
+import json
+from pathlib import Path
+from typing import Iterator, Optional, Sequence, Type
+
+import pytest
+from conform_device import Device, World
+from conform_faults import SecondPartnerKey, WrongEcho
+from test_conform_kinds import Bridge, JoinsKeys
+from test_conform_right import NoIndividual
+
+from lagconform import command, listing, options, own, pics
+from lagconform.bench import BASE, Bench
+from lagconform.groups import GROUPS, TESTS
+from lagconform.model import FAIL, INCONCLUSIVE, PASS, SPARE, WHOLE_RUN, Group, Result
+from lagconform.model import Test as Case
+from lagconform.runner import meet, ordered, run_all
+from niwhopera import Mac
+
+BY_NAME = {it.id: it for it in TESTS}
+PAGE = Path(__file__).parents[2] / "docs" / "CONFORM.md"
+
+
+def play(kind: Type[Device], tests: Sequence[Case], base: Mac = BASE) -> list[Result]:
+    """Runs tests beside a device with three links and a hook."""
+    device = kind()
+    world = World(device, 3)
+    b, results = Bench(world, world, base=base), list[Result]()
+    try:
+        meet(b)
+        run_all(b, ordered(tests), results.append)
+        return results
+    finally:
+        b.close()
+        device.stop()
+
+
+@pytest.fixture(scope="module")
+def whole() -> dict[str, str]:
+    """The verdicts of a run of all tests."""
+    return {it.test.id: it.verdict for it in play(Device, TESTS)}
+
+
+@pytest.mark.parametrize("group", [it.name for it in GROUPS])
+def test_each_test_alone_comes_to_what_it_comes_to_in_a_run(whole: dict[str, str], group: str) -> None:
+    alone = {it.id: play(Device, [it])[0] for it in TESTS if it.group == group}
+    assert not [f"{name} {it.verdict}: {it.why}" for name, it in alone.items() if it.verdict != whole[name]]
+
+
+@pytest.mark.parametrize("kind", [SecondPartnerKey, WrongEcho, Bridge, JoinsKeys])
+def test_what_a_device_does_is_found_out_by_each_test_that_wants_it(kind: Type[Device]) -> None:
+    tests = [BY_NAME[it] for it in ("FM-06", "MX-02", "SL-01", "SL-03", "SL-04", "SL-05", "SL-06", "SL-07", "SL-13", "SL-15")]
+    run = {it.test.id: it.verdict for it in play(kind, tests)}
+    assert {it.id: play(kind, [it])[0].verdict for it in tests} == run
+
+
+class OnOneLink(Device):
+    """Sends the data of an aggregator on one of its links alone."""
+
+    def put_data(self, port: int, frame: bytes) -> None:
+        if port == min(it for it in self.links if self.on.choice(it) == self.on.choice(port)):
+            super().put_data(port, frame)
+
+
+def test_where_data_of_one_aggregator_comes_on_one_link_the_reason_is_right() -> None:
+    alone = play(OnOneLink, [BY_NAME["SL-03"]])[0]
+    assert alone.verdict == INCONCLUSIVE and alone.why.endswith("data came on one: but the device does so for one aggregator, too")
+
+
+@pytest.fixture
+def run(monkeypatch: pytest.MonkeyPatch, tmp_path: Path) -> Iterator[object]:
+    """Runs the command beside a stack in a file; its status."""
+    kept, groups = list(TESTS), list(GROUPS)
+
+    def begin(kind: Type[Device], *words: str) -> int:
+        (tmp_path / "device.py").write_text(f"from {kind.__module__} import {kind.__name__} as Device\n")
+        monkeypatch.chdir(tmp_path)
+        return command.main(["--memory", "device.py", *words])
+
+    yield begin
+    TESTS[:], GROUPS[:] = kept, groups
+
+
+def test_a_run_that_is_resumed_comes_to_what_a_whole_one_does(run, whole: dict[str, str], tmp_path: Path) -> None:  # type: ignore[no-untyped-def]
+    assert run(Device, "--not", "SL-03", "--not", "SL-0[4-7]", "--not", "SL-13", "--json", "one.json", "--system", "06:d1:00:00:00:03") == 0
+    assert run(Device, "--resume", "one.json", "--json", "two.json") == 0
+    told = json.loads((tmp_path / "two.json").read_text())
+    assert {it["id"]: it["verdict"] for it in told["tests"]} == whole
+    assert told["about"]["the bench's first system"] == "06-d1-00-00-00-03"
+    again = {it["id"] for it in told["tests"] if "of the run in one.json" not in it["notes"]}
+    assert again >= {it.id for it in TESTS if it.group == WHOLE_RUN} | {"SL-03"} and "SL-01" not in again
+
+
+def test_a_resumed_run_looks_at_its_own_frames_too(run, tmp_path: Path) -> None:  # type: ignore[no-untyped-def]
+    assert run(Device, "--only", "IV-*", "--only", "FM-01", "--json", "one.json") == 0
+    told = json.loads((tmp_path / "one.json").read_text())
+    told["tests"][-1]["verdict"] = FAIL
+    (tmp_path / "one.json").write_text(json.dumps(told))
+    assert run(Device, "--only", "IV-*", "--only", "FM-01", "--only", "MX-01", "--resume", "one.json", "--json", "two.json") == 1
+    taken = [it["id"] for it in json.loads((tmp_path / "two.json").read_text())["tests"] if "of the run in one.json" in it["notes"]]
+    assert taken == ["FM-01", told["tests"][-1]["id"]]
+
+
+def test_the_systems_of_a_bench_are_those_that_it_was_given(run, capsys: pytest.CaptureFixture[str]) -> None:  # type: ignore[no-untyped-def]
+    base = Mac("06d100000003")
+    assert [it.verdict for it in play(Device, [BY_NAME["SL-02"], BY_NAME["IV-04"]], base)] == [PASS, PASS]
+    device = Device()
+    b = Bench(World(device, 1), base=base)
+    meet(b)
+    assert str(b.device().partner.system.mac) == "06-d1-00-00-01-03" and b.is_ours(b.new_mac())
+    b.close()
+    device.stop()
+    reasons = {"03:d1:00:00:00:01": "is a multicast address", "06-d1-00-01-00-01": "counts its systems in octets 3 to 5", "lag0": "an address, as 02-cf"}
+    for text, why in reasons.items():
+        with pytest.raises(SystemExit) as ended:
+            run(Device, "--system", text)
+        assert ended.value.code == 2 and why in capsys.readouterr().err
+
+
+OWN = '''
+from lagconform.bench import Bench
+from lagconform.model import Group
+
+group = Group("LAB", "Of our lab", basis="our lab")
+
+
+@group.test("01", "6.4.16", "It carries in time", "be a partner", rule="it carries within 5 s", takes=3)
+def carries(b: Bench) -> None:
+    """A port carries soon."""
+    b.up(limit=5)
+    b.holds(b.carries(), "it carries", b.frame())
+'''
+
+
+def test_tests_of_ones_own_run_beside_those_of_the_bench(run, tmp_path: Path, capsys: pytest.CaptureFixture[str]) -> None:  # type: ignore[no-untyped-def]
+    (tmp_path / "lab.py").write_text(OWN)
+    assert run(Device, "--tests", str(tmp_path / "lab.py"), "--only", "LAB-*", "--only", "IV-04", "--report", "r.html", "--captures", "frames") == 0
+    said = capsys.readouterr().out
+    assert said.startswith("2 tests on 3 links") and "pass           LAB-01  It carries in time\n" in said
+    assert (tmp_path / "frames" / "LAB-01.pcapng").exists() and "Of our lab" in (tmp_path / "r.html").read_text()
+    assert run(Device, "--tests", str(tmp_path / "lab.py"), "--list") == 2 and "a name of its own" in capsys.readouterr().err
+
+
+@pytest.mark.parametrize("text, why", [
+    ("", "no lagconform.model.Group"), ("raise ValueError('x')", "ValueError: x"), (OWN.replace('"LAB"', '"L/B"'), "a name of its own"),
+    (OWN.replace('"01"', '"a"'), "a number of its own"), (OWN.replace("takes=3", "links=9"), "wants 9 links"),
+])  # fmt: skip
+def test_a_wrong_file_is_refused(run, text: str, why: str, tmp_path: Path, capsys: pytest.CaptureFixture[str]) -> None:  # type: ignore[no-untyped-def]
+    (tmp_path / "lab.py").write_text(text)
+    assert run(Device, "--tests", "lab.py") == 2 and why in capsys.readouterr().err and "LAB" not in [it.name for it in GROUPS]
+
+
+def test_a_test_ends_when_it_has_taken_as_long_as_it_may() -> None:
+    group = Group("LAB", "Of our lab")
+
+    def waits(b: Bench) -> None:
+        b.wait(1000)
+
+    group.test("01", "6.4.16", "Waits", rule="none", takes=3)(waits)
+    found = play(Device, group.tests)[0]
+    assert found.verdict == INCONCLUSIVE and "as long as it may" in found.why and 0 <= found.end - found.begin - 3 - SPARE < 1
+
+
+def test_a_device_that_does_not_carry_beside_an_individual_partner_is_right() -> None:
+    assert [it.verdict for it in play(NoIndividual, [BY_NAME["MX-08"], BY_NAME["SL-06"]])] == [PASS, PASS]
+
+
+class Crashes(Device):
+    """Breaks at a long frame."""
+
+    def took(self, port: int, frame: bytes) -> None:
+        if len(frame) > 200:
+            raise IndexError
+
+
+def test_a_crash_goes_by_no_rule(run, tmp_path: Path, capsys: pytest.CaptureFixture[str]) -> None:  # type: ignore[no-untyped-def]
+    assert run(Crashes, "--only", "VN-10", "--json", "r.json", "--junit", "r.xml", "--tap", "r.tap") == 1
+    said = capsys.readouterr().out
+    assert ", by crash: the stack broke" in said and "0 pass, 1 fail (1 by crash). " in said
+    assert json.loads((tmp_path / "r.json").read_text())["tests"][0]["basis"] == "crash"
+    assert 'type="fail by crash"' in (tmp_path / "r.xml").read_text() and "\n  basis: crash\n" in (tmp_path / "r.tap").read_text()
+
+
+# What the page says.
+
+
+def shortened(tests: Sequence[Case]) -> str:
+    """Tests by their names; a group of which all are there by its own."""
+    out = []
+    for group in GROUPS:
+        names = [it.id for it in group.tests if it in tests]
+        out += [f"all {group.name}"] if len(names) == len(group.tests) else names
+    return ", ".join(out)
+
+
+def test_the_page_says_what_each_item_of_a_pics_does() -> None:
+    rows = [f"|`{it}`|{text}|{shortened([one for one in TESTS if it in one.needs and it not in pics.MANDATORY]) or 'none'}|" for it, text in pics.ITEMS.items()]
+    assert not PAGE.exists() or not [it for it in rows if f"{it}\n" not in PAGE.read_text()], rows
+
+
+def test_the_page_says_how_long_a_run_may_take() -> None:
+    def row(name: str, links: int, only: Optional[Sequence[str]] = None) -> str:
+        told = [listing.most(options.selected(only, long, links)) for long in (False, True)]
+        return f"|{name}|{told[0]} min|{told[1]} min|\n"
+
+    rows = [row("one", 1), row("two", 2), row("three or four", 3)]
+    assert not PAGE.exists() or not [it for it in rows if it not in PAGE.read_text()], rows
+    assert not PAGE.exists() or f"{SPARE} s longer than" in " ".join(PAGE.read_text().split())
+
+
+def test_the_page_names_what_tests_use() -> None:
+    if not PAGE.exists():
+        return
+    rows = [it.split("`")[1] for it in PAGE.read_text().splitlines() if it.startswith("|`b.")]
+    assert len(rows) >= 6 and all(hasattr(Bench, it[2:].partition("(")[0]) for it in rows)
+
+
+def test_the_test_of_the_page_runs(run, tmp_path: Path, capsys: pytest.CaptureFixture[str]) -> None:  # type: ignore[no-untyped-def]
+    if not PAGE.exists():
+        return
+    (tmp_path / "lab.py").write_text(PAGE.read_text().partition("```python\n")[2].partition("```")[0])
+    assert run(Device, "--tests", "lab.py", "--only", "LAB-01") == 0 and "1 pass, 0 fail" in capsys.readouterr().out
+
+
