@@ -74,3 +74,19 @@ def test_edits_and_changes_are_not_touched() -> None:
 def test_the_product_stands_beside_what_checks_it() -> None:
     told = measure.figures({**FILES, "tools/check": "1\n2\n3\n", "python/tests/test_a.py": "4\n", "docs/A.md": "5\n"})
     assert (told["lines: product"], told["lines: tests and tools"], told["tests and tools, a line of the product"]) == ("20", "4", "0.20")
+
+
+def test_code_alone_has_no_clauses_and_no_comments() -> None:
+    text = """
+ghost use Rattle.std.specs.Prelude.{A,
+    B};
+/// What it answers.
+pub fn soonest(&self) -> Option<u8>
+    requires chained { AreChained self.now }
+    ensures { result
+        is soonest }
+{
+    self.first
+}
+"""
+    assert measure.code_alone(text).splitlines() == ["pub fn soonest(&self) -> Option<u8>", "{", "    self.first", "}"]
