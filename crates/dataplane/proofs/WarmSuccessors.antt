@@ -20,9 +20,8 @@ use Rattle.lagtypes.specs.declared.party.Party.{Party}
 use Rattle.lagtypes.specs.declared.state.State.{State}
 use Rattle.slowpdu.specs.Parties.{party_of}
 use Rattle.lagmodel.proofs.Base.{mapped_some, chosen}
-use Rattle.lagmodel.specs.Succession.{HasHeard, IsSuccessor, KeepsParties}
+use Rattle.lagmodel.specs.Succession.{HasHeard, IsAlikeSetup, IsSuccessor, KeepsParties}
 use Rattle.lagmodel.specs.Bridge.{find_number}
-use Rattle.lagnetwork.specs.Network.{IsAlikeSetup}
 use Rattle.lagsystem.proofs.Seen.{party_seen, port_seen}
 use Rattle.lagsystem.proofs.Sound.{Step-sound, first_sound}
 use Rattle.slowpdu.proofs.LacpduLemmas.{one_reading}

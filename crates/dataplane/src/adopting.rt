@@ -113,10 +113,9 @@ pub fn adopt<F: Fn(u16, usize) -> usize + Drop>(
 }
 
 ghost use Rattle.std.specs.Prelude.{◌≢◌, ℕ, IsSome, List, Option, Some};
-ghost use Rattle.lagmodel.specs.Succession.{IsSuccessor, KeepsParties};
+ghost use Rattle.lagmodel.specs.Succession.{IsAlikeSetup, IsSuccessor, KeepsParties};
 ghost use Rattle.lagmodel.specs.View.{PortFacts, SystemSetup, View};
 ghost use Rattle.lagmodel.specs.World.{TakenLacpdu, party_at};
-ghost use Rattle.lagnetwork.specs.Network.{IsAlikeSetup};
 ghost use Rattle.lagsystem.specs.declared.config.Config.{Config};
 ghost use Rattle.lagsystem.specs.ModelView.{model_setup, model_view};
 ghost use Rattle.lagsystem.specs.State.{SystemState};

@@ -263,7 +263,7 @@ const ROWS: [RuleRow<&str>; 30] = [
         number: 30,
         name: "the partner's system is the end's own",
         clause: "6.3.2",
-        advice: "Look for a loop (a cable between two ports of this system, or a port that hears itself); if there are two machines, one has a copied identifier, and no LACPDU tells which: give each its own (bonding: ad_actor_system; Open vSwitch: lacp-system-id).",
+        advice: "Look for a loop (a cable between two ports of this system, or a port that hears itself); if there are two machines, one has a copied identifier, and no LACPDU tells which: give each its own (bonding: ad_actor_system; Open vSwitch: other_config:lacp-system-id; teamd: hwaddr, the address of the team device).",
     },
 ];
 

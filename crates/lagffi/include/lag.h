@@ -795,7 +795,8 @@ static inline struct niw_number niw_load(struct niw_system *handle, uint16_t por
     return handle ? lagffi_load(handle, port) : niw_null_number();
 }
 
-/* How many conversations are held on a port, wanted or flushing there; niw_load counts those that are on it, too. */
+/* How many conversations are held on a port, wanted or flushing there; niw_load counts those that are on it, too. It says nothing
+ * of niw_hold, which keeps a port out. */
 static inline struct niw_number niw_held(struct niw_system *handle, uint16_t port) {
     return handle ? lagffi_held(handle, port) : niw_null_number();
 }

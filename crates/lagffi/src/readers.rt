@@ -240,7 +240,8 @@ pub extern "C" fn lagffi_answers(alloc: Global, lag: &mut Lag, port: u16) -> Lag
     ask!(alloc, lag, LagNumber, system, block => LagNumber::note_or_no_port(block.kept().answering.of(&system, port)))
 }
 
-/// How many conversations are held on a port, wanted or flushing there; niw_load counts those that are on it, too.
+/// How many conversations are held on a port, wanted or flushing there; niw_load counts those that are on it, too. It says nothing
+/// of niw_hold, which keeps a port out.
 /// Refuses: NIW_NO_SYSTEM, NIW_NO_PORT.
 #[unsafe(no_mangle)]
 pub extern "C" fn lagffi_held(alloc: Global, lag: &mut Lag, port: u16) -> LagNumber

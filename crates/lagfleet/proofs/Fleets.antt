@@ -2,10 +2,10 @@
 use Rattle.std.proofs.Common.{Bool, Err, List, None, Ok, Option, Some, [], ap, cond, inr, refl, subst, sym, true, ℕ, ◌++◌, ◌∙◌, ◌∷◌, ◌≡◌}
 use Rattle.lagtypes.specs.declared.identifiers.AggId.{AggId}
 use Rattle.lagmodel.specs.Move.{Act, LawfulMoves}
-use Rattle.lagmodel.specs.Succession.{IsSuccessor}
+use Rattle.lagmodel.specs.Succession.{IsAlikeSetup, IsSuccessor}
 use Rattle.lagmodel.specs.View.{ModelCall, SystemSetup, View, first_view}
 use Rattle.lagmodel.specs.World.{Control, Data, Message, at_two, sent_after, taken_after}
-use Rattle.lagnetwork.specs.Network.{Configure, CountsNetworkChanges, Cut, Deliver, DeliversFirstAt, Emit, Frees, Hear, IsAlikeSetup, IsNetworkSetup}
+use Rattle.lagnetwork.specs.Network.{Configure, CountsNetworkChanges, Cut, Deliver, DeliversFirstAt, Emit, Frees, Hear, IsNetworkSetup}
 use Rattle.lagnetwork.specs.Network.{Join, Lose, Move_conversation, Network, NetworkCall, NetworkEvent, NetworkHappens, NetworkRun, NetworkSetup}
 use Rattle.lagnetwork.specs.Network.{Offer, Overtake, Place, Plug, Pull, Repeat, RepeatsFirstAt, Restart, Sense, Succeed, Tick, also_forced}
 use Rattle.lagnetwork.specs.Network.{at_system, ends_at, first_network, freed_view, handed_up_from, network_after_acts, recabled, recabled_all}

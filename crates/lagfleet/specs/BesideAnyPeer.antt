@@ -4,7 +4,7 @@ use Rattle.lagtypes.specs.declared.identifiers.AggId.{AggId}
 use Rattle.lagmodel.specs.View.{ModelCall, On, conversation_port}
 use Rattle.lagmodel.specs.Move.{Act, Move}
 use Rattle.lagmodel.specs.World.{at_two}
-use Rattle.lagmodel.specs.Succession.{IsSuccessor}
+use Rattle.lagmodel.specs.Succession.{IsAlikeSetup, IsSuccessor}
 use Rattle.lagmodel.specs.AnyPeer.{Calls, Comes, Fits, Forces, Happening}
 use Rattle.lagmodel.specs.AnyPeer.{Restarts, Scene, first_scene, scene_after_acts}
 use Rattle.lagsystem.specs.declared.drive.HostCall.{HostCall}
@@ -21,7 +21,7 @@ use Rattle.lagsystem.specs.ModelView.{CallSeenAs, EffectsSeenAs, model_setup, mo
 use Rattle.lagsystem.specs.Settings.{Setting, SettingPromise}
 use Rattle.lagsystem.specs.Sound.{CallPromise}
 use Rattle.lagsystem.specs.State.{SystemState}
-use Rattle.lagnetwork.specs.Network.{IsAlikeSetup, also_forced}
+use Rattle.lagnetwork.specs.Network.{also_forced}
 use Rattle.lagfleet.specs.Doing.{Doing, Does, IsRefused, offered}
 use Rattle.lagfleet.specs.Fleet.{IsOther, is_held}
 

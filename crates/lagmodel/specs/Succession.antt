@@ -1,6 +1,6 @@
 -- Runs of two systems in which another system takes the place of one, and goes on where that was, as after a warm start (profile).
-use Rattle.std.specs.Prelude.{◌≡◌, ◌≤◌, ◌⊎◌, ℕ, true, false, List, [], ◌∷◌, Option, Some, None}
-use Rattle.lagmodel.specs.View.{PortFacts, View, SystemSetup, Flushing, On, conversation_port}
+use Rattle.std.specs.Prelude.{◌≡◌, ◌≤◌, ◌⊎◌, ℕ, true, false, List, [], ◌∷◌, Option, Some, None, is_some}
+use Rattle.lagmodel.specs.View.{PortFacts, View, SystemSetup, IsSystemSetup, Flushing, On, conversation_port}
 use Rattle.lagmodel.specs.World.{Side, TakenLacpdu, World, WorldSetup, IsWorldSetup, Event, Happens, at_side, first_world, party_at}
 use Rattle.lagmodel.specs.Law.{Members}
 
@@ -18,6 +18,14 @@ pub record IsSuccessor (u : SystemSetup) (before : View) (taken : ℕ → Option
   pub on : (g k p : ℕ) → conversation_port (before.flows.state g k) ≡ Some p → after.flows.state g k ≡ On p
   pub waits : (g k p n : ℕ) → after.flows.state g k ≡ Flushing p n → ⊥
   pub next : before.flows.next ≤ after.flows.next
+
+-- A system with the configuration v may go on where one with u was: it has the identifier, the aggregators and the ports of that. The own
+-- parameters of the ports that it starts with, and its first marker identifier, may be others.
+pub record IsAlikeSetup (u v : SystemSetup) : Type 0 where
+  pub setup : IsSystemSetup v
+  pub system : v.system ≡ u.system
+  pub key : (g : ℕ) → v.key g ≡ u.key g
+  pub ports : (p : ℕ) → is_some (v.party p) ≡ is_some (u.party p)
 
 -- its ports have the own parameters that they had
 abbrev pub KeepsParties : View → View → Type 0

@@ -1,10 +1,10 @@
 -- Any number of systems, cabled in any way, and what can happen to them (profile; links are point-to-point). Systems have
 -- numbers; a network of n systems is one in which the others have no cable and no event. Cables may be moved.
-use Rattle.std.specs.Prelude.{◌≡◌, ◌≢◌, ℕ, suc, Bool, true, false, ◌&&◌, cond, eqb, ◌⊎◌, Option, Some, None, IsSome, is_some, List, [], ◌∷◌, ◌++◌, length, drop}
+use Rattle.std.specs.Prelude.{◌≡◌, ◌≢◌, ℕ, suc, Bool, true, false, ◌&&◌, cond, eqb, ◌⊎◌, Option, Some, None, IsSome, List, [], ◌∷◌, ◌++◌, length, drop}
 use Rattle.lagmodel.specs.View.{PartyChange, PortFacts, View, SystemSetup, IsSystemSetup, first_view, ControlMessage, ModelCall}
 use Rattle.lagmodel.specs.View.{Free}
 use Rattle.lagmodel.specs.Overtaking.{Overtakes}
-use Rattle.lagmodel.specs.Succession.{IsSuccessor, KeepsParties}
+use Rattle.lagmodel.specs.Succession.{IsAlikeSetup, IsSuccessor, KeepsParties}
 use Rattle.lagmodel.specs.Move.{Act, Sends, Sends_frame, Took, Move, MoveAllowed, view_after, act}
 use Rattle.lagmodel.specs.World.{One, Message, Control, Data, party_at, stamp_of, at_two, TakenLacpdu, sent_after, taken_after}
 
@@ -251,14 +251,6 @@ freed_view test v = record v { flows = record (v.flows) { state = λ g k. cond (
 
 abbrev pub also_forced : (ℕ → ℕ → Bool) → (ℕ → ℕ → Bool) → ℕ → ℕ → Bool
 also_forced test forced g k = cond (test g k) true (forced g k)
-
--- A system with the configuration v may go on where one with u was: it has the identifier, the aggregators and the ports of that. The own
--- parameters of the ports that it starts with, and its first marker identifier, may be others.
-pub record IsAlikeSetup (u v : SystemSetup) : Type 0 where
-  pub setup : IsSystemSetup v
-  pub system : v.system ≡ u.system
-  pub key : (g : ℕ) → v.key g ≡ u.key g
-  pub ports : (p : ℕ) → is_some (v.party p) ≡ is_some (u.party p)
 
 -- The system with this view may take the place of system s, as in lagmodel; its ports have the own parameters that they had, and none that
 -- is in an aggregator has its own system as its partner.

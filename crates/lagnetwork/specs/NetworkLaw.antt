@@ -6,9 +6,10 @@ use Rattle.lagmodel.specs.View.{ModelCall, SystemSetup, View, PortFacts, Flushin
 use Rattle.lagmodel.specs.Move.{Act, LawfulMoves, pair_at}
 use Rattle.lagmodel.specs.World.{One, Message, Control, TakenLacpdu}
 use Rattle.lagmodel.specs.Law.{IsSubsequence, OnePartner, serials}
+use Rattle.lagmodel.specs.Succession.{IsAlikeSetup}
 use Rattle.lagnetwork.specs.Network.{Network, NetworkSetup, IsNetworkSetup, NetworkEvent, NetworkRun, first_network}
 use Rattle.lagmodel.specs.AnyPeer.{Scene, TookInSync}
-use Rattle.lagnetwork.specs.Network.{Place, IsAlikeSetup, NetworkCall, NetworkHappens, CountsNetworkChanges, network_after_acts}
+use Rattle.lagnetwork.specs.Network.{Place, NetworkCall, NetworkHappens, CountsNetworkChanges, network_after_acts}
 use Rattle.lagnetwork.specs.Network.{Moved, Unmoved, Moved_down, Moved_up, Pull, Plug, Restart, Succeed, recabled_all}
 
 -- Ports of each system that distribute in one aggregator have one partner system and key.
