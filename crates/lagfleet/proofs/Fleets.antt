@@ -5,11 +5,11 @@ use Rattle.lagmodel.specs.Move.{Act, LawfulMoves}
 use Rattle.lagmodel.specs.Succession.{IsAlikeSetup, IsSuccessor}
 use Rattle.lagmodel.specs.View.{ModelCall, SystemSetup, View, first_view}
 use Rattle.lagmodel.specs.World.{Control, Data, Message, at_two, sent_after, taken_after}
-use Rattle.lagnetwork.specs.Network.{Configure, CountsNetworkChanges, Cut, Deliver, DeliversFirstAt, Emit, Frees, Hear, IsNetworkSetup}
-use Rattle.lagnetwork.specs.Network.{Join, Lose, Move_conversation, Network, NetworkCall, NetworkEvent, NetworkHappens, NetworkRun, NetworkSetup}
-use Rattle.lagnetwork.specs.Network.{Offer, Overtake, Place, Plug, Pull, Repeat, RepeatsFirstAt, Restart, Sense, Succeed, Tick, also_forced}
-use Rattle.lagnetwork.specs.Network.{at_system, ends_at, first_network, freed_view, handed_up_from, network_after_acts, recabled, recabled_all}
-use Rattle.lagnetwork.specs.Network.{source_after, towards_after, without_first, Force}
+use Rattle.lagnetwork.specs.Network.{Configure, CountsNetworkChanges, Cut, Deliver, DeliversFirstAt, Emit, Frees, Hear, IsNetworkSetup, Join, Lose}
+use Rattle.lagnetwork.specs.Network.{Move_conversation, Network, NetworkCall, NetworkEvent, NetworkHappens, NetworkRun, NetworkSetup, Offer, Overtake}
+use Rattle.lagnetwork.specs.Network.{Place, Plug, Pull, Repeat, RepeatsFirstAt, Restart, Sense, Succeed, Tick, also_forced, at_system, ends_at}
+use Rattle.lagnetwork.specs.Network.{first_network, freed_view, handed_up_from, network_after_acts, recabled, recabled_all, source_after}
+use Rattle.lagnetwork.specs.Network.{towards_after, without_first, Force}
 use Rattle.lagnetwork.specs.NetworkLaw.{CablesStay, IsNetworkInvariant, TookFromFixedEnd}
 use Rattle.lagnetwork.proofs.NetworkCalls.{calls_from}
 use Rattle.lagnetwork.proofs.NetworkEvents.{recabled_joined, runs_joined}

@@ -12,7 +12,6 @@ pub use Rattle.lagmodel.specs.Move.{Act, AllAllowed, Announce, Answered, Become,
 pub use Rattle.lagmodel.specs.Move.{LawfulMoves, Leave, Mark, Move, MoveAllowed, Port, PortAllowed, PortMove, Reconfigure, Respond, Restart, Send}
 pub use Rattle.lagmodel.specs.Move.{Sends, Sends_frame, Take, Took, Want, act, act_of_port, acts, distributor_act, pair_at, port_act, port_after}
 pub use Rattle.lagmodel.specs.Move.{view_after, view_after_all}
-pub use Rattle.lagmodel.specs.Succession.{IsAlikeSetup}
 pub use Rattle.lagmodel.specs.View.{Configure, ControlMessage, Conversation, DistributorFacts, Flushing, Force, Free, IsSystemSetup, Lacp}
 pub use Rattle.lagmodel.specs.View.{LacpMessage, Marker, ModelCall, Move_conversation, Offer, On, PortFacts, Receive, Response, Set_link, SystemSetup}
 pub use Rattle.lagmodel.specs.View.{Tick, Transmit, View, at_port, conversation_port, first_port, first_view, is_restart, replies_frame, zero_party}
@@ -27,10 +26,10 @@ pub use Rattle.lagmodel.proofs.Orderly.{Orderly, answer_taken, handed_front, tak
 pub use Rattle.lagmodel.proofs.Ports.{changed_port, members_first, one_partner}
 pub use Rattle.lagmodel.proofs.Stamps.{AllHeard, Fresh, FreshPdu, Stamps, heard_first, heard_own, parties_kept, party_moved, stamps_counted}
 pub use Rattle.lagmodel.proofs.Stamps.{stamps_emptied, stamps_first, stamps_own}
-pub use Rattle.lagnetwork.specs.Network.{AllNetworkMoves, CountsNetworkChanges, DeliversFirstAt, IsNetworkSetup, IsNetworkSuccessor}
-pub use Rattle.lagnetwork.specs.Network.{Moved, Moved_down, Moved_up, Network, NetworkCall, NetworkEvent, NetworkHappens, NetworkRun, NetworkSetup}
-pub use Rattle.lagnetwork.specs.Network.{Place, RepeatsFirstAt, Unmoved, also_forced, at_place, at_system, ends_at, first_network, follows_down}
-pub use Rattle.lagnetwork.specs.Network.{freed_view, handed_up_from, is_at, is_end, is_place, moved_again, moved_of, network_after, network_after_act}
+pub use Rattle.lagnetwork.specs.Network.{AllNetworkMoves, CountsNetworkChanges, DeliversFirstAt, IsNetworkSetup, IsNetworkSuccessor, Moved}
+pub use Rattle.lagnetwork.specs.Network.{Moved_down, Moved_up, Network, NetworkCall, NetworkEvent, NetworkHappens, NetworkRun, NetworkSetup, Place}
+pub use Rattle.lagnetwork.specs.Network.{RepeatsFirstAt, Unmoved, also_forced, at_place, at_system, ends_at, first_network, follows_down, freed_view}
+pub use Rattle.lagnetwork.specs.Network.{handed_up_from, is_at, is_end, is_place, moved_again, moved_of, network_after, network_after_act}
 pub use Rattle.lagnetwork.specs.Network.{network_after_acts, network_after_all, put_on_line, recabled, recabled_all, source_after, towards_after}
 pub use Rattle.lagnetwork.specs.Network.{with_cable_moved, without_first}
 pub use Rattle.lagnetwork.specs.NetworkLaw.{AllBelowNext, AllCountFromZero, CablesAgree, CablesStay, CollectedThenFlying, EachOnePartner}

@@ -5,10 +5,11 @@ use Rattle.lagnetwork.proofs.Common.{Members, Configure, ControlMessage, Force, 
 use Rattle.lagnetwork.proofs.Common.{Receive, Set_link, SystemSetup, Tick, Transmit, View, first_view, is_restart, Control, Data, Message, One, Side}
 use Rattle.lagnetwork.proofs.Common.{at_cable, at_two, party_at, cond_false, cond_true, cable_cases, lanes_first, lanes_handed, lanes_restarted}
 use Rattle.lagnetwork.proofs.Common.{two_cases, Every, IsFrom, members_first, Stamps, heard_first, stamps_emptied, stamps_first, CountsNetworkChanges}
-use Rattle.lagnetwork.proofs.Common.{DeliversFirstAt, IsAlikeSetup, IsNetworkSetup, IsNetworkSuccessor, Network, NetworkCall, NetworkEvent}
-use Rattle.lagnetwork.proofs.Common.{NetworkHappens, NetworkRun, NetworkSetup, Place, RepeatsFirstAt, also_forced, at_place, at_system, ends_at}
-use Rattle.lagnetwork.proofs.Common.{first_network, freed_view, handed_up_from, is_at, is_end, moved_again, recabled, recabled_all, without_first}
+use Rattle.lagnetwork.proofs.Common.{DeliversFirstAt, IsNetworkSetup, IsNetworkSuccessor, Network, NetworkCall, NetworkEvent, NetworkHappens}
+use Rattle.lagnetwork.proofs.Common.{NetworkRun, NetworkSetup, Place, RepeatsFirstAt, also_forced, at_place, at_system, ends_at, first_network}
+use Rattle.lagnetwork.proofs.Common.{freed_view, handed_up_from, is_at, is_end, moved_again, recabled, recabled_all, without_first}
 use Rattle.lagmodel.specs.View.{Restart}
+use Rattle.lagmodel.specs.Succession.{IsAlikeSetup}
 use Rattle.lagnetwork.proofs.NetworkLines.{IsOwn, NamesSender, lanes_succeeded, ends_of, at_far, out_of, SeenAlike, BeginsWith, Amid, IsLess}
 use Rattle.lagnetwork.proofs.NetworkLines.{lanes_less, ends_once, same_near}
 use Rattle.lagnetwork.proofs.NetworkMoves.{end_alike, plug_setup, plugged_kept, pull_setup, pulled_kept}
