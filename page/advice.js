@@ -4,7 +4,9 @@ import { capitalized, joinedBy, OWN_SYSTEM, TWO_BOXES } from "./keys.js";
 
 /* For each form of a text what to look at where it does not say whether a link is up, how its program counts LACPDUs, what gives its ports one key, and how it uses one link, with a spare, without LACP. */
 const BONDING = {
-    counts: "it counts no LACPDUs, so capture at both ends (tcpdump -i PORT 'ether proto 0x8809')",
+    counts: "it counts no LACPDUs, so capture here (tcpdump -i PORT 'ether proto 0x8809'). If those of the other end come, they are lost in this end's receiver. If none comes, "
+        + "ask for the LACP counters of the port at the other end (Cisco IOS, Arista: show lacp counters). It sends none: LACP is off there. It sends some: look at the path, "
+        + "and whether this card keeps them for an agent of its own",
     key: "one speed, and full duplex", backup: "mode=active-backup",
 };
 const PROGRAMS = new Map([

@@ -96,7 +96,7 @@ const ofUnheard = ({ at, seconds }, { link }) => {
     };
     if (other) return {
         title, lines: [`LACPDUs of ${other.short} are in this capture, and do not reach ${at.short}`],
-        advice: "Look at the receiver of the end that hears nobody, a filter there, or a device between. A capture at the sender has frames that its own card drops: capture at the other end, too.",
+        advice: "Captured at the end that hears nobody: its receiver drops them, or a filter there. Captured at the sender: its own card, the path or the receiver of the other end; capture there, too.",
     };
     return { title, advice: "No LACPDU of its partner is in this capture: set LACP on there (switch: mode active, not on; bonding: mode=802.3ad), or look at the path to here." };
 };
