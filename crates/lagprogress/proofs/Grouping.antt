@@ -31,10 +31,7 @@ InOne l = (g h i j : ℕ) (x y : SystemPort) → slice_get l i ≡ Some x → sl
     → individual x.port.party (party_of x.port.partner) ≡ false → g ≡ h
 
 group_along : (a b c : Pair) → SamePair a b → SamePair b c → SamePair a c
-group_along a b c (inl e) (inl f) = inl (e.0 ∙ f.0, e.1 ∙ f.1)
-group_along a b c (inl e) (inr f) = inr (e.0 ∙ f.0, e.1 ∙ f.1)
-group_along a b c (inr e) (inl f) = inr (e.0 ∙ f.1, e.1 ∙ f.0)
-group_along a b c (inr e) (inr f) = inl (e.0 ∙ f.1, e.1 ∙ f.0)
+group_along a b c hyp1 hyp2 = grind (arith, nat_tests)
 
 -- where no port gets another aggregator or group
 
@@ -386,12 +383,7 @@ ends_key : (a b : End) → a ≡ b → a.key ≡ b.key
 ends_key a b e = ap (λ (z : End). z.key) e
 
 pub whole_of : (s : SystemState) → PortsAgree s → OccupantsAgree s.keys s.system_ports → InOne s.system_ports → GroupsAreWhole s
-whole_of s ports agree one g h i j x y at bt o p pair together =
-    let own = own_named s i x ports.ports ports.members at ∙ sym (own_named s j y ports.ports ports.members bt) in
-    one g h i j x y at bt o p (elim pair [
-      | inl e ↦ ends_key _ _ e.0
-      | inr e ↦ absurd (agree.apart j h y bt p (sym (ends_system _ _ e.0) ∙ own))
-    ]) pair together
+whole_of s hyp1 hyp2 hyp3 = grind (arith, nat_tests, own_named, ends_key, ends_system)
 
 pub in_one_of : (s : SystemState) → GroupsAreWhole s → InOne s.system_ports
 in_one_of s whole g h i j x y at bt o p key pair together = whole g h i j x y at bt o p pair together

@@ -1,24 +1,24 @@
 -- Which runs are healthy rounds of hosts.
-use Rattle.lagprogress.proofs.Common.{Bool, Err, List, None, Ok, Option, Result, Some, [], ap, append_assoc, arith, cond, eqb, false, inl, inr, ltb}
-use Rattle.lagprogress.proofs.Common.{refl, slice_get, subst, suc, sym, true, zero, ℕ, ◌++◌, ◌+◌, ◌∙◌, ◌∷◌, ◌≡◌, cases_Bool, false≢true, nat_tests}
+use Rattle.lagprogress.proofs.Common.{Bool, Err, List, None, Ok, Option, Result, Some, [], ap, append_assoc, arith, cond, false, inl, inr, ltb, refl}
+use Rattle.lagprogress.proofs.Common.{slice_get, subst, suc, sym, true, zero, ℕ, ◌++◌, ◌+◌, ◌∙◌, ◌∷◌, ◌≡◌, cases_Bool, false≢true, nat_tests}
 use Rattle.lagprogress.proofs.Common.{none-some, same_Some, AllByRecursion, Pdu, pdu_in, One, Side, Two, peer, value_of, Machines, after_sending}
-use Rattle.lagprogress.proofs.Common.{is_due, Assignment, Flushing, Wanted, after_mark, marker_due, wants_marker, Table, assignment_of}
-use Rattle.lagprogress.proofs.Common.{count_conversations, next_identifier, SystemFault, SystemPort, Step, Transmit, SendsMarkerOf, TransmitsAt}
-use Rattle.lagprogress.proofs.Common.{TransmitsIf, SystemState, machines_of, port_index, all-get, found_place, ports_rise, Event, Reply}
-use Rattle.lagprogress.proofs.Common.{AfterTransmit, Algorithms, WorldEmits, WorldRuns, sent_reply, side_of, payload_in, HalfState, LinkState}
-use Rattle.lagprogress.proofs.Common.{WorldState, half, is_accepted, port_at, with_half, half_there, HostEvent, HostSteps, Plays, Sets, OfEach}
-use Rattle.lagprogress.proofs.Common.{Tick-each, placed, AtPort, at_number, LeavesPorts, AskingInVainIsDraining, AsksInVain, AsksInVainAfterTick}
-use Rattle.lagprogress.proofs.Common.{DrainingRounds, IsNoMoveOf, NothingIsDue, RoundIsDraining, sent_nothing, AfterTick, AskingIsPlayed, Asks}
-use Rattle.lagprogress.proofs.Common.{AsksAfterTick, AsksIn, AtSomeWorld, Clearing, EventsAreOfHosts, HostRounds, IsBetweenTicks, IsTickOf}
-use Rattle.lagprogress.proofs.Common.{RoundIsHostRound, RoundsAreHostRounds, RunReplies, RunsHaveReplies, StepReplies, TickOnce, TickOnceAmong}
-use Rattle.lagprogress.proofs.Common.{as_played, AtEnd, IsDeliver, IsHealthyAt, OfPort, Rounds, asks_all, ticks_of_both, IsSteady}
+use Rattle.lagprogress.proofs.Common.{is_due, Assignment, after_mark, marker_due, wants_marker, Table, assignment_of, SystemFault, SystemPort, Step}
+use Rattle.lagprogress.proofs.Common.{Transmit, SendsMarkerOf, TransmitsAt, TransmitsIf, SystemState, machines_of, port_index, all-get, found_place}
+use Rattle.lagprogress.proofs.Common.{ports_rise, Event, Reply, AfterTransmit, Algorithms, WorldRuns, sent_reply, side_of, payload_in, HalfState}
+use Rattle.lagprogress.proofs.Common.{LinkState, WorldState, half, is_accepted, port_at, with_half, half_there, HostEvent, HostSteps, Plays, Sets}
+use Rattle.lagprogress.proofs.Common.{OfEach, Tick-each, placed, AtPort, at_number, LeavesPorts, AskingInVainIsDraining, AsksInVain}
+use Rattle.lagprogress.proofs.Common.{AsksInVainAfterTick, DrainingRounds, IsNoMoveOf, NothingIsDue, RoundIsDraining, sent_nothing, AfterTick}
+use Rattle.lagprogress.proofs.Common.{AskingIsPlayed, Asks, AsksAfterTick, AsksIn, AtSomeWorld, Clearing, EventsAreOfHosts, HostRounds}
+use Rattle.lagprogress.proofs.Common.{IsBetweenTicks, IsTickOf, NoneIsLeft, RoundIsHostRound, RoundsAreHostRounds, RunReplies, RunsHaveReplies}
+use Rattle.lagprogress.proofs.Common.{StepReplies, TickOnce, TickOnceAmong, as_played, AtEnd, IsDeliver, IsHealthyAt, OfPort, Rounds, asks_all}
+use Rattle.lagprogress.proofs.Common.{ticks_of_both, IsSteady}
 use Rattle.distributor.specs.Conversations.{sum_below}
 use Rattle.lagprogress.proofs.HostRound.{side_among, of_side, turned}
 use Rattle.lagprogress.proofs.HostSteady.{sets_up}
 use Rattle.lagprogress.proofs.Quieting.{calm_timely, place_stays}
 use Rattle.lagprogress.proofs.Halves.{AreTimely, timely}
 use Rattle.std.specs.Prelude.{map}
-use Rattle.lagprogress.proofs.EachRound.{each_between, EachAt, own_keeps, own_ticks, hosts_steady}
+use Rattle.lagprogress.proofs.EachRound.{each_between, EachAt, own_keeps, own_ticks, played_steady}
 use Rattle.lagworld.specs.declared.reply.Reply.TheVariants as reply
 use Rattle.lagprogress.proofs.Linked.{each_side, found, machines_there}
 use Rattle.lagprogress.proofs.OneCable.{Emits, emits, ticks}
@@ -62,20 +62,10 @@ no_count : (b : Bool) (n : ℕ) → n ≡ cond b 1 0 → b ≡ false → n ≡ 0
 no_count b n e f = grind (arith, nat_tests)
 
 no_marker_due : (p : ℕ) (t : Table) → ((g k : ℕ) → wants_marker p (assignment_of t g k) ≡ false) → marker_due t p ≡ None
-no_marker_due p t h =
-    let none : count_conversations (wants_marker p) t ≡ 0 =
-    no_sum (λ a. sum_below (λ c. cond (wants_marker p (assignment_of t (a + 1) c)) 1 0) t.conversations) t.aggs
-    (λ a. no_sum (λ c. cond (wants_marker p (assignment_of t (a + 1) c)) 1 0) t.conversations
-    (λ c. no_count (wants_marker p (assignment_of t (a + 1) c)) _ refl (h (a + 1) c))) in
-    ap (λ n. cond (ltb 0 n) (next_identifier t) None) none
+no_marker_due p t hyp1 = grind (arith, nat_tests, no_sum, cond, no_count, ltb)
 
 marked_wants : (p id : ℕ) (a : Assignment) → wants_marker p (after_mark p id a) ≡ false
-marked_wants p id (Wanted q preferred) = by_test (eqb q p) refl
-  where
-    by_test : (b : Bool) → eqb q p ≡ b → wants_marker p (cond b (Flushing p id preferred 0) (Wanted q preferred)) ≡ false
-    by_test true e = refl
-    by_test false e = e
-marked_wants p id a = refl
+marked_wants p id a = grind (arith, nat_tests)
 
 asked_marks : (gives : ℕ → ℕ → ℕ → Type 0) (n k : ℕ) (z : SystemPort) (a : Result (Option (List ℕ)) SystemFault) (old new : SystemState)
     → port_index n old.system_ports ≡ Some k → slice_get old.system_ports k ≡ Some z → z.port.enabled ≡ true → is_due z.port ≡ false
@@ -172,15 +162,7 @@ module _ (gives : Algorithms) (s : Side) (p : ℕ) where
 
   by_due : (up : Bool) (due : Bool) (k : ℕ) (z : SystemPort) (old new : SystemState) → up ≡ true → TransmitsIf up due k z old None new
       → (due ≡ false) × (marker_due old.table z.number ≡ None) × (new ≡ old)
-  by_due up true k z old new e h =
-      let sent = subst (λ b. TransmitsIf b true k z old None new) e h in absurd (none-some sent.0 sent.2)
-  by_due up false k z old new e h =
-      by_marker (marker_due old.table z.number) refl (subst (λ b. TransmitsIf b false k z old None new) e h)
-    where
-      by_marker : (x : Option ℕ) → marker_due old.table z.number ≡ x → SendsMarkerOf x z.number z.mac old None new
-          → (false ≡ false) × (marker_due old.table z.number ≡ None) × (new ≡ old)
-      by_marker None m y = (refl, m, y.1)
-      by_marker (Some id) m y = absurd (none-some _ y.3)
+  by_due up due k z old new e h = grind (arith, nat_tests)
 
   own_left : (t : Side) (mid : HalfState) (j : WorldState) → (half t (with_half t mid j)).state ≡ mid.state
   own_left t mid j = ap (λ (k : HalfState). k.state) (half_there t mid j)
@@ -212,12 +194,7 @@ module _ (gives : Algorithms) (s : Side) (p : ℕ) where
       )
 
   vain_now : (e : HostEvent) (r : Reply) (i j : WorldState) → Asks s p e → sent_nothing r ≡ true → StepReplies gives i e r j → Stays i → Drained j
-  vain_now e r i j (n, named, is) vain h x =
-      let step = subst (λ f. StepReplies gives i f r j) is h in
-      let v = value_of (side_of n) _ step.0 in
-      let same : v.0 ≡ s = same_Some v.0 s (sym v.1 ∙ named) in
-      let w = subst (λ t. WorldEmits gives t p i r (record j { acted = i.acted })) same v.2 in
-      vain_by w.0 w.1 r i j w.2.answers.step w.3 vain x
+  vain_now e r i j hyp1 hyp2 hyp3 hyp4 = grind (arith, nat_tests, value_of, same_Some, vain_by)
 
   at_first : (P : WorldState → Type 0) (es : List HostEvent) (rs : List Reply) (i j : WorldState) (run : RunReplies gives i es rs j) → P i
       → AtSomeWorld P gives es rs i j run
@@ -457,7 +434,7 @@ pub rounds_are_host_rounds : (gives : Algorithms) → RoundsAreHostRounds gives
 rounds_are_host_rounds gives zero old new steady h = h
 rounds_are_host_rounds gives (suc n) old new steady h =
     let before = rounds_are_host_rounds gives n old h.0 steady h.1 in
-    (h.0, before, (round_is_host_round gives h.0 new (hosts_steady gives n old h.0 steady before) h.2).0)
+    (h.0, before, (round_is_host_round gives h.0 new (played_steady NoneIsLeft gives n old h.0 steady before) h.2).0)
 
 pub rounds_are_draining : (gives : Algorithms) (t : Side) (g k n : ℕ) (old new : WorldState) → IsSteady old → Rounds gives n old new
     → DrainingRounds t g k gives n old new
@@ -466,7 +443,7 @@ rounds_are_draining gives t g k (suc n) old new steady h =
     let before = rounds_are_host_rounds gives n old h.0 steady h.1 in (
       h.0,
       rounds_are_draining gives t g k n old h.0 steady h.1,
-      round_is_draining gives t g k h.0 new (hosts_steady gives n old h.0 steady before) h.2,
+      round_is_draining gives t g k h.0 new (played_steady NoneIsLeft gives n old h.0 steady before) h.2,
     )
 
 -- so is a round in which each end is asked after its system's tick until it sends nothing

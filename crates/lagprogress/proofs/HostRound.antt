@@ -2,14 +2,14 @@
 use Rattle.lagprogress.proofs.Common.{Bool, List, None, Some, [], ap, arith, false, inl, inr, refl, subst, sym, true, ℕ, ◌-◌, ◌∙◌, ◌∷◌, ◌≡◌, ◌≤◌, ◌⊎◌}
 use Rattle.lagprogress.proofs.Common.{nat_tests, same_Some, AllByRecursion, Lacpdu, One, Side, Two, peer, Machines, periodic_rows, receive_rows}
 use Rattle.lagprogress.proofs.Common.{AtRest, RunsToRest, after_sending, count_down, SystemState, machines_of, Reply, Algorithms, WorldSteps, side_of}
-use Rattle.lagprogress.proofs.Common.{WorldState, half, limit_towards, HostEvent, Plays, OfEach, Tick-each, no, counts, AtPort, mux_leaves}
-use Rattle.lagprogress.proofs.Common.{periodic_leaves, with_rest, LeavesPorts, AfterTick, AtSomeWorld, Clearing, IsBetweenTicks, IsTickOf, RunReplies}
-use Rattle.lagprogress.proofs.Common.{StepReplies, TickOnce, TickOnceAmong, IsHealthyAt, OfPort}
+use Rattle.lagprogress.proofs.Common.{WorldState, half, limit_towards, HostEvent, Plays, OfEach, Tick-each, no, counts, AtPort, with_rest}
+use Rattle.lagprogress.proofs.Common.{LeavesPorts, AfterTick, AtSomeWorld, Clearing, IsBetweenTicks, IsTickOf, RunReplies, StepReplies, TickOnce}
+use Rattle.lagprogress.proofs.Common.{TickOnceAmong, IsHealthyAt, OfPort}
 use Rattle.lagsystem.specs.declared.drive.Reply.TheVariants as answer
 use Rattle.lagscript.specs.declared.event.Event.TheVariants as event
 use Rattle.lagprogress.proofs.Climbing.{known_still}
 use Rattle.lagprogress.proofs.Delivering.{deliver_link}
-use Rattle.lagprogress.proofs.EndFacts.{Along, IsEnd, Learnt, nothing_along, takes_learnt, ticks_end, wait_of, activity}
+use Rattle.lagprogress.proofs.EndFacts.{Along, IsEnd, Learnt, nothing_along, ticks_end, lower_learnt}
 use Rattle.lagprogress.proofs.Halves.{keeps_timely}
 use Rattle.lagprogress.proofs.Linked.{EndIs, Fits, Left, Link, each_map, each_side, emit_any, end_kept, end_here, other_ports, other_side, peer_twice}
 use Rattle.lagprogress.proofs.Linked.{place_kept}
@@ -90,6 +90,11 @@ KeptBetween gives M = KeptAmong IsBetweenTicks gives M
 abbrev pub KeptBeside : (Side → ℕ) → Algorithms → (WorldState → Type 0) → Type 0
 KeptBeside at gives M = KeptAmong (LeavesPorts at) gives M
 
+-- two things that they keep
+pub both_kept : {May : HostEvent → Type 0} {gives : Algorithms} {M N : WorldState → Type 0} → KeptAmong May gives M → KeptAmong May gives N
+    → KeptAmong May gives (λ j. M j × N j)
+both_kept k l e r i j b h (m, n) = (k e r i j b h m, l e r i j b h n)
+
 -- what each of them keeps that is so
 abbrev pub KeptWhere : (HostEvent → Type 0) → Algorithms → (HostEvent → Type 0) → (WorldState → Type 0) → Type 0
 KeptWhere May gives Is M = (e : HostEvent) (r : Reply) (i j : WorldState) → Is e → May e → StepReplies gives i e r j → M i → M j
@@ -104,6 +109,10 @@ all_whatever (e ∷ es) = (tt, all_whatever es)
 -- what a tick of system s makes of it
 abbrev pub MadeByTick : Algorithms → Side → (WorldState → Type 0) → (WorldState → Type 0) → Type 0
 MadeByTick gives s M N = (n : ℕ) (r : Reply) (i j : WorldState) → side_of n ≡ Some s → WorldSteps gives i (event.Tick n 1) r j → M i → N j
+
+pub both_made : (gives : Algorithms) (s : Side) {M N V W : WorldState → Type 0} → MadeByTick gives s M V → MadeByTick gives s N W
+    → MadeByTick gives s (λ j. M j × N j) (λ j. V j × W j)
+both_made gives s k l n r i j named h (m, o) = (k n r i j named h m, l n r i j named h o)
 
 -- A before the tick of s, B after it, and C once P held; each of them before the tick of the other system, if that has still to
 -- tick, or after it
@@ -233,18 +242,6 @@ pub ticks_learnt : (d : ℕ) (u : Lacpdu) (m : ℕ) (p q : Machines) → 2 ≤ m
 ticks_learnt d u m p q l run a = subst (Learnt d u (m - 1)) (sym (known_still u (m - 1) (count_down p) q (omega (arith, l)) (counts u m 0 p a.0) run))
     (counts u m 0 p a.0, a.1)
 
-pub lower_learnt : (d : ℕ) (u : Lacpdu) (m k : ℕ) (p : Machines) → k ≤ m → Learnt d u m p → Learnt d u k p
-lower_learnt d u m k p l a = ((a.0.0, λ e. let b = a.0.1 (omega (arith, e, l)) in (b.0, omega (arith, l, b.1))), a.1)
-
-pub learnt_along : (v u : Lacpdu) (c d most : ℕ) → most ≤ wait_of v → 1 ≤ d → (2 ≤ d → (activity u ≡ true) ⊎ (activity v ≡ true))
-    → Along (Learnt d u most) v u c d
-learnt_along v u c d most l there on = record {
-  mux = mux_leaves (Learnt d u most);
-  periodic = λ p q h a y. periodic_leaves (Learnt d u most) p q h y;
-  select = λ choice p none y. y;
-  takes = λ x p q e awake h a y. lower_learnt d u (wait_of v) most q l (takes_learnt v u x c d p q there on e awake h a);
-}
-
 -- what each event beside its ends keeps of a cable
 pub between : (gives : Algorithms) (d : ℕ) (at : Side → ℕ) (w : Side → Lacpdu) (c : Side → ℕ) (x : Side) (Y : Machines → Type 0)
     → Fits d w c → Along Y (w x) (w (peer x)) (c x) d → ((p : Machines) → Y p → Y (after_sending p)) → KeptBeside at gives (Link d at w c x Y)
@@ -262,18 +259,7 @@ abbrev pub known_in : (Side → ℕ) → Side → Bool → Bool → Side → ℕ
 known_in c s own other = two s (left own (c s)) (left other (c (peer s)))
 
 pub fits_in : (d : ℕ) (w : Side → Lacpdu) (c : Side → ℕ) (s : Side) → Fits d w c → Fits d w (ticked c) → (a b : Bool) → Fits d w (known_in c s a b)
-fits_in d w c s first then a b = each_side Fit s (subst (FitOf s) (sym (two_there s (left a (c s)) (left b (c (peer s))))) (either s a))
-    (subst (FitOf (peer s)) (sym (two_other s (left a (c s)) (left b (c (peer s))))) (either (peer s) b))
-  where
-    FitOf : Side → ℕ → Type 0
-    FitOf t n = (n ≤ wait_of (w t)) × (1 ≤ n → 1 ≤ d) × (2 ≤ d → 1 ≤ n) × (2 ≤ d → (activity (w (peer t)) ≡ true) ⊎ (activity (w t) ≡ true))
-
-    Fit : Side → Type 0
-    Fit t = FitOf t (known_in c s a b t)
-
-    either : (t : Side) (e : Bool) → FitOf t (left e (c t))
-    either t true = first t
-    either t false = then t
+fits_in d w c s hyp1 hyp2 a b = grind (arith, nat_tests, each_side, two_there, two_other, true, false)
 
 pub same_in : (c : Side → ℕ) (s t : Side) → known_in c s false false t ≡ ticked c t
 same_in c s t = each_side (λ u. known_in c s false false u ≡ ticked c u) s (two_there s (c s - 1) (c (peer s) - 1))

@@ -1,36 +1,27 @@
 -- In a healthy round of hosts, an end that hears the other is told when the other is synchronized, or the other owes it an LACPDU.
-use Rattle.lagprogress.proofs.Common.{Bool, List, Some, [], ap, arith, false, inl, inr, refl, slice_get, subst, sym, true, ℕ, ◌-◌, ◌∙◌, ◌∷◌, ◌≡◌, ◌≤◌}
-use Rattle.lagprogress.proofs.Common.{◌⊎◌, cases_Bool, same_Some, AllByRecursion, Lacpdu, Side, peer, Machines, partner_synchronized, periodic_rows}
-use Rattle.lagprogress.proofs.Common.{receive_rows, AtRest, RunsToRest, after_sending, count_down, is_due, SystemPort, Carries, IsFrame}
-use Rattle.lagprogress.proofs.Common.{OnlyPortChangesBy, ProcessesLacpdu, ThenSettles, SystemState, machines_of, found_place, Reply, Algorithms}
-use Rattle.lagprogress.proofs.Common.{WorldSteps, side_of, ItemValue, WorldState, half, towards, HostEvent, Plays, timeout_time, KeptBySettling}
-use Rattle.lagprogress.proofs.Common.{OfEach, Tick-each, counts, AtPort, LeavesPorts, AfterTick, Clearing, StepReplies, OfPort}
+use Rattle.lagprogress.proofs.Common.{Bool, List, Some, [], ap, arith, false, inl, inr, refl, subst, sym, true, ℕ, ◌-◌, ◌∙◌, ◌∷◌, ◌≡◌, ◌≤◌, ◌⊎◌}
+use Rattle.lagprogress.proofs.Common.{cases_Bool, AllByRecursion, Lacpdu, Side, peer, Machines, partner_synchronized, periodic_rows, receive_rows}
+use Rattle.lagprogress.proofs.Common.{AtRest, RunsToRest, after_sending, count_down, is_due, SystemPort, Carries, IsFrame, OnlyPortChangesBy}
+use Rattle.lagprogress.proofs.Common.{ProcessesLacpdu, ThenSettles, SystemState, machines_of, Reply, Algorithms, WorldSteps, side_of, ItemValue}
+use Rattle.lagprogress.proofs.Common.{WorldState, half, HostEvent, Plays, timeout_time, KeptBySettling, OfEach, Tick-each, counts, AtPort}
+use Rattle.lagprogress.proofs.Common.{LeavesPorts, AfterTick, Clearing, StepReplies, OfPort}
 use Rattle.slowpdu.specs.declared.pdu.Pdu.TheVariants as pdu
 use Rattle.lagsystem.specs.declared.drive.Reply.TheVariants as answer
 use Rattle.lagscript.specs.declared.event.Event.TheVariants as event
 use Rattle.lagprogress.proofs.Claims.{IsNamed, Owes, Owing, Wakeful, owes_ticks, owing_settles, wakeful_along, wakeful_ticks}
 use Rattle.lagprogress.proofs.Climbing.{PartnerInSync, known_still, ticks_partner}
-use Rattle.lagprogress.proofs.Delivering.{Heard, arrived_ports, deliver_link, deliver_moves}
-use Rattle.lagprogress.proofs.EndFacts.{Along, IsEnd, Learnt, activity, nothing_along, short_timeout, ticks_end, wait_of}
+use Rattle.lagprogress.proofs.Delivering.{Heard, arrived_ports, deliver_link, deliver_moves, came_to}
+use Rattle.lagprogress.proofs.EndFacts.{Along, IsEnd, Learnt, activity, nothing_along, short_timeout, ticks_end, wait_of, learnt_along}
 use Rattle.lagprogress.proofs.HostRound.{between, KeptBeside, MadeByTick, Stages, first_on, fits_in, healthy_link, holds_beside, known_in, learn_less}
-use Rattle.lagprogress.proofs.HostRound.{Whatever, all_whatever, learnt_along, left, none_ticked, side_beside, tick_one, ticks_learnt, two_other}
-use Rattle.lagprogress.proofs.HostRound.{two_there}
+use Rattle.lagprogress.proofs.HostRound.{Whatever, all_whatever, left, none_ticked, side_beside, tick_one, ticks_learnt, two_other, two_there}
+use Rattle.lagprogress.proofs.HostRound.{both_kept, both_made}
 use Rattle.lagprogress.proofs.Linked.{asked_which, at_end, beside_link, emit_any, found, end_with, of_end, with_ports, EndIs, Fits, Flying, IsGood}
 use Rattle.lagprogress.proofs.Linked.{Link, each_both, each_map, each_side, end_here, gains_has, HasLacpdu, other_side, peer_twice, put_other}
-use Rattle.lagprogress.proofs.Linked.{put_there}
-use Rattle.lagprogress.proofs.OneCable.{Arrives, alone, cable, port_there, put, response, ticks, towards_there}
+use Rattle.lagprogress.proofs.Linked.{put_there, same_flying}
+use Rattle.lagprogress.proofs.OneCable.{Arrives, cable, port_there, put, response, ticks}
 use Rattle.lagprogress.proofs.OneRound.{Nothing, Passes, ask_idle, ask_peer, one_of_both, at_rest, forget, join, ticked}
 use Rattle.lagprogress.proofs.Quieting.{LeavesEnds, PlayedBeside, ends_up, leaves_each, leaves_link}
-use Rattle.lagprogress.proofs.Telling.{Bears, SaysIt, Tells, arrive_peer, ask_on, came_to, deliver_on, due_on, left_by, sync_settles, tells_map}
-
--- what is on the cable of the same ports
-pub same_flying : (d e : ℕ) (at : Side → ℕ) (w v : Side → Lacpdu) (c b : Side → ℕ) (x y : Side) (Y Z : Machines → Type 0) (j : WorldState)
-    → (l : Link d at w c x Y j) → (k : Link e at v b y Z j) → (t : Side) → k.flying t ≡ l.flying t
-same_flying d e at w v c b x y Y Z j l k t =
-    let place : k.index ≡ l.index = alone t l.index k.index at l.flying j.links (cable at k.flying) l.links k.links.there (port_there t at k.flying) in
-    let is : cable at k.flying ≡ cable at l.flying = same_Some (cable at k.flying) (cable at l.flying)
-    (sym k.links.there ∙ (ap (slice_get j.links) place ∙ l.links.there)) in
-    sym (towards_there t at k.flying) ∙ (ap (towards t) is ∙ towards_there t at l.flying)
+use Rattle.lagprogress.proofs.Telling.{Bears, SaysIt, Tells, arrive_peer, ask_on, deliver_on, due_on, left_by, sync_settles, tells_map}
 
 module _ (gives : Algorithms) (d : ℕ) (at : Side → ℕ) (w : Side → Lacpdu) (s : Side) (there : 1 ≤ d)
     (named : (activity (w s) ≡ true) ⊎ IsNamed (w (peer s))) where
@@ -181,21 +172,19 @@ module _ (gives : Algorithms) (d : ℕ) (at : Side → ℕ) (w : Side → Lacpdu
         → (o : OnWay c Any i) → D i → (now : Link d at w c s Wakes j) → (k : Arrives gives (peer s) at o.0.flying i j) → now.flying ≡ k.now
         → (HasLacpdu k.item → ⊥) ⊎ ((Heard d at w (peer s) j × OnWay c PartnerInSync j) × E j)
     peer_hears c fits cn n r i j h (l, m) da now k same =
-        elim (came_to gives d at w c s Any there fits any_settles (λ p y. y) (λ p y. tt) (peer s) i j l k) [
+        elim (came_to gives (peer s) d at w c s Wakes i j l k) [
           | inr none ↦ inl (λ q. none.0 q.0 q.1)
           | inl (v1, carries, settles) ↦ inr (took v1 carries settles)
         ]
       where
         took : (v1 : Lacpdu) → IsFrame k.item.octets (Carries (pdu.Lacpdu v1))
-            → ThenSettles (OnlyPortChangesBy (Some (l.place (peer s)).0) (ProcessesLacpdu v1)) (half (peer s) i).state (half (peer s) j).state
+            → ThenSettles (OnlyPortChangesBy (Some (end_here at w d c s Wakes i l (peer s)).index) (ProcessesLacpdu v1)) (half (peer s) i).state
+            (half (peer s) j).state
             → (Heard d at w (peer s) j × OnWay c PartnerInSync j) × E j
         took v1 carries settles =
-            let place = l.place (peer s) in
-            let ports = (half (peer s) i).state.system_ports in
-            let z = found (at (peer s)) place.0 ports place.1 in
-            let number = found_place (at (peer s)) ports place.0 z.0 place.1 z.1 in
+            let z = end_here at w d c s Wakes i l (peer s) in
             let good = subst (AllByRecursion (IsGood d w (peer s))) k.first (l.good (peer s)) in
-            let own = arrived_ports d at w c s Wakes (peer s) place.0 z.0 k.item.octets i j fits (along_wakes (c s)) l z.1 number good.0
+            let own = arrived_ports d at w c s Wakes (peer s) z.index z.port k.item.octets i j fits (along_wakes (c s)) l z.there z.number good.0
             (inl (v1, carries, settles)) in (
               (
                 elim own.1 [ inl not ↦ absurd (not v1 carries) | inr heard ↦ heard there ],
@@ -220,7 +209,7 @@ module _ (gives : Algorithms) (d : ℕ) (at : Side → ℕ) (w : Side → Lacpdu
         let e = deliver_moves gives cn n d at w c s Wakes r i j fits (along_wakes (c s)) l h in
         let after : OnWay c Any j = deliver_on gives d at w c s Any there fits any_settles (λ p y. y) (λ p y. tt) cn n r i j h (l, m) in
         let flies : Flying (e.0.link.flying (peer s)) → HasHeard c j =
-        λ g. inl ((after, subst Flying (sym (same_flying d d at w w c c s s Wakes Wakes j e.0.link after.0 (peer s))) g), db) in
+        λ g. inl ((after, subst Flying (sym (same_flying e.0.link after.0 (peer s))) g), db) in
         elim e.1 [
           | inl (q, k, same) ↦ each_side (λ t. (k : Arrives gives t at l.flying i j) → e.0.link.flying ≡ k.now → HasHeard c j) s
               (λ k same. flies (subst (λ (g : Side → List ItemValue). Flying (g (peer s))) (sym same)
@@ -262,14 +251,8 @@ module _ (gives : Algorithms) (d : ℕ) (at : Side → ℕ) (w : Side → Lacpdu
     sync_between c fits = on_between PartnerInSync (sync_settles (at (peer s))) (λ p y. y) (λ p y. y) c fits
 
     pub told_between : (c : Side → ℕ) (most : ℕ) → most ≤ wait_of (w (peer s)) → Fits d w c → KeptBeside at gives (HasTold c most)
-    told_between c most less fits e r i j b h ((l, o), ea) = (
-      (
-        between gives d at w c (peer s) (Learnt d (w (peer (peer s))) most) fits
-            (learnt_along (w (peer s)) (w (peer (peer s))) (c (peer s)) d most less there (fits (peer s)).3) (λ p y. y) e r i j b h l,
-        sync_between c fits e r i j b h o,
-      ),
-      x.second e r i j b h ea,
-    )
+    told_between c most less fits = both_kept (both_kept (between gives d at w c (peer s) (Learnt d (w (peer (peer s))) most) fits
+        (learnt_along (w (peer s)) (w (peer (peer s))) (c (peer s)) d most less there (fits (peer s)).3) (λ p y. y)) (sync_between c fits)) x.second
 
     turn_between : (c : Side → ℕ) (most : ℕ) (Z : Machines → Type 0) → most ≤ wait_of (w (peer s)) → Fits d w c
         → Along Z (w s) (w (peer s)) (c s) d → KeptBeside at gives (Turn c most Z)
@@ -286,7 +269,7 @@ module _ (gives : Algorithms) (d : ℕ) (at : Side → ℕ) (w : Side → Lacpdu
             let db = x.first (Plays (event.Emit n p)) r i j tt h da in
             let after = any_between c fits (Plays (event.Emit n p)) r i j tt h o in
             let e = emit_any gives n p d at w c s Wakes r i j fits (along_wakes (c s)) (λ q y. y) o.0 h in
-            inr (inl ((after, subst Flying (sym (same_flying d d at w w c c s s Wakes Wakes j e.link after.0 (peer s))) (e.flying (peer s) f)), db))
+            inr (inl ((after, subst Flying (sym (same_flying e.link after.0 (peer s))) (e.flying (peer s) f)), db))
         asked n p r i j h (inr (inr m)) = inr (inr (told_between c most less fits (Plays (event.Emit n p)) r i j tt h m))
 
         came : (cn n : ℕ) (r : Reply) (i j : WorldState) → WorldSteps gives i (event.Deliver cn n) r j → Turn c most Z i → Turn c most Z j
@@ -316,7 +299,7 @@ module _ (gives : Algorithms) (d : ℕ) (at : Side → ℕ) (w : Side → Lacpdu
             let after = any_between c fits e r i j t h o in
             let k = leaves_link gives e d at w c s Wakes r i j b h (along_wakes (c s)) o.0 in
             inr (inl (
-              (after, subst Flying (sym (same_flying d d at w w c c s s Wakes Wakes j k.link after.0 (peer s))) (k.flying (peer s) f)),
+              (after, subst Flying (sym (same_flying k.link after.0 (peer s))) (k.flying (peer s) f)),
               x.first e r i j t h da,
             ))
         quiet e r i j b t h (inr (inr m)) = inr (inr (told_between c most less fits e r i j t h m))
@@ -328,20 +311,16 @@ module _ (gives : Algorithms) (d : ℕ) (at : Side → ℕ) (w : Side → Lacpdu
 
     bare : (c : Side → ℕ) (i : WorldState) (o : OnWay c Any i) → Flying (o.0.flying (peer s)) → Flying ((forget d at w c s s Wakes i o.0).flying (peer s))
     bare c i o f =
-        subst Flying (sym (same_flying d d at w w c c s s Wakes Nothing i o.0 (forget d at w c s s Wakes i o.0) (peer s))) f
+        subst Flying (sym (same_flying o.0 (forget d at w c s s Wakes i o.0) (peer s))) f
 
     pub told_own : (c b : Side → ℕ) (most : ℕ) → b s ≡ c s - 1 → b (peer s) ≡ c (peer s) → (2 ≤ d → 1 ≤ c s - 1)
         → most ≤ wait_of (w (peer s)) → Fits d w b → MadeByTick gives s (HasTold c most) (HasTold b most)
-    told_own c b most here other known less fits n r i j numbered h ((l, o), ea) =
-        let L = Learnt d (w (peer (peer s))) most in (
-          (
-            (tick_one gives n s d at w c b (peer s) L L r i j numbered here other known
-                (learnt_along (w (peer s)) (w (peer (peer s))) (b (peer s)) d most less there (fits (peer s)).3)
-                (λ p q run rest a f y. absurd (other_side s (sym f))) (λ p f y. y) h l).link,
-            on_own PartnerInSync (sync_settles (at (peer s))) (λ p y. y) (λ p y. y) c b here other known n r i j numbered h o,
-          ),
-          x.ticks_second s n r i j numbered h ea,
-        )
+    told_own c b most here other known less fits =
+        let L = Learnt d (w (peer (peer s))) most in
+        both_made gives s (both_made gives s (λ n r i j numbered h l. (tick_one gives n s d at w c b (peer s) L L r i j numbered here other known
+        (learnt_along (w (peer s)) (w (peer (peer s))) (b (peer s)) d most less there (fits (peer s)).3)
+        (λ p q run rest a f y. absurd (other_side s (sym f))) (λ p f y. y) h l).link)
+        (on_own PartnerInSync (sync_settles (at (peer s))) (λ p y. y) (λ p y. y) c b here other known)) (x.ticks_second s)
 
     pub told_other : (c b : Side → ℕ) (most : ℕ) → b (peer s) ≡ c (peer s) - 1 → b s ≡ c s → (2 ≤ d → 1 ≤ c (peer s) - 1)
         → 2 ≤ most → most ≤ wait_of (w (peer s)) → Fits d w b → MadeByTick gives (peer s) (HasTold c most) (HasTold b (most - 1))
@@ -385,7 +364,7 @@ module _ (gives : Algorithms) (d : ℕ) (at : Side → ℕ) (w : Side → Lacpdu
         inr (inl (
           (
             after,
-            subst Flying (sym (same_flying d d at w w b b s s Nothing Wakes j k.link after.0 (peer s)))
+            subst Flying (sym (same_flying k.link after.0 (peer s)))
                 (subst (λ (g : Side → List ItemValue). Flying (g (peer s))) (sym k.same) (bare c i o f)),
           ),
           x.ticks_first s n r i j numbered h da,
@@ -422,7 +401,7 @@ module _ (gives : Algorithms) (d : ℕ) (at : Side → ℕ) (w : Side → Lacpdu
             inr (inl (
               (
                 after,
-                subst Flying (sym (same_flying d d at w w b b s s Nothing Wakes j k.link after.0 (peer s)))
+                subst Flying (sym (same_flying k.link after.0 (peer s)))
                     (subst (λ (g : Side → List ItemValue). Flying (g (peer s))) (sym k.same) (bare c i o f)),
               ),
               x.ticks_first (peer s) n r i j numbered h da,

@@ -1,9 +1,9 @@
 -- How the ends of a cable come to know each other.
 use Rattle.lagprogress.proofs.Common.{Bool, arith, false, inl, inr, refl, subst, suc, sym, true, zero, ℕ, ◌+◌, ◌-◌, ◌∙◌, ◌≡◌, ◌≤◌, ◌⊎◌, cases_Bool}
-use Rattle.lagprogress.proofs.Common.{Lacpdu, One, Side, Two, peer, Machines, periodic_rows, AtRest, machines_of, Algorithms, LinkState, WorldState}
-use Rattle.lagprogress.proofs.Common.{half, port_at, IsTimed, timeout_time, OfEach, no, AtPort, Sounds, silence_of, sounds_first, BothAreActive}
-use Rattle.lagprogress.proofs.Common.{EndsOfEachKnow, OneIsActive, LateRounds, OldArrive, EndKnows, Knows, AtEnd, OfPort, known_if_both_active}
-use Rattle.lagprogress.proofs.Common.{known_if_one_is}
+use Rattle.lagprogress.proofs.Common.{nat_tests, Lacpdu, One, Side, Two, peer, Machines, periodic_rows, AtRest, machines_of, Algorithms, LinkState}
+use Rattle.lagprogress.proofs.Common.{WorldState, half, port_at, IsTimed, timeout_time, OfEach, no, AtPort, Sounds, silence_of, sounds_first}
+use Rattle.lagprogress.proofs.Common.{BothAreActive, EndsOfEachKnow, OneIsActive, LateRounds, OldArrive, EndKnows, Knows, AtEnd, OfPort}
+use Rattle.lagprogress.proofs.Common.{known_if_both_active, known_if_one_is}
 use Rattle.lagprogress.proofs.Claims.{IsNamed, Wakeful, can_wake}
 use Rattle.lagprogress.proofs.EndFacts.{CanSound, IsEnd, Learnt, activity, calm, less_known, short_timeout, wait_of, Along}
 use Rattle.lagprogress.proofs.HostRound.{host_keeps, two, two_other, two_there}
@@ -20,10 +20,7 @@ use Rattle.lagprogress.proofs.Stamps.{Stamped, Took}
 use Rattle.lagprogress.proofs.Starting.{Ends, active_at, end_of, named_at, said_by, starts}
 
 pub two_less : (s : Side) (c : Side → ℕ) (a b : ℕ) → a ≤ c s → b ≤ c (peer s) → (u : Side) → two s a b u ≤ c u
-two_less One c a b l m One = l
-two_less One c a b l m Two = m
-two_less Two c a b l m One = m
-two_less Two c a b l m Two = l
+two_less s c a b l m u = grind (arith, nat_tests)
 
 pub awake_peer : (w : Side → Lacpdu) → ((s : Side) → (activity (w s) ≡ true) ⊎ (activity (w (peer s)) ≡ true)) → (s : Side)
     → (activity (w (peer s)) ≡ true) ⊎ (activity (w s) ≡ true)
@@ -72,8 +69,7 @@ module _ (at : Side → ℕ) (w : Side → Lacpdu) where
 
   pub can_known : (s : Side) (c : ℕ) → 1 ≤ c → (activity (w s) ≡ true) ⊎ (activity (w (peer s)) ≡ true)
       → CanSound (w s) (w (peer s)) (mode s) c
-  can_known s c l (inl a) = (inl a, λ e. (l, e))
-  can_known s c l (inr a) = (inr (l, a), λ e. (l, e))
+  can_known s c l a = grind (arith, nat_tests)
 
   pub some_silence : (b : Bool) → 1 ≤ silence_of b
   some_silence true = omega arith
@@ -146,10 +142,7 @@ module _ (at : Side → ℕ) (w : Side → Lacpdu) (counts : Side → ℕ) (kept
   known_long d most n j g l s = elim (g.longer s) [ inl m ↦ m | inr m ↦ (let o = g.later s in absurd (omega (arith, l, m, o))) ]
 
   pub knows_peer : (d most n : ℕ) (j : WorldState) (g : Going d most n j) → most ≤ n → (s : Side) → 2 ≤ g.known s
-  knows_peer d most n j g l s =
-      let m = known_long d most n j g l (peer s) in
-      let o = g.later (peer s) in
-      subst (λ t. 2 ≤ g.known t) (peer_twice s) (omega (arith, m, o))
+  knows_peer d most n j g hyp1 s = grind (arith, nat_tests, known_long, peer_twice)
 
   pub knows_late : (d : ℕ) (j : WorldState) (g : Met d j) (s : Side) → 2 ≤ g.known s
   knows_late d j g s = knows_peer d 0 0 j g (omega arith) s
@@ -642,10 +635,7 @@ module _ (at : Side → ℕ) (w : Side → Lacpdu) (counts : Side → ℕ) (kept
           (omega (arith, enough)) h)
 
       meets_short : (s : Side) → activity (w s) ≡ true → short_timeout (w s) ≡ true → 323 ≤ n → Met 1 new
-      meets_short s active short enough =
-          let quick : mode at w (peer s) ≡ true = subst (λ t. short_timeout (w t) ≡ true) (sym (peer_twice s)) short in
-          comes_to_meet s active (subst (λ b. gap (mode at w s) + gap b + 2 ≤ wait at w (peer s)) (sym quick) (room_for (mode at w s)))
-          (subst (λ b. 311 + gap b ≤ n) (sym quick) (omega (arith, enough)))
+      meets_short s hyp1 hyp2 hyp3 = grind (arith, nat_tests, true, peer_twice, comes_to_meet, room_for)
 
       meets_long : ((s : Side) → activity (w s) ≡ true) → ((s : Side) → mode at w s ≡ false) → 323 ≤ n → Met 1 new
       meets_long active long enough = settled 1 311 n new (omega (arith, enough)) (along (λ m j. Lasts m j) old

@@ -121,19 +121,7 @@ abbrev UpAnd : (Machines → Type 0) → Machines → Type 0
 UpAnd T p = (p.enabled ≡ true) × T p
 
 lapsed_rows : (e : ℕ) → 1 ≤ e → EnabledKeep (UpAnd (Lapsed e)) receive_rows
-lapsed_rows e l = (
-  λ p h a. absurd (not_in (same_receive_state Initialize) p.receive Expired true a.1.0 refl h),
-  (
-    λ p h a. absurd (not_down _ p.enabled h a.0),
-    (
-      λ p h a. absurd (not_in (same_receive_state PortDisabled) p.receive Expired p.enabled a.1.0 refl h),
-      (
-        λ p h a. absurd (some_left (same_receive_state Expired p.receive) p.current_while e h l a.1.3),
-        (λ p h a. absurd (not_in (same_receive_state Current) p.receive Expired (p.current_while == 0) a.1.0 refl h), tt),
-      ),
-    ),
-  ),
-)
+lapsed_rows e l = grind (arith, nat_tests, not_in, not_down, some_left)
 
 -- what the partner's state becomes in EXPIRED
 pub expired_active : (st : State) → (bits_of (with_timeout true (with_synchronization false st))).activity ≡ (bits_of st).activity

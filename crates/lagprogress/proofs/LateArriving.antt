@@ -8,13 +8,12 @@ use Rattle.lagprogress.proofs.EachRound.{joins_kept, joins_tick}
 use Rattle.lagprogress.proofs.Delivering.{arrives_moves}
 use Rattle.lagprogress.proofs.EndFacts.{activity, wait_of}
 use Rattle.lagprogress.proofs.HostRound.{KeptBeside, MadeByTick, fits_in, healthy_link, known_in, learn_less, left, side_beside}
-use Rattle.lagprogress.proofs.HostStamps.{same_items}
+use Rattle.lagprogress.proofs.Linked.{same_items, Fits, Flying, put_there}
 use Rattle.lagprogress.proofs.HostTelling.{Any, Extra, HasTold, OnWay, all_any, any_settles, left_less, on_between, on_other, on_own, other_one}
 use Rattle.lagprogress.proofs.HostTelling.{other_three, other_two, own_one, own_three, own_two, peer_hears, told_between, told_other, told_own}
 use Rattle.lagprogress.proofs.HostTelling.{waits_long}
 use Rattle.lagprogress.proofs.LateFlow.{FlyingIn, IsPlain, between_at, comes_in, counted_on, flows, flying_first, flying_flows, flying_pop}
 use Rattle.lagprogress.proofs.LateFlow.{stays_there}
-use Rattle.lagprogress.proofs.Linked.{Fits, Flying, put_there}
 use Rattle.lagprogress.proofs.OneCable.{Arrives, OnCable, cable, put, ticks, towards_there}
 use Rattle.lagprogress.proofs.OneRound.{forget, join, ticked}
 use Rattle.lagprogress.proofs.Quieting.{PlayedBeside}

@@ -5,10 +5,10 @@ use Rattle.lagprogress.proofs.Claims.{IsNamed, Owes, Wakeful}
 use Rattle.lagprogress.proofs.Climbing.{PartnerInSync}
 use Rattle.lagprogress.proofs.EndFacts.{Along, CanSound, Learnt, activity, sounds_along, wait_of}
 use Rattle.lagprogress.proofs.HostRound.{all_ticked, holds_beside, known_in, none_ticked}
-use Rattle.lagprogress.proofs.HostStamps.{Took-it, same_items, stamped_between, stamped_tick, took_between, took_now, took_tick}
+use Rattle.lagprogress.proofs.HostStamps.{Took-it, stamped_between, stamped_tick, took_between, took_now, took_tick}
 use Rattle.lagprogress.proofs.HostTelling.{Extra, HasTold, OnWay, stays_on, turns}
 use Rattle.lagprogress.proofs.LateArriving.{late_heard}
-use Rattle.lagprogress.proofs.Linked.{Fits, Flying, Link, of_end}
+use Rattle.lagprogress.proofs.Linked.{Fits, Flying, Link, of_end, same_items}
 use Rattle.lagprogress.proofs.OneCable.{OnCable}
 use Rattle.lagprogress.proofs.OneRound.{Later, Nothing, Passes, beside_here, join, sounds_pass, ticked}
 use Rattle.lagprogress.proofs.Quieting.{PlayedBeside}

@@ -5,7 +5,7 @@ use Rattle.lagprogress.proofs.Common.{One, Side, Two, peer, Machines, is_silent,
 use Rattle.lagprogress.proofs.Common.{pdu_of, SystemFault, SystemPort, Step, Transmit, IsLacpduOf, SystemState, port_index, Event, Reply, Algorithms}
 use Rattle.lagprogress.proofs.Common.{WorldSteps, side_of, ItemValue, LinkState, WorldState, half, port_at, IsTimed, OfEach, no, AtPort, Sounds}
 use Rattle.lagprogress.proofs.Common.{now_due, asks_all, asks_ends}
-use Rattle.lagprogress.proofs.EndFacts.{Along, CanSound, IsEnd, both_along, calm, nothing_along, sounds_along, ticks_sounds}
+use Rattle.lagprogress.proofs.EndFacts.{Along, CanSound, IsEnd, both_along, calm, nothing_along, sounds_along, ticks_sounds, constant_along}
 use Rattle.lagprogress.proofs.OneCable.{Went}
 use Rattle.lagprogress.proofs.Passing.{lacpdu_is_sent, sends_due, sent_carries}
 use Rattle.lagprogress.proofs.Linked.{EndIs, Fits, Flying, Link, each_side, emit_link, HasLacpdu, has_last, other_side, push_there, other_ports}
@@ -168,12 +168,8 @@ abbrev pub Later : Bool → ℕ → Machines → Type 0
 Later fast most p = (1 ≤ most) × Sounds fast most p
 
 pub later_along : (v u : Lacpdu) (fast : Bool) (c d most : ℕ) → CanSound v u fast c → Along (Later fast most) v u c d
-later_along v u fast c d most can = both_along (λ p. 1 ≤ most) (Sounds fast most) v u c d (record {
-  mux = λ ready p q h y. y;
-  periodic = λ p q h a y. y;
-  select = λ choice p none y. y;
-  takes = λ x p q e awake h a y. y;
-}) (sounds_along v u fast c d most can)
+later_along v u fast c d most can =
+    both_along (λ p. 1 ≤ most) (Sounds fast most) v u c d (constant_along (1 ≤ most) v u c d) (sounds_along v u fast c d most can)
 
 pub sounds_pass : (v u : Lacpdu) (fast : Bool) (before c d most : ℕ) → CanSound v u fast before → CanSound v u fast c
     → Passes (Sounds fast most) (Sounds fast (most - 1)) (Sounds fast (most - 1)) (Later fast (most - 1)) v u before c d
