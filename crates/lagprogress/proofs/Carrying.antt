@@ -61,10 +61,7 @@ pub lapse_kept : (call : Call) (answer : Answer) → KeptByCall LapsesAt call an
 lapse_kept Tick answer = λ n p q h a. runs_keep Lapses receive_rows receive_lapses (count_down p) q h a
 lapse_kept (Set_link n up) answer = λ max_links p q h a. runs_keep Lapses receive_rows receive_lapses
     (record p { enabled = up; choice = choice_with_link max_links up p.choice }) q h a
-lapse_kept (Receive n octets) answer = λ v p q t came h a. elim h [
-  | inl f ↦ fires_keep Lapses (lacpdu_rows v) (λ p a e. absurd cc, tt) p q f a
-  | inr r ↦ subst Lapses (sym r.1) a
-]
+lapse_kept (Receive n octets) answer = grind (arith, nat_tests, fires_keep)
 lapse_kept (Configure n change) answer = λ p q h a. lapse_starts (record p { party = changed_party change p.party }) q h.1
 lapse_kept Restart answer = lapse_first
 lapse_kept (Transmit n) answer = λ p e a. a
@@ -86,15 +83,7 @@ distributes_up s agg p h lapses e =
     let x = d.1 in
     let mux = (all-get (MuxIsSettled s.keys s.system_ports) s.system_ports d.0 x d.2 h.quiet.0).mux in
     let rest = rests receive_rows x.port (all-get (λ (c : SystemPort). none_enabled receive_rows c.port ≡ true) s.system_ports d.0 x d.2 h.rested.0) in
-    let lapse = all-get (λ (c : SystemPort). Lapses c.port) s.system_ports d.0 x d.2 lapses in (
-      d.0,
-      x,
-      d.2,
-      d.3,
-      must_be_up x.port.enabled (same_receive_state PortDisabled x.port.receive) (partner_synchronized x.port)
-          (selected x.port) (same_mux_state CollectingDistributing x.port.mux) rest.1.0 (λ f. lapse (is_disabled x.port.receive f))
-          (and_parts (has_chosen agg x.port.choice) (same_mux_state CollectingDistributing x.port.mux) d.4).1 mux.1.1.1.1.1.0,
-    )
+    grind (arith, nat_tests, all-get, lapses, must_be_up, is_disabled, and_parts)
 
 -- a call that does not take a link down leaves it up
 
@@ -117,10 +106,7 @@ up_kept : (p : ℕ) (call : Call) (answer : Answer) → takes_down p call ≡ fa
 up_kept p Tick answer t = λ n q r h a e. runs_keep Up receive_rows receive_up (count_down q) r h (a e)
 up_kept p (Set_link n up) answer t = λ max_links q r h a e. runs_keep Up receive_rows receive_up
     (record q { enabled = up; choice = choice_with_link max_links up q.choice }) r h (set_up n p up t e)
-up_kept p (Receive n octets) answer t = λ v q r took came h a e. elim h [
-  | inl f ↦ fires_keep Up (lacpdu_rows v) (λ p a. a, tt) q r f (a e)
-  | inr x ↦ subst Up (sym x.1) (a e)
-]
+up_kept p (Receive n octets) answer t = grind (arith, nat_tests, fires_keep)
 up_kept p (Configure n change) answer t = λ q r h a e. up_starts (record q { party = changed_party change q.party }) r h.1 (a e)
 up_kept p Restart answer t = absurd (no (sym t))
 up_kept p (Transmit n) answer t = λ q told a e. a e

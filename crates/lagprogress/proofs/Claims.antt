@@ -8,7 +8,7 @@ use Rattle.lagprogress.proofs.Common.{pdu_of, ProcessesLacpdu, can_receive, can_
 use Rattle.lagprogress.proofs.Common.{periodic_leaves, not_silent, unclear, RowsKeep, fires_keep, runs_keep}
 use Rattle.lagbeside.proofs.Sounding.{rests}
 use Rattle.lagprogress.proofs.EndFacts.{said_bits, Along, CanSound, IsEnd, SameActor, Says, Synced, activity, all_true, awake_fires, end_settles}
-use Rattle.lagprogress.proofs.EndFacts.{first_true, maintained}
+use Rattle.lagprogress.proofs.EndFacts.{first_true, maintained, each_row}
 use Rattle.lagprogress.proofs.Lapsing.{expired_active}
 
 -- SELECTED, in ATTACHED or COLLECTING_DISTRIBUTING, and the actor of the LACPDU is recorded as the partner
@@ -131,51 +131,43 @@ expire i =
     ap (named i) (encode_then_decode (record (bits_of s) { timeout = true })) ∙ desync i
 
 owes_receive : (u : Lacpdu) → RowsKeep (Owes u) receive_rows
-owes_receive u = (
-  λ p a c. a (c.0, sym (desync p.partner) ∙ c.1),
-  (
-    λ p a c. a (c.0, sym (desync p.partner) ∙ c.1),
-    (
-      λ p a c. a (c.0, sym (expire p.partner) ∙ c.1),
-      (
-        λ p a c. elim (cases_Bool (same_party (party_of default_partner) (party_of p.partner))) [
-          | inl same ↦ a (
-            (sym (ap (λ b. is_selected (if b then p.choice else Unselected)) same) ∙ c.0.0, c.0.1),
-            sym (exact_party (party_of default_partner) (party_of p.partner) same) ∙ c.1,
-          )
-          | inr other ↦ absurd (no (sym (ap (λ b. is_selected (if b then p.choice else Unselected)) other) ∙ c.0.0))
-        ],
-        (λ p a c. a (c.0, sym (expire p.partner) ∙ c.1), tt),
-      ),
-    ),
-  ),
-)
+owes_receive u = each_row
+    (λ p a c. a (c.0, sym (desync p.partner) ∙ c.1))
+    (λ p a c. a (c.0, sym (desync p.partner) ∙ c.1))
+    (λ p a c. a (c.0, sym (expire p.partner) ∙ c.1))
+    (λ p a c. elim (cases_Bool (same_party (party_of default_partner) (party_of p.partner))) [
+      | inl same ↦ a (
+        (sym (ap (λ b. is_selected (if b then p.choice else Unselected)) same) ∙ c.0.0, c.0.1),
+        sym (exact_party (party_of default_partner) (party_of p.partner) same) ∙ c.1,
+      )
+      | inr other ↦ absurd (no (sym (ap (λ b. is_selected (if b then p.choice else Unselected)) other) ∙ c.0.0))
+    ])
+    (λ p a c. a (c.0, sym (expire p.partner) ∙ c.1))
 
 -- where the default partner is no other's, or the port is active, it stays wakeful
 abbrev pub IsNamed : Lacpdu → Type 0
 IsNamed u = party_of default_partner ≢ party_of u.actor
 
 wakeful_receive : (v u : Lacpdu) → (activity v ≡ true) ⊎ IsNamed u → RowsKeep (Wakeful v u) receive_rows
-wakeful_receive v u it = (
-  λ p a. still p (record p.partner { state = with_synchronization false p.partner.state }) a (desync p.partner) (ap (λ (b : StateBits). b.activity) (decoded false p.partner)),
-  (
-    λ p a. still p (record p.partner { state = with_synchronization false p.partner.state }) a (desync p.partner) (ap (λ (b : StateBits). b.activity) (decoded false p.partner)),
-    (
-      λ p a. still p (record p.partner { state = with_timeout true (with_synchronization false p.partner.state) }) a (expire p.partner) (expired_active p.partner.state),
-      (
-        λ p a. elim it [
-          | inl on ↦ inl on
-          | inr other ↦ elim a [ inl on ↦ inl on | inr r ↦ inr (r.0, λ same. absurd (other same)) ]
-        ],
-        (λ p a. still p (record p.partner { state = with_timeout true (with_synchronization false p.partner.state) }) a (expire p.partner) (expired_active p.partner.state), tt),
-      ),
-    ),
-  ),
-)
+wakeful_receive v u it = each_row
+    (λ p a. desynced p a)
+    (λ p a. desynced p a)
+    (λ p a. lapsed p a)
+    (λ p a. elim it [ inl on ↦ inl on | inr other ↦ elim a [ inl on ↦ inl on | inr r ↦ inr (r.0, λ same. absurd (other same)) ] ])
+    (λ p a. lapsed p a)
   where
     still : (p : Machines) (i : Info) → Wakeful v u p → party_of i ≡ party_of p.partner
         → (bits_of i.state).activity ≡ (bits_of p.partner.state).activity → Wakeful v u (record p { partner = i })
     still p i a same bit = elim a [ inl on ↦ inl on | inr r ↦ inr (r.0, λ e. bit ∙ r.1 (sym same ∙ e)) ]
+
+    desynced : (p : Machines) → Wakeful v u p → Wakeful v u (record p { partner = record p.partner { state = with_synchronization false p.partner.state } })
+    desynced p a = still p (record p.partner { state = with_synchronization false p.partner.state }) a (desync p.partner)
+        (ap (λ (b : StateBits). b.activity) (decoded false p.partner))
+
+    lapsed : (p : Machines) → Wakeful v u p
+        → Wakeful v u (record p { partner = record p.partner { state = with_timeout true (with_synchronization false p.partner.state) } })
+    lapsed p a = still p (record p.partner { state = with_timeout true (with_synchronization false p.partner.state) }) a (expire p.partner)
+        (expired_active p.partner.state)
 
 pub wakeful_ticks : (v u : Lacpdu) (p q : Machines) → (activity v ≡ true) ⊎ IsNamed u → RunsToRest receive_rows (count_down p) q
     → Wakeful v u p → Wakeful v u q

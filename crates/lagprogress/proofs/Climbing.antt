@@ -7,7 +7,7 @@ use Rattle.lagprogress.proofs.Common.{partner_synchronized, same_mux_state, defa
 use Rattle.lagprogress.proofs.Common.{RunsToRest, count_down, has_chosen, has_waited, is_detached_or_waiting, SystemPort, ProcessesLacpdu, IsSound}
 use Rattle.lagprogress.proofs.Common.{SystemState, stage_of, HasRecorded, IsTimed, KeptBySettling, EnabledKeep, no, not_down, times_keep, Known}
 use Rattle.lagprogress.proofs.Common.{counts, rests_still, mux_leaves, periodic_leaves, fires_keep, runs_keep}
-use Rattle.lagprogress.proofs.EndFacts.{Along, IsEnd, SameActor, Synced, activity, not_attached, takes_sync}
+use Rattle.lagprogress.proofs.EndFacts.{Along, IsEnd, SameActor, Synced, activity, not_attached, takes_sync, each_row}
 use Rattle.lagbeside.proofs.ReadyMembers.{Fine, no_member_waits}
 
 -- while current_while has ticks left the receive machine stays
@@ -149,25 +149,15 @@ down_takes t k x p q h a = elim h [
 ]
 
 pub down_ticks : (t k : ℕ) (p q : Machines) → RunsToRest receive_rows (count_down p) q → Down t k p → Down (t - 1) k q
-down_ticks t k p q h a = runs_keep (Down (t - 1) k) receive_rows (
-  λ p a. a,
-  (
-    λ p a. a,
-    (
-      λ p a. a,
-      (
-        λ p a e. unselects (t - 1) (same_party (party_of default_partner) (party_of p.partner)) p.choice p.mux p.wait_while (a e),
-        (λ p a. a, tt),
-      ),
-    ),
-  ),
-) (count_down p) q h (λ e. (
-  (a e).0,
-  λ s. elim ((a e).1 s) [
-    | inl y ↦ inl y
-    | inr w ↦ (let l = w.1 in inr (w.0, omega (arith, l)))
-  ],
-))
+down_ticks t k p q h a = runs_keep (Down (t - 1) k) receive_rows (each_row (λ p a. a) (λ p a. a) (λ p a. a)
+    (λ p a e. unselects (t - 1) (same_party (party_of default_partner) (party_of p.partner)) p.choice p.mux p.wait_while (a e)) (λ p a. a))
+    (count_down p) q h (λ e. (
+      (a e).0,
+      λ s. elim ((a e).1 s) [
+        | inl y ↦ inl y
+        | inr w ↦ (let l = w.1 in inr (w.0, omega (arith, l)))
+      ],
+    ))
 
 -- the partner stays synchronized
 

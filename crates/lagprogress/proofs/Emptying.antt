@@ -89,18 +89,9 @@ between_next s gives (Plays (event.Deliver c n)) r old new b h = elim (came_half
   | inr (k, l, there, m) ↦ (let same = calls_next (gives s) (port_at s l) m.item.octets m.a (half s old).state (half s new).state m.promise.step in
       omega (arith, same))
 ]
-between_next s gives (Plays (event.Offer n agg octets)) r old new b h = elim (offered_half gives n agg octets r old new h s) [
-  | inl same ↦ same_next s old new same
-  | inr (a, step) ↦ offers_next (gives s) agg octets.items a (half s old).state (half s new).state step
-]
-between_next s gives (Plays (event.Move n agg conv p)) r old new b h = elim (moved_half gives n agg conv p r old new h s) [
-  | inl same ↦ same_next s old new same
-  | inr (named, a, step) ↦ gives_next agg conv (system_move_result (half s old).state agg conv p) (half s old).state a (half s new).state step
-]
-between_next s gives (Plays (event.Force n agg conv)) r old new b h = elim (forced_half gives n agg conv r old new h s) [
-  | inl same ↦ same_next s old new same
-  | inr (named, a, step) ↦ gives_next agg conv (system_force_result (half s old).state agg conv) (half s old).state a (half s new).state step
-]
+between_next s gives (Plays (event.Offer n agg octets)) r old new b h = grind (arith, nat_tests, offered_half, h, same_next, offers_next)
+between_next s gives (Plays (event.Move n agg conv p)) r old new b h = grind (arith, nat_tests, moved_half, h, same_next, gives_next)
+between_next s gives (Plays (event.Force n agg conv)) r old new b h = grind (arith, nat_tests, forced_half, h, same_next, gives_next)
 between_next s gives (Plays e) r old new b h = absurd b
 between_next s gives (Sets t (Set_max_delay delay)) r old new b h =
     same_table s old new (delay_keeps Table (λ z. z.table) (λ z d. refl) gives t delay old new h s)
@@ -388,20 +379,9 @@ module _ (at : Side → ℕ) (w : Side → Lacpdu) (named : (t : Side) → IsNam
       quiet_fine : (e : HostEvent) (r : Reply) (old new : WorldState) → IsQuiet e → IsNoMoveOf s agg conv e → IsNoProbe s (at s) e
           → IsConversation (half s old).state.table agg conv → StepReplies gives old e r new
           → FineIn m W F (half s old).state.table → FineIn m W F (half s new).state.table
-      quiet_fine (Plays (event.Offer n group octets)) r old new q still far there h fine = elim (offered_half gives n group octets r old new h s) [
-        | inl same ↦ subst (λ (y : SystemState). FineIn m W F y.table) (sym same) fine
-        | inr (a, step) ↦ offered_frame m W F group octets.items a (half s old).state (half s new).state step fine
-      ]
-      quiet_fine (Plays (event.Move n group moved p)) r old new q still far there h fine = elim (moved_half gives n group moved p r old new h s) [
-        | inl same ↦ subst (λ (y : SystemState). FineIn m W F y.table) (sym same) fine
-        | inr (told, a, step) ↦ elsewhere group moved (system_move_result (half s old).state group moved p) a (half s old).state (half s new).state
-            (still told) step fine
-      ]
-      quiet_fine (Plays (event.Force n group moved)) r old new q still far there h fine = elim (forced_half gives n group moved r old new h s) [
-        | inl same ↦ subst (λ (y : SystemState). FineIn m W F y.table) (sym same) fine
-        | inr (told, a, step) ↦ elsewhere group moved (system_force_result (half s old).state group moved) a (half s old).state (half s new).state
-            (still told) step fine
-      ]
+      quiet_fine (Plays (event.Offer n group octets)) r old new q still far there h fine = grind (arith, nat_tests, offered_half, h, offered_frame)
+      quiet_fine (Plays (event.Move n group moved p)) r old new q still far there h fine = grind (arith, nat_tests, moved_half, h, elsewhere)
+      quiet_fine (Plays (event.Force n group moved)) r old new q still far there h fine = grind (arith, nat_tests, forced_half, h, elsewhere)
       quiet_fine (Plays e) r old new q still far there h fine = absurd q
       quiet_fine (Sets t (Set_max_delay delay)) r old new q still far there h fine =
           subst (FineIn m W F) (sym (delay_keeps Table (λ z. z.table) (λ z d. refl) gives t delay old new h s)) fine

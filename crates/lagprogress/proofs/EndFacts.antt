@@ -101,6 +101,10 @@ end_settles Y v u c d n k = record {
   );
 }
 
+-- what holds of each of the five rows of the receive machine
+pub each_row : {A B C D E : Type 0} → A → B → C → D → E → A × (B × (C × (D × (E × Unit {0}))))
+each_row a b c d e = (a, (b, (c, (d, (e, tt)))))
+
 -- a receipt
 
 says_kept : (v x : Lacpdu) (p q : Machines) → ProcessesLacpdu x p q → Says v p → Says v q

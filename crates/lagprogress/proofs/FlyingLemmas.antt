@@ -14,7 +14,7 @@ use Rattle.lagprogress.proofs.Quieting.{leaves}
 use Rattle.lagprogress.proofs.OneCable.{OnCable, cable, port_there, ticks, towards_there, sent_frame}
 use Rattle.lagprogress.proofs.OneRound.{ticked, beside_here}
 use Rattle.lagsystem.specs.declared.received.Received.TheVariants as received
-use Rattle.lagprogress.proofs.HostRound.{between, left, own_holds, none_ticked, fits_in, peer_holds, KeptBetween, MadeByTick, known_in, of_side}
+use Rattle.lagprogress.proofs.HostRound.{between, own_holds, none_ticked, fits_in, peer_holds, KeptBetween, MadeByTick, known_in, of_side}
 use Rattle.lagscript.specs.declared.event.Event.TheVariants as event
 use Rattle.lagprogress.proofs.LateFlow.{Flows, flows, gain_at}
 use Rattle.lagprogress.proofs.Knowing.{awake_peer}
@@ -104,10 +104,7 @@ module _ (gives : Algorithms) (s : Side) (i : ℕ) (l : LinkState) (w : Side →
   )
 
   other : (a : Bool) → MadeByTick gives (peer (peer s)) (Flies a true) (Flies a false)
-  other a n r old new told h (e, f) = (
-    peer_holds gives (peer s) 2 at w c PartnerInSync later a (along (left a (c (peer s)))) n r old new told h e,
-    ticked_way (peer (peer s)) n r old new told h f,
-  )
+  other a n r old new told h (e, f) = grind (arith, nat_tests, peer_holds, along, ticked_way)
 
   -- the port there collects
   hands_up : (k : Side → ℕ) (n : ℕ) (r : Reply) (old new : WorldState) → side_of n ≡ Some (peer s) → Ends k old → (f : OnItsWay s l item start old)

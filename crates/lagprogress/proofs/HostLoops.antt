@@ -11,7 +11,7 @@ use Rattle.lagprogress.proofs.Common.{AsksInVainAfterTick, DrainingRounds, IsNoM
 use Rattle.lagprogress.proofs.Common.{AskingIsPlayed, Asks, AsksAfterTick, AsksIn, AtSomeWorld, Clearing, EventsAreOfHosts, HostRounds}
 use Rattle.lagprogress.proofs.Common.{IsBetweenTicks, IsTickOf, NoneIsLeft, RoundIsHostRound, RoundsAreHostRounds, RunReplies, RunsHaveReplies}
 use Rattle.lagprogress.proofs.Common.{StepReplies, TickOnce, TickOnceAmong, as_played, AtEnd, IsDeliver, IsHealthyAt, OfPort, Rounds, asks_all}
-use Rattle.lagprogress.proofs.Common.{ticks_of_both, IsSteady}
+use Rattle.lagprogress.proofs.Common.{ticks_of_both, IsSteady, ◌⊎◌}
 use Rattle.distributor.specs.Conversations.{sum_below}
 use Rattle.lagprogress.proofs.HostRound.{side_among, of_side, turned}
 use Rattle.lagprogress.proofs.HostSteady.{sets_up}
@@ -22,7 +22,7 @@ use Rattle.lagprogress.proofs.EachRound.{each_between, EachAt, own_keeps, own_ti
 use Rattle.lagworld.specs.declared.reply.Reply.TheVariants as reply
 use Rattle.lagprogress.proofs.Linked.{each_side, found, machines_there}
 use Rattle.lagprogress.proofs.OneCable.{Emits, emits, ticks}
-use Rattle.lagprogress.proofs.OneRound.{IsAsk, all_ask, asks_twice, same_ports_then}
+use Rattle.lagprogress.proofs.OneRound.{IsAsk, all_ask, same_ports_then}
 use Rattle.lagprogress.proofs.Passing.{sends_due}
 use Rattle.lagsystem.specs.declared.drive.Reply.TheVariants as answer
 use Rattle.lagscript.specs.declared.event.Event.TheVariants as event
@@ -96,6 +96,12 @@ come_between e b = b
 pub come_beside : (at : Side → ℕ) (e : HostEvent) → LeavesPorts at e → MayCome e
 come_beside at (Sets s setting) b = tt
 come_beside at e b = b
+
+-- two of the events in turn ask this port of system s
+abbrev AsksTwice : Side → ℕ → List HostEvent → Type 0
+AsksTwice s p [] = ⊥
+AsksTwice s p (e ∷ []) = ⊥
+AsksTwice s p (e ∷ f ∷ es) = (Asks s p e × Asks s p f) ⊎ AsksTwice s p (f ∷ es)
 
 module _ (gives : Algorithms) (s : Side) (p : ℕ) where
   abbrev Up : Machines → Type 0
@@ -251,29 +257,17 @@ module _ (gives : Algorithms) (s : Side) (p : ℕ) where
         inr (vain_after es rs run.0 j o.0 o.1 o.2 run.2 q (stays a b e es r i run.0 h run.1 x))
 
     -- if it is asked twice in turn
-    twice_on : (n : ℕ) → side_of n ≡ Some s → (before later : List HostEvent) (rs : List Reply) (i j : WorldState) (a b : Bool)
-        → TickOnceAmong May s a b (before ++ (Plays (event.Emit n p) ∷ Plays (event.Emit n p) ∷ later))
-        → (run : RunReplies gives i (before ++ (Plays (event.Emit n p) ∷ Plays (event.Emit n p) ∷ later)) rs j) → Stays i
-        → AtSomeWorld Drained gives (before ++ (Plays (event.Emit n p) ∷ Plays (event.Emit n p) ∷ later)) rs i j run
-    twice_on n named [] later [] i j a b h run x = absurd run
-    twice_on n named [] later (r ∷ []) i j a b h run x = absurd run.2
-    twice_on n named [] later (r ∷ q ∷ rs) i j a b h run x =
-        let e = Plays (event.Emit n p) in
-        let o = rest_of a b e (e ∷ later) h in
-        let then = stays a b e (e ∷ later) r i run.0 h run.1 x in
-        inr (inr (at_first Drained later rs run.2.0 j run.2.2
-        (drained_now e q run.0 run.2.0 (n, named, refl) run.2.1 then (asked e r i run.0 (n, named, refl) run.1 x))))
-    twice_on n named (f ∷ before) later [] i j a b h run x = absurd run
-    twice_on n named (f ∷ before) later (r ∷ rs) i j a b h run x =
-        let es = before ++ (Plays (event.Emit n p) ∷ Plays (event.Emit n p) ∷ later) in
-        let o = rest_of a b f es h in
-        inr (twice_on n named before later rs run.0 j o.0 o.1 o.2 run.2 (stays a b f es r i run.0 h run.1 x))
-
-    twice_in : (n : ℕ) → side_of n ≡ Some s → (before later es : List HostEvent) → es ≡ before ++ (Plays (event.Emit n p) ∷ Plays (event.Emit n p) ∷ later)
-        → (rs : List Reply) (i j : WorldState) (a b : Bool) → TickOnceAmong May s a b es → (run : RunReplies gives i es rs j) → Stays i
-        → AtSomeWorld Drained gives es rs i j run
-    twice_in n named before later es e = subst (λ fs. (rs : List Reply) (i j : WorldState) (a b : Bool) → TickOnceAmong May s a b fs
-        → (run : RunReplies gives i fs rs j) → Stays i → AtSomeWorld Drained gives fs rs i j run) (sym e) (twice_on n named before later)
+    twice_on : (es : List HostEvent) (rs : List Reply) (i j : WorldState) (a b : Bool) → TickOnceAmong May s a b es → (run : RunReplies gives i es rs j)
+        → AsksTwice s p es → Stays i → AtSomeWorld Drained gives es rs i j run
+    twice_on [] rs i j a b h run y x = absurd y
+    twice_on (e ∷ []) rs i j a b h run y x = absurd y
+    twice_on (e ∷ f ∷ es) [] i j a b h run y x = absurd run
+    twice_on (e ∷ f ∷ es) (r ∷ []) i j a b h run y x = absurd run.2
+    twice_on (e ∷ f ∷ es) (r ∷ q ∷ rs) i j a b h run (inl y) x = inr (inr (at_first Drained es rs run.2.0 j run.2.2
+        (drained_now f q run.0 run.2.0 y.1 run.2.1 (stays a b e (f ∷ es) r i run.0 h run.1 x) (asked e r i run.0 y.0 run.1 x))))
+    twice_on (e ∷ f ∷ es) (r ∷ q ∷ rs) i j a b h run (inr y) x =
+        let o = rest_of a b e (f ∷ es) h in
+        inr (twice_on (f ∷ es) (q ∷ rs) run.0 j o.0 o.1 o.2 run.2 y (stays a b e (f ∷ es) r i run.0 h run.1 x))
 
 -- the port at an end of a healthy cable is there, and its link is up
 stays_first : (gives : Algorithms) (s : Side) (i : ℕ) (l : LinkState) (old : WorldState) → AreTimely old → IsHealthyAt i l old
@@ -337,11 +331,22 @@ of_side_after : (s : Side) (es : List HostEvent) → TickOnce One false false es
 of_side_after One es h = h
 of_side_after Two es h = turned IsBetweenTicks es false false h
 
-plays_append : (es fs : List Event) → map Plays (es ++ fs) ≡ map Plays es ++ map Plays fs
-plays_append [] fs = refl
-plays_append (e ∷ es) fs = ap (λ xs. Plays e ∷ xs) (plays_append es fs)
-
 -- and each end has nothing due once it is asked twice
+
+twice_later : (s : Side) (p : ℕ) (e : HostEvent) (es : List HostEvent) → AsksTwice s p es → AsksTwice s p (e ∷ es)
+twice_later s p e [] h = absurd h
+twice_later s p e (f ∷ es) h = inr h
+
+asks_twice : (s : Side) (i : ℕ) (links : List LinkState) (more : List Event) (l : LinkState) → slice_get links i ≡ Some l
+    → AsksTwice s (port_at s l) (map Plays (asks_all links ++ more))
+asks_twice s i [] more l e = absurd (none-some l e)
+asks_twice s zero (m ∷ links) more l e = subst (λ k. AsksTwice s (port_at s k) (map Plays (asks_all (m ∷ links) ++ more))) (same_Some m l e) (first s)
+  where
+    first : (s : Side) → AsksTwice s (port_at s m) (map Plays (asks_all (m ∷ links) ++ more))
+    first One = inl ((1, refl, refl), (1, refl, refl))
+    first Two = inr (inr (inl ((2, refl, refl), (2, refl, refl))))
+asks_twice s (suc i) (m ∷ links) more l e = inr (inr (inr (twice_later s (port_at s l) (Plays (event.Emit 2 m.two))
+    (map Plays (asks_all links ++ more)) (asks_twice s i links more l e))))
 
 at_map : (P Q : WorldState → Type 0) (gives : Algorithms) → ((j : WorldState) → P j → Q j) → (es : List HostEvent) (rs : List Reply) (i j : WorldState)
     (run : RunReplies gives i es rs j) → AtSomeWorld P gives es rs i j run → AtSomeWorld Q gives es rs i j run
@@ -392,15 +397,10 @@ round_is_draining gives t g k old new steady h = record {
     at_some : (s : Side) (i : ℕ) (l : LinkState) → IsHealthyAt i l old → (rs : List Reply) (mid : WorldState)
         → (run : RunReplies gives mid (map Plays (asks_all old.links ++ h.delivers)) rs new) → Stays gives s (port_at s l) mid
         → AtSomeWorld (NothingIsDue s l) gives (map Plays (asks_all old.links ++ h.delivers)) rs mid new run
-    at_some s i l y rs mid run x =
-        let o = asks_twice s i old.links l y.there in
-        let e = event.Emit o.number (port_at s l) in
-        twice_in gives s (port_at s l) IsBetweenTicks come_between o.number o.named (map Plays o.before) (map Plays (o.later ++ h.delivers))
-        (map Plays (asks_all old.links ++ h.delivers))
-        (ap (map Plays) (ap (λ es. es ++ h.delivers) o.is ∙ append_assoc o.before (e ∷ e ∷ o.later) h.delivers)
-        ∙ plays_append o.before (e ∷ e ∷ (o.later ++ h.delivers))) rs mid new false false
+    at_some s i l y rs mid run x = twice_on gives s (port_at s l) IsBetweenTicks come_between (map Plays (asks_all old.links ++ h.delivers)) rs mid new
+        false false
         (of_side_after s (map Plays (asks_all old.links ++ h.delivers)) (between_all (asks_all old.links) h.delivers (all_ask old.links) h.arrives))
-        run x
+        run (asks_twice s i old.links h.delivers l y.there) x
 
     after : (s : Side) (i : ℕ) (l : LinkState) → IsHealthyAt i l old → (rs : List Reply)
         → (run : RunReplies gives old (map Plays events) rs new) → AfterTick s (NothingIsDue s l) gives (map Plays events) rs old new run

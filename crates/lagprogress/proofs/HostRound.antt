@@ -195,28 +195,34 @@ holds_beside E at gives s A kept own other old new h m = holds_among (LeavesPort
 
 -- one tick of system t
 
+-- what it makes of what is known: a tick less at its end, if that leaves some where there must be some
+pub record Counts (d : ℕ) (t : Side) (c b : Side → ℕ) : Type 0 where
+  pub own : b t ≡ c t - 1
+  pub other : b (peer t) ≡ c (peer t)
+  pub some : 2 ≤ d → 1 ≤ c t - 1
+
 pub tick_one : (gives : Algorithms) (n : ℕ) (t : Side) (d : ℕ) (at : Side → ℕ) (w : Side → Lacpdu) (c b : Side → ℕ) (x : Side)
-    (Y Z : Machines → Type 0) (r : Reply) (old new : WorldState) → side_of n ≡ Some t → b t ≡ c t - 1 → b (peer t) ≡ c (peer t)
-    → (2 ≤ d → 1 ≤ c t - 1) → Along Z (w x) (w (peer x)) (b x) d
+    (Y Z : Machines → Type 0) (r : Reply) (old new : WorldState) → side_of n ≡ Some t → Counts d t c b
+    → Along Z (w x) (w (peer x)) (b x) d
     → ((p q : Machines) → RunsToRest receive_rows (count_down p) q → AtRest periodic_rows p → IsEnd d (w x) (w (peer x)) (c x) p → t ≡ x → Y p → Z q)
     → ((p : Machines) → peer t ≡ x → Y p → Z p)
     → WorldSteps gives old (event.Tick n 1) r new → (l : Link d at w c x Y old) → Left d at w b x Z l.flying new
-tick_one gives n t d at w c b x Y Z r old new named here there known along moves stays h l =
-    let k = ticks gives n t r old new named h in
+tick_one gives n t d at w c b x Y Z r old new named k along moves stays h l =
+    let tick = ticks gives n t r old new named h in
     let steady = keeps_timely gives (event.Tick n 1) r old new h l.steady in
     let was : Side → Machines → Type 0 = EndIs d w c x Y in
     let now : Side → Machines → Type 0 = EndIs d w b x Z in
     let mine = Tick-each (λ m p. AtPort (at t) (was t) m p × AtRest periodic_rows p) (AtPort (at t) (now t))
     (end_kept w b d x Z along t (at t))
     (λ m p q run a e. (
-      subst (λ m. IsEnd d (w t) (w (peer t)) m q) (sym here) (ticks_end d (w t) (w (peer t)) (c t) p q known run (a.0 e).0),
+      subst (λ m. IsEnd d (w t) (w (peer t)) m q) (sym k.own) (ticks_end d (w t) (w (peer t)) (c t) p q k.some run (a.0 e).0),
       λ f. moves p q run a.1 (subst (λ u. IsEnd d (w u) (w (peer u)) (c u) p) f (a.0 e).0) f ((a.0 e).1 f),
-    )) (gives t) (half t old).state answer.Tick (half t new).state k.step
+    )) (gives t) (half t old).state answer.Tick (half t new).state tick.step
     (with_rest (AtPort (at t) (was t)) (half t old).state.system_ports (l.ports t) (l.steady t).0.quiet.1) in
-    let theirs = subst (λ (y : SystemState). OfEach (AtPort (at (peer t)) (now (peer t))) y.system_ports) (sym k.peers)
+    let theirs = subst (λ (y : SystemState). OfEach (AtPort (at (peer t)) (now (peer t))) y.system_ports) (sym tick.peers)
     (each_map (AtPort (at (peer t)) (was (peer t))) (AtPort (at (peer t)) (now (peer t)))
     (λ m p a e. (
-      subst (λ m. IsEnd d (w (peer t)) (w (peer (peer t))) m p) (sym there) (a e).0,
+      subst (λ m. IsEnd d (w (peer t)) (w (peer (peer t))) m p) (sym k.other) (a e).0,
       λ f. stays p f ((a e).1 f),
     )) (half (peer t) old).state.system_ports (l.ports (peer t))) in
     record {
@@ -224,7 +230,7 @@ tick_one gives n t d at w c b x Y Z r old new named here there known along moves
         steady = steady;
         flying = l.flying;
         index = l.index;
-        links = subst (OnCable l.index at l.flying) (sym k.links) l.links;
+        links = subst (OnCable l.index at l.flying) (sym tick.links) l.links;
         good = l.good;
         place = λ u. ((l.place u).0, place_kept gives (event.Tick n 1) r old new h l.steady steady u (at u) ∙ (l.place u).1);
         ports = each_side (λ u. OfEach (AtPort (at u) (now u)) (half u new).state.system_ports) t mine theirs;
@@ -257,6 +263,23 @@ learn_less gives s d at w c m k j l i = other_ports i (λ t p rest timed a. (a.0
 -- what is known in a round, by the ticks that have still to come
 abbrev pub known_in : (Side → ℕ) → Side → Bool → Bool → Side → ℕ
 known_in c s own other = two s (left own (c s)) (left other (c (peer s)))
+
+pub own_counts : (d : ℕ) (w : Side → Lacpdu) (c : Side → ℕ) (s : Side) → Fits d w (ticked c) → (b : Bool)
+    → Counts d s (known_in c s true b) (known_in c s false b)
+own_counts d w c s then b = record {
+  own = two_there s (c s - 1) (left b (c (peer s))) ∙ ap (λ n. n - 1) (sym (two_there s (c s) (left b (c (peer s)))));
+  other = two_other s (c s - 1) (left b (c (peer s))) ∙ sym (two_other s (c s) (left b (c (peer s))));
+  some = λ e. subst (λ n. 1 ≤ n - 1) (sym (two_there s (c s) (left b (c (peer s))))) ((then s).2 e);
+}
+
+pub peer_counts : (d : ℕ) (w : Side → Lacpdu) (c : Side → ℕ) (s : Side) → Fits d w (ticked c) → (a : Bool)
+    → Counts d (peer s) (known_in c s a true) (known_in c s a false)
+peer_counts d w c s then a = record {
+  own = two_other s (left a (c s)) (c (peer s) - 1) ∙ ap (λ n. n - 1) (sym (two_other s (left a (c s)) (c (peer s))));
+  other = subst (λ t. known_in c s a false t ≡ known_in c s a true t) (sym (peer_twice s))
+      (two_there s (left a (c s)) (c (peer s) - 1) ∙ sym (two_there s (left a (c s)) (c (peer s))));
+  some = λ e. subst (λ n. 1 ≤ n - 1) (sym (two_other s (left a (c s)) (c (peer s)))) ((then (peer s)).2 e);
+}
 
 pub fits_in : (d : ℕ) (w : Side → Lacpdu) (c : Side → ℕ) (s : Side) → Fits d w c → Fits d w (ticked c) → (a b : Bool) → Fits d w (known_in c s a b)
 fits_in d w c s hyp1 hyp2 a b = grind (arith, nat_tests, each_side, two_there, two_other, true, false)
@@ -297,9 +320,7 @@ pub own_holds : (gives : Algorithms) (x : Side) (d : ℕ) (at : Side → ℕ) (w
     → ((p q : Machines) → RunsToRest receive_rows (count_down p) q → AtRest periodic_rows p → IsEnd d (w x) (w (peer x)) (c x) p → Y p → Z q)
     → (b : Bool) → MadeByTick gives x (Link d at w (known_in c x true b) x Y) (Link d at w (known_in c x false b) x Z)
 own_holds gives x d at w c Y Z then last moves b n r i j named step l = (tick_one gives n x d at w (known_in c x true b) (known_in c x false b) x Y Z
-    r i j named (two_there x (c x - 1) (left b (c (peer x))) ∙ ap (λ n. n - 1) (sym (two_there x (c x) (left b (c (peer x))))))
-    (two_other x (c x - 1) (left b (c (peer x))) ∙ sym (two_other x (c x) (left b (c (peer x)))))
-    (λ e. subst (λ n. 1 ≤ n - 1) (sym (two_there x (c x) (left b (c (peer x))))) ((then x).2 e))
+    r i j named (own_counts d w c x then b)
     (subst (λ n. Along Z (w x) (w (peer x)) n d) (sym (two_there x (c x - 1) (left b (c (peer x))))) last)
     (λ p q run rest a f y. moves p q run rest (subst (λ n. IsEnd d (w x) (w (peer x)) n p) (two_there x (c x) (left b (c (peer x)))) a) y)
     (λ p f y. absurd (other_side x f)) step l).link
@@ -308,10 +329,7 @@ pub peer_holds : (gives : Algorithms) (x : Side) (d : ℕ) (at : Side → ℕ) (
     → Fits d w (ticked c) → (a : Bool) → Along N (w x) (w (peer x)) (left a (c x)) d
     → MadeByTick gives (peer x) (Link d at w (known_in c x a true) x N) (Link d at w (known_in c x a false) x N)
 peer_holds gives x d at w c N then a along n r i j named step l = (tick_one gives n (peer x) d at w (known_in c x a true) (known_in c x a false) x N N
-    r i j named (two_other x (left a (c x)) (c (peer x) - 1) ∙ ap (λ n. n - 1) (sym (two_other x (left a (c x)) (c (peer x)))))
-    (subst (λ t. known_in c x a false t ≡ known_in c x a true t) (sym (peer_twice x))
-    (two_there x (left a (c x)) (c (peer x) - 1) ∙ sym (two_there x (left a (c x)) (c (peer x)))))
-    (λ e. subst (λ n. 1 ≤ n - 1) (sym (two_other x (left a (c x)) (c (peer x)))) ((then (peer x)).2 e))
+    r i j named (peer_counts d w c x then a)
     (subst (λ n. Along N (w x) (w (peer x)) n d) (sym (two_there x (left a (c x)) (c (peer x) - 1))) along)
     (λ p q run rest a f y. absurd (other_side x f)) (λ p f y. y) step l).link
 

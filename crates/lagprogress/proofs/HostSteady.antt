@@ -119,18 +119,7 @@ built : (gives : ℕ → ℕ → ℕ → Type 0) (s : Side) (call : HostCall) (a
 built gives s call a mid h ls old new x is state logs puts y =
     let own : (half s new).state ≡ mid.state = ap (λ (j : WorldState). (half s j).state) y ∙ (state_there s h ls old ∙ state) in
     let links : new.links ≡ ls = ap (λ (j : WorldState). j.links) y in
-    record {
-      answer = a;
-      promise = subst (HostPromise gives (half s old).state call a) (sym own) x.answers;
-      other = is;
-      peers = ap (λ (j : WorldState). (half (peer s) j).state) y ∙ peer_there s h ls old;
-      links = elim puts [
-        | inl e ↦ inl (links ∙ e)
-        | inr p ↦ inr (record { port = p.0; item = p.1; plain = p.2; sent = links ∙ p.3 })
-      ];
-      logs = λ t. ap (λ (j : WorldState). (half t j).histories) y
-          ∙ logs_there s h ls old (logs ∙ ap (λ (k : HalfState). k.histories) x.same) t;
-    }
+    grind (arith, nat_tests, peer_there, logs_there)
 
 offer_beside : (gives : ℕ → ℕ → ℕ → Type 0) (s : Side) (agg : AggId) (conv : ℕ) (octets : List ℕ) (a : Result ℕ SystemFault) (mid : HalfState)
     (old new : WorldState) → ((x : Lacpdu) → IsFrame octets (Carries (pdu.Lacpdu x)) → ⊥)

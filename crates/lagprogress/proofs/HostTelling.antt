@@ -1,5 +1,5 @@
 -- In a healthy round of hosts, an end that hears the other is told when the other is synchronized, or the other owes it an LACPDU.
-use Rattle.lagprogress.proofs.Common.{Bool, List, Some, [], ap, arith, false, inl, inr, refl, subst, sym, true, ℕ, ◌-◌, ◌∙◌, ◌∷◌, ◌≡◌, ◌≤◌, ◌⊎◌}
+use Rattle.lagprogress.proofs.Common.{Bool, List, Some, [], arith, false, inl, inr, refl, subst, sym, true, ℕ, ◌-◌, ◌∙◌, ◌∷◌, ◌≡◌, ◌≤◌, ◌⊎◌}
 use Rattle.lagprogress.proofs.Common.{cases_Bool, AllByRecursion, Lacpdu, Side, peer, Machines, partner_synchronized, periodic_rows, receive_rows}
 use Rattle.lagprogress.proofs.Common.{AtRest, RunsToRest, after_sending, count_down, is_due, SystemPort, Carries, IsFrame, OnlyPortChangesBy}
 use Rattle.lagprogress.proofs.Common.{ProcessesLacpdu, ThenSettles, SystemState, machines_of, Reply, Algorithms, WorldSteps, side_of, ItemValue}
@@ -14,7 +14,7 @@ use Rattle.lagprogress.proofs.Delivering.{Heard, arrived_ports, deliver_link, de
 use Rattle.lagprogress.proofs.EndFacts.{Along, IsEnd, Learnt, activity, nothing_along, short_timeout, ticks_end, wait_of, learnt_along}
 use Rattle.lagprogress.proofs.HostRound.{between, KeptBeside, MadeByTick, Stages, first_on, fits_in, healthy_link, holds_beside, known_in, learn_less}
 use Rattle.lagprogress.proofs.HostRound.{Whatever, all_whatever, left, none_ticked, side_beside, tick_one, ticks_learnt, two_other, two_there}
-use Rattle.lagprogress.proofs.HostRound.{both_kept, both_made}
+use Rattle.lagprogress.proofs.HostRound.{both_kept, both_made, own_counts, peer_counts, Counts}
 use Rattle.lagprogress.proofs.Linked.{asked_which, at_end, beside_link, emit_any, found, end_with, of_end, with_ports, EndIs, Fits, Flying, IsGood}
 use Rattle.lagprogress.proofs.Linked.{Link, each_both, each_map, each_side, end_here, gains_has, HasLacpdu, other_side, peer_twice, put_other}
 use Rattle.lagprogress.proofs.Linked.{put_there, same_flying}
@@ -55,14 +55,14 @@ module _ (gives : Algorithms) (d : ℕ) (at : Side → ℕ) (w : Side → Lacpdu
   woken_between : (c : Side → ℕ) → Fits d w c → KeptBeside at gives (Woken c)
   woken_between c fits = between gives d at w c s Wakes fits (along_wakes (c s)) (λ p y. y)
 
-  woken_own : (c b : Side → ℕ) → b s ≡ c s - 1 → b (peer s) ≡ c (peer s) → (2 ≤ d → 1 ≤ c s - 1) → MadeByTick gives s (Woken c) (Woken b)
-  woken_own c b here other known n r i j numbered h l = (tick_one gives n s d at w c b s Wakes Wakes r i j numbered here other known
+  woken_own : (c b : Side → ℕ) → Counts d s c b → MadeByTick gives s (Woken c) (Woken b)
+  woken_own c b known n r i j numbered h l = (tick_one gives n s d at w c b s Wakes Wakes r i j numbered known
       (along_wakes (b s)) (λ p q run rest a f y. wakeful_ticks v u p q named run y) (λ p f y. absurd (other_side s f)) h l).link
 
-  woken_other : (c b : Side → ℕ) → b (peer s) ≡ c (peer s) - 1 → b s ≡ c s → (2 ≤ d → 1 ≤ c (peer s) - 1)
+  woken_other : (c b : Side → ℕ) → Counts d (peer s) c b
       → MadeByTick gives (peer s) (Woken c) (Woken b)
-  woken_other c b here own known n r i j numbered h l = (tick_one gives n (peer s) d at w c b s Wakes Wakes r i j numbered here
-      (subst (λ t. b t ≡ c t) (sym (peer_twice s)) own) known (along_wakes (b s)) (λ p q run rest a f y. absurd (other_side s f))
+  woken_other c b known n r i j numbered h l = (tick_one gives n (peer s) d at w c b s Wakes Wakes r i j numbered known
+      (along_wakes (b s)) (λ p q run rest a f y. absurd (other_side s f))
       (λ p f y. y) h l).link
 
   module _ (X : Machines → Type 0) (keeps : KeptBySettling (AtPort (at (peer s)) X)) (sends : (p : Machines) → X p → X (after_sending p))
@@ -82,9 +82,9 @@ module _ (gives : Algorithms) (d : ℕ) (at : Side → ℕ) (w : Side → Lacpdu
     on_between c fits e r i j b h m = leaves_on c fits e r i j b h m
 
     -- the tick of s
-    pub on_own : (c b : Side → ℕ) → b s ≡ c s - 1 → b (peer s) ≡ c (peer s) → (2 ≤ d → 1 ≤ c s - 1) → MadeByTick gives s (OnWay c X) (OnWay b X)
-    on_own c b here other known n r i j numbered h (l, m) =
-        let k = tick_one gives n s d at w c b s Wakes Wakes r i j numbered here other known (along_wakes (b s))
+    pub on_own : (c b : Side → ℕ) → Counts d s c b → MadeByTick gives s (OnWay c X) (OnWay b X)
+    on_own c b known n r i j numbered h (l, m) =
+        let k = tick_one gives n s d at w c b s Wakes Wakes r i j numbered known (along_wakes (b s))
         (λ p q run rest a f y. wakeful_ticks v u p q named run y) (λ p f y. absurd (other_side s f)) h l in
         let t = ticks gives n s r i j numbered h in (
           k.link,
@@ -94,7 +94,7 @@ module _ (gives : Algorithms) (d : ℕ) (at : Side → ℕ) (w : Side → Lacpdu
                 (Tick-each (λ m p. AtPort (at s) (EndIs d w c s Wakes s) m p × AtPort (at s) (Owes u) m p)
                 (AtPort (at s) (Owing d v u (c s - 1))) (owing_settles d v u (c s - 1) (at s) there)
                 (λ m p q run a e. (
-                  ticks_end d v u (c s) p q known run (a.0 e).0,
+                  ticks_end d v u (c s) p q known.some run (a.0 e).0,
                   wakeful_ticks v u p q named run ((a.0 e).1 refl),
                   owes_ticks u p q run (a.1 e),
                 )) (gives s) (half s i).state answer.Tick (half s j).state t.step
@@ -106,10 +106,10 @@ module _ (gives : Algorithms) (d : ℕ) (at : Side → ℕ) (w : Side → Lacpdu
         )
 
     -- the tick of the other system, which leaves X
-    pub on_other : (c b : Side → ℕ) → b (peer s) ≡ c (peer s) - 1 → b s ≡ c s → (2 ≤ d → 1 ≤ c (peer s) - 1) → (n : ℕ) (r : Reply) (i j : WorldState)
+    pub on_other : (c b : Side → ℕ) → Counts d (peer s) c b → (n : ℕ) (r : Reply) (i j : WorldState)
         → side_of n ≡ Some (peer s) → WorldSteps gives i (event.Tick n 1) r j → (PeerIs X i → PeerIs X j) → OnWay c X i → OnWay b X j
-    on_other c b here own known n r i j numbered h moves (l, m) =
-        let k = tick_one gives n (peer s) d at w c b s Wakes Wakes r i j numbered here (subst (λ t. b t ≡ c t) (sym (peer_twice s)) own) known
+    on_other c b known n r i j numbered h moves (l, m) =
+        let k = tick_one gives n (peer s) d at w c b s Wakes Wakes r i j numbered known
         (along_wakes (b s)) (λ p q run rest a f y. absurd (other_side s f)) (λ p f y. y) h l in
         let t = ticks gives n (peer s) r i j numbered h in
         let same : (half s j).state ≡ (half s i).state = subst (λ x. (half x j).state ≡ (half x i).state) (peer_twice s) t.peers in (
@@ -313,27 +313,26 @@ module _ (gives : Algorithms) (d : ℕ) (at : Side → ℕ) (w : Side → Lacpdu
     bare c i o f =
         subst Flying (sym (same_flying o.0 (forget d at w c s s Wakes i o.0) (peer s))) f
 
-    pub told_own : (c b : Side → ℕ) (most : ℕ) → b s ≡ c s - 1 → b (peer s) ≡ c (peer s) → (2 ≤ d → 1 ≤ c s - 1)
+    pub told_own : (c b : Side → ℕ) (most : ℕ) → Counts d s c b
         → most ≤ wait_of (w (peer s)) → Fits d w b → MadeByTick gives s (HasTold c most) (HasTold b most)
-    told_own c b most here other known less fits =
+    told_own c b most known less fits =
         let L = Learnt d (w (peer (peer s))) most in
-        both_made gives s (both_made gives s (λ n r i j numbered h l. (tick_one gives n s d at w c b (peer s) L L r i j numbered here other known
+        both_made gives s (both_made gives s (λ n r i j numbered h l. (tick_one gives n s d at w c b (peer s) L L r i j numbered known
         (learnt_along (w (peer s)) (w (peer (peer s))) (b (peer s)) d most less there (fits (peer s)).3)
         (λ p q run rest a f y. absurd (other_side s (sym f))) (λ p f y. y) h l).link)
-        (on_own PartnerInSync (sync_settles (at (peer s))) (λ p y. y) (λ p y. y) c b here other known)) (x.ticks_second s)
+        (on_own PartnerInSync (sync_settles (at (peer s))) (λ p y. y) (λ p y. y) c b known)) (x.ticks_second s)
 
-    pub told_other : (c b : Side → ℕ) (most : ℕ) → b (peer s) ≡ c (peer s) - 1 → b s ≡ c s → (2 ≤ d → 1 ≤ c (peer s) - 1)
+    pub told_other : (c b : Side → ℕ) (most : ℕ) → Counts d (peer s) c b
         → 2 ≤ most → most ≤ wait_of (w (peer s)) → Fits d w b → MadeByTick gives (peer s) (HasTold c most) (HasTold b (most - 1))
-    told_other c b most here own known some less fits n r i j numbered h ((l, o), ea) =
+    told_other c b most known some less fits n r i j numbered h ((l, o), ea) =
         let q = w (peer (peer s)) in
-        let back = subst (λ t. b t ≡ c t) (sym (peer_twice s)) own in
         let t = ticks gives n (peer s) r i j numbered h in
         let ports = (half (peer s) i).state.system_ports in (
           (
-            (tick_one gives n (peer s) d at w c b (peer s) (Learnt d q most) (Learnt d q (most - 1)) r i j numbered here back known
+            (tick_one gives n (peer s) d at w c b (peer s) (Learnt d q most) (Learnt d q (most - 1)) r i j numbered known
                 (learnt_along (w (peer s)) q (b (peer s)) d (most - 1) (omega (arith, less)) there (fits (peer s)).3)
                 (λ p z run rest a f y. ticks_learnt d q most p z some run y) (λ p f y. absurd (other_side (peer s) f)) h l).link,
-            on_other PartnerInSync (sync_settles (at (peer s))) (λ p y. y) (λ p y. y) c b here own known n r i j numbered h
+            on_other PartnerInSync (sync_settles (at (peer s))) (λ p y. y) (λ p y. y) c b known n r i j numbered h
                 (λ y. Tick-each (λ m p. AtPort (at (peer s)) (Learnt d q most) m p × AtPort (at (peer s)) PartnerInSync m p)
                 (AtPort (at (peer s)) PartnerInSync) (sync_settles (at (peer s)))
                 (λ m p z run a e. subst PartnerInSync (sym (known_still q (most - 1) (count_down p) z (omega (arith, some))
@@ -345,22 +344,22 @@ module _ (gives : Algorithms) (d : ℕ) (at : Side → ℕ) (w : Side → Lacpdu
         )
 
     -- the tick of s
-    turn_own : (c b : Side → ℕ) (most : ℕ) (X V : Machines → Type 0) → b s ≡ c s - 1 → b (peer s) ≡ c (peer s) → (2 ≤ d → 1 ≤ c s - 1)
+    turn_own : (c b : Side → ℕ) (most : ℕ) (X V : Machines → Type 0) → Counts d s c b
         → most ≤ wait_of (w (peer s)) → Fits d w b → Along V (w s) (w (peer s)) (b s) d
         → ((p q : Machines) → RunsToRest receive_rows (count_down p) q → AtRest periodic_rows p → IsEnd d (w s) (w (peer s)) (c s) p → X p → V q)
         → MadeByTick gives s (Turn c most X) (Turn b most V)
-    turn_own c b most X V here other known less fits along moves n r i j numbered h (inl ((l, o), da)) = inl (
+    turn_own c b most X V known less fits along moves n r i j numbered h (inl ((l, o), da)) = inl (
       (
-        (tick_one gives n s d at w c b s X V r i j numbered here other known along (λ p q run rest a f y. moves p q run rest a y)
+        (tick_one gives n s d at w c b s X V r i j numbered known along (λ p q run rest a f y. moves p q run rest a y)
             (λ p f y. absurd (other_side s f)) h l).link,
-        woken_own c b here other known n r i j numbered h o,
+        woken_own c b known n r i j numbered h o,
       ),
       x.ticks_first s n r i j numbered h da,
     )
-    turn_own c b most X V here other known less fits along moves n r i j numbered h (inr (inl ((o, f), da))) =
-        let k = tick_one gives n s d at w c b s Nothing Nothing r i j numbered here other known (nothing_along (w s) (w (peer s)) (b s) d)
+    turn_own c b most X V known less fits along moves n r i j numbered h (inr (inl ((o, f), da))) =
+        let k = tick_one gives n s d at w c b s Nothing Nothing r i j numbered known (nothing_along (w s) (w (peer s)) (b s) d)
         (λ p q run rest a f y. y) (λ p f y. y) h (forget d at w c s s Wakes i o.0) in
-        let after = on_own Any any_settles (λ p y. y) (λ p y. tt) c b here other known n r i j numbered h o in
+        let after = on_own Any any_settles (λ p y. y) (λ p y. tt) c b known n r i j numbered h o in
         inr (inl (
           (
             after,
@@ -369,33 +368,30 @@ module _ (gives : Algorithms) (d : ℕ) (at : Side → ℕ) (w : Side → Lacpdu
           ),
           x.ticks_first s n r i j numbered h da,
         ))
-    turn_own c b most X V here other known less fits along moves n r i j numbered h (inr (inr m)) =
-        inr (inr (told_own c b most here other known less fits n r i j numbered h m))
+    turn_own c b most X V known less fits along moves n r i j numbered h (inr (inr m)) =
+        inr (inr (told_own c b most known less fits n r i j numbered h m))
 
     -- the tick of the other system
-    turn_other : (c b : Side → ℕ) (most : ℕ) (Y : Machines → Type 0) → b (peer s) ≡ c (peer s) - 1 → b s ≡ c s → (2 ≤ d → 1 ≤ c (peer s) - 1)
+    turn_other : (c b : Side → ℕ) (most : ℕ) (Y : Machines → Type 0) → Counts d (peer s) c b
         → 2 ≤ most → most ≤ wait_of (w (peer s)) → Fits d w b → Along Y (w s) (w (peer s)) (b s) d
         → MadeByTick gives (peer s) (Turn c most Y) (Turn b (most - 1) Y)
-    turn_other c b most Y here own known some less fits along n r i j numbered h m = by_case m
+    turn_other c b most Y known some less fits along n r i j numbered h m = by_case m
       where
-        back : b (peer (peer s)) ≡ c (peer (peer s))
-        back = subst (λ t. b t ≡ c t) (sym (peer_twice s)) own
-
         loose : OnWay c Any i → OnWay b Any j
-        loose o = on_other Any any_settles (λ p y. y) (λ p y. tt) c b here own known n r i j numbered h
+        loose o = on_other Any any_settles (λ p y. y) (λ p y. tt) c b known n r i j numbered h
             (λ y. all_any (at (peer s)) (half (peer s) j).state.system_ports) o
 
         by_case : Turn c most Y i → Turn b (most - 1) Y j
         by_case (inl ((l, o), da)) = inl (
           (
-            (tick_one gives n (peer s) d at w c b s Y Y r i j numbered here back known along
+            (tick_one gives n (peer s) d at w c b s Y Y r i j numbered known along
                 (λ p q run rest a f y. absurd (other_side s f)) (λ p f y. y) h l).link,
-            woken_other c b here own known n r i j numbered h o,
+            woken_other c b known n r i j numbered h o,
           ),
           x.ticks_first (peer s) n r i j numbered h da,
         )
         by_case (inr (inl ((o, f), da))) =
-            let k = tick_one gives n (peer s) d at w c b s Nothing Nothing r i j numbered here back known (nothing_along (w s) (w (peer s)) (b s) d)
+            let k = tick_one gives n (peer s) d at w c b s Nothing Nothing r i j numbered known (nothing_along (w s) (w (peer s)) (b s) d)
             (λ p q run rest a f y. y) (λ p f y. y) h (forget d at w c s s Wakes i o.0) in
             let after = loose o in
             inr (inl (
@@ -406,7 +402,7 @@ module _ (gives : Algorithms) (d : ℕ) (at : Side → ℕ) (w : Side → Lacpdu
               ),
               x.ticks_first (peer s) n r i j numbered h da,
             ))
-        by_case (inr (inr m)) = inr (inr (told_other c b most here own known some less fits n r i j numbered h m))
+        by_case (inr (inr m)) = inr (inr (told_other c b most known some less fits n r i j numbered h m))
 
     module _ (c : Side → ℕ) (fits : Fits d w c) (then : Fits d w (ticked c)) where
       abbrev W : ℕ
@@ -417,24 +413,6 @@ module _ (gives : Algorithms) (d : ℕ) (at : Side → ℕ) (w : Side → Lacpdu
 
       abbrev NoneDue : WorldState → Type 0
       NoneDue j = OfPort (λ p. is_due p ≡ false) (machines_of (at s) (half s j).state)
-
-      pub own_one : (b : Bool) → kn false b s ≡ kn true b s - 1
-      own_one b = two_there s (c s - 1) (left b (c (peer s))) ∙ ap (λ n. n - 1) (sym (two_there s (c s) (left b (c (peer s)))))
-
-      pub own_two : (b : Bool) → kn false b (peer s) ≡ kn true b (peer s)
-      own_two b = two_other s (c s - 1) (left b (c (peer s))) ∙ sym (two_other s (c s) (left b (c (peer s))))
-
-      pub own_three : (b : Bool) → 2 ≤ d → 1 ≤ kn true b s - 1
-      own_three b e = subst (λ n. 1 ≤ n - 1) (sym (two_there s (c s) (left b (c (peer s))))) ((then s).2 e)
-
-      pub other_one : (a : Bool) → kn a false (peer s) ≡ kn a true (peer s) - 1
-      other_one a = two_other s (left a (c s)) (c (peer s) - 1) ∙ ap (λ n. n - 1) (sym (two_other s (left a (c s)) (c (peer s))))
-
-      pub other_two : (a : Bool) → kn a false s ≡ kn a true s
-      other_two a = two_there s (left a (c s)) (c (peer s) - 1) ∙ sym (two_there s (left a (c s)) (c (peer s)))
-
-      pub other_three : (a : Bool) → 2 ≤ d → 1 ≤ kn a true (peer s) - 1
-      other_three a e = subst (λ n. 1 ≤ n - 1) (sym (two_other s (left a (c s)) (c (peer s)))) ((then (peer s)).2 e)
 
       pub left_less : (b : Bool) (n : ℕ) → left b n ≤ n
       left_less true n = omega arith
@@ -465,7 +443,7 @@ module _ (gives : Algorithms) (d : ℕ) (at : Side → ℕ) (w : Side → Lacpdu
         late M b a = subst (λ n. Along M (w s) (w (peer s)) n d) (sym (two_there s (c s - 1) (left b (c (peer s))))) a
 
         own : (b : Bool) → MadeByTick gives s (A b) (B b)
-        own b n r i j numbered h m = elim (turn_own (kn true b) (kn false b) (left b W) X V (own_one b) (own_two b) (own_three b)
+        own b n r i j numbered h m = elim (turn_own (kn true b) (kn false b) (left b W) X V (own_counts d w c s then b)
             (left_less b W) (fits_in d w c s fits then false b) (late V b k.ticked)
             (λ p q run rest a y. k.ticks p q run rest (subst (λ n. IsEnd d (w s) (w (peer s)) n p) (two_there s (c s) (left b (c (peer s)))) a) y)
             n r i j numbered h m) [
@@ -482,7 +460,7 @@ module _ (gives : Algorithms) (d : ℕ) (at : Side → ℕ) (w : Side → Lacpdu
 
         others : (a : Bool) (M : Machines → Type 0) → Along M (w s) (w (peer s)) (kn a false s) d
             → MadeByTick gives (peer s) (Turn (kn a true) (left true W) M) (Turn (kn a false) (left false W) M)
-        others a M along = turn_other (kn a true) (kn a false) W M (other_one a) (other_two a) (other_three a)
+        others a M along = turn_other (kn a true) (kn a false) W M (peer_counts d w c s then a)
             waits_long (omega arith) (fits_in d w c s fits then a false) along
 
         rests : (b : Bool) (j : WorldState) → NoneDue j → B b j → C b j
@@ -541,9 +519,9 @@ module _ (gives : Algorithms) (d : ℕ) (at : Side → ℕ) (w : Side → Lacpdu
           → OnWay (kn false false) PartnerInSync new
       stays_on {E} old new told h known = holds_beside E at gives s (λ a b j. OnWay (kn a b) PartnerInSync j)
           (λ a b. sync_between (kn a b) (fits_in d w c s fits then a b))
-          (λ b. on_own PartnerInSync (sync_settles (at (peer s))) (λ p y. y) (λ p y. y) (kn true b) (kn false b) (own_one b) (own_two b) (own_three b))
+          (λ b. on_own PartnerInSync (sync_settles (at (peer s))) (λ p y. y) (λ p y. y) (kn true b) (kn false b) (own_counts d w c s then b))
           (λ a n r i j numbered step o. on_other PartnerInSync (sync_settles (at (peer s))) (λ p y. y) (λ p y. y) (kn a true) (kn a false)
-          (other_one a) (other_two a) (other_three a) n r i j numbered step (stays a n r i j numbered step o.0) o) old new h told
+          (peer_counts d w c s then a) n r i j numbered step (stays a n r i j numbered step o.0) o) old new h told
         where
           stays : (a : Bool) (n : ℕ) (r : Reply) (i j : WorldState) → side_of n ≡ Some (peer s) → WorldSteps gives i (event.Tick n 1) r j
               → Link d at w (kn a true) s Wakes i → PeerIs PartnerInSync i → PeerIs PartnerInSync j

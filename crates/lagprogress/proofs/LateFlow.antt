@@ -313,13 +313,11 @@ module _ (gives : Algorithms) (s t : Side) (x : ℕ) (at : Side → ℕ) (P : It
       ]
 
   past_tick : (u : Side) (k : ℕ) (a b c d : Bool) → MadeByTick gives u (M a b) (M c d) → MadeByTick gives u (A k a b) (A k c d)
-  past_tick u k a b c d made n r i j named h (m, p) = (
-    made n r i j named h m,
-    record { flying = p.flying; on = subst (OnCable x at p.flying) (sym (ticks gives n u r i j named h).links) p.on; items = p.items },
-  )
+  past_tick u k a b c d made n r i j named h (m, p) = grind (arith, nat_tests, ticks)
 
   pub cleared_on : (es : List HostEvent) (rs : List Reply) (fl : Side → List ItemValue) (i j : WorldState) → OnCable x at fl i.links
       → TickOnceAmong (LeavesPorts at) s true true es → ArriveIn (length (fl t)) t x es → RunReplies gives i es rs j → M true true i
       → M false false j × Past t x at P 0 j
   cleared_on es rs fl i j c h come run m = counted_on gives s t x at A kept_past comes_past
-      (λ k b. past_tick s k true b false b (own b)) (λ k a. past_tick (peer s) k a true a false (other a)) es rs i j (length (fl t)) true true h come run (m, record { flying = fl; on = c; items = beyond_first P (fl t) })
+      (λ k b. past_tick s k true b false b (own b)) (λ k a. past_tick (peer s) k a true a false (other a))
+      es rs i j (length (fl t)) true true h come run (m, record { flying = fl; on = c; items = beyond_first P (fl t) })

@@ -347,11 +347,7 @@ came gives s k l item rest r old new first (a, mid, h, x) = grind (arith, nat_te
 
 pub came_from : (gives : Algorithms) (s : Side) (k : ℕ) (l : LinkState) (xs : List ItemValue) (r : Reply) (old new : WorldState)
     → towards s l ≡ xs → DeliversFrom gives s k l xs old r (record new { acted = old.acted }) → Comes gives s k l old new ⊎ Stays old new
-came_from gives s k l [] r old new first x = inr (record {
-  halves = λ t. ap (λ (j : WorldState). (half t j).state) x.1;
-  logs = λ t. ap (λ (j : WorldState). (half t j).histories) x.1;
-  links = ap (λ (j : WorldState). j.links) x.1;
-})
+came_from gives s k l [] r old new first x = grind (arith, nat_tests)
 came_from gives s k l (item ∷ rest) r old new first x = inl (came gives s k l item rest r old new first x)
 
 -- a Deliver event takes the first item off some cable, or there is none

@@ -75,16 +75,7 @@ emitted gives s i k l x (Ok None) old new mid r cable there accepted end due h a
     let sent = sends_due (port_index (port_at s l) (half s old).state.system_ports) k x (half s old).state None mid.state end.place
     end.there end.up due h in absurd (none-some sent.0 sent.2)
 emitted gives s i k l x (Ok (Some frame)) old new mid r cable there accepted end due h after =
-    let sent = sends_due (port_index (port_at s l) (half s old).state.system_ports) k x (half s old).state (Some frame) mid.state
-    end.place end.there end.up due h in
-    let is : frame ≡ sent.0 = same_Some frame sent.0 sent.2 in
-    record {
-      item = _;
-      lacpdu = subst (IsLacpduOf (half s old).state.max_delay x) (sym is) sent.1;
-      last = ap (λ (j : WorldState). j.links) after.1 ∙ put_there s (port_at s l) i _ l old.links cable there accepted;
-      sender = ap (λ (j : WorldState). (half s j).state) after.1 ∙ (ap (λ (h : HalfState). h.state) (half_there s mid old) ∙ sent.3);
-      peer = ap (λ (j : WorldState). (half (peer s) j).state) after.1 ∙ peer_there s mid old;
-    }
+    grind (arith, nat_tests, sends_due, same_Some, put_there, half_there, peer_there)
 
 pub emit_sends : (gives : Algorithms) → EmitSendsLacpdu gives
 emit_sends gives n s i k l x r old new is cable there accepted end due h =

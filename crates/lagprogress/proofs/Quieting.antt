@@ -30,12 +30,7 @@ half_links s h j = grind (arith, nat_tests)
 offered : (gives : Algorithms) (s : Side) (agg : AggId) (octets : List ℕ) (a : Result ℕ SystemFault) (old new : WorldState) (mid : HalfState)
     (r : Reply) → Step (gives s) (half s old).state (Offer agg octets) (answer.Offer a) mid.state
     → mid.histories ≡ (half s old).histories → AfterOffer s agg octets a (with_half s mid old) r (record new { acted = old.acted }) → Quietly s old new
-offered gives s agg octets (Err fault) old new mid r h log after = record {
-  same = λ t. ap (λ (w : WorldState). (half t w).state.system_ports) after.1
-      ∙ one_half s t mid old (offers_slots (gives s) agg octets (half s old).state (Err fault) mid.state h);
-  links = inl (ap (λ (w : WorldState). w.links) after.1 ∙ half_links s mid old);
-  logs = λ t. ap (λ (w : WorldState). (half t w).histories) after.1 ∙ half_logs s mid old log t;
-}
+offered gives s agg octets (Err fault) old new mid r h log after = grind (arith, nat_tests, one_half, s, offers_slots, half_links, half_logs)
 offered gives s agg octets (Ok port) old new mid r h log after =
     let j = with_half s mid old in
     record {

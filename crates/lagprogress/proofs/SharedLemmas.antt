@@ -203,15 +203,7 @@ module _ (old new : WorldState) (steady : IsSteady old) (last : Lasted old new) 
       let was_down : z.0.port.enabled ≡ false = sym alike.1 ∙ down in
       let sleeps = all-get (λ (y : SystemPort). AtPort z.0.number (Sleeps z.0.port) y.number y.port) (half s new).state.system_ports k x there
       (last.sleeps s k z.0 z.1 was_down) z.2 in
-      elim (linked k z.0 z.1 was_down (ap (λ (y : Party). y.key) (sym alike.0) ∙ is)) [
-        | inl u ↦ absurd (chosen (sleeps.idle u))
-        | inr w ↦ record {
-          own = ap (λ (y : Party). y.aggregatable) alike.0 ∙ w.own;
-          system = ap (λ (y : Party). y.system) sleeps.partner ∙ (w.system ∙ sym (kept (peer s)));
-          far_key = ap (λ (y : Party). y.key) sleeps.partner ∙ w.key;
-          partner = ap (λ (y : Party). y.aggregatable) sleeps.partner ∙ w.partner;
-        }
-      ]
+      grind (arith, nat_tests, kept)
 
   -- so they are one group
   pub one_group : (s : Side) (key : Key) → AreOneGroup s key old → (k : ℕ) (x : SystemPort) → slice_get (half s new).state.system_ports k ≡ Some x
