@@ -1,6 +1,6 @@
 -- Which runs are healthy rounds of hosts.
 use Rattle.lagprogress.proofs.Common.{Bool, Err, List, None, Ok, Option, Result, Some, [], ap, append_assoc, arith, cond, false, inl, inr, ltb, refl}
-use Rattle.lagprogress.proofs.Common.{slice_get, subst, suc, sym, true, zero, ℕ, ◌++◌, ◌+◌, ◌∙◌, ◌∷◌, ◌≡◌, cases_Bool, false≢true, nat_tests}
+use Rattle.lagprogress.proofs.Common.{slice_get, subst, suc, sym, true, zero, ℕ, ◌++◌, ◌+◌, ◌∙◌, ◌∷◌, ◌≡◌, ◌⊎◌, cases_Bool, false≢true, nat_tests}
 use Rattle.lagprogress.proofs.Common.{none-some, same_Some, AllByRecursion, Pdu, pdu_in, One, Side, Two, peer, value_of, Machines, after_sending}
 use Rattle.lagprogress.proofs.Common.{is_due, Assignment, after_mark, marker_due, wants_marker, Table, assignment_of, SystemFault, SystemPort, Step}
 use Rattle.lagprogress.proofs.Common.{Transmit, SendsMarkerOf, TransmitsAt, TransmitsIf, SystemState, machines_of, port_index, all-get, found_place}
@@ -11,7 +11,7 @@ use Rattle.lagprogress.proofs.Common.{AsksInVainAfterTick, DrainingRounds, IsNoM
 use Rattle.lagprogress.proofs.Common.{AskingIsPlayed, Asks, AsksAfterTick, AsksIn, AtSomeWorld, Clearing, EventsAreOfHosts, HostRounds}
 use Rattle.lagprogress.proofs.Common.{IsBetweenTicks, IsTickOf, NoneIsLeft, RoundIsHostRound, RoundsAreHostRounds, RunReplies, RunsHaveReplies}
 use Rattle.lagprogress.proofs.Common.{StepReplies, TickOnce, TickOnceAmong, as_played, AtEnd, IsDeliver, IsHealthyAt, OfPort, Rounds, asks_all}
-use Rattle.lagprogress.proofs.Common.{ticks_of_both, IsSteady, ◌⊎◌}
+use Rattle.lagprogress.proofs.Common.{ticks_of_both, IsSteady}
 use Rattle.distributor.specs.Conversations.{sum_below}
 use Rattle.lagprogress.proofs.HostRound.{side_among, of_side, turned}
 use Rattle.lagprogress.proofs.HostSteady.{sets_up}

@@ -1,9 +1,8 @@
 -- How the ends of a cable come to know each other.
 use Rattle.lagprogress.proofs.Common.{Bool, arith, false, inl, inr, refl, subst, suc, sym, true, zero, ℕ, ◌+◌, ◌-◌, ◌∙◌, ◌≡◌, ◌≤◌, ◌⊎◌, cases_Bool}
-use Rattle.lagprogress.proofs.Common.{nat_tests, Lacpdu, One, Side, Two, peer, Machines, periodic_rows, AtRest, Algorithms, LinkState}
-use Rattle.lagprogress.proofs.Common.{WorldState, half, port_at, IsTimed, timeout_time, OfEach, no, AtPort, Sounds, silence_of, sounds_first}
-use Rattle.lagprogress.proofs.Common.{BothAreActive, EndsOfEachKnow, OneIsActive, LateRounds, OldArrive, EndKnows, Knows}
-use Rattle.lagprogress.proofs.Common.{known_if_both_active, known_if_one_is}
+use Rattle.lagprogress.proofs.Common.{nat_tests, Lacpdu, One, Side, Two, peer, Machines, periodic_rows, AtRest, Algorithms, LinkState, WorldState}
+use Rattle.lagprogress.proofs.Common.{half, port_at, IsTimed, timeout_time, OfEach, no, AtPort, Sounds, silence_of, sounds_first, BothAreActive}
+use Rattle.lagprogress.proofs.Common.{EndsOfEachKnow, OneIsActive, LateRounds, OldArrive, EndKnows, Knows, known_if_both_active, known_if_one_is}
 use Rattle.lagprogress.proofs.Claims.{IsNamed, Wakeful, can_wake}
 use Rattle.lagprogress.proofs.EndFacts.{CanSound, IsEnd, Learnt, activity, calm, less_known, short_timeout, wait_of, Along}
 use Rattle.lagprogress.proofs.HostRound.{host_keeps, two, two_other, two_there}

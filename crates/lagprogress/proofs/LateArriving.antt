@@ -7,18 +7,17 @@ use Rattle.lagprogress.proofs.Claims.{IsNamed, Wakeful, wakeful_along}
 use Rattle.lagprogress.proofs.EachRound.{joins_kept, joins_tick}
 use Rattle.lagprogress.proofs.Delivering.{arrives_moves}
 use Rattle.lagprogress.proofs.EndFacts.{activity, wait_of}
-use Rattle.lagprogress.proofs.HostRound.{KeptBeside, MadeByTick, fits_in, healthy_link, known_in, learn_less, left, side_beside}
+use Rattle.lagprogress.proofs.HostRound.{KeptBeside, MadeByTick, fits_in, healthy_link, known_in, learn_less, left, side_beside, own_counts}
+use Rattle.lagprogress.proofs.HostRound.{peer_counts}
 use Rattle.lagprogress.proofs.Linked.{same_items, Fits, Flying, put_there}
-use Rattle.lagprogress.proofs.HostTelling.{Any, Extra, HasTold, OnWay, all_any, any_settles, left_less, on_between, on_other, on_own}
-use Rattle.lagprogress.proofs.HostTelling.{peer_hears, told_between, told_other, told_own}
-use Rattle.lagprogress.proofs.HostTelling.{waits_long}
+use Rattle.lagprogress.proofs.HostTelling.{Any, Extra, HasTold, OnWay, all_any, any_settles, left_less, on_between, on_other, on_own, peer_hears}
+use Rattle.lagprogress.proofs.HostTelling.{told_between, told_other, told_own, waits_long}
 use Rattle.lagprogress.proofs.LateFlow.{FlyingIn, IsPlain, between_at, comes_in, counted_on, flows, flying_first, flying_flows, flying_pop}
 use Rattle.lagprogress.proofs.LateFlow.{stays_there}
 use Rattle.lagprogress.proofs.OneCable.{Arrives, OnCable, cable, put, ticks, towards_there}
 use Rattle.lagprogress.proofs.OneRound.{forget, join, ticked}
 use Rattle.lagprogress.proofs.Quieting.{PlayedBeside}
 use Rattle.lagprogress.proofs.Telling.{back_other}
-use Rattle.lagprogress.proofs.HostRound.{own_counts, peer_counts}
 
 module _ (gives : Algorithms) (d : ℕ) (at : Side → ℕ) (w : Side → Lacpdu) (s : Side) (there : 1 ≤ d)
     (named : (activity (w s) ≡ true) ⊎ IsNamed (w (peer s))) (D E : WorldState → Type 0) (extra : Extra gives d at w s there named D E)

@@ -1,10 +1,10 @@
 -- What a healthy round leaves of a cable: an LACPDU of an end is nearer by a tick, or was heard.
-use Rattle.lagprogress.proofs.Common.{Bool, Err, List, None, Ok, Option, Result, Some, [], arith, false, inl, inr, refl, slice_get, subst, suc}
-use Rattle.lagprogress.proofs.Common.{sym, true, zero, ℕ, ◌++◌, ◌-◌, ◌∙◌, ◌∷◌, ◌≡◌, ◌≤◌, ◌⊎◌, nat_tests, none-some, same_Some, AllByRecursion, Lacpdu}
-use Rattle.lagprogress.proofs.Common.{Side, peer, Machines, is_silent, periodic_rows, receive_rows, AtRest, RunsToRest, count_down, is_due}
-use Rattle.lagprogress.proofs.Common.{pdu_of, SystemFault, SystemPort, Step, Transmit, IsLacpduOf, SystemState, port_index, Event, Reply, Algorithms}
-use Rattle.lagprogress.proofs.Common.{WorldSteps, side_of, ItemValue, LinkState, WorldState, half, IsTimed, OfEach, no, AtPort, Sounds}
-use Rattle.lagprogress.proofs.Common.{now_due, asks_all}
+use Rattle.lagprogress.proofs.Common.{Bool, Err, List, None, Ok, Option, Result, Some, [], arith, false, inl, inr, refl, slice_get, subst, suc, sym}
+use Rattle.lagprogress.proofs.Common.{true, zero, ℕ, ◌++◌, ◌-◌, ◌∙◌, ◌∷◌, ◌≡◌, ◌≤◌, ◌⊎◌, nat_tests, none-some, same_Some, AllByRecursion, Lacpdu}
+use Rattle.lagprogress.proofs.Common.{Side, peer, Machines, is_silent, periodic_rows, receive_rows, AtRest, RunsToRest, count_down, is_due, pdu_of}
+use Rattle.lagprogress.proofs.Common.{SystemFault, SystemPort, Step, Transmit, IsLacpduOf, SystemState, port_index, Event, Reply, Algorithms}
+use Rattle.lagprogress.proofs.Common.{WorldSteps, side_of, ItemValue, LinkState, WorldState, half, IsTimed, OfEach, no, AtPort, Sounds, now_due}
+use Rattle.lagprogress.proofs.Common.{asks_all}
 use Rattle.lagprogress.proofs.EndFacts.{Along, CanSound, IsEnd, both_along, calm, nothing_along, sounds_along, ticks_sounds, constant_along}
 use Rattle.lagprogress.proofs.OneCable.{Went}
 use Rattle.lagprogress.proofs.Passing.{lacpdu_is_sent, sends_due, sent_carries}
