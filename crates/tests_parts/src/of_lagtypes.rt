@@ -229,14 +229,10 @@ fn three_bits() -> State {
 }
 
 #[test]
-fn states_are_read_by_name(rt: HostRuntime) {
-    let wanted = [true, false, true, false, false, false, false, true];
-    same(&rt, "readers", &read(three_bits()), &wanted);
-}
-
-#[test]
-fn states_are_written_by_name(rt: HostRuntime) {
+fn states_are_read_and_written_by_name(rt: HostRuntime) {
     let state = three_bits();
+    let wanted = [true, false, true, false, false, false, false, true];
+    same(&rt, "readers", &read(state), &wanted);
     let rows = [
         (state, 0x85),
         (state.with_synchronization(true), 0x8d),
