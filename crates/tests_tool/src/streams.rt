@@ -3,7 +3,6 @@ ghost use Rattle.std.specs.Prelude.{◌≡◌, false};
 use crate::algorithm::by_number;
 use crate::checks::{FILE, Piecewise};
 use crate::comparing::{same, same_at};
-use crate::pieces::one_text;
 use crate::replays::{BOTH_UP, MOVE, TWO_CABLES, TWO_PORTS, script_and_report};
 use crate::telling::told;
 use lagstreams::{Sink, Source};

@@ -5,7 +5,7 @@ use crate::worlds::{Row, lines_of, tells};
 use cables::AnyCable;
 use lagsystem::Choice;
 use lagtypes::AggId;
-use lagworld::{Agreement, World, WorldFault};
+use lagworld::{World, WorldFault};
 use std::alloc::Global;
 use std::process::Abort;
 
