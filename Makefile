@@ -55,7 +55,7 @@ out/bin/%: examples/c/%.c out/lib/liblag.so.0 | out/bin
 	$(CC) $(CFLAGS) -Iout/lib -o $@ $< out/lib/liblag.a
 
 # The library by -DNIW_POOL is of this program alone.
-out/bin/pool: examples/c/pool.c c/lag.c $(HEADER) | out/bin
+out/bin/pool: examples/c/pool.c examples/c/loop.h c/lag.c $(HEADER) | out/bin
 	$(CC) $(CFLAGS) -DNIW_POOL -I$(dir $(HEADER)) -o $@ examples/c/pool.c c/lag.c
 
 out/bin:

@@ -13,7 +13,8 @@
  * - A pointer that is not null points to what its type says, and a buffer or frame has as many octets as its length says.
  *   What a call may write overlaps nothing else that the call is given.
  * - One call of a handle runs at a time, readers too, since each call writes the handle: from any thread, under the program's lock. Two
- *   handles share nothing. No signal handler calls, and no forked child of a program with threads.
+ *   handles share nothing, but by NIW_POOL their memory: then one call of all handles runs at a time. No signal handler calls, and no
+ *   forked child of a program with threads.
  * - The program's malloc, realloc and free belong together, and align to 16 octets.
  * - A bool is false or true. One that is read from octets, as from a file, may hold 2: the state octet of a port is wrong then.
  * - A program that calls `lagffi_` functions itself, without those below, gives them no null pointer.
@@ -106,7 +107,8 @@ enum {
     NIW_MARKERS_SPENT = 10,     /* no marker identifier is left */
     NIW_BAD_CONFIG = 11,        /* the configuration is refused */
     NIW_NO_MEMORY = 12,         /* memory was refused; only niw_new and niw_resume, of a configuration that is not refused, and
-                                   niw_queue_new answer it */
+                                   niw_queue_new answer it; of lag.c, where the high octet of a number comes first, niw_next_move and
+                                   niw_queue_next_released, too */
     NIW_NO_SYSTEM = 13,         /* the handle holds no system */
     NIW_HAS_SYSTEM = 14,        /* niw_new, niw_resume: the handle holds a system already */
     NIW_BUFFER = 15,            /* a buffer has less room than the function asks */

@@ -15,6 +15,7 @@ from repository import COMPILER, MAINTAIN, TOP
 
 EXAMPLE = os.path.join(EXAMPLES, "two_ends.c")
 CARGO = os.path.join(TOP, "examples", "rust", "Cargo.toml")
+LARGER = ["-DPORTS=8", "-DLAGS=4"]
 PRINTS = "both ends distribute after 30 ticks of 100 ms\n"
 
 
@@ -27,14 +28,17 @@ def check_example(folder: str, libraries: list[str]) -> None:
 
 
 def check_programs(folder: str, libraries: list[str]) -> None:
-    """Each program of examples/c that has a text beside it prints that text; what it measures goes to standard error. pool.c has a library of its own."""
+    """Each program of examples/c that has a text beside it prints that text; what it measures goes to standard error. pool.c has a library of its own, and
+    prints the same of a larger switch."""
+    pooled = ["-DNIW_POOL", library.PORTABLE]
     for text in sorted(glob.glob(f"{EXAMPLES}/*.txt")):
         name = os.path.basename(text).removesuffix(".txt")
         with open(text, encoding="utf-8") as it:
             wanted = it.read()
-        linked = ["-DNIW_POOL", library.PORTABLE] if name == "pool" else libraries
-        told = ran(build(os.path.join(folder, name), [os.path.join(EXAMPLES, f"{name}.c")], linked, *STRICT))
-        check(told.returncode == 0 and told.stdout == wanted, f"examples/c/{name}.c prints what stands beside it", told.stdout + told.stderr)
+        for linked in [pooled, [*pooled, *LARGER]] if name == "pool" else [libraries]:
+            told = ran(build(os.path.join(folder, name), [os.path.join(EXAMPLES, f"{name}.c")], linked, *STRICT))
+            named = " ".join([f"examples/c/{name}.c", *(LARGER if LARGER[0] in linked else [])])
+            check(told.returncode == 0 and told.stdout == wanted, f"{named} prints what stands beside it", told.stdout + told.stderr)
 
 
 def check_no_libc(folder: str, libraries: list[str]) -> None:
@@ -47,7 +51,7 @@ def check_no_libc(folder: str, libraries: list[str]) -> None:
 
 def check_quotes() -> None:
     """Each block of C in docs/USING.md and docs/FIRMWARE.md stands in a program that is compiled and run; `...` leaves lines out."""
-    sources = [*sorted(glob.glob(f"{EXAMPLES}/*.c")), os.path.join(MAINTAIN, "live.d", "planes.c")]
+    sources = [*sorted(glob.glob(f"{EXAMPLES}/*.[ch]")), os.path.join(MAINTAIN, "live.d", "planes.c")]
     texts = [open(it, encoding="utf-8").read() for it in sources]
     blocks = []
     for name in "USING", "FIRMWARE":

@@ -14,11 +14,12 @@ from repository import Missing
 
 PROGRAM, WORDS = (os.path.join(os.path.dirname(os.path.abspath(__file__)), name) for name in ("calls.c", "words.c"))
 KEEPS_LOOPS = "-fno-tree-loop-distribute-patterns"
-PORTS = (2, 8)
+# Ports, and the LAGs that they are in.
+LAYOUTS = ((2, 1), (8, 1), (8, 4))
 NEW, TICK, SETTLED, DUE, SENDS, TAKEN = (
     "`niw_new`",
     "`niw_tick`, nothing due",
-    "`settle` of `pool.c` for one LAG, nothing due",
+    "`settle`, nothing due",
     "`niw_tick` that makes an LACPDU due on each port",
     "`settle`, an LACPDU due on each port",
     "`niw_receive` of an LACPDU that changes nothing",
@@ -64,7 +65,7 @@ COUNTED = [
     RV32._replace(name="RV32, [words.c](../tools/maintain/sizes.d/words.c)", by_words=True),
     Counted("PowerPC, glibc", ["powerpc-linux-gnu-gcc", "-fno-pie"], ["-static"], ["qemu-ppc"], "gcc-powerpc-linux-gnu with what it recommends, qemu-user"),
 ]
-HEAD = f"|instructions ({'; '.join(f'{ports} ports' for ports in PORTS)})|" + "|".join(it.name for it in COUNTED) + "|\n|---|" + "---:|" * len(COUNTED) + "\n"
+HEAD = "|instructions (2 ports; 8 ports; 8 ports in 4 LAGs)|" + "|".join(it.name for it in COUNTED) + "|\n|---|" + "---:|" * len(COUNTED) + "\n"
 
 
 def lacks() -> list[str]:
@@ -92,7 +93,7 @@ def between(told: Iterable[bytes]) -> Iterator[tuple[int, int]]:
     
 
 def counts(it: Counted, words: list[str]) -> list[list[tuple[int, int]]]:
-    """Of a LAG of each number of ports the counts of the calls, on a processor. The environment and the path of a program move its stack, and memcpy takes
+    """Of each layout the counts of the calls, on a processor. The environment and the path of a program move its stack, and memcpy takes
     other ways where a struct is aligned otherwise: so each run has none, and one path."""
     found, emulator = [], shutil.which(it.runs[0]) or it.runs[0]
     with tempfile.TemporaryDirectory() as folder:
@@ -101,8 +102,8 @@ def counts(it: Counted, words: list[str]) -> list[list[tuple[int, int]]]:
         memory = [os.path.join(folder, "words.o")] if it.by_words else []
         for made_of_words in memory:
             printed(*it.compiler, *words, KEEPS_LOOPS, "-c", "-o", made_of_words, WORDS)
-        for ports in PORTS:
-            printed(*it.compiler, *words, f"-DPORTS={ports}", *it.linked, "-o", made, PROGRAM, library, *memory)
+        for ports, lags in LAYOUTS:
+            printed(*it.compiler, *words, f"-DPORTS={ports}", f"-DLAGS={lags}", *it.linked, "-o", made, PROGRAM, library, *memory)
             called = board.command([emulator, "-singlestep", "-d", "exec,nochain", *it.runs[1:]], os.path.basename(made))
             with subprocess.Popen(called, cwd=folder, env=NOTHING, stdin=subprocess.DEVNULL, stdout=subprocess.DEVNULL, stderr=subprocess.PIPE) as ran:
                 found.append(list(between(ran.stderr or ())))
@@ -112,18 +113,19 @@ def counts(it: Counted, words: list[str]) -> list[list[tuple[int, int]]]:
 
 
 def of_a_second(ports: int, told: list[tuple[int, int]]) -> int:
-    """What the loop of pool.c takes in a second of so many ports that all distribute, with short timeouts: ten ticks, at one of which all send, and an
-    LACPDU comes on each port; settle follows each of these."""
+    """What the loop takes in a second of so many ports that all distribute, with short timeouts: ten ticks, at one of which all send, and an
+    LACPDU comes on each port, no two in one turn; settle follows each of these."""
     took = {call: whole for call, (whole, _) in zip(CALLS, told)}
     return 9 * (took[TICK] + took[SETTLED]) + took[DUE] + took[SENDS] + ports * (took[TAKEN] + took[SETTLED])
 
 
 def table(words: list[str]) -> str:
-    """The table: by -Os and these words, of each call, and each number of ports, the instructions; what a second takes; at last how many of them copy and
+    """The table: by -Os and these words, of each call, and each layout, the instructions; what a second takes; at last how many of them copy and
     fill memory."""
     found = [counts(it, words) for it in COUNTED]
     rows = [[call, *("; ".join(f"{its[place][0]:,}" for its in of) for of in found)] for place, call in enumerate(CALLS)]
-    rows.append(["**a second of the loop**, all ports distribute", *("; ".join(f"{of_a_second(*it):,}" for it in zip(PORTS, of)) for of in found)])
+    seconds = ["; ".join(f"{of_a_second(ports, its):,}" for (ports, _), its in zip(LAYOUTS, of)) for of in found]
+    rows.append(["**a second of the loop**, all ports distribute", *seconds])
     shares = [[round(100 * memory / whole) for its in of for whole, memory in its] for of in found]
     rows.append(["of 100 of these in `memcpy`, `memmove`, `memset`", *(f"{min(it)} to {max(it)}" for it in shares)])
     return HEAD + "".join("|" + "|".join(row) + "|\n" for row in rows)

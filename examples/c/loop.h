@@ -1,0 +1,164 @@
+/* The loop of a switch whose chip spreads frames by a hash of its own: LACP over lag.h, and nothing of a board. No conversation is offered and no marker
+ * sent. A LAG has its number as key, and one aggregator, which has room for one partner. A program defines PORTS (32 at most) and LAGS, includes this file,
+ * and gives the functions of its chip. One task calls what stands here, or each task that holds one lock; no interrupt does. pool.c is such a program. */
+#ifndef LOOP_H
+#define LOOP_H
+
+#include "lag.h"
+
+#define RESPONSES 10 /* markers that a port answers at most in a second (802.3, 57A.2), which eleven ticks hold wherever it begins */
+#define SECOND 11
+#define MADE_UP 10    /* the most ticks that are made up */
+#define FRAMES_TURN 32 /* the most frames that are taken before the chip is told; the rest wait for the next turn */
+
+struct loop {
+    struct niw_system system;
+    uint32_t up;          /* the links, bit 0 that of port 1 */
+    uint32_t alone;       /* the ports of no LAG: the chip forwards there as on any port */
+    uint32_t leaving;     /* the ports that will be alone, a second after they left */
+    uint32_t held;        /* the ports that niw_hold holds */
+    uint32_t trunk[LAGS]; /* what the chip was told: bit 0 has data of port 1 taken and sent */
+    uint32_t ticks;
+    uint32_t left[PORTS + 1]; /* the tick at which a port left */
+    struct { uint32_t when[RESPONSES]; unsigned oldest; } responses[PORTS + 1];
+};
+
+/* What the program gives. `chip_next`: the oldest frame to 01-80-C2-00-00-02 that waits, without its FCS and the tag of the chip; or NULL. A port that is
+ * blocked passes control frames alone. `chip_flush` forgets what was learned on a LAG. */
+static const uint8_t *chip_next(struct loop *here, uint16_t *port, size_t *length);
+static void chip_send(struct loop *here, uint16_t port, const uint8_t *frame, size_t length);
+static void chip_block(struct loop *here, uint32_t ports, bool blocked);
+static void chip_set_trunk(struct loop *here, uint16_t lag, uint32_t ports);
+static void chip_flush(struct loop *here, uint16_t lag);
+
+static uint32_t bit_of(uint16_t port) {
+    return UINT32_C(1) << (port - 1);
+}
+
+/* A port that hears nobody, whose link is down or that is of no LAG is held, lest it keep the others out; the first LACPDU that comes lets it go. */
+static void hold_ports(struct loop *here) {
+    uint32_t out = ~here->up | here->alone | here->leaving;
+    for (uint16_t port = 1; port <= PORTS; port++) {
+        bool hold = out & bit_of(port) || niw_defaulted(&here->system, port).is;
+        if (hold != ((here->held & bit_of(port)) != 0) && niw_hold(&here->system, port, hold) == NIW_OK) here->held ^= bit_of(port);
+    }
+}
+
+static uint32_t members_of(struct loop *here, uint16_t lag) {
+    uint16_t ports[NIW_MOST_PORTS];
+    uint64_t count = niw_distributing(&here->system, lag, ports, NIW_MOST_PORTS).number;
+    uint32_t members = 0;
+    for (uint64_t i = 0; i < count; i++) members |= bit_of(ports[i]);
+    return members;
+}
+
+/* A port is blocked before it leaves its trunk, and passes data once it is in one. */
+static void tell_chip(struct loop *here) {
+    uint32_t members[LAGS], left = 0, came = 0;
+    for (uint16_t lag = 1; lag <= LAGS; lag++) {
+        members[lag - 1] = members_of(here, lag);
+        left |= here->trunk[lag - 1] & ~members[lag - 1];
+        came |= members[lag - 1] & ~here->trunk[lag - 1];
+    }
+    if (left) chip_block(here, left, true);
+    for (uint16_t lag = 1; lag <= LAGS; lag++) {
+        if (members[lag - 1] == here->trunk[lag - 1]) continue;
+        here->trunk[lag - 1] = members[lag - 1];
+        chip_set_trunk(here, lag, members[lag - 1]);
+        chip_flush(here, lag);
+    }
+    if (came) chip_block(here, came, false);
+}
+
+/* Behind calls of the library, once for all that came together: the chip, then the LACPDUs that say so. */
+static void settle(struct loop *here) {
+    uint8_t frame[NIW_FRAME];
+    hold_ports(here);
+    tell_chip(here);
+    uint64_t due = niw_due(&here->system).number;
+    for (uint16_t port = 1; port <= PORTS; port++)
+        if (due >> (port - 1) & 1 && niw_transmit(&here->system, port, frame, sizeof frame).is) chip_send(here, port, frame, sizeof frame);
+}
+
+/* Whether the port has answered fewer than ten markers within a second; it notes this one, then. */
+static bool may_respond(struct loop *here, uint16_t port) {
+    unsigned *oldest = &here->responses[port].oldest;
+    uint32_t *when = &here->responses[port].when[*oldest];
+    if (here->ticks - *when < SECOND) return false;
+    *when = here->ticks;
+    *oldest = (*oldest + 1) % RESPONSES;
+    return true;
+}
+
+static void take(struct loop *here, uint16_t port, const uint8_t *frame, size_t length) {
+    uint8_t response[NIW_FRAME];
+    struct niw_received received = niw_receive(&here->system, port, frame, length, response, sizeof response);
+    if (received.what == NIW_RECEIVED_RESPOND && may_respond(here, port)) chip_send(here, port, response, received.number);
+}
+
+/* A port that left its LAG a second ago is alone from now on. */
+static void part(struct loop *here) {
+    for (uint16_t port = 1; port <= PORTS; port++) {
+        uint32_t bit = bit_of(port);
+        if (!(here->leaving & bit) || here->ticks - here->left[port] < SECOND) continue;
+        niw_set_link(&here->system, port, false);
+        here->leaving &= ~bit;
+        here->alone |= bit;
+        chip_block(here, bit, false);
+    }
+}
+
+/* So many ticks passed. The limit of markers goes by the clock, and the library makes up ten at most. */
+static void pass(struct loop *here, uint32_t ticks) {
+    here->ticks += ticks;
+    niw_ticks(&here->system, ticks < MADE_UP ? ticks : MADE_UP);
+    part(here);
+}
+
+/* What the task does when a frame waits, and each 100 ms. Frames that waited while it stood still come before the ticks that it missed, lest a partner
+ * expire whose LACPDU is there. */
+static inline void turn(struct loop *here, uint32_t ticks) {
+    uint16_t port;
+    size_t length;
+    const uint8_t *frame;
+    if (ticks == 1) pass(here, ticks);
+    for (unsigned taken = 0; taken < FRAMES_TURN && (frame = chip_next(here, &port, &length)); taken++) take(here, port, frame, length);
+    if (ticks > 1) pass(here, ticks);
+    settle(here);
+}
+
+static inline void set_link(struct loop *here, uint16_t port, bool up) {
+    here->up = up ? here->up | bit_of(port) : here->up & ~bit_of(port);
+    if (!(here->alone & bit_of(port))) niw_set_link(&here->system, port, up);
+    settle(here);
+}
+
+/* The user puts a port into a LAG. */
+static inline void join(struct loop *here, uint16_t port, uint16_t lag) {
+    struct niw_change change = {.key = lag, .priority = 128, .aggregatable = true};
+    uint32_t bit = bit_of(port);
+    if (here->alone & bit) chip_block(here, bit, true);
+    here->alone &= ~bit;
+    here->leaving &= ~bit;
+    niw_configure(&here->system, port, &change);
+    niw_set_link(&here->system, port, here->up & bit);
+    settle(here);
+}
+
+/* The user takes a port out of its LAG: the peer is told, and the port is alone when it has had a second to hear it. */
+static inline void leave(struct loop *here, uint16_t port) {
+    if ((here->alone | here->leaving) & bit_of(port)) return;
+    here->leaving |= bit_of(port);
+    here->left[port] = here->ticks;
+    settle(here);
+}
+
+/* Makes the system of these ports, which have no key of a LAG and are alone; the chip blocks none. */
+static inline uint32_t begin(struct loop *here, const struct niw_config *config, const struct niw_port *ports) {
+    uint16_t keys[LAGS];
+    for (uint16_t lag = 1; lag <= LAGS; lag++) keys[lag - 1] = lag;
+    *here = (struct loop){.system = NIW_EMPTY, .alone = UINT32_MAX, .ticks = SECOND};
+    return niw_new(&here->system, config, keys, LAGS, ports, PORTS).status;
+}
+
+#endif
