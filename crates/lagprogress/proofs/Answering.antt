@@ -1,20 +1,20 @@
 -- What each event of a round leaves of the conversations that are held on a port whose cable is healthy.
-use Rattle.lagprogress.proofs.Common.{Bool, IsSome, List, None, Ok, Option, Result, Some, [], ap, arith, cond, eqb, false, filter, inl, inr, ltb, map}
+use Rattle.lagprogress.proofs.Common.{Bool, IsSome, List, None, Ok, Option, Result, Some, [], ap, arith, cond, eqb, false, filter, inl, inr, map}
 use Rattle.lagprogress.proofs.Common.{refl, slice_get, subst, suc, sym, true, zero, ℕ, ◌+◌, ◌-◌, ◌<◌, ◌==◌, ◌||◌, ◌∙◌, ◌∷◌, ◌≡◌, ◌≤◌, ◌⊎◌, and_parts}
 use Rattle.lagprogress.proofs.Common.{cases_Bool, nat_tests, none-some, list_any, AggId, Choice, Lacpdu, Information, frame_octets, Side, peer}
-use Rattle.lagprogress.proofs.Common.{CollectingDistributing, Machines, same_mux_state, has_chosen, Assignment, On, Wanted, is_among, after_mark}
-use Rattle.lagprogress.proofs.Common.{marker_due, wants_marker, Table, assignment_of, count_conversations, next_identifier, SystemFault, SystemPort}
-use Rattle.lagprogress.proofs.Common.{Carries, IsFrame, MuxIsSettled, ProbesAt, ProbesIf, aggregator_numbered, distributes_in, distributing}
-use Rattle.lagprogress.proofs.Common.{SendsMarkerOf, TransmitsIf, own_marker, Settling, SystemState, ports_table, settling_parts, all-get, ItemValue}
-use Rattle.lagprogress.proofs.Common.{WorldState, half, no, AtPort}
+use Rattle.lagprogress.proofs.Common.{CollectingDistributing, Machines, same_mux_state, has_chosen, Assignment, On, is_among, after_mark, marker_due}
+use Rattle.lagprogress.proofs.Common.{wants_marker, Table, assignment_of, count_conversations, next_identifier, SystemFault, SystemPort, Carries}
+use Rattle.lagprogress.proofs.Common.{IsFrame, MuxIsSettled, ProbesAt, ProbesIf, aggregator_numbered, distributes_in, distributing, SendsMarkerOf}
+use Rattle.lagprogress.proofs.Common.{TransmitsIf, own_marker, Settling, SystemState, ports_table, settling_parts, all-get, ItemValue, WorldState}
+use Rattle.lagprogress.proofs.Common.{half, no, AtPort}
 use Rattle.distributor.specs.Conversations.{sum_below}
 use Rattle.slowpdu.specs.Layout.{IsAddress}
 use Rattle.slowpdu.specs.Markers.{WritesMarker}
 use Rattle.lagprogress.proofs.Climbing.{PartnerInSync, distributes_now}
-use Rattle.lagprogress.proofs.Holding.{Fine, Flights, Has, IsMarker, answering, asking, fine_map, has_last, has_on, marked_here, settled_fine}
-use Rattle.lagprogress.proofs.Holding.{marked_beside, is_port}
-use Rattle.lagprogress.proofs.Linked.{Link, push_there, pushed, end_here, end_with}
-use Rattle.lagprogress.proofs.OneCable.{Went}
+use Rattle.lagprogress.proofs.Holding.{Fine, Flights, Has, IsMarker, answering, asking, fine_map, has_last, marked_here, settled_fine, marked_beside}
+use Rattle.lagprogress.proofs.Holding.{is_port}
+use Rattle.lagprogress.proofs.Linked.{Link, push_there, end_here, end_with, gains_has}
+use Rattle.lagprogress.proofs.OneCable.{Went, sent_frame}
 use Rattle.lagprogress.proofs.Passing.{sent_carries}
 use Rattle.lagprogress.proofs.Knowing.{beside}
 use Rattle.lagprogress.proofs.HostRound.{left}
@@ -81,11 +81,7 @@ none_wanted p t none g k l m n =
     subst (λ x. wants_marker p (assignment_of t x k) ≡ false) here (no_bit (wants_marker p (assignment_of t (g - 1 + 1) k)) _ refl bit)
 
 pub not_wanted : (p m : ℕ) (W : Type 0) (F : ℕ → Type 0) (a : Assignment) → wants_marker p a ≡ false → Fine p m W F a → Fine p m ⊥ F a
-not_wanted p m W F (Wanted q preferred) e h = λ f. apart f
-  where
-    apart : q ≡ p → ⊥
-    apart f = grind (arith, nat_tests)
-not_wanted p m W F a e h = h
+not_wanted p m W F a e h = grind (arith, nat_tests)
 
 module _ (at : Side → ℕ) (w : Side → Lacpdu) (s : Side) (mac : List ℕ) (agg conv : ℕ) where
   -- what is known of conversation `conv` of aggregator `agg` and of the port at the end of s
@@ -96,17 +92,11 @@ module _ (at : Side → ℕ) (w : Side → Lacpdu) (s : Side) (mac : List ℕ) (
   fine_in_map m W V F G t k f h = fine_map (at s) m W V F G k f (assignment_of t agg conv) h
 
   -- what goes out leaves what is on its way
-  pub went_has : (u t : Side) (P : ItemValue → Type 0) (a : Result (Option (List ℕ)) SystemFault) (fl now : Side → List ItemValue) → Went u a fl now
-      → Has P (fl t) → Has P (now t)
-  went_has u t P (Ok (Some frame)) fl now h f = subst (λ (g : Side → List ItemValue). Has P (g t)) (sym h.2)
-      (pushed (λ v xs. Has P (fl v) → Has P xs) (peer u) h.0 fl (λ g y. has_on P (fl (peer u)) (h.0 ∷ []) (g y)) (λ v y. y) t f)
-  went_has u t P a fl now h f = subst (λ (g : Side → List ItemValue). Has P (g t)) (sym h) f
-
   pub went_flights : (u : Side) (a : Result (Option (List ℕ)) SystemFault) (fl now : Side → List ItemValue) → Went u a fl now → (id : ℕ)
       → Flights s (at s) mac fl id → Flights s (at s) mac now id
   went_flights u a fl now h id f = elim f [
-    | inl y ↦ inl (went_has u (peer s) (IsMarker (asking (at s) mac id)) a fl now h y)
-    | inr y ↦ inr (went_has u s (IsMarker (answering (at s) mac id)) a fl now h y)
+    | inl y ↦ inl (gains_has u (IsMarker (asking (at s) mac id)) (sent_frame a) fl now h (peer s) y)
+    | inr y ↦ inr (gains_has u (IsMarker (answering (at s) mac id)) (sent_frame a) fl now h s y)
   ]
 
   -- the marker that the port sends is on its way
@@ -125,23 +115,23 @@ module _ (at : Side → ℕ) (w : Side → Lacpdu) (s : Side) (mac : List ℕ) (
       (has_last (IsMarker (asking (at s) mac id)) (fl (peer s)) h.0 is)))
 
   -- the port is asked
-  sends_marker : (o : Option ℕ) (z : SystemPort) (old : SystemState) (a : Option (List ℕ)) (new : SystemState) (fl now : Side → List ItemValue)
-      (m : ℕ) (W : Type 0) → z.number ≡ at s → old.system.mac ≡ mac → SendsMarkerOf o z.number z.mac old a new → Went s (Ok a) fl now
-      → IsFine m W (Flights s (at s) mac fl) old.table
-      → ((o ≡ None) × (new ≡ old)) ⊎ IsFine m ⊥ (Flights s (at s) mac now) new.table
-  sends_marker None z old a new fl now m W number own h went fine = inl (refl, h.1)
-  sends_marker (Some id) z old a new fl now m W number own h went fine =
-      let gone = subst (λ b. Went s (Ok b) fl now) h.3 went in
-      let flies = marker_flies z old id h.0 fl now h.1 h.2 number own gone in
-      inr (turned_by agg conv (Fine (at s) m W (Flights s (at s) mac fl)) (Fine (at s) m ⊥ (Flights s (at s) mac now)) (after_mark (at s) id)
-      old.table new.table (λ g k. h.4.states g k ∙ ap (λ n. after_mark n id (assignment_of old.table g k)) number)
-      (λ b f. marked_here (at s) m id W (Flights s (at s) mac fl) (Flights s (at s) mac now) flies
-      (went_flights s (Ok (Some (frame_octets z.mac h.0))) fl now gone) b f) fine)
-
   went_fine : (a : Option (List ℕ)) (old new : SystemState) (fl now : Side → List ItemValue) (m : ℕ) (W : Type 0) → new.table ≡ old.table
       → Went s (Ok a) fl now → IsFine m W (Flights s (at s) mac fl) old.table → IsFine m W (Flights s (at s) mac now) new.table
   went_fine a old new fl now m W same went fine = subst (IsFine m W (Flights s (at s) mac now)) (sym same)
       (fine_in_map m W W (Flights s (at s) mac fl) (Flights s (at s) mac now) old.table (λ x. x) (went_flights s (Ok a) fl now went) fine)
+
+  sends_marker : (o : Option ℕ) (z : SystemPort) (old : SystemState) (a : Option (List ℕ)) (new : SystemState) (fl now : Side → List ItemValue)
+      (m : ℕ) (W : Type 0) → z.number ≡ at s → old.system.mac ≡ mac → SendsMarkerOf o z.number z.mac old a new → Went s (Ok a) fl now
+      → IsFine m W (Flights s (at s) mac fl) old.table → IsFine m W (Flights s (at s) mac now) new.table
+  sends_marker None z old a new fl now m W number own h went fine = went_fine a old new fl now m W (ap (λ (t : SystemState). t.table) h.1) went fine
+  sends_marker (Some id) z old a new fl now m W number own h went fine =
+      let gone = subst (λ b. Went s (Ok b) fl now) h.3 went in
+      let flies = marker_flies z old id h.0 fl now h.1 h.2 number own gone in
+      fine_in_map m ⊥ W (Flights s (at s) mac now) (Flights s (at s) mac now) new.table (λ x. absurd x) (λ id y. y)
+      (turned_by agg conv (Fine (at s) m W (Flights s (at s) mac fl)) (Fine (at s) m ⊥ (Flights s (at s) mac now)) (after_mark (at s) id)
+      old.table new.table (λ g k. h.4.states g k ∙ ap (λ n. after_mark n id (assignment_of old.table g k)) number)
+      (λ b f. marked_here (at s) m id W (Flights s (at s) mac fl) (Flights s (at s) mac now) flies
+      (went_flights s (Ok (Some (frame_octets z.mac h.0))) fl now gone) b f) fine)
 
   pub sends_fine : (up due : Bool) (i : ℕ) (z : SystemPort) (old : SystemState) (a : Option (List ℕ)) (new : SystemState)
       (fl now : Side → List ItemValue) (m : ℕ) (W : Type 0) → z.number ≡ at s → old.system.mac ≡ mac → TransmitsIf up due i z old a new
@@ -151,10 +141,7 @@ module _ (at : Side → ℕ) (w : Side → Lacpdu) (s : Side) (mac : List ℕ) (
   sends_fine true true i z old a new fl now m W number own h went fine =
       went_fine a old new fl now m W (ap (λ (t : SystemState). t.table) h.3) went fine
   sends_fine true false i z old a new fl now m W number own h went fine =
-      elim (sends_marker (marker_due old.table z.number) z old a new fl now m W number own h went fine) [
-        | inl n ↦ went_fine a old new fl now m W (ap (λ (t : SystemState). t.table) n.1) went fine
-        | inr f ↦ fine_in_map m ⊥ W (Flights s (at s) mac now) (Flights s (at s) mac now) new.table (λ x. absurd x) (λ id y. y) f
-      ]
+      sends_marker (marker_due old.table z.number) z old a new fl now m W number own h went fine
 
   -- the port is probed, or another one
 
@@ -167,10 +154,7 @@ module _ (at : Side → ℕ) (w : Side → Lacpdu) (s : Side) (mac : List ℕ) (
     where
       by_up : (up : Bool) → ProbesIf up h.0 old a new → IsFine m W (Flights s (at s) mac now) new.table
       by_up false k = went_fine a old new fl now m W (ap (λ (t : SystemState). t.table) k.1) went fine
-      by_up true k = elim (sends_marker (next_identifier old.table) h.0 old a new fl now m W (number i h.0 refl h.1) own k went fine) [
-        | inl n ↦ went_fine a old new fl now m W (ap (λ (t : SystemState). t.table) n.1) went fine
-        | inr f ↦ fine_in_map m ⊥ W (Flights s (at s) mac now) (Flights s (at s) mac now) new.table (λ x. absurd x) (λ id y. y) f
-      ]
+      by_up true k = sends_marker (next_identifier old.table) h.0 old a new fl now m W (number i h.0 refl h.1) own k went fine
 
   pub probes_beside : (o : Option ℕ) (old : SystemState) (a : Option (List ℕ)) (new : SystemState) (m : ℕ) (W : Type 0) (F : ℕ → Type 0)
       → ((i : ℕ) (z : SystemPort) → o ≡ Some i → slice_get old.system_ports i ≡ Some z → z.number ≡ at s → ⊥) → ProbesAt o old a new
@@ -189,31 +173,14 @@ module _ (at : Side → ℕ) (w : Side → Lacpdu) (s : Side) (mac : List ℕ) (
 
   -- no marker is due: no conversation is Wanted there, if an identifier is left
   pub none_due : (t : Table) → IsSome (next_identifier t) → marker_due t (at s) ≡ None → count_conversations (wants_marker (at s)) t ≡ 0
-  none_due t left e = by_test (ltb 0 (count_conversations (wants_marker (at s)) t)) refl (next_identifier t) left e
-    where
-      by_test : (b : Bool) → ltb 0 (count_conversations (wants_marker (at s)) t) ≡ b → (o : Option ℕ) → IsSome o → cond b o None ≡ None
-          → count_conversations (wants_marker (at s)) t ≡ 0
-      by_test true f (Some id) l e = absurd (none-some id (sym e))
-      by_test true f None l e = absurd (no l)
-      by_test false f o l e = is_none (count_conversations (wants_marker (at s)) t) f
-        where
-          is_none : (n : ℕ) → ltb 0 n ≡ false → n ≡ 0
-          is_none n g = grind (arith, nat_tests)
+  none_due t left e = grind (arith, nat_tests)
 
   -- a settling
 
   pub settles_all : (m : ℕ) (W : Type 0) (F : ℕ → Type 0) (old new : SystemState) → Settling old new
       → ((g k : ℕ) → assignment_of old.table g k ≡ On (at s) → is_among (distributing (aggregator_numbered g) new.system_ports) (at s) ≡ true)
       → IsFine m W F old.table → IsFine m W F new.table
-  settles_all m W F old new h stays fine =
-      let q = settling_parts old new h in
-      let table = ports_table old q.0 q.1 in
-      let ports : new.system_ports ≡ q.0.system_ports = ap (λ (t : SystemState). t.system_ports) q.2.frame in
-      subst (Fine (at s) m W F) (sym (q.2.states agg conv))
-      (settled_fine (at s) m W F (distributing (aggregator_numbered agg) q.0.system_ports) (assignment_of q.0.table agg conv)
-      (λ e. subst (λ xs. is_among (distributing (aggregator_numbered agg) xs) (at s) ≡ true) ports
-      (stays agg conv (sym (ap (λ t. assignment_of t agg conv) table) ∙ e)))
-      (subst (λ t. Fine (at s) m W F (assignment_of t agg conv)) (sym table) fine))
+  settles_all m W F old new hyp1 hyp2 hyp3 = grind (arith, nat_tests, settling_parts, ports_table, settled_fine, true)
 
   -- the port distributes in its aggregator, and goes on so
   module _ (c : Choice) where

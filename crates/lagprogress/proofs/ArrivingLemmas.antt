@@ -1,12 +1,11 @@
 -- How a data frame gets a port, and how it is handed up at the other end of its cable.
 use Rattle.lagprogress.proofs.Common.{Err, List, None, Ok, Result, Some, ap, arith, refl, slice_get, subst, sym, true, ℕ, ◌∙◌, ◌≡◌, and_parts}
-use Rattle.lagprogress.proofs.Common.{nat_tests, none-some, same_Some, AggId, One, Side, Two, value_of, Assignment, Flushing, Free, On, Wanted}
-use Rattle.lagprogress.proofs.Common.{DistFault, Assigns, MaySend, is_among, SystemFault, Received, Up, SystemPort, Data_frame, IsFrame, Offer}
-use Rattle.lagprogress.proofs.Common.{ReceivesAt, Step, MayBeOffered, RefusesOffer, assignment_of_frame, collecting, distributing}
-use Rattle.lagprogress.proofs.Common.{number_of_conversation, IsSound, SystemState, port_index, effect_one, Reply, AfterOffer, AfterReceive}
-use Rattle.lagprogress.proofs.Common.{Algorithms, WorldOffers, WorldReceives, offered_item, side_of, with_frame_counted, with_link_at, HalfState}
-use Rattle.lagprogress.proofs.Common.{ItemValue, LinkState, WorldState, half, port_at, with_half, with_towards, half_there, DeliverHandsUp, GetsPort}
-use Rattle.lagprogress.proofs.Common.{IsHandedUp, OfferGetsPort, TakesFrame, held_on, EndIsUp}
+use Rattle.lagprogress.proofs.Common.{nat_tests, none-some, same_Some, AggId, One, Side, Two, value_of, Assignment, On, DistFault, Assigns, MaySend}
+use Rattle.lagprogress.proofs.Common.{is_among, SystemFault, Received, Up, SystemPort, Data_frame, IsFrame, Offer, ReceivesAt, Step, MayBeOffered}
+use Rattle.lagprogress.proofs.Common.{RefusesOffer, assignment_of_frame, collecting, distributing, number_of_conversation, IsSound, SystemState}
+use Rattle.lagprogress.proofs.Common.{port_index, effect_one, Reply, AfterOffer, AfterReceive, Algorithms, WorldReceives, offered_item}
+use Rattle.lagprogress.proofs.Common.{with_frame_counted, with_link_at, HalfState, ItemValue, LinkState, WorldState, half, port_at, with_half}
+use Rattle.lagprogress.proofs.Common.{with_towards, half_there, DeliverHandsUp, GetsPort, IsHandedUp, OfferGetsPort, TakesFrame, held_on, EndIsUp}
 use Rattle.lagprogress.proofs.Passing.{first_delivered}
 use Rattle.lagsystem.specs.declared.drive.Reply.TheVariants as answer
 use Rattle.lagsystem.proofs.Conversing.{assigned_may}
@@ -30,20 +29,14 @@ not_refused gives agg octets s fault t h = grind (arith, nat_tests, refused_by, 
 -- the port that it gives distributes
 given : (ports : List ℕ) (a : Assignment) (port : ℕ) → ((p : ℕ) → a ≡ On p → is_among ports p ≡ true) → MaySend ports a port
     → is_among ports port ≡ true
-given ports (Free preferred) port on h = h
-given ports (On p) port on h = subst (λ q. is_among ports q ≡ true) (sym h) (on p refl)
-given ports (Wanted p preferred) port on h = absurd h
-given ports (Flushing p id preferred age) port on h = absurd h
+given ports a port hyp1 hyp2 = grind (arith, nat_tests, true)
 
 -- what the world does with it
 
 pub same_ports : (s t : Side) (h k : HalfState) (j : WorldState) → h.state.system_ports ≡ (half s j).state.system_ports
     → k.state.system_ports ≡ h.state.system_ports
     → (half t (with_half s k (with_half s h j))).state.system_ports ≡ (half t j).state.system_ports
-same_ports One One h k j e f = f ∙ e
-same_ports One Two h k j e f = refl
-same_ports Two One h k j e f = refl
-same_ports Two Two h k j e f = f ∙ e
+same_ports s t h k j hyp1 hyp2 = grind (arith, nat_tests)
 
 offered : (gives : Algorithms) (s : Side) (agg : AggId) (octets : List ℕ) (a : Result ℕ SystemFault) (old new : WorldState) (mid : HalfState)
     (r : Reply) → IsSound (half s old).state → TakesFrame agg octets (half s old).state
@@ -71,11 +64,7 @@ offered gives s agg octets (Ok port) old new mid r sound takes h after =
     }
 
 pub offer_gets_port : (gives : Algorithms) → OfferGetsPort gives
-offer_gets_port gives n s agg octets r old new named sound takes h =
-    let v = value_of (side_of n) _ h.0 in
-    let same : v.0 ≡ s = same_Some v.0 s (sym v.1 ∙ named) in
-    let e = subst (λ t. WorldOffers gives t agg octets.items old r (record new { acted = old.acted })) same v.2 in
-    offered gives s agg octets.items e.0 old new e.1 r sound takes e.2.answers.step e.3
+offer_gets_port gives = grind (arith, nat_tests, value_of, same_Some, offered)
 
 -- a data frame comes off its cable
 

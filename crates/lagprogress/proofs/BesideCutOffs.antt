@@ -10,12 +10,12 @@ use Rattle.lagprogress.proofs.Common.{NoneIsHeldBesideCutOffsByHosts, HostRounds
 use Rattle.lagprogress.proofs.Bundling.{MeetsBy, agree_of, distribute_of, never_stands, one_meet, one_wakes}
 use Rattle.lagprogress.proofs.Climbing.{Ripe, Rising, rising_first, rising_rows, state_not}
 use Rattle.lagprogress.proofs.CutOffLemmas.{Severed, WereDown, cut_round, cut_since, KeptUnheard, cut_off_is_defaulted_by_hosts}
-use Rattle.lagprogress.proofs.EachRound.{EachAt, clears_less, hosts_on, hosts_steady, played_steady}
+use Rattle.lagprogress.proofs.EachRound.{EachAt, clears_less, played_steady, played_on}
 use Rattle.lagprogress.proofs.LateLoops.{Emptied, rounds_emptied}
 use Rattle.lagprogress.proofs.Freeing.{freed_by}
 use Rattle.lagprogress.proofs.SharedLemmas.{enough_finds, none_held}
 use Rattle.lagprogress.proofs.HostRound.{left}
-use Rattle.lagprogress.proofs.Lasting.{as_before, played_before, ends_at, old_port, still_aggregators, still_links}
+use Rattle.lagprogress.proofs.Lasting.{played_before, ends_at, old_port, still_aggregators, still_links}
 
 -- a port that hears nothing and is DEFAULTED stays as it is
 
@@ -83,7 +83,7 @@ module _ (gives : Algorithms) (s : Side) (k : ℕ) (x : SystemPort) (mid top : W
   climbing t = record { settles = climbing_settles x.number c t; sends = λ p y. y }
 
   stays : EachAt (AtPort x.number (Idle c)) s top
-  stays = (hosts_on gives (λ m j. EachAt (AtPort x.number (Idle c)) s j × Severed 1 s x.number M j) mid
+  stays = (played_on NoneIsLeft gives (λ m j. EachAt (AtPort x.number (Idle c)) s j × Severed 1 s x.number M j) mid
       (at_number (Idle c) 0 st.system_ports k x (ports_rise st (steady s).0.ports) there (up, defaulted, refl), cut)
       (λ m i j q a. cut_round x.number M (Idle c) (Idle c) idle_keeps idle_keeps
       (λ p r run y. subst (Idle c) (sym (idle_ticks c p r run y)) y) gives s i j q a) 20 top more).0
@@ -94,7 +94,7 @@ module _ (gives : Algorithms) (s : Side) (k : ℕ) (x : SystemPort) (mid top : W
       let timed = all-get (λ (z : SystemPort). IsTimed z.port) st.system_ports k x there (steady s).1 in
       let first : EachAt (AtPort x.number (IdleRising c 20)) s mid = at_number (IdleRising c 20) 0 st.system_ports k x
       (ports_rise st (steady s).0.ports) there ((up, defaulted, refl), rising_first x.port mux timed sel) in
-      let last = hosts_on gives (λ m j. EachAt (AtPort x.number (IdleRising c (20 - m))) s j × Severed 1 s x.number M j) mid
+      let last = played_on NoneIsLeft gives (λ m j. EachAt (AtPort x.number (IdleRising c (20 - m))) s j × Severed 1 s x.number M j) mid
       (subst (λ t. EachAt (AtPort x.number (IdleRising c t)) s mid) (omega arith) first, cut)
       (λ m i j q a. subst (λ t. EachAt (AtPort x.number (IdleRising c t)) s j × Severed 1 s x.number M j) (omega arith)
       (cut_round x.number M (IdleRising c (20 - m)) (IdleRising c (20 - m - 1)) (climbing (20 - m)) (climbing (20 - m - 1))
@@ -105,10 +105,10 @@ module _ (gives : Algorithms) (s : Side) (k : ℕ) (x : SystemPort) (mid top : W
   ripe y at number = elim (cases_Bool (same_system c.system x.port.party.system)) [
     | inl own ↦ (λ sel. (let o = chosen_occupies y.port.choice sel in
         let still = all-get (λ (z : SystemPort). AtPort x.number (Idle c) z.number z.port) (half s top).state.system_ports k y at stays number in
-        let alike = (as_before gives 20 mid top steady more s).alike k x y there at in
+        let alike = (played_before NoneIsLeft gives 20 mid top steady more s).alike k x y there at in
         let same : y.port.partner.system ≡ y.port.party.system = ap (λ (i : Info). i.system) still.2
         ∙ (exact_system c.system x.port.party.system own ∙ sym (ap (λ (q : Party). q.system) alike.0)) in
-        absurd ((hosts_steady gives 20 mid top steady more s).0.occupants.apart k o.0 y at o.1 same)))
+        absurd ((played_steady NoneIsLeft gives 20 mid top steady more s).0.occupants.apart k o.0 y at o.1 same)))
     | inr other ↦ (λ sel. (all-get (λ (z : SystemPort). AtPort x.number (IdleRising c 0) z.number z.port) (half s top).state.system_ports k y at
         (climbs (chosen other)) number).1.1)
   ]
@@ -142,9 +142,9 @@ module _ (gives : Algorithms) (old : WorldState) (b : IsBundleBesideCutOffs old)
       → slice_get (half s old).state.system_ports k ≡ Some z → z.port.enabled ≡ true → IsCutOff s z.number old
       → slice_get (half s top).state.system_ports k ≡ Some y → Ripe 0 y.port
   idle mid top h more s k z y there up cut now =
-      let steady = hosts_steady gives 931 old mid b.steady h in
-      let first = as_before gives 931 old mid b.steady h s in
-      let then = as_before gives 20 mid top steady more s in
+      let steady = played_steady NoneIsLeft gives 931 old mid b.steady h in
+      let first = played_before NoneIsLeft gives 931 old mid b.steady h s in
+      let then = played_before NoneIsLeft gives 20 mid top steady more s in
       let x = old_port (half s mid).state.system_ports (half s top).state.system_ports k y then.numbers now in
       let was = old_port (half s old).state.system_ports (half s mid).state.system_ports k x.0 first.numbers x.1 in
       let same : was.0 ≡ z = same_Some was.0 z (sym was.1 ∙ there) in

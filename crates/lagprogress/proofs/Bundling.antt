@@ -1,14 +1,13 @@
 -- How the links of a bundle come up and agree.
 use Rattle.lagprogress.proofs.Common.{Bool, IsSome, List, None, Option, Some, [], ap, arith, inl, inr, is_some, length, map, refl, slice_get, subst}
 use Rattle.lagprogress.proofs.Common.{suc, sym, true, ℕ, ◌+◌, ◌-◌, ◌==◌, ◌∙◌, ◌∷◌, ◌≡◌, ◌≢◌, ◌≤◌, ◌⊎◌, cases_Bool, nat_tests, same_Some}
-use Rattle.lagprogress.proofs.Common.{AllByRecursion, AggId, Key, Choice, Standby, Party, is_selected, itself, Lacpdu, IsCabling, One, Side, Two}
-use Rattle.lagprogress.proofs.Common.{end_at, peer, ports_that_chose, has_chosen, SystemPort, MuxIsSettled, occupied, IsSound, SystemState, views}
-use Rattle.lagprogress.proofs.Common.{all-get, found_place, Same, agreement_at, Algorithms, link_ends, world_setup, IsWorldSound, LinkState}
-use Rattle.lagprogress.proofs.Common.{WorldState, half, history_at, port_at, towards, end_is, HostEvent, WantsAggregator, ports_with, IsTimed, count}
-use Rattle.lagprogress.proofs.Common.{count_more_of, counted, OfEach, AtPort, waits_for_room, EachLinkStaysAgreed, EachLinkStaysUp, LeavesPorts}
-use Rattle.lagprogress.proofs.Common.{RoundsBeside, AllHeard, BothAreActive, EachLinkAgrees, EachLinkComesUp, EndsHealthyCable, EnoughLinks, IsBundle}
-use Rattle.lagprogress.proofs.Common.{OneIsActive, SystemsDiffer, Clearing, PlayedRounds, LateRounds, OldArrive, Distributes, AtEnd, IsHealthyAt}
-use Rattle.lagprogress.proofs.Common.{up_if_both_active, up_if_one_is, IsSteady}
+use Rattle.lagprogress.proofs.Common.{AllByRecursion, AggId, Key, Choice, Standby, is_selected, itself, Lacpdu, IsCabling, One, Side, end_at, peer}
+use Rattle.lagprogress.proofs.Common.{ports_that_chose, has_chosen, SystemPort, MuxIsSettled, occupied, IsSound, SystemState, views, all-get}
+use Rattle.lagprogress.proofs.Common.{found_place, Same, agreement_at, Algorithms, link_ends, world_setup, IsWorldSound, LinkState, WorldState, half}
+use Rattle.lagprogress.proofs.Common.{history_at, port_at, towards, end_is, HostEvent, ports_with, IsTimed, count, count_more_of, counted, OfEach}
+use Rattle.lagprogress.proofs.Common.{AtPort, waits_for_room, EachLinkStaysAgreed, EachLinkStaysUp, LeavesPorts, RoundsBeside, AllHeard}
+use Rattle.lagprogress.proofs.Common.{BothAreActive, EachLinkAgrees, EachLinkComesUp, EndsHealthyCable, EnoughLinks, IsBundle, OneIsActive}
+use Rattle.lagprogress.proofs.Common.{SystemsDiffer, Clearing, PlayedRounds, LateRounds, OldArrive, Distributes, AtEnd, IsHealthyAt, IsSteady}
 use Rattle.lagprogress.proofs.LateStart.{counts_of, kept_of}
 use Rattle.lagprogress.proofs.LateComingUp.{Up, comes_to_be_up, up_synced}
 use Rattle.lagprogress.proofs.EachRound.{among_on, among_then, clears_less, EachAt, RoundKeeps, same_index, joins_beside, host_each, played_on}
@@ -16,7 +15,7 @@ use Rattle.lagprogress.proofs.EachRound.{played_split, played_steady}
 use Rattle.lagprogress.proofs.ComingUp.{agrees_on, AreSynced, Climbs, agrees_now, climbs_first, climbs_on, distributes, hosts_kept, Agrees}
 use Rattle.lagprogress.proofs.Knowing.{Fresh, knows_late, late_active_meet, late_fresh_knows, late_one_meets, AtIt}
 use Rattle.lagprogress.proofs.Climbing.{Down, Ripe, Rising, climbed, down_settles, down_takes, down_ticks, rising_first}
-use Rattle.lagprogress.proofs.Starting.{active_at, awake_at, named_at, Ends, healthy_cable, said_by, starts}
+use Rattle.lagprogress.proofs.Starting.{active_at, awake_at, named_at, healthy_cable, said_by, starts}
 use Rattle.lagprogress.proofs.Halves.{timely}
 use Rattle.lagprogress.proofs.Quieting.{AllBeside, all_beside, as_beside}
 use Rattle.lagprogress.proofs.EndFacts.{Synced, activity}
@@ -61,18 +60,7 @@ never_stands s i x agg h enough there stands =
 pub is_chosen : (at : Side → ℕ) (w : Side → Lacpdu) (c : Side → ℕ) (s : Side) (j : WorldState) → IsSteady j
     → Finds s j → EnoughLinks (half s j).state → ((w (peer s)).actor.system ≢ (w s).actor.system) → 1 ≤ c s
     → (e : EndPort at w 1 c s j) → is_selected e.port.port.choice ≡ true
-is_chosen at w c s j steady finds links apart known e =
-    let st = (half s j).state in
-    let heard = (e.is.1.1 known).0 in
-    let wants : WantsAggregator e.port.port = record {
-      up = e.is.1.0;
-      known = inl heard.current;
-      apart = λ h. apart (sym (ap (λ (y : Party). y.system) heard.party) ∙ (h ∙ ap (λ (y : Party). y.system) e.is.0.0));
-    } in
-    elim (finds e.index e.port e.there wants) [
-      | inl h ↦ h
-      | inr h ↦ absurd (never_stands st e.index e.port h.0 (steady s).0 links e.there h.1)
-    ]
+is_chosen at w c s j hyp1 hyp2 hyp3 hyp4 hyp5 e = grind (arith, nat_tests, never_stands)
 
 -- ports whose links are down
 
@@ -137,14 +125,7 @@ names old steady i l h = named_at l old (ends_at i l old h) steady
 -- the ends of a healthy cable are of different systems
 pub apart_ends : (old : WorldState) → IsSteady old → SystemsDiffer old → (i : ℕ) (l : LinkState) (h : IsHealthyAt i l old) → (s : Side)
     → (said old i l h (peer s)).actor.system ≢ (said old i l h s).actor.system
-apart_ends old steady differ i l h =
-    let e = ends_at i l old h in
-    apart_by e (λ s. own_system (half s old).state (e s).0 (e s).1 (steady s).0 (e s).3)
-  where
-    apart_by : (e : Ends l old) → ((s : Side) → (e s).1.port.party.system ≡ (half s old).state.system) → (s : Side)
-        → (said_by l old e (peer s)).actor.system ≢ (said_by l old e s).actor.system
-    apart_by e own One same = differ (sym (own One) ∙ (sym same ∙ own Two))
-    apart_by e own Two same = differ (sym (own One) ∙ (same ∙ own Two))
+apart_ends old hyp1 hyp2 i l h s = grind (arith, nat_tests, ends_at, own_system)
 
 -- ends that are up agree
 pub agree_up : (E : Clearing) (gives : Algorithms) (n i : ℕ) (l : LinkState) (old new : WorldState) → IsWorldSound old
@@ -397,34 +378,17 @@ module _ (Holds : LinkState → WorldState → Type 0) (first : ℕ) (gives : Al
 
 -- the laws of a bundle
 
-pub each_link_comes_up : (gives : Algorithms) → EachLinkComesUp LateRounds OneIsActive up_if_one_is gives
-each_link_comes_up gives n i l old new b y enough h =
-    distribute_of OldArrive OneIsActive Nowhere 624 gives old (one_active gives old b) i l y n new (omega (arith, enough)) h
+module _ (Holds : LinkState → WorldState → Type 0) (first : ℕ) (gives : Algorithms)
+    (meets : (old : WorldState) → IsBundle Holds old → Meets Holds first gives old) where
+  pub each_link_comes_up : EachLinkComesUp LateRounds Holds (first + 33) gives
+  each_link_comes_up n i l old new b y enough h = distribute_of OldArrive Holds Nowhere first gives old (meets old b) i l y n new enough h
 
-pub each_active_link_comes_up : (gives : Algorithms) → EachLinkComesUp LateRounds BothAreActive up_if_both_active gives
-each_active_link_comes_up gives n i l old new b y enough h =
-    distribute_of OldArrive BothAreActive Nowhere 323 gives old (both_active gives old b) i l y n new (omega (arith, enough)) h
+  pub each_link_agrees : EachLinkAgrees LateRounds Holds (first + 33) gives
+  each_link_agrees n i l old new sound b y enough h = agree_of OldArrive Holds Nowhere first gives old (meets old b) sound i l y n new enough h
 
-pub each_link_agrees : (gives : Algorithms) → EachLinkAgrees LateRounds OneIsActive up_if_one_is gives
-each_link_agrees gives n i l old new sound b y enough h =
-    agree_of OldArrive OneIsActive Nowhere 624 gives old (one_active gives old b) sound i l y n new (omega (arith, enough)) h
+  pub each_link_stays_up : EachLinkStaysUp Holds (first + 33) gives
+  each_link_stays_up n m i l old mid new b y enough h more = stays_up Holds first gives old (meets old b) i l y n m mid new enough h more
 
-pub each_active_link_agrees : (gives : Algorithms) → EachLinkAgrees LateRounds BothAreActive up_if_both_active gives
-each_active_link_agrees gives n i l old new sound b y enough h =
-    agree_of OldArrive BothAreActive Nowhere 323 gives old (both_active gives old b) sound i l y n new (omega (arith, enough)) h
-
-pub each_link_stays_up : (gives : Algorithms) → EachLinkStaysUp OneIsActive up_if_one_is gives
-each_link_stays_up gives n m i l old mid new b y enough h more =
-    stays_up OneIsActive 624 gives old (one_active gives old b) i l y n m mid new (omega (arith, enough)) h more
-
-pub each_active_link_stays_up : (gives : Algorithms) → EachLinkStaysUp BothAreActive up_if_both_active gives
-each_active_link_stays_up gives n m i l old mid new b y enough h more =
-    stays_up BothAreActive 323 gives old (both_active gives old b) i l y n m mid new (omega (arith, enough)) h more
-
-pub each_link_stays_agreed : (gives : Algorithms) → EachLinkStaysAgreed OneIsActive up_if_one_is gives
-each_link_stays_agreed gives n m i l old mid new sound b y enough h more =
-    stays_agreed OneIsActive 624 gives old (one_active gives old b) i l y n m mid new (omega (arith, enough)) h more sound
-
-pub each_active_link_stays_agreed : (gives : Algorithms) → EachLinkStaysAgreed BothAreActive up_if_both_active gives
-each_active_link_stays_agreed gives n m i l old mid new sound b y enough h more =
-    stays_agreed BothAreActive 323 gives old (both_active gives old b) i l y n m mid new (omega (arith, enough)) h more sound
+  pub each_link_stays_agreed : EachLinkStaysAgreed Holds (first + 33) gives
+  each_link_stays_agreed n m i l old mid new sound b y enough h more =
+      stays_agreed Holds first gives old (meets old b) i l y n m mid new enough h more sound

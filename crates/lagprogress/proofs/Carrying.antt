@@ -10,13 +10,13 @@ use Rattle.lagprogress.proofs.Common.{HostReply, Answer, SystemFault, SystemPort
 use Rattle.lagprogress.proofs.Common.{Offer, Receive, Restart, Set_link, Step, Tick, Transmit, changed_party, choice_with_link, call_of, IsFirst}
 use Rattle.lagprogress.proofs.Common.{configured_numbers, HostPromise, none_enabled, MuxIsSettled, GivesOrRefuses, in_system, system_force_result}
 use Rattle.lagprogress.proofs.Common.{system_move_result, ProbesAt, ProbesIf, aggregator_numbered, distributing, SendsMarkerOf, SetsPort, Setting}
-use Rattle.lagprogress.proofs.Common.{SettingPromise, SettingStep, in_mode, is_held_so, is_in_mode, with_held, Settling, IsSound, SystemState}
-use Rattle.lagprogress.proofs.Common.{port_index, port_numbers, TableAlone, host_alone, Step-frame, rests, all-get, ports_rise, setting_sound}
-use Rattle.lagprogress.proofs.Common.{Step-sound, first_sound, Algorithms, AreFirst, IsStart, WorldState, half, ForcesPort, HostEvent, HostRuns}
-use Rattle.lagprogress.proofs.Common.{HostSteps, Leaves, Plays, Probes, Rests, Sets, KeptByCall, KeptBySettling, OfEach, Step-each, first_each, no}
-use Rattle.lagprogress.proofs.Common.{forces_port, AtPort, at_number, calls_each, same_place, settling_leaves, Turns, asks_turn, comes_turn}
-use Rattle.lagprogress.proofs.Common.{gives_turn, same_turns, settles_turn, ticks_turn, turns_by, turns_through, RowsKeep, fires_keep, runs_keep}
-use Rattle.lagprogress.proofs.Common.{setting_each, EachHostReachedHasUnsynchronized, EachHostReachedHasCarriersUp, HasPortUp, carrier_of, held_on}
+use Rattle.lagprogress.proofs.Common.{SettingPromise, SettingStep, Settling, IsSound, SystemState, port_index, port_numbers, TableAlone, host_alone}
+use Rattle.lagprogress.proofs.Common.{Step-frame, rests, all-get, ports_rise, setting_sound, Step-sound, first_sound, Algorithms, AreFirst, IsStart}
+use Rattle.lagprogress.proofs.Common.{WorldState, half, HostEvent, HostRuns, HostSteps, Plays, Sets, KeptByCall, KeptBySettling, OfEach, Step-each}
+use Rattle.lagprogress.proofs.Common.{first_each, no, forces_port, AtPort, at_number, calls_each, same_place, settling_leaves, Turns, asks_turn}
+use Rattle.lagprogress.proofs.Common.{comes_turn, gives_turn, same_turns, settles_turn, ticks_turn, turns_by, turns_through, RowsKeep, fires_keep}
+use Rattle.lagprogress.proofs.Common.{runs_keep, setting_each, EachHostReachedHasUnsynchronized, EachHostReachedHasCarriersUp, HasPortUp, carrier_of}
+use Rattle.lagprogress.proofs.Common.{held_on}
 use Rattle.lagsystem.specs.Offers.{Offers}
 use Rattle.distributor.proofs.TableLemmas.{first_free}
 use Rattle.lagsystem.proofs.Steps.{forced_to, moved_to}
@@ -29,10 +29,10 @@ use Rattle.lagsystem.specs.Leaving.{system_leave_result, system_rest_result}
 use Rattle.portmachines.specs.Calls.{with_mode}
 use Rattle.lagsystem.specs.declared.drive.Reply.TheVariants as reply
 use Rattle.lagprogress.proofs.Answering.{among_port}
-use Rattle.lagprogress.proofs.Freeing.{Stays, held_carries, stays}
+use Rattle.lagprogress.proofs.Freeing.{carried_before, Stays, held_carries, stays}
 use Rattle.lagprogress.proofs.Halves.{both_first, each_is_calls}
 use Rattle.lagprogress.proofs.Linked.{many, each_side}
-use Rattle.lagprogress.proofs.HostSteady.{IsBeside, aside, forces_half, host_sound, leaves_half, offers_half, probes_half, rests_half, setting_both}
+use Rattle.lagprogress.proofs.HostSteady.{IsBeside, aside, asked_by, caller, host_sound, setting_both}
 
 -- the partner of a port in PORT_DISABLED is not synchronized
 
@@ -61,10 +61,7 @@ pub lapse_kept : (call : Call) (answer : Answer) → KeptByCall LapsesAt call an
 lapse_kept Tick answer = λ n p q h a. runs_keep Lapses receive_rows receive_lapses (count_down p) q h a
 lapse_kept (Set_link n up) answer = λ max_links p q h a. runs_keep Lapses receive_rows receive_lapses
     (record p { enabled = up; choice = choice_with_link max_links up p.choice }) q h a
-lapse_kept (Receive n octets) answer = λ v p q t came h a. elim h [
-  | inl f ↦ fires_keep Lapses (lacpdu_rows v) (λ p a e. absurd cc, tt) p q f a
-  | inr r ↦ subst Lapses (sym r.1) a
-]
+lapse_kept (Receive n octets) answer = grind (arith, nat_tests, fires_keep)
 lapse_kept (Configure n change) answer = λ p q h a. lapse_starts (record p { party = changed_party change p.party }) q h.1
 lapse_kept Restart answer = lapse_first
 lapse_kept (Transmit n) answer = λ p e a. a
@@ -86,15 +83,7 @@ distributes_up s agg p h lapses e =
     let x = d.1 in
     let mux = (all-get (MuxIsSettled s.keys s.system_ports) s.system_ports d.0 x d.2 h.quiet.0).mux in
     let rest = rests receive_rows x.port (all-get (λ (c : SystemPort). none_enabled receive_rows c.port ≡ true) s.system_ports d.0 x d.2 h.rested.0) in
-    let lapse = all-get (λ (c : SystemPort). Lapses c.port) s.system_ports d.0 x d.2 lapses in (
-      d.0,
-      x,
-      d.2,
-      d.3,
-      must_be_up x.port.enabled (same_receive_state PortDisabled x.port.receive) (partner_synchronized x.port)
-          (selected x.port) (same_mux_state CollectingDistributing x.port.mux) rest.1.0 (λ f. lapse (is_disabled x.port.receive f))
-          (and_parts (has_chosen agg x.port.choice) (same_mux_state CollectingDistributing x.port.mux) d.4).1 mux.1.1.1.1.1.0,
-    )
+    grind (arith, nat_tests, all-get, lapses, must_be_up, is_disabled, and_parts)
 
 -- a call that does not take a link down leaves it up
 
@@ -117,10 +106,7 @@ up_kept : (p : ℕ) (call : Call) (answer : Answer) → takes_down p call ≡ fa
 up_kept p Tick answer t = λ n q r h a e. runs_keep Up receive_rows receive_up (count_down q) r h (a e)
 up_kept p (Set_link n up) answer t = λ max_links q r h a e. runs_keep Up receive_rows receive_up
     (record q { enabled = up; choice = choice_with_link max_links up q.choice }) r h (set_up n p up t e)
-up_kept p (Receive n octets) answer t = λ v q r took came h a e. elim h [
-  | inl f ↦ fires_keep Up (lacpdu_rows v) (λ p a. a, tt) q r f (a e)
-  | inr x ↦ subst Up (sym x.1) (a e)
-]
+up_kept p (Receive n octets) answer t = grind (arith, nat_tests, fires_keep)
 up_kept p (Configure n change) answer t = λ q r h a e. up_starts (record q { party = changed_party change q.party }) r h.1 (a e)
 up_kept p Restart answer t = absurd (no (sym t))
 up_kept p (Transmit n) answer t = λ q told a e. a e
@@ -155,9 +141,6 @@ abbrev HeldBefore : Call → Table → Table → Type 0
 HeldBefore call t u = (g k p : ℕ) → held_on (assignment_of u g k) ≡ Some p
     → (carrier_of (assignment_of t g k) ≡ Some p) × (takes_down p call ≡ false)
 
-carried_before : (a b : Assignment) (p : ℕ) → Stays a b → carrier_of b ≡ Some p → carrier_of a ≡ Some p
-carried_before a b p k h = grind (arith, nat_tests)
-
 by_stays : (call : Call) (t u : Table) → ((p : ℕ) → takes_down p call ≡ false) → Turns Stays stays t u → HeldBefore call t u
 by_stays call t u leaves h g k p e =
     (carried_before (assignment_of t g k) (assignment_of u g k) p (h g k) (held_carries (assignment_of u g k) p e), leaves p)
@@ -167,20 +150,7 @@ downed_before n p a h = grind (arith, nat_tests)
 
 linked_before : (n : ℕ) (up : Bool) (old mid new : SystemState) → FreesIfDown up n old.table mid.table → Turns Stays stays mid.table new.table
     → HeldBefore (Set_link n up) old.table new.table
-linked_before n true old mid new h k g c p e =
-    let carried = carried_before (assignment_of mid.table g c) (assignment_of new.table g c) p (k g c) (held_carries (assignment_of new.table g c) p e) in
-    (ap (λ t. carrier_of (assignment_of t g c)) (sym h) ∙ carried, never (n == p))
-  where
-    never : (b : Bool) → (b && false) ≡ false
-    never true = refl
-    never false = refl
-linked_before n false old mid new h k g c p e =
-    let carried = carried_before (assignment_of mid.table g c) (assignment_of new.table g c) p (k g c) (held_carries (assignment_of new.table g c) p e) in
-    let d = downed_before n p (assignment_of old.table g c) (ap carrier_of (sym (h.states g c)) ∙ carried) in
-    (d.0, other d.1)
-  where
-    other : eqb p n ≡ false → ((n == p) && true) ≡ false
-    other f = grind (arith, nat_tests)
+linked_before n up old mid new h k g c p e = grind (arith, nat_tests, carried_before, held_carries, downed_before)
 
 moved_stays : (next : Option ℕ) (ports : List ℕ) (to : ℕ) (a s : Assignment) → move_result next ports to a ≡ Ok s → Stays a s
 moved_stays next ports to a s h = grind (arith, nat_tests)
@@ -293,25 +263,11 @@ then_settles old mid new e h = turns_through Stays stays old.table mid.table new
 
 port_turns : (already : SystemPort → Bool) (change : SystemPort → SystemPort) (o : Option ℕ) (old new : SystemState)
     → SetsPort already change o old new → Turns Stays stays old.table new.table
-port_turns already change None old new h = absurd h
-port_turns already change (Some i) old new h = elim h [
-  | inl same ↦ same_turns Stays stays old new (ap (λ (s : SystemState). s.table) same.1)
-  | inr settled ↦ then_settles old settled.0 new (ap (λ (s : SystemState). s.table) settled.1.1) settled.2
-]
+port_turns already change o old new hyp1 = grind (arith, nat_tests, same_turns, stays, then_settles)
 
 setting_turns : (old new : SystemState) (setting : Setting) (answer : Result Unit SystemFault) → SettingStep old setting answer new
     → Turns Stays stays old.table new.table
-setting_turns old new (Setting.Hold_port n held) (Ok done) h =
-    port_turns (is_held_so held) (with_held held) (port_index n old.system_ports) old new h
-setting_turns old new (Setting.Hold_port n held) (Err fault) h = same_turns Stays stays old new (ap (λ (s : SystemState). s.table) h.same)
-setting_turns old new (Setting.Set_mode n active short) (Ok done) h =
-    port_turns (is_in_mode active short) (in_mode active short) (port_index n old.system_ports) old new h
-setting_turns old new (Setting.Set_mode n active short) (Err fault) h = same_turns Stays stays old new (ap (λ (s : SystemState). s.table) h.same)
-setting_turns old new (Setting.Set_max_delay max_delay) (Ok done) h = same_turns Stays stays old new (ap (λ (s : SystemState). s.table) h)
-setting_turns old new (Setting.Set_max_delay max_delay) (Err fault) h = absurd h
-setting_turns old new (Setting.Set_max_links max_links) (Ok done) h =
-    then_settles old h.1.0 new (ap (λ (s : SystemState). s.table) h.1.1.1) h.1.2
-setting_turns old new (Setting.Set_max_links max_links) (Err fault) h = same_turns Stays stays old new (ap (λ (s : SystemState). s.table) h.1)
+setting_turns old new setting answer hyp1 = grind (arith, nat_tests, port_turns, same_turns, stays)
 
 pub setting_keeps : (old new : SystemState) (setting : Setting) (answer : Result Unit SystemFault) → SettingPromise old setting answer new
     → Keeps old → Keeps new
@@ -392,28 +348,17 @@ host_call_keeps gives old new call answer h k = absurd h
 abbrev BothKeep : WorldState → Type 0
 BothKeep j = (s : Side) → Keeps (half s j).state
 
-one_told : (gives : ℕ → ℕ → ℕ → Type 0) (s : Side) (call : HostCall) (answer : HostReply) (old new : WorldState) → IsBeside s old new
-    → HostPromise gives (half s old).state call answer (half s new).state → BothKeep old → BothKeep new
-one_told gives s call answer old new b h k = each_side (λ t. Keeps (half t new).state) s
-    (host_call_keeps gives (half s old).state (half s new).state call answer h (k s)) (subst Keeps (sym b.peers) (k (peer s)))
+one_told : (gives : ℕ → ℕ → ℕ → Type 0) (s : Side) (call : HostCall) (old new : WorldState) → IsBeside gives s call old new → BothKeep old
+    → BothKeep new
+one_told gives s call old new b k = each_side (λ t. Keeps (half t new).state) s
+    (host_call_keeps gives (half s old).state (half s new).state call b.answer b.promise (k s)) (subst Keeps (sym b.peers) (k (peer s)))
 
 step_keeps : (gives : Algorithms) (e : HostEvent) (old new : WorldState) → HostSteps gives old e new → BothKeep old → BothKeep new
 step_keeps gives (Plays e) old new x k = λ s. (let g = each_is_calls gives e x.0 old new x.1 s in
     calls_each (gives s) Keeps (call_keeps (gives s)) (half s old).state (half s new).state g.0 g.1 g.2 (k s))
-step_keeps gives (HostEvent.Offers s agg conv octets) old new x k = (let y = offers_half gives s agg conv octets old new x in
-    one_told (gives s) s (host.OfferConversation agg conv) (told.OfferConversation y.0) old new
-    (aside gives (HostEvent.Offers s agg conv octets) old new tt x) y.1 k)
-step_keeps gives (Leaves s agg conv) old new x k = (let y = leaves_half gives s agg conv old new x in
-    one_told (gives s) s (host.LeaveConversation agg conv) (told.LeaveConversation y.0) old new
-    (aside gives (Leaves s agg conv) old new tt x) y.1 k)
-step_keeps gives (Probes s port) old new x k = (let y = probes_half gives s port old new x in
-    one_told (gives s) s (host.Probe port) (told.Probe y.0) old new (aside gives (Probes s port) old new tt x) y.1 k)
-step_keeps gives (Rests s agg conv) old new x k = (let y = rests_half gives s agg conv old new x in
-    one_told (gives s) s (host.Rest agg conv) (told.Rest y.0) old new (aside gives (Rests s agg conv) old new tt x) y.1 k)
-step_keeps gives (ForcesPort s port) old new x k = (let y = forces_half gives s port old new x in
-    one_told (gives s) s (host.ForcePort port) (told.ForcePort y.0) old new (aside gives (ForcesPort s port) old new tt x) y.1 k)
 step_keeps gives (Sets s setting) old new x k =
     setting_both Keeps s x.1 old new (setting_keeps (half s old).state x.1.state setting x.0 x.2.answers) x.3 k
+step_keeps gives e old new x k = one_told (gives (caller e)) (caller e) (asked_by e) old new (aside gives e old new tt x) k
 
 run_keeps : (gives : Algorithms) (es : List HostEvent) (old new : WorldState) → HostRuns gives old es new → BothKeep old → BothKeep new
 run_keeps gives [] old new h k = subst BothKeep (sym h) k

@@ -1,12 +1,11 @@
 -- Selected stays what it is in a bundle, once each end knows its partner.
 use Rattle.lagprogress.proofs.Common.{Bool, List, Some, [], ap, arith, false, if◌then◌else◌, inl, inr, not, refl, slice_get, slice_set, subst, suc}
 use Rattle.lagprogress.proofs.Common.{sym, true, zero, ℕ, ◌&&◌, ◌||◌, ◌∙◌, ◌∷◌, ◌≡◌, ◌⊎◌, and_parts, nat_tests, none-some, AllByRecursion, Choice}
-use Rattle.lagprogress.proofs.Common.{is_unselected, system-itself, Lacpdu, party_of, ReceiveState, Current, Defaulted, PortDisabled, Machines}
-use Rattle.lagprogress.proofs.Common.{mux_rows, RunsPeriodic, lacpdu_rows, receive_rows, same_receive_state, AtRest, RunsToRest, count_down}
-use Rattle.lagprogress.proofs.Common.{is_eligible, SystemPort, ProcessesLacpdu, can_receive, can_receive_in, ChoosesIn, PortsChangeBy, Settling}
-use Rattle.lagprogress.proofs.Common.{ready_of, IsSound, SystemState, aggregators_value, may_choose, selection_view, views, last_slots, HasRecorded}
-use Rattle.lagprogress.proofs.Common.{WantsAggregator, OfEach, zip_kept, no, recorded, rests_still, AtPort, mux_leaves, periodic_leaves, eligible}
-use Rattle.lagprogress.proofs.Common.{fires_keep}
+use Rattle.lagprogress.proofs.Common.{is_unselected, system-itself, Lacpdu, party_of, ReceiveState, Current, Defaulted, Machines, mux_rows}
+use Rattle.lagprogress.proofs.Common.{RunsPeriodic, lacpdu_rows, receive_rows, same_receive_state, AtRest, RunsToRest, count_down, is_eligible}
+use Rattle.lagprogress.proofs.Common.{SystemPort, ProcessesLacpdu, can_receive, can_receive_in, ChoosesIn, PortsChangeBy, Settling, ready_of, IsSound}
+use Rattle.lagprogress.proofs.Common.{SystemState, aggregators_value, may_choose, selection_view, views, last_slots, HasRecorded, WantsAggregator}
+use Rattle.lagprogress.proofs.Common.{OfEach, zip_kept, no, recorded, rests_still, AtPort, mux_leaves, periodic_leaves, eligible, fires_keep}
 use Rattle.lagprogress.proofs.Lasting.{all_by_place}
 use Rattle.lagprogress.proofs.Climbing.{keeps_selected}
 use Rattle.lagprogress.proofs.EndFacts.{SameActor}
@@ -153,10 +152,4 @@ down_as_read x p q down h = elim h [
 
 -- a tick leaves the receive machine of a port whose link is down
 pub down_still : (p q : Machines) → p.enabled ≡ false → AtRest receive_rows p → RunsToRest receive_rows (count_down p) q → q ≡ count_down p
-down_still p q down rest h =
-    let is = disabled p.receive p.enabled down rest.1.0 in
-    rests_still receive_rows h.0 (count_down p) q (rw (is, down) (refl, (refl, (refl, (refl, (refl, tt)))))) h.1
-  where
-    disabled : (r : ReceiveState) (e : Bool) → e ≡ false → (not (same_receive_state PortDisabled r) && not e) ≡ false → r ≡ PortDisabled
-    disabled PortDisabled e f g = refl
-    disabled r e f g = absurd (no (sym g ∙ ap not f))
+down_still p q hyp1 hyp2 hyp3 = grind (arith, nat_tests, rests_still, false, not, no)

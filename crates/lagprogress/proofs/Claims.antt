@@ -1,14 +1,14 @@
 -- What a port owes its partner once it is synchronized: an LACPDU that says so.
-use Rattle.lagprogress.proofs.Common.{Bool, ap, false, if◌then◌else◌, inl, inr, not, refl, subst, sym, true, ℕ, ◌||◌, ◌∙◌, ◌≡◌, ◌≢◌, ◌≤◌, ◌⊎◌}
-use Rattle.lagprogress.proofs.Common.{cases_Bool, Unselected, StateBits, is_selected, same_party, bits_of, with_synchronization, with_timeout}
-use Rattle.lagprogress.proofs.Common.{exact_party, party_itself, encode_then_decode, Info, Lacpdu, party_of, Machines, is_synchronized, mux_rows}
-use Rattle.lagprogress.proofs.Common.{partner_synchronized, RunsPeriodic, is_silent, partner_short, periodic_rows, timer_expired, default_partner}
-use Rattle.lagprogress.proofs.Common.{is_maintained, lacpdu_rows, receive_rows, recorded_synchronization, RunsToRest, count_down, pdu_of}
-use Rattle.lagprogress.proofs.Common.{ProcessesLacpdu, can_receive, can_receive_in, named, KeptBySettling, no, decoded, AtPort, mux_leaves}
+use Rattle.lagprogress.proofs.Common.{Bool, ap, arith, false, if◌then◌else◌, inl, inr, not, subst, sym, true, ℕ, ◌||◌, ◌∙◌, ◌≡◌, ◌≢◌, ◌≤◌, ◌⊎◌}
+use Rattle.lagprogress.proofs.Common.{cases_Bool, nat_tests, Unselected, StateBits, is_selected, same_party, bits_of, with_synchronization}
+use Rattle.lagprogress.proofs.Common.{with_timeout, exact_party, party_itself, encode_then_decode, Info, Lacpdu, party_of, Machines, is_synchronized}
+use Rattle.lagprogress.proofs.Common.{mux_rows, partner_synchronized, RunsPeriodic, is_silent, partner_short, periodic_rows, timer_expired}
+use Rattle.lagprogress.proofs.Common.{default_partner, is_maintained, lacpdu_rows, receive_rows, recorded_synchronization, RunsToRest, count_down}
+use Rattle.lagprogress.proofs.Common.{pdu_of, ProcessesLacpdu, can_receive, can_receive_in, named, KeptBySettling, no, decoded, AtPort, mux_leaves}
 use Rattle.lagprogress.proofs.Common.{periodic_leaves, not_silent, unclear, RowsKeep, fires_keep, runs_keep}
 use Rattle.lagbeside.proofs.Sounding.{rests}
 use Rattle.lagprogress.proofs.EndFacts.{said_bits, Along, CanSound, IsEnd, SameActor, Says, Synced, activity, all_true, awake_fires, end_settles}
-use Rattle.lagprogress.proofs.EndFacts.{first_true, maintained}
+use Rattle.lagprogress.proofs.EndFacts.{first_true, maintained, each_row}
 use Rattle.lagprogress.proofs.Lapsing.{expired_active}
 
 -- SELECTED, in ATTACHED or COLLECTING_DISTRIBUTING, and the actor of the LACPDU is recorded as the partner
@@ -34,19 +34,13 @@ claims_or_not u p = elim (cases_Bool (is_selected p.choice)) [
 -- settling
 
 owes_mux : (u : Lacpdu) (ready : Bool) → RowsKeep (Owes u) (mux_rows ready)
-owes_mux u ready = (
-  λ p a c. absurd (no c.0.1),
-  (λ p a c. refl, (λ p a c. refl, (λ p a c. refl, (λ p a c. refl, (λ p a c. refl, tt))))),
-)
+owes_mux u ready = grind (arith, nat_tests)
 
 abbrev Calmly : Lacpdu → Machines → Type 0
 Calmly u p = (is_silent p ≡ false) × Owes u p
 
 owes_periodic_rows : (u : Lacpdu) → RowsKeep (Calmly u) periodic_rows
-owes_periodic_rows u = (
-  λ p a. a,
-  (λ p a. a, (λ p a. (a.0, λ c. refl), (λ p a. a, (λ p a. (a.0, λ c. refl), (λ p a. a, (λ p a. a, tt)))))),
-)
+owes_periodic_rows u = grind (arith, nat_tests)
 
 owes_periodic : (u : Lacpdu) (p q : Machines) → RunsPeriodic p q → (Claims u p → is_silent p ≡ false) → Owes u p → Owes u q
 owes_periodic u p q h calm a = elim (claims_or_not u p) [
@@ -64,17 +58,11 @@ Wakeful v u p = (activity v ≡ true)
     ⊎ ((activity u ≡ true) × (party_of p.partner ≡ party_of u.actor → (bits_of p.partner.state).activity ≡ true))
 
 pub can_wake : (d : ℕ) (v u : Lacpdu) (fast : Bool) (c : ℕ) (p : Machines) → CanSound v u fast c → IsEnd d v u c p → Wakeful v u p
-can_wake d v u fast c p can a = elim can.0 [
-  | inl on ↦ inl on
-  | inr e ↦ inr (e.1, λ same. (a.1.1 e.0).0.active ∙ e.1)
-]
+can_wake d v u fast c p can a = grind (arith, nat_tests)
 
 -- then it is not silent where it claims to be synchronized
 wakeful_calm : (v u : Lacpdu) (p : Machines) → p.enabled ≡ true → Says v p → Wakeful v u p → Claims u p → is_silent p ≡ false
-wakeful_calm v u p up says y claim = not_silent p.enabled p.active (bits_of p.partner.state).activity up (elim y [
-  | inl on ↦ inl (says.1 ∙ on)
-  | inr r ↦ inr (r.1 claim.1)
-])
+wakeful_calm v u p up says y claim = grind (arith, nat_tests, not_silent)
 
 pub wakeful_along : (v u : Lacpdu) (c d : ℕ) → 1 ≤ d → Along (Wakeful v u) v u c d
 wakeful_along v u c d there = record {
@@ -115,8 +103,7 @@ owing_settles d v u c n there =
 -- a receipt
 
 raise : (b ntt : Bool) → ntt ≡ true → (if b then ntt else true) ≡ true
-raise true ntt e = e
-raise false ntt e = refl
+raise b ntt e = grind (arith, nat_tests)
 
 pub owes_takes : (u x : Lacpdu) (p q : Machines) → SameActor x u → ProcessesLacpdu x p q → Owes u p → Owes u q
 owes_takes u x p q e h a = elim h [
@@ -144,51 +131,43 @@ expire i =
     ap (named i) (encode_then_decode (record (bits_of s) { timeout = true })) ∙ desync i
 
 owes_receive : (u : Lacpdu) → RowsKeep (Owes u) receive_rows
-owes_receive u = (
-  λ p a c. a (c.0, sym (desync p.partner) ∙ c.1),
-  (
-    λ p a c. a (c.0, sym (desync p.partner) ∙ c.1),
-    (
-      λ p a c. a (c.0, sym (expire p.partner) ∙ c.1),
-      (
-        λ p a c. elim (cases_Bool (same_party (party_of default_partner) (party_of p.partner))) [
-          | inl same ↦ a (
-            (sym (ap (λ b. is_selected (if b then p.choice else Unselected)) same) ∙ c.0.0, c.0.1),
-            sym (exact_party (party_of default_partner) (party_of p.partner) same) ∙ c.1,
-          )
-          | inr other ↦ absurd (no (sym (ap (λ b. is_selected (if b then p.choice else Unselected)) other) ∙ c.0.0))
-        ],
-        (λ p a c. a (c.0, sym (expire p.partner) ∙ c.1), tt),
-      ),
-    ),
-  ),
-)
+owes_receive u = each_row
+    (λ p a c. a (c.0, sym (desync p.partner) ∙ c.1))
+    (λ p a c. a (c.0, sym (desync p.partner) ∙ c.1))
+    (λ p a c. a (c.0, sym (expire p.partner) ∙ c.1))
+    (λ p a c. elim (cases_Bool (same_party (party_of default_partner) (party_of p.partner))) [
+      | inl same ↦ a (
+        (sym (ap (λ b. is_selected (if b then p.choice else Unselected)) same) ∙ c.0.0, c.0.1),
+        sym (exact_party (party_of default_partner) (party_of p.partner) same) ∙ c.1,
+      )
+      | inr other ↦ absurd (no (sym (ap (λ b. is_selected (if b then p.choice else Unselected)) other) ∙ c.0.0))
+    ])
+    (λ p a c. a (c.0, sym (expire p.partner) ∙ c.1))
 
 -- where the default partner is no other's, or the port is active, it stays wakeful
 abbrev pub IsNamed : Lacpdu → Type 0
 IsNamed u = party_of default_partner ≢ party_of u.actor
 
 wakeful_receive : (v u : Lacpdu) → (activity v ≡ true) ⊎ IsNamed u → RowsKeep (Wakeful v u) receive_rows
-wakeful_receive v u it = (
-  λ p a. still p (record p.partner { state = with_synchronization false p.partner.state }) a (desync p.partner) (ap (λ (b : StateBits). b.activity) (decoded false p.partner)),
-  (
-    λ p a. still p (record p.partner { state = with_synchronization false p.partner.state }) a (desync p.partner) (ap (λ (b : StateBits). b.activity) (decoded false p.partner)),
-    (
-      λ p a. still p (record p.partner { state = with_timeout true (with_synchronization false p.partner.state) }) a (expire p.partner) (expired_active p.partner.state),
-      (
-        λ p a. elim it [
-          | inl on ↦ inl on
-          | inr other ↦ elim a [ inl on ↦ inl on | inr r ↦ inr (r.0, λ same. absurd (other same)) ]
-        ],
-        (λ p a. still p (record p.partner { state = with_timeout true (with_synchronization false p.partner.state) }) a (expire p.partner) (expired_active p.partner.state), tt),
-      ),
-    ),
-  ),
-)
+wakeful_receive v u it = each_row
+    (λ p a. desynced p a)
+    (λ p a. desynced p a)
+    (λ p a. lapsed p a)
+    (λ p a. elim it [ inl on ↦ inl on | inr other ↦ elim a [ inl on ↦ inl on | inr r ↦ inr (r.0, λ same. absurd (other same)) ] ])
+    (λ p a. lapsed p a)
   where
     still : (p : Machines) (i : Info) → Wakeful v u p → party_of i ≡ party_of p.partner
         → (bits_of i.state).activity ≡ (bits_of p.partner.state).activity → Wakeful v u (record p { partner = i })
     still p i a same bit = elim a [ inl on ↦ inl on | inr r ↦ inr (r.0, λ e. bit ∙ r.1 (sym same ∙ e)) ]
+
+    desynced : (p : Machines) → Wakeful v u p → Wakeful v u (record p { partner = record p.partner { state = with_synchronization false p.partner.state } })
+    desynced p a = still p (record p.partner { state = with_synchronization false p.partner.state }) a (desync p.partner)
+        (ap (λ (b : StateBits). b.activity) (decoded false p.partner))
+
+    lapsed : (p : Machines) → Wakeful v u p
+        → Wakeful v u (record p { partner = record p.partner { state = with_timeout true (with_synchronization false p.partner.state) } })
+    lapsed p a = still p (record p.partner { state = with_timeout true (with_synchronization false p.partner.state) }) a (expire p.partner)
+        (expired_active p.partner.state)
 
 pub wakeful_ticks : (v u : Lacpdu) (p q : Machines) → (activity v ≡ true) ⊎ IsNamed u → RunsToRest receive_rows (count_down p) q
     → Wakeful v u p → Wakeful v u q

@@ -1,13 +1,13 @@
 -- How the mux machine of a SELECTED port climbs, and what a round keeps of what holds of one end.
 use Rattle.lagprogress.proofs.Common.{Bool, List, Some, [], ap, arith, false, if◌then◌else◌, inl, inr, not, refl, slice_get, subst, sym, true, ℕ}
-use Rattle.lagprogress.proofs.Common.{◌&&◌, ◌-◌, ◌==◌, ◌∙◌, ◌∷◌, ◌≡◌, ◌≤◌, ◌⊎◌, and_parts, nat_tests, AllByRecursion, AggId, Choice, Selected}
-use Rattle.lagprogress.proofs.Common.{Standby, Unselected, is_selected, is_unselected, same_party, party_itself, Lacpdu, party_of, MuxState, Attached}
+use Rattle.lagprogress.proofs.Common.{◌&&◌, ◌-◌, ◌==◌, ◌∙◌, ◌∷◌, ◌≡◌, ◌≤◌, ◌⊎◌, and_parts, nat_tests, AllByRecursion, AggId, Choice, Standby}
+use Rattle.lagprogress.proofs.Common.{Unselected, is_selected, is_unselected, same_party, party_itself, Lacpdu, party_of, MuxState, Attached}
 use Rattle.lagprogress.proofs.Common.{CollectingDistributing, Detached, Waiting, ReceiveState, Machines, is_synchronized, mux_rows}
 use Rattle.lagprogress.proofs.Common.{partner_synchronized, same_mux_state, default_partner, lacpdu_rows, receive_rows, same_receive_state, AtRest}
 use Rattle.lagprogress.proofs.Common.{RunsToRest, count_down, has_chosen, has_waited, is_detached_or_waiting, SystemPort, ProcessesLacpdu, IsSound}
 use Rattle.lagprogress.proofs.Common.{SystemState, stage_of, HasRecorded, IsTimed, KeptBySettling, EnabledKeep, no, not_down, times_keep, Known}
 use Rattle.lagprogress.proofs.Common.{counts, rests_still, mux_leaves, periodic_leaves, fires_keep, runs_keep}
-use Rattle.lagprogress.proofs.EndFacts.{Along, IsEnd, SameActor, Synced, activity, not_attached, takes_sync}
+use Rattle.lagprogress.proofs.EndFacts.{Along, IsEnd, SameActor, Synced, activity, not_attached, takes_sync, each_row}
 use Rattle.lagbeside.proofs.ReadyMembers.{Fine, no_member_waits}
 
 -- while current_while has ticks left the receive machine stays
@@ -16,11 +16,7 @@ pub state_not : (s : ReceiveState) (r : ReceiveState) (b : Bool) → same_receiv
 state_not s r b e h = no (sym (ap (λ c. c && b) e) ∙ h)
 
 known_rests : (u : Lacpdu) (c : ℕ) (p : Machines) → 1 ≤ c → Known u c 0 p → AtRest receive_rows p
-known_rests u c p l a =
-    let current = (a.1 l).0.current in
-    let some = (a.1 l).1 in
-    let left : (p.current_while == 0) ≡ false = grind (arith, nat_tests) in
-    rw (current, a.0, left) (refl, (refl, (refl, (refl, (refl, tt)))))
+known_rests u c p hyp1 hyp2 = grind (arith, nat_tests, false)
 
 pub known_still : (u : Lacpdu) (c : ℕ) (p q : Machines) → 1 ≤ c → Known u c 0 p → RunsToRest receive_rows p q → q ≡ p
 known_still u c p q l k h = rests_still receive_rows h.0 p q (known_rests u c p l k) h.1
@@ -75,13 +71,7 @@ rising_along v u c d t there known = record {
 
 pub ticks_rising : (d : ℕ) (v u : Lacpdu) (c t : ℕ) (p q : Machines) → 1 ≤ c - 1 → RunsToRest receive_rows (count_down p) q
     → IsEnd d v u c p → Rising t p → Rising (t - 1) q
-ticks_rising d v u c t p q l h a y = subst (Rising (t - 1)) (sym (ticks_still d v u c p q l a h)) (
-  y.0,
-  elim y.1 [
-    | inl s ↦ inl s
-    | inr w ↦ (let m = w.1 in inr (w.0, omega (arith, m)))
-  ],
-)
+ticks_rising d v u c t p q l h a y = grind (arith, nat_tests, ticks_still d v u c p q l a h)
 
 climbs : (m : MuxState) (sel unsel ready : Bool) (n : ℕ) → unsel ≡ false → (same_mux_state Detached m && not unsel) ≡ false → n ≤ 20
     → (is_synchronized m ≡ true) ⊎ ((m ≡ Waiting) × (n ≤ 20))
@@ -119,21 +109,12 @@ fine agg (y ∷ ys) a = (λ c l. risen_waits y.port.mux y.port.wait_while (a.0 (
 
 never_waits : (s : SystemState) (i : ℕ) (x : SystemPort) (c : Choice) → x.port.choice ≡ c → IsSound s → slice_get s.system_ports i ≡ Some x
     → AllByRecursion (λ (y : SystemPort). Ripe 0 y.port) s.system_ports → is_selected c ≡ true → x.port.mux ≡ Waiting → ⊥
-never_waits s i x Unselected e h at ripe sel m = no sel
-never_waits s i x (Standby agg) e h at ripe sel m = no sel
-never_waits s i x (Selected agg) e h at ripe sel m =
-    no_member_waits s i x agg h at e (fine agg s.system_ports ripe) m
+never_waits s i x c e h at ripe sel m = grind (arith, nat_tests, no_member_waits, fine)
 
 -- a SELECTED port does not wait, where no member of its aggregator has ticks of wait_while left
 pub climbed : (s : SystemState) (i : ℕ) (x : SystemPort) → IsSound s → slice_get s.system_ports i ≡ Some x
     → AllByRecursion (λ (y : SystemPort). Ripe 0 y.port) s.system_ports → Rising 0 x.port → Synced x.port
-climbed s i x h at ripe y = (
-  y.0,
-  elim y.1 [
-    | inl sync ↦ sync
-    | inr w ↦ absurd (never_waits s i x x.port.choice refl h at ripe y.0 w.0)
-  ],
-)
+climbed s i x h at ripe y = grind (arith, nat_tests, never_waits)
 
 -- a port whose link is down
 
@@ -146,8 +127,7 @@ abbrev pub Down : ℕ → ℕ → Machines → Type 0
 Down t k p = p.enabled ≡ false → Dormant t p.choice p.mux p.wait_while
 
 unselects : (t : ℕ) (b : Bool) (c : Choice) (m : MuxState) (n : ℕ) → Dormant t c m n → Dormant t (if b then c else Unselected) m n
-unselects t true c m n a = a
-unselects t false c m n a = (λ agg e. cc, λ e. absurd (no e))
+unselects t b c m n a = grind (arith, nat_tests)
 
 pub down_settles : (t : ℕ) → KeptBySettling (Down t)
 down_settles t = record {
@@ -169,25 +149,15 @@ down_takes t k x p q h a = elim h [
 ]
 
 pub down_ticks : (t k : ℕ) (p q : Machines) → RunsToRest receive_rows (count_down p) q → Down t k p → Down (t - 1) k q
-down_ticks t k p q h a = runs_keep (Down (t - 1) k) receive_rows (
-  λ p a. a,
-  (
-    λ p a. a,
-    (
-      λ p a. a,
-      (
-        λ p a e. unselects (t - 1) (same_party (party_of default_partner) (party_of p.partner)) p.choice p.mux p.wait_while (a e),
-        (λ p a. a, tt),
-      ),
-    ),
-  ),
-) (count_down p) q h (λ e. (
-  (a e).0,
-  λ s. elim ((a e).1 s) [
-    | inl y ↦ inl y
-    | inr w ↦ (let l = w.1 in inr (w.0, omega (arith, l)))
-  ],
-))
+down_ticks t k p q h a = runs_keep (Down (t - 1) k) receive_rows (each_row (λ p a. a) (λ p a. a) (λ p a. a)
+    (λ p a e. unselects (t - 1) (same_party (party_of default_partner) (party_of p.partner)) p.choice p.mux p.wait_while (a e)) (λ p a. a))
+    (count_down p) q h (λ e. (
+      (a e).0,
+      λ s. elim ((a e).1 s) [
+        | inl y ↦ inl y
+        | inr w ↦ (let l = w.1 in inr (w.0, omega (arith, l)))
+      ],
+    ))
 
 -- the partner stays synchronized
 

@@ -7,8 +7,8 @@ use Rattle.lagprogress.proofs.Common.{end_facts, first_agreement, is_stamp, same
 use Rattle.lagprogress.proofs.Common.{change_count_in, half, history_at, IsTimed, AtPort, Sounds, all_leave, LeavesPorts, Clearing, OldArrive}
 use Rattle.lagprogress.proofs.Common.{Distributes, OfPort}
 use Rattle.lagprogress.proofs.Stamps.{Took, Present, Stamped}
-use Rattle.lagprogress.proofs.LateHearing.{Ahead}
-use Rattle.lagprogress.proofs.Knowing.{nears, stays_met, AtIt, Met, able_fresh, awake_peer, beside, fits_before, fits_fresh, knows_peer, mode, wait}
+use Rattle.lagprogress.proofs.LateHearing.{Ahead, late_nears}
+use Rattle.lagprogress.proofs.Knowing.{stays_met, AtIt, Met, able_fresh, awake_peer, beside, fits_before, fits_fresh, knows_peer, mode, wait}
 use Rattle.lagprogress.proofs.Knowing.{wakes_now}
 use Rattle.lagprogress.proofs.HostStamps.{stamped_between, stamped_tick}
 use Rattle.lagprogress.proofs.OneCable.{OnCable, cable}
@@ -202,7 +202,7 @@ module _ (at : Side → ℕ) (w : Side → Lacpdu) (counts : Side → ℕ) (kept
       where
         tells : (g : Met at w counts kept 2 old) → Fits 2 w g.known → Fits 2 w (ticked g.known) → (s : Side) → Tellings s n old → Tellings s (n + 1) new
         tells g fits then s (inl (m, some, soon, y)) = let can = able_fresh at w counts kept named awake 2 old g s in
-            elim (nears at w counts kept gives 2 s (omega arith) (inr (named (peer s))) g.known fits then (mode at w s) m old new can.1 can.0 g.link
+            elim (late_nears gives 2 at w counts kept s (omega arith) (inr (named (peer s))) g.known fits then (mode at w s) m old new can.1 can.0 g.link
             (wakes_now at w 2 g.known One Nothing s (mode at w s) old can.0 g.link) g.rest y h) [
               | inl q ↦ (let l = q.0 in inl (m - 1, l, omega (arith, soon, l), q.1))
               | inr q ↦ inr (each_map (AtPort (at (peer s)) (Learnt 2 (w (peer (peer s))) (wait at w (peer s))))

@@ -120,19 +120,19 @@ pub use Rattle.lagworld.specs.declared.fault.WorldFault.{WorldFault}
 pub use Rattle.lagworld.specs.declared.histories.PortHistory.{PortHistory}
 pub use Rattle.lagworld.specs.declared.reply.Reply.{Reply}
 pub use Rattle.lagworld.specs.Agreement.{agreement_at, agreement_of, end_facts, first_agreement, is_stamp, same_groups}
-pub use Rattle.lagworld.specs.Events.{AfterOffer, AfterReceive, AfterTransmit, Algorithms, DeliversFrom, InHalf, OnLink, WorldEmits, WorldOffers}
-pub use Rattle.lagworld.specs.Events.{WorldReceives, WorldRuns, WorldSteps, cause, cause_or_no_memory, first_event_cause, has_cable, has_system}
-pub use Rattle.lagworld.specs.Events.{may_take_memory, most_events, offered_item, sent_reply, set_last_lacpdu, side_of, stamp_for, stamped_in}
-pub use Rattle.lagworld.specs.Events.{transmitted_item, with_frame_counted, with_item_sent, with_link_at, with_stamp_collected}
+pub use Rattle.lagworld.specs.Events.{AfterOffer, AfterReceive, AfterTransmit, Algorithms, DeliversFrom, InHalf, WorldEmits, WorldReceives, WorldRuns}
+pub use Rattle.lagworld.specs.Events.{WorldSteps, cause, cause_or_no_memory, first_event_cause, has_cable, has_system, may_take_memory, most_events}
+pub use Rattle.lagworld.specs.Events.{offered_item, sent_reply, set_last_lacpdu, side_of, stamp_for, stamped_in, transmitted_item, with_frame_counted}
+pub use Rattle.lagworld.specs.Events.{with_item_sent, with_link_at, with_stamp_collected}
 pub use Rattle.lagworld.specs.HalfCalls.{HalfAnswers, HalfForces, HalfMoves, HalfTicks, forced_if_accepted, set_taken}
 pub use Rattle.lagworld.specs.Making.{AreFirst}
 pub use Rattle.lagworld.specs.Messages.{payload_in, stamp_count}
 pub use Rattle.lagworld.specs.ModelWorld.{link_ends, world_setup}
 pub use Rattle.lagworld.specs.Readers.{ends_of_cable, ports_joined}
 pub use Rattle.lagworld.specs.Sound.{IsStart, IsSound as IsWorldSound, RefusesNext, both_algorithms, next_of}
-pub use Rattle.lagworld.specs.State.{HalfState, ItemValue, LinkState, WorldState, accepts, accepts_at, change_count_in, change_link, element_numbered}
-pub use Rattle.lagworld.specs.State.{emptied, half, history_at, is_accepted, limit_towards, link_at, link_index, port_at, put_on_port, sent_on}
-pub use Rattle.lagworld.specs.State.{taken_in, towards, with_half, with_links, with_towards}
+pub use Rattle.lagworld.specs.State.{HalfState, ItemValue, LinkState, WorldState, accepts, accepts_at, change_count_in, change_link, emptied, half}
+pub use Rattle.lagworld.specs.State.{history_at, is_accepted, limit_towards, link_at, link_index, port_at, put_on_port, sent_on, taken_in, towards}
+pub use Rattle.lagworld.specs.State.{with_half, with_links, with_towards}
 pub use Rattle.lagworld.proofs.Arrives.{count_heard, read_log}
 pub use Rattle.lagworld.proofs.Cables.{end_is, mapped_set, put_ends, set_elsewhere, set_here}
 pub use Rattle.lagworld.proofs.Sides.{half_there, position_there}
@@ -169,8 +169,8 @@ pub use Rattle.lagprogress.specs.Bundle.{EnoughAggregators, EnoughLinks, HostRea
 pub use Rattle.lagprogress.specs.Bundle.{SelectedPairsAgree, SelectedPairsComeUp, SystemsDiffer}
 pub use Rattle.lagprogress.specs.CutOff.{CutOffIsDefaulted, EachLinkAgreesBesideCutOffs, EachLinkComesUpBesideCutOffs, IsBundleBesideCutOffs}
 pub use Rattle.lagprogress.specs.CutOff.{IsCutOff}
-pub use Rattle.lagprogress.specs.Freed.{CarriersAreUp, EachHostReachedHasCarriersUp, HasIdentifierLeft, HasPortUp, IsNotHeldOn, NoneIsHeld}
-pub use Rattle.lagprogress.specs.Freed.{NoneIsHeldOn, NothingIsHeld, carrier_of, held_on}
+pub use Rattle.lagprogress.specs.Freed.{CarriersAreUp, EachHostReachedHasCarriersUp, HasIdentifierLeft, HasPortUp, IsNotHeldOn, NoneIsHeldOn}
+pub use Rattle.lagprogress.specs.Freed.{NothingIsHeld, carrier_of, held_on}
 pub use Rattle.lagprogress.specs.HostFreed.{AskingInVainIsDraining, AsksInVain, AsksInVainAfterTick, DrainingRounds, IsDrainingRound, IsNoMoveOf}
 pub use Rattle.lagprogress.specs.HostFreed.{NoneIsHeldBesideCutOffsByHosts, NoneIsHeldOnEndsByHosts, NothingIsDue, NothingIsHeldByHosts}
 pub use Rattle.lagprogress.specs.HostFreed.{RoundIsDraining, sent_nothing}

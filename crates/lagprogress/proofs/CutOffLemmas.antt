@@ -3,19 +3,18 @@ use Rattle.lagprogress.proofs.Common.{Bool, List, None, Ok, Option, Result, Some
 use Rattle.lagprogress.proofs.Common.{slice_set, subst, sym, true, ℕ, ◌&&◌, ◌++◌, ◌-◌, ◌==◌, ◌∙◌, ◌∷◌, ◌≡◌, ◌≤◌, ◌⊎◌, cases_Bool, nat_tests}
 use Rattle.lagprogress.proofs.Common.{none-some, same_Some, AllByRecursion, Lacpdu, One, Side, Two, peer, value_of, ReceiveState, Machines}
 use Rattle.lagprogress.proofs.Common.{receive_rows, RunsToRest, after_sending, count_down, is_due, SystemFault, Received, TookLacpdu, SystemPort}
-use Rattle.lagprogress.proofs.Common.{Carries, IsFrame, ParsesWhere, Performs, Receive, ReceivesAt, Step, Transmit, can_receive_in, none_enabled}
-use Rattle.lagprogress.proofs.Common.{TransmitsAt, TransmitsIf, CallPromise, SystemState, port_index, can_receive_at_rest, all-get, found_place}
-use Rattle.lagprogress.proofs.Common.{Reply, AfterTransmit, Algorithms, WorldSteps, side_of, HalfState, ItemValue, LinkState, WorldState, accepts}
-use Rattle.lagprogress.proofs.Common.{change_link, half, link_at, link_index, port_at, put_on_port, sent_on, towards, with_half, with_towards}
-use Rattle.lagprogress.proofs.Common.{set_elsewhere, set_here, position_there, HostEvent, Plays, IsTimed, most_current_while, timeout_time}
-use Rattle.lagprogress.proofs.Common.{KeptBySettling, OfEach, Step-each, asked_each, Unheard, begins, is_defaulted, no, receives, rested}
-use Rattle.lagprogress.proofs.Common.{unheard_settles, when_up, AtPort, same_place, CutOffIsDefaulted, IsCutOff, HostRounds, IsHostRound, IsQuiet}
-use Rattle.lagprogress.proofs.Common.{StepReplies, IsSteady}
+use Rattle.lagprogress.proofs.Common.{Carries, IsFrame, Receive, ReceivesAt, Step, Transmit, TransmitsAt, TransmitsIf, CallPromise, SystemState}
+use Rattle.lagprogress.proofs.Common.{port_index, can_receive_at_rest, all-get, found_place, Reply, AfterTransmit, Algorithms, WorldSteps, side_of}
+use Rattle.lagprogress.proofs.Common.{HalfState, ItemValue, LinkState, WorldState, change_link, half, link_at, link_index, port_at, put_on_port}
+use Rattle.lagprogress.proofs.Common.{sent_on, towards, with_half, with_towards, set_elsewhere, set_here, position_there, HostEvent, Plays}
+use Rattle.lagprogress.proofs.Common.{most_current_while, timeout_time, KeptBySettling, OfEach, Step-each, asked_each, Unheard, begins, is_defaulted}
+use Rattle.lagprogress.proofs.Common.{receives, rested, unheard_settles, when_up, AtPort, same_place, CutOffIsDefaulted, IsCutOff, HostRounds}
+use Rattle.lagprogress.proofs.Common.{IsHostRound, IsQuiet, NoneIsLeft, StepReplies, IsSteady}
 use Rattle.lagbeside.proofs.Hearing.{counts}
 use Rattle.lagprogress.proofs.OneRound.{one_of_both}
 use Rattle.lagprogress.proofs.RoundEvents.{asked_half, came_half}
 use Rattle.lagbeside.proofs.Told.{current_within}
-use Rattle.lagprogress.proofs.EachRound.{EachAt, RoundKeeps, asks_each, delivers_each, own_keeps, own_ticks, hosts_on, hosts_split, hosts_steady}
+use Rattle.lagprogress.proofs.EachRound.{EachAt, RoundKeeps, asks_each, delivers_each, own_keeps, own_ticks, played_on, played_split, played_steady}
 use Rattle.lagprogress.proofs.EachRound.{tick_keeps, tick_leaves, tick_makes}
 use Rattle.lagprogress.proofs.OneCable.{Comes, Sends, came_off, ticks}
 use Rattle.lagprogress.proofs.HostRound.{KeptBetween, MadeByTick, holds_on, of_side}
@@ -26,7 +25,7 @@ use Rattle.lagsystem.specs.declared.drive.Reply.TheVariants as answer
 use Rattle.lagsystem.specs.declared.received.Received.TheVariants as received
 use Rattle.lagscript.specs.declared.event.Event.TheVariants as event
 use Rattle.slowpdu.specs.declared.pdu.Pdu.TheVariants as pdu
-use Rattle.lagprogress.proofs.Lasting.{Alike, all_by_place, as_before, rounds_alike}
+use Rattle.lagprogress.proofs.Lasting.{Alike, all_by_place, played_alike, played_before}
 
 -- a port that is down says nothing
 
@@ -52,15 +51,7 @@ sends_none n (Some i) old frame new e h a =
 
 answers_none : (n : ℕ) (o : Option ℕ) (octets : List ℕ) (old : SystemState) (frame : List ℕ) (new : SystemState)
     → port_index n old.system_ports ≡ o → ReceivesAt o octets old (received.Respond frame) new → OfEach (AtPort n Dead) old.system_ports → ⊥
-answers_none n None octets old frame new e h a = none-some h.0 h.2
-answers_none n (Some i) octets old frame new e h a =
-    let down = all-get (λ (y : SystemPort). AtPort n Dead y.number y.port) old.system_ports i h.0 h.2 a
-    (found_place n old.system_ports i h.0 e h.2) in
-    let parsed = subst (λ b. ParsesWhere b h.0 octets h.1) down h.3 in
-    differ (subst (λ x. Performs x h.0.number (Some i) old (received.Respond frame) new) parsed h.4).0
-  where
-    differ : received.Respond frame ≡ received.Disabled → ⊥
-    differ f = cc
+answers_none n o octets old frame new hyp1 hyp2 hyp3 = grind (arith, nat_tests, none-some, all-get, found_place)
 
 -- the item bears no LACPDU
 abbrev BearsNone : ItemValue → Type 0
@@ -87,28 +78,20 @@ set_cut b s p k M m new links there is cut i l h e = elim (cases_Bool (i == k)) 
 -- a cable that is cut accepts nothing
 
 lost : (w x : Bool) (xs ys : List ItemValue) → w ≡ false → (if w && x then ys else xs) ≡ xs
-lost true x xs ys e = absurd (no (sym e))
-lost false x xs ys e = refl
+lost w x xs ys e = grind (arith, nat_tests)
 
 sent_cut : (s u : Side) (item : ItemValue) (m : LinkState) → (u ≡ peer s → m.whole ≡ false) → towards s (sent_on u item m) ≡ towards s m
-sent_cut One One item m cut = refl
-sent_cut One Two item m cut = lost m.whole _ (towards One m) (towards One m ++ item ∷ []) (cut refl)
-sent_cut Two One item m cut = lost m.whole _ (towards Two m) (towards Two m ++ item ∷ []) (cut refl)
-sent_cut Two Two item m cut = refl
+sent_cut s u item m cut = grind (arith, nat_tests, lost)
 
 plain_last : (xs : List ItemValue) (item : ItemValue) → BearsNone item → Plain xs → Plain (xs ++ item ∷ [])
 plain_last [] item none a = (none, tt)
 plain_last (x ∷ xs) item none a = (a.0, plain_last xs item none a.1)
 
 plain_if : (b : Bool) (xs : List ItemValue) (item : ItemValue) → BearsNone item → Plain xs → Plain (if b then xs ++ item ∷ [] else xs)
-plain_if true xs item none a = plain_last xs item none a
-plain_if false xs item none a = a
+plain_if b xs item none a = grind (arith, nat_tests, plain_last)
 
 sent_plain : (s u : Side) (item : ItemValue) (m : LinkState) → BearsNone item → Plain (towards s m) → Plain (towards s (sent_on u item m))
-sent_plain One One item m none a = a
-sent_plain One Two item m none a = plain_if (accepts Two m) (towards One m) item none a
-sent_plain Two One item m none a = plain_if (accepts One m) (towards Two m) item none a
-sent_plain Two Two item m none a = a
+sent_plain s u item m none a = grind (arith, nat_tests, plain_if)
 
 ends_stay : (M : ℕ → Type 0) (s u : Side) (item : ItemValue) (m : LinkState) → (m.whole ≡ false) ⊎ M (port_at (peer s) m)
     → ((sent_on u item m).whole ≡ false) ⊎ M (port_at (peer s) (sent_on u item m))
@@ -181,20 +164,14 @@ sends_cut b s v p q M (Ok (received.Respond frame)) old new not h cut =
 sends_cut b s v p q M a old new not h cut = subst (CutAt b s p M) (sym h) cut
 
 same_taken : (s : Side) (rest : List ItemValue) (m : LinkState) → towards s (with_towards s rest m) ≡ rest
-same_taken One rest m = refl
-same_taken Two rest m = refl
+same_taken s rest m = grind (arith, nat_tests)
 
 other_taken : (s : Side) (rest : List ItemValue) (m : LinkState) → towards s (with_towards (peer s) rest m) ≡ towards s m
-other_taken One rest m = refl
-other_taken Two rest m = refl
+other_taken s rest m = grind (arith, nat_tests)
 
 taken_cut : (b : ℕ) (s v : Side) (m : LinkState) (rest : List ItemValue) (item : ItemValue) → towards v m ≡ item ∷ rest
     → (1 ≤ b → Plain (towards s m)) → (v ≡ s) ⊎ (v ≡ peer s) → 1 ≤ b → Plain (towards s (with_towards v rest m))
-taken_cut b s v m rest item first none (inl same) l =
-    let xs : towards s m ≡ item ∷ rest = sym (ap (λ (t : Side). towards t m) same) ∙ first in
-    subst Plain (sym (subst (λ t. towards s (with_towards t rest m) ≡ rest) (sym same) (same_taken s rest m))) (subst Plain xs (none l)).1
-taken_cut b s v m rest item first none (inr other) l =
-    subst Plain (sym (subst (λ t. towards s (with_towards t rest m) ≡ towards s m) (sym other) (other_taken s rest m))) (none l)
+taken_cut b s v m rest item first none at l = grind (arith, nat_tests, same_taken, other_taken)
 
 ends_left : (M : ℕ → Type 0) (s v : Side) (rest : List ItemValue) (m : LinkState) → (m.whole ≡ false) ⊎ M (port_at (peer s) m)
     → ((with_towards v rest m).whole ≡ false) ⊎ M (port_at (peer s) (with_towards v rest m))
@@ -376,15 +353,7 @@ long_most r n l = let m = current_within r in omega (arith, l, m)
 
 deaf_first : (s : Side) (j : WorldState) (k : ℕ) (z : SystemPort) → IsSteady j → slice_get (half s j).state.system_ports k ≡ Some z
     → z.port.enabled ≡ true → Unheard 1 930 z.port
-deaf_first s j k z steady there up =
-    let st = (half s j).state in
-    let awake = can_receive_at_rest z.port
-    (all-get (λ (y : SystemPort). none_enabled receive_rows y.port ≡ true) st.system_ports k z there (steady s).0.rested.0) in
-    let timed = all-get (λ (y : SystemPort). IsTimed y.port) st.system_ports k z there (steady s).1 in (
-      up,
-      begins z.port.receive false z.port.current_while (when_up z.port.enabled (can_receive_in z.port.receive) up awake) timed.0
-          (long_most z.port.receive z.port.current_while timed.0),
-    )
+deaf_first s j k z hyp1 hyp2 hyp3 = grind (arith, nat_tests, can_receive_at_rest, all-get, true, begins, false, when_up, long_most)
 
 -- the ports of a system whose links were down
 abbrev pub WereDown : Side → WorldState → ℕ → Type 0
@@ -398,10 +367,10 @@ deaf_since : (gives : Algorithms) (n k : ℕ) (s : Side) (x : SystemPort) (old n
 deaf_since gives n k s x old new steady there up cut enough h =
     let p = x.number in
     let M : ℕ → Type 0 = WereDown (peer s) old in
-    let parts = hosts_split gives (n - 1) 1 n old new (omega (arith, enough)) h in
+    let parts = played_split NoneIsLeft gives (n - 1) 1 n old new (omega (arith, enough)) h in
     let mid = parts.0 in
     let one = parts.1 in
-    let calm = hosts_steady gives 1 old mid steady one in
+    let calm = played_steady NoneIsLeft gives 1 old mid steady one in
     let round = subst (λ j. IsHostRound gives j mid) one.1 one.2 in
     let start : Severed 0 s p M old = (
       λ i l e f. (
@@ -416,11 +385,11 @@ deaf_since gives n k s x old new steady there up cut enough h =
     ) in
     let still = leaves_cut gives 0 s p M old mid round start in
     let empty : Severed 1 s p M mid = (λ i l e f. ((still.0 i l e f).0, λ z. subst Plain (sym (one.2.empties s i l e)) tt), still.1) in
-    let alike = rounds_alike gives 1 old mid steady one s k x there in
+    let alike = played_alike NoneIsLeft gives 1 old mid steady one s k x there in
     let first : EachAt (Deaf p 930) s mid = all_by_place (λ z. Deaf p 930 z.number z.port) (half s mid).state.system_ports
     (λ i z e f. deaf_first s mid i z calm e ((all-get (λ (q : SystemPort). AtPort p (Alike x.port) q.number q.port)
     (half s mid).state.system_ports i z e alike f).1 ∙ up)) in
-    hosts_on gives (λ m j. EachAt (Deaf p (930 - m)) s j × Severed 1 s p M j) mid
+    played_on NoneIsLeft gives (λ m j. EachAt (Deaf p (930 - m)) s j × Severed 1 s p M j) mid
     (subst (λ m. EachAt (Deaf p m) s mid) (omega arith) first, empty)
     (λ m i j q a. subst (λ w. EachAt (Deaf p w) s j × Severed 1 s p M j) (omega arith)
     (cut_round p M (Unheard 1 (930 - m)) (Unheard 1 (930 - m - 1)) (deaf_keeps p (930 - m)) (deaf_keeps p (930 - m - 1))
@@ -432,10 +401,4 @@ pub cut_since : (gives : Algorithms) (n k : ℕ) (s : Side) (x : SystemPort) (ol
 cut_since gives n k s x old new steady there up cut enough h = (deaf_since gives n k s x old new steady there up cut enough h).1
 
 pub cut_off_is_defaulted_by_hosts : (gives : Algorithms) → CutOffIsDefaulted HostRounds gives
-cut_off_is_defaulted_by_hosts gives n k s x y old new steady there up cut enough h now =
-    let p = x.number in
-    let last = deaf_since gives n k s x old new steady there up cut enough h in
-    let numbers = (as_before gives n old new steady h s).numbers in
-    let number = same_place (half s old).state.system_ports (half s new).state.system_ports k x y numbers there now in
-    let end = all-get (λ (q : SystemPort). Deaf p (930 - (n - 1)) q.number q.port) (half s new).state.system_ports k y now last.0 number in
-    is_defaulted (930 - (n - 1)) y.port.current_while y.port.receive (omega (arith, enough)) end.1
+cut_off_is_defaulted_by_hosts gives = grind (arith, nat_tests, deaf_since, played_before, same_place, all-get, is_defaulted)

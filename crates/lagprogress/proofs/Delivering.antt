@@ -1,13 +1,13 @@
 -- What a Deliver event leaves of a cable and its ends.
-use Rattle.lagprogress.proofs.Common.{Err, List, Ok, Result, Some, inl, inr, refl, slice_get, subst, sym, true, ℕ, ◌∙◌, ◌∷◌, ◌≡◌, ◌≤◌, ◌⊎◌, none-some}
-use Rattle.lagprogress.proofs.Common.{same_Some, AllByRecursion, Lacpdu, Side, peer, Machines, SystemFault, Received, SystemPort, Carries, IsFrame}
-use Rattle.lagprogress.proofs.Common.{Receive, CallPromise, SystemState, port_index, all-get, Reply, Algorithms, WorldSteps, ItemValue, WorldState}
-use Rattle.lagprogress.proofs.Common.{half, OfEach, takes_each, AtPort}
+use Rattle.lagprogress.proofs.Common.{Err, List, Ok, Result, Some, arith, inl, inr, refl, slice_get, subst, sym, ℕ, ◌∙◌, ◌∷◌, ◌≡◌, ◌≤◌, ◌⊎◌}
+use Rattle.lagprogress.proofs.Common.{none-some, same_Some, AllByRecursion, Lacpdu, Side, peer, Machines, SystemFault, Received, SystemPort, Carries}
+use Rattle.lagprogress.proofs.Common.{IsFrame, Receive, CallPromise, SystemState, all-get, Reply, Algorithms, WorldSteps, ItemValue, WorldState, half}
+use Rattle.lagprogress.proofs.Common.{OfEach, takes_each, AtPort}
 use Rattle.slowpdu.specs.declared.pdu.Pdu.TheVariants as pdu
 use Rattle.lagsystem.specs.declared.drive.Reply.TheVariants as answer
 use Rattle.lagsystem.specs.declared.received.Received.TheVariants as received
 use Rattle.lagscript.specs.declared.event.Event.TheVariants as event
-use Rattle.lagprogress.proofs.EndFacts.{Along, IsEnd, Learnt, Suits, both_along, end_settles, known_along, takes_end, takes_learnt, wait_of}
+use Rattle.lagprogress.proofs.EndFacts.{Along, IsEnd, Learnt, Suits, both_along, end_settles, learnt_along, takes_end, takes_learnt, wait_of}
 use Rattle.lagprogress.proofs.Halves.{keeps_timely}
 use Rattle.lagprogress.proofs.OneCable.{Arrives, delivers, put, Beside, response}
 use Rattle.lagprogress.proofs.Passing.{marker_carries_none}
@@ -55,8 +55,8 @@ arrived_ports d at w c x Y s k z octets old new fits along l there numbered good
     let was = all-get (λ (y : SystemPort). AtPort (at s) P y.number y.port) (half s old).state.system_ports k z there (l.ports s) numbered in
     let given = along_if w c d x Y along s in
     let late : Along Late (w s) (w (peer s)) (c s) d = record {
-      mux = λ ready p q h y e. (known_along (w s) (w (peer s)) (c s) d e (fits s).3).mux ready p q h (y e);
-      periodic = λ p q h a y e. (known_along (w s) (w (peer s)) (c s) d e (fits s).3).periodic p q h a (y e);
+      mux = λ ready p q h y e. (learnt_along (w s) (w (peer s)) (c s) d (wait_of (w s)) (omega arith) e (fits s).3).mux ready p q h (y e);
+      periodic = λ p q h a y e. (learnt_along (w s) (w (peer s)) (c s) d (wait_of (w s)) (omega arith) e (fits s).3).periodic p q h a (y e);
       select = λ choice p none y e. y e;
       takes = λ u p q same awake h a y e. takes_learnt (w s) (w (peer s)) u (c s) d p q e (fits s).3 same awake h a;
     } in
@@ -85,6 +85,19 @@ flew t fl now item rest H first said on f = by_item (subst Flying first f)
     by_item (inl v) = elim said [ inl not ↦ absurd (not v.0 v.1) | inr h ↦ inr h ]
     by_item (inr g) = inl (on (subst Flying (sym (put_there t rest fl)) g))
 
+-- what came to the port at an end
+pub came_to : (gives : Algorithms) (q : Side) (d : ℕ) (at : Side → ℕ) (w : Side → Lacpdu) (c : Side → ℕ) (x : Side) (Y : Machines → Type 0)
+    (old new : WorldState) (l : Link d at w c x Y old) (k : Arrives gives q at l.flying old new)
+    → Arrived (end_here at w d c x Y old l q).index k.item.octets (half q old).state (half q new).state
+came_to gives q d at w c x Y old new l k = by_answer k.a k.promise
+  where
+    by_answer : (a : Result Received SystemFault)
+        → CallPromise (gives q) (half q old).state (Receive (at q) k.item.octets) (answer.Receive a) (half q new).state
+        → Arrived (end_here at w d c x Y old l q).index k.item.octets (half q old).state (half q new).state
+    by_answer (Err fault) p = let z = end_here at w d c x Y old l q in absurd (none-some z.index (sym p.step.cause ∙ z.place))
+    by_answer (Ok o) p = let z = end_here at w d c x Y old l q in
+        arrival (gives q) (at q) z.index z.port k.item.octets o (half q old).state (half q new).state z.place z.there z.is.1.0 p
+
 arrives_link : (gives : Algorithms) (cn n : ℕ) (s : Side) (d : ℕ) (at : Side → ℕ) (w : Side → Lacpdu) (c : Side → ℕ) (x : Side)
     (Y : Machines → Type 0) (r : Reply) (old new : WorldState) → Fits d w c → Along Y (w x) (w (peer x)) (c x) d
     → (l : Link d at w c x Y old) → WorldSteps gives old (event.Deliver cn n) r new → Arrives gives s at l.flying old new
@@ -94,7 +107,7 @@ arrives_link gives cn n s d at w c x Y r old new fits along l h k =
     let z = end_here at w d c x Y old l s in
     let P = EndIs d w c x Y in
     let good = subst (AllByRecursion (IsGood d w s)) k.first (l.good s) in
-    let came = arrived_by k.a z.index z.port z.is.1.0 z.place z.there k.promise in
+    let came = came_to gives s d at w c x Y old new l k in
     let own = arrived_ports d at w c x Y s z.index z.port k.item.octets old new fits along l z.there z.number good.0 came in
     let other = subst (λ (y : SystemState). OfEach (AtPort (at (peer s)) (P (peer s))) y.system_ports) (sym k.peers) (l.ports (peer s)) in
     let less : AllGood d w (put s k.rest l.flying) = each_side (λ t. AllByRecursion (IsGood d w t) (put s k.rest l.flying t)) s
@@ -117,13 +130,6 @@ arrives_link gives cn n s d at w c x Y r old new fits along l h k =
           (flew s l.flying k.now k.item k.rest (1 ≤ d → Heard d at w s new) k.first own.1 (on s))
           (λ f. inl (on (peer s) (subst Flying (sym (put_other s k.rest l.flying)) f)));
     }
-  where
-    arrived_by : (a : Result Received SystemFault) (i : ℕ) (z : SystemPort) → z.port.enabled ≡ true
-        → port_index (at s) (half s old).state.system_ports ≡ Some i → slice_get (half s old).state.system_ports i ≡ Some z
-        → CallPromise (gives s) (half s old).state (Receive (at s) k.item.octets) (answer.Receive a) (half s new).state
-        → Arrived i k.item.octets (half s old).state (half s new).state
-    arrived_by (Err fault) i z up e f p = absurd (none-some i (sym p.step.cause ∙ e))
-    arrived_by (Ok o) i z up e f p = arrival (gives s) (at s) i z k.item.octets o (half s old).state (half s new).state e f up p
 
 -- so it is if the first item towards the end of s came
 pub arrives_moves : (gives : Algorithms) (cn n : ℕ) (s : Side) (d : ℕ) (at : Side → ℕ) (w : Side → Lacpdu) (c : Side → ℕ) (x : Side)

@@ -1,32 +1,24 @@
 -- How the conversations that are held on a port of a healthy cable are freed, round by round.
-use Rattle.lagprogress.proofs.Common.{Bool, Err, List, None, Ok, Option, Result, Some, ap, arith, bytes_eq, cond, eqb, false, inl, inr, ltb, refl}
+use Rattle.lagprogress.proofs.Common.{Bool, Err, List, None, Ok, Option, Result, Some, ap, arith, bytes_eq, cond, eqb, false, inl, inr, refl}
 use Rattle.lagprogress.proofs.Common.{slice_get, subst, sym, true, ℕ, ◌&&◌, ◌+◌, ◌==◌, ◌∙◌, ◌≡◌, ◌⊎◌, cases_Bool, nat_tests, none-some, same_Some}
-use Rattle.lagprogress.proofs.Common.{Lacpdu, frame_octets, Side, peer, is_due, Assignment, Flushing, Free, On, Wanted, is_among, after_mark}
-use Rattle.lagprogress.proofs.Common.{after_release, after_tick, marker_due, Table, assignment_of, SystemFault, Received, SystemPort, Carries}
-use Rattle.lagprogress.proofs.Common.{GivesEffect, IsFrame, ParsesWhere, Performs, Receive, ReceivesAt, Releases, Transmit, is_own_response}
-use Rattle.lagprogress.proofs.Common.{aggregator_numbered, distributing, SendsMarkerOf, TransmitsAt, TransmitsIf, Settling, CallPromise, SystemState}
-use Rattle.lagprogress.proofs.Common.{port_index, ports_table, settling_parts, effect_one, TableChanges, table_changes, found_place, Algorithms}
-use Rattle.lagprogress.proofs.Common.{ItemValue, WorldState, half}
+use Rattle.lagprogress.proofs.Common.{Lacpdu, frame_octets, Side, peer, is_due, Assignment, Flushing, Free, On, Wanted, is_among, after_release}
+use Rattle.lagprogress.proofs.Common.{after_tick, marker_due, Table, assignment_of, SystemFault, Received, SystemPort, Carries, GivesEffect, IsFrame}
+use Rattle.lagprogress.proofs.Common.{ParsesWhere, Performs, Receive, ReceivesAt, Releases, Transmit, is_own_response, aggregator_numbered}
+use Rattle.lagprogress.proofs.Common.{distributing, SendsMarkerOf, TransmitsAt, TransmitsIf, Settling, CallPromise, SystemState, port_index}
+use Rattle.lagprogress.proofs.Common.{effect_one, TableChanges, table_changes, found_place, Algorithms, ItemValue, WorldState, half}
 use Rattle.std.proofs.lemmas.Slice.Eq.{bytes_eq-Decides}
 use Rattle.slowpdu.specs.declared.pdu.Pdu.TheVariants as pdu
 use Rattle.lagsystem.specs.declared.drive.Reply.TheVariants as answer
 use Rattle.lagsystem.specs.declared.received.Received.TheVariants as received
 use Rattle.lagprogress.proofs.Answering.{IsFine, settles_all, turned_by}
 use Rattle.lagprogress.proofs.Holding.{Fine, Flights, Has, IsMarker, answering, asking, frame_is, has_last, marked_beside, is_port, not_port}
-use Rattle.lagprogress.proofs.Holding.{released_beside, settled_fine}
+use Rattle.lagprogress.proofs.Holding.{released_beside}
 use Rattle.lagprogress.proofs.Linked.{peer_twice, push_there, put_other, put_there, gains_has}
 use Rattle.lagprogress.proofs.OneCable.{Arrives, Back, Elsewhere, put, response}
 use Rattle.lagprogress.proofs.Passing.{sent_carries}
 
 pub after_tick_on : (p : ℕ) (a : Assignment) → after_tick a ≡ On p → a ≡ On p
-after_tick_on p (Free preferred) e = e
-after_tick_on p (On q) e = e
-after_tick_on p (Wanted q preferred) e = e
-after_tick_on p (Flushing q n preferred age) e = by_test (ltb (age + 1) 30) e
-  where
-    by_test : (b : Bool) → cond b (Flushing q n preferred (age + 1)) (Wanted q preferred) ≡ On p → Flushing q n preferred age ≡ On p
-    by_test true f = absurd cc
-    by_test false f = absurd cc
+after_tick_on p a e = grind (arith, nat_tests)
 
 module _ (at : Side → ℕ) (w : Side → Lacpdu) (s : Side) (mac : List ℕ) (agg conv : ℕ) where
   abbrev FineIn : ℕ → Type 0 → (ℕ → Type 0) → Table → Type 0
@@ -49,11 +41,12 @@ module _ (at : Side → ℕ) (w : Side → Lacpdu) (s : Side) (mac : List ℕ) (
   settled_from m W F old mid new e h stays fine = settles_all at w s mac agg conv m W F mid new h
       (λ g k f. stays g k (sym (ap (λ t. assignment_of t g k) e) ∙ f)) (subst (FineIn m W F) (sym e) fine)
 
+  table_fine : (index : Option ℕ) (old new : SystemState) (m : ℕ) (W : Type 0) (F : ℕ → Type 0) → Stays old new → TableChanges index old new
+      → FineIn m W F old.table → FineIn m W F new.table
+  table_fine index old new m W F hyp1 hyp2 hyp3 = grind (arith, nat_tests, settled_from, turned_by, released_beside)
+
   own_response : (old : SystemState) (port id : ℕ) → port ≡ at s → old.system.mac ≡ mac → is_own_response old port (answering (at s) mac id) ≡ true
-  own_response old port id number own =
-      let bytes : bytes_eq mac old.system.mac ≡ true = (bytes_eq-Decides mac old.system.mac).1 (sym own) in
-      let same : (at s == port) ≡ true = grind (arith, nat_tests) in
-      rw (same, bytes) refl
+  own_response old port id hyp1 hyp2 = grind (arith, nat_tests, bytes_eq, true, bytes_eq-Decides)
 
   -- one conversation: its response came, or what is known of it goes on
   one_fine : (octets : List ℕ) (m : ℕ) (W : Type 0) (F G : ℕ → Type 0) (a b : Assignment)
@@ -85,21 +78,8 @@ module _ (at : Side → ℕ) (w : Side → Lacpdu) (s : Side) (mac : List ℕ) (
       → ((id : ℕ) → IsResponse octets id → (g k : ℕ) → assignment_of new.table g k ≡ after_release (at s) id (assignment_of old.table g k))
       → Stays old new → TableChanges index old new → FineIn m W F old.table → FineIn m W G new.table
   changes_fine index old new octets m W F G split comes stays c fine =
-      one_fine octets m W F G (assignment_of old.table agg conv) (assignment_of new.table agg conv) split (λ id r. comes id r agg conv) (goes c) fine
-    where
-      goes : TableChanges index old new → FineIn m W G old.table → FineIn m W G new.table
-      goes (inl x) h =
-          let q = settling_parts x.1.0 new x.1.2 in
-          let table : q.0.table ≡ old.table = ports_table x.1.0 q.0 q.1 ∙ ap (λ (t : SystemState). t.table) x.1.1.1 in
-          let ports : new.system_ports ≡ q.0.system_ports = ap (λ (t : SystemState). t.system_ports) q.2.frame in
-          subst (Fine (at s) m W G) (sym (q.2.states agg conv))
-          (settled_fine (at s) m W G (distributing (aggregator_numbered agg) q.0.system_ports) (assignment_of q.0.table agg conv)
-          (λ e. subst (λ xs. is_among (distributing (aggregator_numbered agg) xs) (at s) ≡ true) ports
-          (stays agg conv (sym (ap (λ t. assignment_of t agg conv) table) ∙ e)))
-          (subst (λ t. Fine (at s) m W G (assignment_of t agg conv)) (sym table) h))
-      goes (inr (inl z)) h =
-          subst (Fine (at s) m W G) (sym (z.2.states agg conv)) (released_beside (at s) m z.0 z.1 W G (assignment_of old.table agg conv) h)
-      goes (inr (inr e)) h = subst (λ t. Fine (at s) m W G (assignment_of t agg conv)) (sym e) h
+      one_fine octets m W F G (assignment_of old.table agg conv) (assignment_of new.table agg conv) split (λ id r. comes id r agg conv)
+      (table_fine index old new m W G stays c) fine
 
   -- an item comes to the port at the end of s
   pub comes_fine : (gives : Algorithms) (fl : Side → List ItemValue) (old new : WorldState) (i : ℕ) (z : SystemPort) (m : ℕ) (W : Type 0)
@@ -187,10 +167,7 @@ module _ (at : Side → ℕ) (w : Side → Lacpdu) (s : Side) (mac : List ℕ) (
 
   other_marks : (o : Option ℕ) (port : ℕ) (z : List ℕ) (old : SystemState) (a : Option (List ℕ)) (new : SystemState) (m : ℕ) (W : Type 0)
       (F : ℕ → Type 0) → (port ≡ at s → ⊥) → SendsMarkerOf o port z old a new → FineIn m W F old.table → FineIn m W F new.table
-  other_marks None port z old a new m W F other h fine = fines_same m W F old new h.1 fine
-  other_marks (Some id) port z old a new m W F other h fine =
-      turned_by agg conv (Fine (at s) m W F) (Fine (at s) m W F) (after_mark port id) old.table new.table h.4.states
-      (λ b f. marked_beside (at s) m port id W F other b f) fine
+  other_marks o port z old a new m W F hyp1 hyp2 hyp3 = grind (arith, nat_tests, fines_same, turned_by, marked_beside)
 
   other_sends : (up due : Bool) (i : ℕ) (z : SystemPort) (old : SystemState) (a : Option (List ℕ)) (new : SystemState) (m : ℕ) (W : Type 0)
       (F : ℕ → Type 0) → (z.number ≡ at s → ⊥) → TransmitsIf up due i z old a new → FineIn m W F old.table → FineIn m W F new.table
@@ -214,13 +191,8 @@ module _ (at : Side → ℕ) (w : Side → Lacpdu) (s : Side) (mac : List ℕ) (
       fines_same m W F old new step.same fine
   elsewhere_fine gives old new m W F (inr (p, Transmit n, a, other, is, step)) stays fine = absurd step
   elsewhere_fine gives old new m W F (inr (p, Receive n octets, answer.Receive (Ok o), other, is, step)) stays fine =
-      changed (table_changes step.1 step.0.number (port_index n old.system_ports) old o new step.4)
-    where
-      changed : TableChanges (port_index n old.system_ports) old new → FineIn m W F new.table
-      changed (inl x) = settled_from m W F old x.1.0 new (ap (λ (t : SystemState). t.table) x.1.1.1) x.1.2 stays fine
-      changed (inr (inl z)) = turned_by agg conv (Fine (at s) m W F) (Fine (at s) m W F) (after_release z.0 z.1) old.table new.table z.2.states
-          (λ b f. released_beside (at s) m z.0 z.1 W F b f) fine
-      changed (inr (inr e)) = subst (FineIn m W F) (sym e) fine
+      table_fine (port_index n old.system_ports) old new m W F stays
+      (table_changes step.1 step.0.number (port_index n old.system_ports) old o new step.4) fine
   elsewhere_fine gives old new m W F (inr (p, Receive n octets, answer.Receive (Err fault), other, is, step)) stays fine =
       fines_same m W F old new step.same fine
   elsewhere_fine gives old new m W F (inr (p, Receive n octets, a, other, is, step)) stays fine = absurd step

@@ -4,10 +4,10 @@ use Rattle.lagprogress.proofs.Common.{◌≡◌, nat_tests, Party, Lacpdu, One, 
 use Rattle.lagprogress.proofs.Common.{count_down, Table, SystemPort, ProcessesLacpdu, Receive, SystemState, with_system_ports, with_table, Reply}
 use Rattle.lagprogress.proofs.Common.{Algorithms, WorldSteps, link_ends, ItemValue, LinkState, WorldState, half, port_at, end_is, HostEvent, Plays}
 use Rattle.lagprogress.proofs.Common.{KeptBySettling, OfEach, Step-each, Tick-each, asked_each, AtPort, settling_leaves, runs_keep, takes_keep}
-use Rattle.lagprogress.proofs.Common.{LeavesPorts, Clearing, HostRounds, IsBetweenTicks, IsHostRound, IsPlayed, IsPlayedAmong, NoneIsLeft}
-use Rattle.lagprogress.proofs.Common.{PlayedAmong, PlayedRounds, IsRound, Rounds, IsSteady}
+use Rattle.lagprogress.proofs.Common.{LeavesPorts, Clearing, IsBetweenTicks, IsPlayed, IsPlayedAmong, PlayedAmong, PlayedRounds, IsRound, Rounds}
+use Rattle.lagprogress.proofs.Common.{IsSteady}
 use Rattle.lagprogress.proofs.Linked.{each_side, peer_twice}
-use Rattle.lagprogress.proofs.Quieting.{AllBeside, all_beside, calm_steady, calm_keeps, leaves_ends, runs_calm, quiet_ports}
+use Rattle.lagprogress.proofs.Quieting.{AllBeside, all_beside, calm_steady, calm_keeps, leaves_ends, runs_calm, quiet_ports, replayed}
 use Rattle.lagprogress.proofs.OneCable.{OnCable, cable, deliver_ends, emits, ticks}
 use Rattle.lagprogress.proofs.OneRound.{ticked}
 use Rattle.lagprogress.proofs.RoundEvents.{asked_half, came_half}
@@ -144,18 +144,8 @@ module _ (May : HostEvent → Type 0) (E : Clearing) (gives : Algorithms) where
 pub clears_less : (E F : Clearing) → ((events : List HostEvent) (old new : WorldState) → E events old new → F events old new) → (gives : Algorithms)
     (n : ℕ) (old new : WorldState) → PlayedRounds E gives n old new → PlayedRounds F gives n old new
 clears_less E F less gives zero old new h = h
-clears_less E F less gives (suc n) old new h = (
-  h.0,
-  clears_less E F less gives n old h.0 h.1,
-  record {
-    events = h.2.events;
-    replies = h.2.replies;
-    ticks = h.2.ticks;
-    acts = h.2.acts;
-    asked = h.2.asked;
-    empties = less h.2.events h.0 new h.2.empties;
-  },
-)
+clears_less E F less gives (suc n) old new h =
+    (h.0, clears_less E F less gives n old h.0 h.1, replayed h.2 h.2.ticks (less h.2.events h.0 new h.2.empties))
 
 module _ (E : Clearing) (gives : Algorithms) where
   pub played_on : (S : ℕ → WorldState → Type 0) (start : WorldState) → S 0 start
@@ -190,18 +180,6 @@ module _ (E : Clearing) (gives : Algorithms) where
 
   pub played_join : (n : ℕ) (old new : WorldState) → PlayedRounds E gives n old new → map link_ends new.links ≡ map link_ends old.links
   played_join n old new h = joins_beside (λ s. 0) n old new (all_beside (λ s. 0) E gives n old new h)
-
-pub hosts_on : (gives : Algorithms) (S : ℕ → WorldState → Type 0) (start : WorldState) → S 0 start
-    → ((n : ℕ) (old new : WorldState) → IsHostRound gives old new → S n old → S (n + 1) new)
-    → (n : ℕ) (new : WorldState) → HostRounds gives n start new → S n new
-hosts_on gives = played_on NoneIsLeft gives
-
-pub hosts_split : (gives : Algorithms) (k m n : ℕ) (old new : WorldState) → n ≡ k + m → HostRounds gives n old new
-    → (mid : WorldState) × HostRounds gives m old mid × HostRounds gives k mid new
-hosts_split gives = played_split NoneIsLeft gives
-
-pub hosts_steady : (gives : Algorithms) (n : ℕ) (old new : WorldState) → IsSteady old → HostRounds gives n old new → IsSteady new
-hosts_steady gives = played_steady NoneIsLeft gives
 
 pub zero_on : (gives : Algorithms) (S : ℕ → WorldState → Type 0) (start : WorldState) → S 0 start
     → ((n : ℕ) (old new : WorldState) → IsRound gives old new → S n old → S (n + 1) new)

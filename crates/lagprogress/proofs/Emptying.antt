@@ -1,9 +1,9 @@
 -- A port of a healthy cable is drained of a conversation that is held on it.
 use Rattle.lagprogress.proofs.Common.{Bool, Err, IsSome, List, None, Ok, Option, Result, Some, [], ap, arith, cond, eqb, false, inl, inr, length, ltb}
 use Rattle.lagprogress.proofs.Common.{refl, subst, suc, sym, true, zero, ℕ, ◌&&◌, ◌+◌, ◌<◌, ◌==◌, ◌^◌, ◌∙◌, ◌∷◌, ◌≡◌, ◌≤◌, ◌⊎◌, cases_Bool, nat_tests}
-use Rattle.lagprogress.proofs.Common.{none-some, Vec, AggId, Choice, is_selected, Lacpdu, IsCabling, One, Side, peer, Machines, is_due, Assignment}
-use Rattle.lagprogress.proofs.Common.{after_tick, marker_due, IsConversation, Table, assignment_of, next_identifier, SystemFault, OffersIf, Offer}
-use Rattle.lagprogress.proofs.Common.{Receive, Step, Tick, Transmit, HostPromise, GivesOrRefuses, system_force_result, system_move_result}
+use Rattle.lagprogress.proofs.Common.{none-some, AggId, Choice, is_selected, Lacpdu, IsCabling, One, Side, peer, Machines, is_due, Assignment}
+use Rattle.lagprogress.proofs.Common.{after_tick, marker_due, IsConversation, Table, assignment_of, next_identifier, HostReply, SystemFault, OffersIf}
+use Rattle.lagprogress.proofs.Common.{Offer, Receive, Step, Tick, Transmit, HostPromise, GivesOrRefuses, system_force_result, system_move_result}
 use Rattle.lagprogress.proofs.Common.{number_of_conversation, TransmitsAt, Set_max_delay, Settling, CallPromise, SystemState, machines_of, port_index}
 use Rattle.lagprogress.proofs.Common.{ports_table, settling_parts, found_place, Event, Reply, Algorithms, WorldSteps, side_of, world_setup, ItemValue}
 use Rattle.lagprogress.proofs.Common.{WorldState, half, port_at, ForcesPort, HostEvent, HostSteps, Leaves, Offers, Plays, Probes, Sets}
@@ -14,8 +14,8 @@ use Rattle.lagprogress.proofs.Quieting.{moved_half, forced_half, Grown}
 use Rattle.lagprogress.proofs.Linked.{each_side, Fits, Link, asked_which, emit_any, peer_twice, EndPort, end_here, other_side}
 use Rattle.lagprogress.proofs.Holding.{has_on, Has, Fine, Flights, ticked_fine, IsMarker, asking, answering, offered_fine, forced_fine}
 use Rattle.lagprogress.proofs.Halves.{AreTimely}
-use Rattle.lagprogress.proofs.HostSteady.{aside, caller, delay_keeps, offers_half, leaves_half, rests_half, gives_next, forces_half, probes_half}
-use Rattle.lagprogress.proofs.HostSteady.{Probed}
+use Rattle.lagprogress.proofs.HostSteady.{IsAside, aside, asked_by, beside_next, caller, delay_keeps, gives_next, probes_half, Probed}
+use Rattle.lagprogress.proofs.RoundEvents.{asked_half, came_half}
 use Rattle.lagsystem.specs.declared.drive.HostCall.TheVariants as host
 use Rattle.lagsystem.specs.declared.drive.HostReply.TheVariants as told
 use Rattle.lagprogress.proofs.Answering.{IsFine, Steady, fine_in_map, turned_by, sends_fine, settles_all, stays_on, went_flights, none_wanted}
@@ -24,8 +24,7 @@ use Rattle.lagprogress.proofs.Climbing.{PartnerInSync, choice_along, partner_alo
 use Rattle.lagprogress.proofs.Delivering.{deliver_link}
 use Rattle.lagprogress.proofs.Draining.{after_tick_on, comes_fine, elsewhere_fine, peer_answers}
 use Rattle.lagprogress.proofs.EndFacts.{Along, activity, both_along}
-use Rattle.lagprogress.proofs.OneCable.{Arrives, Asks, OnCable, Went, asks, cable, came_off, delivers, emits, ticks, towards_there, Beside, push}
-use Rattle.lagprogress.proofs.OneCable.{puts, port_there}
+use Rattle.lagprogress.proofs.OneCable.{Arrives, Asks, OnCable, Went, asks, cable, delivers, ticks, towards_there, Beside, push, puts, port_there}
 use Rattle.lagprogress.proofs.OneRound.{join, one_of_both, ticked, Nothing}
 use Rattle.lagprogress.proofs.Knowing.{Met, AtIt, beside, awake_peer, fits_fresh, knows_late, stays_met, fits_before}
 use Rattle.lagprogress.proofs.LateLoops.{host_round_is_late_round}
@@ -64,38 +63,9 @@ same_next s old new e = subst (λ (t : SystemState). (half s old).state.table.ne
 same_table : (s : Side) (old new : WorldState) → (half s new).state.table ≡ (half s old).state.table → Rising s old new
 same_table s old new e = subst (λ (t : Table). (half s old).state.table.next ≤ t.next) (sym e) (omega arith)
 
-pub emit_next : (s : Side) (gives : Algorithms) (n p : ℕ) (r : Reply) (old new : WorldState) → WorldSteps gives old (event.Emit n p) r new
-    → Rising s old new
-emit_next s gives n p r old new h =
-    let m = emits gives n p r old new h in
-    each_side (λ t. Rising t old new) m.0
-    (asks_next (gives m.0) p m.2.a (half m.0 old).state (half m.0 new).state m.2.promise.step)
-    (same_next (peer m.0) old new m.2.peers) s
-
-pub deliver_next : (s : Side) (gives : Algorithms) (c n : ℕ) (r : Reply) (old new : WorldState)
-    → WorldSteps gives old (event.Deliver c n) r new → Rising s old new
-deliver_next s gives c n r old new h = elim (came_off gives c n r old new h) [
-  | inl m ↦ each_side (λ t. Rising t old new) m.side
-      (equal ((half m.side old).state.table.next) ((half m.side new).state.table.next)
-      (calls_next (gives m.side) (port_at m.side m.link) m.comes.item.octets m.comes.a (half m.side old).state (half m.side new).state
-      m.comes.promise.step))
-      (same_next (peer m.side) old new m.comes.peers) s
-  | inr m ↦ same_next s old new (m.halves s)
-]
-  where
-    equal : (a b : ℕ) → b ≡ a → a ≤ b
-    equal a b e = omega (arith, e)
-
-pub offers_next : (gives : ℕ → ℕ → ℕ → Type 0) (agg : AggId) (octets : List ℕ) (a : Result ℕ SystemFault) (old new : SystemState)
+offers_next : (gives : ℕ → ℕ → ℕ → Type 0) (agg : AggId) (octets : List ℕ) (a : Result ℕ SystemFault) (old new : SystemState)
     → Step gives old (Offer agg octets) (answer.Offer a) new → old.table.next ≤ new.table.next
 offers_next gives agg octets a old new h = grind (arith, nat_tests)
-
-offer_next : (s : Side) (gives : Algorithms) (n : ℕ) (agg : AggId) (octets : Vec ℕ) (r : Reply) (old new : WorldState)
-    → WorldSteps gives old (event.Offer n agg octets) r new → Rising s old new
-offer_next s gives n agg octets r old new h = elim (offered_half gives n agg octets r old new h s) [
-  | inl same ↦ same_next s old new same
-  | inr (a, step) ↦ offers_next (gives s) agg octets.items a (half s old).state (half s new).state step
-]
 
 ticked_next : (gives : ℕ → ℕ → ℕ → Type 0) (old new : SystemState) → Step gives old Tick answer.Tick new → new.table.next ≡ old.table.next
 ticked_next gives old new h = settles_next h.0 new h.2 ∙ h.1.1.next
@@ -105,40 +75,29 @@ tick_next : (s t : Side) (gives : Algorithms) (n : ℕ) (r : Reply) (old new : W
 tick_next s t gives n r old new named h =
     let k = ticks gives n t r old new named h in
     each_side (λ u. Rising u old new) t
-    (same_number (half t old).state.table.next (half t new).state.table.next (ticked_next (gives t) (half t old).state (half t new).state k.step))
-    (same_next (peer t) old new k.peers) s
-  where
-    same_number : (a b : ℕ) → b ≡ a → a ≤ b
-    same_number a b e = omega (arith, e)
-
-move_next : (s : Side) (gives : Algorithms) (n : ℕ) (agg : AggId) (conv p : ℕ) (r : Reply) (old new : WorldState)
-    → WorldSteps gives old (event.Move n agg conv p) r new → Rising s old new
-move_next s gives n agg conv p r old new h = elim (moved_half gives n agg conv p r old new h s) [
-  | inl same ↦ same_next s old new same
-  | inr (named, a, step) ↦ gives_next agg conv (system_move_result (half s old).state agg conv p) (half s old).state a (half s new).state step
-]
-
-force_next : (s : Side) (gives : Algorithms) (n : ℕ) (agg : AggId) (conv : ℕ) (r : Reply) (old new : WorldState)
-    → WorldSteps gives old (event.Force n agg conv) r new → Rising s old new
-force_next s gives n agg conv r old new h = elim (forced_half gives n agg conv r old new h s) [
-  | inl same ↦ same_next s old new same
-  | inr (named, a, step) ↦ gives_next agg conv (system_force_result (half s old).state agg conv) (half s old).state a (half s new).state step
-]
+    (let same = ticked_next (gives t) (half t old).state (half t new).state k.step in omega (arith, same)) (same_next (peer t) old new k.peers) s
 
 -- the events of a round
 between_next : (s : Side) (gives : Algorithms) (e : HostEvent) (r : Reply) (old new : WorldState) → IsBetweenTicks e → StepReplies gives old e r new
     → Rising s old new
-between_next s gives (Plays (event.Emit n p)) r old new b h = emit_next s gives n p r old new h
-between_next s gives (Plays (event.Deliver c n)) r old new b h = deliver_next s gives c n r old new h
-between_next s gives (Plays (event.Offer n agg octets)) r old new b h = offer_next s gives n agg octets r old new h
-between_next s gives (Plays (event.Move n agg conv p)) r old new b h = move_next s gives n agg conv p r old new h
-between_next s gives (Plays (event.Force n agg conv)) r old new b h = force_next s gives n agg conv r old new h
+between_next s gives (Plays (event.Emit n p)) r old new b h = elim (asked_half gives n p r old new h s) [
+  | inl same ↦ same_next s old new same
+  | inr (a, step) ↦ asks_next (gives s) p a (half s old).state (half s new).state step
+]
+between_next s gives (Plays (event.Deliver c n)) r old new b h = elim (came_half gives c n r old new h s) [
+  | inl same ↦ same_next s old new same
+  | inr (k, l, there, m) ↦ (let same = calls_next (gives s) (port_at s l) m.item.octets m.a (half s old).state (half s new).state m.promise.step in
+      omega (arith, same))
+]
+between_next s gives (Plays (event.Offer n agg octets)) r old new b h = grind (arith, nat_tests, offered_half, h, same_next, offers_next)
+between_next s gives (Plays (event.Move n agg conv p)) r old new b h = grind (arith, nat_tests, moved_half, h, same_next, gives_next)
+between_next s gives (Plays (event.Force n agg conv)) r old new b h = grind (arith, nat_tests, forced_half, h, same_next, gives_next)
 between_next s gives (Plays e) r old new b h = absurd b
 between_next s gives (Sets t (Set_max_delay delay)) r old new b h =
     same_table s old new (delay_keeps Table (λ z. z.table) (λ z d. refl) gives t delay old new h s)
 between_next s gives (Sets t setting) r old new b h = absurd b
 between_next s gives e r old new b h =
-    let x = aside gives e old new tt h in each_side (λ t. Rising t old new) (caller e) x.next (same_next (peer (caller e)) old new x.peers) s
+    let x = aside gives e old new tt h in each_side (λ t. Rising t old new) (caller e) (beside_next x) (same_next (peer (caller e)) old new x.peers) s
 
 one_next : (s t : Side) (gives : Algorithms) (a b : Bool) (e : HostEvent) (es : List HostEvent) (r : Reply) (old new : WorldState)
     → TickOnce t a b (e ∷ es) → StepReplies gives old e r new → Rising s old new
@@ -248,9 +207,9 @@ module _ (at : Side → ℕ) (w : Side → Lacpdu) (named : (t : Side) → IsNam
     fine : FineIn m W (Flights s (at s) mac flying) (half s j).state.table
 
   -- another event of a round
-  made : {m : ℕ} {V : Type 0} {kn : Side → ℕ} {old new : WorldState} (W : Type 0) (e : HostEvent) (r : Reply) → IsCalm e → StepReplies gives old e r new
-      → Mid m V kn old → Link 2 at w kn s Y new → (fl : Side → List ItemValue) (i : ℕ) → OnCable i at fl new.links
-      → FineIn m W (Flights s (at s) mac fl) (half s new).state.table → Mid m W kn new
+  made : {m l : ℕ} {V : Type 0} {kn to : Side → ℕ} {old new : WorldState} (W : Type 0) (e : HostEvent) (r : Reply) → IsCalm e
+      → StepReplies gives old e r new → Mid m V kn old → Link 2 at w to s Y new → (fl : Side → List ItemValue) (i : ℕ) → OnCable i at fl new.links
+      → FineIn l W (Flights s (at s) mac fl) (half s new).state.table → Mid l W to new
   made {old = old} {new = new} W e r calm h d link fl i links fine = record {
     link = link;
     flying = fl;
@@ -401,52 +360,36 @@ module _ (at : Side → ℕ) (w : Side → Lacpdu) (named : (t : Side) → IsNam
           (λ i z place there number. other (sym (found_place port old.system_ports i z place there) ∙ number)) p.0 fine
       probed_beside port (Err fault) old new other p fine = subst (λ (t : SystemState). FineIn m W F t.table) (sym p.0.same) fine
 
+      -- what it promises
+      told_fine : (e : HostEvent) (a : HostReply) → IsAside e → IsNoMoveOf s agg conv e → IsNoProbe s (at s) e → caller e ≡ s
+          → (old new : SystemState) → IsConversation old.table agg conv → HostPromise (gives s) old (asked_by e) a new → FineIn m W F old.table
+          → FineIn m W F new.table
+      told_fine (Offers t group moved octets) (told.OfferConversation a) is still far same old new there p fine =
+          numbered_frame _ _ m W F group moved a old new p.0 fine
+      told_fine (Leaves t group moved) (told.LeaveConversation a) is still far same old new there p fine =
+          elsewhere group moved _ a old new (still same) p.0 fine
+      told_fine (HostEvent.Rests t group moved) (told.Rest a) is still far same old new there p fine =
+          elsewhere group moved _ a old new (still same) p.0 fine
+      told_fine (Probes t port) (told.Probe a) is still far same old new there p fine = probed_beside port a old new (far same) p fine
+      told_fine (ForcesPort t port) (told.ForcePort a) is still far same old new there p fine = forces_fine port a old new there p fine
+      told_fine (Plays e) a is still far same old new there p fine = absurd is
+      told_fine (Sets t setting) a is still far same old new there p fine = absurd is
+      told_fine e a is still far same old new there p fine = absurd p
+
       quiet_fine : (e : HostEvent) (r : Reply) (old new : WorldState) → IsQuiet e → IsNoMoveOf s agg conv e → IsNoProbe s (at s) e
           → IsConversation (half s old).state.table agg conv → StepReplies gives old e r new
           → FineIn m W F (half s old).state.table → FineIn m W F (half s new).state.table
-      quiet_fine (Plays (event.Offer n group octets)) r old new q still far there h fine = elim (offered_half gives n group octets r old new h s) [
-        | inl same ↦ subst (λ (y : SystemState). FineIn m W F y.table) (sym same) fine
-        | inr (a, step) ↦ offered_frame m W F group octets.items a (half s old).state (half s new).state step fine
-      ]
-      quiet_fine (Plays (event.Move n group moved p)) r old new q still far there h fine = elim (moved_half gives n group moved p r old new h s) [
-        | inl same ↦ subst (λ (y : SystemState). FineIn m W F y.table) (sym same) fine
-        | inr (told, a, step) ↦ elsewhere group moved (system_move_result (half s old).state group moved p) a (half s old).state (half s new).state
-            (still told) step fine
-      ]
-      quiet_fine (Plays (event.Force n group moved)) r old new q still far there h fine = elim (forced_half gives n group moved r old new h s) [
-        | inl same ↦ subst (λ (y : SystemState). FineIn m W F y.table) (sym same) fine
-        | inr (told, a, step) ↦ elsewhere group moved (system_force_result (half s old).state group moved) a (half s old).state (half s new).state
-            (still told) step fine
-      ]
+      quiet_fine (Plays (event.Offer n group octets)) r old new q still far there h fine = grind (arith, nat_tests, offered_half, h, offered_frame)
+      quiet_fine (Plays (event.Move n group moved p)) r old new q still far there h fine = grind (arith, nat_tests, moved_half, h, elsewhere)
+      quiet_fine (Plays (event.Force n group moved)) r old new q still far there h fine = grind (arith, nat_tests, forced_half, h, elsewhere)
       quiet_fine (Plays e) r old new q still far there h fine = absurd q
       quiet_fine (Sets t (Set_max_delay delay)) r old new q still far there h fine =
           subst (FineIn m W F) (sym (delay_keeps Table (λ z. z.table) (λ z d. refl) gives t delay old new h s)) fine
       quiet_fine (Sets t setting) r old new q still far there h fine = absurd q
-      quiet_fine (Offers t group moved octets) r old new q still far there h fine = of_side_called t old new
-          (aside gives (Offers t group moved octets) old new tt h).peers
-          (λ e. let o = offers_half gives t group moved octets old new h in
-          let p = subst (λ u. HostPromise (gives u) (half u old).state (host.OfferConversation group moved) (told.OfferConversation o.0)
-          (half u new).state) e o.1 in
-          numbered_frame _ _ m W F group moved o.0 (half s old).state (half s new).state p.0) fine
-      quiet_fine (Leaves t group moved) r old new q still far there h fine = of_side_called t old new (aside gives (Leaves t group moved) old new tt h).peers
-          (λ e. let o = leaves_half gives t group moved old new h in
-          let p = subst (λ u. HostPromise (gives u) (half u old).state (host.LeaveConversation group moved) (told.LeaveConversation o.0)
-          (half u new).state) e o.1 in
-          elsewhere group moved _ o.0 (half s old).state (half s new).state (still e) p.0) fine
-      quiet_fine (HostEvent.Rests t group moved) r old new q still far there h fine = of_side_called t old new (aside gives (HostEvent.Rests t group moved) old new tt h).peers
-          (λ e. let o = rests_half gives t group moved old new h in
-          let p = subst (λ u. HostPromise (gives u) (half u old).state (host.Rest group moved) (told.Rest o.0) (half u new).state) e o.1 in
-          elsewhere group moved _ o.0 (half s old).state (half s new).state (still e) p.0) fine
-      quiet_fine (Probes t port) r old new q still far there h fine =
-          of_side_called t old new (aside gives (Probes t port) old new tt h).peers
-          (λ e. let o = probes_half gives t port old new h in
-          let p = subst (λ u. HostPromise (gives u) (half u old).state (host.Probe port) (told.Probe o.0) (half u new).state) e o.1 in
-          probed_beside port o.0 (half s old).state (half s new).state (far e) p) fine
-      quiet_fine (ForcesPort t port) r old new q still far there h fine =
-          of_side_called t old new (aside gives (ForcesPort t port) old new tt h).peers
-          (λ e. let o = forces_half gives t port old new h in
-          let p = subst (λ u. HostPromise (gives u) (half u old).state (host.ForcePort port) (told.ForcePort o.0) (half u new).state) e o.1 in
-          forces_fine port o.0 (half s old).state (half s new).state there p) fine
+      quiet_fine e r old new q still far there h fine =
+          let b = aside gives e old new tt h in
+          of_side_called (caller e) old new b.peers (λ same. told_fine e b.answer tt still far same (half s old).state (half s new).state there
+          (subst (λ u. HostPromise (gives u) (half u old).state (asked_by e) b.answer (half u new).state) same b.promise)) fine
 
     -- the port is probed
     probed_cable : (a : Result (Option (List ℕ)) SystemFault) (i : ℕ) (fl : Side → List ItemValue) (old new : WorldState) → OnCable i at fl old.links
@@ -520,32 +463,20 @@ module _ (at : Side → ℕ) (w : Side → Lacpdu) (named : (t : Side) → IsNam
       → WorldSteps gives i (event.Tick n 1) r j → (d : Mid m W kn i) → Link 2 at w to s Y j → Mid (m + 1) (Unit {0}) to j
   own_ticked kn to m W n r i j told step d link =
       let k = ticks gives n s r i j told step in
-      record {
-        link = link;
-        flying = d.flying;
-        index = d.index;
-        links = subst (OnCable d.index at d.flying) (sym k.links) d.links;
-        same = fixed (Plays (event.Tick n 1)) r i j tt step d.link.steady d.same;
-        fine = settles_all at w s mac agg conv (m + 1) (Unit {0}) (Flights s (at s) mac d.flying) k.step.0 (half s j).state k.step.2
-            (λ g x y. stays_on at w s mac agg conv c kn to i j d.link link g x
-            (after_tick_on (at s) (assignment_of (half s i).state.table g x) (sym (k.step.1.1.states g x) ∙ y)))
-            (turned_by agg conv (Fine (at s) m W (Flights s (at s) mac d.flying)) (Fine (at s) (m + 1) (Unit {0}) (Flights s (at s) mac d.flying))
-            after_tick (half s i).state.table k.step.0.table k.step.1.1.states (ticked_fine (at s) m W (Flights s (at s) mac d.flying)) d.fine);
-      }
+      made (Unit {0}) (Plays (event.Tick n 1)) r tt step d link d.flying d.index (subst (OnCable d.index at d.flying) (sym k.links) d.links)
+      (settles_all at w s mac agg conv (m + 1) (Unit {0}) (Flights s (at s) mac d.flying) k.step.0 (half s j).state k.step.2
+      (λ g x y. stays_on at w s mac agg conv c kn to i j d.link link g x
+      (after_tick_on (at s) (assignment_of (half s i).state.table g x) (sym (k.step.1.1.states g x) ∙ y)))
+      (turned_by agg conv (Fine (at s) m W (Flights s (at s) mac d.flying)) (Fine (at s) (m + 1) (Unit {0}) (Flights s (at s) mac d.flying))
+      after_tick (half s i).state.table k.step.0.table k.step.1.1.states (ticked_fine (at s) m W (Flights s (at s) mac d.flying)) d.fine))
 
   peer_ticked : (kn to : Side → ℕ) (m : ℕ) (W : Type 0) (n : ℕ) (r : Reply) (i j : WorldState) → side_of n ≡ Some (peer s)
       → WorldSteps gives i (event.Tick n 1) r j → (d : Mid m W kn i) → Link 2 at w to s Y j → Mid m W to j
   peer_ticked kn to m W n r i j told step d link =
       let k = ticks gives n (peer s) r i j told step in
       let still : (half s j).state ≡ (half s i).state = subst (λ u. (half u j).state ≡ (half u i).state) (peer_twice s) k.peers in
-      record {
-        link = link;
-        flying = d.flying;
-        index = d.index;
-        links = subst (OnCable d.index at d.flying) (sym k.links) d.links;
-        same = fixed (Plays (event.Tick n 1)) r i j tt step d.link.steady d.same;
-        fine = subst (λ (y : SystemState). FineIn m W (Flights s (at s) mac d.flying) y.table) (sym still) d.fine;
-      }
+      made W (Plays (event.Tick n 1)) r tt step d link d.flying d.index (subst (OnCable d.index at d.flying) (sym k.links) d.links)
+      (subst (λ (y : SystemState). FineIn m W (Flights s (at s) mac d.flying) y.table) (sym still) d.fine)
 
   -- at the end of a round
   pub record Rests (m : ℕ) (W : Type 0) (j : WorldState) : Type 0 where

@@ -1,12 +1,12 @@
 -- What ticks, receipts and settlings leave of a port at an end of a cable whose other end sends LACPDUs of one kind.
-use Rattle.lagprogress.proofs.Common.{Bool, ap, arith, false, if◌then◌else◌, inl, inr, not, refl, subst, sym, true, ℕ, ◌&&◌, ◌-◌, ◌==◌, ◌||◌, ◌∙◌}
-use Rattle.lagprogress.proofs.Common.{◌≡◌, ◌≤◌, ◌⊎◌, nat_tests, Choice, Unselected, StateBits, is_selected, same_party, bits_of, party_itself}
-use Rattle.lagprogress.proofs.Common.{encode_then_decode, Lacpdu, party_of, MuxState, CollectingDistributing, Detached, Waiting, Expired, Machines}
-use Rattle.lagprogress.proofs.Common.{is_synchronized, mux_rows, partner_synchronized, same_mux_state, RunsPeriodic, periodic_rows, is_maintained}
-use Rattle.lagprogress.proofs.Common.{lacpdu_rows, receive_rows, recorded_synchronization, same_receive_state, AtRest, RunsToRest, count_down, pdu_of}
-use Rattle.lagprogress.proofs.Common.{ProcessesLacpdu, can_receive, can_receive_in, HasRecorded, timeout_time, KeptBySettling, EnabledKeep, no}
-use Rattle.lagprogress.proofs.Common.{not_down, times_keep, Known, counts, decoded, receive_known, recorded, AtPort, mux_leaves, periodic_leaves}
-use Rattle.lagprogress.proofs.Common.{Calm, Sounds, counts_sounds, mux_sounds, not_silent, periodic_runs, RowsKeep, runs_keep, takes_keep}
+use Rattle.lagprogress.proofs.Common.{Bool, ap, arith, false, if◌then◌else◌, inl, inr, refl, subst, sym, true, ℕ, ◌&&◌, ◌-◌, ◌==◌, ◌||◌, ◌∙◌, ◌≡◌}
+use Rattle.lagprogress.proofs.Common.{◌≤◌, ◌⊎◌, nat_tests, Choice, Unselected, StateBits, is_selected, same_party, bits_of, party_itself}
+use Rattle.lagprogress.proofs.Common.{encode_then_decode, Lacpdu, party_of, MuxState, CollectingDistributing, Machines, is_synchronized, mux_rows}
+use Rattle.lagprogress.proofs.Common.{partner_synchronized, same_mux_state, RunsPeriodic, periodic_rows, lacpdu_rows, receive_rows}
+use Rattle.lagprogress.proofs.Common.{recorded_synchronization, AtRest, RunsToRest, count_down, pdu_of, ProcessesLacpdu, can_receive, can_receive_in}
+use Rattle.lagprogress.proofs.Common.{HasRecorded, timeout_time, KeptBySettling, EnabledKeep, no, not_down, times_keep, Known, counts, decoded}
+use Rattle.lagprogress.proofs.Common.{receive_known, recorded, AtPort, mux_leaves, periodic_leaves, Calm, Sounds, counts_sounds, mux_sounds}
+use Rattle.lagprogress.proofs.Common.{not_silent, periodic_runs, RowsKeep, runs_keep, takes_keep}
 use Rattle.lagbeside.proofs.Knowing.{receives}
 use Rattle.lagbeside.proofs.Heartbeat.{raised}
 
@@ -77,31 +77,10 @@ not_attached m g from f h e = grind (arith, nat_tests)
 
 -- settling leaves a synchronized port so
 pub synced_mux : (ready : Bool) → EnabledKeep Synced (mux_rows ready)
-synced_mux ready = (
-  λ p h a. absurd (not_attached p.mux _ Detached refl h a.1),
-  (
-    λ p h a. absurd (not_attached p.mux _ Waiting refl h a.1),
-    (
-      λ p h a. absurd (not_attached p.mux _ Waiting refl h a.1),
-      (λ p h a. absurd (not_down _ (is_selected p.choice) h a.0), (λ p h a. (a.0, refl), (λ p h a. (a.0, refl), tt))),
-    ),
-  ),
-)
+synced_mux ready = grind (arith, nat_tests, not_attached, not_down)
 
 end_mux : (d : ℕ) (v u : Lacpdu) (c : ℕ) (ready : Bool) → EnabledKeep (IsEnd d v u c) (mux_rows ready)
-end_mux d v u c ready = (
-  λ p h a. (a.0, a.1, λ e. absurd (not_attached p.mux _ Detached refl h (a.2 e).1)),
-  (
-    λ p h a. (a.0, a.1, λ e. absurd (not_attached p.mux _ Waiting refl h (a.2 e).1)),
-    (
-      λ p h a. (a.0, a.1, λ e. absurd (not_attached p.mux _ Waiting refl h (a.2 e).1)),
-      (
-        λ p h a. (a.0, a.1, λ e. absurd (not_down _ (is_selected p.choice) h (a.2 e).0)),
-        (λ p h a. (a.0, a.1, λ e. ((a.2 e).0, refl)), (λ p h a. (a.0, a.1, λ e. ((a.2 e).0, refl)), tt)),
-      ),
-    ),
-  ),
-)
+end_mux d v u c ready = grind (arith, nat_tests, not_attached, not_down)
 
 end_periodic : (d : ℕ) (v u : Lacpdu) (c : ℕ) → RowsKeep (IsEnd d v u c) periodic_rows
 end_periodic d v u c = (λ p a. a, (λ p a. a, (λ p a. a, (λ p a. a, (λ p a. a, (λ p a. a, (λ p a. a, tt)))))))
@@ -122,20 +101,17 @@ end_settles Y v u c d n k = record {
   );
 }
 
+-- what holds of each of the five rows of the receive machine
+pub each_row : {A B C D E : Type 0} → A → B → C → D → E → A × (B × (C × (D × (E × Unit {0}))))
+each_row a b c d e = (a, (b, (c, (d, (e, tt)))))
+
 -- a receipt
 
 says_kept : (v x : Lacpdu) (p q : Machines) → ProcessesLacpdu x p q → Says v p → Says v q
 says_kept v x p q h a = takes_keep (Says v) x (λ p a. a, tt) p q h a
 
 same_recorded : (x u : Lacpdu) (p : Machines) → SameActor x u → HasRecorded x p → HasRecorded u p
-same_recorded x u p e r = record {
-  current = r.current;
-  party = r.party ∙ e.0;
-  active = r.active ∙ e.1;
-  short = r.short ∙ e.2;
-  present = r.present;
-  heard = r.heard;
-}
+same_recorded x u p hyp1 hyp2 = grind (arith, nat_tests)
 
 pub takes_known : (v u x : Lacpdu) (p q : Machines) → SameActor x u → can_receive p ≡ true → ProcessesLacpdu x p q → Says v p
     → p.enabled ≡ true → Known u (wait_of v) 0 q
@@ -174,19 +150,7 @@ less_known n v u c d p l a = (a.0, (a.1.0, λ k. let b = a.1.1 (omega (arith, k,
 
 -- no row of the receive machine is enabled that changes Selected
 synced_rows : (u : Lacpdu) (c : ℕ) → 1 ≤ c → EnabledKeep (λ p. Known u c 0 p × Synced p) receive_rows
-synced_rows u c l = let k = receive_known u c 0 in (
-  λ p h a. (k.0 p h a.0, a.1),
-  (
-    λ p h a. (k.1.0 p h a.0, a.1),
-    (
-      λ p h a. (k.1.1.0 p h a.0, a.1),
-      (
-        λ p h a. absurd (no (sym (ap (λ b. b && (p.current_while == 0)) (ap (same_receive_state Expired) (a.0.1 l).0.current)) ∙ h)),
-        (λ p h a. (k.1.1.1.1.0 p h a.0, a.1), tt),
-      ),
-    ),
-  ),
-)
+synced_rows u c l = grind (arith, nat_tests, receive_known u c 0, no)
 
 pub ticks_end : (d : ℕ) (v u : Lacpdu) (c : ℕ) (p q : Machines) → (2 ≤ d → 1 ≤ c - 1) → RunsToRest receive_rows (count_down p) q
     → IsEnd d v u c p → IsEnd d v u (c - 1) q
@@ -203,24 +167,12 @@ abbrev pub CanSound : Lacpdu → Lacpdu → Bool → ℕ → Type 0
 CanSound v u fast c = ((activity v ≡ true) ⊎ ((1 ≤ c) × (activity u ≡ true))) × (fast ≡ true → (1 ≤ c) × (short_timeout u ≡ true))
 
 pub calm : (d : ℕ) (v u : Lacpdu) (fast : Bool) (c : ℕ) (p : Machines) → CanSound v u fast c → IsEnd d v u c p → Calm fast p
-calm d v u fast c p can a = (
-  not_silent p.enabled p.active (bits_of p.partner.state).activity a.1.0 (active can.0),
-  λ f. let g = can.1 f in (a.1.1 g.0).0.short ∙ g.1,
-)
-  where
-    active : (activity v ≡ true) ⊎ ((1 ≤ c) × (activity u ≡ true)) → (p.active ≡ true) ⊎ ((bits_of p.partner.state).activity ≡ true)
-    active (inl e) = inl (a.0.1 ∙ e)
-    active (inr e) = inr ((a.1.1 e.0).0.active ∙ e.1)
+calm d v u fast c p can a = grind (arith, nat_tests, not_silent)
 
 -- what may stand beside it
 
 pub constant_along : (A : Type 0) (v u : Lacpdu) (c d : ℕ) → Along (λ p. A) v u c d
-constant_along A v u c d = record {
-  mux = λ ready p q h y. y;
-  periodic = λ p q h a y. y;
-  select = λ choice p none y. y;
-  takes = λ x p q e awake h a y. y;
-}
+constant_along A v u c d = grind (arith, nat_tests)
 
 pub nothing_along : (v u : Lacpdu) (c d : ℕ) → Along (λ p. Unit {0}) v u c d
 nothing_along = constant_along (Unit {0})
@@ -257,21 +209,10 @@ first_true a b h = rw h refl
 
 records_sync : (v u x : Lacpdu) (p : Machines) → (activity u ≡ true) ⊎ (activity v ≡ true) → SameActor x u → InSync v x → Says v p
     → recorded_synchronization x p ≡ true
-records_sync v u x p on e i a = all_true (bits_of x.actor.state).synchronization (is_maintained x p)
-    (same_party (party_of x.partner) p.party || not (bits_of x.actor.state).aggregation) i.0
-    (maintained (activity x) p.active (bits_of x.partner.state).activity (by_activity on))
-    (first_true (same_party (party_of x.partner) p.party) (not (bits_of x.actor.state).aggregation)
-    (subst (λ y. same_party (party_of x.partner) y ≡ true) (i.1 ∙ sym a.0) (party_itself (party_of x.partner))))
-  where
-    by_activity : (activity u ≡ true) ⊎ (activity v ≡ true)
-        → (activity x ≡ true) ⊎ ((p.active ≡ true) × ((bits_of x.partner.state).activity ≡ true))
-    by_activity (inl k) = inl (e.1 ∙ k)
-    by_activity (inr k) = inr (a.1 ∙ k, i.2 ∙ k)
+records_sync v u x p on e i a = grind (arith, nat_tests, party_itself)
 
 pub awake_fires : (b c : Bool) → b ≡ true → (if b then c else true) ≡ true → (c && b) ≡ false → ⊥
-awake_fires true true e h f = no (sym f)
-awake_fires true false e h f = no h
-awake_fires false c e h f = no e
+awake_fires b c e h f = grind (arith, nat_tests)
 
 pub takes_sync : (v u x : Lacpdu) (p q : Machines) → (activity u ≡ true) ⊎ (activity v ≡ true) → SameActor x u → InSync v x
     → can_receive p ≡ true → ProcessesLacpdu x p q → Says v p → p.enabled ≡ true → partner_synchronized q ≡ true
@@ -291,12 +232,16 @@ takes_learnt v u x c d p q there on e awake h a = (
   λ f. takes_sync v u x p q (on f) (e.0 there) (e.1 f) awake h a.0 a.1.0,
 )
 
-pub known_along : (v u : Lacpdu) (c d : ℕ) → 1 ≤ d → (2 ≤ d → (activity u ≡ true) ⊎ (activity v ≡ true)) → Along (Learnt d u (wait_of v)) v u c d
-known_along v u c d there on = record {
-  mux = mux_leaves (Learnt d u (wait_of v));
-  periodic = λ p q h a y. periodic_leaves (Learnt d u (wait_of v)) p q h y;
+pub lower_learnt : (d : ℕ) (u : Lacpdu) (m k : ℕ) (p : Machines) → k ≤ m → Learnt d u m p → Learnt d u k p
+lower_learnt d u m k p l a = ((a.0.0, λ e. let b = a.0.1 (omega (arith, e, l)) in (b.0, omega (arith, l, b.1))), a.1)
+
+pub learnt_along : (v u : Lacpdu) (c d most : ℕ) → most ≤ wait_of v → 1 ≤ d → (2 ≤ d → (activity u ≡ true) ⊎ (activity v ≡ true))
+    → Along (Learnt d u most) v u c d
+learnt_along v u c d most l there on = record {
+  mux = mux_leaves (Learnt d u most);
+  periodic = λ p q h a y. periodic_leaves (Learnt d u most) p q h y;
   select = λ choice p none y. y;
-  takes = λ x p q e awake h a y. takes_learnt v u x c d p q there on e awake h a;
+  takes = λ x p q e awake h a y. lower_learnt d u (wait_of v) most q l (takes_learnt v u x c d p q there on e awake h a);
 }
 
 pub both_along : (Y Z : Machines → Type 0) (v u : Lacpdu) (c d : ℕ) → Along Y v u c d → Along Z v u c d → Along (λ p. Y p × Z p) v u c d

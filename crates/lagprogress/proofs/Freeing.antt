@@ -1,19 +1,17 @@
 -- No conversation that is not moved stays held on a port of a healthy cable of a bundle.
 use Rattle.lagprogress.proofs.Common.{List, None, Option, Some, [], ap, arith, inl, inr, length, refl, subst, sym, ℕ, ◌++◌, ◌+◌, ◌-◌, ◌<◌, ◌∙◌, ◌∷◌}
-use Rattle.lagprogress.proofs.Common.{◌≡◌, ◌≤◌, ◌⊎◌, nat_tests, none-some, same_Some, AllByRecursion, all-append, IsCabling, One, Side, peer}
-use Rattle.lagprogress.proofs.Common.{value_of, Assignment, Flushing, On, Wanted, after_mark, after_release, after_tick, IsConversation}
-use Rattle.lagprogress.proofs.Common.{assignment_of, held_unless_on, SystemState, Event, Reply, Algorithms, WorldSteps, side_of, LinkState}
-use Rattle.lagprogress.proofs.Common.{WorldState, half, port_at, AtPort, Turning, Turns, asks_turn, comes_turn, same_turns, ticks_turn, turns_through}
-use Rattle.lagprogress.proofs.Common.{BothAreActive, IsBundle, OneIsActive, CarriersAreUp, HasIdentifierLeft, IsNotHeldOn, NoneIsHeld, NoneIsHeldOn}
-use Rattle.lagprogress.proofs.Common.{NothingIsHeld, carrier_of, held_on, DrainingRounds, NoneIsHeldOnEndsByHosts, NothingIsHeldByHosts, Clearing}
-use Rattle.lagprogress.proofs.Common.{HostRounds, IsBetweenTicks, NoneIsLeft, PlayedRounds, LateRounds, OldArrive, IsDeliver, IsHealthyAt, IsRound}
-use Rattle.lagprogress.proofs.Common.{Rounds, asks_all, freed_if_both_active, freed_if_one_is, ticks_of_both, up_if_both_active, up_if_one_is}
-use Rattle.lagprogress.proofs.Common.{IsSteady}
+use Rattle.lagprogress.proofs.Common.{◌≡◌, ◌≤◌, ◌⊎◌, nat_tests, AllByRecursion, all-append, IsCabling, One, Side, peer, value_of, Assignment}
+use Rattle.lagprogress.proofs.Common.{after_mark, after_release, after_tick, IsConversation, assignment_of, held_unless_on, SystemState, Event, Reply}
+use Rattle.lagprogress.proofs.Common.{Algorithms, WorldSteps, side_of, LinkState, WorldState, half, port_at, AtPort, Turning, Turns, asks_turn}
+use Rattle.lagprogress.proofs.Common.{comes_turn, same_turns, ticks_turn, turns_through, EndsHealthyCable, IsBundle, HasIdentifierLeft, IsNotHeldOn}
+use Rattle.lagprogress.proofs.Common.{NoneIsHeldOn, NothingIsHeld, carrier_of, held_on, DrainingRounds, NoneIsHeldOnEndsByHosts, NothingIsHeldByHosts}
+use Rattle.lagprogress.proofs.Common.{Clearing, HostRounds, IsBetweenTicks, NoneIsLeft, PlayedRounds, LateRounds, OldArrive, IsDeliver, IsHealthyAt}
+use Rattle.lagprogress.proofs.Common.{IsRound, Rounds, asks_all, ticks_of_both, IsSteady}
 use Rattle.lagprogress.proofs.Lasting.{played_before, still_heard}
 use Rattle.lagprogress.proofs.LateLoops.{host_rounds_are_late_rounds}
 use Rattle.lagprogress.proofs.LateStart.{counts_of, kept_of}
-use Rattle.lagprogress.proofs.EachRound.{among_then, played_join, played_steady, splits, zero_on, hosts_steady, played_keep}
-use Rattle.lagprogress.proofs.Bundling.{MeetsBy, Nowhere, awake_of, both_active, one_active, said, ups_of, named_of}
+use Rattle.lagprogress.proofs.EachRound.{among_then, played_join, played_steady, splits, zero_on, played_keep}
+use Rattle.lagprogress.proofs.Bundling.{MeetsBy, Nowhere, awake_of, said, ups_of, named_of, Meets}
 use Rattle.lagprogress.proofs.Linked.{each_side, each_both, each_map, at_end, end_here, runs_all}
 use Rattle.lagprogress.proofs.OneCable.{ticks}
 use Rattle.lagprogress.proofs.RoundEvents.{asked_half, came_half}
@@ -32,15 +30,7 @@ fine_first p a = grind (arith, nat_tests)
 
 -- in the end none is held on the port
 fine_last : (p m : ℕ) → 30 ≤ m → (a : Assignment) → Fine p m ⊥ (λ id. ⊥) a → held_on a ≡ Some p → ⊥
-fine_last p m l (Wanted q preferred) h e = h (same_Some q p e)
-fine_last p m l (Flushing q id preferred age) h e = elim (h (same_Some q p e)) [
-  | inl a ↦ too_old m age l a.0 (a.1 (omega (arith, l)))
-  | inr f ↦ f
-]
-  where
-    too_old : (m age : ℕ) → 30 ≤ m → m ≤ age → age < 30 → ⊥
-    too_old m age a b c = omega (arith, a, b, c)
-fine_last p m l a h e = none-some p e
+fine_last p m l a h e = grind (arith, nat_tests)
 
 -- a conversation was there before
 was_there : (gives : Algorithms) (n : ℕ) (old new : WorldState) (s : Side) (g k : ℕ) → IsSteady old → HostRounds gives n old new
@@ -48,7 +38,7 @@ was_there : (gives : Algorithms) (n : ℕ) (old new : WorldState) (s : Side) (g 
 was_there gives n old new s g k steady h is =
     let keys = played_keep NoneIsLeft gives ℕ (λ t. length t.keys) (λ t a b. refl) (λ t a. refl) (λ t d. refl) n old new h s in
     let cols = played_keep NoneIsLeft gives ℕ (λ t. t.conversations) (λ t a b. refl) (λ t a. refl) (λ t d. refl) n old new h s in
-    let later = hosts_steady gives n old new steady h in
+    let later = played_steady NoneIsLeft gives n old new steady h in
     let rows : (half s new).state.table.aggs ≡ (half s old).state.table.aggs =
     (later s).0.aggregators ∙ (keys ∙ sym (steady s).0.aggregators) in
     let each : (half s new).state.table.conversations ≡ (half s old).state.table.conversations =
@@ -85,25 +75,6 @@ module _ (E : Clearing) (Holds : LinkState → WorldState → Type 0) (Other : S
       }) rounds in
       fine_last (at s) m late (assignment_of (half s new).state.table q r) rests.fine held
 
-pub none_is_held_on_ends_by_hosts : (gives : Algorithms) → NoneIsHeldOnEndsByHosts OneIsActive up_if_one_is gives
-none_is_held_on_ends_by_hosts gives n m i l old mid new s g k b y enough h late more left = freed_by OldArrive OneIsActive Nowhere 624 gives old
-    (one_active gives old b) i l y n m mid new s g k (omega (arith, enough)) h late more left
-
-pub none_is_held_on_active_ends_by_hosts : (gives : Algorithms) → NoneIsHeldOnEndsByHosts BothAreActive up_if_both_active gives
-none_is_held_on_active_ends_by_hosts gives n m i l old mid new s g k b y enough h late more left = freed_by OldArrive BothAreActive Nowhere 323 gives old
-    (both_active gives old b) i l y n m mid new s g k (omega (arith, enough)) h late more left
-
--- and in healthy rounds, which are such rounds
-none_held : (Holds : LinkState → WorldState → Type 0) (least : ℕ) (gives : Algorithms) → NoneIsHeldOnEndsByHosts Holds least gives → (n i : ℕ)
-    (l : LinkState) (old new : WorldState) (s : Side) → IsBundle Holds old → IsHealthyAt i l old → least + 30 ≤ n → Rounds gives n old new
-    → HasIdentifierLeft (half s new).state → NoneIsHeldOn (port_at s l) (half s new).state
-none_held Holds least gives by n i l old new s b y enough h left q r =
-    let cut = splits gives (n - least) least n old new (omega (arith, enough)) h in
-    let hosts = rounds_are_host_rounds gives least old cut.0 b.steady cut.1 in
-    by least (n - least) i l old cut.0 new s q r b y (omega arith) (host_rounds_are_late_rounds gives least old cut.0 b.cabling hosts)
-    (omega (arith, enough))
-    (rounds_are_draining gives s q r (n - least) cut.0 new (hosts_steady gives least old cut.0 b.steady hosts) cut.2) left
-
 -- what carries a conversation in a round
 
 -- the second is carried by the port of the first, or by none
@@ -126,14 +97,7 @@ stays_held : (ports : List ℕ) (a : Assignment) → Stays a (held_unless_on por
 stays_held ports a = grind (arith, nat_tests)
 
 pub stays : Turning Stays
-stays = record {
-  same = λ a. inr refl;
-  through = stays_through;
-  tick = stays_tick;
-  mark = stays_mark;
-  release = stays_release;
-  held = stays_held;
-}
+stays = grind (arith, nat_tests, stays_through, stays_tick, stays_mark, stays_release, stays_held)
 
 abbrev WorldStays : Side → WorldState → WorldState → Type 0
 WorldStays s i j = Turns Stays stays (half s i).state.table (half s j).state.table
@@ -195,69 +159,62 @@ rounds_stay : (s : Side) (gives : Algorithms) (n : ℕ) (old new : WorldState) �
 rounds_stay s gives n old new h = zero_on gives (λ m j. WorldStays s old j) old (world_same s old old refl)
     (λ m i j q k. world_through s old i j k (round_stays s gives i j q)) n new h
 
+pub carried_before : (a b : Assignment) (p : ℕ) → Stays a b → carrier_of b ≡ Some p → carrier_of a ≡ Some p
+carried_before a b p k h = grind (arith, nat_tests)
+
 pub held_carries : (a : Assignment) (p : ℕ) → held_on a ≡ Some p → carrier_of a ≡ Some p
-held_carries (On q) p e = absurd (none-some p e)
-held_carries a p e = e
+held_carries a p e = grind (arith, nat_tests)
 
 -- so all that is held is held on ends of healthy cables
 
-nothing_held : (Holds : LinkState → WorldState → Type 0) (gives : Algorithms) (n : ℕ) (old new : WorldState) (s : Side) → IsBundle Holds old
-    → CarriersAreUp (half s old).state → Rounds gives n old new
-    → ((i : ℕ) (l : LinkState) → IsHealthyAt i l old → NoneIsHeldOn (port_at s l) (half s new).state) → NoneIsHeld (half s new).state
-nothing_held Holds gives n old new s b carriers h none g k is = by_port (held_on (assignment_of (half s new).state.table g k)) refl
-  where
-    was : IsConversation (half s old).state.table g k
-    was = was_there gives n old new s g k b.steady (rounds_are_host_rounds gives n old new b.steady h) is
+-- the port of an assignment, if it has one, ends a healthy cable; but no end of one is its port
+unheld : (Holds : LinkState → WorldState → Type 0) (s : Side) (old : WorldState) (o : Option ℕ)
+    → ((p : ℕ) → o ≡ Some p → EndsHealthyCable Holds s p old)
+    → ((i : ℕ) (l : LinkState) → IsHealthyAt i l old → o ≡ Some (port_at s l) → ⊥) → o ≡ None
+unheld Holds s old None ends none = refl
+unheld Holds s old (Some p) ends none =
+    let it = ends p refl in absurd (none it.index it.link it.healthy (ap (λ (q : ℕ). Some q) (sym it.joins)))
 
-    carried : (p : ℕ) → carrier_of (assignment_of (half s new).state.table g k) ≡ Some p
-        → carrier_of (assignment_of (half s old).state.table g k) ≡ Some p
-    carried p e = elim (rounds_stay s gives n old new h g k) [
-      | inl none ↦ absurd (none-some p (sym none ∙ e))
-      | inr same ↦ sym same ∙ e
-    ]
+module _ (Holds : LinkState → WorldState → Type 0) (first : ℕ) (gives : Algorithms)
+    (meets : (old : WorldState) → IsBundle Holds old → Meets Holds first gives old) where
+  pub none_is_held_on_ends : NoneIsHeldOnEndsByHosts Holds (first + 33) gives
+  none_is_held_on_ends n m i l old mid new s g k b y enough h late more left =
+      freed_by OldArrive Holds Nowhere first gives old (meets old b) i l y n m mid new s g k enough h late more left
 
-    by_port : (o : Option ℕ) → held_on (assignment_of (half s new).state.table g k) ≡ o → held_on (assignment_of (half s new).state.table g k) ≡ None
-    by_port None e = e
-    by_port (Some p) e =
-        let up = carriers g k p was (carried p (held_carries (assignment_of (half s new).state.table g k) p e)) in
-        let it = b.heard s up.0 up.1 up.2 up.4 in
-        let number : port_at s it.link ≡ p = it.joins ∙ up.3 in
-        absurd (none it.index it.link it.healthy g k is (e ∙ ap (λ (q : ℕ). Some q) (sym number)))
+  -- and in healthy rounds, which are such rounds
+  none_held : (n i : ℕ) (l : LinkState) (old new : WorldState) (s : Side) → IsBundle Holds old → IsHealthyAt i l old → first + 63 ≤ n
+      → Rounds gives n old new → HasIdentifierLeft (half s new).state → NoneIsHeldOn (port_at s l) (half s new).state
+  none_held n i l old new s b y enough h left q r =
+      let least = first + 33 in
+      let cut = splits gives (n - least) least n old new (omega (arith, enough)) h in
+      let hosts = rounds_are_host_rounds gives least old cut.0 b.steady cut.1 in
+      none_is_held_on_ends least (n - least) i l old cut.0 new s q r b y (omega arith)
+      (host_rounds_are_late_rounds gives least old cut.0 b.cabling hosts) (omega (arith, enough))
+      (rounds_are_draining gives s q r (n - least) cut.0 new (played_steady NoneIsLeft gives least old cut.0 b.steady hosts) cut.2) left
 
-pub nothing_is_held : (gives : Algorithms) → NothingIsHeld OneIsActive freed_if_one_is gives
-nothing_is_held gives n old new s b carriers enough h left = nothing_held OneIsActive gives n old new s b carriers h
-    (λ i l y. none_held OneIsActive up_if_one_is gives (none_is_held_on_ends_by_hosts gives) n i l old new s b y enough h left)
+  pub nothing_is_held : NothingIsHeld Holds (first + 63) gives
+  nothing_is_held n old new s b carriers enough h left g k is =
+      unheld Holds s old (held_on (assignment_of (half s new).state.table g k)) ends (λ i l y e. none_held n i l old new s b y enough h left g k is e)
+    where
+      ends : (p : ℕ) → held_on (assignment_of (half s new).state.table g k) ≡ Some p → EndsHealthyCable Holds s p old
+      ends p e =
+          let up = carriers g k p (was_there gives n old new s g k b.steady (rounds_are_host_rounds gives n old new b.steady h) is)
+          (carried_before (assignment_of (half s old).state.table g k) (assignment_of (half s new).state.table g k) p
+          (rounds_stay s gives n old new h g k) (held_carries (assignment_of (half s new).state.table g k) p e)) in
+          subst (λ q. EndsHealthyCable Holds s q old) up.3 (b.heard s up.0 up.1 up.2 up.4)
 
-pub none_is_held_where_active : (gives : Algorithms) → NothingIsHeld BothAreActive freed_if_both_active gives
-none_is_held_where_active gives n old new s b carriers enough h left = nothing_held BothAreActive gives n old new s b carriers h
-    (λ i l y. none_held BothAreActive up_if_both_active gives (none_is_held_on_active_ends_by_hosts gives) n i l old new s b y enough h left)
+  -- so it is by rounds of hosts: some late rounds, and then such rounds
+  pub nothing_is_held_by_hosts : NothingIsHeldByHosts Holds (first + 33) gives
+  nothing_is_held_by_hosts n m old mid new s g k b enough h late more left carriers is =
+      unheld Holds s old (held_on (assignment_of (half s new).state.table g k)) ends
+      (λ i l y e. none_is_held_on_ends n m i l old mid new s g k b y enough h late more left is e)
+    where
+      before : LateRounds gives (m + n) old new
+      before = among_then IsBetweenTicks OldArrive gives m n (m + n) old mid new refl h (host_rounds_are_late_rounds gives m mid new
+          (subst IsCabling (sym (played_join OldArrive gives n old mid h)) b.cabling) (draining_are_host gives s g k m mid new more))
 
--- so it is by rounds of hosts
-
-nothing_held_by_hosts : (Holds : LinkState → WorldState → Type 0) (least : ℕ) (gives : Algorithms) → NoneIsHeldOnEndsByHosts Holds least gives
-    → NothingIsHeldByHosts Holds least gives
-nothing_held_by_hosts Holds least gives by n m old mid new s g k b enough h late more left carriers is =
-    by_port (held_on (assignment_of (half s new).state.table g k)) refl
-  where
-    -- some late rounds, and then rounds of hosts
-    before : (r : ℕ) × LateRounds gives r old new
-    before = (
-      m + n,
-      among_then IsBetweenTicks OldArrive gives m n (m + n) old mid new refl h (host_rounds_are_late_rounds gives m mid new
-          (subst IsCabling (sym (played_join OldArrive gives n old mid h)) b.cabling) (draining_are_host gives s g k m mid new more)),
-    )
-
-    by_port : (o : Option ℕ) → held_on (assignment_of (half s new).state.table g k) ≡ o → held_on (assignment_of (half s new).state.table g k) ≡ None
-    by_port None e = e
-    by_port (Some p) e =
-        let up = carriers g k p is (held_carries (assignment_of (half s new).state.table g k) p e) in
-        let it = still_heard Holds s old new (played_before OldArrive gives before.0 old new b.steady before.1 s) b.heard up.0 up.1 up.2 up.4 in
-        let number : port_at s it.link ≡ p = it.joins ∙ up.3 in
-        absurd (by n m it.index it.link old mid new s g k b it.healthy enough h late more left is (e ∙ ap (λ (q : ℕ). Some q) (sym number)))
-
-pub nothing_is_held_by_hosts : (gives : Algorithms) → NothingIsHeldByHosts OneIsActive up_if_one_is gives
-nothing_is_held_by_hosts gives = nothing_held_by_hosts OneIsActive up_if_one_is gives (none_is_held_on_ends_by_hosts gives)
-
-pub none_is_held_where_active_by_hosts : (gives : Algorithms) → NothingIsHeldByHosts BothAreActive up_if_both_active gives
-none_is_held_where_active_by_hosts gives =
-    nothing_held_by_hosts BothAreActive up_if_both_active gives (none_is_held_on_active_ends_by_hosts gives)
+      ends : (p : ℕ) → held_on (assignment_of (half s new).state.table g k) ≡ Some p → EndsHealthyCable Holds s p old
+      ends p e =
+          let up = carriers g k p is (held_carries (assignment_of (half s new).state.table g k) p e) in
+          subst (λ q. EndsHealthyCable Holds s q old) up.3
+          (still_heard Holds s old new (played_before OldArrive gives (m + n) old new b.steady before s) b.heard up.0 up.1 up.2 up.4)

@@ -237,7 +237,7 @@ module _ (Holds : LinkState → WorldState → Type 0) (gives : Algorithms) (old
     ticked_one kn to from t known here there n r i j named step d =
         let k = ticks gives n t r i j named step in record {
           links = λ x l y. (tick_one gives n t 1 (λ u. port_at u l) (said old x l y) (kn x l y) (to x l y) One Nothing Nothing r i j named
-              (here x l y) (there x l y) (λ e. absurd (omega (arith, e)))
+              (record { own = here x l y; other = there x l y; some = λ e. absurd (omega (arith, e)) })
               (nothing_along (said old x l y One) (said old x l y (peer One)) (to x l y One) 1) (λ p q run rest a f z. z) (λ p f z. z) step
               (d.links x l y)).link;
           stands = record {

@@ -2,7 +2,7 @@
 use Rattle.lagprogress.proofs.Common.{Bool, List, None, Option, Some, [], ap, arith, cond, false, find, if◌then◌else◌, inl, inr, length, not}
 use Rattle.lagprogress.proofs.Common.{option_map, refl, slice_get, slice_set, subst, suc, sym, true, zero, ℕ, ◌&&◌, ◌+◌, ◌==◌, ◌∙◌, ◌∷◌, ◌≡◌, ◌⊎◌}
 use Rattle.lagprogress.proofs.Common.{cases_eq, nat_tests, none-some, same_Some, AllByRecursion, enumerate_from, list_all, AggId, Key, Choice}
-use Rattle.lagprogress.proofs.Common.{Selected, Standby, Unselected, Party, Pair, SamePair, individual, pair_of, itself, party_of, Machines, mux_rows}
+use Rattle.lagprogress.proofs.Common.{Selected, Standby, Unselected, Pair, SamePair, individual, pair_of, itself, party_of, Machines, mux_rows}
 use Rattle.lagprogress.proofs.Common.{RunsPeriodic, receive_rows, RunsToRest, after_sending, count_down, PortView, aggregator_of_entry}
 use Rattle.lagprogress.proofs.Common.{chosen_if_eligible, has_group_of, has_no_occupant, has_occupant, lowest, occupants, occupants_share_group}
 use Rattle.lagprogress.proofs.Common.{or_else, AggregatorsValue, has_room, is_eligible, occupies, group-test, Answer, SystemPort, Call, ChangesParty}
@@ -31,10 +31,7 @@ InOne l = (g h i j : ℕ) (x y : SystemPort) → slice_get l i ≡ Some x → sl
     → individual x.port.party (party_of x.port.partner) ≡ false → g ≡ h
 
 group_along : (a b c : Pair) → SamePair a b → SamePair b c → SamePair a c
-group_along a b c (inl e) (inl f) = inl (e.0 ∙ f.0, e.1 ∙ f.1)
-group_along a b c (inl e) (inr f) = inr (e.0 ∙ f.0, e.1 ∙ f.1)
-group_along a b c (inr e) (inl f) = inr (e.0 ∙ f.1, e.1 ∙ f.0)
-group_along a b c (inr e) (inr f) = inl (e.0 ∙ f.1, e.1 ∙ f.0)
+group_along a b c hyp1 hyp2 = grind (arith, nat_tests)
 
 -- where no port gets another aggregator or group
 
@@ -51,17 +48,7 @@ by_place : (old new : List SystemPort) → ((j : ℕ) (t : SystemPort) → slice
 by_place old new each a g h i j x y at bt o p key pair together =
     let s = each i x at in
     let t = each j y bt in
-    elim s.2 [
-      | inl none ↦ absurd (none-some g (sym none ∙ o))
-      | inr k ↦ elim t.2 [
-        | inl none ↦ absurd (none-some h (sym none ∙ p))
-        | inr m ↦ a g h i j s.0 t.0 s.1 t.1 (sym k.0 ∙ o) (sym m.0 ∙ p)
-            (ap (λ (q : Party). q.key) (sym k.1) ∙ (key ∙ ap (λ (q : Party). q.key) m.1))
-            (subst (λ e. SamePair e (ends (selection_view t.0))) (same_ends x s.0 k.1 k.2)
-            (subst (λ e. SamePair (ends (selection_view x)) e) (same_ends y t.0 m.1 m.2) pair))
-            (sym (same_individual x s.0 k.1 k.2) ∙ together)
-      ]
-    ]
+    grind (arith, nat_tests, none-some, a, ends, same_ends, same_individual)
 
 as_before : (p q : Machines) → LeavesOrStays p q → OccupiesAsBefore p q
 as_before p q (inl e) = inl (ap occupied e)
@@ -278,10 +265,7 @@ promotion_in_one : (l : List SystemPort) (i : ℕ) (s : SystemPort) (agg : AggId
 promotion_in_one l i s agg there stands a =
     let t : SystemPort = with_choice s (Some (Selected agg)) in
     let here : OccupiesAsBefore s.port t.port = inr (sym (ap occupied stands), refl, refl) in
-    by_place l (slice_set l i t) (λ j u g. elim (set_cases l i j t u g) [
-      | inl c ↦ (s, ap (slice_get l) c.0 ∙ there, subst (λ (z : SystemPort). OccupiesAsBefore s.port z.port) (sym c.1) here)
-      | inr c ↦ (u, c.1, inr (refl, refl, refl))
-    ]) a
+    grind (arith, nat_tests, by_place, slice_set, set_cases, slice_get, a)
 
 occupied_if : (room : Bool) (agg : AggId) → occupied (choice_if room agg) ≡ Some agg.0
 occupied_if room agg = grind (arith, nat_tests)
@@ -386,12 +370,7 @@ ends_key : (a b : End) → a ≡ b → a.key ≡ b.key
 ends_key a b e = ap (λ (z : End). z.key) e
 
 pub whole_of : (s : SystemState) → PortsAgree s → OccupantsAgree s.keys s.system_ports → InOne s.system_ports → GroupsAreWhole s
-whole_of s ports agree one g h i j x y at bt o p pair together =
-    let own = own_named s i x ports.ports ports.members at ∙ sym (own_named s j y ports.ports ports.members bt) in
-    one g h i j x y at bt o p (elim pair [
-      | inl e ↦ ends_key _ _ e.0
-      | inr e ↦ absurd (agree.apart j h y bt p (sym (ends_system _ _ e.0) ∙ own))
-    ]) pair together
+whole_of s hyp1 hyp2 hyp3 = grind (arith, nat_tests, own_named, ends_key, ends_system)
 
 pub in_one_of : (s : SystemState) → GroupsAreWhole s → InOne s.system_ports
 in_one_of s whole g h i j x y at bt o p key pair together = whole g h i j x y at bt o p pair together

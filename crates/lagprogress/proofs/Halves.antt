@@ -96,12 +96,12 @@ offered gives s agg octets (Ok port) j new r x =
     then gives j mid new (as_half gives s (with_frame_counted agg octets (half s j)) j refl) (cables gives mid _ new x.2)
 
 -- what is recorded changes no state
+pub forced_state : (a : Result Unit SystemFault) (agg : AggId) (conv : ℕ) (h : HalfState) → (forced_if_accepted a agg conv h).state ≡ h.state
+forced_state (Ok done) agg conv h = refl
+forced_state (Err fault) agg conv h = refl
+
 noted : (kept : Recording) (a : Answer) (h : HalfState) → (recorded kept a h).state ≡ h.state
-noted (if_forced agg conv) a h = forced (answer_to_force a)
-  where
-    forced : (a : Result Unit SystemFault) → (forced_if_accepted a agg conv h).state ≡ h.state
-    forced (Ok done) = refl
-    forced (Err fault) = refl
+noted (if_forced agg conv) a h = forced_state (answer_to_force a) agg conv h
 noted kept a h = refl
 
 changes : (gives : Algorithms) (s : Side) (h : HalfState) (j new : WorldState)

@@ -1,9 +1,9 @@
 -- What a healthy round leaves of conversations that are held on a port whose cable is healthy: their markers are answered.
+use Rattle.lagprogress.proofs.Common.{Bool, List, Some, ap, arith, cond, drop, eqb, false, length, sym, true, ℕ, ◌+◌, ◌<◌, ◌∙◌, ◌≡◌, ◌≤◌, ◌⊎◌}
+use Rattle.lagprogress.proofs.Common.{nat_tests, none-some, Marker, Information, Response, Pdu, no_fault, one_pdu, Side, peer, Assignment, Flushing}
+use Rattle.lagprogress.proofs.Common.{Free, On, Wanted, is_among, after_mark, after_release, after_tick, Carries, Data_frame, Faulty, IsFrame}
+use Rattle.lagprogress.proofs.Common.{ReceivedFrame, Runt, held_unless_on, ItemValue}
 use Rattle.lagsystem.specs.Forcing.{after_forcing}
-use Rattle.lagprogress.proofs.Common.{Bool, List, Some, ap, arith, cond, drop, eqb, false, inl, inr, length, ltb, refl, sym, true, ℕ, ◌+◌, ◌<◌, ◌∙◌}
-use Rattle.lagprogress.proofs.Common.{◌≡◌, ◌≤◌, ◌⊎◌, nat_tests, none-some, Marker, Information, Response, Pdu, no_fault, one_pdu, Side, peer}
-use Rattle.lagprogress.proofs.Common.{Assignment, Flushing, Free, On, Wanted, is_among, after_mark, after_release, after_tick, Carries, Data_frame}
-use Rattle.lagprogress.proofs.Common.{Faulty, IsFrame, ReceivedFrame, Runt, held_unless_on, ItemValue}
 use Rattle.slowpdu.specs.declared.pdu.Pdu.TheVariants as pdu
 use Rattle.slowpdu.specs.declared.fault.WireFault.{WireFault}
 use Rattle.slowpdu.specs.Faults.{fault_of}
@@ -67,26 +67,11 @@ settled_fine p m W F ports a k h = grind (arith, nat_tests)
 
 -- a tick
 pub ticked_fine : (p m : ℕ) (W : Type 0) (F : ℕ → Type 0) (a : Assignment) → Fine p m W F a → Fine p (m + 1) (Unit {0}) F (after_tick a)
-ticked_fine p m W F (Free preferred) h = tt
-ticked_fine p m W F (On q) h = tt
-ticked_fine p m W F (Wanted q preferred) h = λ same. tt
-ticked_fine p m W F (Flushing q id preferred age) h = by_age (ltb (age + 1) 30) refl
-  where
-    below : (n : ℕ) → ltb (n + 1) 30 ≡ true → n + 1 < 30
-    below n e = grind (arith, nat_tests)
-
-    by_age : (b : Bool) → ltb (age + 1) 30 ≡ b
-        → Fine p (m + 1) (Unit {0}) F (cond b (Flushing q id preferred (age + 1)) (Wanted q preferred))
-    by_age true e = λ same. elim (h same) [
-      | inl a ↦ (let l = a.0 in inl (omega (arith, l), λ _. below age e))
-      | inr f ↦ inr f
-    ]
-    by_age false e = λ same. tt
+ticked_fine p m W F a h = grind (arith, nat_tests)
 
 -- a frame is offered
 pub offered_fine : (p m q : ℕ) (W : Type 0) (F : ℕ → Type 0) (b : Bool) (a : Assignment) → Fine p m W F a → Fine p m W F (cond b (On q) a)
-offered_fine p m q W F true a h = tt
-offered_fine p m q W F false a h = h
+offered_fine p m q W F b a h = grind (arith, nat_tests)
 
 -- what is held on some port is forced
 

@@ -1,28 +1,28 @@
 -- Which runs are healthy rounds of hosts.
-use Rattle.lagprogress.proofs.Common.{Bool, Err, List, None, Ok, Option, Result, Some, [], ap, append_assoc, arith, cond, eqb, false, inl, inr, ltb}
-use Rattle.lagprogress.proofs.Common.{refl, slice_get, subst, suc, sym, true, zero, ℕ, ◌++◌, ◌+◌, ◌∙◌, ◌∷◌, ◌≡◌, cases_Bool, false≢true, nat_tests}
+use Rattle.lagprogress.proofs.Common.{Bool, Err, List, None, Ok, Option, Result, Some, [], ap, append_assoc, arith, cond, false, inl, inr, ltb, refl}
+use Rattle.lagprogress.proofs.Common.{slice_get, subst, suc, sym, true, zero, ℕ, ◌++◌, ◌+◌, ◌∙◌, ◌∷◌, ◌≡◌, ◌⊎◌, cases_Bool, false≢true, nat_tests}
 use Rattle.lagprogress.proofs.Common.{none-some, same_Some, AllByRecursion, Pdu, pdu_in, One, Side, Two, peer, value_of, Machines, after_sending}
-use Rattle.lagprogress.proofs.Common.{is_due, Assignment, Flushing, Wanted, after_mark, marker_due, wants_marker, Table, assignment_of}
-use Rattle.lagprogress.proofs.Common.{count_conversations, next_identifier, SystemFault, SystemPort, Step, Transmit, SendsMarkerOf, TransmitsAt}
-use Rattle.lagprogress.proofs.Common.{TransmitsIf, SystemState, machines_of, port_index, all-get, found_place, ports_rise, Event, Reply}
-use Rattle.lagprogress.proofs.Common.{AfterTransmit, Algorithms, WorldEmits, WorldRuns, sent_reply, side_of, payload_in, HalfState, LinkState}
-use Rattle.lagprogress.proofs.Common.{WorldState, half, is_accepted, port_at, with_half, half_there, HostEvent, HostSteps, Plays, Sets, OfEach}
-use Rattle.lagprogress.proofs.Common.{Tick-each, placed, AtPort, at_number, LeavesPorts, AskingInVainIsDraining, AsksInVain, AsksInVainAfterTick}
-use Rattle.lagprogress.proofs.Common.{DrainingRounds, IsNoMoveOf, NothingIsDue, RoundIsDraining, sent_nothing, AfterTick, AskingIsPlayed, Asks}
-use Rattle.lagprogress.proofs.Common.{AsksAfterTick, AsksIn, AtSomeWorld, Clearing, EventsAreOfHosts, HostRounds, IsBetweenTicks, IsTickOf}
-use Rattle.lagprogress.proofs.Common.{RoundIsHostRound, RoundsAreHostRounds, RunReplies, RunsHaveReplies, StepReplies, TickOnce, TickOnceAmong}
-use Rattle.lagprogress.proofs.Common.{as_played, AtEnd, IsDeliver, IsHealthyAt, OfPort, Rounds, asks_all, ticks_of_both, IsSteady}
+use Rattle.lagprogress.proofs.Common.{is_due, Assignment, after_mark, marker_due, wants_marker, Table, assignment_of, SystemFault, SystemPort, Step}
+use Rattle.lagprogress.proofs.Common.{Transmit, SendsMarkerOf, TransmitsAt, TransmitsIf, SystemState, machines_of, port_index, all-get, found_place}
+use Rattle.lagprogress.proofs.Common.{ports_rise, Event, Reply, AfterTransmit, Algorithms, WorldRuns, sent_reply, side_of, payload_in, HalfState}
+use Rattle.lagprogress.proofs.Common.{LinkState, WorldState, half, is_accepted, port_at, with_half, half_there, HostEvent, HostSteps, Plays, Sets}
+use Rattle.lagprogress.proofs.Common.{OfEach, Tick-each, placed, AtPort, at_number, LeavesPorts, AskingInVainIsDraining, AsksInVain}
+use Rattle.lagprogress.proofs.Common.{AsksInVainAfterTick, DrainingRounds, IsNoMoveOf, NothingIsDue, RoundIsDraining, sent_nothing, AfterTick}
+use Rattle.lagprogress.proofs.Common.{AskingIsPlayed, Asks, AsksAfterTick, AsksIn, AtSomeWorld, Clearing, EventsAreOfHosts, HostRounds}
+use Rattle.lagprogress.proofs.Common.{IsBetweenTicks, IsTickOf, NoneIsLeft, RoundIsHostRound, RoundsAreHostRounds, RunReplies, RunsHaveReplies}
+use Rattle.lagprogress.proofs.Common.{StepReplies, TickOnce, TickOnceAmong, as_played, AtEnd, IsDeliver, IsHealthyAt, OfPort, Rounds, asks_all}
+use Rattle.lagprogress.proofs.Common.{ticks_of_both, IsSteady}
 use Rattle.distributor.specs.Conversations.{sum_below}
 use Rattle.lagprogress.proofs.HostRound.{side_among, of_side, turned}
 use Rattle.lagprogress.proofs.HostSteady.{sets_up}
 use Rattle.lagprogress.proofs.Quieting.{calm_timely, place_stays}
 use Rattle.lagprogress.proofs.Halves.{AreTimely, timely}
 use Rattle.std.specs.Prelude.{map}
-use Rattle.lagprogress.proofs.EachRound.{each_between, EachAt, own_keeps, own_ticks, hosts_steady}
+use Rattle.lagprogress.proofs.EachRound.{each_between, EachAt, own_keeps, own_ticks, played_steady}
 use Rattle.lagworld.specs.declared.reply.Reply.TheVariants as reply
 use Rattle.lagprogress.proofs.Linked.{each_side, found, machines_there}
 use Rattle.lagprogress.proofs.OneCable.{Emits, emits, ticks}
-use Rattle.lagprogress.proofs.OneRound.{IsAsk, all_ask, asks_twice, same_ports_then}
+use Rattle.lagprogress.proofs.OneRound.{IsAsk, all_ask, same_ports_then}
 use Rattle.lagprogress.proofs.Passing.{sends_due}
 use Rattle.lagsystem.specs.declared.drive.Reply.TheVariants as answer
 use Rattle.lagscript.specs.declared.event.Event.TheVariants as event
@@ -62,20 +62,10 @@ no_count : (b : Bool) (n : ℕ) → n ≡ cond b 1 0 → b ≡ false → n ≡ 0
 no_count b n e f = grind (arith, nat_tests)
 
 no_marker_due : (p : ℕ) (t : Table) → ((g k : ℕ) → wants_marker p (assignment_of t g k) ≡ false) → marker_due t p ≡ None
-no_marker_due p t h =
-    let none : count_conversations (wants_marker p) t ≡ 0 =
-    no_sum (λ a. sum_below (λ c. cond (wants_marker p (assignment_of t (a + 1) c)) 1 0) t.conversations) t.aggs
-    (λ a. no_sum (λ c. cond (wants_marker p (assignment_of t (a + 1) c)) 1 0) t.conversations
-    (λ c. no_count (wants_marker p (assignment_of t (a + 1) c)) _ refl (h (a + 1) c))) in
-    ap (λ n. cond (ltb 0 n) (next_identifier t) None) none
+no_marker_due p t hyp1 = grind (arith, nat_tests, no_sum, cond, no_count, ltb)
 
 marked_wants : (p id : ℕ) (a : Assignment) → wants_marker p (after_mark p id a) ≡ false
-marked_wants p id (Wanted q preferred) = by_test (eqb q p) refl
-  where
-    by_test : (b : Bool) → eqb q p ≡ b → wants_marker p (cond b (Flushing p id preferred 0) (Wanted q preferred)) ≡ false
-    by_test true e = refl
-    by_test false e = e
-marked_wants p id a = refl
+marked_wants p id a = grind (arith, nat_tests)
 
 asked_marks : (gives : ℕ → ℕ → ℕ → Type 0) (n k : ℕ) (z : SystemPort) (a : Result (Option (List ℕ)) SystemFault) (old new : SystemState)
     → port_index n old.system_ports ≡ Some k → slice_get old.system_ports k ≡ Some z → z.port.enabled ≡ true → is_due z.port ≡ false
@@ -106,6 +96,12 @@ come_between e b = b
 pub come_beside : (at : Side → ℕ) (e : HostEvent) → LeavesPorts at e → MayCome e
 come_beside at (Sets s setting) b = tt
 come_beside at e b = b
+
+-- two of the events in turn ask this port of system s
+abbrev AsksTwice : Side → ℕ → List HostEvent → Type 0
+AsksTwice s p [] = ⊥
+AsksTwice s p (e ∷ []) = ⊥
+AsksTwice s p (e ∷ f ∷ es) = (Asks s p e × Asks s p f) ⊎ AsksTwice s p (f ∷ es)
 
 module _ (gives : Algorithms) (s : Side) (p : ℕ) where
   abbrev Up : Machines → Type 0
@@ -172,15 +168,7 @@ module _ (gives : Algorithms) (s : Side) (p : ℕ) where
 
   by_due : (up : Bool) (due : Bool) (k : ℕ) (z : SystemPort) (old new : SystemState) → up ≡ true → TransmitsIf up due k z old None new
       → (due ≡ false) × (marker_due old.table z.number ≡ None) × (new ≡ old)
-  by_due up true k z old new e h =
-      let sent = subst (λ b. TransmitsIf b true k z old None new) e h in absurd (none-some sent.0 sent.2)
-  by_due up false k z old new e h =
-      by_marker (marker_due old.table z.number) refl (subst (λ b. TransmitsIf b false k z old None new) e h)
-    where
-      by_marker : (x : Option ℕ) → marker_due old.table z.number ≡ x → SendsMarkerOf x z.number z.mac old None new
-          → (false ≡ false) × (marker_due old.table z.number ≡ None) × (new ≡ old)
-      by_marker None m y = (refl, m, y.1)
-      by_marker (Some id) m y = absurd (none-some _ y.3)
+  by_due up due k z old new e h = grind (arith, nat_tests)
 
   own_left : (t : Side) (mid : HalfState) (j : WorldState) → (half t (with_half t mid j)).state ≡ mid.state
   own_left t mid j = ap (λ (k : HalfState). k.state) (half_there t mid j)
@@ -212,12 +200,7 @@ module _ (gives : Algorithms) (s : Side) (p : ℕ) where
       )
 
   vain_now : (e : HostEvent) (r : Reply) (i j : WorldState) → Asks s p e → sent_nothing r ≡ true → StepReplies gives i e r j → Stays i → Drained j
-  vain_now e r i j (n, named, is) vain h x =
-      let step = subst (λ f. StepReplies gives i f r j) is h in
-      let v = value_of (side_of n) _ step.0 in
-      let same : v.0 ≡ s = same_Some v.0 s (sym v.1 ∙ named) in
-      let w = subst (λ t. WorldEmits gives t p i r (record j { acted = i.acted })) same v.2 in
-      vain_by w.0 w.1 r i j w.2.answers.step w.3 vain x
+  vain_now e r i j hyp1 hyp2 hyp3 hyp4 = grind (arith, nat_tests, value_of, same_Some, vain_by)
 
   at_first : (P : WorldState → Type 0) (es : List HostEvent) (rs : List Reply) (i j : WorldState) (run : RunReplies gives i es rs j) → P i
       → AtSomeWorld P gives es rs i j run
@@ -274,29 +257,17 @@ module _ (gives : Algorithms) (s : Side) (p : ℕ) where
         inr (vain_after es rs run.0 j o.0 o.1 o.2 run.2 q (stays a b e es r i run.0 h run.1 x))
 
     -- if it is asked twice in turn
-    twice_on : (n : ℕ) → side_of n ≡ Some s → (before later : List HostEvent) (rs : List Reply) (i j : WorldState) (a b : Bool)
-        → TickOnceAmong May s a b (before ++ (Plays (event.Emit n p) ∷ Plays (event.Emit n p) ∷ later))
-        → (run : RunReplies gives i (before ++ (Plays (event.Emit n p) ∷ Plays (event.Emit n p) ∷ later)) rs j) → Stays i
-        → AtSomeWorld Drained gives (before ++ (Plays (event.Emit n p) ∷ Plays (event.Emit n p) ∷ later)) rs i j run
-    twice_on n named [] later [] i j a b h run x = absurd run
-    twice_on n named [] later (r ∷ []) i j a b h run x = absurd run.2
-    twice_on n named [] later (r ∷ q ∷ rs) i j a b h run x =
-        let e = Plays (event.Emit n p) in
-        let o = rest_of a b e (e ∷ later) h in
-        let then = stays a b e (e ∷ later) r i run.0 h run.1 x in
-        inr (inr (at_first Drained later rs run.2.0 j run.2.2
-        (drained_now e q run.0 run.2.0 (n, named, refl) run.2.1 then (asked e r i run.0 (n, named, refl) run.1 x))))
-    twice_on n named (f ∷ before) later [] i j a b h run x = absurd run
-    twice_on n named (f ∷ before) later (r ∷ rs) i j a b h run x =
-        let es = before ++ (Plays (event.Emit n p) ∷ Plays (event.Emit n p) ∷ later) in
-        let o = rest_of a b f es h in
-        inr (twice_on n named before later rs run.0 j o.0 o.1 o.2 run.2 (stays a b f es r i run.0 h run.1 x))
-
-    twice_in : (n : ℕ) → side_of n ≡ Some s → (before later es : List HostEvent) → es ≡ before ++ (Plays (event.Emit n p) ∷ Plays (event.Emit n p) ∷ later)
-        → (rs : List Reply) (i j : WorldState) (a b : Bool) → TickOnceAmong May s a b es → (run : RunReplies gives i es rs j) → Stays i
-        → AtSomeWorld Drained gives es rs i j run
-    twice_in n named before later es e = subst (λ fs. (rs : List Reply) (i j : WorldState) (a b : Bool) → TickOnceAmong May s a b fs
-        → (run : RunReplies gives i fs rs j) → Stays i → AtSomeWorld Drained gives fs rs i j run) (sym e) (twice_on n named before later)
+    twice_on : (es : List HostEvent) (rs : List Reply) (i j : WorldState) (a b : Bool) → TickOnceAmong May s a b es → (run : RunReplies gives i es rs j)
+        → AsksTwice s p es → Stays i → AtSomeWorld Drained gives es rs i j run
+    twice_on [] rs i j a b h run y x = absurd y
+    twice_on (e ∷ []) rs i j a b h run y x = absurd y
+    twice_on (e ∷ f ∷ es) [] i j a b h run y x = absurd run
+    twice_on (e ∷ f ∷ es) (r ∷ []) i j a b h run y x = absurd run.2
+    twice_on (e ∷ f ∷ es) (r ∷ q ∷ rs) i j a b h run (inl y) x = inr (inr (at_first Drained es rs run.2.0 j run.2.2
+        (drained_now f q run.0 run.2.0 y.1 run.2.1 (stays a b e (f ∷ es) r i run.0 h run.1 x) (asked e r i run.0 y.0 run.1 x))))
+    twice_on (e ∷ f ∷ es) (r ∷ q ∷ rs) i j a b h run (inr y) x =
+        let o = rest_of a b e (f ∷ es) h in
+        inr (twice_on (f ∷ es) (q ∷ rs) run.0 j o.0 o.1 o.2 run.2 y (stays a b e (f ∷ es) r i run.0 h run.1 x))
 
 -- the port at an end of a healthy cable is there, and its link is up
 stays_first : (gives : Algorithms) (s : Side) (i : ℕ) (l : LinkState) (old : WorldState) → AreTimely old → IsHealthyAt i l old
@@ -360,11 +331,22 @@ of_side_after : (s : Side) (es : List HostEvent) → TickOnce One false false es
 of_side_after One es h = h
 of_side_after Two es h = turned IsBetweenTicks es false false h
 
-plays_append : (es fs : List Event) → map Plays (es ++ fs) ≡ map Plays es ++ map Plays fs
-plays_append [] fs = refl
-plays_append (e ∷ es) fs = ap (λ xs. Plays e ∷ xs) (plays_append es fs)
-
 -- and each end has nothing due once it is asked twice
+
+twice_later : (s : Side) (p : ℕ) (e : HostEvent) (es : List HostEvent) → AsksTwice s p es → AsksTwice s p (e ∷ es)
+twice_later s p e [] h = absurd h
+twice_later s p e (f ∷ es) h = inr h
+
+asks_twice : (s : Side) (i : ℕ) (links : List LinkState) (more : List Event) (l : LinkState) → slice_get links i ≡ Some l
+    → AsksTwice s (port_at s l) (map Plays (asks_all links ++ more))
+asks_twice s i [] more l e = absurd (none-some l e)
+asks_twice s zero (m ∷ links) more l e = subst (λ k. AsksTwice s (port_at s k) (map Plays (asks_all (m ∷ links) ++ more))) (same_Some m l e) (first s)
+  where
+    first : (s : Side) → AsksTwice s (port_at s m) (map Plays (asks_all (m ∷ links) ++ more))
+    first One = inl ((1, refl, refl), (1, refl, refl))
+    first Two = inr (inr (inl ((2, refl, refl), (2, refl, refl))))
+asks_twice s (suc i) (m ∷ links) more l e = inr (inr (inr (twice_later s (port_at s l) (Plays (event.Emit 2 m.two))
+    (map Plays (asks_all links ++ more)) (asks_twice s i links more l e))))
 
 at_map : (P Q : WorldState → Type 0) (gives : Algorithms) → ((j : WorldState) → P j → Q j) → (es : List HostEvent) (rs : List Reply) (i j : WorldState)
     (run : RunReplies gives i es rs j) → AtSomeWorld P gives es rs i j run → AtSomeWorld Q gives es rs i j run
@@ -415,15 +397,10 @@ round_is_draining gives t g k old new steady h = record {
     at_some : (s : Side) (i : ℕ) (l : LinkState) → IsHealthyAt i l old → (rs : List Reply) (mid : WorldState)
         → (run : RunReplies gives mid (map Plays (asks_all old.links ++ h.delivers)) rs new) → Stays gives s (port_at s l) mid
         → AtSomeWorld (NothingIsDue s l) gives (map Plays (asks_all old.links ++ h.delivers)) rs mid new run
-    at_some s i l y rs mid run x =
-        let o = asks_twice s i old.links l y.there in
-        let e = event.Emit o.number (port_at s l) in
-        twice_in gives s (port_at s l) IsBetweenTicks come_between o.number o.named (map Plays o.before) (map Plays (o.later ++ h.delivers))
-        (map Plays (asks_all old.links ++ h.delivers))
-        (ap (map Plays) (ap (λ es. es ++ h.delivers) o.is ∙ append_assoc o.before (e ∷ e ∷ o.later) h.delivers)
-        ∙ plays_append o.before (e ∷ e ∷ (o.later ++ h.delivers))) rs mid new false false
+    at_some s i l y rs mid run x = twice_on gives s (port_at s l) IsBetweenTicks come_between (map Plays (asks_all old.links ++ h.delivers)) rs mid new
+        false false
         (of_side_after s (map Plays (asks_all old.links ++ h.delivers)) (between_all (asks_all old.links) h.delivers (all_ask old.links) h.arrives))
-        run x
+        run (asks_twice s i old.links h.delivers l y.there) x
 
     after : (s : Side) (i : ℕ) (l : LinkState) → IsHealthyAt i l old → (rs : List Reply)
         → (run : RunReplies gives old (map Plays events) rs new) → AfterTick s (NothingIsDue s l) gives (map Plays events) rs old new run
@@ -457,7 +434,7 @@ pub rounds_are_host_rounds : (gives : Algorithms) → RoundsAreHostRounds gives
 rounds_are_host_rounds gives zero old new steady h = h
 rounds_are_host_rounds gives (suc n) old new steady h =
     let before = rounds_are_host_rounds gives n old h.0 steady h.1 in
-    (h.0, before, (round_is_host_round gives h.0 new (hosts_steady gives n old h.0 steady before) h.2).0)
+    (h.0, before, (round_is_host_round gives h.0 new (played_steady NoneIsLeft gives n old h.0 steady before) h.2).0)
 
 pub rounds_are_draining : (gives : Algorithms) (t : Side) (g k n : ℕ) (old new : WorldState) → IsSteady old → Rounds gives n old new
     → DrainingRounds t g k gives n old new
@@ -466,7 +443,7 @@ rounds_are_draining gives t g k (suc n) old new steady h =
     let before = rounds_are_host_rounds gives n old h.0 steady h.1 in (
       h.0,
       rounds_are_draining gives t g k n old h.0 steady h.1,
-      round_is_draining gives t g k h.0 new (hosts_steady gives n old h.0 steady before) h.2,
+      round_is_draining gives t g k h.0 new (played_steady NoneIsLeft gives n old h.0 steady before) h.2,
     )
 
 -- so is a round in which each end is asked after its system's tick until it sends nothing

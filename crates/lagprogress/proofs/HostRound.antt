@@ -2,14 +2,14 @@
 use Rattle.lagprogress.proofs.Common.{Bool, List, None, Some, [], ap, arith, false, inl, inr, refl, subst, sym, true, ℕ, ◌-◌, ◌∙◌, ◌∷◌, ◌≡◌, ◌≤◌, ◌⊎◌}
 use Rattle.lagprogress.proofs.Common.{nat_tests, same_Some, AllByRecursion, Lacpdu, One, Side, Two, peer, Machines, periodic_rows, receive_rows}
 use Rattle.lagprogress.proofs.Common.{AtRest, RunsToRest, after_sending, count_down, SystemState, machines_of, Reply, Algorithms, WorldSteps, side_of}
-use Rattle.lagprogress.proofs.Common.{WorldState, half, limit_towards, HostEvent, Plays, OfEach, Tick-each, no, counts, AtPort, mux_leaves}
-use Rattle.lagprogress.proofs.Common.{periodic_leaves, with_rest, LeavesPorts, AfterTick, AtSomeWorld, Clearing, IsBetweenTicks, IsTickOf, RunReplies}
-use Rattle.lagprogress.proofs.Common.{StepReplies, TickOnce, TickOnceAmong, IsHealthyAt, OfPort}
+use Rattle.lagprogress.proofs.Common.{WorldState, half, limit_towards, HostEvent, Plays, OfEach, Tick-each, no, counts, AtPort, with_rest}
+use Rattle.lagprogress.proofs.Common.{LeavesPorts, AfterTick, AtSomeWorld, Clearing, IsBetweenTicks, IsTickOf, RunReplies, StepReplies, TickOnce}
+use Rattle.lagprogress.proofs.Common.{TickOnceAmong, IsHealthyAt, OfPort}
 use Rattle.lagsystem.specs.declared.drive.Reply.TheVariants as answer
 use Rattle.lagscript.specs.declared.event.Event.TheVariants as event
 use Rattle.lagprogress.proofs.Climbing.{known_still}
 use Rattle.lagprogress.proofs.Delivering.{deliver_link}
-use Rattle.lagprogress.proofs.EndFacts.{Along, IsEnd, Learnt, nothing_along, takes_learnt, ticks_end, wait_of, activity}
+use Rattle.lagprogress.proofs.EndFacts.{Along, IsEnd, Learnt, nothing_along, ticks_end, lower_learnt}
 use Rattle.lagprogress.proofs.Halves.{keeps_timely}
 use Rattle.lagprogress.proofs.Linked.{EndIs, Fits, Left, Link, each_map, each_side, emit_any, end_kept, end_here, other_ports, other_side, peer_twice}
 use Rattle.lagprogress.proofs.Linked.{place_kept}
@@ -90,6 +90,11 @@ KeptBetween gives M = KeptAmong IsBetweenTicks gives M
 abbrev pub KeptBeside : (Side → ℕ) → Algorithms → (WorldState → Type 0) → Type 0
 KeptBeside at gives M = KeptAmong (LeavesPorts at) gives M
 
+-- two things that they keep
+pub both_kept : {May : HostEvent → Type 0} {gives : Algorithms} {M N : WorldState → Type 0} → KeptAmong May gives M → KeptAmong May gives N
+    → KeptAmong May gives (λ j. M j × N j)
+both_kept k l e r i j b h (m, n) = (k e r i j b h m, l e r i j b h n)
+
 -- what each of them keeps that is so
 abbrev pub KeptWhere : (HostEvent → Type 0) → Algorithms → (HostEvent → Type 0) → (WorldState → Type 0) → Type 0
 KeptWhere May gives Is M = (e : HostEvent) (r : Reply) (i j : WorldState) → Is e → May e → StepReplies gives i e r j → M i → M j
@@ -104,6 +109,10 @@ all_whatever (e ∷ es) = (tt, all_whatever es)
 -- what a tick of system s makes of it
 abbrev pub MadeByTick : Algorithms → Side → (WorldState → Type 0) → (WorldState → Type 0) → Type 0
 MadeByTick gives s M N = (n : ℕ) (r : Reply) (i j : WorldState) → side_of n ≡ Some s → WorldSteps gives i (event.Tick n 1) r j → M i → N j
+
+pub both_made : (gives : Algorithms) (s : Side) {M N V W : WorldState → Type 0} → MadeByTick gives s M V → MadeByTick gives s N W
+    → MadeByTick gives s (λ j. M j × N j) (λ j. V j × W j)
+both_made gives s k l n r i j named h (m, o) = (k n r i j named h m, l n r i j named h o)
 
 -- A before the tick of s, B after it, and C once P held; each of them before the tick of the other system, if that has still to
 -- tick, or after it
@@ -186,28 +195,34 @@ holds_beside E at gives s A kept own other old new h m = holds_among (LeavesPort
 
 -- one tick of system t
 
+-- what it makes of what is known: a tick less at its end, if that leaves some where there must be some
+pub record Counts (d : ℕ) (t : Side) (c b : Side → ℕ) : Type 0 where
+  pub own : b t ≡ c t - 1
+  pub other : b (peer t) ≡ c (peer t)
+  pub some : 2 ≤ d → 1 ≤ c t - 1
+
 pub tick_one : (gives : Algorithms) (n : ℕ) (t : Side) (d : ℕ) (at : Side → ℕ) (w : Side → Lacpdu) (c b : Side → ℕ) (x : Side)
-    (Y Z : Machines → Type 0) (r : Reply) (old new : WorldState) → side_of n ≡ Some t → b t ≡ c t - 1 → b (peer t) ≡ c (peer t)
-    → (2 ≤ d → 1 ≤ c t - 1) → Along Z (w x) (w (peer x)) (b x) d
+    (Y Z : Machines → Type 0) (r : Reply) (old new : WorldState) → side_of n ≡ Some t → Counts d t c b
+    → Along Z (w x) (w (peer x)) (b x) d
     → ((p q : Machines) → RunsToRest receive_rows (count_down p) q → AtRest periodic_rows p → IsEnd d (w x) (w (peer x)) (c x) p → t ≡ x → Y p → Z q)
     → ((p : Machines) → peer t ≡ x → Y p → Z p)
     → WorldSteps gives old (event.Tick n 1) r new → (l : Link d at w c x Y old) → Left d at w b x Z l.flying new
-tick_one gives n t d at w c b x Y Z r old new named here there known along moves stays h l =
-    let k = ticks gives n t r old new named h in
+tick_one gives n t d at w c b x Y Z r old new named k along moves stays h l =
+    let tick = ticks gives n t r old new named h in
     let steady = keeps_timely gives (event.Tick n 1) r old new h l.steady in
     let was : Side → Machines → Type 0 = EndIs d w c x Y in
     let now : Side → Machines → Type 0 = EndIs d w b x Z in
     let mine = Tick-each (λ m p. AtPort (at t) (was t) m p × AtRest periodic_rows p) (AtPort (at t) (now t))
     (end_kept w b d x Z along t (at t))
     (λ m p q run a e. (
-      subst (λ m. IsEnd d (w t) (w (peer t)) m q) (sym here) (ticks_end d (w t) (w (peer t)) (c t) p q known run (a.0 e).0),
+      subst (λ m. IsEnd d (w t) (w (peer t)) m q) (sym k.own) (ticks_end d (w t) (w (peer t)) (c t) p q k.some run (a.0 e).0),
       λ f. moves p q run a.1 (subst (λ u. IsEnd d (w u) (w (peer u)) (c u) p) f (a.0 e).0) f ((a.0 e).1 f),
-    )) (gives t) (half t old).state answer.Tick (half t new).state k.step
+    )) (gives t) (half t old).state answer.Tick (half t new).state tick.step
     (with_rest (AtPort (at t) (was t)) (half t old).state.system_ports (l.ports t) (l.steady t).0.quiet.1) in
-    let theirs = subst (λ (y : SystemState). OfEach (AtPort (at (peer t)) (now (peer t))) y.system_ports) (sym k.peers)
+    let theirs = subst (λ (y : SystemState). OfEach (AtPort (at (peer t)) (now (peer t))) y.system_ports) (sym tick.peers)
     (each_map (AtPort (at (peer t)) (was (peer t))) (AtPort (at (peer t)) (now (peer t)))
     (λ m p a e. (
-      subst (λ m. IsEnd d (w (peer t)) (w (peer (peer t))) m p) (sym there) (a e).0,
+      subst (λ m. IsEnd d (w (peer t)) (w (peer (peer t))) m p) (sym k.other) (a e).0,
       λ f. stays p f ((a e).1 f),
     )) (half (peer t) old).state.system_ports (l.ports (peer t))) in
     record {
@@ -215,7 +230,7 @@ tick_one gives n t d at w c b x Y Z r old new named here there known along moves
         steady = steady;
         flying = l.flying;
         index = l.index;
-        links = subst (OnCable l.index at l.flying) (sym k.links) l.links;
+        links = subst (OnCable l.index at l.flying) (sym tick.links) l.links;
         good = l.good;
         place = λ u. ((l.place u).0, place_kept gives (event.Tick n 1) r old new h l.steady steady u (at u) ∙ (l.place u).1);
         ports = each_side (λ u. OfEach (AtPort (at u) (now u)) (half u new).state.system_ports) t mine theirs;
@@ -233,18 +248,6 @@ pub ticks_learnt : (d : ℕ) (u : Lacpdu) (m : ℕ) (p q : Machines) → 2 ≤ m
 ticks_learnt d u m p q l run a = subst (Learnt d u (m - 1)) (sym (known_still u (m - 1) (count_down p) q (omega (arith, l)) (counts u m 0 p a.0) run))
     (counts u m 0 p a.0, a.1)
 
-pub lower_learnt : (d : ℕ) (u : Lacpdu) (m k : ℕ) (p : Machines) → k ≤ m → Learnt d u m p → Learnt d u k p
-lower_learnt d u m k p l a = ((a.0.0, λ e. let b = a.0.1 (omega (arith, e, l)) in (b.0, omega (arith, l, b.1))), a.1)
-
-pub learnt_along : (v u : Lacpdu) (c d most : ℕ) → most ≤ wait_of v → 1 ≤ d → (2 ≤ d → (activity u ≡ true) ⊎ (activity v ≡ true))
-    → Along (Learnt d u most) v u c d
-learnt_along v u c d most l there on = record {
-  mux = mux_leaves (Learnt d u most);
-  periodic = λ p q h a y. periodic_leaves (Learnt d u most) p q h y;
-  select = λ choice p none y. y;
-  takes = λ x p q e awake h a y. lower_learnt d u (wait_of v) most q l (takes_learnt v u x c d p q there on e awake h a);
-}
-
 -- what each event beside its ends keeps of a cable
 pub between : (gives : Algorithms) (d : ℕ) (at : Side → ℕ) (w : Side → Lacpdu) (c : Side → ℕ) (x : Side) (Y : Machines → Type 0)
     → Fits d w c → Along Y (w x) (w (peer x)) (c x) d → ((p : Machines) → Y p → Y (after_sending p)) → KeptBeside at gives (Link d at w c x Y)
@@ -261,19 +264,25 @@ learn_less gives s d at w c m k j l i = other_ports i (λ t p rest timed a. (a.0
 abbrev pub known_in : (Side → ℕ) → Side → Bool → Bool → Side → ℕ
 known_in c s own other = two s (left own (c s)) (left other (c (peer s)))
 
+pub own_counts : (d : ℕ) (w : Side → Lacpdu) (c : Side → ℕ) (s : Side) → Fits d w (ticked c) → (b : Bool)
+    → Counts d s (known_in c s true b) (known_in c s false b)
+own_counts d w c s then b = record {
+  own = two_there s (c s - 1) (left b (c (peer s))) ∙ ap (λ n. n - 1) (sym (two_there s (c s) (left b (c (peer s)))));
+  other = two_other s (c s - 1) (left b (c (peer s))) ∙ sym (two_other s (c s) (left b (c (peer s))));
+  some = λ e. subst (λ n. 1 ≤ n - 1) (sym (two_there s (c s) (left b (c (peer s))))) ((then s).2 e);
+}
+
+pub peer_counts : (d : ℕ) (w : Side → Lacpdu) (c : Side → ℕ) (s : Side) → Fits d w (ticked c) → (a : Bool)
+    → Counts d (peer s) (known_in c s a true) (known_in c s a false)
+peer_counts d w c s then a = record {
+  own = two_other s (left a (c s)) (c (peer s) - 1) ∙ ap (λ n. n - 1) (sym (two_other s (left a (c s)) (c (peer s))));
+  other = subst (λ t. known_in c s a false t ≡ known_in c s a true t) (sym (peer_twice s))
+      (two_there s (left a (c s)) (c (peer s) - 1) ∙ sym (two_there s (left a (c s)) (c (peer s))));
+  some = λ e. subst (λ n. 1 ≤ n - 1) (sym (two_other s (left a (c s)) (c (peer s)))) ((then (peer s)).2 e);
+}
+
 pub fits_in : (d : ℕ) (w : Side → Lacpdu) (c : Side → ℕ) (s : Side) → Fits d w c → Fits d w (ticked c) → (a b : Bool) → Fits d w (known_in c s a b)
-fits_in d w c s first then a b = each_side Fit s (subst (FitOf s) (sym (two_there s (left a (c s)) (left b (c (peer s))))) (either s a))
-    (subst (FitOf (peer s)) (sym (two_other s (left a (c s)) (left b (c (peer s))))) (either (peer s) b))
-  where
-    FitOf : Side → ℕ → Type 0
-    FitOf t n = (n ≤ wait_of (w t)) × (1 ≤ n → 1 ≤ d) × (2 ≤ d → 1 ≤ n) × (2 ≤ d → (activity (w (peer t)) ≡ true) ⊎ (activity (w t) ≡ true))
-
-    Fit : Side → Type 0
-    Fit t = FitOf t (known_in c s a b t)
-
-    either : (t : Side) (e : Bool) → FitOf t (left e (c t))
-    either t true = first t
-    either t false = then t
+fits_in d w c s hyp1 hyp2 a b = grind (arith, nat_tests, each_side, two_there, two_other, true, false)
 
 pub same_in : (c : Side → ℕ) (s t : Side) → known_in c s false false t ≡ ticked c t
 same_in c s t = each_side (λ u. known_in c s false false u ≡ ticked c u) s (two_there s (c s - 1) (c (peer s) - 1))
@@ -311,9 +320,7 @@ pub own_holds : (gives : Algorithms) (x : Side) (d : ℕ) (at : Side → ℕ) (w
     → ((p q : Machines) → RunsToRest receive_rows (count_down p) q → AtRest periodic_rows p → IsEnd d (w x) (w (peer x)) (c x) p → Y p → Z q)
     → (b : Bool) → MadeByTick gives x (Link d at w (known_in c x true b) x Y) (Link d at w (known_in c x false b) x Z)
 own_holds gives x d at w c Y Z then last moves b n r i j named step l = (tick_one gives n x d at w (known_in c x true b) (known_in c x false b) x Y Z
-    r i j named (two_there x (c x - 1) (left b (c (peer x))) ∙ ap (λ n. n - 1) (sym (two_there x (c x) (left b (c (peer x))))))
-    (two_other x (c x - 1) (left b (c (peer x))) ∙ sym (two_other x (c x) (left b (c (peer x)))))
-    (λ e. subst (λ n. 1 ≤ n - 1) (sym (two_there x (c x) (left b (c (peer x))))) ((then x).2 e))
+    r i j named (own_counts d w c x then b)
     (subst (λ n. Along Z (w x) (w (peer x)) n d) (sym (two_there x (c x - 1) (left b (c (peer x))))) last)
     (λ p q run rest a f y. moves p q run rest (subst (λ n. IsEnd d (w x) (w (peer x)) n p) (two_there x (c x) (left b (c (peer x)))) a) y)
     (λ p f y. absurd (other_side x f)) step l).link
@@ -322,10 +329,7 @@ pub peer_holds : (gives : Algorithms) (x : Side) (d : ℕ) (at : Side → ℕ) (
     → Fits d w (ticked c) → (a : Bool) → Along N (w x) (w (peer x)) (left a (c x)) d
     → MadeByTick gives (peer x) (Link d at w (known_in c x a true) x N) (Link d at w (known_in c x a false) x N)
 peer_holds gives x d at w c N then a along n r i j named step l = (tick_one gives n (peer x) d at w (known_in c x a true) (known_in c x a false) x N N
-    r i j named (two_other x (left a (c x)) (c (peer x) - 1) ∙ ap (λ n. n - 1) (sym (two_other x (left a (c x)) (c (peer x)))))
-    (subst (λ t. known_in c x a false t ≡ known_in c x a true t) (sym (peer_twice x))
-    (two_there x (left a (c x)) (c (peer x) - 1) ∙ sym (two_there x (left a (c x)) (c (peer x)))))
-    (λ e. subst (λ n. 1 ≤ n - 1) (sym (two_other x (left a (c x)) (c (peer x)))) ((then (peer x)).2 e))
+    r i j named (peer_counts d w c x then a)
     (subst (λ n. Along N (w x) (w (peer x)) n d) (sym (two_there x (left a (c x)) (c (peer x) - 1))) along)
     (λ p q run rest a f y. absurd (other_side x f)) (λ p f y. y) step l).link
 

@@ -1,25 +1,17 @@
 -- What the ends of a cable took last bears the present change counts, in healthy rounds of hosts.
-use Rattle.lagprogress.proofs.Common.{Bool, Err, List, Ok, Result, [], ap, inl, inr, is_some, slice_get, subst, sym, ℕ, ◌++◌, ◌∙◌, ◌∷◌, ◌≡◌, ◌≤◌, ◌⊎◌}
-use Rattle.lagprogress.proofs.Common.{none-some, same_Some, AllByRecursion, Lacpdu, all-append, Side, peer, Machines, SystemFault, Received, Carries}
-use Rattle.lagprogress.proofs.Common.{IsFrame, Receive, CallPromise, Reply, Algorithms, ItemValue, WorldState, change_count_in, half, history_at}
-use Rattle.lagprogress.proofs.Common.{towards, HostEvent, Plays, StepReplies}
+use Rattle.lagprogress.proofs.Common.{Bool, Err, List, Ok, Result, [], ap, inl, inr, is_some, subst, sym, ℕ, ◌++◌, ◌∙◌, ◌∷◌, ◌≡◌, ◌≤◌, ◌⊎◌, none-some}
+use Rattle.lagprogress.proofs.Common.{AllByRecursion, Lacpdu, all-append, Side, peer, Machines, SystemFault, Received, Carries, IsFrame, Receive}
+use Rattle.lagprogress.proofs.Common.{CallPromise, Reply, Algorithms, ItemValue, WorldState, change_count_in, half, history_at, HostEvent, Plays}
+use Rattle.lagprogress.proofs.Common.{StepReplies}
 use Rattle.slowpdu.specs.declared.pdu.Pdu.TheVariants as pdu
 use Rattle.lagsystem.specs.declared.drive.Reply.TheVariants as answer
 use Rattle.lagscript.specs.declared.event.Event.TheVariants as event
 use Rattle.lagprogress.proofs.HostRound.{KeptBeside, MadeByTick}
-use Rattle.lagprogress.proofs.Linked.{Link, end_here}
-use Rattle.lagprogress.proofs.OneCable.{Arrives, IsStamped, OnCable, alone, cable, logged, port_there, ticks, towards_there}
+use Rattle.lagprogress.proofs.Linked.{Link, end_here, same_items}
+use Rattle.lagprogress.proofs.OneCable.{Arrives, IsStamped, OnCable, logged, ticks}
 use Rattle.lagprogress.proofs.Passing.{receives_lacpdu}
 use Rattle.lagprogress.proofs.Quieting.{LeavesEnds, leaves_cable, leaves_logs}
 use Rattle.lagprogress.proofs.Stamps.{Stamped, Took, stamps_ask, stamps_deliver, took_in, took_same}
-
--- what is on one cable
-pub same_items : (i k : ℕ) (at : Side → ℕ) (fl now : Side → List ItemValue) (j : WorldState) → OnCable i at fl j.links → OnCable k at now j.links
-    → (t : Side) → now t ≡ fl t
-same_items i k at fl now j c e t =
-    let place : k ≡ i = alone t i k at fl j.links (cable at now) c e.there (port_there t at now) in
-    let is : cable at now ≡ cable at fl = same_Some (cable at now) (cable at fl) (sym e.there ∙ (ap (slice_get j.links) place ∙ c.there)) in
-    sym (towards_there t at now) ∙ (ap (towards t) is ∙ towards_there t at fl)
 
 module _ (gives : Algorithms) (b : ℕ) (at k : Side → ℕ) (kept : Side → Bool) where
   abbrev St : WorldState → Type 0

@@ -1,6 +1,6 @@
 -- What calls and settings of hosts leave of both systems.
 use Rattle.lagprogress.proofs.Common.{Bool, Err, List, None, Ok, Option, Result, Some, [], ap, arith, false, inl, inr, refl, subst, sym, true, ℕ, ◌∙◌}
-use Rattle.lagprogress.proofs.Common.{◌∷◌, ◌≡◌, ◌≤◌, ◌⊎◌, nat_tests, none-some, same_Some, AggId, Choice, Lacpdu, One, Side, Two, peer, Machines}
+use Rattle.lagprogress.proofs.Common.{◌∷◌, ◌≡◌, ◌≤◌, ◌⊎◌, nat_tests, none-some, same_Some, AggId, Choice, Lacpdu, One, Side, peer, Machines}
 use Rattle.lagprogress.proofs.Common.{Assignment, Table, next_identifier, HostCall, HostReply, SystemFault, SystemPort, OffersIf, Call, Carries}
 use Rattle.lagprogress.proofs.Common.{IsFrame, choice_with_link, call_of, configured_numbers, HostPromise, GivesOrRefuses, ProbesAt, ProbesIf}
 use Rattle.lagprogress.proofs.Common.{SendsMarkerOf, Hold_port, Set_max_delay, Set_max_links, Set_mode, SetsPort, Setting, SettingPromise}
@@ -44,41 +44,19 @@ same_next old new e = subst (λ (t : SystemState). old.table.next ≤ t.table.ne
 
 pub gives_next : (agg : AggId) (conv : ℕ) (what : Result Assignment SystemFault) (old : SystemState) (a : Result Unit SystemFault)
     (new : SystemState) → GivesOrRefuses agg conv what old a new → old.table.next ≤ new.table.next
-gives_next agg conv (Ok state) old a new k = let same = k.1.0.next in omega (arith, same)
-gives_next agg conv (Err fault) old a new k = same_next old new k.1
+gives_next agg conv what old a new k = grind (arith, nat_tests)
 
 offers_on : (there known : Bool) (gives : ℕ → ℕ → ℕ → Type 0) (agg : AggId) (conv : ℕ) (old : SystemState) (a : Result ℕ SystemFault)
     (new : SystemState) → OffersIf there known gives agg conv old a new → old.table.next ≤ new.table.next
-offers_on true true gives agg conv old (Ok port) new h = let same = h.1.0.next in omega (arith, same)
-offers_on true true gives agg conv old (Err fault) new h = same_next old new h.1
-offers_on true false gives agg conv old a new h = same_next old new h.1
-offers_on false known gives agg conv old a new h = same_next old new h.1
+offers_on there known gives agg conv old a new h = grind (arith, nat_tests)
 
 probes_on : (o : Option ℕ) (old : SystemState) (a : Option (List ℕ)) (new : SystemState) → ProbesAt o old a new
     → old.table.next ≤ new.table.next
-probes_on None old a new h = absurd h
-probes_on (Some i) old a new h = by_up h.0.port.enabled h.2
-  where
-    by_marker : (o : Option ℕ) → SendsMarkerOf o h.0.number h.0.mac old a new → old.table.next ≤ new.table.next
-    by_marker None m = same_next old new m.1
-    by_marker (Some id) m = let more = m.4.next in omega (arith, more)
-
-    by_up : (up : Bool) → ProbesIf up h.0 old a new → old.table.next ≤ new.table.next
-    by_up false m = same_next old new m.1
-    by_up true m = by_marker (next_identifier old.table) m
+probes_on o old a new h = grind (arith, nat_tests)
 
 host_next : (gives : ℕ → ℕ → ℕ → Type 0) (old : SystemState) (call : HostCall) (answer : HostReply) (new : SystemState)
     → HostPromise gives old call answer new → IsOther call → old.table.next ≤ new.table.next
-host_next gives old (host.OfferConversation agg conv) (told.OfferConversation answer) new h o = offers_on _ _ gives agg conv old answer new h.0
-host_next gives old (host.LeaveConversation agg conv) (told.LeaveConversation answer) new h o = gives_next agg conv _ old answer new h.0
-host_next gives old (host.Probe port) (told.Probe (Ok answer)) new h o =
-    probes_on (port_index port old.system_ports) old answer new h.0
-host_next gives old (host.Probe port) (told.Probe (Err fault)) new h o = same_next old new h.0.same
-host_next gives old (host.Rest agg conv) (told.Rest answer) new h o = gives_next agg conv _ old answer new h.0
-host_next gives old (host.ForcePort port) (told.ForcePort (Ok count)) new h o = let same = h.2.next in omega (arith, same)
-host_next gives old (host.ForcePort port) (told.ForcePort (Err fault)) new h o = same_next old new h.1.same
-host_next gives old (host.Call call) answer new h o = absurd o
-host_next gives old call answer new h o = absurd h
+host_next gives old call answer new h o = grind (arith, nat_tests, gives_next, offers_on, probes_on)
 
 -- ---- the five calls
 
@@ -95,14 +73,22 @@ pub record Quietly (s : Side) (old new : WorldState) : Type 0 where
   pub links : (new.links ≡ old.links) ⊎ SendsPlain s old new
   pub logs : (t : Side) → (half t new).histories ≡ (half t old).histories
 
--- A call of system s leaves its ports and histories, and the peer; it keeps it sound, and sends nothing that bears an LACPDU.
-pub record IsBeside (s : Side) (old new : WorldState) : Type 0 where
-  pub alone : TableAlone (half s old).state (half s new).state
-  pub sound : IsSound (half s old).state → IsSound (half s new).state
-  pub next : (half s old).state.table.next ≤ (half s new).state.table.next
+-- System s has answered this call, which leaves its ports and histories, and the peer, and sends nothing that bears an LACPDU.
+pub record IsBeside (gives : ℕ → ℕ → ℕ → Type 0) (s : Side) (call : HostCall) (old new : WorldState) : Type 0 where
+  pub answer : HostReply
+  pub promise : HostPromise gives (half s old).state call answer (half s new).state
+  pub other : IsOther call
   pub peers : (half (peer s) new).state ≡ (half (peer s) old).state
   pub links : (new.links ≡ old.links) ⊎ SendsPlain s old new
   pub logs : (t : Side) → (half t new).histories ≡ (half t old).histories
+
+-- it keeps the system sound, and changes its table alone
+module _ {gives : ℕ → ℕ → ℕ → Type 0} {s : Side} {call : HostCall} {old new : WorldState} (b : IsBeside gives s call old new) where
+  beside_alone : TableAlone (half s old).state (half s new).state
+  beside_alone = host_alone gives (half s old).state call b.answer (half s new).state b.promise b.other
+
+  pub beside_next : (half s old).state.table.next ≤ (half s new).state.table.next
+  beside_next = host_next gives (half s old).state call b.answer (half s new).state b.promise b.other
 
 -- these cables are those of the world, or have one more such item
 abbrev Puts : Side → List LinkState → WorldState → Type 0
@@ -110,54 +96,35 @@ Puts s ls j = (ls ≡ j.links) ⊎ ((port : ℕ) × (item : ItemValue) × ((x : 
     × (ls ≡ put_on_port s port item j.links))
 
 state_there : (s : Side) (h : HalfState) (ls : List LinkState) (j : WorldState) → (half s (after_call s h ls j)).state ≡ h.state
-state_there One h ls j = refl
-state_there Two h ls j = refl
+state_there s h ls j = grind (arith, nat_tests)
 
 peer_there : (s : Side) (h : HalfState) (ls : List LinkState) (j : WorldState)
     → (half (peer s) (after_call s h ls j)).state ≡ (half (peer s) j).state
-peer_there One h ls j = refl
-peer_there Two h ls j = refl
+peer_there s h ls j = grind (arith, nat_tests)
 
 logs_there : (s : Side) (h : HalfState) (ls : List LinkState) (j : WorldState) → h.histories ≡ (half s j).histories → (t : Side)
     → (half t (after_call s h ls j)).histories ≡ (half t j).histories
-logs_there One h ls j e One = e
-logs_there One h ls j e Two = refl
-logs_there Two h ls j e One = refl
-logs_there Two h ls j e Two = e
+logs_there s h ls j e t = grind (arith, nat_tests)
 
 same_links : (s : Side) (h : HalfState) (j : WorldState) → with_half s h j ≡ after_call s h j.links j
-same_links One h j = refl
-same_links Two h j = refl
+same_links s h j = grind (arith, nat_tests)
 
 sent_joint : (s : Side) (port : ℕ) (item : ItemValue) (h : HalfState) (j : WorldState)
     → with_item_sent s port item (with_half s h j) ≡ after_call s h (put_on_port s port item j.links) j
-sent_joint One port item h j = refl
-sent_joint Two port item h j = refl
+sent_joint s port item h j = grind (arith, nat_tests)
 
 built : (gives : ℕ → ℕ → ℕ → Type 0) (s : Side) (call : HostCall) (a : HostReply) (mid h : HalfState) (ls : List LinkState)
     (old new : WorldState) → HalfTells gives call a (half s old) mid → IsOther call → h.state ≡ mid.state → h.histories ≡ mid.histories
-    → Puts s ls old → new ≡ after_call s h ls old → IsBeside s old new
+    → Puts s ls old → new ≡ after_call s h ls old → IsBeside gives s call old new
 built gives s call a mid h ls old new x is state logs puts y =
     let own : (half s new).state ≡ mid.state = ap (λ (j : WorldState). (half s j).state) y ∙ (state_there s h ls old ∙ state) in
     let links : new.links ≡ ls = ap (λ (j : WorldState). j.links) y in
-    record {
-      alone = subst (TableAlone (half s old).state) (sym own) (host_alone gives (half s old).state call a mid.state x.answers is);
-      sound = λ k. subst IsSound (sym own) (host_sound gives (half s old).state call a mid.state x.answers k);
-      next = subst (λ (t : SystemState). (half s old).state.table.next ≤ t.table.next) (sym own)
-          (host_next gives (half s old).state call a mid.state x.answers is);
-      peers = ap (λ (j : WorldState). (half (peer s) j).state) y ∙ peer_there s h ls old;
-      links = elim puts [
-        | inl e ↦ inl (links ∙ e)
-        | inr p ↦ inr (record { port = p.0; item = p.1; plain = p.2; sent = links ∙ p.3 })
-      ];
-      logs = λ t. ap (λ (j : WorldState). (half t j).histories) y
-          ∙ logs_there s h ls old (logs ∙ ap (λ (k : HalfState). k.histories) x.same) t;
-    }
+    grind (arith, nat_tests, peer_there, logs_there)
 
 offer_beside : (gives : ℕ → ℕ → ℕ → Type 0) (s : Side) (agg : AggId) (conv : ℕ) (octets : List ℕ) (a : Result ℕ SystemFault) (mid : HalfState)
     (old new : WorldState) → ((x : Lacpdu) → IsFrame octets (Carries (pdu.Lacpdu x)) → ⊥)
     → HalfTells gives (host.OfferConversation agg conv) (told.OfferConversation a) (half s old) mid
-    → AfterNumberedOffer s agg conv octets a (with_half s mid old) new → IsBeside s old new
+    → AfterNumberedOffer s agg conv octets a (with_half s mid old) new → IsBeside gives s (host.OfferConversation agg conv) old new
 offer_beside gives s agg conv octets (Ok port) mid old new plain x y =
     built gives s (host.OfferConversation agg conv) (told.OfferConversation (Ok port)) mid (with_sent_in agg.0 conv mid)
     (put_on_port s port (numbered_item s agg conv octets mid) old.links) old new x tt refl refl
@@ -182,7 +149,7 @@ probed_plain (Some i) old frame new h v k = by_up h.0.port.enabled h.2
 
 probe_beside : (gives : ℕ → ℕ → ℕ → Type 0) (s : Side) (port : ℕ) (a : Result (Option (List ℕ)) SystemFault) (mid : HalfState)
     (old new : WorldState) → HalfTells gives (host.Probe port) (told.Probe a) (half s old) mid
-    → AfterProbe s port a (with_half s mid old) new → IsBeside s old new
+    → AfterProbe s port a (with_half s mid old) new → IsBeside gives s (host.Probe port) old new
 probe_beside gives s port (Ok (Some frame)) mid old new x y =
     let item = transmitted_item s port frame (half s (with_half s mid old)) in
     built gives s (host.Probe port) (told.Probe (Ok (Some frame))) mid mid (put_on_port s port item old.links) old new x tt refl refl
@@ -195,7 +162,7 @@ probe_beside gives s port (Err fault) mid old new x y =
 
 rest_beside : (gives : ℕ → ℕ → ℕ → Type 0) (s : Side) (agg : AggId) (conv : ℕ) (a : Result Unit SystemFault) (mid : HalfState)
     (old new : WorldState) → HalfTells gives (host.Rest agg conv) (told.Rest a) (half s old) mid
-    → new ≡ with_half s (forced_if_accepted a agg conv mid) old → IsBeside s old new
+    → new ≡ with_half s (forced_if_accepted a agg conv mid) old → IsBeside gives s (host.Rest agg conv) old new
 rest_beside gives s agg conv (Ok done) mid old new x y =
     let h = forced_if_accepted (Ok done) agg conv mid in
     built gives s (host.Rest agg conv) (told.Rest (Ok done)) mid h old.links old new x tt refl refl (inl refl) (y ∙ same_links s h old)
@@ -204,7 +171,7 @@ rest_beside gives s agg conv (Err fault) mid old new x y =
 
 force_beside : (gives : ℕ → ℕ → ℕ → Type 0) (s : Side) (port : ℕ) (a : Result ℕ SystemFault) (mid last : HalfState) (old new : WorldState)
     → HalfTells gives (host.ForcePort port) (told.ForcePort a) (half s old) mid → CountsHeldIfOk a port (half s old).state mid last
-    → new ≡ with_half s last old → IsBeside s old new
+    → new ≡ with_half s last old → IsBeside gives s (host.ForcePort port) old new
 force_beside gives s port (Ok count) mid last old new x c y =
     built gives s (host.ForcePort port) (told.ForcePort (Ok count)) mid last old.links old new x tt c.state c.histories (inl refl)
     (y ∙ same_links s last old)
@@ -230,7 +197,17 @@ caller (Rests s agg conv) = s
 caller (ForcesPort s port) = s
 caller e = One
 
-pub aside : (gives : Algorithms) (e : HostEvent) (old new : WorldState) → IsAside e → HostSteps gives old e new → IsBeside (caller e) old new
+-- and what is asked of it
+abbrev pub asked_by : HostEvent → HostCall
+asked_by (Offers s agg conv octets) = host.OfferConversation agg conv
+asked_by (Leaves s agg conv) = host.LeaveConversation agg conv
+asked_by (Probes s port) = host.Probe port
+asked_by (Rests s agg conv) = host.Rest agg conv
+asked_by (ForcesPort s port) = host.ForcePort port
+asked_by e = host.ForcePort 0
+
+pub aside : (gives : Algorithms) (e : HostEvent) (old new : WorldState) → IsAside e → HostSteps gives old e new
+    → IsBeside (gives (caller e)) (caller e) (asked_by e) old new
 aside gives (Offers s agg conv octets) old new is x = offer_beside (gives s) s agg conv octets x.0 x.1 old new (λ v c. x.2 c.0.1) x.3 x.4
 aside gives (Leaves s agg conv) old new is x = built (gives s) s (host.LeaveConversation agg conv) (told.LeaveConversation x.0) x.1 x.1
     old.links old new x.2 tt refl refl (inl refl) (x.3 ∙ same_links s x.1 old)
@@ -238,51 +215,6 @@ aside gives (Probes s port) old new is x = probe_beside (gives s) s port x.0 x.1
 aside gives (Rests s agg conv) old new is x = rest_beside (gives s) s agg conv x.0 x.1 old new x.2 x.3
 aside gives (ForcesPort s port) old new is x = force_beside (gives s) s port x.0 x.1 x.2 old new x.3 x.4 x.5
 aside gives e old new is x = absurd is
-
--- what the system that is called promises
-
-pub offers_half : (gives : Algorithms) (s : Side) (agg : AggId) (conv : ℕ) (octets : List ℕ) (old new : WorldState)
-    → HostSteps gives old (Offers s agg conv octets) new → (a : Result ℕ SystemFault)
-    × HostPromise (gives s) (half s old).state (host.OfferConversation agg conv) (told.OfferConversation a) (half s new).state
-offers_half gives s agg conv octets old new (a, mid, slow, x, y) =
-    (a, subst (HostPromise (gives s) (half s old).state (host.OfferConversation agg conv) (told.OfferConversation a)) (sym (own a y)) x.answers)
-  where
-    own : (a : Result ℕ SystemFault) → AfterNumberedOffer s agg conv octets a (with_half s mid old) new → (half s new).state ≡ mid.state
-    own (Ok port) y = ap (λ (j : WorldState). (half s j).state) (y ∙ offered_joint s agg conv octets port mid old)
-        ∙ state_there s (with_sent_in agg.0 conv mid) (put_on_port s port (numbered_item s agg conv octets mid) old.links) old
-    own (Err fault) y = ap (λ (j : WorldState). (half s j).state) (y ∙ same_links s mid old) ∙ state_there s mid old.links old
-
-pub leaves_half : (gives : Algorithms) (s : Side) (agg : AggId) (conv : ℕ) (old new : WorldState)
-    → HostSteps gives old (Leaves s agg conv) new → (a : Result Unit SystemFault)
-    × HostPromise (gives s) (half s old).state (host.LeaveConversation agg conv) (told.LeaveConversation a) (half s new).state
-leaves_half gives s agg conv old new (a, mid, x, y) = (
-  a,
-  subst (HostPromise (gives s) (half s old).state (host.LeaveConversation agg conv) (told.LeaveConversation a))
-      (sym (ap (λ (j : WorldState). (half s j).state) (y ∙ same_links s mid old) ∙ state_there s mid old.links old)) x.answers,
-)
-
-pub rests_half : (gives : Algorithms) (s : Side) (agg : AggId) (conv : ℕ) (old new : WorldState)
-    → HostSteps gives old (Rests s agg conv) new → (a : Result Unit SystemFault)
-    × HostPromise (gives s) (half s old).state (host.Rest agg conv) (told.Rest a) (half s new).state
-rests_half gives s agg conv old new (a, mid, x, y) =
-    (a, subst (HostPromise (gives s) (half s old).state (host.Rest agg conv) (told.Rest a)) (sym (own a y)) x.answers)
-  where
-    own : (a : Result Unit SystemFault) → new ≡ with_half s (forced_if_accepted a agg conv mid) old → (half s new).state ≡ mid.state
-    own (Ok done) y = let h = forced_if_accepted (Ok done) agg conv mid in
-        ap (λ (j : WorldState). (half s j).state) (y ∙ same_links s h old) ∙ state_there s h old.links old
-    own (Err fault) y = ap (λ (j : WorldState). (half s j).state) (y ∙ same_links s mid old) ∙ state_there s mid old.links old
-
-pub forces_half : (gives : Algorithms) (s : Side) (port : ℕ) (old new : WorldState) → HostSteps gives old (ForcesPort s port) new
-    → (a : Result ℕ SystemFault) × HostPromise (gives s) (half s old).state (host.ForcePort port) (told.ForcePort a) (half s new).state
-forces_half gives s port old new (a, mid, last, x, c, y) = (
-  a,
-  subst (HostPromise (gives s) (half s old).state (host.ForcePort port) (told.ForcePort a))
-      (sym (ap (λ (j : WorldState). (half s j).state) (y ∙ same_links s last old) ∙ (state_there s last old.links old ∙ counted a c))) x.answers,
-)
-  where
-    counted : (a : Result ℕ SystemFault) → CountsHeldIfOk a port (half s old).state mid last → last.state ≡ mid.state
-    counted (Ok count) c = c.state
-    counted (Err fault) c = ap (λ (h : HalfState). h.state) c
 
 -- what a probe with this answer makes of the cables
 abbrev pub Probed : Side → ℕ → Result (Option (List ℕ)) SystemFault → List LinkState → List LinkState → Type 0
@@ -319,28 +251,14 @@ probes_half gives s port old new (a, mid, x, y) = by_answer a x y
     by_answer (Err fault) x y = let r = unsent (Err fault) x y in (Err fault, r.0, r.1)
 
 -- it leaves the cables quietly
-pub beside_quietly : (s : Side) (old new : WorldState) → IsBeside s old new → Quietly s old new
-beside_quietly s old new b = record {
-  same = each_side (λ t. (half t new).state.system_ports ≡ (half t old).state.system_ports) s
-      (ap (λ (y : SystemState). y.system_ports) b.alone) (ap (λ (y : SystemState). y.system_ports) b.peers);
-  links = b.links;
-  logs = b.logs;
-}
+pub beside_quietly : (gives : ℕ → ℕ → ℕ → Type 0) (s : Side) (call : HostCall) (old new : WorldState) → IsBeside gives s call old new
+    → Quietly s old new
+beside_quietly gives s call old new hyp1 = grind (arith, nat_tests, each_side, beside_alone)
 
 -- so does CollectorMaxDelay, when it is set
 delay_beside : (s : Side) (mid : HalfState) (old new : WorldState) → mid.state.system_ports ≡ (half s old).state.system_ports
     → mid.histories ≡ (half s old).histories → new ≡ with_half s mid old → Quietly s old new
-delay_beside s mid old new ports logs y =
-    let e = y ∙ same_links s mid old in
-    record {
-      same = each_side (λ t. (half t new).state.system_ports ≡ (half t old).state.system_ports) s
-          (ap (λ (j : WorldState). (half s j).state.system_ports) e
-          ∙ (ap (λ (x : SystemState). x.system_ports) (state_there s mid old.links old) ∙ ports))
-          (ap (λ (j : WorldState). (half (peer s) j).state.system_ports) e
-          ∙ ap (λ (x : SystemState). x.system_ports) (peer_there s mid old.links old));
-      links = inl (ap (λ (j : WorldState). j.links) e);
-      logs = λ t. ap (λ (j : WorldState). (half t j).histories) e ∙ logs_there s mid old.links old logs t;
-    }
+delay_beside s mid old new hyp1 hyp2 hyp3 = grind (arith, nat_tests, same_links, each_side, state_there, peer_there, logs_there)
 
 delayed : (s : Side) (delay : ℕ) (a : Result Unit SystemFault) (old : SystemState) (new : SystemState)
     → SettingPromise old (Set_max_delay delay) a new → new ≡ record old { max_delay = delay }
@@ -362,9 +280,7 @@ Withstands p P setting = Unit {0}
 
 left_alone : (at : Side → ℕ) (s : Side) (P : Machines → Type 0) (setting : Setting) → LeavesPorts at (Sets s setting)
     → Withstands (at s) P setting
-left_alone at s P (Hold_port n held) other = λ e. absurd (other e)
-left_alone at s P (Set_mode n active short) other = λ e. absurd (other e)
-left_alone at s P setting other = tt
+left_alone at s P setting h = grind (arith, nat_tests)
 
 set_beside : (n m : ℕ) (P : Machines → Type 0) → KeptBySettling (AtPort n P) → (already : SystemPort → Bool)
     (change : SystemPort → SystemPort) → (m ≡ n → (x : SystemPort) → P x.port → P (change x).port)
@@ -416,9 +332,7 @@ setting_beside p P k (Set_max_links most) stands (Err fault) old new h up y =
 
 -- no setting takes a link down
 up_withstands : (p : ℕ) (setting : Setting) → Withstands p IsUp setting
-up_withstands p (Hold_port n held) = λ e x up. up
-up_withstands p (Set_mode n active short) = λ e x up. up
-up_withstands p setting = tt
+up_withstands p setting = grind (arith, nat_tests)
 
 module _ (gives : Algorithms) (s : Side) (setting : Setting) (old new : WorldState) (x : HostSteps gives old (Sets s setting) new) where
   set_there : new ≡ after_call s x.1 old.links old
@@ -440,11 +354,7 @@ module _ (gives : Algorithms) (s : Side) (setting : Setting) (old new : WorldSta
   set_each : (t : Side) (p : ℕ) (P : Machines → Type 0) → KeptBySettling (AtPort p P) → (t ≡ s → Withstands p P setting)
       → OfEach (AtPort p IsUp) (half t old).state.system_ports → OfEach (AtPort p P) (half t old).state.system_ports
       → OfEach (AtPort p P) (half t new).state.system_ports
-  set_each t p P k stands up y = each_side (λ t. (t ≡ s → Withstands p P setting) → OfEach (AtPort p IsUp) (half t old).state.system_ports
-      → OfEach (AtPort p P) (half t old).state.system_ports → OfEach (AtPort p P) (half t new).state.system_ports) s
-      (λ stands up y. subst (λ (z : SystemState). OfEach (AtPort p P) z.system_ports) (sym own_set)
-      (setting_beside p P k setting (stands refl) x.0 (half s old).state x.1.state x.2.answers.step up y))
-      (λ stands up y. subst (λ (z : SystemState). OfEach (AtPort p P) z.system_ports) (sym peer_set) y) t stands up y
+  set_each t p P hyp1 hyp2 hyp3 hyp4 = grind (arith, nat_tests, each_side, own_set, setting_beside, peer_set)
 
   pub sets_each : (at : Side → ℕ) → LeavesPorts at (Sets s setting) → (P : Machines → Type 0) (t : Side) → KeptBySettling (AtPort (at t) P)
       → OfEach (AtPort (at t) IsUp) (half t old).state.system_ports → OfEach (AtPort (at t) P) (half t old).state.system_ports
@@ -470,30 +380,23 @@ module _ (X : Type 0) (g : SystemState → X) where
   aside_keeps tables gives e old new is x =
       let b = aside gives e old new is x in
       each_side (λ u. g (half u new).state ≡ g (half u old).state) (caller e)
-      (ap g b.alone ∙ tables (half (caller e) old).state (half (caller e) new).state.table) (ap g b.peers)
+      (ap g (beside_alone b) ∙ tables (half (caller e) old).state (half (caller e) new).state.table) (ap g b.peers)
 
   pub delay_keeps : ((s : SystemState) (d : ℕ) → g (record s { max_delay = d }) ≡ g s) → (gives : Algorithms) (s : Side) (delay : ℕ) (old new : WorldState)
       → HostSteps gives old (Sets s (Set_max_delay delay)) new → (t : Side) → g (half t new).state ≡ g (half t old).state
-  delay_keeps delays gives s delay old new x =
-      let e = x.3 ∙ same_links s x.1 old in
-      each_side (λ u. g (half u new).state ≡ g (half u old).state) s
-      (ap (λ (j : WorldState). g (half s j).state) e ∙ (ap g (state_there s x.1 old.links old)
-      ∙ (ap g (delayed s delay x.0 (half s old).state x.1.state x.2.answers) ∙ delays (half s old).state delay)))
-      (ap (λ (j : WorldState). g (half (peer s) j).state) e ∙ ap g (peer_there s x.1 old.links old))
+  delay_keeps hyp1 gives s delay old new hyp2 t = grind (arith, nat_tests, same_links, each_side, state_there, delayed, peer_there)
 
 -- ---- both systems
 
-beside_timely : (s : Side) (old new : WorldState) → IsBeside s old new → AreTimely old → AreTimely new
-beside_timely s old new b k = each_side (λ t. IsTimely (half t new).state) s
-    (b.sound (k s).0, subst PortsAreTimed (sym b.alone) (k s).1) (subst IsTimely (sym b.peers) (k (peer s)))
+beside_timely : (gives : ℕ → ℕ → ℕ → Type 0) (s : Side) (call : HostCall) (old new : WorldState) → IsBeside gives s call old new → AreTimely old
+    → AreTimely new
+beside_timely gives s call old new b k = each_side (λ t. IsTimely (half t new).state) s
+    (host_sound gives (half s old).state call b.answer (half s new).state b.promise (k s).0, subst PortsAreTimed (sym (beside_alone b)) (k s).1)
+    (subst IsTimely (sym b.peers) (k (peer s)))
 
 pub setting_both : (P : SystemState → Type 0) (s : Side) (mid : HalfState) (old new : WorldState) → (P (half s old).state → P mid.state)
     → new ≡ with_half s mid old → ((t : Side) → P (half t old).state) → (t : Side) → P (half t new).state
-setting_both P s mid old new f y k =
-    let e = y ∙ same_links s mid old in
-    each_side (λ t. P (half t new).state) s
-    (subst P (sym (ap (λ (j : WorldState). (half s j).state) e ∙ state_there s mid old.links old)) (f (k s)))
-    (subst P (sym (ap (λ (j : WorldState). (half (peer s) j).state) e ∙ peer_there s mid old.links old)) (k (peer s)))
+setting_both P s mid old new hyp1 hyp2 hyp3 t = grind (arith, nat_tests, same_links, each_side, state_there, peer_there)
 
 pub step_timely : (gives : Algorithms) (e : HostEvent) (old new : WorldState) → HostSteps gives old e new → AreTimely old → AreTimely new
 step_timely gives (Plays e) old new x k = keeps_timely gives e x.0 old new x.1 k
@@ -501,7 +404,7 @@ step_timely gives (Sets s setting) old new x k = setting_both IsTimely s x.1 old
   setting_sound (half s old).state setting x.0 x.1.state x.2.answers.step t.0,
   setting_timed (half s old).state x.1.state setting x.0 x.2.answers.step t.1,
 )) x.3 k
-step_timely gives e old new x k = beside_timely (caller e) old new (aside gives e old new tt x) k
+step_timely gives e old new x k = beside_timely (gives (caller e)) (caller e) (asked_by e) old new (aside gives e old new tt x) k
 
 run_timely : (gives : Algorithms) (es : List HostEvent) (old new : WorldState) → HostRuns gives old es new → AreTimely old → AreTimely new
 run_timely gives [] old new h k = subst AreTimely (sym h) k

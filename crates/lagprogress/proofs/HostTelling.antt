@@ -1,36 +1,27 @@
 -- In a healthy round of hosts, an end that hears the other is told when the other is synchronized, or the other owes it an LACPDU.
-use Rattle.lagprogress.proofs.Common.{Bool, List, Some, [], ap, arith, false, inl, inr, refl, slice_get, subst, sym, true, ℕ, ◌-◌, ◌∙◌, ◌∷◌, ◌≡◌, ◌≤◌}
-use Rattle.lagprogress.proofs.Common.{◌⊎◌, cases_Bool, same_Some, AllByRecursion, Lacpdu, Side, peer, Machines, partner_synchronized, periodic_rows}
-use Rattle.lagprogress.proofs.Common.{receive_rows, AtRest, RunsToRest, after_sending, count_down, is_due, SystemPort, Carries, IsFrame}
-use Rattle.lagprogress.proofs.Common.{OnlyPortChangesBy, ProcessesLacpdu, ThenSettles, SystemState, machines_of, found_place, Reply, Algorithms}
-use Rattle.lagprogress.proofs.Common.{WorldSteps, side_of, ItemValue, WorldState, half, towards, HostEvent, Plays, timeout_time, KeptBySettling}
-use Rattle.lagprogress.proofs.Common.{OfEach, Tick-each, counts, AtPort, LeavesPorts, AfterTick, Clearing, StepReplies, OfPort}
+use Rattle.lagprogress.proofs.Common.{Bool, List, Some, [], arith, false, inl, inr, refl, subst, sym, true, ℕ, ◌-◌, ◌∙◌, ◌∷◌, ◌≡◌, ◌≤◌, ◌⊎◌}
+use Rattle.lagprogress.proofs.Common.{cases_Bool, AllByRecursion, Lacpdu, Side, peer, Machines, partner_synchronized, periodic_rows, receive_rows}
+use Rattle.lagprogress.proofs.Common.{AtRest, RunsToRest, after_sending, count_down, is_due, SystemPort, Carries, IsFrame, OnlyPortChangesBy}
+use Rattle.lagprogress.proofs.Common.{ProcessesLacpdu, ThenSettles, SystemState, machines_of, Reply, Algorithms, WorldSteps, side_of, ItemValue}
+use Rattle.lagprogress.proofs.Common.{WorldState, half, HostEvent, Plays, timeout_time, KeptBySettling, OfEach, Tick-each, counts, AtPort}
+use Rattle.lagprogress.proofs.Common.{LeavesPorts, AfterTick, Clearing, StepReplies, OfPort}
 use Rattle.slowpdu.specs.declared.pdu.Pdu.TheVariants as pdu
 use Rattle.lagsystem.specs.declared.drive.Reply.TheVariants as answer
 use Rattle.lagscript.specs.declared.event.Event.TheVariants as event
 use Rattle.lagprogress.proofs.Claims.{IsNamed, Owes, Owing, Wakeful, owes_ticks, owing_settles, wakeful_along, wakeful_ticks}
 use Rattle.lagprogress.proofs.Climbing.{PartnerInSync, known_still, ticks_partner}
-use Rattle.lagprogress.proofs.Delivering.{Heard, arrived_ports, deliver_link, deliver_moves}
-use Rattle.lagprogress.proofs.EndFacts.{Along, IsEnd, Learnt, activity, nothing_along, short_timeout, ticks_end, wait_of}
+use Rattle.lagprogress.proofs.Delivering.{Heard, arrived_ports, deliver_link, deliver_moves, came_to}
+use Rattle.lagprogress.proofs.EndFacts.{Along, IsEnd, Learnt, activity, nothing_along, short_timeout, ticks_end, wait_of, learnt_along}
 use Rattle.lagprogress.proofs.HostRound.{between, KeptBeside, MadeByTick, Stages, first_on, fits_in, healthy_link, holds_beside, known_in, learn_less}
-use Rattle.lagprogress.proofs.HostRound.{Whatever, all_whatever, learnt_along, left, none_ticked, side_beside, tick_one, ticks_learnt, two_other}
-use Rattle.lagprogress.proofs.HostRound.{two_there}
+use Rattle.lagprogress.proofs.HostRound.{Whatever, all_whatever, left, none_ticked, side_beside, tick_one, ticks_learnt, two_other, two_there}
+use Rattle.lagprogress.proofs.HostRound.{both_kept, both_made, own_counts, peer_counts, Counts}
 use Rattle.lagprogress.proofs.Linked.{asked_which, at_end, beside_link, emit_any, found, end_with, of_end, with_ports, EndIs, Fits, Flying, IsGood}
 use Rattle.lagprogress.proofs.Linked.{Link, each_both, each_map, each_side, end_here, gains_has, HasLacpdu, other_side, peer_twice, put_other}
-use Rattle.lagprogress.proofs.Linked.{put_there}
-use Rattle.lagprogress.proofs.OneCable.{Arrives, alone, cable, port_there, put, response, ticks, towards_there}
+use Rattle.lagprogress.proofs.Linked.{put_there, same_flying}
+use Rattle.lagprogress.proofs.OneCable.{Arrives, cable, port_there, put, response, ticks}
 use Rattle.lagprogress.proofs.OneRound.{Nothing, Passes, ask_idle, ask_peer, one_of_both, at_rest, forget, join, ticked}
 use Rattle.lagprogress.proofs.Quieting.{LeavesEnds, PlayedBeside, ends_up, leaves_each, leaves_link}
-use Rattle.lagprogress.proofs.Telling.{Bears, SaysIt, Tells, arrive_peer, ask_on, came_to, deliver_on, due_on, left_by, sync_settles, tells_map}
-
--- what is on the cable of the same ports
-pub same_flying : (d e : ℕ) (at : Side → ℕ) (w v : Side → Lacpdu) (c b : Side → ℕ) (x y : Side) (Y Z : Machines → Type 0) (j : WorldState)
-    → (l : Link d at w c x Y j) → (k : Link e at v b y Z j) → (t : Side) → k.flying t ≡ l.flying t
-same_flying d e at w v c b x y Y Z j l k t =
-    let place : k.index ≡ l.index = alone t l.index k.index at l.flying j.links (cable at k.flying) l.links k.links.there (port_there t at k.flying) in
-    let is : cable at k.flying ≡ cable at l.flying = same_Some (cable at k.flying) (cable at l.flying)
-    (sym k.links.there ∙ (ap (slice_get j.links) place ∙ l.links.there)) in
-    sym (towards_there t at k.flying) ∙ (ap (towards t) is ∙ towards_there t at l.flying)
+use Rattle.lagprogress.proofs.Telling.{Bears, SaysIt, Tells, arrive_peer, ask_on, deliver_on, due_on, left_by, sync_settles, tells_map}
 
 module _ (gives : Algorithms) (d : ℕ) (at : Side → ℕ) (w : Side → Lacpdu) (s : Side) (there : 1 ≤ d)
     (named : (activity (w s) ≡ true) ⊎ IsNamed (w (peer s))) where
@@ -64,14 +55,14 @@ module _ (gives : Algorithms) (d : ℕ) (at : Side → ℕ) (w : Side → Lacpdu
   woken_between : (c : Side → ℕ) → Fits d w c → KeptBeside at gives (Woken c)
   woken_between c fits = between gives d at w c s Wakes fits (along_wakes (c s)) (λ p y. y)
 
-  woken_own : (c b : Side → ℕ) → b s ≡ c s - 1 → b (peer s) ≡ c (peer s) → (2 ≤ d → 1 ≤ c s - 1) → MadeByTick gives s (Woken c) (Woken b)
-  woken_own c b here other known n r i j numbered h l = (tick_one gives n s d at w c b s Wakes Wakes r i j numbered here other known
+  woken_own : (c b : Side → ℕ) → Counts d s c b → MadeByTick gives s (Woken c) (Woken b)
+  woken_own c b known n r i j numbered h l = (tick_one gives n s d at w c b s Wakes Wakes r i j numbered known
       (along_wakes (b s)) (λ p q run rest a f y. wakeful_ticks v u p q named run y) (λ p f y. absurd (other_side s f)) h l).link
 
-  woken_other : (c b : Side → ℕ) → b (peer s) ≡ c (peer s) - 1 → b s ≡ c s → (2 ≤ d → 1 ≤ c (peer s) - 1)
+  woken_other : (c b : Side → ℕ) → Counts d (peer s) c b
       → MadeByTick gives (peer s) (Woken c) (Woken b)
-  woken_other c b here own known n r i j numbered h l = (tick_one gives n (peer s) d at w c b s Wakes Wakes r i j numbered here
-      (subst (λ t. b t ≡ c t) (sym (peer_twice s)) own) known (along_wakes (b s)) (λ p q run rest a f y. absurd (other_side s f))
+  woken_other c b known n r i j numbered h l = (tick_one gives n (peer s) d at w c b s Wakes Wakes r i j numbered known
+      (along_wakes (b s)) (λ p q run rest a f y. absurd (other_side s f))
       (λ p f y. y) h l).link
 
   module _ (X : Machines → Type 0) (keeps : KeptBySettling (AtPort (at (peer s)) X)) (sends : (p : Machines) → X p → X (after_sending p))
@@ -91,9 +82,9 @@ module _ (gives : Algorithms) (d : ℕ) (at : Side → ℕ) (w : Side → Lacpdu
     on_between c fits e r i j b h m = leaves_on c fits e r i j b h m
 
     -- the tick of s
-    pub on_own : (c b : Side → ℕ) → b s ≡ c s - 1 → b (peer s) ≡ c (peer s) → (2 ≤ d → 1 ≤ c s - 1) → MadeByTick gives s (OnWay c X) (OnWay b X)
-    on_own c b here other known n r i j numbered h (l, m) =
-        let k = tick_one gives n s d at w c b s Wakes Wakes r i j numbered here other known (along_wakes (b s))
+    pub on_own : (c b : Side → ℕ) → Counts d s c b → MadeByTick gives s (OnWay c X) (OnWay b X)
+    on_own c b known n r i j numbered h (l, m) =
+        let k = tick_one gives n s d at w c b s Wakes Wakes r i j numbered known (along_wakes (b s))
         (λ p q run rest a f y. wakeful_ticks v u p q named run y) (λ p f y. absurd (other_side s f)) h l in
         let t = ticks gives n s r i j numbered h in (
           k.link,
@@ -103,7 +94,7 @@ module _ (gives : Algorithms) (d : ℕ) (at : Side → ℕ) (w : Side → Lacpdu
                 (Tick-each (λ m p. AtPort (at s) (EndIs d w c s Wakes s) m p × AtPort (at s) (Owes u) m p)
                 (AtPort (at s) (Owing d v u (c s - 1))) (owing_settles d v u (c s - 1) (at s) there)
                 (λ m p q run a e. (
-                  ticks_end d v u (c s) p q known run (a.0 e).0,
+                  ticks_end d v u (c s) p q known.some run (a.0 e).0,
                   wakeful_ticks v u p q named run ((a.0 e).1 refl),
                   owes_ticks u p q run (a.1 e),
                 )) (gives s) (half s i).state answer.Tick (half s j).state t.step
@@ -115,10 +106,10 @@ module _ (gives : Algorithms) (d : ℕ) (at : Side → ℕ) (w : Side → Lacpdu
         )
 
     -- the tick of the other system, which leaves X
-    pub on_other : (c b : Side → ℕ) → b (peer s) ≡ c (peer s) - 1 → b s ≡ c s → (2 ≤ d → 1 ≤ c (peer s) - 1) → (n : ℕ) (r : Reply) (i j : WorldState)
+    pub on_other : (c b : Side → ℕ) → Counts d (peer s) c b → (n : ℕ) (r : Reply) (i j : WorldState)
         → side_of n ≡ Some (peer s) → WorldSteps gives i (event.Tick n 1) r j → (PeerIs X i → PeerIs X j) → OnWay c X i → OnWay b X j
-    on_other c b here own known n r i j numbered h moves (l, m) =
-        let k = tick_one gives n (peer s) d at w c b s Wakes Wakes r i j numbered here (subst (λ t. b t ≡ c t) (sym (peer_twice s)) own) known
+    on_other c b known n r i j numbered h moves (l, m) =
+        let k = tick_one gives n (peer s) d at w c b s Wakes Wakes r i j numbered known
         (along_wakes (b s)) (λ p q run rest a f y. absurd (other_side s f)) (λ p f y. y) h l in
         let t = ticks gives n (peer s) r i j numbered h in
         let same : (half s j).state ≡ (half s i).state = subst (λ x. (half x j).state ≡ (half x i).state) (peer_twice s) t.peers in (
@@ -181,21 +172,19 @@ module _ (gives : Algorithms) (d : ℕ) (at : Side → ℕ) (w : Side → Lacpdu
         → (o : OnWay c Any i) → D i → (now : Link d at w c s Wakes j) → (k : Arrives gives (peer s) at o.0.flying i j) → now.flying ≡ k.now
         → (HasLacpdu k.item → ⊥) ⊎ ((Heard d at w (peer s) j × OnWay c PartnerInSync j) × E j)
     peer_hears c fits cn n r i j h (l, m) da now k same =
-        elim (came_to gives d at w c s Any there fits any_settles (λ p y. y) (λ p y. tt) (peer s) i j l k) [
+        elim (came_to gives (peer s) d at w c s Wakes i j l k) [
           | inr none ↦ inl (λ q. none.0 q.0 q.1)
           | inl (v1, carries, settles) ↦ inr (took v1 carries settles)
         ]
       where
         took : (v1 : Lacpdu) → IsFrame k.item.octets (Carries (pdu.Lacpdu v1))
-            → ThenSettles (OnlyPortChangesBy (Some (l.place (peer s)).0) (ProcessesLacpdu v1)) (half (peer s) i).state (half (peer s) j).state
+            → ThenSettles (OnlyPortChangesBy (Some (end_here at w d c s Wakes i l (peer s)).index) (ProcessesLacpdu v1)) (half (peer s) i).state
+            (half (peer s) j).state
             → (Heard d at w (peer s) j × OnWay c PartnerInSync j) × E j
         took v1 carries settles =
-            let place = l.place (peer s) in
-            let ports = (half (peer s) i).state.system_ports in
-            let z = found (at (peer s)) place.0 ports place.1 in
-            let number = found_place (at (peer s)) ports place.0 z.0 place.1 z.1 in
+            let z = end_here at w d c s Wakes i l (peer s) in
             let good = subst (AllByRecursion (IsGood d w (peer s))) k.first (l.good (peer s)) in
-            let own = arrived_ports d at w c s Wakes (peer s) place.0 z.0 k.item.octets i j fits (along_wakes (c s)) l z.1 number good.0
+            let own = arrived_ports d at w c s Wakes (peer s) z.index z.port k.item.octets i j fits (along_wakes (c s)) l z.there z.number good.0
             (inl (v1, carries, settles)) in (
               (
                 elim own.1 [ inl not ↦ absurd (not v1 carries) | inr heard ↦ heard there ],
@@ -220,7 +209,7 @@ module _ (gives : Algorithms) (d : ℕ) (at : Side → ℕ) (w : Side → Lacpdu
         let e = deliver_moves gives cn n d at w c s Wakes r i j fits (along_wakes (c s)) l h in
         let after : OnWay c Any j = deliver_on gives d at w c s Any there fits any_settles (λ p y. y) (λ p y. tt) cn n r i j h (l, m) in
         let flies : Flying (e.0.link.flying (peer s)) → HasHeard c j =
-        λ g. inl ((after, subst Flying (sym (same_flying d d at w w c c s s Wakes Wakes j e.0.link after.0 (peer s))) g), db) in
+        λ g. inl ((after, subst Flying (sym (same_flying e.0.link after.0 (peer s))) g), db) in
         elim e.1 [
           | inl (q, k, same) ↦ each_side (λ t. (k : Arrives gives t at l.flying i j) → e.0.link.flying ≡ k.now → HasHeard c j) s
               (λ k same. flies (subst (λ (g : Side → List ItemValue). Flying (g (peer s))) (sym same)
@@ -262,14 +251,8 @@ module _ (gives : Algorithms) (d : ℕ) (at : Side → ℕ) (w : Side → Lacpdu
     sync_between c fits = on_between PartnerInSync (sync_settles (at (peer s))) (λ p y. y) (λ p y. y) c fits
 
     pub told_between : (c : Side → ℕ) (most : ℕ) → most ≤ wait_of (w (peer s)) → Fits d w c → KeptBeside at gives (HasTold c most)
-    told_between c most less fits e r i j b h ((l, o), ea) = (
-      (
-        between gives d at w c (peer s) (Learnt d (w (peer (peer s))) most) fits
-            (learnt_along (w (peer s)) (w (peer (peer s))) (c (peer s)) d most less there (fits (peer s)).3) (λ p y. y) e r i j b h l,
-        sync_between c fits e r i j b h o,
-      ),
-      x.second e r i j b h ea,
-    )
+    told_between c most less fits = both_kept (both_kept (between gives d at w c (peer s) (Learnt d (w (peer (peer s))) most) fits
+        (learnt_along (w (peer s)) (w (peer (peer s))) (c (peer s)) d most less there (fits (peer s)).3) (λ p y. y)) (sync_between c fits)) x.second
 
     turn_between : (c : Side → ℕ) (most : ℕ) (Z : Machines → Type 0) → most ≤ wait_of (w (peer s)) → Fits d w c
         → Along Z (w s) (w (peer s)) (c s) d → KeptBeside at gives (Turn c most Z)
@@ -286,7 +269,7 @@ module _ (gives : Algorithms) (d : ℕ) (at : Side → ℕ) (w : Side → Lacpdu
             let db = x.first (Plays (event.Emit n p)) r i j tt h da in
             let after = any_between c fits (Plays (event.Emit n p)) r i j tt h o in
             let e = emit_any gives n p d at w c s Wakes r i j fits (along_wakes (c s)) (λ q y. y) o.0 h in
-            inr (inl ((after, subst Flying (sym (same_flying d d at w w c c s s Wakes Wakes j e.link after.0 (peer s))) (e.flying (peer s) f)), db))
+            inr (inl ((after, subst Flying (sym (same_flying e.link after.0 (peer s))) (e.flying (peer s) f)), db))
         asked n p r i j h (inr (inr m)) = inr (inr (told_between c most less fits (Plays (event.Emit n p)) r i j tt h m))
 
         came : (cn n : ℕ) (r : Reply) (i j : WorldState) → WorldSteps gives i (event.Deliver cn n) r j → Turn c most Z i → Turn c most Z j
@@ -316,7 +299,7 @@ module _ (gives : Algorithms) (d : ℕ) (at : Side → ℕ) (w : Side → Lacpdu
             let after = any_between c fits e r i j t h o in
             let k = leaves_link gives e d at w c s Wakes r i j b h (along_wakes (c s)) o.0 in
             inr (inl (
-              (after, subst Flying (sym (same_flying d d at w w c c s s Wakes Wakes j k.link after.0 (peer s))) (k.flying (peer s) f)),
+              (after, subst Flying (sym (same_flying k.link after.0 (peer s))) (k.flying (peer s) f)),
               x.first e r i j t h da,
             ))
         quiet e r i j b t h (inr (inr m)) = inr (inr (told_between c most less fits e r i j t h m))
@@ -328,33 +311,28 @@ module _ (gives : Algorithms) (d : ℕ) (at : Side → ℕ) (w : Side → Lacpdu
 
     bare : (c : Side → ℕ) (i : WorldState) (o : OnWay c Any i) → Flying (o.0.flying (peer s)) → Flying ((forget d at w c s s Wakes i o.0).flying (peer s))
     bare c i o f =
-        subst Flying (sym (same_flying d d at w w c c s s Wakes Nothing i o.0 (forget d at w c s s Wakes i o.0) (peer s))) f
+        subst Flying (sym (same_flying o.0 (forget d at w c s s Wakes i o.0) (peer s))) f
 
-    pub told_own : (c b : Side → ℕ) (most : ℕ) → b s ≡ c s - 1 → b (peer s) ≡ c (peer s) → (2 ≤ d → 1 ≤ c s - 1)
+    pub told_own : (c b : Side → ℕ) (most : ℕ) → Counts d s c b
         → most ≤ wait_of (w (peer s)) → Fits d w b → MadeByTick gives s (HasTold c most) (HasTold b most)
-    told_own c b most here other known less fits n r i j numbered h ((l, o), ea) =
-        let L = Learnt d (w (peer (peer s))) most in (
-          (
-            (tick_one gives n s d at w c b (peer s) L L r i j numbered here other known
-                (learnt_along (w (peer s)) (w (peer (peer s))) (b (peer s)) d most less there (fits (peer s)).3)
-                (λ p q run rest a f y. absurd (other_side s (sym f))) (λ p f y. y) h l).link,
-            on_own PartnerInSync (sync_settles (at (peer s))) (λ p y. y) (λ p y. y) c b here other known n r i j numbered h o,
-          ),
-          x.ticks_second s n r i j numbered h ea,
-        )
+    told_own c b most known less fits =
+        let L = Learnt d (w (peer (peer s))) most in
+        both_made gives s (both_made gives s (λ n r i j numbered h l. (tick_one gives n s d at w c b (peer s) L L r i j numbered known
+        (learnt_along (w (peer s)) (w (peer (peer s))) (b (peer s)) d most less there (fits (peer s)).3)
+        (λ p q run rest a f y. absurd (other_side s (sym f))) (λ p f y. y) h l).link)
+        (on_own PartnerInSync (sync_settles (at (peer s))) (λ p y. y) (λ p y. y) c b known)) (x.ticks_second s)
 
-    pub told_other : (c b : Side → ℕ) (most : ℕ) → b (peer s) ≡ c (peer s) - 1 → b s ≡ c s → (2 ≤ d → 1 ≤ c (peer s) - 1)
+    pub told_other : (c b : Side → ℕ) (most : ℕ) → Counts d (peer s) c b
         → 2 ≤ most → most ≤ wait_of (w (peer s)) → Fits d w b → MadeByTick gives (peer s) (HasTold c most) (HasTold b (most - 1))
-    told_other c b most here own known some less fits n r i j numbered h ((l, o), ea) =
+    told_other c b most known some less fits n r i j numbered h ((l, o), ea) =
         let q = w (peer (peer s)) in
-        let back = subst (λ t. b t ≡ c t) (sym (peer_twice s)) own in
         let t = ticks gives n (peer s) r i j numbered h in
         let ports = (half (peer s) i).state.system_ports in (
           (
-            (tick_one gives n (peer s) d at w c b (peer s) (Learnt d q most) (Learnt d q (most - 1)) r i j numbered here back known
+            (tick_one gives n (peer s) d at w c b (peer s) (Learnt d q most) (Learnt d q (most - 1)) r i j numbered known
                 (learnt_along (w (peer s)) q (b (peer s)) d (most - 1) (omega (arith, less)) there (fits (peer s)).3)
                 (λ p z run rest a f y. ticks_learnt d q most p z some run y) (λ p f y. absurd (other_side (peer s) f)) h l).link,
-            on_other PartnerInSync (sync_settles (at (peer s))) (λ p y. y) (λ p y. y) c b here own known n r i j numbered h
+            on_other PartnerInSync (sync_settles (at (peer s))) (λ p y. y) (λ p y. y) c b known n r i j numbered h
                 (λ y. Tick-each (λ m p. AtPort (at (peer s)) (Learnt d q most) m p × AtPort (at (peer s)) PartnerInSync m p)
                 (AtPort (at (peer s)) PartnerInSync) (sync_settles (at (peer s)))
                 (λ m p z run a e. subst PartnerInSync (sym (known_still q (most - 1) (count_down p) z (omega (arith, some))
@@ -366,68 +344,65 @@ module _ (gives : Algorithms) (d : ℕ) (at : Side → ℕ) (w : Side → Lacpdu
         )
 
     -- the tick of s
-    turn_own : (c b : Side → ℕ) (most : ℕ) (X V : Machines → Type 0) → b s ≡ c s - 1 → b (peer s) ≡ c (peer s) → (2 ≤ d → 1 ≤ c s - 1)
+    turn_own : (c b : Side → ℕ) (most : ℕ) (X V : Machines → Type 0) → Counts d s c b
         → most ≤ wait_of (w (peer s)) → Fits d w b → Along V (w s) (w (peer s)) (b s) d
         → ((p q : Machines) → RunsToRest receive_rows (count_down p) q → AtRest periodic_rows p → IsEnd d (w s) (w (peer s)) (c s) p → X p → V q)
         → MadeByTick gives s (Turn c most X) (Turn b most V)
-    turn_own c b most X V here other known less fits along moves n r i j numbered h (inl ((l, o), da)) = inl (
+    turn_own c b most X V known less fits along moves n r i j numbered h (inl ((l, o), da)) = inl (
       (
-        (tick_one gives n s d at w c b s X V r i j numbered here other known along (λ p q run rest a f y. moves p q run rest a y)
+        (tick_one gives n s d at w c b s X V r i j numbered known along (λ p q run rest a f y. moves p q run rest a y)
             (λ p f y. absurd (other_side s f)) h l).link,
-        woken_own c b here other known n r i j numbered h o,
+        woken_own c b known n r i j numbered h o,
       ),
       x.ticks_first s n r i j numbered h da,
     )
-    turn_own c b most X V here other known less fits along moves n r i j numbered h (inr (inl ((o, f), da))) =
-        let k = tick_one gives n s d at w c b s Nothing Nothing r i j numbered here other known (nothing_along (w s) (w (peer s)) (b s) d)
+    turn_own c b most X V known less fits along moves n r i j numbered h (inr (inl ((o, f), da))) =
+        let k = tick_one gives n s d at w c b s Nothing Nothing r i j numbered known (nothing_along (w s) (w (peer s)) (b s) d)
         (λ p q run rest a f y. y) (λ p f y. y) h (forget d at w c s s Wakes i o.0) in
-        let after = on_own Any any_settles (λ p y. y) (λ p y. tt) c b here other known n r i j numbered h o in
+        let after = on_own Any any_settles (λ p y. y) (λ p y. tt) c b known n r i j numbered h o in
         inr (inl (
           (
             after,
-            subst Flying (sym (same_flying d d at w w b b s s Nothing Wakes j k.link after.0 (peer s)))
+            subst Flying (sym (same_flying k.link after.0 (peer s)))
                 (subst (λ (g : Side → List ItemValue). Flying (g (peer s))) (sym k.same) (bare c i o f)),
           ),
           x.ticks_first s n r i j numbered h da,
         ))
-    turn_own c b most X V here other known less fits along moves n r i j numbered h (inr (inr m)) =
-        inr (inr (told_own c b most here other known less fits n r i j numbered h m))
+    turn_own c b most X V known less fits along moves n r i j numbered h (inr (inr m)) =
+        inr (inr (told_own c b most known less fits n r i j numbered h m))
 
     -- the tick of the other system
-    turn_other : (c b : Side → ℕ) (most : ℕ) (Y : Machines → Type 0) → b (peer s) ≡ c (peer s) - 1 → b s ≡ c s → (2 ≤ d → 1 ≤ c (peer s) - 1)
+    turn_other : (c b : Side → ℕ) (most : ℕ) (Y : Machines → Type 0) → Counts d (peer s) c b
         → 2 ≤ most → most ≤ wait_of (w (peer s)) → Fits d w b → Along Y (w s) (w (peer s)) (b s) d
         → MadeByTick gives (peer s) (Turn c most Y) (Turn b (most - 1) Y)
-    turn_other c b most Y here own known some less fits along n r i j numbered h m = by_case m
+    turn_other c b most Y known some less fits along n r i j numbered h m = by_case m
       where
-        back : b (peer (peer s)) ≡ c (peer (peer s))
-        back = subst (λ t. b t ≡ c t) (sym (peer_twice s)) own
-
         loose : OnWay c Any i → OnWay b Any j
-        loose o = on_other Any any_settles (λ p y. y) (λ p y. tt) c b here own known n r i j numbered h
+        loose o = on_other Any any_settles (λ p y. y) (λ p y. tt) c b known n r i j numbered h
             (λ y. all_any (at (peer s)) (half (peer s) j).state.system_ports) o
 
         by_case : Turn c most Y i → Turn b (most - 1) Y j
         by_case (inl ((l, o), da)) = inl (
           (
-            (tick_one gives n (peer s) d at w c b s Y Y r i j numbered here back known along
+            (tick_one gives n (peer s) d at w c b s Y Y r i j numbered known along
                 (λ p q run rest a f y. absurd (other_side s f)) (λ p f y. y) h l).link,
-            woken_other c b here own known n r i j numbered h o,
+            woken_other c b known n r i j numbered h o,
           ),
           x.ticks_first (peer s) n r i j numbered h da,
         )
         by_case (inr (inl ((o, f), da))) =
-            let k = tick_one gives n (peer s) d at w c b s Nothing Nothing r i j numbered here back known (nothing_along (w s) (w (peer s)) (b s) d)
+            let k = tick_one gives n (peer s) d at w c b s Nothing Nothing r i j numbered known (nothing_along (w s) (w (peer s)) (b s) d)
             (λ p q run rest a f y. y) (λ p f y. y) h (forget d at w c s s Wakes i o.0) in
             let after = loose o in
             inr (inl (
               (
                 after,
-                subst Flying (sym (same_flying d d at w w b b s s Nothing Wakes j k.link after.0 (peer s)))
+                subst Flying (sym (same_flying k.link after.0 (peer s)))
                     (subst (λ (g : Side → List ItemValue). Flying (g (peer s))) (sym k.same) (bare c i o f)),
               ),
               x.ticks_first (peer s) n r i j numbered h da,
             ))
-        by_case (inr (inr m)) = inr (inr (told_other c b most here own known some less fits n r i j numbered h m))
+        by_case (inr (inr m)) = inr (inr (told_other c b most known some less fits n r i j numbered h m))
 
     module _ (c : Side → ℕ) (fits : Fits d w c) (then : Fits d w (ticked c)) where
       abbrev W : ℕ
@@ -438,24 +413,6 @@ module _ (gives : Algorithms) (d : ℕ) (at : Side → ℕ) (w : Side → Lacpdu
 
       abbrev NoneDue : WorldState → Type 0
       NoneDue j = OfPort (λ p. is_due p ≡ false) (machines_of (at s) (half s j).state)
-
-      pub own_one : (b : Bool) → kn false b s ≡ kn true b s - 1
-      own_one b = two_there s (c s - 1) (left b (c (peer s))) ∙ ap (λ n. n - 1) (sym (two_there s (c s) (left b (c (peer s)))))
-
-      pub own_two : (b : Bool) → kn false b (peer s) ≡ kn true b (peer s)
-      own_two b = two_other s (c s - 1) (left b (c (peer s))) ∙ sym (two_other s (c s) (left b (c (peer s))))
-
-      pub own_three : (b : Bool) → 2 ≤ d → 1 ≤ kn true b s - 1
-      own_three b e = subst (λ n. 1 ≤ n - 1) (sym (two_there s (c s) (left b (c (peer s))))) ((then s).2 e)
-
-      pub other_one : (a : Bool) → kn a false (peer s) ≡ kn a true (peer s) - 1
-      other_one a = two_other s (left a (c s)) (c (peer s) - 1) ∙ ap (λ n. n - 1) (sym (two_other s (left a (c s)) (c (peer s))))
-
-      pub other_two : (a : Bool) → kn a false s ≡ kn a true s
-      other_two a = two_there s (left a (c s)) (c (peer s) - 1) ∙ sym (two_there s (left a (c s)) (c (peer s)))
-
-      pub other_three : (a : Bool) → 2 ≤ d → 1 ≤ kn a true (peer s) - 1
-      other_three a e = subst (λ n. 1 ≤ n - 1) (sym (two_other s (left a (c s)) (c (peer s)))) ((then (peer s)).2 e)
 
       pub left_less : (b : Bool) (n : ℕ) → left b n ≤ n
       left_less true n = omega arith
@@ -486,7 +443,7 @@ module _ (gives : Algorithms) (d : ℕ) (at : Side → ℕ) (w : Side → Lacpdu
         late M b a = subst (λ n. Along M (w s) (w (peer s)) n d) (sym (two_there s (c s - 1) (left b (c (peer s))))) a
 
         own : (b : Bool) → MadeByTick gives s (A b) (B b)
-        own b n r i j numbered h m = elim (turn_own (kn true b) (kn false b) (left b W) X V (own_one b) (own_two b) (own_three b)
+        own b n r i j numbered h m = elim (turn_own (kn true b) (kn false b) (left b W) X V (own_counts d w c s then b)
             (left_less b W) (fits_in d w c s fits then false b) (late V b k.ticked)
             (λ p q run rest a y. k.ticks p q run rest (subst (λ n. IsEnd d (w s) (w (peer s)) n p) (two_there s (c s) (left b (c (peer s)))) a) y)
             n r i j numbered h m) [
@@ -503,7 +460,7 @@ module _ (gives : Algorithms) (d : ℕ) (at : Side → ℕ) (w : Side → Lacpdu
 
         others : (a : Bool) (M : Machines → Type 0) → Along M (w s) (w (peer s)) (kn a false s) d
             → MadeByTick gives (peer s) (Turn (kn a true) (left true W) M) (Turn (kn a false) (left false W) M)
-        others a M along = turn_other (kn a true) (kn a false) W M (other_one a) (other_two a) (other_three a)
+        others a M along = turn_other (kn a true) (kn a false) W M (peer_counts d w c s then a)
             waits_long (omega arith) (fits_in d w c s fits then a false) along
 
         rests : (b : Bool) (j : WorldState) → NoneDue j → B b j → C b j
@@ -562,9 +519,9 @@ module _ (gives : Algorithms) (d : ℕ) (at : Side → ℕ) (w : Side → Lacpdu
           → OnWay (kn false false) PartnerInSync new
       stays_on {E} old new told h known = holds_beside E at gives s (λ a b j. OnWay (kn a b) PartnerInSync j)
           (λ a b. sync_between (kn a b) (fits_in d w c s fits then a b))
-          (λ b. on_own PartnerInSync (sync_settles (at (peer s))) (λ p y. y) (λ p y. y) (kn true b) (kn false b) (own_one b) (own_two b) (own_three b))
+          (λ b. on_own PartnerInSync (sync_settles (at (peer s))) (λ p y. y) (λ p y. y) (kn true b) (kn false b) (own_counts d w c s then b))
           (λ a n r i j numbered step o. on_other PartnerInSync (sync_settles (at (peer s))) (λ p y. y) (λ p y. y) (kn a true) (kn a false)
-          (other_one a) (other_two a) (other_three a) n r i j numbered step (stays a n r i j numbered step o.0) o) old new h told
+          (peer_counts d w c s then a) n r i j numbered step (stays a n r i j numbered step o.0) o) old new h told
         where
           stays : (a : Bool) (n : ℕ) (r : Reply) (i j : WorldState) → side_of n ≡ Some (peer s) → WorldSteps gives i (event.Tick n 1) r j
               → Link d at w (kn a true) s Wakes i → PeerIs PartnerInSync i → PeerIs PartnerInSync j

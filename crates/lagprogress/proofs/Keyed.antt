@@ -16,7 +16,7 @@ use Rattle.lagsystem.specs.declared.drive.HostCall.TheVariants as host
 use Rattle.lagsystem.specs.declared.drive.HostReply.TheVariants as told
 use Rattle.lagsystem.proofs.OccupantSteps.{Step-placed}
 use Rattle.std.specs.Prelude.{[], ◌∷◌}
-use Rattle.lagprogress.proofs.Bundling.{heard_holds, each_active_link_comes_up, each_link_comes_up}
+use Rattle.lagprogress.proofs.Bundling.{both_active, each_link_comes_up, heard_holds, one_active}
 use Rattle.lagprogress.proofs.Grouping.{InOne, first_in_one, in_one_of, step_in_one, whole_of}
 use Rattle.lagprogress.proofs.Knowing.{active_ends_know, ends_know}
 use Rattle.lagprogress.proofs.Lasting.{still_heard}
@@ -142,8 +142,8 @@ module _ (Holds : LinkState → WorldState → Type 0) (knowing least : ℕ) (gi
 
 pub key_together : (gives : Algorithms) → EachKeyIsInOneAggregator LateRounds OneIsActive up_if_one_is gives
 key_together gives n old new s key b whole g many h = together OneIsActive known_if_one_is up_if_one_is gives (ends_know gives)
-    (each_link_comes_up gives) (omega arith) n old new s b many h key whole g
+    (each_link_comes_up OneIsActive 624 gives (one_active gives)) (omega arith) n old new s b many h key whole g
 
 pub active_key_together : (gives : Algorithms) → EachKeyIsInOneAggregator LateRounds BothAreActive up_if_both_active gives
 active_key_together gives n old new s key b whole g many h = together BothAreActive known_if_both_active up_if_both_active gives
-    (active_ends_know gives) (each_active_link_comes_up gives) (omega arith) n old new s b many h key whole g
+    (active_ends_know gives) (each_link_comes_up BothAreActive 323 gives (both_active gives)) (omega arith) n old new s b many h key whole g

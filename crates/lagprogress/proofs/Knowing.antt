@@ -1,9 +1,8 @@
 -- How the ends of a cable come to know each other.
 use Rattle.lagprogress.proofs.Common.{Bool, arith, false, inl, inr, refl, subst, suc, sym, true, zero, ℕ, ◌+◌, ◌-◌, ◌∙◌, ◌≡◌, ◌≤◌, ◌⊎◌, cases_Bool}
-use Rattle.lagprogress.proofs.Common.{Lacpdu, One, Side, Two, peer, Machines, periodic_rows, AtRest, machines_of, Algorithms, LinkState, WorldState}
+use Rattle.lagprogress.proofs.Common.{nat_tests, Lacpdu, One, Side, Two, peer, Machines, periodic_rows, AtRest, Algorithms, LinkState, WorldState}
 use Rattle.lagprogress.proofs.Common.{half, port_at, IsTimed, timeout_time, OfEach, no, AtPort, Sounds, silence_of, sounds_first, BothAreActive}
-use Rattle.lagprogress.proofs.Common.{EndsOfEachKnow, OneIsActive, LateRounds, OldArrive, EndKnows, Knows, AtEnd, OfPort, known_if_both_active}
-use Rattle.lagprogress.proofs.Common.{known_if_one_is}
+use Rattle.lagprogress.proofs.Common.{EndsOfEachKnow, OneIsActive, LateRounds, OldArrive, EndKnows, Knows, known_if_both_active, known_if_one_is}
 use Rattle.lagprogress.proofs.Claims.{IsNamed, Wakeful, can_wake}
 use Rattle.lagprogress.proofs.EndFacts.{CanSound, IsEnd, Learnt, activity, calm, less_known, short_timeout, wait_of, Along}
 use Rattle.lagprogress.proofs.HostRound.{host_keeps, two, two_other, two_there}
@@ -13,17 +12,14 @@ use Rattle.lagprogress.proofs.OneRound.{Nothing, at_rest, forget, ticked, beside
 use Rattle.lagprogress.proofs.Quieting.{AllBeside, PlayedBeside, all_beside}
 use Rattle.lagprogress.proofs.Telling.{Wakes}
 use Rattle.lagprogress.proofs.Climbing.{PartnerInSync}
-use Rattle.lagprogress.proofs.LateHearing.{Ahead, Flies, Hears as Heard, Said, Whoever, late_flies, late_nears, late_passes, late_stamped, late_told}
+use Rattle.lagprogress.proofs.LateHearing.{Ahead, Flies, Hears, Said, Whoever, late_flies, late_nears, late_passes, late_stamped, late_told}
 use Rattle.lagprogress.proofs.LateHearing.{late_took}
 use Rattle.lagprogress.proofs.LateStart.{counts_of, first_late, kept_of}
 use Rattle.lagprogress.proofs.Stamps.{Stamped, Took}
 use Rattle.lagprogress.proofs.Starting.{Ends, active_at, end_of, named_at, said_by, starts}
 
 pub two_less : (s : Side) (c : Side → ℕ) (a b : ℕ) → a ≤ c s → b ≤ c (peer s) → (u : Side) → two s a b u ≤ c u
-two_less One c a b l m One = l
-two_less One c a b l m Two = m
-two_less Two c a b l m One = m
-two_less Two c a b l m Two = l
+two_less s c a b l m u = grind (arith, nat_tests)
 
 pub awake_peer : (w : Side → Lacpdu) → ((s : Side) → (activity (w s) ≡ true) ⊎ (activity (w (peer s)) ≡ true)) → (s : Side)
     → (activity (w (peer s)) ≡ true) ⊎ (activity (w s) ≡ true)
@@ -72,8 +68,7 @@ module _ (at : Side → ℕ) (w : Side → Lacpdu) where
 
   pub can_known : (s : Side) (c : ℕ) → 1 ≤ c → (activity (w s) ≡ true) ⊎ (activity (w (peer s)) ≡ true)
       → CanSound (w s) (w (peer s)) (mode s) c
-  can_known s c l (inl a) = (inl a, λ e. (l, e))
-  can_known s c l (inr a) = (inr (l, a), λ e. (l, e))
+  can_known s c l a = grind (arith, nat_tests)
 
   pub some_silence : (b : Bool) → 1 ≤ silence_of b
   some_silence true = omega arith
@@ -118,13 +113,6 @@ module _ (at : Side → ℕ) (w : Side → Lacpdu) (counts : Side → ℕ) (kept
   abbrev Awaited : Side → ℕ → WorldState → Type 0
   Awaited s m j = ((2 ≤ m) × AtIt at w s (Lasting (w (peer s)) (m - 1)) j) ⊎ (Said at w s Whoever j × Flies at s j)
 
-  -- what is so once the other end has heard an LACPDU of the end of s
-  pub record Hears (d : ℕ) (c : Side → ℕ) (s : Side) (j : WorldState) : Type 0 where
-    pub link : Link d at w (ticked c) (peer s) (Learnt d (w (peer (peer s))) (wait at w (peer s))) j
-    pub wakes : Wakes at w s j
-    pub told : Told s j
-    pub took : Took at counts kept (peer s) j
-
   -- Each end is heard in so many rounds, and the other end knows it for longer, or the rounds are still few.
   pub record Going (d most n : ℕ) (j : WorldState) : Type 0 where
     pub known : Side → ℕ
@@ -146,10 +134,7 @@ module _ (at : Side → ℕ) (w : Side → Lacpdu) (counts : Side → ℕ) (kept
   known_long d most n j g l s = elim (g.longer s) [ inl m ↦ m | inr m ↦ (let o = g.later s in absurd (omega (arith, l, m, o))) ]
 
   pub knows_peer : (d most n : ℕ) (j : WorldState) (g : Going d most n j) → most ≤ n → (s : Side) → 2 ≤ g.known s
-  knows_peer d most n j g l s =
-      let m = known_long d most n j g l (peer s) in
-      let o = g.later (peer s) in
-      subst (λ t. 2 ≤ g.known t) (peer_twice s) (omega (arith, m, o))
+  knows_peer d most n j g hyp1 s = grind (arith, nat_tests, known_long, peer_twice)
 
   pub knows_late : (d : ℕ) (j : WorldState) (g : Met d j) (s : Side) → 2 ≤ g.known s
   knows_late d j g s = knows_peer d 0 0 j g (omega arith) s
@@ -204,10 +189,7 @@ module _ (at : Side → ℕ) (w : Side → Lacpdu) (counts : Side → ℕ) (kept
         present = r.present;
         heard = r.heard;
       } in
-      subst (λ n. OfPort (λ p. AtEnd (λ q. Knows p q) (peer s) l j) (machines_of n (half s j).state)) (sym (joins s))
-      (subst (OfPort (λ p. AtEnd (λ q. Knows p q) (peer s) l j)) (sym one.found)
-      (subst (λ n. OfPort (λ q. Knows one.port.port q) (machines_of n (half (peer s) j).state)) (sym (joins (peer s)))
-      (subst (OfPort (λ q. Knows one.port.port q)) (sym other.found) knows)))
+      grind (arith, nat_tests, other)
 
   -- an end that may sound is heard so soon
   ahead_now : (d : ℕ) (c : Side → ℕ) (s : Side) (fast : Bool) (j : WorldState) → CanSound (w s) (w (peer s)) fast (c s)
@@ -218,21 +200,16 @@ module _ (at : Side → ℕ) (w : Side → Lacpdu) (counts : Side → ℕ) (kept
         subst (λ m. AtIt at w s (Sounds fast m) j) (sym (one_more (silence_of fast))) (sounds_now at w d c One Nothing s fast j can l),
       )
 
-  heard : (gives : Algorithms) (d : ℕ) (s : Side) (there : 1 ≤ d) (named : (activity (w s) ≡ true) ⊎ IsNamed (w (peer s))) (c : Side → ℕ)
-      (fits : Fits d w c) (then : Fits d w (ticked c)) (j : WorldState) → Heard gives d at w counts kept s there named c fits then j
-      → Hears d c s j
-  heard gives d s there named c fits then j q = record { link = q.0; wakes = q.1.0; told = q.1.1; took = q.2 }
-
   awaits : (gives : Algorithms) (s : Side) → activity (w (peer s)) ≡ true → IsNamed (w (peer s)) → Fits 1 w (λ _. 0) → Fits 1 w (ticked (λ _. 0))
       → (m : ℕ) (old new : WorldState) → 1 ≤ m → Link 1 at w (λ _. 0) One Nothing old → AtIt at w s (Wakeful (w s) (w (peer s))) old
       → Stamped 1 at counts kept old
       → ((2 ≤ m) × AtIt at w s (Lasting (w (peer s)) (m - 1)) old) ⊎ (Said at w s Whoever old × Flies at s old) → PlayedBeside at OldArrive gives old new
       → ((1 ≤ m - 1) × AtIt at w s (Wakeful (w s) (w (peer s))) new
       × (((2 ≤ m - 1) × AtIt at w s (Lasting (w (peer s)) (m - 1 - 1)) new) ⊎ (Said at w s Whoever new × Flies at s new)))
-      ⊎ Hears 1 (λ _. 0) s new
+      ⊎ Hears 1 at w counts kept (λ _. 0) s new
   awaits gives s active named fits then m old new some l wakes stamped (inr (said, flies)) h =
-      inr (heard gives 1 s (omega arith) (inr named) (λ _. 0) fits then new (late_flies gives 1 at w counts kept s (omega arith) (inr named) (λ _. 0) fits then
-      One old new l wakes stamped said flies h))
+      inr (late_flies gives 1 at w counts kept s (omega arith) (inr named) (λ _. 0) fits then
+      One old new l wakes stamped said flies h)
   awaits gives s active named fits then m old new some l wakes stamped (inl (twice, lasting)) h =
       let u = w (peer s) in
       elim (late_passes gives 1 at w counts kept s (omega arith) (inr named) (λ _. 0) fits then (Lasting u (m - 1))
@@ -247,20 +224,12 @@ module _ (at : Side → ℕ) (w : Side → Lacpdu) (counts : Side → ℕ) (kept
               inl (omega (arith, more), of_end q s (Lasting u (m - 1 - 1)) (λ p rest timed a. a.1 refl)),
             ))
         | inr (inl y) ↦ inl (omega (arith, twice), y.0, inr (y.1, y.2))
-        | inr (inr q) ↦ inr (heard gives 1 s (omega arith) (inr named) (λ _. 0) fits then new q)
+        | inr (inr q) ↦ inr q
       ]
 
   module _ (gives : Algorithms) where
     abbrev Round : WorldState → WorldState → Type 0
     Round old new = PlayedBeside at OldArrive gives old new
-
-    pub nears : (d : ℕ) (s : Side) → 1 ≤ d → (activity (w s) ≡ true) ⊎ IsNamed (w (peer s)) → (c : Side → ℕ) → Fits d w c → Fits d w (ticked c)
-        → (fast : Bool) (m : ℕ) (old new : WorldState) → CanSound (w s) (w (peer s)) fast (ticked c s) → CanSound (w s) (w (peer s)) fast (c s)
-        → Link d at w c One Nothing old → Wakes at w s old → Rest old → Ahead at w s fast m old → Round old new
-        → ((1 ≤ m - 1) × Ahead at w s fast (m - 1) new) ⊎ Hears d c s new
-    nears d s there named c fits then fast m old new can was l wakes rest y h =
-        elim (late_nears gives d at w counts kept s there named c fits then fast m old new can was l wakes rest y h)
-        [ inl q ↦ inl q | inr q ↦ inr (heard gives d s there named c fits then new q) ]
 
     -- the rounds in which the other end hears one that may sound
     abbrev gap : Bool → ℕ
@@ -286,7 +255,7 @@ module _ (at : Side → ℕ) (w : Side → Lacpdu) (counts : Side → ℕ) (kept
       went : (d most n : ℕ) (old new : WorldState) (g : Going d most n old) (there : 1 ≤ d) (fit : Fits d w g.known)
           (then : Fits d w (ticked g.known)) → Able at w g.known → Round old new → Link d at w (ticked g.known) One Nothing new → (s : Side)
           → Went d most (n + 1) s new
-      went d most n old new g there fit then can h base s = elim (nears d s there (inr (named (peer s))) g.known fit then
+      went d most n old new g there fit then can h base s = elim (late_nears gives d at w counts kept s there (inr (named (peer s))) g.known fit then
           (mode at w s) (g.next s) old new (can s).1 (can s).0 g.link awake g.rest (g.ahead s) h) [
             | inl q ↦ record {
               next = g.next s - 1;
@@ -398,9 +367,9 @@ module _ (at : Side → ℕ) (w : Side → Lacpdu) (counts : Side → ℕ) (kept
 
     -- it still calls, or the other end has just heard it
     calls_on : (s : Side) (active : activity (w s) ≡ true) (n : ℕ) (old new : WorldState) → Round old new
-        → Calls s n old → Calls s (n + 1) new ⊎ Hears 1 (λ _. 0) s new
+        → Calls s n old → Calls s (n + 1) new ⊎ Hears 1 at w counts kept (λ _. 0) s new
     calls_on s active n old new h (m, some, soon, link, rest, ahead) =
-        elim (nears 1 s (omega arith) (inl active) (λ _. 0) fit_none then_none false m old new
+        elim (late_nears gives 1 at w counts kept s (omega arith) (inl active) (λ _. 0) fit_none then_none false m old new
         (inl active, λ i. absurd (no i)) (inl active, λ i. absurd (no i)) link
         (wakes_now at w 1 (λ _. 0) One Nothing s false old (inl active, λ i. absurd (no i)) link) rest ahead h) [
           | inl q ↦ (let more = q.0 in
@@ -429,7 +398,7 @@ module _ (at : Side → ℕ) (w : Side → Lacpdu) (counts : Side → ℕ) (kept
       able b l = can_known at w (peer s) b l (awake (peer s))
 
       -- the other end has just heard it
-      hears : (most n : ℕ) (new : WorldState) → n ≤ most → Hears 1 (λ _. 0) s new → Rest new → Answers s most n new
+      hears : (most n : ℕ) (new : WorldState) → n ≤ most → Hears 1 at w counts kept (λ _. 0) s new → Rest new → Answers s most n new
       hears most n new l q rest =
           let known = learns at w 1 (ticked (λ _. 0)) (peer s) 0 new (omega arith) q.link in
           let b = wait at w (peer s) in
@@ -485,7 +454,7 @@ module _ (at : Side → ℕ) (w : Side → Lacpdu) (counts : Side → ℕ) (kept
           let still = late_told gives 1 at w counts kept s (omega arith) (inr (named (peer s))) (two s 0 b) fit then One old new link wakes h
           (subst (λ m. 2 ≤ m) (sym (two_other s 0 b)) (omega (arith, room, some, enough))) told in
           let kept_it = (late_took gives at counts kept old new h (peer s) (rest, took)).1 in
-          elim (nears 1 (peer s) (omega arith) (inr (named (peer (peer s)))) (two s 0 b) fit then
+          elim (late_nears gives 1 at w counts kept (peer s) (omega arith) (inr (named (peer (peer s)))) (two s 0 b) fit then
           (mode at w (peer s)) m old new
           (subst (λ m. CanSound (w (peer s)) (w (peer (peer s))) (mode at w (peer s)) (m - 1)) (sym (two_other s 0 b))
           (able (b - 1) (omega (arith, room, some, enough)))) can link
@@ -642,10 +611,7 @@ module _ (at : Side → ℕ) (w : Side → Lacpdu) (counts : Side → ℕ) (kept
           (omega (arith, enough)) h)
 
       meets_short : (s : Side) → activity (w s) ≡ true → short_timeout (w s) ≡ true → 323 ≤ n → Met 1 new
-      meets_short s active short enough =
-          let quick : mode at w (peer s) ≡ true = subst (λ t. short_timeout (w t) ≡ true) (sym (peer_twice s)) short in
-          comes_to_meet s active (subst (λ b. gap (mode at w s) + gap b + 2 ≤ wait at w (peer s)) (sym quick) (room_for (mode at w s)))
-          (subst (λ b. 311 + gap b ≤ n) (sym quick) (omega (arith, enough)))
+      meets_short s hyp1 hyp2 hyp3 = grind (arith, nat_tests, true, peer_twice, comes_to_meet, room_for)
 
       meets_long : ((s : Side) → activity (w s) ≡ true) → ((s : Side) → mode at w s ≡ false) → 323 ≤ n → Met 1 new
       meets_long active long enough = settled 1 311 n new (omega (arith, enough)) (along (λ m j. Lasts m j) old

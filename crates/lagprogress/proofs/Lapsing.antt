@@ -6,7 +6,7 @@ use Rattle.lagprogress.proofs.Common.{RunsPeriodic, periodic_rows, receive_rows,
 use Rattle.lagprogress.proofs.Common.{HasRecorded, IsTimed, timeout_time, EnabledKeep, no, not_down, times_keep, Recorded, mux_leaves}
 use Rattle.lagprogress.proofs.Common.{periodic_leaves, Calm, Sounds, counts_sounds, mux_sounds, not_gone, not_silent, periodic_runs, sounds_first}
 use Rattle.lagprogress.proofs.Common.{sounds_in_slow, runs_keep, takes_keep}
-use Rattle.lagprogress.proofs.EndFacts.{Along, activity, both_along, constant_along, short_timeout, sounds_takes, takes_known}
+use Rattle.lagprogress.proofs.EndFacts.{Along, activity, both_along, constant_along, short_timeout, sounds_takes, takes_known, each_row}
 use Rattle.lagprogress.proofs.OneRound.{Passes, still_sounds}
 
 -- EXPIRED for so many ticks more at the least; the partner is active, and Short Timeout stands recorded of it
@@ -121,19 +121,7 @@ abbrev UpAnd : (Machines → Type 0) → Machines → Type 0
 UpAnd T p = (p.enabled ≡ true) × T p
 
 lapsed_rows : (e : ℕ) → 1 ≤ e → EnabledKeep (UpAnd (Lapsed e)) receive_rows
-lapsed_rows e l = (
-  λ p h a. absurd (not_in (same_receive_state Initialize) p.receive Expired true a.1.0 refl h),
-  (
-    λ p h a. absurd (not_down _ p.enabled h a.0),
-    (
-      λ p h a. absurd (not_in (same_receive_state PortDisabled) p.receive Expired p.enabled a.1.0 refl h),
-      (
-        λ p h a. absurd (some_left (same_receive_state Expired p.receive) p.current_while e h l a.1.3),
-        (λ p h a. absurd (not_in (same_receive_state Current) p.receive Expired (p.current_while == 0) a.1.0 refl h), tt),
-      ),
-    ),
-  ),
-)
+lapsed_rows e l = grind (arith, nat_tests, not_in, not_down, some_left)
 
 -- what the partner's state becomes in EXPIRED
 pub expired_active : (st : State) → (bits_of (with_timeout true (with_synchronization false st))).activity ≡ (bits_of st).activity
@@ -149,37 +137,24 @@ abbrev Told : Lacpdu → Machines → Type 0
 Told u p = HasRecorded u p ⊎ Lapsed 30 p
 
 told_rows : (u : Lacpdu) → activity u ≡ true → EnabledKeep (UpAnd (Told u)) receive_rows
-told_rows u on = (
-  λ p h a. absurd (elim a.1 [
-    | inl r ↦ not_in (same_receive_state Initialize) p.receive Current true r.current refl h
-    | inr y ↦ not_in (same_receive_state Initialize) p.receive Expired true y.0 refl h
-  ]),
-  (
-    λ p h a. absurd (not_down _ p.enabled h a.0),
-    (
-      λ p h a. absurd (elim a.1 [
-        | inl r ↦ not_in (same_receive_state PortDisabled) p.receive Current p.enabled r.current refl h
-        | inr y ↦ not_in (same_receive_state PortDisabled) p.receive Expired p.enabled y.0 refl h
-      ]),
-      (
-        λ p h a. absurd (elim a.1 [
-          | inl r ↦ not_in (same_receive_state Expired) p.receive Current (p.current_while == 0) r.current refl h
-          | inr y ↦ some_left (same_receive_state Expired p.receive) p.current_while 30 h (omega arith) y.3
-        ]),
-        (
-          λ p h a. elim a.1 [
-            | inl r ↦ (
-              a.0,
-              inr (refl, expired_active p.partner.state ∙ (r.active ∙ on), expired_short p.partner.state, omega arith),
-            )
-            | inr y ↦ absurd (not_in (same_receive_state Current) p.receive Expired (p.current_while == 0) y.0 refl h)
-          ],
-          tt,
-        ),
-      ),
-    ),
-  ),
-)
+told_rows u on = each_row
+    (λ p h a. absurd (elim a.1 [
+      | inl r ↦ not_in (same_receive_state Initialize) p.receive Current true r.current refl h
+      | inr y ↦ not_in (same_receive_state Initialize) p.receive Expired true y.0 refl h
+    ]))
+    (λ p h a. absurd (not_down _ p.enabled h a.0))
+    (λ p h a. absurd (elim a.1 [
+      | inl r ↦ not_in (same_receive_state PortDisabled) p.receive Current p.enabled r.current refl h
+      | inr y ↦ not_in (same_receive_state PortDisabled) p.receive Expired p.enabled y.0 refl h
+    ]))
+    (λ p h a. absurd (elim a.1 [
+      | inl r ↦ not_in (same_receive_state Expired) p.receive Current (p.current_while == 0) r.current refl h
+      | inr y ↦ some_left (same_receive_state Expired p.receive) p.current_while 30 h (omega arith) y.3
+    ]))
+    (λ p h a. elim a.1 [
+      | inl r ↦ (a.0, inr (refl, expired_active p.partner.state ∙ (r.active ∙ on), expired_short p.partner.state, omega arith))
+      | inr y ↦ absurd (not_in (same_receive_state Current) p.receive Expired (p.current_while == 0) y.0 refl h)
+    ])
 
 running : (r : ReceiveState) (n : ℕ) → r ≡ Current → (same_receive_state Current r && (n == 0)) ≡ false → 1 ≤ n
 running r n e h = not_gone n (subst (λ x. (same_receive_state Current x && (n == 0)) ≡ false) e h)
@@ -204,10 +179,7 @@ tick_phase : (u : Lacpdu) (p q : Machines) → activity u ≡ true → p.enabled
     → AtRest periodic_rows p → Recorded u 1 p ⊎ LaterTails p → Recorded u 1 q ⊎ (Lapsed 30 q ⊎ Tails q)
 tick_phase u p q on up h rest (inl r) =
     let end = times_keep (UpAnd (Told u)) receive_rows (told_rows u on) h.0 (count_down p) q h.1 (up, inl r.0) in
-    elim end.1 [
-      | inl known ↦ inl (known, running q.receive q.current_while known.current h.2.1.1.1.1.0)
-      | inr lapsed ↦ inr (inl lapsed)
-    ]
+    grind (arith, nat_tests, running)
 tick_phase u p q on up h rest (inr (i, (some, (lapsed, sounds)))) =
     let less : Lapsed i (count_down p) = (let l = lapsed.3 in (lapsed.0, lapsed.1, lapsed.2, omega (arith, l))) in
     let end = times_keep (UpAnd (Lapsed i)) receive_rows (lapsed_rows i some) h.0 (count_down p) q h.1 (up, less) in

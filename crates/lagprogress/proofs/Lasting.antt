@@ -5,7 +5,7 @@ use Rattle.lagprogress.proofs.Common.{Side, find_at, Machines, receive_rows, Run
 use Rattle.lagprogress.proofs.Common.{model_port_of, model_setup, model_view, number_of_port, HasPorts, IsSound, SystemState, port_numbers, all-get}
 use Rattle.lagprogress.proofs.Common.{are_numbered, ports_rise, Algorithms, LinkState, WorldState, half, port_at, aggregators_with, ports_with}
 use Rattle.lagprogress.proofs.Common.{count_same, counted, AtPort, at_number, same_place, AllHeard, EndsHealthyCable, EnoughAggregators, EnoughLinks}
-use Rattle.lagprogress.proofs.Common.{Clearing, HostRounds, NoneIsLeft, PlayedRounds, IsHealthyAt, IsSteady}
+use Rattle.lagprogress.proofs.Common.{Clearing, PlayedRounds, IsHealthyAt, IsSteady}
 use Rattle.lagmodel.specs.Law.{Members}
 use Rattle.lagprogress.proofs.EachRound.{EachAt, RoundKeeps, own_keeps, own_ticks, host_each, played_keep, played_on, played_steady}
 use Rattle.lagprogress.proofs.Linked.{many}
@@ -33,10 +33,6 @@ played_alike E gives n old new steady h s k x there =
     (λ m i j q a. host_each (AtPort x.number (Alike x.port)) (AtPort x.number (Alike x.port)) (alike_keeps x.number x.port)
     (alike_keeps x.number x.port) (alike_ticks x.number x.port) s gives i j q a) n new h
 
-pub rounds_alike : (gives : Algorithms) (n : ℕ) (old new : WorldState) → IsSteady old → HostRounds gives n old new → (s : Side) (k : ℕ)
-    (x : SystemPort) → slice_get (half s old).state.system_ports k ≡ Some x → EachAt (AtPort x.number (Alike x.port)) s new
-rounds_alike gives = played_alike NoneIsLeft gives
-
 -- the system is as it was, but for its machines and its table
 pub record IsAsBefore (s : Side) (old new : WorldState) : Type 0 where
   pub keys : (half s new).state.keys ≡ (half s old).state.keys
@@ -60,9 +56,6 @@ played_before E gives n old new steady h s =
           (played_alike E gives n old new steady h s k x e)
           (same_place (half s old).state.system_ports (half s new).state.system_ports k x y numbers e f);
     }
-
-pub as_before : (gives : Algorithms) (n : ℕ) (old new : WorldState) → IsSteady old → HostRounds gives n old new → (s : Side) → IsAsBefore s old new
-as_before gives = played_before NoneIsLeft gives
 
 -- the port that stood at the place
 pub old_port : (xs ys : List SystemPort) (k : ℕ) (y : SystemPort) → port_numbers ys ≡ port_numbers xs → slice_get ys k ≡ Some y
@@ -89,10 +82,7 @@ same_aggregators_with s old new b key = ap (λ (ks : List Key). length (filter (
 pub still_enough : (s : Side) (old new : WorldState) → IsAsBefore s old new → (key was : Key) → key ≡ was
     → ports_with was (half s old).state ≤ aggregators_with was (half s old).state
     → ports_with key (half s new).state ≤ aggregators_with key (half s new).state
-still_enough s old new b key was e enough =
-    subst (λ (q : Key). ports_with q (half s new).state ≤ aggregators_with q (half s new).state) (sym e)
-    (subst (λ n. n ≤ aggregators_with was (half s new).state) (sym (same_ports_with s old new b was))
-    (subst (λ n. ports_with was (half s old).state ≤ n) (sym (same_aggregators_with s old new b was)) enough))
+still_enough s old new hyp1 key was hyp2 hyp3 = grind (arith, nat_tests, same_ports_with, same_aggregators_with)
 
 pub still_one : (s : Side) (old new : WorldState) → IsAsBefore s old new → (key was : Key) → key ≡ was
     → 1 ≤ aggregators_with was (half s old).state → 1 ≤ aggregators_with key (half s new).state

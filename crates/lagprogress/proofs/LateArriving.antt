@@ -7,14 +7,13 @@ use Rattle.lagprogress.proofs.Claims.{IsNamed, Wakeful, wakeful_along}
 use Rattle.lagprogress.proofs.EachRound.{joins_kept, joins_tick}
 use Rattle.lagprogress.proofs.Delivering.{arrives_moves}
 use Rattle.lagprogress.proofs.EndFacts.{activity, wait_of}
-use Rattle.lagprogress.proofs.HostRound.{KeptBeside, MadeByTick, fits_in, healthy_link, known_in, learn_less, left, side_beside}
-use Rattle.lagprogress.proofs.HostStamps.{same_items}
-use Rattle.lagprogress.proofs.HostTelling.{Any, Extra, HasTold, OnWay, all_any, any_settles, left_less, on_between, on_other, on_own, other_one}
-use Rattle.lagprogress.proofs.HostTelling.{other_three, other_two, own_one, own_three, own_two, peer_hears, told_between, told_other, told_own}
-use Rattle.lagprogress.proofs.HostTelling.{waits_long}
+use Rattle.lagprogress.proofs.HostRound.{KeptBeside, MadeByTick, fits_in, healthy_link, known_in, learn_less, left, side_beside, own_counts}
+use Rattle.lagprogress.proofs.HostRound.{peer_counts}
+use Rattle.lagprogress.proofs.Linked.{same_items, Fits, Flying, put_there}
+use Rattle.lagprogress.proofs.HostTelling.{Any, Extra, HasTold, OnWay, all_any, any_settles, left_less, on_between, on_other, on_own, peer_hears}
+use Rattle.lagprogress.proofs.HostTelling.{told_between, told_other, told_own, waits_long}
 use Rattle.lagprogress.proofs.LateFlow.{FlyingIn, IsPlain, between_at, comes_in, counted_on, flows, flying_first, flying_flows, flying_pop}
 use Rattle.lagprogress.proofs.LateFlow.{stays_there}
-use Rattle.lagprogress.proofs.Linked.{Fits, Flying, put_there}
 use Rattle.lagprogress.proofs.OneCable.{Arrives, OnCable, cable, put, ticks, towards_there}
 use Rattle.lagprogress.proofs.OneRound.{forget, join, ticked}
 use Rattle.lagprogress.proofs.Quieting.{PlayedBeside}
@@ -37,9 +36,11 @@ module _ (gives : Algorithms) (d : ℕ) (at : Side → ℕ) (w : Side → Lacpdu
   Told a b j = HasTold gives d at w s there named D E extra (kn a b) (left b W) j
 
   -- one of the first k items that are on the cable is an LACPDU, or the peer has heard one
+  abbrev Heard : ℕ → Bool → Bool → WorldState → Type 0
+  Heard k a b j = (((o : Way a b j) × FlyingIn k (o.0.flying (peer s))) × D j) ⊎ Told a b j
+
   abbrev State : ℕ → Bool → Bool → WorldState → Type 0
-  State k a b j = (map link_ends j.links ≡ map link_ends old.links)
-      × ((((o : Way a b j) × FlyingIn k (o.0.flying (peer s))) × D j) ⊎ Told a b j)
+  State k a b j = (map link_ends j.links ≡ map link_ends old.links) × Heard k a b j
 
   fit : (a b : Bool) → Fits d w (kn a b)
   fit a b = fits_in d w c s fits then a b
@@ -133,8 +134,7 @@ module _ (gives : Algorithms) (d : ℕ) (at : Side → ℕ) (w : Side → Lacpdu
     by_state m,
   )
     where
-      by_state : ((((o : Way a b i) × FlyingIn (suc k) (o.0.flying (peer s))) × D i) ⊎ Told a b i)
-          → (((o : Way a b j) × FlyingIn k (o.0.flying (peer s))) × D j) ⊎ Told a b j
+      by_state : Heard (suc k) a b i → Heard k a b j
       by_state (inr m) = inr (told_between gives d at w s there named D E extra (kn a b) (left b W) (less b) (fit a b) e r i j (between_at at come) h m)
       by_state (inl ((o, f), da)) = elim (arrival_on a b e r i j joins come h o da) [
         | inl none ↦ absurd (subst (FlyingIn (suc k)) none f)
@@ -154,43 +154,23 @@ module _ (gives : Algorithms) (d : ℕ) (at : Side → ℕ) (w : Side → Lacpdu
   own : (k : ℕ) (b : Bool) → MadeByTick gives s (State k true b) (State k false b)
   own k b n r i j numbered h (joins, m) = (joins_tick gives old.links s n r i j numbered h joins, by_state m)
     where
-      one : kn false b s ≡ kn true b s - 1
-      one = own_one gives d at w s there named D E extra c fits then b
-
-      two : kn false b (peer s) ≡ kn true b (peer s)
-      two = own_two gives d at w s there named D E extra c fits then b
-
-      three : 2 ≤ d → 1 ≤ kn true b s - 1
-      three = own_three gives d at w s there named D E extra c fits then b
-
-      by_state : ((((o : Way true b i) × FlyingIn k (o.0.flying (peer s))) × D i) ⊎ Told true b i)
-          → (((o : Way false b j) × FlyingIn k (o.0.flying (peer s))) × D j) ⊎ Told false b j
-      by_state (inr m) = inr (told_own gives d at w s there named D E extra (kn true b) (kn false b) (left b W) one two three (less b) (fit false b)
+      by_state : Heard k true b i → Heard k false b j
+      by_state (inr m) = inr (told_own gives d at w s there named D E extra (kn true b) (kn false b) (left b W) (own_counts d w c s then b) (less b) (fit false b)
           n r i j numbered h m)
       by_state (inl ((o, f), da)) =
           let after = on_own gives d at w s there named (Any gives d at w s there named) settles (λ p y. y) (λ p y. tt) (kn true b) (kn false b)
-          one two three n r i j numbered h o in
+          (own_counts d w c s then b) n r i j numbered h o in
           inl ((after, same_tick s false b n r i j numbered h k o.0.flying o.0.index o.0.links after f), extra.ticks_first s n r i j numbered h da)
 
   other : (k : ℕ) (a : Bool) → MadeByTick gives (peer s) (State k a true) (State k a false)
   other k a n r i j numbered h (joins, m) = (joins_tick gives old.links (peer s) n r i j numbered h joins, by_state m)
     where
-      one : kn a false (peer s) ≡ kn a true (peer s) - 1
-      one = other_one gives d at w s there named D E extra c fits then a
-
-      two : kn a false s ≡ kn a true s
-      two = other_two gives d at w s there named D E extra c fits then a
-
-      three : 2 ≤ d → 1 ≤ kn a true (peer s) - 1
-      three = other_three gives d at w s there named D E extra c fits then a
-
-      by_state : ((((o : Way a true i) × FlyingIn k (o.0.flying (peer s))) × D i) ⊎ Told a true i)
-          → (((o : Way a false j) × FlyingIn k (o.0.flying (peer s))) × D j) ⊎ Told a false j
-      by_state (inr m) = inr (told_other gives d at w s there named D E extra (kn a true) (kn a false) W one two three
+      by_state : Heard k a true i → Heard k a false j
+      by_state (inr m) = inr (told_other gives d at w s there named D E extra (kn a true) (kn a false) W (peer_counts d w c s then a)
           (waits_long gives d at w s there named D E extra c fits then) (omega arith) (fit a false) n r i j numbered h m)
       by_state (inl ((o, f), da)) =
           let after = on_other gives d at w s there named (Any gives d at w s there named) settles (λ p y. y) (λ p y. tt) (kn a true) (kn a false)
-          one two three n r i j numbered h (λ y. all_any gives d at w s there named (at (peer s)) (half (peer s) j).state.system_ports) o in
+          (peer_counts d w c s then a) n r i j numbered h (λ y. all_any gives d at w s there named (at (peer s)) (half (peer s) j).state.system_ports) o in
           inl (
             (after, same_tick (peer s) a false n r i j numbered h k o.0.flying o.0.index o.0.links after f),
             extra.ticks_first (peer s) n r i j numbered h da,

@@ -6,7 +6,7 @@ use Rattle.lagprogress.proofs.Common.{periodic_leaves, IsLateRound, LateRounds, 
 use Rattle.lagprogress.proofs.EachRound.{played_split}
 use Rattle.lagprogress.proofs.ComingUp.{comes_up, Agrees, AreSynced, owed, synced_of}
 use Rattle.lagprogress.proofs.Quieting.{all_beside, PlayedBeside, as_beside}
-use Rattle.lagprogress.proofs.HostStamps.{Took-it, same_items}
+use Rattle.lagprogress.proofs.HostStamps.{Took-it}
 use Rattle.lagprogress.proofs.Climbing.{Rising, PartnerInSync, keeps_selected, ticks_still}
 use Rattle.lagprogress.proofs.Stamps.{Present}
 use Rattle.lagprogress.proofs.Knowing.{Met, Fresh, fits_fresh, fits_before, knows_late, stays_met, AtIt, beside}
@@ -15,7 +15,7 @@ use Rattle.lagprogress.proofs.EndFacts.{Along, IsEnd, Synced, activity, synced_m
 use Rattle.lagprogress.proofs.LateHearing.{Whoever}
 use Rattle.lagprogress.proofs.LateFlow.{Past}
 use Rattle.lagprogress.proofs.LateStart.{counts_of, flush, kept_of}
-use Rattle.lagprogress.proofs.Linked.{Flying, IsGood, Link, each_map, peer_twice}
+use Rattle.lagprogress.proofs.Linked.{Flying, IsGood, Link, each_map, peer_twice, same_items}
 use Rattle.lagprogress.proofs.OneRound.{Nothing, join, ticked}
 use Rattle.lagprogress.proofs.Starting.{raised}
 use Rattle.lagprogress.proofs.Telling.{Bears, SaysIt, Tells, tells_map}

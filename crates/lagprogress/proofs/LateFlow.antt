@@ -11,7 +11,7 @@ use Rattle.lagprogress.proofs.EachRound.{joins_kept}
 use Rattle.lagprogress.proofs.HostRound.{KeptBeside, MadeByTick, not_tick}
 use Rattle.lagprogress.proofs.Linked.{Flying, HasLacpdu, asked_which, each_side, peer_twice, push_there, put_other, put_there}
 use Rattle.lagprogress.proofs.OneCable.{Arrives, Asks, Back, Comes, Gains, OnCable, Stays, arrived, asks, cable, came, came_off, passed_by, put}
-use Rattle.lagprogress.proofs.OneCable.{response, sent_frame, ticks, stays_beside, towards_there}
+use Rattle.lagprogress.proofs.OneCable.{response, ticks, stays_beside, towards_there}
 use Rattle.lagprogress.proofs.Quieting.{LeavesEnds, leaves_cable}
 use Rattle.lagprogress.proofs.Telling.{back_other, went_other}
 
@@ -213,16 +213,7 @@ module _ (gives : Algorithms) (t : Side) (x : ℕ) (at : Side → ℕ) (fl : Sid
 pub flying_flows : {gives : Algorithms} {t : Side} {x : ℕ} {at : Side → ℕ} {fl : Side → List ItemValue} {e : HostEvent} {old new : WorldState}
     (k : ℕ) (f : Flows gives t x at fl e old new) → FlyingIn k (fl t)
     → FlyingIn k (f.now t) ⊎ ((item : ItemValue) × IsArrivalAt t x e × (fl t ≡ item ∷ f.now t))
-flying_flows {gives} {t} {x} {at} {fl} k f h = elim f.moves [
-  | inl y ↦ inl (subst (FlyingIn k) (sym y) h)
-  | inr (inl (item, plain, y)) ↦ inl (subst (FlyingIn k) (sym y) (flying_push k (fl t) (item ∷ []) h))
-  | inr (inr (inl y)) ↦ inr y
-  | inr (inr (inr (a, is))) ↦ inl (subst (λ (g : Side → List ItemValue). FlyingIn k (g t)) (sym is)
-      (elim (gain_at t (sent_frame a.a) fl a.now a.went) [
-        | inl y ↦ subst (FlyingIn k) (sym y) h
-        | inr (item, it, y) ↦ subst (FlyingIn k) (sym y) (flying_push k (fl t) (item ∷ []) h)
-      ]))
-]
+flying_flows k f hyp1 = grind (arith, nat_tests, flying_push, gain_at)
 
 -- the cable stays where it stood
 pub stays_there : (x y : ℕ) (at : Side → ℕ) (fl now : Side → List ItemValue) (old new : WorldState) → OnCable x at fl old.links
@@ -247,11 +238,7 @@ module _ (gives : Algorithms) (s t : Side) (x : ℕ) (at : Side → ℕ) (A : �
   -- an event that need not be an arrival
   step_on : (e : HostEvent) (es : List HostEvent) (r : Reply) (i j : WorldState) (k : ℕ) (a b : Bool) → TickOnceAmong (LeavesPorts at) s a b (e ∷ es)
       → StepReplies gives i e r j → A k a b i → (c : Bool) × (d : Bool) × TickOnceAmong (LeavesPorts at) s c d es × A k c d j
-  step_on e es r i j k a b (inl (m, due, h)) step y =
-      (false, b, h, own k b m.0 r i j m.1 (subst (λ x. StepReplies gives i x r j) m.2 step) (subst (λ x. A k x b i) due y))
-  step_on e es r i j k a b (inr (inl (m, due, h))) step y =
-      (a, false, h, other k a m.0 r i j m.1 (subst (λ x. StepReplies gives i x r j) m.2 step) (subst (λ x. A k a x i) due y))
-  step_on e es r i j k a b (inr (inr h)) step y = (a, b, h.1, kept k a b e r i j h.0 step y)
+  step_on e es r i j k a b hyp1 hyp2 hyp3 = grind (arith, nat_tests, false, other)
 
   pub counted_on : (es : List HostEvent) (rs : List Reply) (i j : WorldState) (k : ℕ) (a b : Bool) → TickOnceAmong (LeavesPorts at) s a b es
       → ArriveIn k t x es → RunReplies gives i es rs j → A k a b i → A 0 false false j
@@ -325,20 +312,12 @@ module _ (gives : Algorithms) (s t : Side) (x : ℕ) (at : Side → ℕ) (P : It
             })
       ]
 
-  own_past : (k : ℕ) (b : Bool) → MadeByTick gives s (A k true b) (A k false b)
-  own_past k b n r i j named h (m, p) = (
-    own b n r i j named h m,
-    record { flying = p.flying; on = subst (OnCable x at p.flying) (sym (ticks gives n s r i j named h).links) p.on; items = p.items },
-  )
-
-  other_past : (k : ℕ) (a : Bool) → MadeByTick gives (peer s) (A k a true) (A k a false)
-  other_past k a n r i j named h (m, p) = (
-    other a n r i j named h m,
-    record { flying = p.flying; on = subst (OnCable x at p.flying) (sym (ticks gives n (peer s) r i j named h).links) p.on; items = p.items },
-  )
+  past_tick : (u : Side) (k : ℕ) (a b c d : Bool) → MadeByTick gives u (M a b) (M c d) → MadeByTick gives u (A k a b) (A k c d)
+  past_tick u k a b c d made n r i j named h (m, p) = grind (arith, nat_tests, ticks)
 
   pub cleared_on : (es : List HostEvent) (rs : List Reply) (fl : Side → List ItemValue) (i j : WorldState) → OnCable x at fl i.links
       → TickOnceAmong (LeavesPorts at) s true true es → ArriveIn (length (fl t)) t x es → RunReplies gives i es rs j → M true true i
       → M false false j × Past t x at P 0 j
-  cleared_on es rs fl i j c h come run m = counted_on gives s t x at A kept_past comes_past own_past other_past es rs i j (length (fl t)) true true
-      h come run (m, record { flying = fl; on = c; items = beyond_first P (fl t) })
+  cleared_on es rs fl i j c h come run m = counted_on gives s t x at A kept_past comes_past
+      (λ k b. past_tick s k true b false b (own b)) (λ k a. past_tick (peer s) k a true a false (other a))
+      es rs i j (length (fl t)) true true h come run (m, record { flying = fl; on = c; items = beyond_first P (fl t) })

@@ -5,10 +5,10 @@ use Rattle.lagprogress.proofs.Claims.{IsNamed, Owes, Wakeful}
 use Rattle.lagprogress.proofs.Climbing.{PartnerInSync}
 use Rattle.lagprogress.proofs.EndFacts.{Along, CanSound, Learnt, activity, sounds_along, wait_of}
 use Rattle.lagprogress.proofs.HostRound.{all_ticked, holds_beside, known_in, none_ticked}
-use Rattle.lagprogress.proofs.HostStamps.{Took-it, same_items, stamped_between, stamped_tick, took_between, took_now, took_tick}
+use Rattle.lagprogress.proofs.HostStamps.{Took-it, stamped_between, stamped_tick, took_between, took_now, took_tick}
 use Rattle.lagprogress.proofs.HostTelling.{Extra, HasTold, OnWay, stays_on, turns}
 use Rattle.lagprogress.proofs.LateArriving.{late_heard}
-use Rattle.lagprogress.proofs.Linked.{Fits, Flying, Link, of_end}
+use Rattle.lagprogress.proofs.Linked.{Fits, Flying, Link, of_end, same_items}
 use Rattle.lagprogress.proofs.OneCable.{OnCable}
 use Rattle.lagprogress.proofs.OneRound.{Later, Nothing, Passes, beside_here, join, sounds_pass, ticked}
 use Rattle.lagprogress.proofs.Quieting.{PlayedBeside}
@@ -35,6 +35,14 @@ Flies at s j = (x : ℕ) × (fl : Side → List ItemValue) × OnCable x at fl j.
 abbrev pub Ahead : (Side → ℕ) → (Side → Lacpdu) → Side → Bool → ℕ → WorldState → Type 0
 Ahead at w s fast m j = ((2 ≤ m) × OfEach (AtPort (at s) (Sounds fast (m - 1))) (half s j).state.system_ports)
     ⊎ ((1 ≤ m) × Said at w s Whoever j × Flies at s j)
+
+-- what is so once the other end has heard an LACPDU of the end of s
+pub record Hears (d : ℕ) (at : Side → ℕ) (w : Side → Lacpdu) (k : Side → ℕ) (kept : Side → Bool) (c : Side → ℕ) (s : Side) (j : WorldState)
+    : Type 0 where
+  pub link : Link d at w (ticked c) (peer s) (Learnt d (w (peer (peer s))) (wait_of (w (peer s)) - 1)) j
+  pub wakes : Wakes at w s j
+  pub told : Said at w s PartnerInSync j
+  pub took : Took at k kept (peer s) j
 
 module _ (gives : Algorithms) (d : ℕ) (at : Side → ℕ) (w : Side → Lacpdu) (k : Side → ℕ) (kept : Side → Bool) (s : Side) (there : 1 ≤ d)
     (named : (activity (w s) ≡ true) ⊎ IsNamed (w (peer s))) where
@@ -68,27 +76,23 @@ module _ (gives : Algorithms) (d : ℕ) (at : Side → ℕ) (w : Side → Lacpdu
   said_of c X j (l, inr tells) = inr (l.index, l.flying, l.links, tells)
 
   module _ (c : Side → ℕ) (fits : Fits d w c) (then : Fits d w (ticked c)) where
-    -- what is so once the other end has heard one
-    abbrev pub Hears : WorldState → Type 0
-    Hears j = Link d at w (ticked c) (peer s) (Learnt d (w (peer (peer s))) (wait_of (w (peer s)) - 1)) j
-        × (Wakes at w s j × Said at w s PartnerInSync j) × Took at k kept (peer s) j
-
     woken : (x : Side) (Y : Machines → Type 0) (j : WorldState) → Link d at w c x Nothing j → Wakes at w s j
         → Link d at w (known_in c s true true) s (Wakeful (w s) (w (peer s))) j
     woken x Y j l wakes = none_ticked d at w c s s (Wakeful (w s) (w (peer s))) j (join d at w c x s (Wakeful (w s) (w (peer s))) j l wakes)
 
     of_told : (new : WorldState) → HasTold gives d at w s there named Counted (Took-it gives 1 at k kept (peer s)) extra (known_in c s false false)
-        (wait_of (w (peer s)) - 1) new → Hears new
-    of_told new ((l, o), e) = (
-      all_ticked d at w c s (peer s) (Learnt d (w (peer (peer s))) (wait_of (w (peer s)) - 1)) new l,
-      (of_end o.0 s (Wakeful (w s) (w (peer s))) (λ p rest timed a. a.1 refl), said_of (known_in c s false false) PartnerInSync new o),
-      e.1,
-    )
+        (wait_of (w (peer s)) - 1) new → Hears d at w k kept c s new
+    of_told new ((l, o), e) = record {
+      link = all_ticked d at w c s (peer s) (Learnt d (w (peer (peer s))) (wait_of (w (peer s)) - 1)) new l;
+      wakes = of_end o.0 s (Wakeful (w s) (w (peer s))) (λ p rest timed a. a.1 refl);
+      told = said_of (known_in c s false false) PartnerInSync new o;
+      took = e.1;
+    }
 
     -- a round in which the end may send: Z holds of it in the end, or an LACPDU is on the cable, or the other end has heard one
     pub late_passes : (X V Y Z : Machines → Type 0) → Passes X V Y Z (w s) (w (peer s)) (c s) (ticked c s) d → Along X (w s) (w (peer s)) (c s) d
         → (old new : WorldState) → Link d at w c s X old → Wakes at w s old → Counted old → PlayedBeside at OldArrive gives old new
-        → Link d at w (ticked c) s Z new ⊎ ((Wakes at w s new × Said at w s Whoever new × Flies at s new) ⊎ Hears new)
+        → Link d at w (ticked c) s Z new ⊎ ((Wakes at w s new × Said at w s Whoever new × Flies at s new) ⊎ Hears d at w k kept c s new)
     late_passes X V Y Z p before old new l wakes stamped h = elim (turns gives d at w s there named Counted (Took-it gives 1 at k kept (peer s)) extra
         c fits then X V Y Z p before old new l wakes h stamped) [
           | inl y ↦ inl (all_ticked d at w c s s Z new y.0.0)
@@ -102,7 +106,7 @@ module _ (gives : Algorithms) (d : ℕ) (at : Side → ℕ) (w : Side → Lacpdu
 
     -- what is on the cable comes
     pub late_flies : (x : Side) (old new : WorldState) → Link d at w c x Nothing old → Wakes at w s old → Counted old → Said at w s Whoever old
-        → Flies at s old → PlayedBeside at OldArrive gives old new → Hears new
+        → Flies at s old → PlayedBeside at OldArrive gives old new → Hears d at w k kept c s new
     late_flies x old new l wakes stamped said (y, fl, on, f) h =
         let o = on_way (known_in c s true true) Whoever old (woken x Nothing old l wakes) said in
         of_told new (late_heard gives d at w s there named Counted (Took-it gives 1 at k kept (peer s)) extra c fits then y old fl on new o
@@ -111,7 +115,7 @@ module _ (gives : Algorithms) (d : ℕ) (at : Side → ℕ) (w : Side → Lacpdu
     -- an LACPDU of the end of s is nearer, or the other end has heard one
     pub late_nears : (fast : Bool) (m : ℕ) (old new : WorldState) → CanSound (w s) (w (peer s)) fast (ticked c s)
         → CanSound (w s) (w (peer s)) fast (c s) → Link d at w c One Nothing old → Wakes at w s old → Counted old → Ahead at w s fast m old
-        → PlayedBeside at OldArrive gives old new → ((1 ≤ m - 1) × Ahead at w s fast (m - 1) new) ⊎ Hears new
+        → PlayedBeside at OldArrive gives old new → ((1 ≤ m - 1) × Ahead at w s fast (m - 1) new) ⊎ Hears d at w k kept c s new
     late_nears fast m old new can was l wakes stamped (inr (one, said, flies)) h = inr (late_flies One old new l wakes stamped said flies h)
     late_nears fast m old new can was l wakes stamped (inl (two, sounds)) h = elim (late_passes (Sounds fast (m - 1)) (Sounds fast (m - 1 - 1))
         (Sounds fast (m - 1 - 1)) (Later fast (m - 1 - 1)) (sounds_pass (w s) (w (peer s)) fast (c s) (ticked c s) d (m - 1) was can)

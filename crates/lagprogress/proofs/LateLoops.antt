@@ -1,12 +1,12 @@
 -- Which events are a late round.
 use Rattle.lagprogress.proofs.Common.{Bool, List, [], ap, false, inl, inr, length, refl, subst, suc, sym, true, zero, ℕ, ◌++◌, ◌∙◌, ◌∷◌, ◌≡◌}
-use Rattle.lagprogress.proofs.Common.{IsCabling, One, Side, peer, Reply, Algorithms, world_setup, ItemValue, WorldState, port_at, towards, HostEvent}
+use Rattle.lagprogress.proofs.Common.{IsCabling, One, Side, Two, Reply, Algorithms, world_setup, ItemValue, WorldState, port_at, towards, HostEvent}
 use Rattle.lagprogress.proofs.Common.{Clearing, HostRounds, IsHostRound, IsTickOf, NoneIsLeft, PlayedRounds, RunReplies, StepReplies, TickOnce}
 use Rattle.lagprogress.proofs.Common.{ArriveIn, HostRoundIsLateRound, HostRoundsAreLateRounds, OldArrive, NothingInFlight}
 use Rattle.lagprogress.proofs.EachRound.{clears_less, joins_kept, played_join}
 use Rattle.lagprogress.proofs.LateFlow.{flows, gain_at, stays_there}
 use Rattle.lagprogress.proofs.OneCable.{OnCable, cable, sent_frame, ticks, towards_there}
-use Rattle.lagprogress.proofs.Quieting.{leaves}
+use Rattle.lagprogress.proofs.Quieting.{leaves, replayed}
 use Rattle.lagprogress.proofs.Starting.{healthy_cable}
 
 -- a run in the end of which nothing is on the cable: what was on it has arrived
@@ -27,20 +27,19 @@ one_longer (y ∷ ys) x = ap (λ n. suc n) (one_longer ys x)
 
 module _ (gives : Algorithms) (t : Side) (x : ℕ) (at : Side → ℕ) (j : WorldState)
     (none : (fl : Side → List ItemValue) → OnCable x at fl j.links → fl t ≡ []) where
+  ticked : (e : HostEvent) (r : Reply) (i k : WorldState) (fl : Side → List ItemValue) (s : Side) → IsTickOf s e → StepReplies gives i e r k
+      → OnCable x at fl i.links → OnCable x at fl k.links
+  ticked e r i k fl s m step c =
+      subst (OnCable x at fl) (sym (ticks gives m.0 s r i k m.1 (subst (λ y. StepReplies gives i y r k) m.2 step)).links) c
+
   must_arrive : (es : List HostEvent) (rs : List Reply) (i : WorldState) (fl : Side → List ItemValue) (a b : Bool) → OnCable x at fl i.links
       → TickOnce One a b es → RunReplies gives i es rs j → ArriveIn (length (fl t)) t x es
   must_arrive [] [] i fl a b c h run =
       subst (λ xs. ArriveIn (length xs) t x []) (sym (none fl (subst (λ (y : WorldState). OnCable x at fl y.links) (sym run) c))) tt
   must_arrive (e ∷ es) (r ∷ rs) i fl a b c (inl (m, due, h)) run = arrive_later (length (fl t)) t x e es
-      (must_arrive es rs run.0 fl false b (ticked One m run.1) h run.2)
-    where
-      ticked : (s : Side) → IsTickOf s e → StepReplies gives i e r run.0 → OnCable x at fl run.0.links
-      ticked s m step = subst (OnCable x at fl) (sym (ticks gives m.0 s r i run.0 m.1 (subst (λ y. StepReplies gives i y r run.0) m.2 step)).links) c
+      (must_arrive es rs run.0 fl false b (ticked e r i run.0 fl One m run.1 c) h run.2)
   must_arrive (e ∷ es) (r ∷ rs) i fl a b c (inr (inl (m, due, h))) run = arrive_later (length (fl t)) t x e es
-      (must_arrive es rs run.0 fl a false (ticked (peer One) m run.1) h run.2)
-    where
-      ticked : (s : Side) → IsTickOf s e → StepReplies gives i e r run.0 → OnCable x at fl run.0.links
-      ticked s m step = subst (OnCable x at fl) (sym (ticks gives m.0 s r i run.0 m.1 (subst (λ y. StepReplies gives i y r run.0) m.2 step)).links) c
+      (must_arrive es rs run.0 fl a false (ticked e r i run.0 fl Two m run.1 c) h run.2)
   must_arrive (e ∷ es) (r ∷ rs) i fl a b c (inr (inr h)) run =
       let f = flows gives t x at fl r i run.0 c e (leaves at e h.0) run.1 in
       let same = stays_there x f.index at fl f.now i run.0 c f.on (joins_kept at gives i.links e r i run.0 (leaves at e h.0) run.1 refl) in
@@ -68,14 +67,7 @@ old_arrive gives old new cabling h s i l y = must_arrive gives s i (λ t. port_a
     h.events h.replies old (λ t. towards t l) true true (healthy_cable i l old cabling y) h.ticks h.acts
 
 pub host_round_is_late_round : (gives : Algorithms) → HostRoundIsLateRound gives
-host_round_is_late_round gives old new cabling h = record {
-  events = h.events;
-  replies = h.replies;
-  ticks = h.ticks;
-  acts = h.acts;
-  asked = h.asked;
-  empties = old_arrive gives old new cabling h;
-}
+host_round_is_late_round gives old new cabling h = replayed h h.ticks (old_arrive gives old new cabling h)
 
 -- rounds in which all arrives
 
@@ -88,14 +80,7 @@ rounds_emptied gives zero old new cabling h = h
 rounds_emptied gives (suc n) old new cabling h = (
   h.0,
   rounds_emptied gives n old h.0 cabling h.1,
-  record {
-    events = h.2.events;
-    replies = h.2.replies;
-    ticks = h.2.ticks;
-    acts = h.2.acts;
-    asked = h.2.asked;
-    empties = (old_arrive gives h.0 new (subst IsCabling (sym (played_join NoneIsLeft gives n old h.0 h.1)) cabling) h.2, h.2.empties);
-  },
+  replayed h.2 h.2.ticks (old_arrive gives h.0 new (subst IsCabling (sym (played_join NoneIsLeft gives n old h.0 h.1)) cabling) h.2, h.2.empties),
 )
 
 pub host_rounds_are_late_rounds : (gives : Algorithms) → HostRoundsAreLateRounds gives

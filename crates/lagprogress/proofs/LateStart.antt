@@ -6,9 +6,9 @@ use Rattle.lagprogress.proofs.Common.{OfEach, AtPort, ArriveIn, OldArrive, IsHea
 use Rattle.lagprogress.proofs.EndFacts.{Along, IsEnd, Suits, Synced, nothing_along}
 use Rattle.lagprogress.proofs.HostRound.{KeptBeside, between, fits_in, healthy_link, host_keeps, known_in, left, none_ticked, all_ticked, side_beside}
 use Rattle.lagprogress.proofs.HostRound.{own_holds, peer_holds, two_there}
-use Rattle.lagprogress.proofs.HostStamps.{same_items, stamped_between, stamped_tick}
+use Rattle.lagprogress.proofs.HostStamps.{stamped_between, stamped_tick}
 use Rattle.lagprogress.proofs.LateFlow.{Adds, Past, cleared_on, gain_at}
-use Rattle.lagprogress.proofs.Linked.{Fits, IsGood, Link, of_end, other_ports, peer_twice, push_there, told_good}
+use Rattle.lagprogress.proofs.Linked.{Fits, IsGood, Link, of_end, other_ports, peer_twice, push_there, told_good, same_items}
 use Rattle.lagprogress.proofs.OneCable.{Asks, IsStamped, OnCable, cable, sent_frame, towards_there}
 use Rattle.lagprogress.proofs.OneRound.{Nothing, ticked}
 use Rattle.lagprogress.proofs.Quieting.{PlayedBeside}

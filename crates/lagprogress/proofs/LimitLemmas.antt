@@ -1,14 +1,14 @@
 -- How the links of a bundle agree where one system has a limit of links.
 use Rattle.lagprogress.proofs.Common.{Bool, Err, IsSome, None, Ok, Option, Some, ap, arith, false, if◌then◌else◌, inl, inr, refl, slice_get, subst}
-use Rattle.lagprogress.proofs.Common.{suc, sym, true, ℕ, ◌∙◌, ◌≡◌, ◌⊎◌, cases_Bool, AggId, SystemId, Choice, Selected, Standby, Unselected, Party}
-use Rattle.lagprogress.proofs.Common.{is_selected, same_party, Lacpdu, party_of, One, Side, Two, end_at, peer, Setup, Machines, selected}
+use Rattle.lagprogress.proofs.Common.{suc, sym, true, ℕ, ◌∙◌, ◌≡◌, ◌≤◌, ◌⊎◌, cases_Bool, AggId, SystemId, Choice, Selected, Standby, Unselected}
+use Rattle.lagprogress.proofs.Common.{Party, is_selected, same_party, Lacpdu, party_of, One, Side, Two, end_at, peer, Setup, Machines, selected}
 use Rattle.lagprogress.proofs.Common.{default_partner, receive_rows, start_receive, RunsToRest, Starts, before_start, count_down, has_chosen, Answer}
 use Rattle.lagprogress.proofs.Common.{SystemPort, Call, Configure, ProcessesLacpdu, Receive, Restart, Set_link, SetsPortEnabled, Step, Tick, Transmit}
 use Rattle.lagprogress.proofs.Common.{changed_party, choice_with_link, SystemState, port_index, Step-frame, all-get, found_place, ports_rise, Same}
 use Rattle.lagprogress.proofs.Common.{agreement_at, Algorithms, IsWorldSound, LinkState, WorldState, half, port_at, end_is, StandsByFull}
 use Rattle.lagprogress.proofs.Common.{WantsAggregator, KeptByCall, KeptBySettling, OfEach, Step-each, first_each, place_each, settling_each, no}
-use Rattle.lagprogress.proofs.Common.{AtPort, at_number, mux_leaves, periodic_leaves, RowsKeep, runs_keep, takes_keep, BothAreActive, OneIsActive}
-use Rattle.lagprogress.proofs.Common.{LateRounds, OldArrive, EndKnows, Knows, AtEnd, IsHealthyAt, OfPort, up_if_both_active, up_if_one_is}
+use Rattle.lagprogress.proofs.Common.{AtPort, at_number, mux_leaves, periodic_leaves, RowsKeep, runs_keep, takes_keep, EndsOfEachKnow}
+use Rattle.lagprogress.proofs.Common.{SelectedPairsAgree, LateRounds, OldArrive, EndKnows, Knows, AtEnd, IsHealthyAt, OfPort}
 use Rattle.lagprogress.proofs.SharedLemmas.{played_lasted, shared_finds}
 use Rattle.lagprogress.proofs.EachRound.{played_join, played_on, played_steady, EachAt, RoundKeeps, host_each, played_keep}
 use Rattle.lagprogress.proofs.Lasting.{played_alike, played_before, all_by_place, ends_at, own_system, still_heard, still_links, Alike}
@@ -18,8 +18,6 @@ use Rattle.lagprogress.specs.Limited.{IsLimitedBundle, StandsByOthers}
 use Rattle.lagprogress.proofs.Bundling.{never_stands, heard_holds}
 use Rattle.lagprogress.proofs.Halves.{both_first}
 use Rattle.lagprogress.proofs.Starting.{end_of}
-use Rattle.lagprogress.proofs.Knowing.{active_ends_know, ends_know}
-use Rattle.lagprogress.proofs.Pairing.{active_selected_pairs_agree, selected_pairs_agree}
 use Rattle.lagsystem.specs.declared.drive.Reply.TheVariants as reply
 
 -- a port whose link is down stays UNSELECTED
@@ -233,16 +231,9 @@ module _ (Holds : LinkState → WorldState → Type 0) (t : Side) (gives : Algor
         (e.4.0, e.4.1, record { full = e.4.2; members = λ k x there chose. member e.4.0 k x there chose })))
   ]
 
-pub each_limited_link_agrees : (gives : Algorithms) → EachLimitedLinkAgrees LateRounds OneIsActive up_if_one_is gives
-each_limited_link_agrees gives n i l t old new sound b y enough h =
-    limited OneIsActive t gives n old new sound b h
-    (λ k m z s. ends_know gives n k m old new sound.cabling b.steady z (heard_holds OneIsActive old sound.cabling b.heard k m z)
-    (omega (arith, enough)) h s)
-    (λ k m z both. selected_pairs_agree gives n k m old new sound b.steady b.heard z enough h both) i l y
-
-pub each_active_limited_link_agrees : (gives : Algorithms) → EachLimitedLinkAgrees LateRounds BothAreActive up_if_both_active gives
-each_active_limited_link_agrees gives n i l t old new sound b y enough h =
-    limited BothAreActive t gives n old new sound b h
-    (λ k m z s. active_ends_know gives n k m old new sound.cabling b.steady z (heard_holds BothAreActive old sound.cabling b.heard k m z)
-    (omega (arith, enough)) h s)
-    (λ k m z both. active_selected_pairs_agree gives n k m old new sound b.steady b.heard z enough h both) i l y
+pub each_limited_link_agrees : (Holds : LinkState → WorldState → Type 0) (knowing least : ℕ) (gives : Algorithms)
+    → EndsOfEachKnow LateRounds Holds knowing gives → SelectedPairsAgree LateRounds Holds least gives → knowing ≤ least
+    → EachLimitedLinkAgrees LateRounds Holds least gives
+each_limited_link_agrees Holds knowing least gives know pairs sooner n i l t old new sound b y enough h = limited Holds t gives n old new sound b h
+    (λ k m z s. know n k m old new sound.cabling b.steady z (heard_holds Holds old sound.cabling b.heard k m z) (omega (arith, sooner, enough)) h s)
+    (λ k m z both. pairs n k m old new sound b.steady b.heard z enough h both) i l y

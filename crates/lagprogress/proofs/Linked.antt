@@ -7,15 +7,16 @@ use Rattle.lagprogress.proofs.Common.{SystemFault, Received, SystemPort, Call, C
 use Rattle.lagprogress.proofs.Common.{ReceivesAt, Step, ThenSettles, Transmit, configured_numbers, PeriodicIsSettled, IsLacpduOf, SendsMarkerOf}
 use Rattle.lagprogress.proofs.Common.{TransmitsAt, TransmitsIf, CallPromise, SystemState, machines_of, port_index, port_numbers, system_port_at}
 use Rattle.lagprogress.proofs.Common.{named, processes_or_stays, all-get, found_place, ports_rise, Event, Reply, Algorithms, WorldRuns, WorldSteps}
-use Rattle.lagprogress.proofs.Common.{side_of, ItemValue, WorldState, half, IsTimed, KeptBySettling, OfEach, Step-each, AtPort, at_number, calls_each}
-use Rattle.lagprogress.proofs.Common.{same_ports}
+use Rattle.lagprogress.proofs.Common.{side_of, ItemValue, WorldState, half, towards, IsTimed, KeptBySettling, OfEach, Step-each, AtPort, at_number}
+use Rattle.lagprogress.proofs.Common.{calls_each, same_ports}
 use Rattle.slowpdu.specs.declared.pdu.Pdu.TheVariants as pdu
 use Rattle.lagsystem.specs.declared.drive.Reply.TheVariants as answer
 use Rattle.lagsystem.specs.declared.received.Received.TheVariants as received
 use Rattle.lagscript.specs.declared.event.Event.TheVariants as event
 use Rattle.lagprogress.proofs.EndFacts.{said_bits, Along, IsEnd, Suits, activity, end_settles, wait_of}
 use Rattle.lagprogress.proofs.Halves.{AreTimely, each_is_calls, keeps_timely}
-use Rattle.lagprogress.proofs.OneCable.{Asks, Beside, Elsewhere, Gains, OnCable, asks, emits, emits_beside, push, push_each, put, sent_frame}
+use Rattle.lagprogress.proofs.OneCable.{Asks, Beside, Elsewhere, Gains, OnCable, asks, emits, emits_beside, push, push_each, put, sent_frame, alone}
+use Rattle.lagprogress.proofs.OneCable.{cable, port_there, towards_there}
 use Rattle.lagprogress.proofs.Passing.{carries_one, lacpdu_is_sent, marker_carries_none, receives_lacpdu, sent_carries}
 pub use Rattle.lagprogress.proofs.OneCable.{each_side}
 
@@ -135,22 +136,26 @@ own_suits p dl d v u c known a =
       ),
     )
 
+-- what a frame bears that a port sends
+pub sent_is : (up due : Bool) (i : ℕ) (z : SystemPort) (old : SystemState) (frame : List ℕ) (new : SystemState)
+    → TransmitsIf up due i z old (Some frame) new → (x : Lacpdu) → IsFrame frame (Carries (pdu.Lacpdu x)) → pdu_of z.port old.max_delay ≡ x
+sent_is false due i z old frame new h x k = absurd (none-some frame (sym h.0))
+sent_is true true i z old frame new h x k =
+    let is : frame ≡ h.0 = same_Some frame h.0 h.2 in
+    let sent = subst (IsLacpduOf old.max_delay z) (sym is) h.1 in
+    carries_one frame x (pdu_of z.port old.max_delay) k
+    (sent_carries frame (pdu.Lacpdu (pdu_of z.port old.max_delay)) (lacpdu_is_sent old.max_delay z frame sent))
+sent_is true false i z old frame new h x k = by_marker (marker_due old.table z.number) h
+  where
+    by_marker : (o : Option ℕ) → SendsMarkerOf o z.number z.mac old (Some frame) new → pdu_of z.port old.max_delay ≡ x
+    by_marker None m = absurd (none-some frame (sym m.0))
+    by_marker (Some id) m = absurd (marker_carries_none frame x _ k (z.mac, m.0, m.1, m.2, same_Some frame _ m.3))
+
 sent_good : (d : ℕ) (v u : Lacpdu) (c : ℕ) (up due : Bool) (i : ℕ) (z : SystemPort) (old : SystemState) (frame : List ℕ)
     (new : SystemState) → (2 ≤ d → 1 ≤ c) → IsEnd d v u c z.port → TransmitsIf up due i z old (Some frame) new
     → (x : Lacpdu) → IsFrame frame (Carries (pdu.Lacpdu x)) → Suits d u v x
-sent_good d v u c false due i z old frame new known a h x k = absurd (none-some frame (sym h.0))
-sent_good d v u c true true i z old frame new known a h x k =
-    let is : frame ≡ h.0 = same_Some frame h.0 h.2 in
-    let sent = subst (IsLacpduOf old.max_delay z) (sym is) h.1 in
-    let one : pdu_of z.port old.max_delay ≡ x = carries_one frame x (pdu_of z.port old.max_delay) k
-    (sent_carries frame (pdu.Lacpdu (pdu_of z.port old.max_delay)) (lacpdu_is_sent old.max_delay z frame sent)) in
-    subst (Suits d u v) one (own_suits z.port old.max_delay d v u c known a)
-sent_good d v u c true false i z old frame new known a h x k = by_marker (marker_due old.table z.number) h
-  where
-    by_marker : (o : Option ℕ) → SendsMarkerOf o z.number z.mac old (Some frame) new → Suits d u v x
-    by_marker None m = absurd (none-some frame (sym m.0))
-    by_marker (Some id) m =
-        absurd (marker_carries_none frame x _ k (z.mac, m.0, m.1, m.2, same_Some frame _ m.3))
+sent_good d v u c up due i z old frame new known a h x k =
+    subst (Suits d u v) (sent_is up due i z old frame new h x k) (own_suits z.port old.max_delay d v u c known a)
 
 -- an arrival
 
@@ -247,6 +252,19 @@ with_ports l ports = record {
   ports = ports;
 }
 
+-- what is on one cable
+pub same_items : (i k : ℕ) (at : Side → ℕ) (fl now : Side → List ItemValue) (j : WorldState) → OnCable i at fl j.links → OnCable k at now j.links
+    → (t : Side) → now t ≡ fl t
+same_items i k at fl now j c e t =
+    let place : k ≡ i = alone t i k at fl j.links (cable at now) c e.there (port_there t at now) in
+    let is : cable at now ≡ cable at fl = same_Some (cable at now) (cable at fl) (sym e.there ∙ (ap (slice_get j.links) place ∙ c.there)) in
+    sym (towards_there t at now) ∙ (ap (towards t) is ∙ towards_there t at fl)
+
+-- so it is of two links
+module _ {d e : ℕ} {at : Side → ℕ} {w v : Side → Lacpdu} {c b : Side → ℕ} {x y : Side} {Y Z : Machines → Type 0} {j : WorldState} where
+  pub same_flying : (l : Link d at w c x Y j) → (k : Link e at v b y Z j) → (t : Side) → k.flying t ≡ l.flying t
+  same_flying l k t = same_items l.index k.index at l.flying k.flying j l.links k.links t
+
 -- what follows of the port at an end
 pub of_end : {d : ℕ} {at : Side → ℕ} {w : Side → Lacpdu} {c : Side → ℕ} {x : Side} {Y : Machines → Type 0} {j : WorldState}
     (l : Link d at w c x Y j) (s : Side) (P : Machines → Type 0)
@@ -325,10 +343,7 @@ end_kept w c d x Y k s n = end_settles (λ p. s ≡ x → Y p) (w s) (w (peer s)
 -- what goes out leaves what is on its way
 pub gains_has : (s : Side) (P : ItemValue → Type 0) (o : Option (List ℕ)) (fl now : Side → List ItemValue) → Gains s o fl now
     → (t : Side) → Has P (fl t) → Has P (now t)
-gains_has s P None fl now h t f = subst (λ (g : Side → List ItemValue). Has P (g t)) (sym h) f
-gains_has s P (Some frame) fl now h t f =
-    subst (λ (g : Side → List ItemValue). Has P (g t)) (sym h.2)
-    (pushed (λ u xs. Has P (fl u) → Has P xs) (peer s) h.0 fl (λ g y. has_on P (fl (peer s)) (h.0 ∷ []) (g y)) (λ u y. y) t f)
+gains_has s P o fl now h t f = grind (arith, nat_tests, has_on, push_there, push_other)
 
 -- all items on the cable are good
 abbrev pub AllGood : ℕ → (Side → Lacpdu) → (Side → List ItemValue) → Type 0

@@ -3,13 +3,13 @@ use Rattle.lagprogress.proofs.Common.{List, None, Option, Some, [], ap, arith, i
 use Rattle.lagprogress.proofs.Common.{sym, true, zero, ℕ, ◌++◌, ◌+◌, ◌<◌, ◌∙◌, ◌∷◌, ◌≡◌, ◌≤◌, false≢true, same_Some, slice_get_within, AllByRecursion}
 use Rattle.lagprogress.proofs.Common.{all-append, One, Side, Two, WorldSetup, end_at, Event, WorldFault, Reply, Algorithms, WorldRuns, WorldSteps}
 use Rattle.lagprogress.proofs.Common.{cause, cause_or_no_memory, has_system, world_setup, ends_of_cable, ports_joined, LinkState, WorldState, port_at}
-use Rattle.lagprogress.proofs.Common.{end_is, Plays, AsksInVain, DrainingRounds, IsDrainingRound, IsNoMoveOf, sent_nothing, IsBetweenTicks, as_played}
-use Rattle.lagprogress.proofs.Common.{Delivers, IsOutOfMemoryOrSpent, RefusesDelivery, RunsAll, AsksEnds, AsksOrDelivers, AsksPort, DeliversAndAsks}
-use Rattle.lagprogress.proofs.Common.{EmptiesCables, PlaysBetween, PlaysHostPart, PlaysHostRound, PlaysHostRounds, StopsBetween, IsDeliver}
-use Rattle.lagprogress.proofs.Common.{ticks_of_both, IsSteady}
+use Rattle.lagprogress.proofs.Common.{end_is, Plays, AsksInVain, DrainingRounds, IsDrainingRound, IsNoMoveOf, sent_nothing, IsBetweenTicks}
+use Rattle.lagprogress.proofs.Common.{NoneIsLeft, as_played, Delivers, IsOutOfMemoryOrSpent, RefusesDelivery, RunsAll, AsksEnds, AsksOrDelivers}
+use Rattle.lagprogress.proofs.Common.{AsksPort, DeliversAndAsks, EmptiesCables, PlaysBetween, PlaysHostPart, PlaysHostRound, PlaysHostRounds}
+use Rattle.lagprogress.proofs.Common.{StopsBetween, IsDeliver, ticks_of_both, IsSteady}
 use Rattle.lagprogress.proofs.HostLoops.{asking_in_vain_is_draining, both_tick, draining_are_host, vain_after_ticks}
 use Rattle.std.specs.Prelude.{map}
-use Rattle.lagprogress.proofs.EachRound.{hosts_steady}
+use Rattle.lagprogress.proofs.EachRound.{played_steady}
 use Rattle.lagprogress.proofs.Linked.{each_side}
 use Rattle.lagprogress.proofs.Played.{as_many, some_within, below_or_same, cable_at, refused_event, runs_append}
 use Rattle.lagscript.specs.declared.event.Event.TheVariants as event
@@ -269,4 +269,4 @@ one_draining_round_more gives n old mid new h x steady s g k =
     let e : suc n ≡ n + 1 = omega arith in
     let before = h steady s g k in
     subst (λ m. DrainingRounds s g k gives m old new) e
-    (mid, before, x (hosts_steady gives n old mid steady (draining_are_host gives s g k n old mid before)) s g k)
+    (mid, before, x (played_steady NoneIsLeft gives n old mid steady (draining_are_host gives s g k n old mid before)) s g k)

@@ -1,16 +1,15 @@
 -- A world that events lead to from one that was made is a bundle, if its links are up as it wants them.
-use Rattle.lagprogress.proofs.Common.{Bool, List, None, Option, Some, [], ap, arith, false, if◌then◌else◌, map, refl, subst, suc, sym, true, zero, ℕ}
-use Rattle.lagprogress.proofs.Common.{◌++◌, ◌+◌, ◌-◌, ◌∙◌, ◌∷◌, ◌≡◌, nat_tests, none-some, SystemId, same_system, system-itself, One, Side, Two}
-use Rattle.lagprogress.proofs.Common.{WorldSetup, Config, config_value, or_first, Event, Reply, Algorithms, WorldRuns, AreFirst, IsStart, LinkState}
-use Rattle.lagprogress.proofs.Common.{WorldState, half, start_sound, Plays, hosts_keep_headline, no, EachLinkAgrees, EachLinkComesUp}
-use Rattle.lagprogress.proofs.Common.{HostReachedIsBundle, IsBundle, ReachedIsApart, ReachedIsBundle, SystemsDiffer, CarriersAreUp, NothingIsHeld}
-use Rattle.lagprogress.proofs.Common.{DrainingRounds, NothingIsHeldByHosts, HostRounds, LateRounds, EachAgrees, EachDistributes, IsReached, IsReady}
-use Rattle.lagprogress.proofs.Common.{LeadsTo, NothingStaysHeld, Rounds, IsSteady}
+use Rattle.lagprogress.proofs.Common.{Bool, List, None, Option, Some, ap, arith, false, if◌then◌else◌, map, refl, subst, suc, sym, true, zero, ℕ}
+use Rattle.lagprogress.proofs.Common.{◌++◌, ◌+◌, ◌-◌, ◌∙◌, ◌∷◌, ◌≡◌, nat_tests, none-some, SystemId, system-itself, One, Side, Two, WorldSetup}
+use Rattle.lagprogress.proofs.Common.{Config, config_value, or_first, Event, Reply, Algorithms, WorldRuns, AreFirst, IsStart, LinkState, WorldState}
+use Rattle.lagprogress.proofs.Common.{half, start_sound, Plays, hosts_keep_headline, no, EachLinkAgrees, EachLinkComesUp, HostReachedIsBundle}
+use Rattle.lagprogress.proofs.Common.{IsBundle, ReachedIsApart, ReachedIsBundle, SystemsDiffer, CarriersAreUp, NothingIsHeld, DrainingRounds}
+use Rattle.lagprogress.proofs.Common.{NothingIsHeldByHosts, HostRounds, LateRounds, EachAgrees, EachDistributes, IsReached, IsReady, LeadsTo}
+use Rattle.lagprogress.proofs.Common.{NothingStaysHeld, Rounds, IsSteady}
+use Rattle.lagworld.specs.Sound.{IsSound}
 use Rattle.lagprogress.proofs.Looping.{RunsEvents}
-use Rattle.lagscript.specs.declared.config.BadWorld.TheVariants.{SameSystem}
 use Rattle.cables.specs.declared.item.Item.{Item}
 use Rattle.lagscript.specs.Configs.{refusal_of_all}
-use Rattle.lagworld.specs.Sound.{IsSound}
 use Rattle.lagprogress.proofs.LateLoops.{host_rounds_are_late_rounds}
 use Rattle.lagprogress.proofs.Carrying.{host_reached_has_carriers_up}
 use Rattle.lagprogress.proofs.Unchanged.{events_keep}
@@ -29,12 +28,7 @@ when_none false x e = refl
 
 start_differs : (configs : List Config) (cables : List (ℕ × ℕ)) (j : WorldState) → refusal_of_all (map config_value configs) cables ≡ None
     → AreFirst configs j → SystemsDiffer j
-start_differs (a ∷ b ∷ []) cables j h f = λ same.
-    (let apart : same_system a.system b.system ≡ false = when_none (same_system a.system b.system) SameSystem
-    (first_none _ _ (first_none _ _ (first_none _ _ h).1).1).0 in
-    let one : a.system ≡ b.system = sym f.0.configured.system ∙ (same ∙ f.1.configured.system) in
-    no (sym apart ∙ (ap (λ x. same_system x b.system) one ∙ system-itself b.system)))
-start_differs configs cables j h f = absurd f
+start_differs configs cables j hyp1 hyp2 = grind (arith, nat_tests, false, when_none, first_none, no, system-itself)
 
 pub reached_apart : (gives : Algorithms) → ReachedIsApart gives
 reached_apart gives config es rs start new accepted first runs =
@@ -43,18 +37,7 @@ reached_apart gives config es rs start new accepted first runs =
     λ same. start_differs config.systems config.cables.items start accepted first (sym (fixed One) ∙ (same ∙ fixed Two))
 
 pub reached_is_bundle : (Holds : LinkState → WorldState → Type 0) (gives : Algorithms) → ReachedIsBundle Holds gives
-reached_is_bundle Holds gives config es rs start new accepted i first runs few heard aggregators links =
-    let both = reached_steady gives config.systems es rs start new i first runs few in (
-      both.0,
-      record {
-        steady = both.1;
-        cabling = both.0.cabling;
-        differ = reached_apart gives config es rs start new accepted first runs;
-        heard = heard;
-        aggregators = aggregators;
-        links = links;
-      },
-    )
+reached_is_bundle Holds gives = grind (arith, nat_tests, reached_steady, reached_apart)
 
 -- and where hosts make any calls and settings
 pub host_reached_is_bundle : (Holds : LinkState → WorldState → Type 0) (gives : Algorithms) → HostReachedIsBundle Holds gives

@@ -3,15 +3,14 @@ use Rattle.lagprogress.proofs.Common.{List, Some, [], ap, arith, map, refl, slic
 use Rattle.lagprogress.proofs.Common.{Lacpdu, One, Side, peer, Machines, receive_rows, count_down, Data_frame, IsFrame, SystemState, Reply}
 use Rattle.lagprogress.proofs.Common.{Algorithms, WorldSteps, side_of, link_ends, ItemValue, LinkState, WorldState, accepts_at, half, is_accepted}
 use Rattle.lagprogress.proofs.Common.{link_at, port_at, put_on_port, put_ends, OfEach, AtPort, runs_keep, takes_keep, Arrives}
-use Rattle.lagprogress.proofs.Common.{DisabledAreUnsynchronized, EachFrameArrivesByHosts, GetsPort, SometimePlayed, TakesFrame, BothAreActive}
-use Rattle.lagprogress.proofs.Common.{EndsHealthyCable, IsBundle, OneIsActive, IsHostRound, LateRounds, OldArrive, NothingInFlight, up_if_both_active}
-use Rattle.lagprogress.proofs.Common.{up_if_one_is}
+use Rattle.lagprogress.proofs.Common.{DisabledAreUnsynchronized, EachFrameArrivesByHosts, GetsPort, SometimePlayed, TakesFrame, EndsHealthyCable}
+use Rattle.lagprogress.proofs.Common.{IsBundle, IsHostRound, LateRounds, OldArrive, NothingInFlight}
 use Rattle.lagprogress.proofs.EachRound.{played_join, played_on, played_steady, EachAt, RoundKeeps, same_index, host_each}
 use Rattle.lagprogress.proofs.Lasting.{played_before, all_by_place, still_heard}
 use Rattle.lagprogress.proofs.Knowing.{fits_fresh, fits_before}
 use Rattle.lagprogress.proofs.LateStart.{counts_of, kept_of}
 use Rattle.lagprogress.proofs.ArrivingLemmas.{is_data, offer_gets_port}
-use Rattle.lagprogress.proofs.Bundling.{Meets, Nowhere, awake_of, both_active, one_active, said, ups_of, named_of}
+use Rattle.lagprogress.proofs.Bundling.{Meets, Nowhere, awake_of, said, ups_of, named_of}
 use Rattle.lagprogress.proofs.Carrying.{Lapses, LapsesAt, distributes_up, lapse_settles, receive_lapses}
 use Rattle.lagprogress.proofs.Climbing.{PartnerInSync}
 use Rattle.lagprogress.proofs.FlyingLemmas.{OnItsWay, in_run}
@@ -127,12 +126,7 @@ module _ (Holds : LinkState → WorldState → Type 0) (first : ℕ) (gives : Al
             q.events q.replies sent new q.ticks q.acts q.empties o.0 way;
       }
 
-pub each_frame_arrives_by_hosts : (gives : Algorithms) → EachFrameArrivesByHosts OneIsActive up_if_one_is gives
-each_frame_arrives_by_hosts gives n number s agg octets r old mid sent new b quiet enough h none named takes step q =
-    arrives OneIsActive 624 gives old b (one_active gives old b) n number s agg octets r mid sent new quiet (omega (arith, enough)) h none
-    named takes step q
-
-pub each_active_frame_arrives_by_hosts : (gives : Algorithms) → EachFrameArrivesByHosts BothAreActive up_if_both_active gives
-each_active_frame_arrives_by_hosts gives n number s agg octets r old mid sent new b quiet enough h none named takes step q =
-    arrives BothAreActive 323 gives old b (both_active gives old b) n number s agg octets r mid sent new quiet (omega (arith, enough)) h none
-    named takes step q
+pub each_frame_arrives_by_hosts : (Holds : LinkState → WorldState → Type 0) (first : ℕ) (gives : Algorithms)
+    → ((old : WorldState) → IsBundle Holds old → Meets Holds first gives old) → EachFrameArrivesByHosts Holds (first + 33) gives
+each_frame_arrives_by_hosts Holds first gives meets n number s agg octets r old mid sent new b quiet enough h none named takes step q =
+    arrives Holds first gives old b (meets old b) n number s agg octets r mid sent new quiet enough h none named takes step q

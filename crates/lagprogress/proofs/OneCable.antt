@@ -1,15 +1,15 @@
 -- What ticks, Emit and Deliver events do to a cable that is whole and has no limit, and what they leave to itself.
 use Rattle.lagprogress.proofs.Common.{Bool, Err, List, None, Ok, Option, Result, Some, [], ap, arith, cond, get_or, inl, inr, length, map, nat_lt}
-use Rattle.lagprogress.proofs.Common.{not, option_map, position, refl, slice_get, slice_set, subst, suc, sym, true, zero, ℕ, ◌++◌, ◌<◌, ◌==◌, ◌∙◌}
-use Rattle.lagprogress.proofs.Common.{◌∷◌, ◌≡◌, ◌⊎◌, cases_Bool, false≢true, nat_tests, position-Some, same_Some, slice_get-get_or, slice_get_within}
+use Rattle.lagprogress.proofs.Common.{not, option_map, position, refl, slice_get, slice_set, subst, suc, sym, true, ℕ, ◌++◌, ◌<◌, ◌==◌, ◌∙◌, ◌∷◌, ◌≡◌}
+use Rattle.lagprogress.proofs.Common.{◌⊎◌, cases_Bool, false≢true, nat_tests, position-Some, same_Some, slice_get-get_or, slice_get_within}
 use Rattle.lagprogress.proofs.Common.{AllByRecursion, position_or_len, itself, Lacpdu, pdu_in, all-append, IsCabling, One, Side, Two, end_at, peer}
 use Rattle.lagprogress.proofs.Common.{value_of, Stamp, Answer, SystemFault, Received, Call, Carries, IsFrame, Receive, Step, Tick, Transmit}
-use Rattle.lagprogress.proofs.Common.{CallPromise, SystemState, PortHistory, Reply, AfterReceive, AfterTransmit, Algorithms, DeliversFrom, OnLink}
-use Rattle.lagprogress.proofs.Common.{WorldEmits, WorldReceives, WorldSteps, set_last_lacpdu, side_of, stamp_for, stamped_in, with_link_at}
-use Rattle.lagprogress.proofs.Common.{with_stamp_collected, HalfTicks, payload_in, stamp_count, link_ends, HalfState, ItemValue, LinkState}
-use Rattle.lagprogress.proofs.Common.{WorldState, accepts, change_count_in, change_link, half, history_at, limit_towards, link_at, link_index}
-use Rattle.lagprogress.proofs.Common.{port_at, put_on_port, sent_on, towards, with_half, with_links, with_towards, read_log, end_is, mapped_set}
-use Rattle.lagprogress.proofs.Common.{put_ends, set_elsewhere, set_here, half_there, position_there}
+use Rattle.lagprogress.proofs.Common.{CallPromise, SystemState, PortHistory, Reply, AfterReceive, AfterTransmit, Algorithms, DeliversFrom, WorldEmits}
+use Rattle.lagprogress.proofs.Common.{WorldReceives, WorldSteps, set_last_lacpdu, side_of, stamp_for, stamped_in, with_link_at, with_stamp_collected}
+use Rattle.lagprogress.proofs.Common.{payload_in, stamp_count, link_ends, HalfState, ItemValue, LinkState, WorldState, accepts, change_count_in}
+use Rattle.lagprogress.proofs.Common.{change_link, half, history_at, limit_towards, link_at, link_index, port_at, put_on_port, sent_on, towards}
+use Rattle.lagprogress.proofs.Common.{with_half, with_links, with_towards, read_log, end_is, mapped_set, put_ends, set_elsewhere, set_here}
+use Rattle.lagprogress.proofs.Common.{half_there, position_there}
 use Rattle.lagsystem.specs.declared.drive.Reply.TheVariants as answer
 use Rattle.lagsystem.specs.declared.received.Received.TheVariants as received
 use Rattle.lagscript.specs.declared.event.Event.TheVariants as event
@@ -51,8 +51,7 @@ as_cable l whole none = λ i. record {
 }
 
 pub port_there : (s : Side) (at : Side → ℕ) (fl : Side → List ItemValue) → port_at s (cable at fl) ≡ at s
-port_there One at fl = refl
-port_there Two at fl = refl
+port_there s at fl = grind (arith, nat_tests)
 
 -- no port has two cables, and the one at this index is that cable
 pub record OnCable (i : ℕ) (at : Side → ℕ) (fl : Side → List ItemValue) (links : List LinkState) : Type 0 where
@@ -93,18 +92,12 @@ placed s i at fl links c =
 -- the cable with other items
 pub on_set : (i : ℕ) (at : Side → ℕ) (fl now : Side → List ItemValue) (links : List LinkState) → OnCable i at fl links
     → OnCable i at now (slice_set links i (cable at now))
-on_set i at fl now links c = record {
-  there = set_here links i (cable at now) (cable at fl) c.there;
-  cabling = subst IsCabling (sym (mapped_set link_ends links i (cable at now) (cable at fl) c.there refl)) c.cabling;
-}
+on_set i at fl now links hyp1 = grind (arith, nat_tests, set_here, mapped_set)
 
 -- another cable with other items
 pub set_beside : (i k : ℕ) (at : Side → ℕ) (fl : Side → List ItemValue) (links : List LinkState) (l m : LinkState) → OnCable i at fl links
     → slice_get links k ≡ Some l → (k ≡ i → ⊥) → link_ends m ≡ link_ends l → OnCable i at fl (slice_set links k m)
-set_beside i k at fl links l m c h not e = record {
-  there = set_elsewhere links k i m (λ f. not (sym f)) ∙ c.there;
-  cabling = subst IsCabling (sym (mapped_set link_ends links k m l h e)) c.cabling;
-}
+set_beside i k at fl links l m hyp1 hyp2 hyp3 hyp4 = grind (arith, nat_tests, set_elsewhere, not, mapped_set)
 
 -- an item that is put on the cable of another port
 pub put_beside : (s : Side) (p i : ℕ) (at : Side → ℕ) (fl : Side → List ItemValue) (item : ItemValue) (links : List LinkState)
@@ -150,8 +143,7 @@ with_put s p None links = links
 with_put s p (Some item) links = put_on_port s p item links
 
 with_put_ends : (s : Side) (p : ℕ) (o : Option ItemValue) (links : List LinkState) → map link_ends (with_put s p o links) ≡ map link_ends links
-with_put_ends s p None links = refl
-with_put_ends s p (Some item) links = put_ends s p item links
+with_put_ends s p o links = grind (arith, nat_tests, put_ends)
 
 beside_put : (s : Side) (p i : ℕ) (at : Side → ℕ) (fl : Side → List ItemValue) (o : Option ItemValue) (links : List LinkState)
     → (at s ≡ p → ⊥) → OnCable i at fl links → OnCable i at fl (with_put s p o links)
@@ -191,10 +183,7 @@ IsStamped n item = (x : Lacpdu) → IsFrame item.octets (Carries (pdu.Lacpdu x))
 
 pub push_each : (P : Side → ItemValue → Type 0) (s : Side) (item : ItemValue) (fl : Side → List ItemValue) → P s item
     → ((t : Side) → AllByRecursion (P t) (fl t)) → (t : Side) → AllByRecursion (P t) (push s item fl t)
-push_each P One item fl h a One = all-append (P One) (fl One) (item ∷ []) (a One) (h, tt)
-push_each P One item fl h a Two = a Two
-push_each P Two item fl h a One = a One
-push_each P Two item fl h a Two = all-append (P Two) (fl Two) (item ∷ []) (a Two) (h, tt)
+push_each P s item fl h a t = grind (arith, nat_tests, all-append)
 
 abbrev Stamping : Side → ℕ → List PortHistory → (Side → List ItemValue) → (Side → List ItemValue) → Type 0
 Stamping s p logs fl now = (now ≡ fl)
@@ -211,10 +200,7 @@ stamping s p logs (Some frame) fl = inr (
 
 pub half_logs : (s : Side) (h : HalfState) (j : WorldState) → h.histories ≡ (half s j).histories
     → (t : Side) → (half t (with_half s h j)).histories ≡ (half t j).histories
-half_logs One h j e One = e
-half_logs One h j e Two = refl
-half_logs Two h j e One = refl
-half_logs Two h j e Two = e
+half_logs s h j e t = grind (arith, nat_tests)
 
 -- system s was asked for a frame of port p
 pub record Emits (gives : Algorithms) (s : Side) (p : ℕ) (old new : WorldState) : Type 0 where
@@ -227,27 +213,11 @@ pub record Emits (gives : Algorithms) (s : Side) (p : ℕ) (old new : WorldState
 
 after_transmit : (s : Side) (p : ℕ) (a : Result (Option (List ℕ)) SystemFault) (j new : WorldState) (r : Reply) → AfterTransmit s p a j r new
     → new ≡ with_links j (with_put s p (option_map (sent_item p (half s j).histories) (sent_frame a)) j.links)
-after_transmit s p (Err fault) j new r x = x.1
-after_transmit s p (Ok None) j new r x = x.1
-after_transmit s p (Ok (Some frame)) j new r x = x.1
+after_transmit s p a j new r x = grind (arith, nat_tests)
 
 emitted : (gives : Algorithms) (s : Side) (p : ℕ) (r : Reply) (old new : WorldState)
     → WorldEmits gives s p old r (record new { acted = old.acted }) → Emits gives s p old new
-emitted gives s p r old new (a, mid, h, x) =
-    let log : mid.histories ≡ (half s old).histories = ap (λ (m : HalfState). m.histories) h.same in
-    let is = after_transmit s p a (with_half s mid old) (record new { acted = old.acted }) r x in
-    let item : List PortHistory → Option ItemValue = λ logs. option_map (sent_item p logs) (sent_frame a) in
-    let links : new.links ≡ with_put s p (item (half s old).histories) old.links = ap (λ (j : WorldState). j.links) is
-    ∙ ap (λ logs. with_put s p (item logs) old.links) (ap (λ (k : HalfState). k.histories) (half_there s mid old) ∙ log) in
-    record {
-      a = a;
-      promise = subst (CallPromise (gives s) (half s old).state (Transmit p) (answer.Transmit a))
-          (sym (ap (λ (j : WorldState). (half s j).state) is ∙ ap (λ (k : HalfState). k.state) (half_there s mid old))) h.answers;
-      peers = ap (λ (j : WorldState). (half (peer s) j).state) is ∙ peer_there s mid old;
-      links = links;
-      ends = ap (map link_ends) links ∙ with_put_ends s p (item (half s old).histories) old.links;
-      logs = λ t. ap (λ (j : WorldState). (half t j).histories) is ∙ half_logs s mid old log t;
-    }
+emitted gives s p r old new (a, mid, h, x) = grind (arith, nat_tests, after_transmit, half_there, peer_there, half_logs, with_put_ends)
 
 pub emits : (gives : Algorithms) (n p : ℕ) (r : Reply) (old new : WorldState) → WorldSteps gives old (event.Emit n p) r new
     → (s : Side) × (side_of n ≡ Some s) × Emits gives s p old new
@@ -355,8 +325,7 @@ without : (s : Side) (at : Side → ℕ) (fl : Side → List ItemValue) (rest : 
 without s at fl rest = grind (arith, nat_tests)
 
 pub towards_there : (s : Side) (at : Side → ℕ) (fl : Side → List ItemValue) → towards s (cable at fl) ≡ fl s
-towards_there One at fl = refl
-towards_there Two at fl = refl
+towards_there s at fl = grind (arith, nat_tests)
 
 -- the first item towards system s on the cable at index k came to its port
 pub record Comes (gives : Algorithms) (s : Side) (k : ℕ) (l : LinkState) (old new : WorldState) : Type 0 where
@@ -378,11 +347,7 @@ came gives s k l item rest r old new first (a, mid, h, x) = grind (arith, nat_te
 
 pub came_from : (gives : Algorithms) (s : Side) (k : ℕ) (l : LinkState) (xs : List ItemValue) (r : Reply) (old new : WorldState)
     → towards s l ≡ xs → DeliversFrom gives s k l xs old r (record new { acted = old.acted }) → Comes gives s k l old new ⊎ Stays old new
-came_from gives s k l [] r old new first x = inr (record {
-  halves = λ t. ap (λ (j : WorldState). (half t j).state) x.1;
-  logs = λ t. ap (λ (j : WorldState). (half t j).histories) x.1;
-  links = ap (λ (j : WorldState). j.links) x.1;
-})
+came_from gives s k l [] r old new first x = grind (arith, nat_tests)
 came_from gives s k l (item ∷ rest) r old new first x = inl (came gives s k l item rest r old new first x)
 
 -- a Deliver event takes the first item off some cable, or there is none
@@ -397,28 +362,12 @@ pub record CameOff (gives : Algorithms) (c n : ℕ) (old new : WorldState) : Typ
 
 pub came_off : (gives : Algorithms) (c n : ℕ) (r : Reply) (old new : WorldState) → WorldSteps gives old (event.Deliver c n) r new
     → CameOff gives c n old new ⊎ Stays old new
-came_off gives c n r old new h = let v = value_of (side_of n) _ h.0 in by_number c v.0 v.1 v.2
-  where
-    by_number : (c : ℕ) (s : Side) → side_of n ≡ Some s
-        → OnLink c (λ i l. DeliversFrom gives s i l (towards s l) old r (record new { acted = old.acted })) old.links
-        → CameOff gives c n old new ⊎ Stays old new
-    by_number zero s named on = absurd on
-    by_number (suc k) s named on =
-        let m = value_of (slice_get old.links k) _ on in
-        elim (came_from gives s k m.0 (towards s m.0) r old new refl m.2) [
-          | inl comes ↦ inl (record { side = s; named = named; index = k; numbered = refl; link = m.0; there = m.1; comes = comes })
-          | inr stays ↦ inr stays
-        ]
+came_off gives c n r old new hyp1 = grind (arith, nat_tests, value_of, slice_get, came_from)
 
 -- it leaves the ports that the cables join
 pub deliver_ends : (gives : Algorithms) (c n : ℕ) (r : Reply) (old new : WorldState) → WorldSteps gives old (event.Deliver c n) r new
     → map link_ends new.links ≡ map link_ends old.links
-deliver_ends gives c n r old new h = elim (came_off gives c n r old new h) [
-  | inl m ↦ ap (map link_ends) m.comes.sends
-      ∙ (with_put_ends m.side (port_at m.side m.link) (option_map as_response (response m.comes.a)) _
-      ∙ mapped_set link_ends old.links m.index (with_towards m.side m.comes.rest m.link) m.link m.there refl)
-  | inr m ↦ ap (map link_ends) m.links
-]
+deliver_ends gives c n r old new hyp1 = grind (arith, nat_tests, came_off, map, with_put_ends, option_map, mapped_set)
 
 -- an event of a port leaves the others
 
@@ -492,12 +441,7 @@ passed_by gives s i k at fl l old new c there not m =
 
 pub stays_beside : (gives : Algorithms) (i : ℕ) (at : Side → ℕ) (fl : Side → List ItemValue) (old new : WorldState) → OnCable i at fl old.links
     → Stays old new → Beside gives at fl old new
-stays_beside gives i at fl old new c m = record {
-  index = i;
-  links = subst (OnCable i at fl) (sym m.links) c;
-  calls = λ s. inl (m.halves s);
-  logs = λ s. ap (λ g. history_at g (at s)) (m.logs s);
-}
+stays_beside gives i at fl old new hyp1 hyp2 = grind (arith, nat_tests)
 
 -- a Deliver event brings the first item of the cable, or leaves the cable to itself
 pub delivers : (gives : Algorithms) (c n i : ℕ) (at : Side → ℕ) (fl : Side → List ItemValue) (r : Reply) (old new : WorldState)
@@ -535,15 +479,4 @@ pub record Ticked (gives : Algorithms) (s : Side) (old new : WorldState) : Type 
 
 pub ticks : (gives : Algorithms) (n : ℕ) (s : Side) (r : Reply) (old new : WorldState) → side_of n ≡ Some s
     → WorldSteps gives old (event.Tick n 1) r new → Ticked gives s old new
-ticks gives n s r old new named h =
-    let now = record new { acted = old.acted } in
-    let v = value_of (side_of n) _ h.0 in
-    let same : v.0 ≡ s = same_Some v.0 s (sym v.1 ∙ named) in
-    let w = subst (λ t. HalfTicks (gives t) 1 (half t old) (half t now) × (now ≡ with_half t (half t now) old)) same (v.2.0.0, v.2.0.1) in
-    record {
-      step = subst (λ (k : HalfState). Step (gives s) k.state Tick answer.Tick (half s now).state) w.0.1 w.0.2.answers.step;
-      peers = ap (λ (j : WorldState). (half (peer s) j).state) w.1 ∙ peer_there s (half s now) old;
-      links = ap (λ (j : WorldState). j.links) w.1;
-      logs = λ t. ap (λ (j : WorldState). (half t j).histories) w.1 ∙ half_logs s (half s now) old
-          (ap (λ (h : HalfState). h.histories) w.0.2.same ∙ ap (λ (h : HalfState). h.histories) w.0.1) t;
-    }
+ticks gives n s r old new hyp1 hyp2 = grind (arith, nat_tests, value_of, same_Some, peer_there, half_logs)

@@ -1,11 +1,11 @@
 -- What a healthy round leaves of a cable: an LACPDU of an end is nearer by a tick, or was heard.
-use Rattle.lagprogress.proofs.Common.{Bool, Err, List, None, Ok, Option, Result, Some, [], ap, arith, false, inl, inr, refl, slice_get, subst, suc}
-use Rattle.lagprogress.proofs.Common.{sym, true, zero, ℕ, ◌++◌, ◌-◌, ◌∙◌, ◌∷◌, ◌≡◌, ◌≤◌, ◌⊎◌, nat_tests, none-some, same_Some, AllByRecursion, Lacpdu}
-use Rattle.lagprogress.proofs.Common.{One, Side, Two, peer, Machines, is_silent, periodic_rows, receive_rows, AtRest, RunsToRest, count_down, is_due}
-use Rattle.lagprogress.proofs.Common.{pdu_of, SystemFault, SystemPort, Step, Transmit, IsLacpduOf, SystemState, port_index, Event, Reply, Algorithms}
-use Rattle.lagprogress.proofs.Common.{WorldSteps, side_of, ItemValue, LinkState, WorldState, half, port_at, IsTimed, OfEach, no, AtPort, Sounds}
-use Rattle.lagprogress.proofs.Common.{now_due, asks_all, asks_ends}
-use Rattle.lagprogress.proofs.EndFacts.{Along, CanSound, IsEnd, both_along, calm, nothing_along, sounds_along, ticks_sounds}
+use Rattle.lagprogress.proofs.Common.{Bool, Err, List, None, Ok, Option, Result, Some, [], arith, false, inl, inr, refl, slice_get, subst, suc, sym}
+use Rattle.lagprogress.proofs.Common.{true, zero, ℕ, ◌++◌, ◌-◌, ◌∙◌, ◌∷◌, ◌≡◌, ◌≤◌, ◌⊎◌, nat_tests, none-some, same_Some, AllByRecursion, Lacpdu}
+use Rattle.lagprogress.proofs.Common.{Side, peer, Machines, is_silent, periodic_rows, receive_rows, AtRest, RunsToRest, count_down, is_due, pdu_of}
+use Rattle.lagprogress.proofs.Common.{SystemFault, SystemPort, Step, Transmit, IsLacpduOf, SystemState, port_index, Event, Reply, Algorithms}
+use Rattle.lagprogress.proofs.Common.{WorldSteps, side_of, ItemValue, LinkState, WorldState, half, IsTimed, OfEach, no, AtPort, Sounds, now_due}
+use Rattle.lagprogress.proofs.Common.{asks_all}
+use Rattle.lagprogress.proofs.EndFacts.{Along, CanSound, IsEnd, both_along, calm, nothing_along, sounds_along, ticks_sounds, constant_along}
 use Rattle.lagprogress.proofs.OneCable.{Went}
 use Rattle.lagprogress.proofs.Passing.{lacpdu_is_sent, sends_due, sent_carries}
 use Rattle.lagprogress.proofs.Linked.{EndIs, Fits, Flying, Link, each_side, emit_link, HasLacpdu, has_last, other_side, push_there, other_ports}
@@ -100,43 +100,6 @@ pub all_ask : (links : List LinkState) → AllByRecursion IsAsk (asks_all links)
 all_ask [] = tt
 all_ask (l ∷ links) = (tt, (tt, (tt, (tt, all_ask links))))
 
--- the events that ask the ends of all cables ask this port of system s twice in turn
-pub record AsksTwice (s : Side) (p : ℕ) (events : List Event) : Type 0 where
-  pub number : ℕ
-  pub named : side_of number ≡ Some s
-  pub before : List Event
-  pub later : List Event
-  pub is : events ≡ before ++ (event.Emit number p ∷ event.Emit number p ∷ later)
-
-pub asks_twice : (s : Side) (i : ℕ) (links : List LinkState) (l : LinkState) → slice_get links i ≡ Some l → AsksTwice s (port_at s l) (asks_all links)
-asks_twice s i [] l e = absurd (none-some l e)
-asks_twice s zero (m ∷ links) l e = subst (λ k. AsksTwice s (port_at s k) (asks_all (m ∷ links))) (same_Some m l e) (first s)
-  where
-    first : (s : Side) → AsksTwice s (port_at s m) (asks_all (m ∷ links))
-    first One = record {
-      number = 1;
-      named = refl;
-      before = [];
-      later = event.Emit 2 m.two ∷ event.Emit 2 m.two ∷ asks_all links;
-      is = refl;
-    }
-    first Two = record {
-      number = 2;
-      named = refl;
-      before = event.Emit 1 m.one ∷ event.Emit 1 m.one ∷ [];
-      later = asks_all links;
-      is = refl;
-    }
-asks_twice s (suc i) (m ∷ links) l e =
-    let k = asks_twice s i links l e in
-    record {
-      number = k.number;
-      named = k.named;
-      before = asks_ends m ++ k.before;
-      later = k.later;
-      is = ap (λ es. asks_ends m ++ es) k.is;
-    }
-
 -- what holds of the end of s in a round: X before it, V after its tick, Y then at rest, Z once it is asked and nothing is due
 pub record Passes (X V Y Z : Machines → Type 0) (v u : Lacpdu) (before c d : ℕ) : Type 0 where
   pub ticks : (p q : Machines) → RunsToRest receive_rows (count_down p) q → AtRest periodic_rows p → IsEnd d v u before p → X p → V q
@@ -168,12 +131,8 @@ abbrev pub Later : Bool → ℕ → Machines → Type 0
 Later fast most p = (1 ≤ most) × Sounds fast most p
 
 pub later_along : (v u : Lacpdu) (fast : Bool) (c d most : ℕ) → CanSound v u fast c → Along (Later fast most) v u c d
-later_along v u fast c d most can = both_along (λ p. 1 ≤ most) (Sounds fast most) v u c d (record {
-  mux = λ ready p q h y. y;
-  periodic = λ p q h a y. y;
-  select = λ choice p none y. y;
-  takes = λ x p q e awake h a y. y;
-}) (sounds_along v u fast c d most can)
+later_along v u fast c d most can =
+    both_along (λ p. 1 ≤ most) (Sounds fast most) v u c d (constant_along (1 ≤ most) v u c d) (sounds_along v u fast c d most can)
 
 pub sounds_pass : (v u : Lacpdu) (fast : Bool) (before c d most : ℕ) → CanSound v u fast before → CanSound v u fast c
     → Passes (Sounds fast most) (Sounds fast (most - 1)) (Sounds fast (most - 1)) (Later fast (most - 1)) v u before c d

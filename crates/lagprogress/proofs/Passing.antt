@@ -4,7 +4,7 @@ use Rattle.lagprogress.proofs.Common.{sym, true, ℕ, ◌++◌, ◌∙◌, ◌�
 use Rattle.lagprogress.proofs.Common.{Two, peer, value_of, is_due, pdu_of, SystemFault, Received, TookLacpdu, SystemPort, Carries, IsFrame}
 use Rattle.lagprogress.proofs.Common.{OnlyPortChangesBy, ParsesWhere, Performs, ProcessesLacpdu, ReceivesAt, Step, ThenSettles, Transmit, IsSent}
 use Rattle.lagprogress.proofs.Common.{IsLacpduOf, SendsLacpdu, TransmitsAt, TransmitsIf, SystemState, port_index, effect_one, Reply, AfterReceive}
-use Rattle.lagprogress.proofs.Common.{AfterTransmit, Algorithms, DeliversFrom, OnLink, WorldEmits, WorldReceives, WorldSteps, side_of, with_link_at}
+use Rattle.lagprogress.proofs.Common.{AfterTransmit, Algorithms, DeliversFrom, WorldEmits, WorldReceives, WorldSteps, side_of, with_link_at}
 use Rattle.lagprogress.proofs.Common.{HalfState, ItemValue, LinkState, WorldState, accepts, half, link_index, port_at, put_on_port, towards}
 use Rattle.lagprogress.proofs.Common.{with_half, with_towards, half_there, DeliverProcessesLacpdu, EmitSendsLacpdu, EndIsUp, IsHeardOn, IsSentOn}
 use Rattle.lagscript.specs.declared.event.Event.TheVariants as event
@@ -48,7 +48,7 @@ receives_lacpdu n k x octets v old o new place there up c h =
 
 sends_flagged : (u d : Bool) (k : ℕ) (x : SystemPort) (old : SystemState) (o : Option (List ℕ)) (new : SystemState) → u ≡ true → d ≡ true
     → TransmitsIf u d k x old o new → SendsLacpdu k x old o new
-sends_flagged u d k x old o new e f h = subst (λ c. TransmitsIf true c k x old o new) f (subst (λ b. TransmitsIf b d k x old o new) e h)
+sends_flagged u d k x old o new e f h = grind (arith, nat_tests)
 
 pub sends_due : (i : Option ℕ) (k : ℕ) (x : SystemPort) (old : SystemState) (o : Option (List ℕ)) (new : SystemState) → i ≡ Some k
     → slice_get old.system_ports k ≡ Some x → x.port.enabled ≡ true → is_due x.port ≡ true → TransmitsAt i old o new
@@ -75,16 +75,7 @@ emitted gives s i k l x (Ok None) old new mid r cable there accepted end due h a
     let sent = sends_due (port_index (port_at s l) (half s old).state.system_ports) k x (half s old).state None mid.state end.place
     end.there end.up due h in absurd (none-some sent.0 sent.2)
 emitted gives s i k l x (Ok (Some frame)) old new mid r cable there accepted end due h after =
-    let sent = sends_due (port_index (port_at s l) (half s old).state.system_ports) k x (half s old).state (Some frame) mid.state
-    end.place end.there end.up due h in
-    let is : frame ≡ sent.0 = same_Some frame sent.0 sent.2 in
-    record {
-      item = _;
-      lacpdu = subst (IsLacpduOf (half s old).state.max_delay x) (sym is) sent.1;
-      last = ap (λ (j : WorldState). j.links) after.1 ∙ put_there s (port_at s l) i _ l old.links cable there accepted;
-      sender = ap (λ (j : WorldState). (half s j).state) after.1 ∙ (ap (λ (h : HalfState). h.state) (half_there s mid old) ∙ sent.3);
-      peer = ap (λ (j : WorldState). (half (peer s) j).state) after.1 ∙ peer_there s mid old;
-    }
+    grind (arith, nat_tests, sends_due, same_Some, put_there, half_there, peer_there)
 
 pub emit_sends : (gives : Algorithms) → EmitSendsLacpdu gives
 emit_sends gives n s i k l x r old new is cable there accepted end due h =
@@ -122,14 +113,7 @@ delivered gives s i k l x y d item rest r old new there end is (Ok o, mid, h, af
 pub first_delivered : (gives : Algorithms) (n : ℕ) (s : Side) (i : ℕ) (l : LinkState) (item : ItemValue) (rest : List ItemValue) (r : Reply)
     (old new : WorldState) → side_of n ≡ Some s → slice_get old.links i ≡ Some l → towards s l ≡ item ∷ rest
     → WorldSteps gives old (event.Deliver (suc i) n) r new → DeliversFrom gives s i l (item ∷ rest) old r (record new { acted = old.acted })
-first_delivered gives n s i l item rest r old new is there first h =
-    let v = value_of (side_of n) _ h.0 in
-    let same : v.0 ≡ s = same_Some v.0 s (sym v.1 ∙ is) in
-    let now = record new { acted = old.acted } in
-    let e = subst (λ t. OnLink (suc i) (λ i l. DeliversFrom gives t i l (towards t l) old r now) old.links) same v.2 in
-    let c = value_of (slice_get old.links i) _ e in
-    let it : c.0 ≡ l = same_Some c.0 l (sym c.1 ∙ there) in
-    subst (λ xs. DeliversFrom gives s i l xs old r now) first (subst (λ m. DeliversFrom gives s i m (towards s m) old r now) it c.2)
+first_delivered gives n s i l item rest r old new hyp1 hyp2 hyp3 hyp4 = grind (arith, nat_tests, value_of, same_Some, slice_get)
 
 pub deliver_processes : (gives : Algorithms) → DeliverProcessesLacpdu gives
 deliver_processes gives n s i k l x y d item rest r old new is there first end lacpdu h =

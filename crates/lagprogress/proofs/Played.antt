@@ -2,12 +2,12 @@
 use Rattle.lagprogress.proofs.Common.{Bool, IfErr, IfOk, List, None, Option, Result, Some, [], ap, append_assoc, arith, drop, get_or, inl, inr}
 use Rattle.lagprogress.proofs.Common.{is_some, length, map, nat_le, option_map, refl, slice_get, subst, suc, sym, take, true, zero, ℕ, ◌&&◌, ◌++◌}
 use Rattle.lagprogress.proofs.Common.{◌+◌, ◌<◌, ◌∙◌, ◌∷◌, ◌≡◌, ◌≤◌, ◌⊎◌, cases_Bool, false≢true, nat_tests, none-some, same_Some, slice_get-get_or}
-use Rattle.lagprogress.proofs.Common.{slice_get-map, slice_get_within, AllByRecursion, IsErrAnd, all-append, Ends, One, Side, Two, WorldSetup}
-use Rattle.lagprogress.proofs.Common.{value_of, Event, WorldFault, Reply, Algorithms, DeliversFrom, WorldRuns, WorldSteps, cause, cause_or_no_memory}
+use Rattle.lagprogress.proofs.Common.{slice_get-map, slice_get_within, AllByRecursion, IsErrAnd, all-append, Ends, Side, WorldSetup, value_of, Event}
+use Rattle.lagprogress.proofs.Common.{WorldFault, Reply, Algorithms, DeliversFrom, WorldRuns, WorldSteps, cause, cause_or_no_memory}
 use Rattle.lagprogress.proofs.Common.{first_event_cause, has_cable, may_take_memory, most_events, side_of, link_ends, world_setup, ends_of_cable}
-use Rattle.lagprogress.proofs.Common.{RefusesNext, next_of, ItemValue, LinkState, WorldState, element_numbered, towards, Delivers, HasTooManyCables}
-use Rattle.lagprogress.proofs.Common.{IsOutOfMemoryOrSpent, NamesNoCable, PlaysPart, RefusesDelivery, RunsAll, RunsPart, found_nothing, IsDeliver}
-use Rattle.lagprogress.proofs.Common.{IsRound, NothingInFlight, Rounds, asks_all, asks_ends, ticks_of_both}
+use Rattle.lagprogress.proofs.Common.{RefusesNext, next_of, ItemValue, LinkState, WorldState, towards, Delivers, HasTooManyCables}
+use Rattle.lagprogress.proofs.Common.{IsOutOfMemoryOrSpent, NamesNoCable, PlaysPart, RefusesDelivery, RunsAll, RunsPart, found_nothing, IsRound}
+use Rattle.lagprogress.proofs.Common.{NothingInFlight, Rounds, asks_all, asks_ends, ticks_of_both}
 use Rattle.lagprogress.specs.Played.{most_cables}
 use Rattle.std.proofs.lemmas.List.{length-map, take_more}
 use Rattle.lagscript.specs.declared.event.Event.TheVariants as event
@@ -32,10 +32,7 @@ runs_append gives es fs rs qs old mid new h x = absurd h
 
 pub runs_both : (gives : Algorithms) (es fs : List Event) (old mid new : WorldState) → RunsAll gives es old mid → RunsAll gives fs mid new
     → RunsAll gives (es ++ fs) old new
-runs_both gives es fs old mid new a b = record {
-  replies = a.replies ++ b.replies;
-  acts = runs_append gives es fs a.replies b.replies old mid new a.acts b.acts;
-}
+runs_both gives es fs old mid new hyp1 hyp2 = grind (arith, nat_tests, runs_append)
 
 -- a part of the second list, behind the whole first one
 pub part_behind : (gives : Algorithms) (es fs : List Event) (fault : WorldFault) (old mid new : WorldState) → RunsAll gives es old mid
@@ -52,14 +49,7 @@ part_behind gives es fs fault old mid new a p = record {
 -- a part of the first list is a part of both
 pub part_before : (gives : Algorithms) (es fs : List Event) (fault : WorldFault) (old new : WorldState) → RunsPart gives es fault old new
     → RunsPart gives (es ++ fs) fault old new
-part_before gives es fs fault old new p = record {
-  first = p.first;
-  next = p.next;
-  rest = p.rest ++ fs;
-  parts = sym (append_assoc p.first (p.next ∷ p.rest) fs) ∙ ap (λ xs. xs ++ fs) p.parts;
-  acts = p.acts;
-  refused = p.refused;
-}
+part_before gives es fs fault old new hyp1 = grind (arith, nat_tests, append_assoc)
 
 parts_at : (es : List Event) (n : ℕ) (d : Event) → n < length es → take n es ++ (get_or es n d ∷ drop (suc n) es) ≡ es
 parts_at [] n d l = absurd (omega (arith, l))
@@ -129,12 +119,7 @@ delivery_refused fault c n old new same f =
 pub refused_delivery : (fault : WorldFault) (n i : ℕ) (s : Side) (start old new : WorldState) → side_of n ≡ Some s
     → i < length start.links → world_setup old ≡ world_setup start → fault ≡ cause_or_no_memory (cause old (event.Deliver (i + 1) n))
     → new ≡ old → IsOutOfMemoryOrSpent fault new
-refused_delivery fault n i s start old new named within fixed f same =
-    let next : i + 1 ≡ suc i = omega arith in
-    let inside : i < length old.links = omega (arith, within, as_many old start fixed) in
-    let there : is_some (element_numbered old.links (i + 1)) ≡ true =
-    ap (λ c. is_some (element_numbered old.links c)) next ∙ some_within old.links i inside in
-    subst (IsOutOfMemoryOrSpent fault) (sym same) (refused_event fault old _ _ there (ap is_some named) f)
+refused_delivery fault n i s start old new hyp1 hyp2 hyp3 hyp4 hyp5 = grind (arith, nat_tests, length, as_many, is_some, true, some_within, refused_event)
 
 -- asking
 
@@ -223,11 +208,7 @@ asks_stay a b e = all_by_ends a.links ∙ (ap (λ (x : WorldSetup). asks_by_ends
 -- delivering
 
 pub delivers_both : (gives : Algorithms) (old mid new : WorldState) → Delivers gives old mid → Delivers gives mid new → Delivers gives old new
-delivers_both gives old mid new a b = record {
-  delivers = a.delivers ++ b.delivers;
-  arrives = all-append IsDeliver a.delivers b.delivers a.arrives b.arrives;
-  acts = runs_both gives a.delivers b.delivers old mid new a.acts b.acts;
-}
+delivers_both gives old mid new hyp1 hyp2 = grind (arith, nat_tests, all-append, runs_both)
 
 pub one_more : (gives : Algorithms) (c n : ℕ) (r : Reply) (old mid new : WorldState) → Delivers gives old mid
     → WorldSteps gives mid (event.Deliver c n) r new → Delivers gives old new
@@ -263,18 +244,7 @@ below_or_same i n h = grind (arith, nat_tests, cases_Bool)
 pub quiet_next : (gives : Algorithms) (n : ℕ) (q r : Reply) (start old mid new : WorldState) → IsQuiet n start old
     → WorldSteps gives old (event.Deliver (n + 1) 1) q mid → WorldSteps gives mid (event.Deliver (n + 1) 2) r new
     → found_nothing q ≡ true → found_nothing r ≡ true → IsQuiet (n + 1) start new
-quiet_next gives n q r start old mid new h x y first second =
-    let a = nothing_came gives 1 n One old mid refl (subst (λ k. WorldSteps gives old (event.Deliver (n + 1) 1) k mid) (is_nothing q first) x) in
-    let b = nothing_came gives 2 n Two mid new refl (subst (λ k. WorldSteps gives mid (event.Deliver (n + 1) 2) k new) (is_nothing r second) y) in
-    record {
-      same = b.1 ∙ (a.1 ∙ h.same);
-      before = λ s i l within f. elim (below_or_same i n within) [
-        | inl less ↦ h.before s i l less f
-        | inr same ↦ (let g = subst (λ k. slice_get start.links k ≡ Some l) same f in
-            each_side (λ t. towards t l ≡ []) One (a.0 l (ap (λ ls. slice_get ls n) h.same ∙ g))
-            (b.0 l (ap (λ ls. slice_get ls n) (a.1 ∙ h.same) ∙ g)) s)
-      ];
-    }
+quiet_next gives n q r start old mid new hyp1 hyp2 hyp3 hyp4 hyp5 = grind (arith, nat_tests, nothing_came, is_nothing, below_or_same, slice_get, each_side)
 
 pub nothing_left : (n : ℕ) (old new : WorldState) → length old.links ≤ n → IsQuiet n old new → NothingInFlight new
 nothing_left n old new h q s i l f = grind (arith, nat_tests, slice_get_within)

@@ -9,9 +9,9 @@ use Rattle.lagprogress.proofs.Common.{WorldState, half, put_on_port, with_half, 
 use Rattle.lagprogress.proofs.Common.{KeptBySettling, OfEach, AtPort, LeavesPorts, Clearing, IsBetweenTicks, IsPlayed, IsPlayedAmong, IsQuiet}
 use Rattle.lagprogress.proofs.Common.{IsTickOf, PlayedAmong, PlayedRounds, RunReplies, StepReplies, TickOnce, TickOnceAmong, IsSteady}
 use Rattle.lagprogress.proofs.HostSteady.{IsUp, Quietly, SendsPlain, aside, caller, beside_quietly, delay_quietly, delay_keeps, aside_keeps}
-use Rattle.lagprogress.proofs.HostSteady.{sets_each, sets_links, sets_logs, sets_place, step_timely}
+use Rattle.lagprogress.proofs.HostSteady.{sets_each, sets_links, sets_logs, sets_place, step_timely, asked_by}
 use Rattle.lagprogress.proofs.EndFacts.{Along}
-use Rattle.lagprogress.proofs.Halves.{AreTimely, each_is_calls, keeps_steady, timely}
+use Rattle.lagprogress.proofs.Halves.{AreTimely, each_is_calls, keeps_steady, timely, forced_state}
 use Rattle.lagprogress.proofs.Unchanged.{calls_keep}
 use Rattle.lagprogress.proofs.ArrivingLemmas.{is_data, same_ports}
 use Rattle.lagprogress.proofs.Linked.{EndIs, Flying, HasLacpdu, IsGood, Link, end_kept, has_on, each_side, of_end, place_kept, push_other, push_there}
@@ -22,24 +22,15 @@ use Rattle.lagscript.specs.declared.event.Event.TheVariants as event
 
 one_half : (s t : Side) (h : HalfState) (j : WorldState) → h.state.system_ports ≡ (half s j).state.system_ports
     → (half t (with_half s h j)).state.system_ports ≡ (half t j).state.system_ports
-one_half One One h j e = e
-one_half One Two h j e = refl
-one_half Two One h j e = refl
-one_half Two Two h j e = e
+one_half s t h j e = grind (arith, nat_tests)
 
 half_links : (s : Side) (h : HalfState) (j : WorldState) → (with_half s h j).links ≡ j.links
-half_links One h j = refl
-half_links Two h j = refl
+half_links s h j = grind (arith, nat_tests)
 
 offered : (gives : Algorithms) (s : Side) (agg : AggId) (octets : List ℕ) (a : Result ℕ SystemFault) (old new : WorldState) (mid : HalfState)
     (r : Reply) → Step (gives s) (half s old).state (Offer agg octets) (answer.Offer a) mid.state
     → mid.histories ≡ (half s old).histories → AfterOffer s agg octets a (with_half s mid old) r (record new { acted = old.acted }) → Quietly s old new
-offered gives s agg octets (Err fault) old new mid r h log after = record {
-  same = λ t. ap (λ (w : WorldState). (half t w).state.system_ports) after.1
-      ∙ one_half s t mid old (offers_slots (gives s) agg octets (half s old).state (Err fault) mid.state h);
-  links = inl (ap (λ (w : WorldState). w.links) after.1 ∙ half_links s mid old);
-  logs = λ t. ap (λ (w : WorldState). (half t w).histories) after.1 ∙ half_logs s mid old log t;
-}
+offered gives s agg octets (Err fault) old new mid r h log after = grind (arith, nat_tests, one_half, s, offers_slots, half_links, half_logs)
 offered gives s agg octets (Ok port) old new mid r h log after =
     let j = with_half s mid old in
     record {
@@ -58,10 +49,6 @@ offered gives s agg octets (Ok port) old new mid r h log after =
       logs = λ t. ap (λ (w : WorldState). (half t w).histories) after.2
           ∙ (half_logs s (with_frame_counted agg octets (half s j)) j refl t ∙ half_logs s mid old log t);
     }
-
-forced_state : (a : Result Unit SystemFault) (agg : AggId) (conv : ℕ) (h : HalfState) → (forced_if_accepted a agg conv h).state ≡ h.state
-forced_state (Ok done) agg conv h = refl
-forced_state (Err fault) agg conv h = refl
 
 forced_ports : (a : Result Unit SystemFault) (agg : AggId) (conv : ℕ) (h : HalfState)
     → (forced_if_accepted a agg conv h).state.system_ports ≡ h.state.system_ports
@@ -113,7 +100,7 @@ quietly gives (Plays (event.Force n agg conv)) r old new q h =
 quietly gives (Plays e) r old new q h = absurd q
 quietly gives (Sets s (Set_max_delay delay)) r old new q h = (s, delay_quietly gives s delay old new h)
 quietly gives (Sets s setting) r old new q h = absurd q
-quietly gives e r old new q h = (caller e, beside_quietly (caller e) old new (aside gives e old new tt h))
+quietly gives e r old new q h = (caller e, beside_quietly (gives (caller e)) (caller e) (asked_by e) old new (aside gives e old new tt h))
 
 pub quiet_ports : (gives : Algorithms) (e : HostEvent) (r : Reply) (old new : WorldState) → IsQuiet e → StepReplies gives old e r new → (t : Side)
     → (half t new).state.system_ports ≡ (half t old).state.system_ports
@@ -263,17 +250,7 @@ quiet_cable gives e i at fl r old new q h c = by_links k.links
 
 pub quiet_ends : (gives : Algorithms) (e : HostEvent) (r : Reply) (old new : WorldState) → IsQuiet e → StepReplies gives old e r new
     → map link_ends new.links ≡ map link_ends old.links
-quiet_ends gives e r old new q h = by_links k.links
-  where
-    s : Side
-    s = (quietly gives e r old new q h).0
-
-    k : Quietly s old new
-    k = (quietly gives e r old new q h).1
-
-    by_links : (new.links ≡ old.links) ⊎ SendsPlain s old new → map link_ends new.links ≡ map link_ends old.links
-    by_links (inl x) = ap (map link_ends) x
-    by_links (inr m) = ap (map link_ends) m.sent ∙ put_ends s m.port m.item old.links
+quiet_ends gives e r old new hyp1 hyp2 = grind (arith, nat_tests, map, put_ends)
 
 pub leaves_cable : (gives : Algorithms) (e : HostEvent) (i : ℕ) (at : Side → ℕ) (fl : Side → List ItemValue) (r : Reply) (old new : WorldState)
     → LeavesEnds at e → StepReplies gives old e r new → OnCable i at fl old.links → Grown i at fl new
@@ -334,15 +311,14 @@ PlayedBeside at E gives old new = IsPlayedAmong (LeavesPorts at) E gives old new
 abbrev pub AllBeside : (Side → ℕ) → Clearing → Algorithms → ℕ → WorldState → WorldState → Type 0
 AllBeside at E gives n old new = PlayedAmong (LeavesPorts at) E gives n old new
 
+-- a round is one of another kind, too, if its events may come there and the cables are cleared as that wants it
+pub replayed : {May New : HostEvent → Type 0} {E F : Clearing} {gives : Algorithms} {old new : WorldState} (q : IsPlayedAmong May E gives old new)
+    → TickOnceAmong New One true true q.events → F q.events old new → IsPlayedAmong New F gives old new
+replayed q ticks clears =
+    record { events = q.events; replies = q.replies; ticks = ticks; acts = q.acts; asked = q.asked; empties = clears }
+
 pub as_beside : (at : Side → ℕ) (E : Clearing) (gives : Algorithms) (old new : WorldState) → IsPlayed E gives old new → PlayedBeside at E gives old new
-as_beside at E gives old new h = record {
-  events = h.events;
-  replies = h.replies;
-  ticks = leaves_all at One true true h.events h.ticks;
-  acts = h.acts;
-  asked = h.asked;
-  empties = h.empties;
-}
+as_beside at E gives old new h = replayed h (leaves_all at One true true h.events h.ticks) h.empties
 
 pub all_beside : (at : Side → ℕ) (E : Clearing) (gives : Algorithms) (n : ℕ) (old new : WorldState) → PlayedRounds E gives n old new
     → AllBeside at E gives n old new
@@ -352,30 +328,21 @@ all_beside at E gives (suc n) old new h = (h.0, all_beside at E gives n old h.0 
 -- an Offer event leaves a system to itself, or offers it the frame
 
 own_two : (s : Side) (h k : HalfState) (j : WorldState) → (half s (with_half s k (with_half s h j))).state ≡ k.state
-own_two One h k j = refl
-own_two Two h k j = refl
+own_two s h k j = grind (arith, nat_tests)
 
 peer_two : (s : Side) (h k : HalfState) (j : WorldState) → (half (peer s) (with_half s k (with_half s h j))).state ≡ (half (peer s) j).state
-peer_two One h k j = refl
-peer_two Two h k j = refl
+peer_two s h k j = grind (arith, nat_tests)
 
 peer_one : (s : Side) (h : HalfState) (j : WorldState) → (half (peer s) (with_half s h j)).state ≡ (half (peer s) j).state
-peer_one One h j = refl
-peer_one Two h j = refl
+peer_one s h j = grind (arith, nat_tests)
 
 own_state : (s : Side) (agg : AggId) (octets : List ℕ) (a : Result ℕ SystemFault) (old new : WorldState) (mid : HalfState) (r : Reply)
     → AfterOffer s agg octets a (with_half s mid old) r (record new { acted = old.acted }) → (half s new).state ≡ mid.state
-own_state s agg octets (Err fault) old new mid r h =
-    ap (λ (w : WorldState). (half s w).state) h.1 ∙ ap (λ (k : HalfState). k.state) (half_there s mid old)
-own_state s agg octets (Ok port) old new mid r h =
-    ap (λ (w : WorldState). (half s w).state) h.2 ∙ (own_two s mid (with_frame_counted agg octets (half s (with_half s mid old))) old
-    ∙ ap (λ (k : HalfState). k.state) (half_there s mid old))
+own_state s agg octets a old new mid r h = grind (arith, nat_tests, half_there, own_two)
 
 peer_state : (s : Side) (agg : AggId) (octets : List ℕ) (a : Result ℕ SystemFault) (old new : WorldState) (mid : HalfState) (r : Reply)
     → AfterOffer s agg octets a (with_half s mid old) r (record new { acted = old.acted }) → (half (peer s) new).state ≡ (half (peer s) old).state
-peer_state s agg octets (Err fault) old new mid r h = ap (λ (w : WorldState). (half (peer s) w).state) h.1 ∙ peer_one s mid old
-peer_state s agg octets (Ok port) old new mid r h = ap (λ (w : WorldState). (half (peer s) w).state) h.2
-    ∙ peer_two s mid (with_frame_counted agg octets (half s (with_half s mid old))) old
+peer_state s agg octets a old new mid r h = grind (arith, nat_tests, peer_one, peer_two)
 
 pub offered_half : (gives : Algorithms) (n : ℕ) (agg : AggId) (octets : Vec ℕ) (r : Reply) (old new : WorldState)
     → WorldSteps gives old (event.Offer n agg octets) r new → (t : Side)

@@ -1,13 +1,12 @@
 -- Ports that know their partners find aggregators, also where there are fewer of them than ports of one group.
 use Rattle.lagprogress.proofs.Common.{Bool, Some, ap, arith, false, inl, inr, not, refl, slice_get, subst, sym, true, ℕ, ◌&&◌, ◌==◌, ◌∙◌, ◌≡◌, ◌≢◌}
 use Rattle.lagprogress.proofs.Common.{◌⊎◌, cases_Bool, nat_tests, AggId, Key, SystemId, Standby, Unselected, Party, group_of, individual, same_group}
-use Rattle.lagprogress.proofs.Common.{group-itself, party_of, Side, peer, ReceiveState, Current, Expired, Initialize, PortDisabled, Machines}
-use Rattle.lagprogress.proofs.Common.{mux_rows, selected, RunsPeriodic, receive_rows, same_receive_state, RunsToRest, count_down, SystemPort}
-use Rattle.lagprogress.proofs.Common.{none_enabled, NoneHeld, SystemState, rests, all-get, found_place, ports_rise, Algorithms, LinkState, WorldState}
-use Rattle.lagprogress.proofs.Common.{half, port_at, SharesGroup, StandsByFull, WantsAggregator, EnabledKeep, no, times_keep, AtPort, at_number}
-use Rattle.lagprogress.proofs.Common.{mux_leaves, periodic_leaves, finds_aggregator, shares_aggregator, AllHeard, EnoughAggregators, Clearing}
-use Rattle.lagprogress.proofs.Common.{PlayedRounds, EndKnows, Knows, AtEnd, IsHealthyAt, OfPort, AreOneGroup, DownWereLinkedTo, HasAggregators}
-use Rattle.lagprogress.proofs.Common.{LeadToKey, IsSteady}
+use Rattle.lagprogress.proofs.Common.{group-itself, party_of, Side, peer, ReceiveState, PortDisabled, Machines, mux_rows, selected, RunsPeriodic}
+use Rattle.lagprogress.proofs.Common.{receive_rows, same_receive_state, RunsToRest, count_down, SystemPort, none_enabled, NoneHeld, SystemState}
+use Rattle.lagprogress.proofs.Common.{rests, all-get, found_place, ports_rise, Algorithms, LinkState, WorldState, half, port_at, SharesGroup}
+use Rattle.lagprogress.proofs.Common.{StandsByFull, WantsAggregator, EnabledKeep, no, times_keep, AtPort, at_number, mux_leaves, periodic_leaves}
+use Rattle.lagprogress.proofs.Common.{finds_aggregator, shares_aggregator, AllHeard, EnoughAggregators, Clearing, PlayedRounds, EndKnows, Knows}
+use Rattle.lagprogress.proofs.Common.{AtEnd, IsHealthyAt, OfPort, AreOneGroup, DownWereLinkedTo, HasAggregators, LeadToKey, IsSteady}
 use Rattle.lagprogress.proofs.Choosing.{down_as_read}
 use Rattle.lagprogress.proofs.EachRound.{EachAt, RoundKeeps, host_each, played_keep, played_on, played_steady}
 use Rattle.lagprogress.proofs.Lasting.{IsAsBefore, ends_at, old_port, own_system, still_enough, still_heard, still_one, played_before, played_alike}
@@ -48,10 +47,7 @@ pub record Sleeps (x p : Machines) : Type 0 where
 
 not_from : (s r : ReceiveState) (b : Bool) → r ≡ PortDisabled → same_receive_state s PortDisabled ≡ false
     → (same_receive_state s r && b) ≡ true → ⊥
-not_from s r b e f h = no (sym f ∙ both_so (same_receive_state s PortDisabled) b (subst (λ q. (same_receive_state s q && b) ≡ true) e h))
-  where
-    both_so : (a b : Bool) → (a && b) ≡ true → a ≡ true
-    both_so a b h = grind (arith, nat_tests)
+not_from s r b hyp1 hyp2 hyp3 = grind (arith, nat_tests, no, true)
 
 not_others : (r : ReceiveState) (b : Bool) → r ≡ PortDisabled → (not (same_receive_state PortDisabled r) && b) ≡ true → ⊥
 not_others r b e h = no (subst (λ q. (not (same_receive_state PortDisabled q) && b) ≡ true) e h)
@@ -60,19 +56,7 @@ not_up : (a up : Bool) → up ≡ false → (a && up) ≡ true → ⊥
 not_up a up e h = grind (arith, nat_tests)
 
 sleeping_rows : (x : Machines) → EnabledKeep (Sleeps x) receive_rows
-sleeping_rows x = (
-  λ p h a. absurd (not_from Initialize p.receive true a.disabled refl h),
-  (
-    λ p h a. absurd (not_others p.receive (not p.enabled) a.disabled h),
-    (
-      λ p h a. absurd (not_up (same_receive_state PortDisabled p.receive) p.enabled a.down h),
-      (
-        λ p h a. absurd (not_from Expired p.receive (p.current_while == 0) a.disabled refl h),
-        (λ p h a. absurd (not_from Current p.receive (p.current_while == 0) a.disabled refl h), tt),
-      ),
-    ),
-  ),
-)
+sleeping_rows x = grind (arith, nat_tests, not_from, true, not_others, not, not_up)
 
 standing : (agg : AggId) → Standby agg ≡ Unselected → ⊥
 standing agg e = cc
@@ -219,15 +203,7 @@ module _ (old new : WorldState) (steady : IsSteady old) (last : Lasted old new) 
       let was_down : z.0.port.enabled ≡ false = sym alike.1 ∙ down in
       let sleeps = all-get (λ (y : SystemPort). AtPort z.0.number (Sleeps z.0.port) y.number y.port) (half s new).state.system_ports k x there
       (last.sleeps s k z.0 z.1 was_down) z.2 in
-      elim (linked k z.0 z.1 was_down (ap (λ (y : Party). y.key) (sym alike.0) ∙ is)) [
-        | inl u ↦ absurd (chosen (sleeps.idle u))
-        | inr w ↦ record {
-          own = ap (λ (y : Party). y.aggregatable) alike.0 ∙ w.own;
-          system = ap (λ (y : Party). y.system) sleeps.partner ∙ (w.system ∙ sym (kept (peer s)));
-          far_key = ap (λ (y : Party). y.key) sleeps.partner ∙ w.key;
-          partner = ap (λ (y : Party). y.aggregatable) sleeps.partner ∙ w.partner;
-        }
-      ]
+      grind (arith, nat_tests, kept)
 
   -- so they are one group
   pub one_group : (s : Side) (key : Key) → AreOneGroup s key old → (k : ℕ) (x : SystemPort) → slice_get (half s new).state.system_ports k ≡ Some x

@@ -1,10 +1,9 @@
 -- What the ends of a cable took last bears the present change counts.
 use Rattle.lagprogress.proofs.Common.{Bool, Err, List, Ok, Result, Some, [], ap, arith, eqb, eqb-true, false, inl, inr, is_some, refl, subst, sym}
 use Rattle.lagprogress.proofs.Common.{true, ℕ, ◌==◌, ◌∙◌, ◌∷◌, ◌≡◌, ◌≤◌, ◌⊎◌, cases_Bool, true≢false, nat_tests, AllByRecursion, Lacpdu, Side, peer}
-use Rattle.lagprogress.proofs.Common.{cond_false, cond_true, SystemFault, Received, Carries, IsFrame, Receive, CallPromise, SystemState, port_index}
-use Rattle.lagprogress.proofs.Common.{processes_or_stays, PortHistory, Reply, is_stamp, Algorithms, WorldSteps, set_last_lacpdu, side_of, stamped_in}
-use Rattle.lagprogress.proofs.Common.{set_taken, stamp_count, ItemValue, WorldState, change_count_in, half, history_at, taken_in, count_heard}
-use Rattle.lagprogress.proofs.Common.{read_log}
+use Rattle.lagprogress.proofs.Common.{cond_false, cond_true, SystemFault, Received, Carries, IsFrame, Receive, CallPromise, SystemState, PortHistory}
+use Rattle.lagprogress.proofs.Common.{Reply, is_stamp, Algorithms, WorldSteps, set_last_lacpdu, side_of, stamped_in, set_taken, ItemValue, WorldState}
+use Rattle.lagprogress.proofs.Common.{change_count_in, half, history_at, taken_in, count_heard, read_log}
 use Rattle.lagworld.specs.declared.histories.StampedLacpdu.{StampedLacpdu}
 use Rattle.lagprogress.proofs.Linked.{asked_which, each_side, is_took, peer_twice, put_other, put_there}
 use Rattle.lagprogress.proofs.OneCable.{Arrives, Back, Beside, IsStamped, OnCable, asks, delivers, logged, push, push_each, put}
@@ -92,17 +91,7 @@ stamps_emit gives n s b at k kept r old new told l h =
 -- the event leaves the cable to itself
 stamps_beside : (gives : Algorithms) (b : ℕ) (at k : Side → ℕ) (kept : Side → Bool) (old new : WorldState) (l : Stamped b at k kept old)
     → Beside gives at l.flying old new → Stamping b at k kept old new
-stamps_beside gives b at k kept old new l m = record {
-  world = record {
-    flying = l.flying;
-    index = m.index;
-    links = m.links;
-    counts = λ t. ap change_count_in (m.logs t) ∙ l.counts t;
-    there = λ t. ap is_some (m.logs t) ∙ l.there t;
-    items = l.items;
-  };
-  took = λ i t y there. subst (λ o. is_stamp (k (peer t)) (taken_in o) ≡ true) (sym (m.logs t)) (y there);
-}
+stamps_beside gives b at k kept old new l hyp1 = grind (arith, nat_tests, is_some, true)
 
 -- any port is asked
 pub stamps_ask : (gives : Algorithms) (n p b : ℕ) (at k : Side → ℕ) (kept : Side → Bool) (r : Reply) (old new : WorldState) → Stamped b at k kept old
@@ -125,51 +114,27 @@ back_all P gives s n octets (Ok (received.Respond frame)) old new fl now z k h g
     subst (λ (f : Side → List ItemValue). (t : Side) → AllByRecursion (P t) (f t)) (sym h.2) (push_each P (peer s) h.0 fl one g)
 back_all P gives s n octets a old new fl now z k h g = subst (λ (f : Side → List ItemValue). (t : Side) → AllByRecursion (P t) (f t)) (sym h) g
 
-came_in : (gives : ℕ → ℕ → ℕ → Type 0) (at k : Side → ℕ) (kept : Side → Bool) (s : Side) (item : ItemValue) (a : Result Received SystemFault) (old new : WorldState)
-    → is_some (history_at (half s old).histories (at s)) ≡ kept s → IsStamped (k (peer s)) item
-    → CallPromise gives (half s old).state (Receive (at s) item.octets) (answer.Receive a) (half s new).state
-    → (half s new).histories ≡ logged a (at s) item (half s old).histories
-    → Took at k kept s new ⊎ ((((half s new).state.system_ports ≡ (half s old).state.system_ports))
-    × ((half s new).histories ≡ (half s old).histories))
-came_in gives at k kept s item (Err fault) old new there good h log = inr (ap (λ (z : SystemState). z.system_ports) h.step.same, log)
-came_in gives at k kept s item (Ok o) old new there good h log = elim (is_took o) [
-  | inl e ↦ (let m = (subst (λ x. CallPromise gives (half s old).state (Receive (at s) item.octets) (answer.Receive (Ok x)) (half s new).state)
-      e h).moves.3 in
-      let stamp = good m.0 m.1 in
-      let now = log ∙ ap (λ x. logged (Ok x) (at s) item (half s old).histories) e in
-      inl (λ y. ap (λ g. is_stamp (k (peer s)) (taken_in (history_at g (at s)))) now
-      ∙ (ap (is_stamp (k (peer s))) (taken_there (at s) (stamped_in item) (half s old).histories (there ∙ y))
-      ∙ same (stamp_count item.stamp) (k (peer s)) stamp)))
-  | inr not ↦ inr (
-    elim (processes_or_stays h.step.1 h.step.0.number (port_index (at s) (half s old).state.system_ports) (half s old).state o
-        (half s new).state h.step.4) [ inl x ↦ absurd (not x.1) | inr e ↦ e ],
-    log ∙ unlogged o not,
-  )
-]
-  where
-    same : (m n : ℕ) → m ≡ n → (m == n) ≡ true
-    same m n e = grind (arith, nat_tests)
-
-    unlogged : (o : Received) → (o ≡ received.TookLacpdu → ⊥) → logged (Ok o) (at s) item (half s old).histories ≡ (half s old).histories
-    unlogged received.TookLacpdu n = absurd (n refl)
-    unlogged o n = refl
-
 -- an LACPDU that bears the present count is taken
 pub took_in : (gives : ℕ → ℕ → ℕ → Type 0) (at k : Side → ℕ) (kept : Side → Bool) (s : Side) (item : ItemValue) (a : Result Received SystemFault)
     (old new : WorldState) → a ≡ Ok received.TookLacpdu → is_some (history_at (half s old).histories (at s)) ≡ kept s
     → IsStamped (k (peer s)) item
     → CallPromise gives (half s old).state (Receive (at s) item.octets) (answer.Receive a) (half s new).state
     → (half s new).histories ≡ logged a (at s) item (half s old).histories → Took at k kept s new
-took_in gives at k kept s item a old new e there good h log =
-    let m = (subst (λ x. CallPromise gives (half s old).state (Receive (at s) item.octets) (answer.Receive x) (half s new).state) e h).moves.3 in
-    let stamp = good m.0 m.1 in
-    let now = log ∙ ap (λ x. logged x (at s) item (half s old).histories) e in
-    λ y. ap (λ g. is_stamp (k (peer s)) (taken_in (history_at g (at s)))) now
-    ∙ (ap (is_stamp (k (peer s))) (taken_there (at s) (stamped_in item) (half s old).histories (there ∙ y))
-    ∙ same (stamp_count item.stamp) (k (peer s)) stamp)
+took_in gives at k kept s item a old new hyp1 hyp2 hyp3 hyp4 hyp5 = grind (arith, nat_tests, taken_there, true)
+
+came_in : (gives : ℕ → ℕ → ℕ → Type 0) (at k : Side → ℕ) (kept : Side → Bool) (s : Side) (item : ItemValue) (a : Result Received SystemFault) (old new : WorldState)
+    → is_some (history_at (half s old).histories (at s)) ≡ kept s → IsStamped (k (peer s)) item
+    → CallPromise gives (half s old).state (Receive (at s) item.octets) (answer.Receive a) (half s new).state
+    → (half s new).histories ≡ logged a (at s) item (half s old).histories → Took at k kept s new ⊎ ((half s new).histories ≡ (half s old).histories)
+came_in gives at k kept s item (Err fault) old new there good h log = inr log
+came_in gives at k kept s item (Ok o) old new there good h log = elim (is_took o) [
+  | inl e ↦ inl (took_in gives at k kept s item (Ok o) old new (ap (λ q. Ok q) e) there good h log)
+  | inr not ↦ inr (log ∙ unlogged o not)
+]
   where
-    same : (m n : ℕ) → m ≡ n → (m == n) ≡ true
-    same m n e = grind (arith, nat_tests)
+    unlogged : (o : Received) → (o ≡ received.TookLacpdu → ⊥) → logged (Ok o) (at s) item (half s old).histories ≡ (half s old).histories
+    unlogged received.TookLacpdu n = absurd (n refl)
+    unlogged o n = refl
 
 stamps_arrive : (gives : Algorithms) (s : Side) (b : ℕ) (at k : Side → ℕ) (kept : Side → Bool) (old new : WorldState) (l : Stamped b at k kept old)
     → Arrives gives s at l.flying old new → Stamping b at k kept old new
@@ -191,15 +156,14 @@ stamps_arrive gives s b at k kept old new l a = record {
         (subst (AllByRecursion (IsStamped (k (peer (peer s))))) (sym (put_other s a.rest l.flying)) (l.items i (peer s))));
   };
   took = λ i t. each_side (λ t. Took at k kept t old → Took at k kept t new) s
-      (λ y. elim (own i) [ inl z ↦ z | inr z ↦ took_same at k kept s old new z.1 y ])
+      (λ y. elim (own i) [ inl z ↦ z | inr same ↦ took_same at k kept s old new same y ])
       (λ y. took_same at k kept (peer s) old new a.peer_log y) t;
 }
   where
     first : 1 ≤ b → AllByRecursion (IsStamped (k (peer s))) (a.item ∷ a.rest)
     first i = subst (AllByRecursion (IsStamped (k (peer s)))) a.first (l.items i s)
 
-    own : 1 ≤ b → Took at k kept s new ⊎ (((half s new).state.system_ports ≡ (half s old).state.system_ports)
-        × ((half s new).histories ≡ (half s old).histories))
+    own : 1 ≤ b → Took at k kept s new ⊎ ((half s new).histories ≡ (half s old).histories)
     own i = came_in (gives s) at k kept s a.item a.a old new (l.there s) (first i).0 a.promise a.log
 
 pub stamps_deliver : (gives : Algorithms) (cn n b : ℕ) (at k : Side → ℕ) (kept : Side → Bool) (r : Reply) (old new : WorldState) → Stamped b at k kept old

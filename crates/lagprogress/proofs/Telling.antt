@@ -1,20 +1,20 @@
 -- Once an end has heard the other, it is told by an LACPDU when the other is synchronized.
-use Rattle.lagprogress.proofs.Common.{Bool, Err, List, None, Ok, Option, Result, Some, [], ap, arith, false, inl, inr, refl, slice_get, subst, sym}
-use Rattle.lagprogress.proofs.Common.{true, ℕ, ◌++◌, ◌∙◌, ◌∷◌, ◌≡◌, ◌≤◌, ◌⊎◌, cases_Bool, nat_tests, none-some, same_Some, AllByRecursion, Lacpdu}
-use Rattle.lagprogress.proofs.Common.{Side, peer, Machines, partner_synchronized, after_sending, is_due, pdu_of, marker_due, SystemFault, Received}
-use Rattle.lagprogress.proofs.Common.{SystemPort, Carries, IsFrame, OnlyPortChangesBy, ProcessesLacpdu, Receive, Step, ThenSettles, Transmit}
-use Rattle.lagprogress.proofs.Common.{IsLacpduOf, SendsMarkerOf, TransmitsAt, TransmitsIf, CallPromise, SystemState, port_index, all-get, found_place}
-use Rattle.lagprogress.proofs.Common.{ports_rise, Reply, Algorithms, WorldSteps, side_of, ItemValue, WorldState, half, KeptBySettling, OfEach}
-use Rattle.lagprogress.proofs.Common.{asked_each, takes_each, AtPort, at_number, settling_leaves}
+use Rattle.lagprogress.proofs.Common.{Err, List, None, Ok, Option, Result, Some, [], ap, arith, inl, inr, refl, slice_get, subst, sym, true, ℕ, ◌++◌}
+use Rattle.lagprogress.proofs.Common.{◌∙◌, ◌∷◌, ◌≡◌, ◌≤◌, ◌⊎◌, cases_Bool, nat_tests, none-some, same_Some, AllByRecursion, Lacpdu, Side, peer}
+use Rattle.lagprogress.proofs.Common.{Machines, partner_synchronized, after_sending, is_due, pdu_of, SystemFault, Received, SystemPort, Carries}
+use Rattle.lagprogress.proofs.Common.{IsFrame, OnlyPortChangesBy, ProcessesLacpdu, Receive, Step, ThenSettles, Transmit, IsLacpduOf, TransmitsAt}
+use Rattle.lagprogress.proofs.Common.{CallPromise, SystemState, port_index, Reply, Algorithms, WorldSteps, side_of, ItemValue, WorldState, half}
+use Rattle.lagprogress.proofs.Common.{KeptBySettling, OfEach, asked_each, takes_each, AtPort, settling_leaves}
 use Rattle.lagprogress.proofs.Claims.{Claims, Owes, Owing, SaysSynced, Wakeful, claim_said, claims_or_not, owes_takes, owing_settles, takes_claim}
 use Rattle.lagprogress.proofs.Claims.{wakeful_along}
 use Rattle.lagprogress.proofs.Climbing.{PartnerInSync}
-use Rattle.lagprogress.proofs.Delivering.{deliver_moves}
-use Rattle.lagprogress.proofs.EndFacts.{Along, IsEnd, SameActor, takes_end}
-use Rattle.lagprogress.proofs.Linked.{Arrived, EndIs, Fits, Flying, IsGood, Link, arrival, asked_which, beside_link, each_both, each_map, each_side}
-use Rattle.lagprogress.proofs.Linked.{elsewhere_each, emit_link, found, peer_twice, push_other, push_there, put_other, put_there}
-use Rattle.lagprogress.proofs.OneCable.{Arrives, Back, Beside, Went, push, put}
-use Rattle.lagprogress.proofs.OneRound.{flies, same_ports_then}
+use Rattle.lagprogress.proofs.Delivering.{deliver_moves, came_to}
+use Rattle.lagprogress.proofs.EndFacts.{Along, SameActor, takes_end}
+use Rattle.lagprogress.proofs.Linked.{EndIs, Fits, Flying, IsGood, Link, asked_which, beside_link, each_both, each_map, each_side, elsewhere_each}
+use Rattle.lagprogress.proofs.Linked.{emit_link, peer_twice, push_other, push_there, put_other, put_there, EndPort, at_end, end_here, end_with}
+use Rattle.lagprogress.proofs.Linked.{sent_is}
+use Rattle.lagprogress.proofs.OneCable.{Arrives, Back, Beside, Went, push, put, Asks}
+use Rattle.lagprogress.proofs.OneRound.{flies, same_ports_then, beside_here}
 use Rattle.lagprogress.proofs.Passing.{carries_one, lacpdu_is_sent, marker_carries_none, sends_due, sent_carries}
 use Rattle.slowpdu.specs.declared.pdu.Pdu.TheVariants as pdu
 use Rattle.lagsystem.specs.declared.drive.Reply.TheVariants as answer
@@ -45,22 +45,6 @@ pub tells_push : (u v : Lacpdu) (xs : List ItemValue) (item : ItemValue) (H : Ty
     → Tells u v (xs ++ item ∷ []) H
 tells_push u v [] item H says h = (says, h)
 tells_push u v (x ∷ xs) item H says h = tells_push u v xs item (SaysIt u v x × (H ⊎ Bears x)) says h
-
--- what a frame bears that an end sends
-
-sent_is : (up due : Bool) (i : ℕ) (z : SystemPort) (old : SystemState) (frame : List ℕ) (new : SystemState)
-    → TransmitsIf up due i z old (Some frame) new → (x : Lacpdu) → IsFrame frame (Carries (pdu.Lacpdu x)) → pdu_of z.port old.max_delay ≡ x
-sent_is false due i z old frame new h x k = absurd (none-some frame (sym h.0))
-sent_is true true i z old frame new h x k =
-    let is : frame ≡ h.0 = same_Some frame h.0 h.2 in
-    let sent = subst (IsLacpduOf old.max_delay z) (sym is) h.1 in
-    carries_one frame x (pdu_of z.port old.max_delay) k
-    (sent_carries frame (pdu.Lacpdu (pdu_of z.port old.max_delay)) (lacpdu_is_sent old.max_delay z frame sent))
-sent_is true false i z old frame new h x k = by_marker (marker_due old.table z.number) h
-  where
-    by_marker : (o : Option ℕ) → SendsMarkerOf o z.number z.mac old (Some frame) new → pdu_of z.port old.max_delay ≡ x
-    by_marker None m = absurd (none-some frame (sym m.0))
-    by_marker (Some id) m = absurd (marker_carries_none frame x _ k (z.mac, m.0, m.1, m.2, same_Some frame _ m.3))
 
 pub went_other : (s : Side) (a : Result (Option (List ℕ)) SystemFault) (fl now : Side → List ItemValue) → Went s a fl now → now s ≡ fl s
 went_other s a fl now h = grind (arith, nat_tests)
@@ -100,8 +84,7 @@ due_tells u v H gives s n k z (Ok (Some frame)) old new fl now says place there 
 -- what goes back
 
 pub back_other : (s : Side) (a : Result Received SystemFault) (fl now : Side → List ItemValue) → Back s a fl now → now s ≡ fl s
-back_other s (Ok (received.Respond frame)) fl now h = ap (λ (f : Side → List ItemValue). f s) h.2 ∙ push_other s h.0 fl
-back_other s a fl now h = ap (λ (f : Side → List ItemValue). f s) h
+back_other s a fl now h = grind (arith, nat_tests, push_other)
 
 back_tells : (u v : Lacpdu) (H : Type 0) (gives : ℕ → ℕ → ℕ → Type 0) (s : Side) (n : ℕ) (octets : List ℕ) (a : Result Received SystemFault)
     (old new : SystemState) (fl now : Side → List ItemValue) → CallPromise gives old (Receive n octets) (answer.Receive a) new
@@ -137,38 +120,8 @@ module _ (gives : Algorithms) (d : ℕ) (at : Side → ℕ) (w : Side → Lacpdu
   On j = (l : Held j) × (OwesAt j ⊎ Tells (w (peer s)) (w s) (l.flying (peer s)) (HoldsAt j))
 
   -- the port at an end
-  record Here (q : Side) (j : WorldState) (l : Held j) : Type 0 where
-    port : SystemPort
-    found : slice_get (half q j).state.system_ports (l.place q).0 ≡ Some port
-    number : port.number ≡ at q
-    is : IsEnd d (w q) (w (peer q)) (c q) port.port
-    wakes : q ≡ s → Wake port.port
-
-  here : (q : Side) (j : WorldState) (l : Held j) → Here q j l
-  here q j l =
-      let ports = (half q j).state.system_ports in
-      let place = l.place q in
-      let it = found (at q) place.0 ports place.1 in
-      let numbered = found_place (at q) ports place.0 it.0 place.1 it.1 in
-      let end = all-get (λ (y : SystemPort). AtPort (at q) (EndIs d w c s Wake q) y.number y.port) ports place.0 it.0 it.1 (l.ports q) numbered in
-      record {
-        port = it.0;
-        found = it.1;
-        number = numbered;
-        is = end.0;
-        wakes = end.1;
-      }
-
-  -- so it is with the port at an end
-  at_here : (P : Machines → Type 0) (q : Side) (j : WorldState) (l : Held j) (e : Here q j l) → P e.port.port
-      → OfEach (AtPort (at q) P) (half q j).state.system_ports
-  at_here P q j l e y = subst (λ n. OfEach (AtPort n P) (half q j).state.system_ports) e.number
-      (at_number P 0 (half q j).state.system_ports (l.place q).0 e.port (ports_rise (half q j).state (l.steady q).0.ports) e.found y)
-
-  of_here : (P : Machines → Type 0) (q : Side) (j : WorldState) (l : Held j) (e : Here q j l)
-      → OfEach (AtPort (at q) P) (half q j).state.system_ports → P e.port.port
-  of_here P q j l e a = all-get (λ (y : SystemPort). AtPort (at q) P y.number y.port) (half q j).state.system_ports (l.place q).0 e.port e.found
-      a e.number
+  abbrev here : (q : Side) (j : WorldState) → Held j → EndPort at w d c q j
+  here q j l = end_here at w d c s Wake j l q
 
   pub owing : (j : WorldState) → Held j → OwesAt j → OfEach (AtPort (at s) (Owing d (w s) (w (peer s)) (c s))) (half s j).state.system_ports
   owing j l a = each_map (λ m p. AtPort (at s) (EndIs d w c s Wake s) m p × AtPort (at s) (Owes (w (peer s))) m p)
@@ -181,50 +134,60 @@ module _ (gives : Algorithms) (d : ℕ) (at : Side → ℕ) (w : Side → Lacpdu
 
   -- the end itself is asked
 
+  -- one that does not claim it owes nothing
+  none_claimed : (old new : WorldState) (l : Held old) → Asks gives s at l.flying old new → (Claims (w (peer s)) (here s old l).port.port → ⊥)
+      → OwesAt new
+  none_claimed old new l k not =
+      let P : Machines → Type 0 = λ p. Claims (w (peer s)) p → ⊥ in
+      each_map (AtPort (at s) P) (AtPort (at s) (Owes (w (peer s)))) (λ q p b f c. absurd (b f c)) (half s new).state.system_ports
+      (asked_each (AtPort (at s) P) (λ m p b. b) (gives s) (at s) k.a (half s old).state (half s new).state k.promise.step
+      (at_end at w d c s old (here s old l) l.steady P not))
+
+  -- one that does, and has an LACPDU due, says so
+  due_claimed : (old new : WorldState) (l : Held old) (k : Asks gives s at l.flying old new) → Claims (w (peer s)) (here s old l).port.port
+      → is_due (here s old l).port.port ≡ true → Tells (w (peer s)) (w s) (k.now (peer s)) (HoldsAt new)
+  due_claimed old new l k claim due =
+      let z = here s old l in
+      due_tells (w (peer s)) (w s) (HoldsAt new) (gives s) s (at s) z.index z.port k.a (half s old).state (half s new).state l.flying k.now
+      (claim_said (w s) (w (peer s)) (half s old).state.max_delay z.port.port (beside_here d at w c s Wake old l) claim) z.place z.there z.is.1.0 due
+      k.promise.step k.went
+
   ask_own : (n : ℕ) (r : Reply) (old new : WorldState) → side_of n ≡ Some s → On old → WorldSteps gives old (event.Emit n (at s)) r new → On new
   ask_own n r old new named (l, m) h =
       let e = emit_link gives n s d at w c s Wake r old new fits named along (λ f p y. y) l h in
       let z = here s old l in
-      let st = (half s old).state in
-      let now = (half s new).state in
-      let u = w (peer s) in
-      let v = w s in
-      let on : HoldsAt old → HoldsAt new = λ y.
-      subst (λ (t : SystemState). OfEach (AtPort (at (peer s)) X) t.system_ports) (sym e.asks.peers) y in (
+      let said : Tells (w (peer s)) (w s) (e.asks.now (peer s)) (HoldsAt new) → Tells (w (peer s)) (w s) (e.link.flying (peer s)) (HoldsAt new) =
+      subst (λ (f : Side → List ItemValue). Tells (w (peer s)) (w s) (f (peer s)) (HoldsAt new)) (sym e.same) in (
         e.link,
-        elim (claims_or_not u z.port.port) [
-          | inr not ↦ inl (each_map (AtPort (at s) (λ p. Claims u p → ⊥)) (AtPort (at s) (Owes u)) (λ q p b f k. absurd (b f k))
-              now.system_ports (asked_each (AtPort (at s) (λ p. Claims u p → ⊥)) (λ m p b. b) (gives s) (at s) e.asks.a st now e.asks.promise.step
-              (at_here (λ p. Claims u p → ⊥) s old l z not)))
+        elim (claims_or_not (w (peer s)) z.port.port) [
+          | inr not ↦ inl (none_claimed old new l e.asks not)
           | inl claim ↦ elim m [
             | inl owes ↦ elim (cases_Bool (is_due z.port.port)) [
-              | inl due ↦ inr (subst (λ (f : Side → List ItemValue). Tells u v (f (peer s)) (HoldsAt new)) (sym e.same)
-                  (due_tells u v (HoldsAt new) (gives s) s (at s) (l.place s).0 z.port e.asks.a st now l.flying e.asks.now
-                  (claim_said v u st.max_delay z.port.port (z.wakes refl) claim) (l.place s).1 z.found z.is.1.0 due
-                  e.asks.promise.step e.asks.went))
-              | inr not ↦ inl (subst (OfEach (AtPort (at s) (Owes u)))
-                  (sym (same_ports_then (gives s) (at s) (l.place s).0 z.port e.asks.a st now (l.place s).1 z.found not e.asks.promise.step))
-                  owes)
+              | inl due ↦ inr (said (due_claimed old new l e.asks claim due))
+              | inr not ↦ inl (subst (OfEach (AtPort (at s) (Owes (w (peer s)))))
+                  (sym (same_ports_then (gives s) (at s) z.index z.port e.asks.a (half s old).state (half s new).state z.place z.there not
+                  e.asks.promise.step)) owes)
             ]
-            | inr tells ↦ inr (subst (λ (f : Side → List ItemValue). Tells u v (f (peer s)) (HoldsAt new)) (sym e.same)
-                (went_tells u v (HoldsAt new) s e.asks.a l.flying e.asks.now e.asks.went
-                (λ frame is x carried. says z claim frame x carried
-                (subst (λ b. Step (gives s) st (Transmit (at s)) (answer.Transmit b) now) is e.asks.promise.step))
-                (tells_map u v (l.flying (peer s)) (HoldsAt old) (HoldsAt new) on tells)))
+            | inr tells ↦ inr (said (went_tells (w (peer s)) (w s) (HoldsAt new) s e.asks.a l.flying e.asks.now e.asks.went
+                (λ frame is x carried. says claim frame x carried
+                (subst (λ b. Step (gives s) (half s old).state (Transmit (at s)) (answer.Transmit b) (half s new).state) is e.asks.promise.step))
+                (tells_map (w (peer s)) (w s) (l.flying (peer s)) (HoldsAt old) (HoldsAt new)
+                (subst (λ (t : SystemState). OfEach (AtPort (at (peer s)) X) t.system_ports) (sym e.asks.peers)) tells)))
           ]
         ],
       )
     where
-      says : (z : Here s old l) → Claims (w (peer s)) z.port.port → (frame : List ℕ) (x : Lacpdu) → IsFrame frame (Carries (pdu.Lacpdu x))
+      says : Claims (w (peer s)) (here s old l).port.port → (frame : List ℕ) (x : Lacpdu) → IsFrame frame (Carries (pdu.Lacpdu x))
           → Step (gives s) (half s old).state (Transmit (at s)) (answer.Transmit (Ok (Some frame))) (half s new).state
           → SaysSynced (w (peer s)) (w s) x
-      says z claim frame x carried step =
+      says claim frame x carried step =
           let st = (half s old).state in
-          let t = subst (λ i. TransmitsAt i st (Some frame) (half s new).state) (l.place s).1 step in
-          let same : t.0 ≡ z.port = same_Some t.0 z.port (sym t.1 ∙ z.found) in
-          let is = sent_is t.0.port.enabled (is_due t.0.port) (l.place s).0 t.0 st frame (half s new).state t.2 x carried in
+          let z = here s old l in
+          let t = subst (λ i. TransmitsAt i st (Some frame) (half s new).state) z.place step in
+          let same : t.0 ≡ z.port = same_Some t.0 z.port (sym t.1 ∙ z.there) in
+          let is = sent_is t.0.port.enabled (is_due t.0.port) z.index t.0 st frame (half s new).state t.2 x carried in
           subst (SaysSynced (w (peer s)) (w s)) (sym (ap (λ (y : SystemPort). pdu_of y.port st.max_delay) same) ∙ is)
-          (claim_said (w s) (w (peer s)) st.max_delay z.port.port (z.wakes refl) claim)
+          (claim_said (w s) (w (peer s)) st.max_delay z.port.port (beside_here d at w c s Wake old l) claim)
 
   -- the end itself is asked, and an LACPDU is due
   pub due_on : (n : ℕ) (r : Reply) (old new : WorldState) → side_of n ≡ Some s → Held old
@@ -233,24 +196,17 @@ module _ (gives : Algorithms) (d : ℕ) (at : Side → ℕ) (w : Side → Lacpdu
   due_on n r old new named l dues h =
       let e = emit_link gives n s d at w c s Wake r old new fits named along (λ f p y. y) l h in
       let z = here s old l in
-      let st = (half s old).state in
-      let now = (half s new).state in
-      let u = w (peer s) in
-      let due = of_here (λ p. is_due p ≡ true) s old l z dues in (
+      let due = end_with at w d c s old z (λ p. is_due p ≡ true) dues in (
         (
           e.link,
-          elim (claims_or_not u z.port.port) [
-            | inl claim ↦ inr (subst (λ (f : Side → List ItemValue). Tells u (w s) (f (peer s)) (HoldsAt new)) (sym e.same)
-                (due_tells u (w s) (HoldsAt new) (gives s) s (at s) (l.place s).0 z.port e.asks.a st now l.flying e.asks.now
-                (claim_said (w s) u st.max_delay z.port.port (z.wakes refl) claim) (l.place s).1 z.found z.is.1.0 due
-                e.asks.promise.step e.asks.went))
-            | inr not ↦ inl (each_map (AtPort (at s) (λ p. Claims u p → ⊥)) (AtPort (at s) (Owes u)) (λ q p b f k. absurd (b f k))
-                now.system_ports (asked_each (AtPort (at s) (λ p. Claims u p → ⊥)) (λ m p b. b) (gives s) (at s) e.asks.a st now
-                e.asks.promise.step (at_here (λ p. Claims u p → ⊥) s old l z not)))
+          elim (claims_or_not (w (peer s)) z.port.port) [
+            | inl claim ↦ inr (subst (λ (f : Side → List ItemValue). Tells (w (peer s)) (w s) (f (peer s)) (HoldsAt new)) (sym e.same)
+                (due_claimed old new l e.asks claim due))
+            | inr not ↦ inl (none_claimed old new l e.asks not)
           ],
         ),
         subst (λ (f : Side → List ItemValue). Flying (f (peer s))) (sym e.same)
-            (flies (gives s) s (at s) (l.place s).0 z.port e.asks.a st now l.flying e.asks.now (l.place s).1 z.found z.is.1.0 due
+            (flies (gives s) s (at s) z.index z.port e.asks.a (half s old).state (half s new).state l.flying e.asks.now z.place z.there z.is.1.0 due
             e.asks.promise.step e.asks.went),
       )
 
@@ -315,23 +271,12 @@ module _ (gives : Algorithms) (d : ℕ) (at : Side → ℕ) (w : Side → Lacpdu
 
   -- an arrival
 
-  pub came_to : (q : Side) (old new : WorldState) (l : Held old) (k : Arrives gives q at l.flying old new)
-      → Arrived (l.place q).0 k.item.octets (half q old).state (half q new).state
-  came_to q old new l k = by_answer k.a k.promise
-    where
-      by_answer : (a : Result Received SystemFault)
-          → CallPromise (gives q) (half q old).state (Receive (at q) k.item.octets) (answer.Receive a) (half q new).state
-          → Arrived (l.place q).0 k.item.octets (half q old).state (half q new).state
-      by_answer (Err fault) p = absurd (none-some (l.place q).0 (sym p.step.cause ∙ (l.place q).1))
-      by_answer (Ok o) p = let z = here q old l in
-          arrival (gives q) (at q) (l.place q).0 z.port k.item.octets o (half q old).state (half q new).state (l.place q).1 z.found z.is.1.0 p
-
   arrive_own : (old new : WorldState) (l : Held old) (k : Arrives gives s at l.flying old new) (i : Held new) → i.flying ≡ k.now
       → OwesAt old ⊎ Tells (w (peer s)) (w s) (l.flying (peer s)) (HoldsAt old) → On new
   arrive_own old new l k i same m = (
     i,
     elim m [
-      | inl owes ↦ inl (elim (came_to s old new l k) [
+      | inl owes ↦ inl (elim (came_to gives s d at w c s Wake old new l k) [
         | inl (x, carries, settles) ↦ takes_own x carries settles owes
         | inr none ↦ subst (OfEach (AtPort (at s) (Owes (w (peer s))))) (sym none.1) owes
       ])
@@ -345,17 +290,18 @@ module _ (gives : Algorithms) (d : ℕ) (at : Side → ℕ) (w : Side → Lacpdu
   )
     where
       takes_own : (x : Lacpdu) → IsFrame k.item.octets (Carries (pdu.Lacpdu x))
-          → ThenSettles (OnlyPortChangesBy (Some (l.place s).0) (ProcessesLacpdu x)) (half s old).state (half s new).state → OwesAt old → OwesAt new
+          → ThenSettles (OnlyPortChangesBy (Some (here s old l).index) (ProcessesLacpdu x)) (half s old).state (half s new).state → OwesAt old
+          → OwesAt new
       takes_own x carries settles owes =
           let z = here s old l in
           let good = subst (AllByRecursion (IsGood d w s)) k.first (l.good s) in
           let suits = good.0 x carries in
           let P = Owing d (w s) (w (peer s)) (c s) in
-          let each = takes_each P (half s old).state (half s new).state x (l.place s).0 z.port (l.steady s).0 z.found
+          let each = takes_each P (half s old).state (half s new).state x z.index z.port (l.steady s).0 z.there
           (λ q awake does. (
             takes_end (w s) (w (peer s)) x (c s) d z.port.port q suits (fits s).1 (fits s).2 (fits s).0 awake does z.is,
-            along.takes x z.port.port q suits awake does z.is (z.wakes refl),
-            owes_takes (w (peer s)) x z.port.port q (suits.0 there) does (of_here (Owes (w (peer s))) s old l z owes),
+            along.takes x z.port.port q suits awake does z.is (beside_here d at w c s Wake old l),
+            owes_takes (w (peer s)) x z.port.port q (suits.0 there) does (end_with at w d c s old z (Owes (w (peer s))) owes),
           )) (owing_settles d (w s) (w (peer s)) (c s) z.port.number there) settles in
           owed (half s new).state (subst (λ n. OfEach (AtPort n P) (half s new).state.system_ports) z.number each)
 
@@ -375,12 +321,12 @@ module _ (gives : Algorithms) (d : ℕ) (at : Side → ℕ) (w : Side → Lacpdu
       )
     where
       comes : SaysIt (w (peer s)) (w s) k.item → HoldsAt old ⊎ Bears k.item → HoldsAt new
-      comes says was = elim (came_to (peer s) old new l k) [
+      comes says was = elim (came_to gives (peer s) d at w c s Wake old new l k) [
         | inl (x, carries, settles) ↦ (let z = here (peer s) old l in
             let good = subst (AllByRecursion (IsGood d w (peer s))) k.first (l.good (peer s)) in
             let actor = subst (λ t. SameActor x (w t)) (peer_twice s) ((good.0 x carries).0 there) in
             subst (λ n. OfEach (AtPort n X) (half (peer s) new).state.system_ports) z.number
-            (takes_each X (half (peer s) old).state (half (peer s) new).state x (l.place (peer s)).0 z.port (l.steady (peer s)).0 z.found
+            (takes_each X (half (peer s) old).state (half (peer s) new).state x z.index z.port (l.steady (peer s)).0 z.there
             (λ q awake does. takes q (takes_claim (w (peer s)) (w s) x z.port.port q actor (says x carries) awake does z.is.0 z.is.1.0))
             (subst (λ n. KeptBySettling (AtPort n X)) (sym z.number) keeps) settles))
         | inr none ↦ elim was [

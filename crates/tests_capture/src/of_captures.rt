@@ -4,6 +4,7 @@ use captures::{
     Cause, LinkType, MOST_CAPTURED, Order, Reader, Stop, Unit, put_file_header, put_packet,
 };
 use std::alloc::{AllocError, Global};
+use std::process::Abort;
 
 /// A file of pcap with microseconds and two packets, the least significant octet first.
 const LITTLE: [u8; 63] = [
@@ -123,156 +124,108 @@ pub(crate) const BLOCKS: [u8; 308] = [
     0x24, 0x00, 0x00, 0x00,
 ];
 
-/// What was read of a packet.
-#[derive(Debug, Drop, PartialEq)]
-struct Seen {
-    interface: u32,
-    link: LinkType,
-    time: Option<u64>,
-    original: u32,
-    octets: Vec<u8>,
-}
+/// What was read of a packet but its time: its interface and what its link is, how many octets it had, and those that were captured.
+type Seen<'a> = (u32, LinkType, u32, &'a [u8]);
 
-/// What was read of a capture: its packets, and the offset and the cause of the refusal, if there is one.
+/// What was read of a capture: its packets and their times, and the offset and the cause of the refusal, if there is one.
 #[derive(Drop)]
-struct Capture {
-    packets: Vec<Seen>,
+struct Capture<'a> {
+    packets: Vec<Seen<'a>>,
+    times: Vec<Option<u64>>,
     fault: Option<(usize, Cause)>,
 }
 
 /// Reads a whole capture.
-fn read(alloc: Global, octets: &[u8]) -> Result<Capture, AllocError> {
+fn read<'a>(alloc: Global, octets: &'a [u8]) -> Result<Capture<'a>, AllocError> {
     let mut reader = Reader::new();
     let mut packets = Vec::new(alloc);
+    let mut times = Vec::new(alloc);
     let mut rest = octets;
+    let mut fault = None;
     for _ in 0..1000 {
         let at = octets.len().wrapping_sub(rest.len());
         match reader.read(rest) {
             Ok(step) => {
                 if let Some(packet) = step.packet {
-                    packets.push(Seen {
-                        interface: packet.interface,
-                        link: packet.link,
-                        time: packet.time,
-                        original: packet.original,
-                        octets: Vec::from_slice(alloc, packet.octets(rest))?,
-                    })?;
+                    let captured = packet.octets(rest);
+                    packets.push((packet.interface, packet.link, packet.original, captured))?;
+                    times.push(packet.time)?;
                 }
                 if step.taken > rest.len() {
-                    let fault = Some((octets.len(), Cause::CutShort));
-                    return Ok(Capture { packets, fault });
+                    fault = Some((octets.len(), Cause::CutShort));
+                    break;
                 }
                 rest = &rest[step.taken..];
             }
             Err(Stop::Wants(_)) => {
-                let fault = match reader.end(rest.len()) {
-                    Ok(()) => None,
-                    Err(fault) => Some((at.wrapping_add(fault.at), fault.cause)),
-                };
-                return Ok(Capture { packets, fault });
+                if let Err(end) = reader.end(rest.len()) {
+                    fault = Some((at.wrapping_add(end.at), end.cause));
+                }
+                break;
             }
-            Err(Stop::Refused(fault)) => {
-                let fault = Some((at.wrapping_add(fault.at), fault.cause));
-                return Ok(Capture { packets, fault });
+            Err(Stop::Refused(refusal)) => {
+                fault = Some((at.wrapping_add(refusal.at), refusal.cause));
+                break;
             }
         }
     }
     Ok(Capture {
         packets,
-        fault: None,
+        times,
+        fault,
     })
 }
 
-/// A packet that is expected.
-fn expected_of(
+/// A capture is read to its end, and has these packets with these times.
+fn reads(
+    rt: &impl Abort,
     alloc: Global,
-    interface: u32,
-    link: LinkType,
-    time: Option<u64>,
-    original: u32,
     octets: &[u8],
-) -> Result<Seen, AllocError> {
-    Ok(Seen {
-        interface,
-        link,
-        time,
-        original,
-        octets: Vec::from_slice(alloc, octets)?,
-    })
+    packets: &[Seen<'_>],
+    times: &[Option<u64>],
+) -> Result<(), AllocError> {
+    let capture = read(alloc, octets)?;
+    assert_eq!(rt; capture.packets.as_slice(), packets);
+    assert_eq!(rt; capture.times.as_slice(), times);
+    assert_eq!(rt; capture.fault, None);
+    Ok(())
 }
 
 #[test]
 fn pcap_is_read_in_both_orders(rt: HostRuntime) -> Result<(), AllocError> {
-    let alloc = rt.alloc();
-    let ethernet = LinkType::Ethernet;
-    let little = read(alloc, &LITTLE)?;
-    let octets = [0x01, 0x80, 0xc2, 0, 0];
-    let first = expected_of(
-        alloc,
-        0,
-        ethernet,
+    const LITTLE_SEEN: [Seen<'static>; 2] = [
+        (0, LinkType::Ethernet, 124, &[0x01, 0x80, 0xc2, 0, 0]),
+        (0, LinkType::Ethernet, 60, &[0xaa, 0xbb]),
+    ];
+    const BIG_SEEN: [Seen<'static>; 1] = [(0, LinkType::Cooked2, 126, &[0x88, 0x09, 0x01, 0x02])];
+    let times = [
         Some(1_597_647_644_654_321_000),
-        124,
-        &octets,
-    )?;
-    let second = expected_of(
-        alloc,
-        0,
-        ethernet,
         Some(1_597_647_645_000_007_000),
-        60,
-        &[0xaa, 0xbb],
-    )?;
-    assert_eq!(rt;
-        little.packets.as_slice(),
-        vec![in alloc; first, second]?.as_slice()
-    );
-    assert_eq!(rt; little.fault, None);
-    let big = read(alloc, &BIG)?;
-    let octets = [0x88, 0x09, 0x01, 0x02];
-    let only = expected_of(
-        alloc,
-        0,
-        LinkType::Cooked2,
-        Some(3_999_999_999),
-        126,
-        &octets,
-    )?;
-    assert_eq!(rt; big.packets.as_slice(), vec![in alloc; only]?.as_slice());
-    assert_eq!(rt; big.fault, None);
-    Ok(())
+    ];
+    reads(&rt, rt.alloc(), &LITTLE, &LITTLE_SEEN, &times)?;
+    reads(&rt, rt.alloc(), &BIG, &BIG_SEEN, &[Some(3_999_999_999)])
 }
 
 #[test]
 fn pcapng_is_read_section_by_section(rt: HostRuntime) -> Result<(), AllocError> {
-    let alloc = rt.alloc();
-    let ethernet = LinkType::Ethernet;
-    let blocks = read(alloc, &BLOCKS)?;
-    let octets = [0x01, 0x80, 0xc2, 0, 0];
-    let enhanced = expected_of(
-        alloc,
-        0,
-        ethernet,
+    const SEEN: [Seen<'static>; 4] = [
+        (0, LinkType::Ethernet, 124, &[0x01, 0x80, 0xc2, 0, 0]),
+        (
+            0,
+            LinkType::Ethernet,
+            70,
+            &[0xa1, 0xa2, 0xa3, 0xa4, 0xa5, 0xa6],
+        ),
+        (1, LinkType::Cooked, 85, &[0xb1, 0xb2, 0xb3, 0xb4]),
+        (0, LinkType::Cooked2, 77, &[0xc1]),
+    ];
+    let times = [
         Some(1_598_918_400_123_456_789),
-        124,
-        &octets,
-    )?;
-    let octets = [0xa1, 0xa2, 0xa3, 0xa4, 0xa5, 0xa6];
-    let simple = expected_of(alloc, 0, ethernet, None, 70, &octets)?;
-    let octets = [0xb1, 0xb2, 0xb3, 0xb4];
-    let older = expected_of(alloc, 1, LinkType::Cooked, Some(1_500_000_000), 85, &octets)?;
-    let last = expected_of(
-        alloc,
-        0,
-        LinkType::Cooked2,
+        None,
+        Some(1_500_000_000),
         Some(4_294_967_298_000),
-        77,
-        &[0xc1],
-    )?;
-    let expected = vec![in alloc; enhanced, simple, older, last]?;
-    assert_eq!(rt; blocks.packets.as_slice(), expected.as_slice());
-    assert_eq!(rt; blocks.fault, None);
-    Ok(())
+    ];
+    reads(&rt, rt.alloc(), &BLOCKS, &SEEN, &times)
 }
 
 /// Whether a block of this type with 16 octets is a record without a packet.
@@ -294,47 +247,28 @@ fn some_blocks_without_a_packet_have_a_number(rt: HostRuntime) {
         assert!(rt; is_record(kind), "{kind:x}");
     }
     for kind in [
-        0,
-        4,
-        5,
-        7,
-        8,
-        10,
-        11,
-        0xbac,
-        0xbae,
-        0x4000_0bae,
-        0x201,
-        0x205,
-        0x208,
-        0x217,
+        0, 4, 5, 7, 8, 10, 11, 0xbac, 0xbae, 0x201, 0x205, 0x208, 0x217,
     ] {
         assert!(rt; !is_record(kind), "{kind:x}");
     }
+    assert!(rt; !is_record(0x4000_0bae));
+}
+
+/// A beginning of a file is refused as cut short, unless it has one of these lengths.
+fn is_cut(rt: &impl Abort, alloc: Global, file: &[u8], ends: &[usize]) -> Result<(), AllocError> {
+    for n in 0..file.len() {
+        let cut = Some((n, Cause::CutShort));
+        let fault = if ends.contains(&n) { None } else { cut };
+        assert_eq!(rt; read(alloc, &file[..n])?.fault, fault, "{n}");
+    }
+    Ok(())
 }
 
 #[test]
 fn a_capture_is_cut_at_every_length(rt: HostRuntime) -> Result<(), AllocError> {
-    let alloc = rt.alloc();
-    for n in 0..LITTLE.len() {
-        let whole = n == 24 || n == 45;
-        let fault = if whole {
-            None
-        } else {
-            Some((n, Cause::CutShort))
-        };
-        assert_eq!(rt; read(alloc, &LITTLE[..n])?.fault, fault);
-    }
     let ends = [32, 76, 92, 132, 156, 184, 204, 236, 272];
-    for n in 0..BLOCKS.len() {
-        let fault = if ends.contains(&n) {
-            None
-        } else {
-            Some((n, Cause::CutShort))
-        };
-        assert_eq!(rt; read(alloc, &BLOCKS[..n])?.fault, fault);
-    }
-    Ok(())
+    is_cut(&rt, rt.alloc(), &LITTLE, &[24, 45])?;
+    is_cut(&rt, rt.alloc(), &BLOCKS, &ends)
 }
 
 /// The refusal of a file in which one octet is another.
@@ -351,23 +285,33 @@ fn with_octet(
     Ok(read(alloc, &changed)?.fault)
 }
 
+/// An octet that is another, by its place and value, and the offset and the cause of the refusal.
+type Refused = (usize, u8, usize, Cause);
+
+/// A file in which one octet is another is refused like this.
+fn refuses(
+    rt: &impl Abort,
+    alloc: Global,
+    file: &[u8],
+    rows: &[Refused],
+) -> Result<(), AllocError> {
+    for (at, octet, offset, cause) in rows {
+        let fault = with_octet(alloc, file, *at, *octet)?;
+        assert_eq!(rt; fault, Some((*offset, *cause)), "{at}");
+    }
+    Ok(())
+}
+
 #[test]
 fn each_fault_has_its_offset(rt: HostRuntime) -> Result<(), AllocError> {
-    let alloc = rt.alloc();
-    let of_little = [
+    const OF_LITTLE: [Refused; 5] = [
         (0, 0xd5, 0, Cause::Format(0xd5c3_b2a1)),
         (4, 3, 4, Cause::Version(3, 4)),
         (6, 3, 4, Cause::Version(2, 3)),
         (20, 2, 20, Cause::LinkType(2)),
         (34, 4, 32, Cause::Captured(262_149)),
     ];
-    for (at, octet, offset, cause) in of_little {
-        assert_eq!(rt;
-            with_octet(alloc, &LITTLE, at, octet)?,
-            Some((offset, cause))
-        );
-    }
-    let of_blocks = [
+    const OF_BLOCKS: [Refused; 15] = [
         (8, 0x1b, 8, Cause::SectionOrder(0x1b2b_3c4d)),
         (13, 2, 12, Cause::Version(2, 0)),
         (7, 34, 4, Cause::Length(34)),
@@ -384,14 +328,10 @@ fn each_fault_has_its_offset(rt: HostRuntime) -> Result<(), AllocError> {
         (47, 9, 140, Cause::Length(9)),
         (287, 0x40, 284, Cause::Time),
     ];
-    for (at, octet, offset, cause) in of_blocks {
-        assert_eq!(rt;
-            with_octet(alloc, &BLOCKS, at, octet)?,
-            Some((offset, cause))
-        );
-    }
+    refuses(&rt, rt.alloc(), &LITTLE, &OF_LITTLE)?;
+    refuses(&rt, rt.alloc(), &BLOCKS, &OF_BLOCKS)?;
     let gzip = [0x1f, 0x8b, 8, 0];
-    assert_eq!(rt; read(alloc, &gzip)?.fault, Some((0, Cause::Gzip)));
+    assert_eq!(rt; read(rt.alloc(), &gzip)?.fault, Some((0, Cause::Gzip)));
     Ok(())
 }
 
@@ -470,15 +410,14 @@ fn an_interface_moves_its_times(rt: HostRuntime) -> Result<(), AllocError> {
         ([0, 0, 0, 4, 75, 130, 250, 5], None, time),
     ];
     for (offset, wanted, fault) in rows {
-        let capture = read(alloc, &with_offset(alloc, 8, offset)?)?;
-        let first = match capture.packets.first() {
-            Some(packet) => packet.time,
-            None => None,
-        };
+        let file = with_offset(alloc, 8, offset)?;
+        let capture = read(alloc, &file)?;
+        let first = capture.times.first().copied().unwrap_or(None);
         assert_eq!(rt; first, wanted, "{offset:?}");
         assert_eq!(rt; capture.fault, fault, "{offset:?}");
     }
-    let short = read(alloc, &with_offset(alloc, 4, [0; 8])?)?;
+    let file = with_offset(alloc, 4, [0; 8])?;
+    let short = read(alloc, &file)?;
     assert_eq!(rt; short.fault, Some((50, Cause::Length(4))));
     Ok(())
 }

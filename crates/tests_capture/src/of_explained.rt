@@ -155,6 +155,10 @@ fn explained(alloc: Global, settings: Settings, octets: &[u8], size: usize) -> O
     }
 }
 
+fn settings(all: bool, frames: bool, json: bool) -> Settings {
+    Settings { all, frames, json }
+}
+
 /// A line for each frame, with what differs.
 const CHANGES: Settings = Settings {
     all: false,
@@ -202,20 +206,10 @@ fn a_record_without_a_packet_has_a_number(rt: HostRuntime) -> Result<(), Fail> {
 fn each_line_is_a_record(rt: HostRuntime) -> Result<(), Fail> {
     let alloc = rt.alloc();
     let octets = coming_up(alloc, Order::Big)?;
-    let records = Settings {
-        all: false,
-        frames: true,
-        json: true,
-    };
-    let outcome = explained(alloc, records, &octets, 100);
+    let outcome = explained(alloc, settings(false, true, true), &octets, 100);
     let text = str::from_utf8(&outcome.text).unwrap_or("");
     assert_eq!(rt; text, RECORDS);
-    let no_frames = Settings {
-        all: false,
-        frames: false,
-        json: true,
-    };
-    let outcome = explained(alloc, no_frames, &octets, 100);
+    let outcome = explained(alloc, settings(false, false, true), &octets, 100);
     let text = str::from_utf8(&outcome.text).unwrap_or("");
     let behind = match RECORDS.split_once("110 octets: 46\"}\n") {
         Some((_, behind)) => behind,
@@ -229,22 +223,12 @@ fn each_line_is_a_record(rt: HostRuntime) -> Result<(), Fail> {
 fn every_field_or_no_frame_is_shown(rt: HostRuntime) -> Result<(), Fail> {
     let alloc = rt.alloc();
     let octets = coming_up(alloc, Order::Big)?;
-    let all = Settings {
-        all: true,
-        frames: true,
-        json: false,
-    };
-    let outcome = explained(alloc, all, &octets, 4096);
+    let outcome = explained(alloc, settings(true, true, false), &octets, 4096);
     let text = str::from_utf8(&outcome.text).unwrap_or("");
     let line =
         "6 3.250000 02-00-00-00-00-02 lacpdu actor P3 state 3d active,aggregatable,synchronized,collecting,distributing partner P1 partner-state 3d active,aggregatable,synchronized,collecting,distributing max-delay 0\n";
     assert!(rt; text.contains(line), "{text}");
-    let none = Settings {
-        all: false,
-        frames: false,
-        json: false,
-    };
-    let outcome = explained(alloc, none, &octets, 4096);
+    let outcome = explained(alloc, settings(false, false, false), &octets, 4096);
     let text = str::from_utf8(&outcome.text).unwrap_or("");
     assert!(rt; !text.contains("lacpdu actor"), "{text}");
     // The links come first, then the legend.
@@ -289,6 +273,19 @@ fn what_is_cut_short_is_told_at_every_length(rt: HostRuntime) -> Result<(), Fail
 }
 
 #[test]
+fn refusals_say_where_they_are(rt: HostRuntime) -> Result<(), Fail> {
+    let time = "octet 40: a time before 1970 or after the year 2554";
+    for (at, cause, wanted) in [
+        (0, Cause::Gzip, "octet 0: packed by gzip: unpack it first"),
+        (40, Cause::Time, time),
+    ] {
+        let text = format!(in rt.alloc(); "{}", ReadFault { at, cause })?;
+        assert_eq!(rt; text.as_str(), wanted);
+    }
+    Ok(())
+}
+
+#[test]
 fn what_is_no_capture_is_refused(rt: HostRuntime) -> Result<(), Fail> {
     let alloc = rt.alloc();
     let rows: [(&[u8], Cause); 3] = [
@@ -306,20 +303,5 @@ fn what_is_no_capture_is_refused(rt: HostRuntime) -> Result<(), Fail> {
         });
         assert_eq!(rt; outcome.answer, wanted);
     }
-    let fault = ReadFault {
-        at: 0,
-        cause: Cause::Gzip,
-    };
-    let text = format!(in alloc; "{fault}")?;
-    assert_eq!(rt; text.as_str(), "octet 0: packed by gzip: unpack it first");
-    let fault = ReadFault {
-        at: 40,
-        cause: Cause::Time,
-    };
-    let text = format!(in alloc; "{fault}")?;
-    assert_eq!(rt;
-        text.as_str(),
-        "octet 40: a time before 1970 or after the year 2554"
-    );
     Ok(())
 }

@@ -1,5 +1,6 @@
 //! Comparisons that the tests share: a call of these costs the prover less than an `assert_eq!` in each test.
-use std::fmt::Debug;
+use std::alloc::{AllocError, Global};
+use std::fmt::{Debug, Display};
 use std::process::Abort;
 
 /// Fails unless a value is the expected one; the text says what was read.
@@ -21,6 +22,18 @@ pub(crate) fn same_at<T: Debug + PartialEq>(
     wanted: &T,
 ) {
     assert_eq!(rt; *came, *wanted, "{what} {number}");
+}
+
+/// Fails unless a value prints this text.
+pub(crate) fn prints<T: Display>(
+    rt: &impl Abort,
+    alloc: Global,
+    value: &T,
+    text: &str,
+) -> Result<(), AllocError> {
+    let printed = format!(in alloc; "{value}")?;
+    same(rt, "text", &printed.as_str(), &text);
+    Ok(())
 }
 
 /// Fails unless a statement holds; the text is the statement.

@@ -1,4 +1,4 @@
-use crate::comparing::{same, same_at};
+use crate::comparing::{prints, same, same_at};
 use cables::{AnyCable, Cable, CableFault, Item, ListCable, RingCable, Stamp};
 use std::alloc::{AllocError, Global};
 use std::process::Abort;
@@ -127,24 +127,19 @@ fn a_limit_of_0_is_refused(rt: HostRuntime) {
     same(&rt, "new with limit 0", &refused, &Some(CableFault::Limit));
 }
 
-/// A fault has this number, and prints this text.
-fn tells(
-    rt: &impl Abort,
-    alloc: Global,
-    fault: CableFault,
-    number: u8,
-    text: &str,
-) -> Result<(), AllocError> {
-    same(rt, text, &fault.number(), &number);
-    let printed = format!(in alloc; "{fault}")?;
-    same(rt, "text of a fault", &printed.as_str(), &text);
-    Ok(())
-}
+/// The faults, and the number and the text of each.
+const FAULTS: [(CableFault, u8, &str); 2] = [
+    (CableFault::Limit, 1, "the limit is 0"),
+    (CableFault::NoMemory, 2, "out of memory"),
+];
 
 #[test]
 fn faults_have_numbers_and_texts(rt: HostRuntime) -> Result<(), AllocError> {
-    tells(&rt, rt.alloc(), CableFault::Limit, 1, "the limit is 0")?;
-    tells(&rt, rt.alloc(), CableFault::NoMemory, 2, "out of memory")
+    for (fault, number, text) in &FAULTS {
+        same(&rt, *text, &fault.number(), number);
+        prints(&rt, rt.alloc(), fault, *text)?;
+    }
+    Ok(())
 }
 
 /// A ring of three places is full: an item comes back, the first one leaves, and the item goes on.

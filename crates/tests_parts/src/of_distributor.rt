@@ -1,7 +1,7 @@
 ghost use Rattle.std.specs.Prelude.{◌≡◌, ◌≤◌, ◌<◌, length};
 ghost use Rattle.distributor.specs.Calls.{PicksIndexes};
 
-use crate::comparing::{same, same_in_row};
+use crate::comparing::{prints, same, same_in_row};
 use distributor::{Assignment, DistFault, Distributor, by_number};
 use lagtypes::{AggId, NoMemory};
 use std::alloc::{AllocError, Global};
@@ -21,8 +21,8 @@ const FREE: Assignment = Assignment::Free { preferred: None };
 /// Free, and preferring port 2.
 const FREE_FOR_2: Assignment = Assignment::Free { preferred: Some(2) };
 
-/// What a reader of a distributor is expected to return.
-#[derive(Clone, Copy)]
+/// What a reader of a distributor returns.
+#[derive(Clone, Copy, Debug, PartialEq)]
 enum Fact {
     State(u16, Assignment),
     /// The conversation waits on port 1 behind marker 1, since this many ticks, and prefers port 65.
@@ -71,34 +71,30 @@ fn count_on<F: Fn(u16, usize) -> usize + Drop>(d: &Distributor<F>, agg: AggId, p
     count
 }
 
-/// Compares what the reader that a fact names returns with what the fact says.
-fn reads<F: Fn(u16, usize) -> usize + Drop>(
-    rt: &impl Abort,
-    place: usize,
-    d: &Distributor<F>,
-    agg: AggId,
-    fact: Fact,
-) {
+/// What `state` returns for a conversation: `FlushingSince` where it is that state.
+fn state_of(conv: u16, state: Assignment) -> Fact {
+    match state {
+        Assignment::Flushing {
+            port: 1,
+            id: 1,
+            preferred: Some(65),
+            age,
+        } => Fact::FlushingSince(conv, age),
+        _ => Fact::State(conv, state),
+    }
+}
+
+/// What the reader that a fact names returns.
+fn read<F: Fn(u16, usize) -> usize + Drop>(d: &Distributor<F>, agg: AggId, fact: Fact) -> Fact {
     match fact {
-        Fact::State(conv, state) => same_in_row(rt, place, &d.state(agg, conv), &state),
-        Fact::FlushingSince(conv, age) => {
-            let state = Assignment::Flushing {
-                port: 1,
-                id: 1,
-                preferred: Some(65),
-                age,
-            };
-            same_in_row(rt, place, &d.state(agg, conv), &state);
-        }
-        Fact::Preferred(conv, port) => same_in_row(rt, place, &d.preferred(agg, conv), &port),
-        Fact::IsConversation(conv, is) => {
-            same_in_row(rt, place, &d.is_conversation(agg, conv), &is);
-        }
-        Fact::CountOn(port, count) => same_in_row(rt, place, &count_on(d, agg, port), &count),
-        Fact::Load(port, load) => same_in_row(rt, place, &d.load(port), &load),
-        Fact::Conversations(count) => same_in_row(rt, place, &d.conversations(), &count),
-        Fact::NextMarker(id) => same_in_row(rt, place, &d.next_marker(), &id),
-        Fact::NextWanted(ticks) => same_in_row(rt, place, &d.ticks_until_next_wanted(), &ticks),
+        Fact::State(conv, _) | Fact::FlushingSince(conv, _) => state_of(conv, d.state(agg, conv)),
+        Fact::Preferred(conv, _) => Fact::Preferred(conv, d.preferred(agg, conv)),
+        Fact::IsConversation(conv, _) => Fact::IsConversation(conv, d.is_conversation(agg, conv)),
+        Fact::CountOn(port, _) => Fact::CountOn(port, count_on(d, agg, port)),
+        Fact::Load(port, _) => Fact::Load(port, d.load(port)),
+        Fact::Conversations(_) => Fact::Conversations(d.conversations()),
+        Fact::NextMarker(_) => Fact::NextMarker(d.next_marker()),
+        Fact::NextWanted(_) => Fact::NextWanted(d.ticks_until_next_wanted()),
     }
 }
 
@@ -128,7 +124,7 @@ fn play<F: Fn(u16, usize) -> usize + Drop>(
         Row::Leave(port) => d.leave(port),
         Row::Down(port) => d.down(port),
         Row::Clear => d.clear(),
-        Row::Is(fact) => reads(rt, place, d, agg, fact),
+        Row::Is(fact) => same_in_row(rt, place, &read(d, agg, fact), &fact),
     }
 }
 
@@ -639,49 +635,41 @@ fn places_are_numbers_modulo_the_count(rt: HostRuntime) {
     }
 }
 
-/// The faults, in the order of their numbers, from 1 on.
-const FAULTS: [(DistFault, &str); 6] = [
-    (DistFault::Held, "the conversation is Wanted or Flushing"),
+/// The faults, and the number and the text of each.
+const FAULTS: [(DistFault, u8, &str); 6] = [
+    (DistFault::Held, 1, "the conversation is Wanted or Flushing"),
     (
         DistFault::NoneDistributing,
+        2,
         "the conversation is Free, and no port distributes in its aggregator",
     ),
     (
         DistFault::NotDistributing,
+        3,
         "the port to move to does not distribute in the aggregator",
     ),
     (
         DistFault::SamePort,
+        4,
         "the port to move to is the one that the conversation is on",
     ),
     (
         DistFault::NotAssigned,
+        5,
         "there is no such conversation, or the one that is to be moved or forced is Free",
     ),
     (
         DistFault::MarkersSpent,
+        6,
         "no identifier is left, since 4294967295 was sent",
     ),
 ];
 
-/// A fault has this number, and prints this text.
-fn tells(
-    rt: &impl Abort,
-    alloc: Global,
-    fault: DistFault,
-    number: u8,
-    text: &str,
-) -> Result<(), AllocError> {
-    same(rt, text, &fault.number(), &number);
-    let printed = format!(in alloc; "{fault}")?;
-    same(rt, "text of a fault", &printed.as_str(), &text);
-    Ok(())
-}
-
 #[test]
 fn refusals_have_numbers_and_texts(rt: HostRuntime) -> Result<(), AllocError> {
-    for (number, (fault, text)) in (1..).zip(FAULTS) {
-        tells(&rt, rt.alloc(), fault, number, text)?;
+    for (fault, number, text) in &FAULTS {
+        same(&rt, *text, &fault.number(), number);
+        prints(&rt, rt.alloc(), fault, *text)?;
     }
     Ok(())
 }

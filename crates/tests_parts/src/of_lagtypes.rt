@@ -1,4 +1,4 @@
-use crate::comparing::{holds, same, same_in_row};
+use crate::comparing::{holds, prints, same, same_in_row};
 use bitflags::Flags;
 use lagtypes::{
     AggId, Choice, Group, Key, OctetText, Party, PortId, State, StateBits, SystemId, decimal_u16,
@@ -43,32 +43,6 @@ fn distinct() -> Party {
     }
 }
 
-/// The group of two parties prints this text.
-fn prints(
-    rt: &impl Abort,
-    alloc: Global,
-    one: Party,
-    other: Party,
-    text: &str,
-) -> Result<(), AllocError> {
-    let group = Group::of(&one, &other);
-    let printed = format!(in alloc; "{group}")?;
-    same(rt, "text of a group", &printed.as_str(), &text);
-    Ok(())
-}
-
-/// The group of two parties prints this text, in whatever order they stand.
-fn prints_both_ways(
-    rt: &impl Abort,
-    alloc: Global,
-    one: Party,
-    other: Party,
-    text: &str,
-) -> Result<(), AllocError> {
-    prints(rt, alloc, one, other, text)?;
-    prints(rt, alloc, other, one, text)
-}
-
 /// The same party with another key.
 fn next_key() -> Party {
     Party {
@@ -89,21 +63,35 @@ fn next_port() -> Party {
     }
 }
 
+/// Texts of groups.
+const ALONE: &str =
+    "0/00-00-00-00-00-00 key 0 port 0/0 <> 32768/02-00-00-00-00-01 key 1 port 128/1";
+
+const SHARED: &str = "32768/02-00-00-00-00-01 key 1 <> 32768/02-00-00-00-00-02 key 1";
+
+const APART: &str =
+    "4660/12-34-56-78-9a-bc key 3 port 200/7 <> 32768/02-00-00-00-00-02 key 1 port 128/1";
+
+const BY_KEY: &str = "4660/12-34-56-78-9a-bc key 3 <> 4660/12-34-56-78-9a-bc key 4";
+
+const BY_PORT: &str =
+    "4660/12-34-56-78-9a-bc key 3 port 200/7 <> 4660/12-34-56-78-9a-bc key 3 port 201/6";
+
 #[test]
 fn groups_print_the_lower_end_first(rt: HostRuntime) -> Result<(), AllocError> {
-    let alloc = rt.alloc();
-    let alone = "0/00-00-00-00-00-00 key 0 port 0/0 <> 32768/02-00-00-00-00-01 key 1 port 128/1";
-    let shared = "32768/02-00-00-00-00-01 key 1 <> 32768/02-00-00-00-00-02 key 1";
-    let apart =
-        "4660/12-34-56-78-9a-bc key 3 port 200/7 <> 32768/02-00-00-00-00-02 key 1 port 128/1";
-    let by_key = "4660/12-34-56-78-9a-bc key 3 <> 4660/12-34-56-78-9a-bc key 4";
-    let by_port =
-        "4660/12-34-56-78-9a-bc key 3 port 200/7 <> 4660/12-34-56-78-9a-bc key 3 port 201/6";
-    prints(&rt, alloc, party(2, false), distinct(), apart)?;
-    prints(&rt, alloc, next_key(), distinct(), by_key)?;
-    prints(&rt, alloc, next_port(), distinct(), by_port)?;
-    prints_both_ways(&rt, alloc, party(1, true), Party::default(), alone)?;
-    prints_both_ways(&rt, alloc, party(1, true), party(2, true), shared)
+    let rows = [
+        (party(2, false), distinct(), APART),
+        (next_key(), distinct(), BY_KEY),
+        (next_port(), distinct(), BY_PORT),
+        (party(1, true), Party::default(), ALONE),
+        (Party::default(), party(1, true), ALONE),
+        (party(1, true), party(2, true), SHARED),
+        (party(2, true), party(1, true), SHARED),
+    ];
+    for (one, other, text) in &rows {
+        prints(&rt, rt.alloc(), &Group::of(one, other), *text)?;
+    }
+    Ok(())
 }
 
 #[test]
@@ -190,11 +178,9 @@ const STATES: [(u8, &str); 11] = [
 /// A state with these bits prints this text, and its names written again give the bits.
 fn prints_state(rt: &impl Abort, alloc: Global, octet: u8, text: &str) -> Result<(), AllocError> {
     let state = State::from_bits_retain(octet);
-    let printed = format!(in alloc; "{state}")?;
-    same(rt, text, &printed.as_str(), &text);
     let again = State::from(state.named());
     same(rt, text, &again.bits(), &octet);
-    Ok(())
+    prints(rt, alloc, &state, text)
 }
 
 #[test]
@@ -232,32 +218,41 @@ fn each_reader_has_its_bit(rt: HostRuntime) {
     }
 }
 
-#[test]
-fn states_are_read_and_written_by_name(rt: HostRuntime) {
-    let state = State::from(StateBits {
+/// Active, aggregatable and expired.
+fn three_bits() -> State {
+    State::from(StateBits {
         activity: true,
         aggregation: true,
         expired: true,
         ..StateBits::default()
-    });
-    same(&rt, "bits", &state.bits(), &0x85);
+    })
+}
+
+#[test]
+fn states_are_read_and_written_by_name(rt: HostRuntime) {
+    let state = three_bits();
     let wanted = [true, false, true, false, false, false, false, true];
     same(&rt, "readers", &read(state), &wanted);
-    let synchronized = state.with_synchronization(true);
-    same(&rt, "synchronized", &synchronized.bits(), &0x8d);
-    let long_again = state.with_timeout(true).with_timeout(false);
-    same(&rt, "with_timeout", &long_again.bits(), &0x85);
+    let rows = [
+        (state, 0x85),
+        (state.with_synchronization(true), 0x8d),
+        (state.with_timeout(true).with_timeout(false), 0x85),
+    ];
+    for (place, (state, bits)) in rows.iter().enumerate() {
+        same_in_row(&rt, place, &state.bits(), bits);
+    }
+}
+
+#[test]
+fn a_port_is_not_selected_at_first(rt: HostRuntime) {
+    let first = Choice::Selected(AggId(1));
+    holds(&rt, "not SELECTED at first", Choice::default() != first);
 }
 
 #[test]
 fn numbers_print_as_decimal(rt: HostRuntime) -> Result<(), AllocError> {
-    let key = format!(in rt.alloc(); "{}", Key(65535))?;
-    same(&rt, "a key", &key.as_str(), &"65535");
-    let aggregator = format!(in rt.alloc(); "{}", AggId(1))?;
-    same(&rt, "an aggregator", &aggregator.as_str(), &"1");
-    let first = Choice::Selected(AggId(1));
-    holds(&rt, "not SELECTED at first", Choice::default() != first);
-    Ok(())
+    prints(&rt, rt.alloc(), &Key(65535), "65535")?;
+    prints(&rt, rt.alloc(), &AggId(1), "1")
 }
 
 #[test]
@@ -295,7 +290,5 @@ fn numbers_are_decimal_digits(rt: HostRuntime) {
 
 #[test]
 fn octets_print_as_two_digits(rt: HostRuntime) -> Result<(), AllocError> {
-    let octet = format!(in rt.alloc(); "{}", OctetText(0x0b))?;
-    same(&rt, "an octet", &octet.as_str(), &"0b");
-    Ok(())
+    prints(&rt, rt.alloc(), &OctetText(0x0b), "0b")
 }

@@ -1,6 +1,6 @@
 ghost use Rattle.std.specs.Prelude.{◌+◌, ◌≤◌, length};
 
-use crate::comparing::{same, same_in_row};
+use crate::comparing::{prints, same, same_in_row};
 use bitflags::Flags;
 use lagtypes::{Key, Party, PortId, State, SystemId};
 use slowpdu::{
@@ -225,8 +225,7 @@ const REFUSALS: [(WireFault, &str); 4] = [
 #[test]
 fn refusals_say_what_stands_there(rt: HostRuntime) -> Result<(), AllocError> {
     for (fault, text) in &REFUSALS {
-        let printed = format!(in rt.alloc(); "{fault}")?;
-        same(&rt, "text", &printed.as_str(), text);
+        prints(&rt, rt.alloc(), fault, *text)?;
     }
     Ok(())
 }

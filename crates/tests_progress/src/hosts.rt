@@ -1,8 +1,12 @@
+ghost use Rattle.std.specs.Prelude.{◌≡◌};
+ghost use Rattle.distributor.specs.Calls.{PicksIndexes};
+
 use crate::comparing::same;
 use crate::given::{TWO_LONG, modulo, read};
 use crate::playing::{agree, plays_lines, run_of, world_of};
+use cables::AnyCable;
 use lagprogress::play_host_rounds;
-use lagworld::{Reply, WorldFault};
+use lagworld::{Event, Reply, World, WorldFault};
 use std::alloc::Global;
 use std::process::Abort;
 use std::test::Fail;
@@ -52,6 +56,27 @@ deliver 2 1 => Empty
 deliver 2 2 => Empty
 ";
 
+/// Plays a round, after which nothing is left on a cable.
+fn leaves_nothing<F: Fn(u16, usize) -> usize + Drop>(
+    rt: &impl Abort,
+    world: &mut World<AnyCable, F>,
+    round: &[Event],
+)
+    requires one { PicksIndexes (F.pre world.old.one) (F.post world.old.one) }
+    requires two { PicksIndexes (F.pre world.old.two) (F.post world.old.two) }
+    ensures algorithm_one { world.new.one ≡ world.old.one }
+    ensures algorithm_two { world.new.two ≡ world.old.two }
+{
+    match run_of(world, round) {
+        Ok(replies) => {
+            for reply in replies.iter().skip(30) {
+                same(rt, "the end of a round", reply, &Reply::Empty);
+            }
+        }
+        Err(stop) => same(rt, "a round", &Some(stop), &None),
+    }
+}
+
 /// Plays so many of these rounds between two systems with two ports and one aggregator each: nothing is left on a cable after any
 /// of them, the frames of the last one arrive, and then both cables agree.
 fn share(rt: &impl Abort, alloc: Global, rounds: u16) -> Result<(), WorldFault> {
@@ -59,14 +84,7 @@ fn share(rt: &impl Abort, alloc: Global, rounds: u16) -> Result<(), WorldFault> 
     let mut world = world_of(rt, alloc, TWO_LONG, modulo, modulo)?;
     plays_lines(rt, alloc, &mut world, TWO_LONG, LINKS_UP)?;
     for _ in 1..rounds {
-        match run_of(&mut world, &round) {
-            Ok(replies) => {
-                for reply in replies.iter().skip(30) {
-                    same(rt, "the end of a round", reply, &Reply::Empty);
-                }
-            }
-            Err(stop) => same(rt, "a round", &Some(stop), &None),
-        }
+        leaves_nothing(rt, &mut world, &round);
     }
     plays_lines(rt, alloc, &mut world, TWO_LONG, ROUND)?;
     agree(rt, &world, 2);

@@ -18,9 +18,10 @@ mod waiting;
 mod wide;
 
 ghost use Rattle.std.specs.Prelude.{◌≡◌, ◌<◌};
+ghost use Rattle.distributor.specs.Calls.{PicksIndexes};
 
-use crate::comparing::{same_at, same_in_row};
-use crate::systems::plan::plan_of;
+use crate::comparing::same_in_row;
+use crate::systems::plan::{Plan, plan_of};
 use bitflags::Flags;
 use lagsystem::{
     AggId, Assignment, Choice, Config, Group, Info, Key, MuxState, NoMemory, Party, PortConfig,
@@ -103,6 +104,8 @@ enum Row<'a> {
     Next(Option<u32>),
     /// `ticks_until_due` returns this.
     Waits(Option<u16>),
+    /// `load` of a port returns this.
+    Load(u16, Result<u32, SystemFault>),
     /// `ports` returns these, and `aggregators` this number.
     Has(&'a [u16], usize),
 }
@@ -160,7 +163,7 @@ impl Response {
 }
 
 /// What the readers return for a port.
-#[derive(Clone, Copy)]
+#[derive(Clone, Copy, Debug, PartialEq)]
 pub(crate) struct PortFacts {
     party: Option<Party>,
     partner: Option<Info>,
@@ -227,48 +230,6 @@ pub(crate) fn look<F: Fn(u16, usize) -> usize + Drop>(system: &System<F>, port: 
         wait_while: system.wait_while(port),
         ntt: system.ntt(port),
     }
-}
-
-/// Compares what the readers return for a port with what is expected.
-pub(crate) fn same_facts(rt: &impl Abort, place: usize, came: &PortFacts, wanted: &PortFacts) {
-    same_at(rt, "party", place, &came.party, &wanted.party);
-    same_at(rt, "partner", place, &came.partner, &wanted.partner);
-    same_at(rt, "group", place, &came.group, &wanted.group);
-    same_at(rt, "defaulted", place, &came.defaulted, &wanted.defaulted);
-    same_at(
-        rt,
-        "distributes",
-        place,
-        &came.distributes,
-        &wanted.distributes,
-    );
-    same_at(rt, "choice", place, &came.choice, &wanted.choice);
-    same_at(rt, "state", place, &came.state, &wanted.state);
-    same_at(rt, "status", place, &came.status, &wanted.status);
-    same_machines(rt, place, came, wanted);
-}
-
-/// The same of the machines of the port and their timers.
-fn same_machines(rt: &impl Abort, place: usize, came: &PortFacts, wanted: &PortFacts) {
-    same_at(rt, "mux", place, &came.mux, &wanted.mux);
-    same_at(rt, "receive", place, &came.receive, &wanted.receive);
-    same_at(rt, "up", place, &came.up, &wanted.up);
-    same_at(rt, "due", place, &came.due, &wanted.due);
-    same_at(
-        rt,
-        "current_while",
-        place,
-        &came.current_while,
-        &wanted.current_while,
-    );
-    same_at(
-        rt,
-        "wait_while",
-        place,
-        &came.wait_while,
-        &wanted.wait_while,
-    );
-    same_at(rt, "ntt", place, &came.ntt, &wanted.ntt);
 }
 
 /// The information about a port of a system; this is the last octet of the system's MAC address.
@@ -388,7 +349,7 @@ fn tells_port<F: Fn(u16, usize) -> usize + Drop>(
     row: Row<'_>,
 ) {
     match row {
-        Row::Shows(port, seen) => same_facts(rt, place, &look(system, port), &seen),
+        Row::Shows(port, seen) => same_in_row(rt, place, &look(system, port), &seen),
         Row::Chosen(port, choice) => same_in_row(rt, place, &system.choice(port), &Some(choice)),
         Row::Status(port, status) => {
             same_in_row(rt, place, &system.port_status(port), &Some(status));
@@ -401,6 +362,7 @@ fn tells_port<F: Fn(u16, usize) -> usize + Drop>(
         Row::Mux(port, state) => same_in_row(rt, place, &system.mux_state(port), &Some(state)),
         Row::Defaulted(port, is) => same_in_row(rt, place, &system.defaulted(port), &Some(is)),
         Row::Due(port, is) => same_in_row(rt, place, &system.is_due(port), &Some(is)),
+        Row::Load(port, load) => same_in_row(rt, place, &system.load(port), &load),
         _ => {}
     }
 }
@@ -433,12 +395,8 @@ fn tells<F: Fn(u16, usize) -> usize + Drop>(
 ) {
     match row {
         Row::Distributing(agg, ports) => {
-            same_in_row(
-                rt,
-                place,
-                &system.distributing(AggId(agg)).as_slice(),
-                &ports,
-            );
+            let came = system.distributing(AggId(agg));
+            same_in_row(rt, place, &came.as_slice(), &ports);
         }
         Row::Conversation(octets, conv) => {
             same_in_row(rt, place, &system.conversation(octets), &conv);
@@ -506,6 +464,22 @@ fn kept_port(row: Row<'_>) -> u16 {
     }
 }
 
+/// Makes the calls of a plan at once, and compares the replies with the expected ones.
+fn makes_calls<F: Fn(u16, usize) -> usize + Drop>(
+    rt: &impl Abort,
+    alloc: Global,
+    system: &mut System<F>,
+    place: usize,
+    plan: &Plan,
+) -> Result<(), SystemFault>
+    requires { PicksIndexes (F.pre system.old.algorithm) (F.post system.old.algorithm) }
+    ensures { system.new.algorithm ≡ system.old.algorithm }
+{
+    let replies = system.drive(alloc, &plan.calls)?;
+    same_in_row(rt, place, &replies.as_slice(), &plan.replies.as_slice());
+    Ok(())
+}
+
 /// Plays rows on a new system, one after another.
 fn plays(
     rt: &impl Abort,
@@ -515,13 +489,11 @@ fn plays(
 ) -> Result<(), SystemFault> {
     let mut system = System::new(alloc, given, modulo)?;
     for (place, row) in rows.iter().enumerate() {
-        let plan = plan_of(alloc, *row)?;
         let before = look(&system, kept_port(*row));
-        let replies = system.drive(alloc, &plan.calls)?;
-        same_in_row(rt, place, &replies.as_slice(), &plan.replies.as_slice());
+        makes_calls(rt, alloc, &mut system, place, &plan_of(alloc, *row)?)?;
         forces_port(rt, &mut system, place, *row);
         sets(rt, &mut system, place, *row);
-        same_facts(rt, place, &look(&system, kept_port(*row)), &before);
+        same_in_row(rt, place, &look(&system, kept_port(*row)), &before);
         tells(rt, &system, place, *row);
     }
     Ok(())

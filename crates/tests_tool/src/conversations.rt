@@ -1,24 +1,15 @@
 use crate::refusals::{both_refused, systems_with};
-use crate::replays::{BOTH_UP, BOTH_UP_TEXT, TWO_CABLES, reports};
+use crate::replays::{BOTH_UP, TWO_CABLES, plays};
 use std::process::Abort;
 use std::test::Fail;
 
 /// Two frames that are of one conversation among 256 and of two among 4,096.
-const FAR_APART: &str = r#"    "offer 1 1 0200000001200200000000100800",
-    "offer 1 1 0200000000200200000000100800",
-    "move 1 1 304 2",
-    "offer 1 1 0200000001200200000000100800",
-    "offer 1 1 0200000000200200000000100800",
-    "move 1 1 4096 2",
-]
-"#;
-
-const FAR_APART_TEXT: &str = "25 offer 1 1 0200000001200200000000100800 -> port 1 serial 0 sent
-26 offer 1 1 0200000000200200000000100800 -> port 1 serial 0 sent
-27 move 1 1 304 2 -> moved
-28 offer 1 1 0200000001200200000000100800 -> refused 5 held
-29 offer 1 1 0200000000200200000000100800 -> port 1 serial 1 sent
-30 move 1 1 4096 2 -> refused 9 not-assigned
+const FAR_APART: &str = "offer 1 1 0200000001200200000000100800 -> port 1 serial 0 sent
+offer 1 1 0200000000200200000000100800 -> port 1 serial 0 sent
+move 1 1 304 2 -> moved
+offer 1 1 0200000001200200000000100800 -> refused 5 held
+offer 1 1 0200000000200200000000100800 -> port 1 serial 1 sent
+move 1 1 4096 2 -> refused 9 not-assigned
 cable 1 agreement same
 cable 2 agreement same
 flow 1/1/48 sent 2 collected none
@@ -26,60 +17,36 @@ flow 1/1/304 sent 1 collected none
 ";
 
 /// Two frames of one conversation where there are 256, and a move of conversation 304, which does not exist.
-const TOGETHER: &str = r#"    "offer 1 1 0200000001200200000000100800",
-    "offer 1 1 0200000000200200000000100800",
-    "move 1 1 304 2",
-]
-"#;
-
-const TOGETHER_TEXT: &str = "25 offer 1 1 0200000001200200000000100800 -> port 1 serial 0 sent
-26 offer 1 1 0200000000200200000000100800 -> port 1 serial 1 sent
-27 move 1 1 304 2 -> refused 9 not-assigned
+const TOGETHER: &str = "offer 1 1 0200000001200200000000100800 -> port 1 serial 0 sent
+offer 1 1 0200000000200200000000100800 -> port 1 serial 1 sent
+move 1 1 304 2 -> refused 9 not-assigned
 cable 1 agreement same
 cable 2 agreement same
 flow 1/1/48 sent 2 collected none
 ";
 
 /// A frame whose conversation has only the low 12 bits of its number.
-const LOW_BITS: &str = r#"    "offer 1 1 02000000f1200200000000100800",
-]
-"#;
-
-const LOW_BITS_TEXT: &str = "25 offer 1 1 02000000f1200200000000100800 -> port 1 serial 0 sent
+const LOW_BITS: &str = "offer 1 1 02000000f1200200000000100800 -> port 1 serial 0 sent
 cable 1 agreement same
 cable 2 agreement same
 flow 1/1/304 sent 1 collected none
 ";
 
 /// The last of 4,096 conversations.
-const LAST: &str = r#"    "offer 1 1 020000000fff0200000000000800",
-    "deliver 2 2",
-    "move 1 1 4095 1",
-    "force 1 1 4095",
-]
-"#;
-
-const LAST_TEXT: &str = "25 offer 1 1 020000000fff0200000000000800 -> port 2 serial 0 sent
-26 deliver 2 2 -> up 1
-27 move 1 1 4095 1 -> moved
-28 force 1 1 4095 -> forced
+const LAST: &str = "offer 1 1 020000000fff0200000000000800 -> port 2 serial 0 sent
+deliver 2 2 -> up 1
+move 1 1 4095 1 -> moved
+force 1 1 4095 -> forced
 cable 1 agreement same
 cable 2 agreement same
 flow 1/1/4095 sent 1 collected 0 forced
 ";
 
 /// The same frame from both systems.
-const BY_SENDER: &str = r#"    "offer 1 1 0200000001200200000000100800",
-    "offer 2 1 0200000001200200000000100800",
-    "deliver 1 2",
-    "deliver 1 1",
-]
-"#;
-
-const BY_SENDER_TEXT: &str = "25 offer 1 1 0200000001200200000000100800 -> port 1 serial 0 sent
-26 offer 2 1 0200000001200200000000100800 -> port 1 serial 0 sent
-27 deliver 1 2 -> up 1
-28 deliver 1 1 -> up 1
+const BY_SENDER: &str = "offer 1 1 0200000001200200000000100800 -> port 1 serial 0 sent
+offer 2 1 0200000001200200000000100800 -> port 1 serial 0 sent
+deliver 1 2 -> up 1
+deliver 1 1 -> up 1
 cable 1 agreement same
 cable 2 agreement same
 flow 1/1/48 sent 1 collected 0
@@ -90,37 +57,32 @@ const MANY: &str = "conversations = 4096\n";
 
 const FEW: &str = "conversations = 256\n";
 
-/// The report of these events, with these keys of the two systems, ends in this text.
+/// The report of a script with these keys of the two systems ends in this text.
 fn ends_in(
     rt: &(impl Abort + AllocGlobal),
     (one, two): (&str, &str),
-    events: &str,
     text: &str,
 ) -> Result<(), Fail> {
     let systems = systems_with(rt.alloc(), one, two)?;
-    reports(
-        rt,
-        &[BOTH_UP, events, systems.as_str(), TWO_CABLES],
-        &[BOTH_UP_TEXT, text],
-    )
+    plays(rt, &[BOTH_UP, text], &[systems.as_str(), TWO_CABLES])
 }
 
-/// The keys of both systems, more events, and the rest of their report.
-const REPORTS: [(&str, &str, &str, &str); 8] = [
-    (MANY, "", FAR_APART, FAR_APART_TEXT),
-    (MANY, MANY, FAR_APART, FAR_APART_TEXT),
-    ("", "", TOGETHER, TOGETHER_TEXT),
-    (FEW, FEW, TOGETHER, TOGETHER_TEXT),
-    (FEW, MANY, TOGETHER, TOGETHER_TEXT),
-    (MANY, "", LOW_BITS, LOW_BITS_TEXT),
-    (MANY, FEW, LAST, LAST_TEXT),
-    ("", MANY, BY_SENDER, BY_SENDER_TEXT),
+/// The keys of both systems, and the end of the report.
+const REPORTS: [(&str, &str, &str); 8] = [
+    (MANY, "", FAR_APART),
+    (MANY, MANY, FAR_APART),
+    ("", "", TOGETHER),
+    (FEW, FEW, TOGETHER),
+    (FEW, MANY, TOGETHER),
+    (MANY, "", LOW_BITS),
+    (MANY, FEW, LAST),
+    ("", MANY, BY_SENDER),
 ];
 
 #[test]
 fn flows_have_the_numbers_of_their_sender(rt: HostRuntime) -> Result<(), Fail> {
-    for (one, two, events, text) in REPORTS {
-        ends_in(&rt, (one, two), events, text)?;
+    for (one, two, text) in REPORTS {
+        ends_in(&rt, (one, two), text)?;
     }
     Ok(())
 }

@@ -1,8 +1,8 @@
 use crate::algorithm::by_number;
 use crate::checks::whole;
 use crate::comparing::{same, same_octets};
-use crate::pieces::{Pieces, joined, one_text};
-use crate::replays::{BOTH_UP, BOTH_UP_TEXT, MOVE, MOVE_TEXT, TWO_CABLES, TWO_PORTS};
+use crate::pieces::{Pieces, joined};
+use crate::replays::{BOTH_UP, MOVE, TWO_CABLES, TWO_PORTS, script_and_report};
 use lagstreams::{Sink, Source};
 use lagtool_jobs::{ToolFault, check, replay};
 use std::alloc::Global;
@@ -44,8 +44,7 @@ fn checks(rt: &impl Abort, alloc: Global) -> Result<bool, ToolFault> {
 
 /// Replays a script in the same way.
 fn replays(rt: &impl Abort, alloc: Global) -> Result<bool, ToolFault> {
-    let script = one_text(alloc, &[BOTH_UP, MOVE, TWO_PORTS, TWO_CABLES])?;
-    let report = one_text(alloc, &[BOTH_UP_TEXT, MOVE_TEXT])?;
+    let (script, report) = script_and_report(alloc, &[BOTH_UP, MOVE], &[TWO_PORTS, TWO_CABLES])?;
     let mut sink = Sink::new(Vec::with_capacity(alloc, 4096)?);
     let answer = replay(alloc, script.as_str(), by_number, by_number, &mut sink);
     Ok(ends(rt, answer, sink.into_inner().as_slice(), report.as_str()))

@@ -104,18 +104,10 @@ fn entries_that_are_refused(rt: HostRuntime) -> Result<(), Fail> {
 
 /// Two systems with one port each; the third dash of the first MAC address is another letter.
 const NO_DASH: &str = r#"
-[[system]]
-mac = "02-00-00x00-00-01"
-aggregators = [1]
-[[system.port]]
-number = 1
-key = 1
-[[system]]
-mac = "02-00-00-00-00-02"
-aggregators = [1]
-[[system.port]]
-number = 1
-key = 1
+system = [
+    { mac = "02-00-00x00-00-01", aggregators = [1], port = [{ number = 1, key = 1 }] },
+    { mac = "02-00-00-00-00-02", aggregators = [1], port = [{ number = 1, key = 1 }] },
+]
 "#;
 
 #[test]

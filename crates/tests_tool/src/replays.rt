@@ -15,28 +15,10 @@ use std::test::Fail;
 
 /// Two systems with two ports each, all with Long Timeout.
 pub(crate) const TWO_PORTS: &str = r#"
-[[system]]
-mac = "02-00-00-00-00-01"
-aggregators = [1]
-[[system.port]]
-number = 1
-key = 1
-short = false
-[[system.port]]
-number = 2
-key = 1
-short = false
-[[system]]
-mac = "02-00-00-00-00-02"
-aggregators = [1]
-[[system.port]]
-number = 1
-key = 1
-short = false
-[[system.port]]
-number = 2
-key = 1
-short = false
+system = [
+    { mac = "02-00-00-00-00-01", aggregators = [1], port = [{ number = 1, key = 1, short = false }, { number = 2, key = 1, short = false }] },
+    { mac = "02-00-00-00-00-02", aggregators = [1], port = [{ number = 1, key = 1, short = false }, { number = 2, key = 1, short = false }] },
+]
 "#;
 
 pub(crate) const TWO_CABLES: &str = "[[cable]]
@@ -73,96 +55,49 @@ limit = 8
 ";
 
 /// Both ends of both cables come to distribute.
-pub(crate) const BOTH_UP: &str = r#"events = [
-    "sense 1 1",
-    "sense 1 2",
-    "sense 2 1",
-    "sense 2 2",
-    "tick 1 10",
-    "tick 2 10",
-    "emit 1 1",
-    "emit 1 2",
-    "deliver 1 2",
-    "deliver 2 2",
-    "emit 2 1",
-    "emit 2 2",
-    "deliver 1 1",
-    "deliver 2 1",
-    "tick 1 20",
-    "tick 2 20",
-    "emit 1 1",
-    "emit 1 2",
-    "deliver 1 2",
-    "deliver 2 2",
-    "emit 2 1",
-    "emit 2 2",
-    "deliver 1 1",
-    "deliver 2 1",
-"#;
-
-pub(crate) const BOTH_UP_TEXT: &str = "1 sense 1 1 -> up
-2 sense 1 2 -> up
-3 sense 2 1 -> up
-4 sense 2 2 -> up
-5 tick 1 10 -> ticked
-6 tick 2 10 -> ticked
-7 emit 1 1 -> lacpdu c5 sent
-8 emit 1 2 -> lacpdu c5 sent
-9 deliver 1 2 -> took
-10 deliver 2 2 -> took
-11 emit 2 1 -> lacpdu 05 sent
-12 emit 2 2 -> lacpdu 05 sent
-13 deliver 1 1 -> took
-14 deliver 2 1 -> took
-15 tick 1 20 -> ticked
-16 tick 2 20 -> ticked
-17 emit 1 1 -> lacpdu 0d sent
-18 emit 1 2 -> lacpdu 0d sent
-19 deliver 1 2 -> took
-20 deliver 2 2 -> took
-21 emit 2 1 -> lacpdu 3d sent
-22 emit 2 2 -> lacpdu 3d sent
-23 deliver 1 1 -> took
-24 deliver 2 1 -> took
+pub(crate) const BOTH_UP: &str = "sense 1 1 -> up
+sense 1 2 -> up
+sense 2 1 -> up
+sense 2 2 -> up
+tick 1 10 -> ticked
+tick 2 10 -> ticked
+emit 1 1 -> lacpdu c5 sent
+emit 1 2 -> lacpdu c5 sent
+deliver 1 2 -> took
+deliver 2 2 -> took
+emit 2 1 -> lacpdu 05 sent
+emit 2 2 -> lacpdu 05 sent
+deliver 1 1 -> took
+deliver 2 1 -> took
+tick 1 20 -> ticked
+tick 2 20 -> ticked
+emit 1 1 -> lacpdu 0d sent
+emit 1 2 -> lacpdu 0d sent
+deliver 1 2 -> took
+deliver 2 2 -> took
+emit 2 1 -> lacpdu 3d sent
+emit 2 2 -> lacpdu 3d sent
+deliver 1 1 -> took
+deliver 2 1 -> took
 ";
 
 /// A conversation moves behind a marker.
-pub(crate) const MOVE: &str = r#"    "offer 1 1 0200000000200200000000100800",
-    "offer 1 1 0200000000200200000000100800",
-    "offer 1 1 0200000000200200000000100800",
-    "move 1 1 48 2",
-    "offer 1 1 0200000000200200000000100800",
-    "emit 1 1",
-    "emit 1 1",
-    "deliver 1 2",
-    "deliver 1 2",
-    "deliver 1 2",
-    "deliver 1 2",
-    "deliver 1 2",
-    "offer 1 1 0200000000200200000000100800",
-    "deliver 1 1",
-    "offer 1 1 0200000000200200000000100800",
-    "deliver 2 2",
-]
-"#;
-
-pub(crate) const MOVE_TEXT: &str =
-    "25 offer 1 1 0200000000200200000000100800 -> port 1 serial 0 sent
-26 offer 1 1 0200000000200200000000100800 -> port 1 serial 1 sent
-27 offer 1 1 0200000000200200000000100800 -> port 1 serial 2 sent
-28 move 1 1 48 2 -> moved
-29 offer 1 1 0200000000200200000000100800 -> refused 5 held
-30 emit 1 1 -> lacpdu 3d sent
-31 emit 1 1 -> marker 1 sent
-32 deliver 1 2 -> up 1
-33 deliver 1 2 -> up 1
-34 deliver 1 2 -> up 1
-35 deliver 1 2 -> took
-36 deliver 1 2 -> responded sent
-37 offer 1 1 0200000000200200000000100800 -> refused 5 held
-38 deliver 1 1 -> released 1
-39 offer 1 1 0200000000200200000000100800 -> port 2 serial 3 sent
-40 deliver 2 2 -> up 1
+pub(crate) const MOVE: &str = "offer 1 1 0200000000200200000000100800 -> port 1 serial 0 sent
+offer 1 1 0200000000200200000000100800 -> port 1 serial 1 sent
+offer 1 1 0200000000200200000000100800 -> port 1 serial 2 sent
+move 1 1 48 2 -> moved
+offer 1 1 0200000000200200000000100800 -> refused 5 held
+emit 1 1 -> lacpdu 3d sent
+emit 1 1 -> marker 1 sent
+deliver 1 2 -> up 1
+deliver 1 2 -> up 1
+deliver 1 2 -> up 1
+deliver 1 2 -> took
+deliver 1 2 -> responded sent
+offer 1 1 0200000000200200000000100800 -> refused 5 held
+deliver 1 1 -> released 1
+offer 1 1 0200000000200200000000100800 -> port 2 serial 3 sent
+deliver 2 2 -> up 1
 cable 1 agreement same
 cable 2 agreement same
 flow 1/1/48 sent 4 collected 0 1 2 3
@@ -186,6 +121,42 @@ pub(crate) fn reports(
     let wanted = one_text(rt.alloc(), texts)?;
     same_text(rt, "report", written.as_str(), wanted.as_str());
     Ok(())
+}
+
+/// A script of the entries of a report and of these systems; and the report, with a number before each entry. It is given in
+/// pieces, without the numbers.
+pub(crate) fn script_and_report(
+    alloc: Global,
+    pieces: &[&str],
+    systems: &[&str],
+) -> Result<(String, String), AllocError> {
+    let whole = one_text(alloc, pieces)?;
+    let mut script = String::from_str(alloc, "events = [\n")?;
+    let mut report = String::new(alloc);
+    let mut number = 0u16;
+    for line in whole.as_str().lines() {
+        if let Some((entry, _)) = line.split_once(" -> ") {
+            number = number.saturating_add(1);
+            write!(script, "    \"{entry}\",\n")?;
+            write!(report, "{number} ")?;
+        }
+        write!(report, "{line}\n")?;
+    }
+    script.push_str("]\n")?;
+    for text in systems {
+        script.push_str(*text)?;
+    }
+    Ok((script, report))
+}
+
+/// The entries of a report, given in pieces, are played by these systems, and that is the report.
+pub(crate) fn plays(
+    rt: &(impl Abort + AllocGlobal),
+    pieces: &[&str],
+    systems: &[&str],
+) -> Result<(), Fail> {
+    let (script, report) = script_and_report(rt.alloc(), pieces, systems)?;
+    reports(rt, &[script.as_str()], &[report.as_str()])
 }
 
 /// A script of these pieces is refused with this fault and this message.
@@ -212,60 +183,35 @@ fn one_cable(rt: HostRuntime) -> Result<(), Fail> {
 
 #[test]
 fn a_conversation_moves(rt: HostRuntime) -> Result<(), Fail> {
-    let texts = [BOTH_UP_TEXT, MOVE_TEXT];
-    reports(&rt, &[BOTH_UP, MOVE, TWO_PORTS, TWO_CABLES], &texts)?;
-    reports(&rt, &[BOTH_UP, MOVE, TWO_PORTS, LIMIT_8], &texts)
+    plays(&rt, &[BOTH_UP, MOVE], &[TWO_PORTS, TWO_CABLES])?;
+    plays(&rt, &[BOTH_UP, MOVE], &[TWO_PORTS, LIMIT_8])
 }
 
 /// Three frames on a cable with room for two.
-const FULL: &str = r#"    "offer 1 1 0200000000200200000000100800",
-    "offer 1 1 0200000000200200000000100800",
-    "offer 1 1 0200000000200200000000100800",
-    "deliver 1 2",
-    "deliver 1 2",
-    "deliver 1 2",
-]
-"#;
-
-const FULL_TEXT: &str = "25 offer 1 1 0200000000200200000000100800 -> port 1 serial 0 sent
-26 offer 1 1 0200000000200200000000100800 -> port 1 serial 1 sent
-27 offer 1 1 0200000000200200000000100800 -> port 1 serial 2 lost
-28 deliver 1 2 -> up 1
-29 deliver 1 2 -> up 1
-30 deliver 1 2 -> empty
+const FULL: &str = "offer 1 1 0200000000200200000000100800 -> port 1 serial 0 sent
+offer 1 1 0200000000200200000000100800 -> port 1 serial 1 sent
+offer 1 1 0200000000200200000000100800 -> port 1 serial 2 lost
+deliver 1 2 -> up 1
+deliver 1 2 -> up 1
+deliver 1 2 -> empty
 cable 1 agreement same
 cable 2 agreement same
 flow 1/1/48 sent 3 collected 0 1
 ";
 
 /// A marker on a cable that one frame fills.
-const NARROW: &str = r#"    "offer 1 1 0200000000200200000000100800",
-    "offer 1 1 0200000000200200000000100800",
-    "move 1 1 48 2",
-    "emit 1 1",
-    "emit 1 1",
-    "deliver 1 2",
-    "tick 1 30",
-    "emit 1 1",
-    "deliver 1 2",
-    "deliver 1 1",
-    "offer 1 1 0200000000200200000000100800",
-    "deliver 2 2",
-]
-"#;
-
-const NARROW_TEXT: &str = "25 offer 1 1 0200000000200200000000100800 -> port 1 serial 0 sent
-26 offer 1 1 0200000000200200000000100800 -> port 1 serial 1 lost
-27 move 1 1 48 2 -> moved
-28 emit 1 1 -> lacpdu 3d lost
-29 emit 1 1 -> marker 1 lost
-30 deliver 1 2 -> up 1
-31 tick 1 30 -> ticked
-32 emit 1 1 -> marker 2 sent
-33 deliver 1 2 -> responded sent
-34 deliver 1 1 -> released 1
-35 offer 1 1 0200000000200200000000100800 -> port 2 serial 2 sent
-36 deliver 2 2 -> up 1
+const NARROW: &str = "offer 1 1 0200000000200200000000100800 -> port 1 serial 0 sent
+offer 1 1 0200000000200200000000100800 -> port 1 serial 1 lost
+move 1 1 48 2 -> moved
+emit 1 1 -> lacpdu 3d lost
+emit 1 1 -> marker 1 lost
+deliver 1 2 -> up 1
+tick 1 30 -> ticked
+emit 1 1 -> marker 2 sent
+deliver 1 2 -> responded sent
+deliver 1 1 -> released 1
+offer 1 1 0200000000200200000000100800 -> port 2 serial 2 sent
+deliver 2 2 -> up 1
 cable 1 agreement same
 cable 2 agreement same
 flow 1/1/48 sent 3 collected 0 2
@@ -273,24 +219,15 @@ flow 1/1/48 sent 3 collected 0 2
 
 #[test]
 fn a_full_cable_loses_what_is_sent(rt: HostRuntime) -> Result<(), Fail> {
-    let texts = [BOTH_UP_TEXT, FULL_TEXT];
-    reports(&rt, &[BOTH_UP, FULL, TWO_PORTS, LIMIT_2], &texts)?;
-    let texts = [BOTH_UP_TEXT, NARROW_TEXT];
-    reports(&rt, &[BOTH_UP, NARROW, TWO_PORTS, LIMIT_1], &texts)
+    plays(&rt, &[BOTH_UP, FULL], &[TWO_PORTS, LIMIT_2])?;
+    plays(&rt, &[BOTH_UP, NARROW], &[TWO_PORTS, LIMIT_1])
 }
 
 /// Frames of system 2 on a cable with room for one.
-const BACK: &str = r#"    "offer 2 1 0200000000100200000000200800",
-    "offer 2 1 0200000000100200000000200800",
-    "deliver 1 1",
-    "deliver 1 1",
-]
-"#;
-
-const BACK_TEXT: &str = "25 offer 2 1 0200000000100200000000200800 -> port 1 serial 0 sent
-26 offer 2 1 0200000000100200000000200800 -> port 1 serial 1 lost
-27 deliver 1 1 -> up 1
-28 deliver 1 1 -> empty
+const BACK: &str = "offer 2 1 0200000000100200000000200800 -> port 1 serial 0 sent
+offer 2 1 0200000000100200000000200800 -> port 1 serial 1 lost
+deliver 1 1 -> up 1
+deliver 1 1 -> empty
 cable 1 agreement same
 cable 2 agreement same
 flow 2/1/48 sent 2 collected 0
@@ -298,62 +235,27 @@ flow 2/1/48 sent 2 collected 0
 
 #[test]
 fn a_limit_is_that_of_both_directions(rt: HostRuntime) -> Result<(), Fail> {
-    let texts = [BOTH_UP_TEXT, BACK_TEXT];
-    reports(&rt, &[BOTH_UP, BACK, TWO_PORTS, LIMIT_1], &texts)
+    plays(&rt, &[BOTH_UP, BACK], &[TWO_PORTS, LIMIT_1])
 }
 
 /// Two systems with an aggregator and a port of each of two keys, and cables of unlike limits.
 const TWO_KEYS: &str = r#"
-[[system]]
-mac = "02-00-00-00-00-01"
-aggregators = [1, 2]
-[[system.port]]
-number = 1
-key = 1
-short = false
-[[system.port]]
-number = 2
-key = 2
-short = false
-[[system]]
-mac = "02-00-00-00-00-02"
-aggregators = [1, 2]
-[[system.port]]
-number = 1
-key = 1
-short = false
-[[system.port]]
-number = 2
-key = 2
-short = false
-[[cable]]
-ends = [1, 1]
-limit = 1
-[[cable]]
-ends = [2, 2]
-limit = 2
+system = [
+    { mac = "02-00-00-00-00-01", aggregators = [1, 2], port = [{ number = 1, key = 1, short = false }, { number = 2, key = 2, short = false }] },
+    { mac = "02-00-00-00-00-02", aggregators = [1, 2], port = [{ number = 1, key = 1, short = false }, { number = 2, key = 2, short = false }] },
+]
+cable = [{ ends = [1, 1], limit = 1 }, { ends = [2, 2], limit = 2 }]
 "#;
 
 /// Conversation 255 of aggregator 2 of system 1, and conversation 55 of aggregator 1 of system 2.
-const BOTH_WAYS: &str = r#"    "offer 1 2 0200000000a502000000005a0800",
-    "offer 1 2 0200000000a502000000005a0800",
-    "offer 1 2 0200000000a502000000005a0800",
-    "offer 2 1 0200000000130200000000240800",
-    "offer 2 1 0200000000130200000000240800",
-    "deliver 2 2",
-    "deliver 2 2",
-    "deliver 1 1",
-]
-"#;
-
-const BOTH_WAYS_TEXT: &str = "25 offer 1 2 0200000000a502000000005a0800 -> port 2 serial 0 sent
-26 offer 1 2 0200000000a502000000005a0800 -> port 2 serial 1 sent
-27 offer 1 2 0200000000a502000000005a0800 -> port 2 serial 2 lost
-28 offer 2 1 0200000000130200000000240800 -> port 1 serial 0 sent
-29 offer 2 1 0200000000130200000000240800 -> port 1 serial 1 lost
-30 deliver 2 2 -> up 2
-31 deliver 2 2 -> up 2
-32 deliver 1 1 -> up 1
+const BOTH_WAYS: &str = "offer 1 2 0200000000a502000000005a0800 -> port 2 serial 0 sent
+offer 1 2 0200000000a502000000005a0800 -> port 2 serial 1 sent
+offer 1 2 0200000000a502000000005a0800 -> port 2 serial 2 lost
+offer 2 1 0200000000130200000000240800 -> port 1 serial 0 sent
+offer 2 1 0200000000130200000000240800 -> port 1 serial 1 lost
+deliver 2 2 -> up 2
+deliver 2 2 -> up 2
+deliver 1 1 -> up 1
 cable 1 agreement same
 cable 2 agreement same
 flow 1/2/255 sent 3 collected 0 1
@@ -362,26 +264,16 @@ flow 2/1/55 sent 2 collected 0
 
 #[test]
 fn flows_of_both_systems(rt: HostRuntime) -> Result<(), Fail> {
-    let texts = [BOTH_UP_TEXT, BOTH_WAYS_TEXT];
-    reports(&rt, &[BOTH_UP, BOTH_WAYS, TWO_KEYS], &texts)
+    plays(&rt, &[BOTH_UP, BOTH_WAYS], &[TWO_KEYS])
 }
 
 /// A conversation is forced, and a later frame of it arrives before an earlier one.
-const FORCE: &str = r#"    "offer 1 1 0200000000200200000000100800",
-    "move 1 1 48 2",
-    "force 1 1 48",
-    "offer 1 1 0200000000200200000000100800",
-    "deliver 2 2",
-    "deliver 1 2",
-]
-"#;
-
-const FORCE_TEXT: &str = "25 offer 1 1 0200000000200200000000100800 -> port 1 serial 0 sent
-26 move 1 1 48 2 -> moved
-27 force 1 1 48 -> forced
-28 offer 1 1 0200000000200200000000100800 -> port 2 serial 1 sent
-29 deliver 2 2 -> up 1
-30 deliver 1 2 -> up 1
+const FORCE: &str = "offer 1 1 0200000000200200000000100800 -> port 1 serial 0 sent
+move 1 1 48 2 -> moved
+force 1 1 48 -> forced
+offer 1 1 0200000000200200000000100800 -> port 2 serial 1 sent
+deliver 2 2 -> up 1
+deliver 1 2 -> up 1
 cable 1 agreement same
 cable 2 agreement same
 flow 1/1/48 sent 2 collected 1 0 forced
@@ -389,8 +281,7 @@ flow 1/1/48 sent 2 collected 1 0 forced
 
 #[test]
 fn a_forced_conversation_overtakes(rt: HostRuntime) -> Result<(), Fail> {
-    let texts = [BOTH_UP_TEXT, FORCE_TEXT];
-    reports(&rt, &[BOTH_UP, FORCE, TWO_PORTS, TWO_CABLES], &texts)
+    plays(&rt, &[BOTH_UP, FORCE], &[TWO_PORTS, TWO_CABLES])
 }
 
 /// An entry with leading zeros and upper-case digits, and each event that is in none of the others.

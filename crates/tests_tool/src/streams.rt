@@ -3,8 +3,7 @@ ghost use Rattle.std.specs.Prelude.{◌≡◌, false};
 use crate::algorithm::by_number;
 use crate::checks::{FILE, Piecewise};
 use crate::comparing::{same, same_at};
-use crate::pieces::one_text;
-use crate::replays::{BOTH_UP, BOTH_UP_TEXT, MOVE, MOVE_TEXT, TWO_CABLES, TWO_PORTS};
+use crate::replays::{BOTH_UP, MOVE, TWO_CABLES, TWO_PORTS, script_and_report};
 use crate::telling::told;
 use lagstreams::{Sink, Source};
 use lagtool_jobs::{FaultText, ToolFault, check, replay};
@@ -121,8 +120,7 @@ fn checked(rt: &impl Abort, alloc: Global, before: u32, turn: Turn) -> bool {
 
 /// A script, and its report.
 fn script(alloc: Global) -> Result<(String, String), AllocError> {
-    let text = one_text(alloc, &[BOTH_UP, MOVE, TWO_PORTS, TWO_CABLES])?;
-    let report = one_text(alloc, &[BOTH_UP_TEXT, MOVE_TEXT])?;
+    let (text, report) = script_and_report(alloc, &[BOTH_UP, MOVE], &[TWO_PORTS, TWO_CABLES])?;
     Ok((text, report))
 }
 

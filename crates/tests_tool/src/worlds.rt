@@ -1,31 +1,12 @@
-use crate::pieces::one_text;
-use crate::replays::{TWO_CABLES, TWO_PORTS, reports};
-use std::alloc::{AllocError, Global};
-use std::process::Abort;
+use crate::replays::{TWO_CABLES, TWO_PORTS, plays};
 use std::test::Fail;
 
 /// Two systems with two ports each, all with Short Timeout.
 const SHORT_PORTS: &str = r#"
-[[system]]
-mac = "02-00-00-00-00-01"
-aggregators = [1]
-max_delay = 2
-[[system.port]]
-number = 1
-key = 1
-[[system.port]]
-number = 2
-key = 1
-[[system]]
-mac = "02-00-00-00-00-02"
-aggregators = [1]
-max_delay = 2
-[[system.port]]
-number = 1
-key = 1
-[[system.port]]
-number = 2
-key = 1
+system = [
+    { mac = "02-00-00-00-00-01", aggregators = [1], max_delay = 2, port = [{ number = 1, key = 1 }, { number = 2, key = 1 }] },
+    { mac = "02-00-00-00-00-02", aggregators = [1], max_delay = 2, port = [{ number = 1, key = 1 }, { number = 2, key = 1 }] },
+]
 "#;
 
 /// Two cables; one frame fills the first.
@@ -102,50 +83,6 @@ deliver 1 1 -> took
 emit 2 2 -> lacpdu 3f sent
 deliver 2 1 -> took
 ";
-
-/// The entries of a report, as a script has them. A report here has no numbers before its lines.
-fn entries_of(alloc: Global, report: &[&str]) -> Result<String, AllocError> {
-    let mut entries = String::from_str(alloc, "events = [\n")?;
-    for line in report {
-        if let Some((entry, _)) = line.split_once(" -> ") {
-            write!(entries, "    \"{entry}\",\n")?;
-        }
-    }
-    entries.push_str("]\n")?;
-    Ok(entries)
-}
-
-/// The report with a number before each entry.
-fn numbered(alloc: Global, report: &[&str]) -> Result<String, AllocError> {
-    let mut text = String::new(alloc);
-    for (index, line) in report.iter().enumerate() {
-        let number = index + 1;
-        match line.split_once(" -> ") {
-            Some(_) => write!(text, "{number} {line}\n")?,
-            None => write!(text, "{line}\n")?,
-        }
-    }
-    Ok(text)
-}
-
-/// The entries of a report, given in pieces, are played by these systems, and that is the report.
-pub(crate) fn plays(
-    rt: &(impl Abort + AllocGlobal),
-    pieces: &[&str],
-    systems: &[&str],
-) -> Result<(), Fail> {
-    let alloc = rt.alloc();
-    let whole = one_text(alloc, pieces)?;
-    let report: Vec<&str> = whole.as_str().trim_end().split('\n').collect(alloc)?;
-    let entries = entries_of(alloc, report.as_slice())?;
-    let systems = one_text(alloc, systems)?;
-    let wanted = numbered(alloc, report.as_slice())?;
-    reports(
-        rt,
-        &[entries.as_str(), systems.as_str()],
-        &[wanted.as_str()],
-    )
-}
 
 /// A response to a marker comes to a cable that is full.
 const RESPONSE_LOST: &str = "offer 1 1 0200000000200200000000100800 -> port 1 serial 0 sent

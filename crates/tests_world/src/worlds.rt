@@ -16,11 +16,11 @@ mod starts;
 
 use crate::comparing::{same, same_at};
 use crate::worlds::given::{Setting, events, modulo, parts};
-use crate::worlds::playing::{run_of, step_of, world_of};
+use crate::worlds::playing::{runs_part, step_of, world_of};
 use bitflags::Flags;
 use cables::AnyCable;
-use lagtypes::{AggId, NoMemory};
-use lagworld::{Agreement, Reply, RunFault, World, WorldFault};
+use lagtypes::{AggId, NoMemory, decimal_u16, words_of};
+use lagworld::{Reply, RunFault, World, WorldFault};
 use std::alloc::Global;
 use std::process::Abort;
 
@@ -30,17 +30,6 @@ use std::process::Abort;
 /// and 0x10, and 0x20 xor 0x10 is 48 (profile). A frame of conversation 49 or 50 has 0x21 or 0x22 as octet 5.
 type EventLines = &'static str;
 
-/// A conversation of aggregator 1 at the end: how many serial numbers it sent, from 0 on, and which of them were
-/// collected.
-#[derive(Clone, Copy)]
-struct Flow {
-    system: u8,
-    conv: u16,
-    sent: usize,
-    collected: &'static [u64],
-    forced: bool,
-}
-
 /// Events and their expected replies, those of `first` before those of `rest`, and what the readers are expected to
 /// return at the end.
 #[derive(Clone, Copy)]
@@ -48,9 +37,8 @@ struct Row {
     setting: Setting,
     first: EventLines,
     rest: EventLines,
-    /// For cables, by their numbers.
-    agreements: &'static [(u16, Agreement)],
-    flows: &'static [Flow],
+    /// Lines, each with what `told` is asked for, an arrow, and the text that it is expected to give.
+    told: &'static str,
 }
 
 /// The text of a reply: of an LACPDU its Actor_State, of an offered frame the port that it was sent on and its serial number, each
@@ -151,35 +139,65 @@ fn is_from_zero(serials: &[u64]) -> bool {
     true
 }
 
-/// Compares what a conversation sent and collected with what a row expects.
-fn compare_flow(rt: &impl Abort, told: Flow, sent: &[u64], collected: &[u64], forced: bool) {
-    let came = (
-        told.system,
-        sent.len(),
-        is_from_zero(sent),
-        collected,
-        forced,
-    );
-    let wanted = (told.system, told.sent, true, told.collected, told.forced);
-    same_at(rt, "conversation", usize::from(told.conv), &came, &wanted);
+/// The number that a word is; 0, which nothing has, if it is none.
+fn number(word: &str) -> u16 {
+    decimal_u16(word).unwrap_or(0)
 }
 
-/// Compares what the readers return with what a row expects.
+/// Of a conversation how many serial numbers it sent, from 0 on, which of them were collected, and whether it was forced.
+fn flow<F: Fn(u16, usize) -> usize + Drop>(
+    alloc: Global,
+    world: &World<AnyCable, F>,
+    system: u8,
+    agg: AggId,
+    conv: u16,
+) -> Result<String, NoMemory> {
+    let sent = world.sent(system, agg, conv);
+    let collected = world.collected(system, agg, conv);
+    let order = if is_from_zero(sent) {
+        ""
+    } else {
+        " not from 0 on"
+    };
+    let forced = if world.forced(system, agg, conv) {
+        " forced"
+    } else {
+        ""
+    };
+    let count = sent.len();
+    format!(in alloc; "{count} {collected:?}{order}{forced}")
+}
+
+/// What a reader returns, as text: of a cable by its number, or of a conversation by its system, aggregator and number.
+fn told<F: Fn(u16, usize) -> usize + Drop>(
+    alloc: Global,
+    world: &World<AnyCable, F>,
+    asked: &str,
+) -> Result<String, NoMemory> {
+    let words = words_of(alloc, asked)?;
+    match words.as_slice() {
+        ["cable", cable] => format!(in alloc; "{:?}", world.agreement(number(*cable))),
+        ["flow", system, agg, conv] => {
+            let [_, system] = number(*system).to_be_bytes();
+            flow(alloc, world, system, AggId(number(*agg)), number(*conv))
+        }
+        _ => format!(in alloc; "nothing has this name"),
+    }
+}
+
+/// Compares what the readers return with what lines expect.
 fn tells<F: Fn(u16, usize) -> usize + Drop>(
     rt: &impl Abort,
+    alloc: Global,
     world: &World<AnyCable, F>,
-    row: &Row,
-) {
-    for (cable, wanted) in row.agreements {
-        let agreement = world.agreement(*cable);
-        same_at(rt, "cable", usize::from(*cable), &agreement, &Some(*wanted));
+    lines: &str,
+) -> Result<(), NoMemory> {
+    for line in lines.lines() {
+        let (asked, wanted) = parts(line);
+        let came = told(alloc, world, asked)?;
+        same(rt, asked, &came.as_str(), &wanted);
     }
-    for told in row.flows {
-        let sent = world.sent(told.system, AggId(1), told.conv);
-        let collected = world.collected(told.system, AggId(1), told.conv);
-        let forced = world.forced(told.system, AggId(1), told.conv);
-        compare_flow(rt, *told, sent, collected, forced);
-    }
+    Ok(())
 }
 
 /// Plays the events of a row by `step`, one by one, in a new world with cables of this limit.
@@ -195,7 +213,7 @@ fn steps(rt: &impl Abort, alloc: Global, row: &Row, limit: Option<u16>) -> Resul
         }
     }
     compare_part(rt, alloc, text.as_str(), (0, events.len()), &replies)?;
-    tells(rt, &world, row);
+    tells(rt, alloc, &world, row.told)?;
     Ok(())
 }
 
@@ -208,16 +226,12 @@ fn runs(
     cut: usize,
 ) -> Result<(), WorldFault> {
     let text = lines_of(alloc, row)?;
-    let text = text.as_str();
-    let events = events(rt, alloc, row.setting, text)?;
+    let events = events(rt, alloc, row.setting, text.as_str())?;
     let mut world = world_of(rt, alloc, row.setting, limit, modulo, modulo)?;
-    let cut = cut.min(events.len());
-    let (now, later) = events.split_at(cut);
-    let came = run_of(&mut world, now);
-    compare_run_of(rt, alloc, text, (0, now.len()), came)?;
-    let came = run_of(&mut world, later);
-    compare_run_of(rt, alloc, text, (cut, later.len()), came)?;
-    tells(rt, &world, row);
+    let (now, later) = events.split_at(cut.min(events.len()));
+    runs_part(rt, alloc, &mut world, text.as_str(), 0, now)?;
+    runs_part(rt, alloc, &mut world, text.as_str(), now.len(), later)?;
+    tells(rt, alloc, &world, row.told)?;
     Ok(())
 }
 

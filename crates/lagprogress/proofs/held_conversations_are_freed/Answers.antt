@@ -1,8 +1,10 @@
-use Rattle.lagprogress.proofs.Freeing.{none_is_held_where_active, nothing_is_held}
+use Rattle.lagprogress.proofs.Common.{BothAreActive, OneIsActive}
+use Rattle.lagprogress.proofs.Freeing.{nothing_is_held}
 use Rattle.lagprogress.proofs.held_conversations_are_freed.Goals as goal
+use Rattle.lagprogress.proofs.Bundling.{one_active, both_active}
 
 pub returns-clause-both : goal.returns-clause-both
-returns-clause-both g c = λ one two. none_is_held_where_active _
+returns-clause-both g c = λ one two. nothing_is_held BothAreActive 323 _ (both_active _)
 
 pub returns-clause-one : goal.returns-clause-one
-returns-clause-one g c = λ one two. nothing_is_held _
+returns-clause-one g c = λ one two. nothing_is_held OneIsActive 624 _ (one_active _)

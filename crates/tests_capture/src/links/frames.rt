@@ -41,20 +41,19 @@ pub struct Said {
     pub partner: Info,
 }
 
+/// From this end to this one.
+pub fn said_by(actor: Info, partner: Info) -> Said {
+    Said { actor, partner }
+}
+
 /// System A to system B, with these two states.
 pub fn a_to_b(own: u8, seen: u8) -> Said {
-    Said {
-        actor: info(A, own),
-        partner: info(B, seen),
-    }
+    said_by(info(A, own), info(B, seen))
 }
 
 /// System B to system A.
 pub fn b_to_a(own: u8, seen: u8) -> Said {
-    Said {
-        actor: info(B, own),
-        partner: info(A, seen),
-    }
+    said_by(info(B, own), info(A, seen))
 }
 
 /// The nanoseconds of so many milliseconds after the captures begin, which is 1000 seconds after the beginning of 1970.
@@ -82,6 +81,13 @@ pub fn at(milliseconds: u64, said: Said) -> SlowFrame {
             max_delay: 0,
         }),
     }
+}
+
+/// The frame on another interface than the first.
+pub fn on(interface: u32, frame: SlowFrame) -> SlowFrame {
+    let mut other = frame;
+    other.interface = interface;
+    other
 }
 
 /// What is known behind these frames, which are numbered from 1.

@@ -1,4 +1,4 @@
-use crate::links::frames::{FAST, UP, a_to_b, at, observed, shows};
+use crate::links::frames::{FAST, UP, a_to_b, at, observed, on, shows};
 use findings::{Findings, LinkEnd, MOST_ENDS, Rule, What};
 use slowpdu::{Marker, MarkerKind, WireFault};
 use std::process::Abort;
@@ -105,8 +105,7 @@ fn an_end_is_named_by_what_it_sends(rt: HostRuntime) {
         source: [2, 0, 0, 0, 0, 0xa],
         port,
     };
-    let mut elsewhere = lacpdu;
-    elsewhere.interface = 1;
+    let elsewhere = on(1, lacpdu);
     let findings = observed(&[lacpdu, marker, lacpdu, response, elsewhere]);
     assert_eq!(rt; findings.count(), 4);
     assert_eq!(rt; findings.end(0), Some(end(Some(1))));

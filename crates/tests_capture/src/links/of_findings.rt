@@ -1,4 +1,4 @@
-use crate::links::frames::{A, B, C, FAST, Said, UP, a_to_b, at, b_to_a, info, shows};
+use crate::links::frames::{A, B, C, FAST, UP, a_to_b, at, b_to_a, info, said_by, shows};
 use slowpdu::Info;
 use std::process::Abort;
 
@@ -117,10 +117,7 @@ fn one_end_is_individual(rt: HostRuntime) {
 #[test]
 fn an_end_is_synchronized_too_soon(rt: HostRuntime) {
     let (up, down) = (a_to_b(FAST, FAST), a_to_b(0x07, FAST));
-    let other = Said {
-        actor: info(A, FAST),
-        partner: info(C, FAST),
-    };
+    let other = said_by(info(A, FAST), info(C, FAST));
     // it was synchronized at 1000 milliseconds, and is not at 1500
     let again = |last: u64| [at(0, up), at(1000, up), at(1500, down), at(last, up)];
     shows(&rt, &again(2749), 3000, &[(13, 3), (27, 4)]);
@@ -139,19 +136,13 @@ fn an_end_is_synchronized_too_soon(rt: HostRuntime) {
     let frames = [at(0, other), at(500, down), at(2249, up)];
     shows(&rt, &frames, 3000, &[(13, 2)]);
     // nobody, at its start: Defaulted
-    let nobody = Said {
-        actor: info(A, 0x47),
-        partner: Info::default(),
-    };
+    let nobody = said_by(info(A, 0x47), Info::default());
     shows(&rt, &[at(0, nobody), at(1000, up)], 3000, &[(27, 2)]);
     // A port that has just come up is not known to wait from its first LACPDU on.
     shows(&rt, &[at(0, down), at(1000, up)], 3000, &[]);
     // It goes on to be synchronized, and one that is Defaulted has no partner to wait for.
     shows(&rt, &[at(0, up), at(1000, up)], 3000, &[]);
-    let alone = Said {
-        actor: info(A, 0x4f),
-        partner: Info::default(),
-    };
+    let alone = said_by(info(A, 0x4f), Info::default());
     shows(&rt, &[at(0, other), at(1000, alone)], 3000, &[]);
 }
 

@@ -1,4 +1,4 @@
-use crate::links::frames::{A, B, C, FAST, Said, UP, a_to_b, at, b_to_a, info, shows};
+use crate::links::frames::{A, B, C, FAST, Said, UP, a_to_b, at, b_to_a, info, on, shows};
 use findings::SlowFrame;
 use lagtypes::Key;
 use slowpdu::Info;
@@ -15,9 +15,7 @@ fn keys_differ_within_a_pair_of_systems(rt: HostRuntime) {
         said.partner.port.number = 2;
         said.actor.key = Key(keys.0);
         said.partner.key = Key(keys.1);
-        let mut frame = at(400, said);
-        frame.interface = 1;
-        frame
+        on(1, at(400, said))
     };
     let first = at(0, a_to_b(FAST, FAST));
     let again = at(1000, a_to_b(FAST, FAST));
@@ -49,9 +47,7 @@ fn two_bundles_are_between_two_systems(rt: HostRuntime) {
         said.partner.port.number = number;
         said.actor.key = Key(own);
         said.partner.key = Key(far);
-        let mut frame = at(milliseconds, said);
-        frame.interface = u32::from(number);
-        frame
+        on(u32::from(number), at(milliseconds, said))
     };
     let frames = |third: (u16, u16), fourth: (u16, u16)| {
         let first = |milliseconds: u64| link(milliseconds, 1, 10, 10);
@@ -91,9 +87,7 @@ fn a_key_that_is_set_right_is_no_fault(rt: HostRuntime) {
         said.actor.port.number = number;
         said.partner.port.number = number;
         said.partner.key = Key(far);
-        let mut frame = at(milliseconds, said);
-        frame.interface = u32::from(number);
-        frame
+        on(u32::from(number), at(milliseconds, said))
     };
     let frames = [
         link(0, 1, 1),
@@ -118,11 +112,7 @@ fn two_links_carry_in_two_groups(rt: HostRuntime) {
     reply.actor.port.number = 2;
     reply.actor.key = Key(2);
     reply.partner.port.number = 2;
-    let other = |milliseconds: u64, said: Said| {
-        let mut frame = at(milliseconds, said);
-        frame.interface = 1;
-        frame
-    };
+    let other = |milliseconds: u64, said: Said| on(1, at(milliseconds, said));
     let frames = [
         at(0, first),
         at(10, answer),
@@ -150,11 +140,7 @@ fn keys_are_not_judged_where_one_link_stands_behind_the_other(rt: HostRuntime) {
     other.actor.key = Key(2);
     other.actor.port.number = 2;
     other.partner.port.number = 2;
-    let second = |milliseconds: u64| {
-        let mut frame = at(milliseconds, other);
-        frame.interface = 1;
-        frame
-    };
+    let second = |milliseconds: u64| on(1, at(milliseconds, other));
     let frames = [
         at(0, said),
         at(70_000, said),

@@ -1,4 +1,4 @@
-use crate::links::frames::{A, B, FAST, UP, a_to_b, at, b_to_a, shows};
+use crate::links::frames::{A, B, FAST, UP, a_to_b, at, b_to_a, on, shows};
 use findings::{SlowFrame, What};
 use slowpdu::{Marker, MarkerKind};
 
@@ -34,8 +34,7 @@ fn a_marker_waits_for_its_response(rt: HostRuntime) {
     shows(&rt, &[asked(0, 7)], 3000, &[]);
     shows(&rt, &[asked(0, 7)], 3001, &[(19, 1)]);
     shows(&rt, &[asked(0, 7), answered(100, 8)], 10_000, &[(19, 1)]);
-    let mut elsewhere = answered(100, 7);
-    elsewhere.interface = 1;
+    let elsewhere = on(1, answered(100, 7));
     shows(&rt, &[asked(0, 7), elsewhere], 10_000, &[(19, 1)]);
 }
 
@@ -85,8 +84,7 @@ fn a_response_that_nobody_asked_for_is_found(rt: HostRuntime) {
     });
     shows(&rt, &[says, first, other], 1000, &[(20, 3)]);
     // A marker on another interface asks nobody here.
-    let mut elsewhere = first;
-    elsewhere.interface = 1;
+    let elsewhere = on(1, first);
     shows(&rt, &[says, elsewhere, to_first], 1000, &[(20, 3)]);
     // Nor does a marker of B itself, to which A may respond.
     let own = marker(100, MarkerKind::Information, B, 7);

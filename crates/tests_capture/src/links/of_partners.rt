@@ -1,4 +1,6 @@
-use crate::links::frames::{A, B, C, FAST, Said, UP, a_to_b, at, b_to_a, info, observed, shows};
+use crate::links::frames::{
+    A, B, C, FAST, Said, UP, a_to_b, at, b_to_a, info, observed, on, said_by, shows,
+};
 use findings::{LinkEnd, Rule, SlowFrame};
 use lagtypes::Key;
 use slowpdu::Info;
@@ -102,9 +104,7 @@ fn the_partner_is_the_end_that_answers(rt: HostRuntime) {
     let mut said = a_to_b(FAST, FAST);
     said.partner = info(C, FAST);
     // Another link on the same interface comes between: C and a system D.
-    let mut other = a_to_b(FAST, FAST);
-    other.actor = info(C, FAST);
-    other.partner = info(0xd, FAST);
+    let other = said_by(info(C, FAST), info(0xd, FAST));
     let frames = [
         at(0, said),
         at(100, other),
@@ -133,12 +133,7 @@ fn the_partner_is_the_end_that_answers(rt: HostRuntime) {
 
 #[test]
 fn two_links_in_one_capture_are_not_mixed(rt: HostRuntime) {
-    let of = |system: u8, partner: u8| {
-        let mut said = a_to_b(FAST, FAST);
-        said.actor = info(system, FAST);
-        said.partner = info(partner, FAST);
-        said
-    };
+    let of = |system: u8, partner: u8| said_by(info(system, FAST), info(partner, FAST));
     let frames = [
         at(0, of(A, B)),
         at(10, of(C, 0xd)),
@@ -155,12 +150,10 @@ fn two_links_in_one_capture_are_not_mixed(rt: HostRuntime) {
 // 6.3.6: a LAG has one partner system. A's port 1 leads to B; its port 2, with the same key, leads to C.
 #[test]
 fn links_of_one_system_lead_to_two(rt: HostRuntime) {
-    let of = |milliseconds: u64, actor: Info, partner: u8| {
-        let mut said = a_to_b(UP, FAST);
-        said.actor = actor;
-        said.partner = info(partner, FAST);
-        at(milliseconds, said)
-    };
+    let of = |milliseconds: u64, actor: Info, partner: u8| at(
+        milliseconds,
+        said_by(actor, info(partner, FAST)),
+    );
     let port = |system: u8, number: u16, key: u16, state: u8| {
         let mut actor = info(system, state);
         actor.port.number = number;
@@ -169,11 +162,7 @@ fn links_of_one_system_lead_to_two(rt: HostRuntime) {
     };
     let frames = |one: Info, two: Info, was: u8, is: u8| {
         let first = |milliseconds: u64| of(milliseconds, one, B);
-        let second = |milliseconds: u64, partner: u8| {
-            let mut frame = of(milliseconds, two, partner);
-            frame.interface = 1;
-            frame
-        };
+        let second = |milliseconds: u64, partner: u8| on(1, of(milliseconds, two, partner));
         [
             first(0),
             second(500, was),
@@ -215,8 +204,7 @@ fn links_of_one_system_lead_to_two(rt: HostRuntime) {
         let mut other = a_to_b(UP, UP);
         other.actor.port.number = 2;
         other.partner = info(C, UP);
-        let mut other = at(500, other);
-        other.interface = 1;
+        let other = on(1, at(500, other));
         [
             at(0, a_to_b(UP, UP)),
             at(500, b_to_a(UP, UP)),
@@ -232,10 +220,7 @@ fn links_of_one_system_lead_to_two(rt: HostRuntime) {
 // 6.4.9: each of three systems records who spoke last. So none of them has the partner of another.
 #[test]
 fn a_third_system_speaks_on_the_link(rt: HostRuntime) {
-    let of = |actor: u8, partner: u8| Said {
-        actor: info(actor, FAST),
-        partner: info(partner, FAST),
-    };
+    let of = |actor: u8, partner: u8| said_by(info(actor, FAST), info(partner, FAST));
     let frames = [
         at(0, of(A, C)),
         at(300, of(B, A)),
@@ -272,8 +257,7 @@ fn a_third_system_speaks_on_the_link(rt: HostRuntime) {
     };
     // One that names neither may be of another link; so may one on another interface.
     shows(&rt, &pair(at(600, of(C, 0xd)), 2000), 3000, &[]);
-    let mut elsewhere = at(600, of(C, B));
-    elsewhere.interface = 1;
+    let elsewhere = on(1, at(600, of(C, B)));
     shows(&rt, &pair(elsewhere, 2000), 3000, &[]);
     // So may one that names another port of A.
     let mut said = of(C, A);
@@ -286,10 +270,7 @@ fn a_third_system_speaks_on_the_link(rt: HostRuntime) {
         shows(&rt, &pair(at(600, said), 2000), 3000, &[(16, 4)]);
     }
     // B and C were heard 90 seconds before the last LACPDU; then B was heard longer ago.
-    let slow = |actor: u8, partner: u8| Said {
-        actor: info(actor, UP),
-        partner: info(partner, UP),
-    };
+    let slow = |actor: u8, partner: u8| said_by(info(actor, UP), info(partner, UP));
     let frames = |last: u64| {
         [
             at(0, slow(A, B)),
@@ -316,8 +297,7 @@ fn two_actors_are_on_one_segment(rt: HostRuntime) {
         &[(16, 3)],
     );
     // on another interface, or long ago
-    let mut elsewhere = at(500, rival);
-    elsewhere.interface = 1;
+    let elsewhere = on(1, at(500, rival));
     shows(&rt, &[at(0, said), elsewhere, at(1000, said)], 2000, &[]);
     let said = a_to_b(FAST, UP);
     rival.partner = info(B, UP);

@@ -1,4 +1,4 @@
-use crate::links::frames::{A, B, C, FAST, UP, a_to_b, at, b_to_a, info, shows};
+use crate::links::frames::{A, B, C, FAST, UP, a_to_b, at, b_to_a, info, on, shows};
 use slowpdu::Info;
 use std::process::Abort;
 
@@ -102,9 +102,7 @@ fn lacpdus_go_in_one_direction_only(rt: HostRuntime) {
     let facing = |interface: u32| {
         let mut other = b_to_a(UP, UP);
         other.partner = info(C, UP);
-        let mut frame = at(500, other);
-        frame.interface = interface;
-        frame
+        on(interface, at(500, other))
     };
     shows(&rt, &[alone[0], facing(0), alone[1], alone[2]], 3400, &[]);
     shows(

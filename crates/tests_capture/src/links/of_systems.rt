@@ -1,4 +1,4 @@
-use crate::links::frames::{A, B, FAST, Said, UP, a_to_b, at, info, shows};
+use crate::links::frames::{A, B, FAST, Said, UP, a_to_b, at, info, on, said_by, shows};
 use findings::SlowFrame;
 use lagtypes::Key;
 use slowpdu::Info;
@@ -44,10 +44,7 @@ fn two_ports_of_one_system_are_on_one_cable(rt: HostRuntime) {
 // A port that hears what it sends names itself once it does. No other end is heard on its interface.
 #[test]
 fn a_port_hears_itself(rt: HostRuntime) {
-    let nobody = Said {
-        actor: info(A, 0x47),
-        partner: Info::default(),
-    };
+    let nobody = said_by(info(A, 0x47), Info::default());
     let itself = a_to_a(1, 1);
     let frames = [
         at(0, nobody),
@@ -69,9 +66,7 @@ fn a_port_of_a_bundle_hears_itself(rt: HostRuntime) {
         let mut said = a_to_b(0x05, 0x05);
         said.actor.port.number = 2;
         said.partner = said.actor;
-        let mut frame = at(milliseconds, said);
-        frame.interface = 1;
-        frame
+        on(1, at(milliseconds, said))
     };
     let frames = [
         first(0),

@@ -1,5 +1,5 @@
 use crate::comparing::same;
-use crate::hosts::playing::{COME_UP, Row, config, heard, modulo, play};
+use crate::hosts::playing::{Row, come_up, config, heard, modulo, play};
 use dataplane::{SavedPort, resume};
 use lagsystem::{Assignment, System, SystemFault};
 use std::test::Fail;
@@ -78,7 +78,7 @@ fn what_is_not_adopted_stays(rt: HostRuntime) -> Result<(), Fail> {
     ];
     let alloc = rt.alloc();
     let mut system = System::new(alloc, config(alloc, 4_294_967_295)?, modulo)?;
-    play(&rt, &mut system, &COME_UP);
+    play(&rt, &mut system, &come_up());
     play(&rt, &mut system, &ROWS);
     Ok(())
 }

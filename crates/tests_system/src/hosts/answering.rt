@@ -2,7 +2,7 @@ ghost use Rattle.std.specs.Prelude.{◌≡◌};
 ghost use Rattle.distributor.specs.Calls.{PicksIndexes};
 
 use crate::comparing::same;
-use crate::hosts::playing::{COME_UP, Row as Played, config, marker, modulo, play};
+use crate::hosts::playing::{Row as Played, come_up, config, marker, modulo, play};
 use dataplane::{Answering, MarkerNote};
 use lagsystem::{Call, NoMemory, Reply, System, SystemFault};
 use std::alloc::Global;
@@ -224,7 +224,7 @@ fn a_sent_marker_asks_and_an_lacpdu_does_not(rt: HostRuntime) -> Result<(), Fail
     let alloc = rt.alloc();
     let mut system = System::new(alloc, config(alloc, 70)?, modulo)?;
     let mut notes = Answering::nobody_asked();
-    play(&rt, &mut system, &COME_UP[..5]);
+    play(&rt, &mut system, &come_up()[..5]);
     steps(&rt, alloc, &mut system, &mut notes, &FIRST)?;
     play(&rt, &mut system, &MOVED);
     steps(&rt, alloc, &mut system, &mut notes, &THEN)

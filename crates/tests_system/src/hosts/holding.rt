@@ -38,13 +38,8 @@ fn play(rt: &impl Abort, held: &mut Holding<u32>, place: usize, row: Row) {
             puts(rt, held, place, (conversation, handle), refusal);
         }
         Row::Next(conversation, wanted) => {
-            same_at(
-                rt,
-                "the oldest",
-                place,
-                &held.oldest(conversation).copied(),
-                &wanted,
-            );
+            let came = held.oldest(conversation).copied();
+            same_at(rt, "the oldest", place, &came, &wanted);
             same_at(rt, "the next", place, &held.next(conversation), &wanted);
         }
         Row::DropOldest(conversation, wanted) => {

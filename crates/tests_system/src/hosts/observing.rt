@@ -2,136 +2,86 @@ use crate::comparing::same_in_row;
 use dataplane::{Churn, ChurnMachine, ChurnState, Counters};
 use lagsystem::{AggId, Received, WireFault};
 
-/// Ticks that find the same, and what the machines are then.
-#[derive(Clone, Copy)]
-struct Row {
-    ticks: u16,
-    enabled: bool,
-    actor: bool,
-    partner: bool,
-    then: (ChurnMachine, ChurnMachine),
-}
+/// What a churn detection machine is: its state, for how many ticks it has waited, and how often the end churned and was in sync.
+type Machine = (ChurnState, u16, u64, u64);
 
-fn machine(state: ChurnState, waited: u16, churns: u64, synchronizations: u64) -> ChurnMachine {
-    ChurnMachine {
-        state,
-        waited,
-        churns,
-        synchronizations,
-    }
-}
+/// Ticks that find the same: whether the port is enabled, and whether the actor and the partner are in sync. And what the machines of
+/// both are then.
+type Row = (u16, [bool; 3], [Machine; 2]);
 
-fn after(
-    ticks: u16,
-    enabled: bool,
-    actor: bool,
-    partner: bool,
-    then: (ChurnMachine, ChurnMachine),
-) -> Row {
-    Row {
-        ticks,
-        enabled,
-        actor,
-        partner,
-        then,
-    }
-}
+const MONITOR: ChurnState = ChurnState::Monitor;
+
+const CALM: ChurnState = ChurnState::NoChurn;
+
+const CHURN: ChurnState = ChurnState::Churn;
 
 /// A partner that is out of sync for 60 s, then in sync while the actor is not; and a link that goes down.
-fn churning() -> [Row; 8] {
-    let (monitor, calm, churn) = (ChurnState::Monitor, ChurnState::NoChurn, ChurnState::Churn);
-    [
-        after(
-            700,
-            false,
-            true,
-            false,
-            (machine(monitor, 0, 0, 0), machine(monitor, 0, 0, 0)),
-        ),
-        after(
-            599,
-            true,
-            true,
-            false,
-            (machine(calm, 0, 0, 1), machine(monitor, 599, 0, 0)),
-        ),
-        after(
-            1,
-            true,
-            true,
-            false,
-            (machine(calm, 0, 0, 1), machine(churn, 0, 1, 0)),
-        ),
-        after(
-            600,
-            true,
-            true,
-            false,
-            (machine(calm, 0, 0, 1), machine(churn, 0, 1, 0)),
-        ),
-        after(
-            599,
-            true,
-            false,
-            true,
-            (machine(monitor, 599, 0, 1), machine(calm, 0, 1, 1)),
-        ),
-        after(
-            1,
-            false,
-            false,
-            true,
-            (machine(monitor, 0, 0, 1), machine(monitor, 0, 1, 1)),
-        ),
-        after(
-            600,
-            true,
-            false,
-            false,
-            (machine(churn, 0, 1, 1), machine(churn, 0, 2, 1)),
-        ),
-        after(
-            1,
-            true,
-            true,
-            true,
-            (machine(calm, 0, 1, 2), machine(calm, 0, 2, 2)),
-        ),
-    ]
+const CHURNING: [Row; 8] = [
+    (
+        700,
+        [false, true, false],
+        [(MONITOR, 0, 0, 0), (MONITOR, 0, 0, 0)],
+    ),
+    (
+        599,
+        [true, true, false],
+        [(CALM, 0, 0, 1), (MONITOR, 599, 0, 0)],
+    ),
+    (1, [true, true, false], [(CALM, 0, 0, 1), (CHURN, 0, 1, 0)]),
+    (
+        600,
+        [true, true, false],
+        [(CALM, 0, 0, 1), (CHURN, 0, 1, 0)],
+    ),
+    (
+        599,
+        [true, false, true],
+        [(MONITOR, 599, 0, 1), (CALM, 0, 1, 1)],
+    ),
+    (
+        1,
+        [false, false, true],
+        [(MONITOR, 0, 0, 1), (MONITOR, 0, 1, 1)],
+    ),
+    (
+        600,
+        [true, false, false],
+        [(CHURN, 0, 1, 1), (CHURN, 0, 2, 1)],
+    ),
+    (1, [true, true, true], [(CALM, 0, 1, 2), (CALM, 0, 2, 2)]),
+];
+
+fn told(machine: &ChurnMachine) -> Machine {
+    let churns = machine.churns;
+    (
+        machine.state,
+        machine.waited,
+        churns,
+        machine.synchronizations,
+    )
 }
 
 #[test]
 fn an_end_that_is_out_of_sync_for_60_s_churns(rt: HostRuntime) {
     let mut churn = Churn::at_begin();
-    for (at, row) in churning().iter().enumerate() {
-        for _ in 0..row.ticks {
-            churn.tick(row.enabled, row.actor, row.partner);
+    for (at, (ticks, [enabled, actor, partner], then)) in CHURNING.iter().enumerate() {
+        for _ in 0..*ticks {
+            churn.tick(*enabled, *actor, *partner);
         }
-        same_in_row(&rt, at, &(churn.actor, churn.partner), &row.then);
+        same_in_row(&rt, at, &[told(&churn.actor), told(&churn.partner)], then);
     }
 }
 
 /// A frame to 01-80-C2-00-00-02 of this EtherType, subtype and TLV type.
 fn frame(ether_type: [u8; 2], subtype: u8, tlv_type: u8) -> [u8; 17] {
+    let [high, low] = ether_type;
     [
-        0x01,
-        0x80,
-        0xc2,
-        0x00,
-        0x00,
-        0x02,
-        2,
-        0,
-        0,
-        0,
-        0,
-        9,
-        ether_type[0],
-        ether_type[1],
-        subtype,
-        1,
-        tlv_type,
+        1, 0x80, 0xc2, 0, 0, 2, 2, 0, 0, 0, 0, 9, high, low, subtype, 1, tlv_type,
     ]
+}
+
+fn other_subtype(subtype: u8) -> Received {
+    Received::Ignored(WireFault::OtherSubtype(subtype))
 }
 
 /// What came, and what became of it. The last two do not count.
@@ -148,10 +98,7 @@ fn arrivals() -> [([u8; 17], Received); 17] {
         (frame(slow, 2, 2), Received::Released(7)),
         (frame(slow, 2, 2), Received::Released(7)),
         (frame(slow, 3, 0), short),
-        (
-            frame(slow, 10, 0),
-            Received::Ignored(WireFault::OtherSubtype(10)),
-        ),
+        (frame(slow, 10, 0), other_subtype(10)),
         (frame(other, 1, 0), Received::Up(AggId(1))),
         (frame(other, 1, 0), Received::Dropped),
         (frame(slow, 1, 1), short),
@@ -160,14 +107,8 @@ fn arrivals() -> [([u8; 17], Received); 17] {
             Received::Ignored(WireFault::MarkerTlv(3)),
         ),
         (frame(slow, 0, 0), short),
-        (
-            frame(slow, 11, 0),
-            Received::Ignored(WireFault::OtherSubtype(11)),
-        ),
-        (
-            frame(slow, 255, 0),
-            Received::Ignored(WireFault::OtherSubtype(255)),
-        ),
+        (frame(slow, 11, 0), other_subtype(11)),
+        (frame(slow, 255, 0), other_subtype(255)),
         (frame(slow, 1, 1), Received::Disabled),
         (elsewhere, Received::Up(AggId(1))),
     ]

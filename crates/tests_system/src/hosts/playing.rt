@@ -148,15 +148,17 @@ pub(crate) fn config(alloc: Global, first_marker: u32) -> Result<Config, NoMemor
 }
 
 /// Ports 3 and 7 come to distribute in aggregator 1; the link of port 9 stays down. Each sends its LACPDU.
-pub(crate) const COME_UP: [Row<'static>; 7] = [
-    Row::Link(3, true),
-    Row::Link(7, true),
-    Row::Hears(3),
-    Row::Hears(7),
-    Row::Ticks(20),
-    Row::Sends(3),
-    Row::Sends(7),
-];
+pub(crate) fn come_up() -> [Row<'static>; 7] {
+    [
+        Row::Link(3, true),
+        Row::Link(7, true),
+        Row::Hears(3),
+        Row::Hears(7),
+        Row::Ticks(20),
+        Row::Sends(3),
+        Row::Sends(7),
+    ]
+}
 
 fn made(
     kind: u8,
@@ -212,23 +214,15 @@ fn asks<F: Fn(u16, usize) -> usize + Drop>(
 {
     match row {
         Row::OffersConversation(agg, conv, answer) => {
-            same_in_row(
-                rt,
-                place,
-                &system.offer_conversation(AggId(agg), conv),
-                &answer,
-            );
+            let came = system.offer_conversation(AggId(agg), conv);
+            same_in_row(rt, place, &came, &answer);
         }
         Row::Offers(agg, octets, answer) => {
             same_in_row(rt, place, &system.offer(AggId(agg), octets), &answer);
         }
         Row::Leaves(agg, conv, answer) => {
-            same_in_row(
-                rt,
-                place,
-                &system.leave_conversation(AggId(agg), conv),
-                &answer,
-            );
+            let came = system.leave_conversation(AggId(agg), conv);
+            same_in_row(rt, place, &came, &answer);
         }
         Row::Rests(agg, conv, answer) => same_in_row(
             rt,
@@ -237,12 +231,8 @@ fn asks<F: Fn(u16, usize) -> usize + Drop>(
             &answer,
         ),
         Row::Moves(agg, conv, port, answer) => {
-            same_in_row(
-                rt,
-                place,
-                &system.move_conversation(AggId(agg), conv, port),
-                &answer,
-            );
+            let came = system.move_conversation(AggId(agg), conv, port);
+            same_in_row(rt, place, &came, &answer);
         }
         Row::ForcesPort(port, answer) => same_in_row(rt, place, &system.force_port(port), &answer),
         _ => carries(rt, system, place, row),
@@ -317,12 +307,8 @@ fn tells<F: Fn(u16, usize) -> usize + Drop>(
         Row::Held(port, answer) => same_in_row(rt, place, &system.held(port), &answer),
         Row::Due(port, is) => same_in_row(rt, place, &system.is_due(port), &Some(is)),
         Row::State(agg, conv, state) => {
-            same_in_row(
-                rt,
-                place,
-                &system.conversation_state(AggId(agg), conv),
-                &Some(state),
-            );
+            let came = system.conversation_state(AggId(agg), conv);
+            same_in_row(rt, place, &came, &Some(state));
         }
         Row::Next(id) => same_in_row(rt, place, &system.next_marker(), &id),
         _ => {}
@@ -351,7 +337,7 @@ pub(crate) fn plays(
     rows: &[Row<'_>],
 ) -> Result<(), SystemFault> {
     let mut system = System::new(alloc, config(alloc, first_marker)?, modulo)?;
-    play(rt, &mut system, &COME_UP);
+    play(rt, &mut system, &come_up());
     play(rt, &mut system, rows);
     Ok(())
 }

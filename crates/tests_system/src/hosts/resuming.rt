@@ -85,6 +85,13 @@ fn saved_ports_distribute_at_once(rt: HostRuntime) -> Result<(), Fail> {
     Ok(())
 }
 
+/// Ports that do not distribute.
+const PORT_3: ResumeFault = ResumeFault::NotDistributing(3);
+
+const PORT_4: ResumeFault = ResumeFault::NotDistributing(4);
+
+const PORT_7: ResumeFault = ResumeFault::NotDistributing(7);
+
 #[test]
 fn what_changed_meanwhile_is_refused(rt: HostRuntime) -> Result<(), Fail> {
     let alloc = rt.alloc();
@@ -92,32 +99,14 @@ fn what_changed_meanwhile_is_refused(rt: HostRuntime) -> Result<(), Fail> {
         ([saved(3, 900), saved(7, 1000)], ResumeFault::Stale(3)),
         ([saved(3, 899), saved(7, 900)], ResumeFault::Stale(7)),
         // the system has no port 4
-        (
-            [saved(3, 0), saved(4, 5000)],
-            ResumeFault::NotDistributing(4),
-        ),
+        ([saved(3, 0), saved(4, 5000)], PORT_4),
         // the Actor is not synchronized; its peer knows the port by another key, or as Individual
-        (
-            [saved(3, 0), altered(7, ACTOR_STATE, 0x05)],
-            ResumeFault::NotDistributing(7),
-        ),
-        (
-            [saved(3, 0), altered(7, PARTNER_KEY, 6)],
-            ResumeFault::NotDistributing(7),
-        ),
-        (
-            [saved(3, 0), altered(7, PARTNER_STATE, 0x01)],
-            ResumeFault::NotDistributing(7),
-        ),
+        ([saved(3, 0), altered(7, ACTOR_STATE, 0x05)], PORT_7),
+        ([saved(3, 0), altered(7, PARTNER_KEY, 6)], PORT_7),
+        ([saved(3, 0), altered(7, PARTNER_STATE, 0x01)], PORT_7),
         // a marker; a length that is wrong
-        (
-            [altered(3, 14, 2), saved(7, 0)],
-            ResumeFault::NotDistributing(3),
-        ),
-        (
-            [altered(3, 17, 19), saved(7, 0)],
-            ResumeFault::NotDistributing(3),
-        ),
+        ([altered(3, 14, 2), saved(7, 0)], PORT_3),
+        ([altered(3, 17, 19), saved(7, 0)], PORT_3),
     ];
     for (row, (ports, why)) in rows.iter().enumerate() {
         refused(&rt, alloc, row, ports, *why)?;
@@ -145,12 +134,8 @@ fn are_back<F: Fn(u16, usize) -> usize + Drop>(
     for one in ports {
         let chosen = Choice::Selected(AggId(one.aggregator));
         same(rt, "aggregator", &system.choice(one.port), &Some(chosen));
-        same(
-            rt,
-            "distributes",
-            &system.distributes(one.port),
-            &Some(true),
-        );
+        let came = system.distributes(one.port);
+        same(rt, "distributes", &came, &Some(true));
         let left = system.current_while(one.port).map(u32::from);
         same(
             rt,
@@ -170,12 +155,8 @@ fn is_new<F: Fn(u16, usize) -> usize + Drop>(
 ) {
     same(rt, "is_up", &system.is_up(port), &Some(false));
     same(rt, "state", &system.state(port), &fresh.state(port));
-    same(
-        rt,
-        "receive",
-        &system.receive_state(port),
-        &fresh.receive_state(port),
-    );
+    let came = system.receive_state(port);
+    same(rt, "receive", &came, &fresh.receive_state(port));
     same(rt, "party", &system.party(port), &fresh.party(port));
     same(rt, "partner", &system.partner(port), &fresh.partner(port));
     same(rt, "choice", &system.choice(port), &fresh.choice(port));
@@ -223,12 +204,8 @@ fn the_second_port_of_a_group_takes_the_empty_aggregator(rt: HostRuntime) -> Res
         return Ok(());
     };
     are_back(&rt, &system, &ports);
-    same(
-        &rt,
-        "adopted in 2",
-        &adopt(&mut system, AggId(2), 14, 3),
-        &Ok(()),
-    );
+    let came = adopt(&mut system, AggId(2), 14, 3);
+    same(&rt, "adopted in 2", &came, &Ok(()));
     Ok(())
 }
 

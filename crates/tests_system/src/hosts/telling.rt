@@ -1,5 +1,5 @@
 use crate::comparing::{same, same_at};
-use crate::hosts::playing::{COME_UP, Row, config, modulo, play};
+use crate::hosts::playing::{Row, come_up, config, modulo, play};
 use lagsystem::{AggId, System, SystemFault};
 use std::process::Abort;
 
@@ -19,13 +19,8 @@ fn tells_ports<F: Fn(u16, usize) -> usize + Drop>(
     same(rt, "how many changed", &came, &answer);
     for (conv, port, is_changed) in told {
         same_at(rt, "the port", *conv, &ports.get(*conv), &Some(port));
-        same_at(
-            rt,
-            "the change",
-            *conv,
-            &changed.get(*conv),
-            &Some(is_changed),
-        );
+        let came = changed.get(*conv);
+        same_at(rt, "the change", *conv, &came, &Some(is_changed));
     }
 }
 
@@ -38,7 +33,7 @@ fn each_conversation_tells_its_port_at_once(rt: HostRuntime) -> Result<(), Syste
     ];
     let alloc = rt.alloc();
     let mut system = System::new(alloc, config(alloc, 5)?, modulo)?;
-    play(&rt, &mut system, &COME_UP);
+    play(&rt, &mut system, &come_up());
     let mut ports = [0; 256];
     let mut changed = [true; 256];
     let told = [(255, 0, false)];
@@ -65,7 +60,7 @@ fn rows_are_told_as_far_as_both_lists_go(rt: HostRuntime) -> Result<(), SystemFa
     ];
     let alloc = rt.alloc();
     let mut system = System::new(alloc, config(alloc, 5)?, modulo)?;
-    play(&rt, &mut system, &COME_UP);
+    play(&rt, &mut system, &come_up());
     play(&rt, &mut system, &ROWS);
     let mut ports = [19; 4];
     let mut changed = [true; 3];
@@ -96,20 +91,10 @@ fn tells_released<F: Fn(u16, usize) -> usize + Drop>(
     let came = system.released(AggId(agg), busy, freed);
     same(rt, "how many are free", &came, &answer);
     for (conv, is_busy, is_freed) in told {
-        same_at(
-            rt,
-            "whether it is busy",
-            *conv,
-            &busy.get(*conv),
-            &Some(is_busy),
-        );
-        same_at(
-            rt,
-            "whether it is free",
-            *conv,
-            &freed.get(*conv),
-            &Some(is_freed),
-        );
+        let came = busy.get(*conv);
+        same_at(rt, "whether it is busy", *conv, &came, &Some(is_busy));
+        let came = freed.get(*conv);
+        same_at(rt, "whether it is free", *conv, &came, &Some(is_freed));
     }
 }
 
@@ -151,7 +136,7 @@ fn what_a_call_sets_free_is_told(rt: HostRuntime) -> Result<(), SystemFault> {
     const ANSWERS: [Row<'static>; 2] = [Row::Marks(3, Some(5)), Row::Releases(3, 5, 1)];
     let alloc = rt.alloc();
     let mut system = System::new(alloc, config(alloc, 5)?, modulo)?;
-    play(&rt, &mut system, &COME_UP);
+    play(&rt, &mut system, &come_up());
     let mut busy = [false; 256];
     let mut freed = [true; 256];
     play(&rt, &mut system, &WAITING);

@@ -1,4 +1,4 @@
-use crate::systems::{Row, Side, plays_with};
+use crate::systems::{Row, Side, joined, plays_with};
 use lagsystem::{MuxState, PortStatus, SystemFault};
 
 /// Port 2 hears one of two ports of the partner, in turn, as on a wire with a hub: this one.
@@ -49,14 +49,10 @@ const COMES_UP: [Row<'static>; 10] = [
 
 #[test]
 fn a_port_waits_for_another_that_begins_anew_for_ever(rt: HostRuntime) -> Result<(), SystemFault> {
-    plays_with(
-        &rt,
-        rt.alloc(),
-        &[1, 2],
-        1,
-        &[
-            &STARTS, &STARVES, &STARVES, &STARVES, &STARVES, &STARVES, &STARVES, &STARVES,
-            &STARVES, &COMES_UP,
-        ],
-    )
+    let mut rows = joined(rt.alloc(), &[&STARTS])?;
+    for _ in 0..8 {
+        rows.extend_from_slice(&STARVES)?;
+    }
+    rows.extend_from_slice(&COMES_UP)?;
+    plays_with(&rt, rt.alloc(), &[1, 2], 1, &[&rows])
 }

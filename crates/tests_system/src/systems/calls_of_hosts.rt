@@ -5,66 +5,53 @@ use lagsystem::{AggId, Call, HostCall, HostReply, NoMemory, Received, Reply, Sys
 use slowpdu::{MarkerKind, frame};
 use std::alloc::Global;
 
-/// A call, and its expected reply.
-#[derive(Drop)]
-struct Made {
-    call: HostCall,
-    reply: HostReply,
+/// A call of a host for aggregator 1 or for a port, and its expected answer.
+#[derive(Clone, Copy)]
+enum Made {
+    Offers(u16, Result<u16, SystemFault>),
+    Leaves(u16, Result<(), SystemFault>),
+    Rests(u16, Result<(), SystemFault>),
+    ForcesPort(u16, Result<u32, SystemFault>),
+    /// A probe of a port sends the marker with this identifier.
+    Probes(u16, Result<u32, SystemFault>),
+    /// The response to the marker with this identifier comes on port 1, and frees this many conversations.
+    Releases(u32, u32),
 }
 
-/// An offer by number in aggregator 1, and its expected answer.
-fn offered(conv: u16, answer: Result<u16, SystemFault>) -> Made {
-    Made {
-        call: HostCall::OfferConversation(AggId(1), conv),
-        reply: HostReply::OfferConversation(answer),
-    }
-}
-
-/// A conversation of aggregator 1 is to leave its port; the expected answer.
-fn left(conv: u16, answer: Result<(), SystemFault>) -> Made {
-    Made {
-        call: HostCall::LeaveConversation(AggId(1), conv),
-        reply: HostReply::LeaveConversation(answer),
-    }
-}
-
-/// A conversation of aggregator 1 is to rest; the expected answer.
-fn rested(conv: u16, answer: Result<(), SystemFault>) -> Made {
-    Made {
-        call: HostCall::Rest(AggId(1), conv),
-        reply: HostReply::Rest(answer),
-    }
-}
-
-/// What is held on a port is forced; the expected answer.
-fn forced(port: u16, answer: Result<u32, SystemFault>) -> Made {
-    Made {
-        call: HostCall::ForcePort(port),
-        reply: HostReply::ForcePort(answer),
-    }
-}
-
-/// A probe of a port; the expected answer.
-fn probed(port: u16, answer: Result<Option<[u8; 124]>, SystemFault>) -> Made {
-    Made {
-        call: HostCall::Probe(port),
-        reply: HostReply::Probe(answer),
-    }
-}
-
-/// The response to the marker with this identifier comes on port 1 of system 1, and frees this many conversations.
-fn released(alloc: Global, id: u32, count: u32) -> Result<Made, NoMemory> {
+/// `receive` of the response to the marker with this identifier on port 1 of system 1.
+fn response(alloc: Global, id: u32) -> Result<Call, NoMemory> {
     let payload = marker(MarkerKind::Response, 1, 1, id).encode();
     let octets = Vec::from_slice(alloc, &frame(mac(9), &payload))?;
-    Ok(Made {
-        call: HostCall::Call(Call::Receive(1, octets)),
-        reply: HostReply::Call(Reply::Receive(Ok(Received::Released(count)))),
-    })
+    Ok(Call::Receive(1, octets))
 }
 
 /// The marker with this identifier, as system 1 sends it on port 1.
-fn marked(id: u32) -> [u8; 124] {
-    frame(mac(1), &marker(MarkerKind::Information, 1, 1, id).encode())
+fn marked(answer: Result<u32, SystemFault>) -> Result<Option<[u8; 124]>, SystemFault> {
+    let id = answer?;
+    let payload = marker(MarkerKind::Information, 1, 1, id).encode();
+    Ok(Some(frame(mac(1), &payload)))
+}
+
+fn call_of(alloc: Global, made: Made) -> Result<HostCall, NoMemory> {
+    match made {
+        Made::Offers(conv, _) => Ok(HostCall::OfferConversation(AggId(1), conv)),
+        Made::Leaves(conv, _) => Ok(HostCall::LeaveConversation(AggId(1), conv)),
+        Made::Rests(conv, _) => Ok(HostCall::Rest(AggId(1), conv)),
+        Made::ForcesPort(port, _) => Ok(HostCall::ForcePort(port)),
+        Made::Probes(port, _) => Ok(HostCall::Probe(port)),
+        Made::Releases(id, _) => Ok(HostCall::Call(response(alloc, id)?)),
+    }
+}
+
+fn reply_of(made: Made) -> HostReply {
+    match made {
+        Made::Offers(_, answer) => HostReply::OfferConversation(answer),
+        Made::Leaves(_, answer) => HostReply::LeaveConversation(answer),
+        Made::Rests(_, answer) => HostReply::Rest(answer),
+        Made::ForcesPort(_, answer) => HostReply::ForcePort(answer),
+        Made::Probes(_, answer) => HostReply::Probe(marked(answer)),
+        Made::Releases(_, count) => HostReply::Call(Reply::Receive(Ok(Received::Released(count)))),
+    }
 }
 
 /// Ports 1 and 2 come to distribute in aggregator 1.
@@ -78,34 +65,35 @@ const BOTH_UP: [Row<'static>; 5] = [
 
 #[test]
 fn each_kind_of_host_call(rt: HostRuntime) -> Result<(), SystemFault> {
+    const ROWS: [Made; 19] = [
+        Made::Offers(48, Ok(1)),
+        Made::Offers(49, Ok(2)),
+        Made::Offers(256, Err(SystemFault::NotAssigned)),
+        Made::Leaves(48, Ok(())),
+        Made::Leaves(48, Err(SystemFault::Held)),
+        Made::Offers(48, Err(SystemFault::Held)),
+        Made::Rests(48, Err(SystemFault::Held)),
+        // what is Wanted on the port goes behind the marker of the probe
+        Made::Probes(1, Ok(1)),
+        Made::Releases(1, 1),
+        Made::Offers(48, Ok(1)),
+        Made::Probes(3, Err(SystemFault::NoPort)),
+        Made::Rests(48, Ok(())),
+        Made::Rests(48, Err(SystemFault::NotAssigned)),
+        Made::Leaves(49, Ok(())),
+        Made::ForcesPort(1, Ok(0)),
+        Made::ForcesPort(2, Ok(1)),
+        Made::ForcesPort(2, Ok(0)),
+        Made::ForcesPort(3, Err(SystemFault::NoPort)),
+        Made::Offers(49, Ok(2)),
+    ];
     let alloc = rt.alloc();
     let mut system = System::new(alloc, config(alloc, &[1, 2], 2)?, modulo)?;
     let _replies = system.drive(alloc, &plan_of_all(alloc, &BOTH_UP)?.calls)?;
-    let rows = [
-        offered(48, Ok(1)),
-        offered(49, Ok(2)),
-        offered(256, Err(SystemFault::NotAssigned)),
-        left(48, Ok(())),
-        left(48, Err(SystemFault::Held)),
-        offered(48, Err(SystemFault::Held)),
-        rested(48, Err(SystemFault::Held)),
-        // what is Wanted on the port goes behind the marker of the probe
-        probed(1, Ok(Some(marked(1)))),
-        released(alloc, 1, 1)?,
-        offered(48, Ok(1)),
-        probed(3, Err(SystemFault::NoPort)),
-        rested(48, Ok(())),
-        rested(48, Err(SystemFault::NotAssigned)),
-        left(49, Ok(())),
-        forced(1, Ok(0)),
-        forced(2, Ok(1)),
-        forced(2, Ok(0)),
-        forced(3, Err(SystemFault::NoPort)),
-        offered(49, Ok(2)),
-    ];
-    for row in 0..rows.len() {
-        let reply = system.host_call(&rows[row].call);
-        same_in_row(&rt, row, &reply, &rows[row].reply);
+    for (place, row) in ROWS.iter().enumerate() {
+        let call = call_of(alloc, *row)?;
+        let reply = system.host_call(&call);
+        same_in_row(&rt, place, &reply, &reply_of(*row));
     }
     Ok(())
 }

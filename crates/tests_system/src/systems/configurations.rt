@@ -1,8 +1,7 @@
 use crate::comparing::{same, same_in_row};
 use crate::systems::{Row, config, end, lacpdu, mac, modulo, no_partner, plays};
-use bitflags::Flags;
 use lagsystem::{
-    BadConfig, Choice, Config, Key, NoMemory, PortChange, PortConfig, Received, State, System,
+    BadConfig, Choice, Config, Key, NoMemory, Party, PortChange, PortConfig, Received, System,
     SystemFault,
 };
 use slowpdu::{Lacpdu, frame};
@@ -242,54 +241,57 @@ fn refusals_have_numbers_and_texts(rt: HostRuntime) -> Result<(), AllocError> {
 
 /// A passive, Individual port with Long Timeout, another priority and another address, in a system with a
 /// CollectorMaxDelay.
+fn odd(alloc: Global) -> Result<Config, NoMemory> {
+    let mut given = config(alloc, &[5], 1)?;
+    given.max_delay = 7;
+    for key in given.aggregators.iter_mut() {
+        *key = Key(3);
+    }
+    for port in given.ports.iter_mut() {
+        *port = PortConfig {
+            number: 5,
+            priority: 9,
+            mac: mac(4),
+            key: Key(3),
+            aggregatable: false,
+            active: false,
+            short: false,
+        };
+    }
+    Ok(given)
+}
+
+/// The port after its values are changed.
+fn odd_party_after() -> Party {
+    let mut own = end(1, 5, 12, 0x04);
+    own.port.priority = 10;
+    own.party()
+}
+
 #[test]
 fn a_port_is_as_it_is_configured(rt: HostRuntime) -> Result<(), SystemFault> {
-    let mut given = config(rt.alloc(), &[5], 1)?;
-    given.max_delay = 7;
-    given.aggregators = Vec::from_slice(rt.alloc(), &[Key(3)])?;
-    let port = PortConfig {
-        number: 5,
-        priority: 9,
-        mac: mac(4),
-        key: Key(3),
-        aggregatable: false,
-        active: false,
-        short: false,
-    };
-    given.ports = Vec::from_slice(rt.alloc(), &[port])?;
     let theirs = end(2, 6, 8, 0x07);
     let mut own = end(1, 5, 3, 0x00);
     own.port.priority = 9;
-    let mut system = System::new(rt.alloc(), given, modulo)?;
+    let mut system = System::new(rt.alloc(), odd(rt.alloc())?, modulo)?;
     same(&rt, "party", &system.party(5), &Some(own.party()));
     same(&rt, "set_link", &system.set_link(5, true), &Ok(()));
     let heard = frame(mac(9), &lacpdu(theirs, no_partner(0)));
-    same(
-        &rt,
-        "receive",
-        &system.receive(5, &heard),
-        &Ok(Received::TookLacpdu),
-    );
+    let came = system.receive(5, &heard);
+    same(&rt, "receive", &came, &Ok(Received::TookLacpdu));
     let due = Lacpdu {
         actor: own,
         partner: theirs,
         max_delay: 7,
     };
-    same(
-        &rt,
-        "transmit",
-        &system.transmit(5),
-        &Ok(Some(frame(mac(4), &due.encode()))),
-    );
+    let sent = frame(mac(4), &due.encode());
+    same(&rt, "transmit", &system.transmit(5), &Ok(Some(sent)));
     let change = PortChange {
         key: Key(12),
         priority: 10,
         aggregatable: true,
     };
     same(&rt, "configure", &system.configure(5, change), &Ok(true));
-    own.key = Key(12);
-    own.port.priority = 10;
-    own.state = State::from_bits_retain(0x04);
-    same(&rt, "party", &system.party(5), &Some(own.party()));
+    same(&rt, "party", &system.party(5), &Some(odd_party_after()));
     Ok(())
 }

@@ -15,25 +15,27 @@ const WIDE: [u8; 14] = [2, 0, 0, 0, 0xf1, 0x20, 2, 0, 0, 0, 0, 0x10, 8, 0];
 
 /// Ports 1 and 2 come up: both distribute in aggregator 1, with system 2 as their partner; then nothing is due, and no
 /// LACPDU was sent in the last eleven ticks.
-pub(crate) const COMING_UP: [Row<'static>; 17] = [
-    Row::Link(1, true),
-    Row::Link(2, true),
-    Row::Takes(1, Side::Of(2, 1, 1, 0x05), Side::Of(1, 1, 1, 0x07)),
-    Row::Takes(2, Side::Of(2, 2, 1, 0x05), Side::Of(1, 2, 1, 0x07)),
-    Row::Ticks(20),
-    Row::Sends(1, Side::Of(1, 1, 1, 0x0f), Side::Of(2, 1, 1, 0x05)),
-    Row::Sends(2, Side::Of(1, 2, 1, 0x0f), Side::Of(2, 2, 1, 0x05)),
-    Row::Takes(1, Side::Of(2, 1, 1, 0x0d), Side::Of(1, 1, 1, 0x0f)),
-    Row::Takes(2, Side::Of(2, 2, 1, 0x0d), Side::Of(1, 2, 1, 0x0f)),
-    Row::Sends(1, Side::Of(1, 1, 1, 0x3f), Side::Of(2, 1, 1, 0x0d)),
-    Row::Sends(2, Side::Of(1, 2, 1, 0x3f), Side::Of(2, 2, 1, 0x0d)),
-    Row::Takes(1, Side::Of(2, 1, 1, 0x0d), Side::Of(1, 1, 1, 0x3f)),
-    Row::Takes(2, Side::Of(2, 2, 1, 0x0d), Side::Of(1, 2, 1, 0x3f)),
-    Row::Ticks(11),
-    Row::Silent(1),
-    Row::Silent(2),
-    Row::Distributing(1, &[1, 2]),
-];
+pub(crate) fn coming_up() -> [Row<'static>; 17] {
+    [
+        Row::Link(1, true),
+        Row::Link(2, true),
+        Row::Takes(1, Side::Of(2, 1, 1, 0x05), Side::Of(1, 1, 1, 0x07)),
+        Row::Takes(2, Side::Of(2, 2, 1, 0x05), Side::Of(1, 2, 1, 0x07)),
+        Row::Ticks(20),
+        Row::Sends(1, Side::Of(1, 1, 1, 0x0f), Side::Of(2, 1, 1, 0x05)),
+        Row::Sends(2, Side::Of(1, 2, 1, 0x0f), Side::Of(2, 2, 1, 0x05)),
+        Row::Takes(1, Side::Of(2, 1, 1, 0x0d), Side::Of(1, 1, 1, 0x0f)),
+        Row::Takes(2, Side::Of(2, 2, 1, 0x0d), Side::Of(1, 2, 1, 0x0f)),
+        Row::Sends(1, Side::Of(1, 1, 1, 0x3f), Side::Of(2, 1, 1, 0x0d)),
+        Row::Sends(2, Side::Of(1, 2, 1, 0x3f), Side::Of(2, 2, 1, 0x0d)),
+        Row::Takes(1, Side::Of(2, 1, 1, 0x0d), Side::Of(1, 1, 1, 0x3f)),
+        Row::Takes(2, Side::Of(2, 2, 1, 0x0d), Side::Of(1, 2, 1, 0x3f)),
+        Row::Ticks(11),
+        Row::Silent(1),
+        Row::Silent(2),
+        Row::Distributing(1, &[1, 2]),
+    ]
+}
 
 /// After these rows, port 1 leaves the aggregator, and conversation 48 goes to port 2 after its Marker Response.
 pub(crate) const LEAVING: [Row<'static>; 14] = [
@@ -56,7 +58,7 @@ pub(crate) const LEAVING: [Row<'static>; 14] = [
 
 #[test]
 fn a_conversation_leaves_a_port_behind_its_marker(rt: HostRuntime) -> Result<(), SystemFault> {
-    plays_with(&rt, rt.alloc(), &[1, 2], 2, &[&COMING_UP, &LEAVING])
+    plays_with(&rt, rt.alloc(), &[1, 2], 2, &[&coming_up(), &LEAVING])
 }
 
 /// A frame of the slow protocols.
@@ -115,7 +117,7 @@ fn moves_are_refused_in_order(rt: HostRuntime) -> Result<(), SystemFault> {
         Row::Silent(1),
         Row::Offers(1, &DATA, Ok(2)),
     ];
-    plays_with(&rt, rt.alloc(), &[1, 2, 3], 2, &[&COMING_UP, &ROWS])
+    plays_with(&rt, rt.alloc(), &[1, 2, 3], 2, &[&coming_up(), &ROWS])
 }
 
 #[test]
@@ -135,7 +137,7 @@ fn responses_that_are_not_for_the_port(rt: HostRuntime) -> Result<(), SystemFaul
         Row::Releases(1, Response(1, 1, 1), 0),
         Row::Offers(1, &DATA, Ok(2)),
     ];
-    plays_with(&rt, rt.alloc(), &[1, 2], 2, &[&COMING_UP, &ROWS])
+    plays_with(&rt, rt.alloc(), &[1, 2], 2, &[&coming_up(), &ROWS])
 }
 
 #[test]
@@ -148,7 +150,7 @@ fn a_link_that_goes_down_frees_its_conversations(rt: HostRuntime) -> Result<(), 
         Row::Hears(1, &DATA, Received::Disabled),
         Row::Offers(1, &DATA, Ok(2)),
     ];
-    plays_with(&rt, rt.alloc(), &[1, 2], 2, &[&COMING_UP, &ROWS])
+    plays_with(&rt, rt.alloc(), &[1, 2], 2, &[&coming_up(), &ROWS])
 }
 
 #[test]
@@ -179,7 +181,7 @@ fn identifiers_end_and_a_restart_begins_anew(rt: HostRuntime) -> Result<(), Syst
         &rt,
         rt.alloc(),
         given,
-        &[&COMING_UP, &ROWS, &COMING_UP, &ROWS],
+        &[&coming_up(), &ROWS, &coming_up(), &ROWS],
     )
 }
 
@@ -202,7 +204,7 @@ fn a_marker_without_a_response_is_sent_again(rt: HostRuntime) -> Result<(), Syst
         Row::Offers(1, &DATA, Ok(2)),
         Row::Distributing(1, &[1, 2]),
     ];
-    plays_with(&rt, rt.alloc(), &[1, 2], 2, &[&COMING_UP, &ROWS])
+    plays_with(&rt, rt.alloc(), &[1, 2], 2, &[&coming_up(), &ROWS])
 }
 
 /// The conversation waits for the response to marker 1 on port 1, which was sent in this tick.
@@ -246,7 +248,7 @@ fn what_a_host_sees(rt: HostRuntime) -> Result<(), SystemFault> {
         Row::Releases(1, Response(1, 1, 1), 1),
         Row::Free(1, 48, Some(2)),
     ];
-    plays_with(&rt, rt.alloc(), &[1, 2], 2, &[&COMING_UP, &ROWS])
+    plays_with(&rt, rt.alloc(), &[1, 2], 2, &[&coming_up(), &ROWS])
 }
 
 #[test]
@@ -268,7 +270,7 @@ fn the_last_conversation_moves_and_is_forced(rt: HostRuntime) -> Result<(), Syst
     ];
     let mut given = config(rt.alloc(), &[1, 2], 2)?;
     given.first_marker = 7;
-    plays_lists(&rt, rt.alloc(), given, &[&COMING_UP, &ROWS])
+    plays_lists(&rt, rt.alloc(), given, &[&coming_up(), &ROWS])
 }
 
 #[test]
@@ -293,7 +295,7 @@ fn four_more_bits_count_if_there_are_4096_conversations(
     ];
     let mut given = config(rt.alloc(), &[1, 2], 2)?;
     given.conversations = 4096;
-    let rows = joined(rt.alloc(), &[&COMING_UP, &ROWS])?;
+    let rows = joined(rt.alloc(), &[&coming_up(), &ROWS])?;
     plays(&rt, rt.alloc(), given, &rows)?;
     let given = config(rt.alloc(), &[1, 2], 2)?;
     plays(

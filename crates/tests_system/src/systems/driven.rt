@@ -1,11 +1,9 @@
 ghost use Rattle.distributor.specs.Calls.{PicksIndexes};
 
-use crate::comparing::same;
-use crate::systems::conversations::{COMING_UP, LEAVING};
+use crate::comparing::{same, same_in_row};
+use crate::systems::conversations::{LEAVING, coming_up};
 use crate::systems::plan::{Plan, plan_of_all};
-use crate::systems::{
-    DATA, PortFacts, Response, Row, Side, config, joined, look, modulo, same_facts,
-};
+use crate::systems::{DATA, PortFacts, Response, Row, Side, config, joined, look, modulo};
 use lagsystem::{AggId, Received, System, SystemFault};
 use std::alloc::Global;
 use std::process::Abort;
@@ -21,8 +19,8 @@ fn looks_as<F: Fn(u16, usize) -> usize + Drop>(
     before: &[PortFacts; 2],
 ) {
     let after = looks(system);
-    same_facts(rt, 1, &after[0], &before[0]);
-    same_facts(rt, 2, &after[1], &before[1]);
+    same_in_row(rt, 1, &after[0], &before[0]);
+    same_in_row(rt, 2, &after[1], &before[1]);
 }
 
 /// Makes the calls of a plan at once; returns whether the replies are the expected ones. If memory for the replies is
@@ -94,7 +92,7 @@ fn every_kind_of_call(rt: HostRuntime) -> Result<(), SystemFault> {
 
 #[test]
 fn a_conversation_leaves_a_port(rt: HostRuntime) -> Result<(), SystemFault> {
-    is_driven(&rt, rt.alloc(), &[&COMING_UP, &LEAVING])
+    is_driven(&rt, rt.alloc(), &[&coming_up(), &LEAVING])
 }
 
 #[test]

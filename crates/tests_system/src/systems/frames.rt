@@ -80,28 +80,30 @@ fn three_answers_then_the_window_then_a_restart(rt: HostRuntime) -> Result<(), S
 }
 
 /// Two ports come up in aggregator 1; then the partner of port 1 has another key.
-pub(crate) const OTHER_KEY: [Row<'static>; 16] = [
-    Row::Link(1, true),
-    Row::Link(2, true),
-    Row::Hears(1, &DATA, Received::Dropped),
-    Row::Takes(1, Side::Of(2, 1, 1, 0x0d), Side::Of(1, 1, 1, 0x07)),
-    Row::Takes(2, Side::Of(2, 2, 1, 0x0d), Side::Of(1, 2, 1, 0x07)),
-    Row::Ticks(19),
-    Row::Distributing(1, &[]),
-    Row::Hears(1, &DATA, Received::Dropped),
-    Row::Ticks(1),
-    Row::Distributing(1, &[1, 2]),
-    Row::Hears(1, &DATA, Received::Up(AggId(1))),
-    Row::Takes(1, Side::Of(2, 1, 2, 0x0d), Side::Of(1, 1, 1, 0x07)),
-    Row::Distributing(1, &[2]),
-    Row::Distributing(2, &[]),
-    Row::Chosen(1, Choice::Selected(AggId(2))),
-    Row::Mux(1, MuxState::Waiting),
-];
+pub(crate) fn other_key() -> [Row<'static>; 16] {
+    [
+        Row::Link(1, true),
+        Row::Link(2, true),
+        Row::Hears(1, &DATA, Received::Dropped),
+        Row::Takes(1, Side::Of(2, 1, 1, 0x0d), Side::Of(1, 1, 1, 0x07)),
+        Row::Takes(2, Side::Of(2, 2, 1, 0x0d), Side::Of(1, 2, 1, 0x07)),
+        Row::Ticks(19),
+        Row::Distributing(1, &[]),
+        Row::Hears(1, &DATA, Received::Dropped),
+        Row::Ticks(1),
+        Row::Distributing(1, &[1, 2]),
+        Row::Hears(1, &DATA, Received::Up(AggId(1))),
+        Row::Takes(1, Side::Of(2, 1, 2, 0x0d), Side::Of(1, 1, 1, 0x07)),
+        Row::Distributing(1, &[2]),
+        Row::Distributing(2, &[]),
+        Row::Chosen(1, Choice::Selected(AggId(2))),
+        Row::Mux(1, MuxState::Waiting),
+    ]
+}
 
 #[test]
 fn another_key_of_the_partner(rt: HostRuntime) -> Result<(), SystemFault> {
-    plays_with(&rt, rt.alloc(), &[1, 2], 2, &[&OTHER_KEY])
+    plays_with(&rt, rt.alloc(), &[1, 2], 2, &[&other_key()])
 }
 
 #[test]

@@ -44,12 +44,14 @@ const ONE_OF_THREE: [Row<'static>; 4] = [
 ];
 
 /// Port 3 has taken the place of port 1, and distributes; port 2 is STANDBY still.
-const THIRD_PROMOTED: [Row<'static>; 4] = [
-    Row::Chosen(2, STANDBY),
-    Row::Chosen(3, SELECTED),
-    Row::Mux(2, MuxState::Waiting),
-    Row::Distributing(1, &[3]),
-];
+fn third_promoted() -> [Row<'static>; 4] {
+    [
+        Row::Chosen(2, STANDBY),
+        Row::Chosen(3, SELECTED),
+        Row::Mux(2, MuxState::Waiting),
+        Row::Distributing(1, &[3]),
+    ]
+}
 
 /// Plays lists of rows after port 1 of three has become the one link of the only aggregator.
 fn plays_after_one(
@@ -150,9 +152,9 @@ fn a_standby_port_follows_a_link_that_goes_down(rt: HostRuntime) -> Result<(), S
         rt.alloc(),
         &[
             &DOWN,
-            &THIRD_PROMOTED,
+            &third_promoted(),
             &BACK,
-            &THIRD_PROMOTED,
+            &third_promoted(),
             &SECOND,
             &FIRST,
         ],
@@ -171,9 +173,9 @@ fn a_standby_port_follows_a_member_that_leaves(rt: HostRuntime) -> Result<(), Sy
         Row::Takes(1, Side::Of(1, 9, 1, 0x0d), Side::Ranked(1, 0x3f)),
         OUT,
     ];
-    plays_after_one(&rt, rt.alloc(), &[&CONFIGURED, &THIRD_PROMOTED])?;
-    plays_after_one(&rt, rt.alloc(), &[&OTHER_KEY, &THIRD_PROMOTED])?;
-    plays_after_one(&rt, rt.alloc(), &[&OWN_SYSTEM, &THIRD_PROMOTED])
+    plays_after_one(&rt, rt.alloc(), &[&CONFIGURED, &third_promoted()])?;
+    plays_after_one(&rt, rt.alloc(), &[&OTHER_KEY, &third_promoted()])?;
+    plays_after_one(&rt, rt.alloc(), &[&OWN_SYSTEM, &third_promoted()])
 }
 
 /// The group of the port stays the same, but its partner has another port identifier: it leaves and chooses again, after
@@ -187,7 +189,7 @@ fn standby_ports_come_before_ports_that_choose(rt: HostRuntime) -> Result<(), Sy
         Row::Chosen(1, STANDBY),
         Row::Mux(1, MuxState::Waiting),
     ];
-    plays_after_one(&rt, rt.alloc(), &[&rows, &THIRD_PROMOTED])
+    plays_after_one(&rt, rt.alloc(), &[&rows, &third_promoted()])
 }
 
 /// Port 1 hears nothing more; it is EXPIRED after 30 ticks, DEFAULTED after 60.
@@ -213,7 +215,7 @@ fn a_standby_port_follows_a_member_that_hears_nothing(rt: HostRuntime) -> Result
         Row::Defaulted(1, true),
         Row::Chosen(1, Choice::Unselected),
     ];
-    plays_after_one(&rt, rt.alloc(), &[&ROWS, &THIRD_PROMOTED])
+    plays_after_one(&rt, rt.alloc(), &[&ROWS, &third_promoted()])
 }
 
 /// A peer that restarts has forgotten the port, but says the same of itself: the port stays a member.

@@ -1,8 +1,8 @@
 use crate::comparing::{same, same_in_row};
-use crate::systems::conversations::COMING_UP;
+use crate::systems::conversations::coming_up;
 use crate::systems::frames::response_frame;
 use crate::systems::plan::{Plan, plan_of_all};
-use crate::systems::{DATA, PortFacts, Row, config, joined, look, modulo, same_facts};
+use crate::systems::{DATA, PortFacts, Row, config, joined, look, modulo};
 use lagsystem::{AggId, Assignment, NoMemory, Received, System, SystemFault, WireFault};
 use std::alloc::Global;
 use std::process::Abort;
@@ -53,8 +53,8 @@ fn all_told<F: Fn(u16, usize) -> usize + Drop>(
 /// Compares what all readers return with what they returned before.
 fn same_told(rt: &impl Abort, place: usize, came: &Told, before: &Told) {
     same_in_row(rt, place, &came.ports, &before.ports);
-    same_facts(rt, place, &came.seen[0], &before.seen[0]);
-    same_facts(rt, place, &came.seen[1], &before.seen[1]);
+    same_in_row(rt, place, &came.seen[0], &before.seen[0]);
+    same_in_row(rt, place, &came.seen[1], &before.seen[1]);
     same_in_row(rt, place, &came.loads, &before.loads);
     same_in_row(rt, place, &came.aggregators, &before.aggregators);
     same_in_row(rt, place, &came.in_first, &before.in_first);
@@ -81,7 +81,7 @@ fn waiting(alloc: Global) -> Result<Plan, NoMemory> {
         Row::Moves(1, 48, 2, Ok(())),
         Row::Marks(1, 4_294_967_295),
     ];
-    plan_of_all(alloc, &joined(alloc, &[&COMING_UP, &ROWS])?)
+    plan_of_all(alloc, &joined(alloc, &[&coming_up(), &ROWS])?)
 }
 
 /// A beginning of the response changes nothing that the readers return.
@@ -119,11 +119,7 @@ fn a_response_cut_at_every_length(rt: HostRuntime) -> Result<(), SystemFault> {
     for count in 0..124 {
         changes_nothing(&rt, alloc, &mut system, &frame[..count], &before)?;
     }
-    same(
-        &rt,
-        "whole",
-        &system.receive(1, &frame),
-        &Ok(Received::Released(1)),
-    );
+    let came = system.receive(1, &frame);
+    same(&rt, "whole", &came, &Ok(Received::Released(1)));
     Ok(())
 }

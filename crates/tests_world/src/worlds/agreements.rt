@@ -1,9 +1,11 @@
 use crate::worlds::given::ONE_SHORT;
 use crate::worlds::starts::ONE_CABLE;
-use crate::worlds::{Flow, Row, plays, runs, steps};
-use lagworld::{Agreement, WorldFault};
+use crate::worlds::{Row, plays, runs, steps};
+use lagworld::WorldFault;
 
-const ALONE: &str = "sense 1 1 => Sensed(true)
+const ALONE_ROW: Row = Row {
+    setting: ONE_SHORT,
+    first: "sense 1 1 => Sensed(true)
 tick 1 9 => Ticked
 emit 1 1 => Nothing
 tick 1 1 => Ticked
@@ -15,20 +17,11 @@ offer 1 1 0200000000200200000000100800 => Refused(NoneDistributing)
 tick 1 1 => Ticked
 offer 1 1 0200000000200200000000100800 => port 1 serial 0
 emit 1 1 => lacpdu 7f
-";
-
-const ALONE_ROW: Row = Row {
-    setting: ONE_SHORT,
-    first: ALONE,
+",
     rest: "",
-    agreements: &[(1, Agreement::NotBoth)],
-    flows: &[Flow {
-        system: 1,
-        conv: 48,
-        sent: 1,
-        collected: &[],
-        forced: false,
-    }],
+    told: "cable 1 => Some(NotBoth)
+flow 1 1 48 => 1 []
+",
 };
 
 #[test]
@@ -40,8 +33,8 @@ pub(crate) const ONE_CABLE_ROW: Row = Row {
     setting: ONE_SHORT,
     first: ONE_CABLE,
     rest: "",
-    agreements: &[(1, Agreement::Same)],
-    flows: &[],
+    told: "cable 1 => Some(Same)
+",
 };
 
 #[test]
@@ -70,8 +63,8 @@ configure 1 1 1 128 aggregatable => Configured(true)
 deliver 1 1 => Took
 tick 1 20 => Ticked
 ",
-    agreements: &[(1, Agreement::Changed)],
-    flows: &[],
+    told: "cable 1 => Some(Changed)
+",
 };
 
 #[test]
@@ -87,8 +80,8 @@ tick 1 50 => Ticked
 tick 2 50 => Ticked
 ",
     rest: "",
-    agreements: &[(1, Agreement::Defaults)],
-    flows: &[],
+    told: "cable 1 => Some(Defaults)
+",
 };
 
 #[test]
@@ -97,7 +90,9 @@ fn both_ends_on_defaults(rt: HostRuntime) -> Result<(), WorldFault> {
 }
 
 /// One cable comes up, and each LACPDU is received twice.
-const REPEATED: &str = "sense 1 1 => Sensed(true)
+const REPEATED_ROW: Row = Row {
+    setting: ONE_SHORT,
+    first: "sense 1 1 => Sensed(true)
 sense 1 2 => Sensed(true)
 tick 1 10 => Ticked
 tick 2 10 => Ticked
@@ -123,14 +118,10 @@ deliver 1 1 => Took
 emit 1 1 => lacpdu 3f
 repeat 1 2 => Took
 deliver 1 2 => Took
-";
-
-const REPEATED_ROW: Row = Row {
-    setting: ONE_SHORT,
-    first: REPEATED,
+",
     rest: "",
-    agreements: &[(1, Agreement::Same)],
-    flows: &[],
+    told: "cable 1 => Some(Same)
+",
 };
 
 #[test]

@@ -1,11 +1,10 @@
-use crate::comparing::{same, same_at};
+use crate::comparing::same;
 use crate::worlds::given::{ONE_SHORT, TWO_LONG, add_line, empty_direction, modulo, world_config};
 use crate::worlds::playing::{plays_lines, runs_lines, step_of, world_of};
 use crate::worlds::starts::{COMING_UP, ONE_CABLE};
-use crate::worlds::{Flow, Row, plays};
+use crate::worlds::{Row, plays, tells};
 use cables::AnyCable;
-use lagtypes::AggId;
-use lagworld::{Agreement, Event, Reply, World, WorldFault};
+use lagworld::{Event, Reply, World, WorldFault};
 use std::alloc::Global;
 use std::process::Abort;
 
@@ -20,14 +19,9 @@ tick 1 950 => Ticked
 tick 2 950 => Ticked
 offer 1 1 0200000000200200000000100800 => port 1 serial 0
 ",
-    agreements: &[(1, Agreement::Defaults)],
-    flows: &[Flow {
-        system: 1,
-        conv: 48,
-        sent: 1,
-        collected: &[],
-        forced: false,
-    }],
+    told: "cable 1 => Some(Defaults)
+flow 1 1 48 => 1 []
+",
 };
 
 #[test]
@@ -47,8 +41,8 @@ tick 2 10 => Ticked
 join 1 => Joined
 deliver 1 2 => Took
 ",
-    agreements: &[(1, Agreement::NotBoth)],
-    flows: &[],
+    told: "cable 1 => Some(NotBoth)
+",
 };
 
 #[test]
@@ -79,12 +73,7 @@ fn nothing_happens(rt: &impl Abort, alloc: Global) -> Result<(), WorldFault> {
     let ticked = step_of(&mut world, &Event::Tick(1, 0));
     same(rt, "0 ticks", &ticked, &Ok(Reply::Ticked));
     plays_lines(rt, alloc, &mut world, ONE_SHORT, FIRST_LOST)?;
-    same(
-        rt,
-        "agreement",
-        &world.agreement(1),
-        &Some(Agreement::NotBoth),
-    );
+    tells(rt, alloc, &world, "cable 1 => Some(NotBoth)")?;
     Ok(())
 }
 
@@ -102,14 +91,8 @@ offer 1 1 0200000000200200000000df0800 => port 2 serial 1
 deliver 2 2 => Up(AggId(1))
 deliver 2 2 => Up(AggId(1))
 ",
-    agreements: &[],
-    flows: &[Flow {
-        system: 1,
-        conv: 255,
-        sent: 2,
-        collected: &[0, 1],
-        forced: false,
-    }],
+    told: "flow 1 1 255 => 2 [0, 1]
+",
 };
 
 #[test]
@@ -119,23 +102,11 @@ fn the_last_conversation_is_counted(rt: HostRuntime) -> Result<(), WorldFault> {
 
 /// Cable 1 joins port 1 of system 1 and port 2 of system 2.
 const CROSSING: &str = r#"
-[[system]]
-mac = "02-00-00-00-00-01"
-aggregators = [1]
-port = [
-    { number = 1, key = 1, short = false },
-    { number = 2, key = 1, short = false },
+system = [
+    { mac = "02-00-00-00-00-01", aggregators = [1], port = [{ number = 1, key = 1, short = false }, { number = 2, key = 1, short = false }] },
+    { mac = "02-00-00-00-00-02", aggregators = [1], port = [{ number = 1, key = 1, short = false }, { number = 2, key = 1, short = false }] },
 ]
-
-[[system]]
-mac = "02-00-00-00-00-02"
-aggregators = [1]
-port = [
-    { number = 1, key = 1, short = false },
-    { number = 2, key = 1, short = false },
-]
-[[cable]]
-ends = [1, 2]
+cable = [{ ends = [1, 2] }]
 "#;
 
 /// The ends of the cable hear each other.
@@ -163,14 +134,9 @@ deliver 1 1 => Took
 fn crosses(rt: &impl Abort, alloc: Global) -> Result<(), WorldFault> {
     let mut world = world_of(rt, alloc, CROSSING, None, modulo, modulo)?;
     plays_lines(rt, alloc, &mut world, CROSSING, CROSSED)?;
-    same(
-        rt,
-        "agreement",
-        &world.agreement(1),
-        &Some(Agreement::NotBoth),
-    );
+    tells(rt, alloc, &world, "cable 1 => Some(NotBoth)")?;
     plays_lines(rt, alloc, &mut world, CROSSING, CROSSED_UP)?;
-    same(rt, "agreement", &world.agreement(1), &Some(Agreement::Same));
+    tells(rt, alloc, &world, "cable 1 => Some(Same)")?;
     Ok(())
 }
 
@@ -212,97 +178,44 @@ fn the_first_direction_leads_to_system_1(rt: HostRuntime) -> Result<(), WorldFau
 
 /// Two systems with an aggregator for each of their two ports, and two cables.
 const TWO_APART: &str = r#"
-[[system]]
-mac = "02-00-00-00-00-01"
-aggregators = [1, 2]
-port = [
-    { number = 1, key = 1, short = false },
-    { number = 2, key = 2, short = false },
+system = [
+    { mac = "02-00-00-00-00-01", aggregators = [1, 2], port = [{ number = 1, key = 1, short = false }, { number = 2, key = 2, short = false }] },
+    { mac = "02-00-00-00-00-02", aggregators = [1, 2], port = [{ number = 1, key = 1, short = false }, { number = 2, key = 2, short = false }] },
 ]
-
-[[system]]
-mac = "02-00-00-00-00-02"
-aggregators = [1, 2]
-port = [
-    { number = 1, key = 1, short = false },
-    { number = 2, key = 2, short = false },
-]
-
-[[cable]]
-ends = [1, 1]
-
-[[cable]]
-ends = [2, 2]
+cable = [{ ends = [1, 1] }, { ends = [2, 2] }]
 "#;
 
 /// Both aggregators carry conversation 48.
-const TWO_AGGREGATORS: &str = "offer 1 1 0200000000200200000000100800 => port 1 serial 0
+const APART_ROW: Row = Row {
+    setting: TWO_APART,
+    first: COMING_UP,
+    rest: "offer 1 1 0200000000200200000000100800 => port 1 serial 0
 offer 1 2 0200000000200200000000100800 => port 2 serial 0
 offer 1 2 0200000000200200000000100800 => port 2 serial 1
 deliver 2 2 => Up(AggId(2))
 deliver 2 2 => Up(AggId(2))
 force 1 2 48 => Forced
 offer 2 2 0200000000100200000000200800 => port 2 serial 0
-";
-
-/// System and aggregator, and what conversation 48 sent and collected there, and whether it was forced.
-const TOLD: [(u8, u16, &[u64], &[u64], bool); 4] = [
-    (1, 1, &[0], &[], false),
-    (1, 2, &[0, 1], &[0, 1], true),
-    (2, 1, &[], &[], false),
-    (2, 2, &[0], &[], false),
-];
-
-/// Compares what a world tells of the flows of two systems.
-fn compare_told<F: Fn(u16, usize) -> usize + Drop>(rt: &impl Abort, world: &World<AnyCable, F>) {
-    for (place, (system, agg, sent, collected, forced)) in TOLD.iter().enumerate() {
-        let agg = AggId(*agg);
-        let came = world.collected(*system, agg, 48);
-        same_at(
-            rt,
-            "sent in row",
-            place,
-            &world.sent(*system, agg, 48),
-            sent,
-        );
-        same_at(rt, "collected in row", place, &came, collected);
-        same_at(
-            rt,
-            "forced in row",
-            place,
-            &world.forced(*system, agg, 48),
-            forced,
-        );
-    }
-}
-
-fn carries_apart(rt: &impl Abort, alloc: Global) -> Result<(), WorldFault> {
-    let mut world = world_of(rt, alloc, TWO_APART, None, modulo, modulo)?;
-    plays_lines(rt, alloc, &mut world, TWO_APART, COMING_UP)?;
-    plays_lines(rt, alloc, &mut world, TWO_APART, TWO_AGGREGATORS)?;
-    compare_told(rt, &world);
-    Ok(())
-}
+",
+    told: "flow 1 1 48 => 1 []
+flow 1 2 48 => 2 [0, 1] forced
+flow 2 1 48 => 0 []
+flow 2 2 48 => 1 []
+",
+};
 
 #[test]
 fn each_aggregator_has_its_conversations(rt: HostRuntime) -> Result<(), WorldFault> {
-    carries_apart(&rt, rt.alloc())
+    plays(&rt, rt.alloc(), &APART_ROW)
 }
 
 /// One cable between a port of system 1 with values that no other test has and a port of system 2.
 const ODD: &str = r#"
-[[system]]
-mac = "02-00-00-00-00-01"
-aggregators = [5]
-port = [{ number = 1, key = 5, priority = 7, aggregatable = false, short = true }]
-
-[[system]]
-mac = "02-00-00-00-00-02"
-aggregators = [1]
-port = [{ number = 1, key = 1, short = true }]
-
-[[cable]]
-ends = [1, 1]
+system = [
+    { mac = "02-00-00-00-00-01", aggregators = [5], port = [{ number = 1, key = 5, priority = 7, aggregatable = false, short = true }] },
+    { mac = "02-00-00-00-00-02", aggregators = [1], port = [{ number = 1, key = 1, short = true }] },
+]
+cable = [{ ends = [1, 1] }]
 "#;
 
 /// The port gets the values that it has.
@@ -313,19 +226,9 @@ const AS_IT_IS: &str = "configure 1 1 5 7 individual => Configured(false)
 fn keeps_its_values(rt: &impl Abort, alloc: Global) -> Result<(), WorldFault> {
     let mut world = world_of(rt, alloc, ODD, None, modulo, modulo)?;
     runs_lines(rt, alloc, &mut world, ODD, ONE_CABLE)?;
-    same(
-        rt,
-        "agreement before configure",
-        &world.agreement(1),
-        &Some(Agreement::Same),
-    );
+    tells(rt, alloc, &world, "cable 1 => Some(Same)")?;
     plays_lines(rt, alloc, &mut world, ODD, AS_IT_IS)?;
-    same(
-        rt,
-        "agreement after configure",
-        &world.agreement(1),
-        &Some(Agreement::Same),
-    );
+    tells(rt, alloc, &world, "cable 1 => Some(Same)")?;
     Ok(())
 }
 

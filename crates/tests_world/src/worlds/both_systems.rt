@@ -2,7 +2,7 @@ use crate::comparing::same_at;
 use crate::worlds::given::{ONE_SHORT, TWO_LONG, TWO_SHORT, modulo};
 use crate::worlds::playing::{runs_lines, world_of};
 use crate::worlds::starts::{COMING_UP, ONE_CABLE};
-use crate::worlds::{Flow, Row, plays, runs};
+use crate::worlds::{Row, plays, runs};
 use lagworld::{Agreement, WorldFault};
 use std::alloc::Global;
 use std::process::Abort;
@@ -64,40 +64,6 @@ emit 2 2 => lacpdu 3f
 deliver 2 1 => Took
 ";
 
-const BOTH_SAME: &[(u16, Agreement)] = &[(1, Agreement::Same), (2, Agreement::Same)];
-
-const FIRST_NOT_BOTH: &[(u16, Agreement)] = &[(1, Agreement::NotBoth), (2, Agreement::Same)];
-
-/// Conversation 48 of system 1 sent one frame, which is not collected.
-const ONE_SENT: Flow = Flow {
-    system: 1,
-    conv: 48,
-    sent: 1,
-    collected: &[],
-    forced: false,
-};
-
-/// Conversation 48 of system 1 sent one frame, which is collected.
-const ONE_UP: Flow = Flow {
-    collected: &[0],
-    ..ONE_SENT
-};
-
-/// Conversation 48 of system 2 sent one frame, which is not collected.
-const ONE_SENT_BACK: Flow = Flow {
-    system: 2,
-    ..ONE_SENT
-};
-
-/// Conversation 48 of system 2 sent one frame, which is collected.
-const ONE_UP_BACK: Flow = Flow {
-    system: 2,
-    ..ONE_UP
-};
-
-/// Conversation 50 of system 1 sent one frame, which is collected.
-const ONE_UP_OF_50: Flow = Flow { conv: 50, ..ONE_UP };
-
 const DROPPED_ROW: Row = Row {
     setting: TWO_SHORT,
     first: UP,
@@ -105,8 +71,10 @@ const DROPPED_ROW: Row = Row {
 configure 2 1 2 128 aggregatable => Configured(true)
 deliver 1 2 => Dropped
 ",
-    agreements: FIRST_NOT_BOTH,
-    flows: &[ONE_SENT],
+    told: "cable 1 => Some(NotBoth)
+cable 2 => Some(Same)
+flow 1 1 48 => 1 []
+",
 };
 
 #[test]
@@ -124,8 +92,10 @@ emit 2 1 => Marker(1, true)
 deliver 1 1 => Responded(true)
 deliver 1 2 => Released(1)
 ",
-    agreements: BOTH_SAME,
-    flows: &[ONE_UP_BACK],
+    told: "cable 1 => Some(Same)
+cable 2 => Some(Same)
+flow 2 1 48 => 1 [0]
+",
 };
 
 #[test]
@@ -139,8 +109,9 @@ const PRIORITY_ROW: Row = Row {
     rest: "configure 1 1 1 129 aggregatable => Configured(true)
 configure 1 1 1 128 aggregatable => Configured(true)
 ",
-    agreements: FIRST_NOT_BOTH,
-    flows: &[],
+    told: "cable 1 => Some(NotBoth)
+cable 2 => Some(Same)
+",
 };
 
 #[test]
@@ -161,8 +132,11 @@ deliver 1 2 => Up(AggId(1))
 deliver 1 2 => Responded(true)
 deliver 1 1 => Released(2)
 ",
-    agreements: BOTH_SAME,
-    flows: &[ONE_UP, ONE_UP_OF_50],
+    told: "cable 1 => Some(Same)
+cable 2 => Some(Same)
+flow 1 1 48 => 1 [0]
+flow 1 1 50 => 1 [0]
+",
 };
 
 #[test]
@@ -181,8 +155,11 @@ emit 1 1 => Marker(1, true)
 deliver 1 2 => Responded(false)
 deliver 1 1 => Up(AggId(1))
 ",
-    agreements: BOTH_SAME,
-    flows: &[ONE_UP, ONE_UP_BACK],
+    told: "cable 1 => Some(Same)
+cable 2 => Some(Same)
+flow 1 1 48 => 1 [0]
+flow 2 1 48 => 1 [0]
+",
 };
 
 #[test]
@@ -197,8 +174,9 @@ const STAMPED_ROW: Row = Row {
 configure 1 2 1 126 aggregatable => Configured(true)
 ",
     rest: UP,
-    agreements: BOTH_SAME,
-    flows: &[],
+    told: "cable 1 => Some(Same)
+cable 2 => Some(Same)
+",
 };
 
 #[test]
@@ -215,8 +193,11 @@ deliver 1 1 => Empty
 offer 2 1 0200000000100200000000200800 => Refused(NoneDistributing)
 offer 1 1 0200000000200200000000100800 => port 1 serial 0
 ",
-    agreements: &[(1, Agreement::NotBoth), (2, Agreement::NotBoth)],
-    flows: &[ONE_SENT_BACK, ONE_SENT],
+    told: "cable 1 => Some(NotBoth)
+cable 2 => Some(NotBoth)
+flow 2 1 48 => 1 []
+flow 1 1 48 => 1 []
+",
 };
 
 #[test]
@@ -232,12 +213,8 @@ force 1 1 48 => Forced
 offer 1 1 0200000000200200000000100800 => port 1 serial 1
 force 1 1 48 => Forced
 ",
-    agreements: &[],
-    flows: &[Flow {
-        sent: 2,
-        forced: true,
-        ..ONE_SENT
-    }],
+    told: "flow 1 1 48 => 2 [] forced
+",
 };
 
 #[test]
@@ -256,8 +233,8 @@ configure 1 1 1 128 aggregatable => Configured(true)
 deliver 1 1 => Took
 tick 1 20 => Ticked
 ",
-    agreements: &[(1, Agreement::Changed)],
-    flows: &[],
+    told: "cable 1 => Some(Changed)
+",
 };
 
 /// Port 1 of system 1 gets another Aggregation bit, and its own again.

@@ -1,7 +1,7 @@
 use crate::worlds::given::TWO_LONG;
 use crate::worlds::starts::COMING_UP;
-use crate::worlds::{Flow, Row, plays, runs, steps};
-use lagworld::{Agreement, WorldFault};
+use crate::worlds::{Row, plays, runs, steps};
+use lagworld::WorldFault;
 
 pub(crate) const MOVES: &str = "offer 1 1 0200000000200200000000100800 => port 1 serial 0
 offer 1 1 0200000000200200000000100800 => port 1 serial 1
@@ -25,14 +25,10 @@ pub(crate) const MOVES_ROW: Row = Row {
     setting: TWO_LONG,
     first: COMING_UP,
     rest: MOVES,
-    agreements: &[(1, Agreement::Same), (2, Agreement::Same)],
-    flows: &[Flow {
-        system: 1,
-        conv: 48,
-        sent: 4,
-        collected: &[0, 1, 2, 3],
-        forced: false,
-    }],
+    told: "cable 1 => Some(Same)
+cable 2 => Some(Same)
+flow 1 1 48 => 4 [0, 1, 2, 3]
+",
 };
 
 #[test]
@@ -48,7 +44,10 @@ fn a_conversation_moves_event_by_event(rt: HostRuntime) -> Result<(), WorldFault
     steps(&rt, rt.alloc(), &MOVES_ROW, Some(8))
 }
 
-const LATE: &str = "offer 1 1 0200000000200200000000100800 => port 1 serial 0
+const LATE_ROW: Row = Row {
+    setting: TWO_LONG,
+    first: COMING_UP,
+    rest: "offer 1 1 0200000000200200000000100800 => port 1 serial 0
 move 1 1 48 2 => Moved
 emit 1 1 => lacpdu 3d
 emit 1 1 => Marker(1, true)
@@ -64,20 +63,9 @@ repeat 1 1 => Released(1)
 deliver 1 1 => Released(0)
 offer 1 1 0200000000200200000000100800 => port 2 serial 1
 deliver 2 2 => Up(AggId(1))
-";
-
-const LATE_ROW: Row = Row {
-    setting: TWO_LONG,
-    first: COMING_UP,
-    rest: LATE,
-    agreements: &[],
-    flows: &[Flow {
-        system: 1,
-        conv: 48,
-        sent: 2,
-        collected: &[0, 1],
-        forced: false,
-    }],
+",
+    told: "flow 1 1 48 => 2 [0, 1]
+",
 };
 
 #[test]
@@ -85,7 +73,10 @@ fn a_late_response_releases_nothing(rt: HostRuntime) -> Result<(), WorldFault> {
     plays(&rt, rt.alloc(), &LATE_ROW)
 }
 
-const LOST: &str = "offer 1 1 0200000000200200000000100800 => port 1 serial 0
+const LOST_ROW: Row = Row {
+    setting: TWO_LONG,
+    first: COMING_UP,
+    rest: "offer 1 1 0200000000200200000000100800 => port 1 serial 0
 cut 1 => Cut
 join 1 => Joined
 offer 1 1 0200000000200200000000100800 => port 1 serial 1
@@ -100,20 +91,9 @@ deliver 1 2 => Responded(true)
 deliver 1 1 => Released(1)
 offer 1 1 0200000000200200000000100800 => port 2 serial 2
 deliver 2 2 => Up(AggId(1))
-";
-
-const LOST_ROW: Row = Row {
-    setting: TWO_LONG,
-    first: COMING_UP,
-    rest: LOST,
-    agreements: &[],
-    flows: &[Flow {
-        system: 1,
-        conv: 48,
-        sent: 3,
-        collected: &[2],
-        forced: false,
-    }],
+",
+    told: "flow 1 1 48 => 3 [2]
+",
 };
 
 #[test]
@@ -121,26 +101,18 @@ fn a_cut_loses_what_is_on_the_cable(rt: HostRuntime) -> Result<(), WorldFault> {
     plays(&rt, rt.alloc(), &LOST_ROW)
 }
 
-const FORCED: &str = "offer 1 1 0200000000200200000000100800 => port 1 serial 0
+const FORCED_ROW: Row = Row {
+    setting: TWO_LONG,
+    first: COMING_UP,
+    rest: "offer 1 1 0200000000200200000000100800 => port 1 serial 0
 move 1 1 48 2 => Moved
 force 1 1 48 => Forced
 offer 1 1 0200000000200200000000100800 => port 2 serial 1
 deliver 2 2 => Up(AggId(1))
 deliver 1 2 => Up(AggId(1))
-";
-
-const FORCED_ROW: Row = Row {
-    setting: TWO_LONG,
-    first: COMING_UP,
-    rest: FORCED,
-    agreements: &[],
-    flows: &[Flow {
-        system: 1,
-        conv: 48,
-        sent: 2,
-        collected: &[1, 0],
-        forced: true,
-    }],
+",
+    told: "flow 1 1 48 => 2 [1, 0] forced
+",
 };
 
 #[test]
@@ -148,27 +120,19 @@ fn a_forced_conversation_may_overtake(rt: HostRuntime) -> Result<(), WorldFault>
     plays(&rt, rt.alloc(), &FORCED_ROW)
 }
 
-const DATA: &str = "offer 1 1 0200000000200200000000100800 => port 1 serial 0
+const DATA_ROW: Row = Row {
+    setting: TWO_LONG,
+    first: COMING_UP,
+    rest: "offer 1 1 0200000000200200000000100800 => port 1 serial 0
 offer 1 1 0200000000200200000000100800 => port 1 serial 1
 offer 1 1 0200000000200200000000100800 => port 1 serial 2
 lose 1 2 => Lost
 deliver 1 2 => Up(AggId(1))
 repeat 1 2 => NotControl
 deliver 1 2 => Up(AggId(1))
-";
-
-const DATA_ROW: Row = Row {
-    setting: TWO_LONG,
-    first: COMING_UP,
-    rest: DATA,
-    agreements: &[],
-    flows: &[Flow {
-        system: 1,
-        conv: 48,
-        sent: 3,
-        collected: &[1, 2],
-        forced: false,
-    }],
+",
+    told: "flow 1 1 48 => 3 [1, 2]
+",
 };
 
 #[test]
@@ -176,26 +140,18 @@ fn no_data_frame_is_repeated(rt: HostRuntime) -> Result<(), WorldFault> {
     plays(&rt, rt.alloc(), &DATA_ROW)
 }
 
-const FULL: &str = "offer 1 1 0200000000200200000000100800 => port 1 serial 0
+pub(crate) const FULL_ROW: Row = Row {
+    setting: TWO_LONG,
+    first: COMING_UP,
+    rest: "offer 1 1 0200000000200200000000100800 => port 1 serial 0
 offer 1 1 0200000000200200000000100800 => port 1 serial 1
 offer 1 1 0200000000200200000000100800 => port 1 serial 2 lost
 deliver 1 2 => Up(AggId(1))
 deliver 1 2 => Up(AggId(1))
 deliver 1 2 => Empty
-";
-
-pub(crate) const FULL_ROW: Row = Row {
-    setting: TWO_LONG,
-    first: COMING_UP,
-    rest: FULL,
-    agreements: &[],
-    flows: &[Flow {
-        system: 1,
-        conv: 48,
-        sent: 3,
-        collected: &[0, 1],
-        forced: false,
-    }],
+",
+    told: "flow 1 1 48 => 3 [0, 1]
+",
 };
 
 #[test]
@@ -203,7 +159,10 @@ fn what_a_full_cable_hands_back_is_lost(rt: HostRuntime) -> Result<(), WorldFaul
     runs(&rt, rt.alloc(), &FULL_ROW, Some(2), 0)
 }
 
-const NARROW: &str = "offer 1 1 0200000000200200000000100800 => port 1 serial 0
+pub(crate) const NARROW_ROW: Row = Row {
+    setting: TWO_LONG,
+    first: COMING_UP,
+    rest: "offer 1 1 0200000000200200000000100800 => port 1 serial 0
 offer 1 1 0200000000200200000000100800 => port 1 serial 1 lost
 move 1 1 48 2 => Moved
 emit 1 1 => lacpdu 3d lost
@@ -215,20 +174,9 @@ deliver 1 2 => Responded(true)
 deliver 1 1 => Released(1)
 offer 1 1 0200000000200200000000100800 => port 2 serial 2
 deliver 2 2 => Up(AggId(1))
-";
-
-pub(crate) const NARROW_ROW: Row = Row {
-    setting: TWO_LONG,
-    first: COMING_UP,
-    rest: NARROW,
-    agreements: &[],
-    flows: &[Flow {
-        system: 1,
-        conv: 48,
-        sent: 3,
-        collected: &[0, 2],
-        forced: false,
-    }],
+",
+    told: "flow 1 1 48 => 3 [0, 2]
+",
 };
 
 #[test]
@@ -238,117 +186,57 @@ fn a_full_cable_hands_back_a_marker(rt: HostRuntime) -> Result<(), WorldFault> {
 
 /// `TWO_LONG`, with 4096 conversations in each aggregator of system 1.
 const WIDE: &str = r#"
-[[system]]
-mac = "02-00-00-00-00-01"
-aggregators = [1]
-conversations = 4096
-port = [
-    { number = 1, key = 1, short = false },
-    { number = 2, key = 1, short = false },
+system = [
+    { mac = "02-00-00-00-00-01", aggregators = [1], conversations = 4096, port = [
+        { number = 1, key = 1, short = false },
+        { number = 2, key = 1, short = false },
+    ] },
+    { mac = "02-00-00-00-00-02", aggregators = [1], port = [{ number = 1, key = 1, short = false }, { number = 2, key = 1, short = false }] },
 ]
-
-[[system]]
-mac = "02-00-00-00-00-02"
-aggregators = [1]
-port = [
-    { number = 1, key = 1, short = false },
-    { number = 2, key = 1, short = false },
-]
-
-[[cable]]
-ends = [1, 1]
-
-[[cable]]
-ends = [2, 2]
+cable = [{ ends = [1, 1] }, { ends = [2, 2] }]
 "#;
 
 /// The first frame is of conversation 304 if there are 4096 of them, and of conversation 48 if there are 256: octets 4 and 5 count.
-const APART: &str = "offer 1 1 0200000001200200000000100800 => port 1 serial 0
+const APART_ROW: Row = Row {
+    setting: WIDE,
+    first: COMING_UP,
+    rest: "offer 1 1 0200000001200200000000100800 => port 1 serial 0
 offer 1 1 0200000000200200000000100800 => port 1 serial 0
 move 1 1 304 2 => Moved
 offer 1 1 0200000001200200000000100800 => Refused(Held)
 offer 1 1 0200000000200200000000100800 => port 1 serial 1
 move 1 1 4096 2 => Refused(NotAssigned)
-";
-
-const APART_ROW: Row = Row {
-    setting: WIDE,
-    first: COMING_UP,
-    rest: APART,
-    agreements: &[],
-    flows: &[
-        Flow {
-            system: 1,
-            conv: 48,
-            sent: 2,
-            collected: &[],
-            forced: false,
-        },
-        Flow {
-            system: 1,
-            conv: 304,
-            sent: 1,
-            collected: &[],
-            forced: false,
-        },
-    ],
+",
+    told: "flow 1 1 48 => 2 []
+flow 1 1 304 => 1 []
+",
 };
-
-const TOGETHER: &str = "offer 1 1 0200000001200200000000100800 => port 1 serial 0
-offer 1 1 0200000000200200000000100800 => port 1 serial 1
-move 1 1 304 2 => Refused(NotAssigned)
-";
 
 const TOGETHER_ROW: Row = Row {
     setting: TWO_LONG,
     first: COMING_UP,
-    rest: TOGETHER,
-    agreements: &[],
-    flows: &[Flow {
-        system: 1,
-        conv: 48,
-        sent: 2,
-        collected: &[],
-        forced: false,
-    }],
+    rest: "offer 1 1 0200000001200200000000100800 => port 1 serial 0
+offer 1 1 0200000000200200000000100800 => port 1 serial 1
+move 1 1 304 2 => Refused(NotAssigned)
+",
+    told: "flow 1 1 48 => 2 []
+",
 };
 
 /// System 2 numbers its frames by its own count. The first frame is of conversation 304 too: of octet 4 the low four bits count. The
 /// second one would be, if system 2 had 4096 conversations.
-const OWN_COUNT: &str = "offer 1 1 02000000f1200200000000100800 => port 1 serial 0
-offer 2 1 0200000001100200000000200800 => port 1 serial 0
-deliver 1 1 => Up(AggId(1))
-move 2 1 304 2 => Refused(NotAssigned)
-";
-
 const OWN_COUNT_ROW: Row = Row {
     setting: WIDE,
     first: COMING_UP,
-    rest: OWN_COUNT,
-    agreements: &[],
-    flows: &[
-        Flow {
-            system: 1,
-            conv: 304,
-            sent: 1,
-            collected: &[],
-            forced: false,
-        },
-        Flow {
-            system: 2,
-            conv: 48,
-            sent: 1,
-            collected: &[0],
-            forced: false,
-        },
-        Flow {
-            system: 2,
-            conv: 304,
-            sent: 0,
-            collected: &[],
-            forced: false,
-        },
-    ],
+    rest: "offer 1 1 02000000f1200200000000100800 => port 1 serial 0
+offer 2 1 0200000001100200000000200800 => port 1 serial 0
+deliver 1 1 => Up(AggId(1))
+move 2 1 304 2 => Refused(NotAssigned)
+",
+    told: "flow 1 1 304 => 1 []
+flow 2 1 48 => 1 [0]
+flow 2 1 304 => 0 []
+",
 };
 
 #[test]

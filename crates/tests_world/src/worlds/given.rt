@@ -13,93 +13,41 @@ pub(crate) type Setting = &'static str;
 
 /// One cable between ports with Short Timeout.
 pub(crate) const ONE_SHORT: &str = r#"
-[[system]]
-mac = "02-00-00-00-00-01"
-aggregators = [1]
-port = [{ number = 1, key = 1, short = true }]
-
-[[system]]
-mac = "02-00-00-00-00-02"
-aggregators = [1]
-port = [{ number = 1, key = 1, short = true }]
-
-[[cable]]
-ends = [1, 1]
+system = [
+    { mac = "02-00-00-00-00-01", aggregators = [1], port = [{ number = 1, key = 1, short = true }] },
+    { mac = "02-00-00-00-00-02", aggregators = [1], port = [{ number = 1, key = 1, short = true }] },
+]
+cable = [{ ends = [1, 1] }]
 "#;
 
 /// Two cables between ports with Long Timeout.
 pub(crate) const TWO_LONG: &str = r#"
-[[system]]
-mac = "02-00-00-00-00-01"
-aggregators = [1]
-port = [
-    { number = 1, key = 1, short = false },
-    { number = 2, key = 1, short = false },
+system = [
+    { mac = "02-00-00-00-00-01", aggregators = [1], port = [{ number = 1, key = 1, short = false }, { number = 2, key = 1, short = false }] },
+    { mac = "02-00-00-00-00-02", aggregators = [1], port = [{ number = 1, key = 1, short = false }, { number = 2, key = 1, short = false }] },
 ]
-
-[[system]]
-mac = "02-00-00-00-00-02"
-aggregators = [1]
-port = [
-    { number = 1, key = 1, short = false },
-    { number = 2, key = 1, short = false },
-]
-
-[[cable]]
-ends = [1, 1]
-
-[[cable]]
-ends = [2, 2]
+cable = [{ ends = [1, 1] }, { ends = [2, 2] }]
 "#;
 
 /// Two cables between ports with Short Timeout.
 pub(crate) const TWO_SHORT: &str = r#"
-[[system]]
-mac = "02-00-00-00-00-01"
-aggregators = [1]
-port = [
-    { number = 1, key = 1, short = true },
-    { number = 2, key = 1, short = true },
+system = [
+    { mac = "02-00-00-00-00-01", aggregators = [1], port = [{ number = 1, key = 1, short = true }, { number = 2, key = 1, short = true }] },
+    { mac = "02-00-00-00-00-02", aggregators = [1], port = [{ number = 1, key = 1, short = true }, { number = 2, key = 1, short = true }] },
 ]
-
-[[system]]
-mac = "02-00-00-00-00-02"
-aggregators = [1]
-port = [
-    { number = 1, key = 1, short = true },
-    { number = 2, key = 1, short = true },
-]
-
-[[cable]]
-ends = [1, 1]
-
-[[cable]]
-ends = [2, 2]
+cable = [{ ends = [1, 1] }, { ends = [2, 2] }]
 "#;
 
 /// Two cables between ports with Short Timeout; those of system 1 are Individual.
 pub(crate) const INDIVIDUAL: &str = r#"
-[[system]]
-mac = "02-00-00-00-00-01"
-aggregators = [1]
-port = [
-    { number = 1, key = 1, aggregatable = false, short = true },
-    { number = 2, key = 1, aggregatable = false, short = true },
+system = [
+    { mac = "02-00-00-00-00-01", aggregators = [1], port = [
+        { number = 1, key = 1, aggregatable = false, short = true },
+        { number = 2, key = 1, aggregatable = false, short = true },
+    ] },
+    { mac = "02-00-00-00-00-02", aggregators = [1], port = [{ number = 1, key = 1, short = true }, { number = 2, key = 1, short = true }] },
 ]
-
-[[system]]
-mac = "02-00-00-00-00-02"
-aggregators = [1]
-port = [
-    { number = 1, key = 1, short = true },
-    { number = 2, key = 1, short = true },
-]
-
-[[cable]]
-ends = [1, 1]
-
-[[cable]]
-ends = [2, 2]
+cable = [{ ends = [1, 1] }, { ends = [2, 2] }]
 "#;
 
 /// The distribution algorithm of both systems.

@@ -3,102 +3,52 @@ ghost use Rattle.distributor.specs.Calls.{PicksIndexes};
 use crate::comparing::same;
 use crate::worlds::conversations::MOVES_ROW;
 use crate::worlds::given::{events, modulo};
-use crate::worlds::playing::{run_of, world_of};
-use crate::worlds::{Row, compare_part, compare_run_of, lines_of, tells};
+use crate::worlds::playing::{run_of, runs_part, world_of};
+use crate::worlds::{Row, compare_part, lines_of, tells};
 use cables::AnyCable;
-use lagsystem::System;
-use lagtypes::AggId;
+use lagsystem::{
+    AggId, Choice, Group, Info, MuxState, Party, PortStatus, ReceiveState, State, System,
+};
 use lagworld::{Event, World, WorldFault};
 use std::alloc::Global;
 use std::process::Abort;
 
-/// Compares what the readers return for a port of two systems.
-fn same_port<F: Fn(u16, usize) -> usize + Drop>(
-    rt: &impl Abort,
-    one: &System<F>,
-    other: &System<F>,
-    port: u16,
-) {
-    same(rt, "party", &one.party(port), &other.party(port));
-    same(rt, "partner", &one.partner(port), &other.partner(port));
-    same(rt, "group", &one.group(port), &other.group(port));
-    same_choice(rt, one, other, port);
-    same_machines(rt, one, other, port);
-    same_timers(rt, one, other, port);
+/// What the readers return for a port.
+#[derive(Clone, Copy, Debug, PartialEq)]
+struct Seen {
+    party: Option<Party>,
+    partner: Option<Info>,
+    group: Option<Group>,
+    defaulted: Option<bool>,
+    distributes: Option<bool>,
+    choice: Option<Choice>,
+    state: Option<State>,
+    status: Option<PortStatus>,
+    machines: (Option<MuxState>, Option<ReceiveState>),
+    up: Option<bool>,
+    due: Option<bool>,
+    timers: (Option<u16>, Option<u8>, Option<bool>),
 }
 
-/// Compares what the readers return for the choice of a port and what comes of it.
-fn same_choice<F: Fn(u16, usize) -> usize + Drop>(
-    rt: &impl Abort,
-    one: &System<F>,
-    other: &System<F>,
-    port: u16,
-) {
-    same(
-        rt,
-        "defaulted",
-        &one.defaulted(port),
-        &other.defaulted(port),
-    );
-    same(
-        rt,
-        "distributes",
-        &one.distributes(port),
-        &other.distributes(port),
-    );
-    same(rt, "choice", &one.choice(port), &other.choice(port));
-    same(rt, "state", &one.state(port), &other.state(port));
-    same(
-        rt,
-        "port_status",
-        &one.port_status(port),
-        &other.port_status(port),
-    );
-}
-
-/// Compares what the readers return for the machines of a port.
-fn same_machines<F: Fn(u16, usize) -> usize + Drop>(
-    rt: &impl Abort,
-    one: &System<F>,
-    other: &System<F>,
-    port: u16,
-) {
-    same(
-        rt,
-        "mux_state",
-        &one.mux_state(port),
-        &other.mux_state(port),
-    );
-    same(
-        rt,
-        "receive_state",
-        &one.receive_state(port),
-        &other.receive_state(port),
-    );
-    same(rt, "is_up", &one.is_up(port), &other.is_up(port));
-    same(rt, "is_due", &one.is_due(port), &other.is_due(port));
-}
-
-/// Compares what the readers return for the timers of a port.
-fn same_timers<F: Fn(u16, usize) -> usize + Drop>(
-    rt: &impl Abort,
-    one: &System<F>,
-    other: &System<F>,
-    port: u16,
-) {
-    same(
-        rt,
-        "current_while",
-        &one.current_while(port),
-        &other.current_while(port),
-    );
-    same(
-        rt,
-        "wait_while",
-        &one.wait_while(port),
-        &other.wait_while(port),
-    );
-    same(rt, "ntt", &one.ntt(port), &other.ntt(port));
+fn look<F: Fn(u16, usize) -> usize + Drop>(system: &System<F>, port: u16) -> Seen {
+    Seen {
+        party: system.party(port),
+        partner: system.partner(port),
+        group: system.group(port),
+        defaulted: system.defaulted(port),
+        distributes: system.distributes(port),
+        choice: system.choice(port),
+        state: system.state(port),
+        status: system.port_status(port),
+        machines: (system.mux_state(port), system.receive_state(port)),
+        up: system.is_up(port),
+        due: system.is_due(port),
+        timers: (
+            system.current_while(port),
+            system.wait_while(port),
+            system.ntt(port),
+        ),
+    }
 }
 
 /// Compares what the readers return for two systems with ports 1 and 2.
@@ -107,8 +57,9 @@ fn same_system<F: Fn(u16, usize) -> usize + Drop>(
     one: &System<F>,
     other: &System<F>,
 ) {
-    same_port(rt, one, other, 1);
-    same_port(rt, one, other, 2);
+    for port in 1..=2 {
+        same(rt, "a port", &look(one, port), &look(other, port));
+    }
     let states = (
         one.conversation_state(AggId(1), 48),
         other.conversation_state(AggId(1), 48),
@@ -163,12 +114,9 @@ fn goes_on<F: Fn(u16, usize) -> usize + Drop>(
     requires twin_two { PicksIndexes (F.pre twin.two) (F.post twin.two) }
 {
     let (now, later) = parts;
-    let came = run_of(&mut twin, now);
-    compare_run_of(rt, alloc, text, (0, now.len()), came)?;
+    runs_part(rt, alloc, &mut twin, text, 0, now)?;
     same_world(rt, world, &twin);
-    let came = run_of(world, later);
-    compare_run_of(rt, alloc, text, (now.len(), later.len()), came)?;
-    Ok(())
+    runs_part(rt, alloc, world, text, now.len(), later)
 }
 
 /// Runs the events of a row. If memory is refused, the world must be one that ran the events before, and the rest is
@@ -187,7 +135,7 @@ fn resumes(rt: &impl Abort, alloc: Global, row: &Row) -> Result<(), WorldFault> 
             goes_on(rt, alloc, &mut world, twin, text, parts)?;
         }
     }
-    tells(rt, &world, row);
+    tells(rt, alloc, &world, row.told)?;
     Ok(())
 }
 

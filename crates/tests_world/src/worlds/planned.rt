@@ -1,6 +1,7 @@
 use crate::worlds::agreements::ONE_CABLE_ROW;
 use crate::worlds::conversations::{FULL_ROW, MOVES_ROW, NARROW_ROW};
 use crate::worlds::given::{Setting, add_line, empty_direction, modulo, script};
+use crate::worlds::playing::run_of;
 use crate::worlds::{Row, compare_run, lines_of, tells};
 use cables::AnyCable;
 use lagscript::read_plan;
@@ -26,36 +27,18 @@ fn plays_plan(rt: &impl Abort, alloc: Global, setting: Setting, row: &Row) -> Re
     let plan = read_plan(alloc, script(alloc, setting, wanted.as_str())?.as_str())?;
     let lines = limited(alloc, &plan.limits)?;
     let mut world = World::new(alloc, plan.config, modulo, modulo, lines)?;
-    compare_run(rt, alloc, wanted.as_str(), world.run(&plan.events))?;
-    tells(rt, &world, row);
+    compare_run(rt, alloc, wanted.as_str(), run_of(&mut world, &plan.events))?;
+    tells(rt, alloc, &world, row.told)?;
     Ok(())
 }
 
 /// Two cables, each of which holds two frames in each direction.
 const BOTH_FOR_2: &str = r#"
-[[system]]
-mac = "02-00-00-00-00-01"
-aggregators = [1]
-port = [
-    { number = 1, key = 1, short = false },
-    { number = 2, key = 1, short = false },
+system = [
+    { mac = "02-00-00-00-00-01", aggregators = [1], port = [{ number = 1, key = 1, short = false }, { number = 2, key = 1, short = false }] },
+    { mac = "02-00-00-00-00-02", aggregators = [1], port = [{ number = 1, key = 1, short = false }, { number = 2, key = 1, short = false }] },
 ]
-
-[[system]]
-mac = "02-00-00-00-00-02"
-aggregators = [1]
-port = [
-    { number = 1, key = 1, short = false },
-    { number = 2, key = 1, short = false },
-]
-
-[[cable]]
-ends = [1, 1]
-limit = 2
-
-[[cable]]
-ends = [2, 2]
-limit = 2
+cable = [{ ends = [1, 1], limit = 2 }, { ends = [2, 2], limit = 2 }]
 "#;
 
 #[test]
@@ -65,29 +48,11 @@ fn a_plan_of_two_cables_that_fill(rt: HostRuntime) -> Result<(), Fail> {
 
 /// Two cables, each of which holds one frame in each direction.
 const BOTH_FOR_1: &str = r#"
-[[system]]
-mac = "02-00-00-00-00-01"
-aggregators = [1]
-port = [
-    { number = 1, key = 1, short = false },
-    { number = 2, key = 1, short = false },
+system = [
+    { mac = "02-00-00-00-00-01", aggregators = [1], port = [{ number = 1, key = 1, short = false }, { number = 2, key = 1, short = false }] },
+    { mac = "02-00-00-00-00-02", aggregators = [1], port = [{ number = 1, key = 1, short = false }, { number = 2, key = 1, short = false }] },
 ]
-
-[[system]]
-mac = "02-00-00-00-00-02"
-aggregators = [1]
-port = [
-    { number = 1, key = 1, short = false },
-    { number = 2, key = 1, short = false },
-]
-
-[[cable]]
-ends = [1, 1]
-limit = 1
-
-[[cable]]
-ends = [2, 2]
-limit = 1
+cable = [{ ends = [1, 1], limit = 1 }, { ends = [2, 2], limit = 1 }]
 "#;
 
 #[test]
@@ -97,28 +62,11 @@ fn a_plan_of_two_cables_for_one_frame(rt: HostRuntime) -> Result<(), Fail> {
 
 /// Two cables, of which the first holds two frames in each direction.
 const FIRST_FOR_2: &str = r#"
-[[system]]
-mac = "02-00-00-00-00-01"
-aggregators = [1]
-port = [
-    { number = 1, key = 1, short = false },
-    { number = 2, key = 1, short = false },
+system = [
+    { mac = "02-00-00-00-00-01", aggregators = [1], port = [{ number = 1, key = 1, short = false }, { number = 2, key = 1, short = false }] },
+    { mac = "02-00-00-00-00-02", aggregators = [1], port = [{ number = 1, key = 1, short = false }, { number = 2, key = 1, short = false }] },
 ]
-
-[[system]]
-mac = "02-00-00-00-00-02"
-aggregators = [1]
-port = [
-    { number = 1, key = 1, short = false },
-    { number = 2, key = 1, short = false },
-]
-
-[[cable]]
-ends = [1, 1]
-limit = 2
-
-[[cable]]
-ends = [2, 2]
+cable = [{ ends = [1, 1], limit = 2 }, { ends = [2, 2] }]
 "#;
 
 #[test]
@@ -128,46 +76,20 @@ fn a_plan_where_one_of_two_cables_fills(rt: HostRuntime) -> Result<(), Fail> {
 
 /// Two cables, each of which holds eight frames in each direction.
 const BOTH_FOR_8: &str = r#"
-[[system]]
-mac = "02-00-00-00-00-01"
-aggregators = [1]
-port = [
-    { number = 1, key = 1, short = false },
-    { number = 2, key = 1, short = false },
+system = [
+    { mac = "02-00-00-00-00-01", aggregators = [1], port = [{ number = 1, key = 1, short = false }, { number = 2, key = 1, short = false }] },
+    { mac = "02-00-00-00-00-02", aggregators = [1], port = [{ number = 1, key = 1, short = false }, { number = 2, key = 1, short = false }] },
 ]
-
-[[system]]
-mac = "02-00-00-00-00-02"
-aggregators = [1]
-port = [
-    { number = 1, key = 1, short = false },
-    { number = 2, key = 1, short = false },
-]
-
-[[cable]]
-ends = [1, 1]
-limit = 8
-
-[[cable]]
-ends = [2, 2]
-limit = 8
+cable = [{ ends = [1, 1], limit = 8 }, { ends = [2, 2], limit = 8 }]
 "#;
 
 /// A cable that holds eight frames in each direction.
 const ONE_FOR_8: &str = r#"
-[[system]]
-mac = "02-00-00-00-00-01"
-aggregators = [1]
-port = [{ number = 1, key = 1, short = true }]
-
-[[system]]
-mac = "02-00-00-00-00-02"
-aggregators = [1]
-port = [{ number = 1, key = 1, short = true }]
-
-[[cable]]
-ends = [1, 1]
-limit = 8
+system = [
+    { mac = "02-00-00-00-00-01", aggregators = [1], port = [{ number = 1, key = 1, short = true }] },
+    { mac = "02-00-00-00-00-02", aggregators = [1], port = [{ number = 1, key = 1, short = true }] },
+]
+cable = [{ ends = [1, 1], limit = 8 }]
 "#;
 
 #[test]

@@ -3,8 +3,8 @@ ghost use Rattle.std.specs.Prelude.{◌≡◌, IfOk};
 ghost use Rattle.distributor.specs.Calls.{PicksIndexes};
 
 use crate::comparing::same;
-use crate::worlds::compare_run;
 use crate::worlds::given::{events, lines, world_config};
+use crate::worlds::{compare_run, compare_run_of};
 use cables::AnyCable;
 use lagworld::{Event, Reply, RunFault, World, WorldFault};
 use std::alloc::Global;
@@ -53,6 +53,25 @@ pub(crate) fn run_of<F: Fn(u16, usize) -> usize + Drop>(
     ensures algorithm_two { world.new.two ≡ world.old.two }
 {
     world.run(events)
+}
+
+/// Plays some of the events of these lines by one `run`, and compares the replies with theirs; so many events come before.
+pub(crate) fn runs_part<F: Fn(u16, usize) -> usize + Drop>(
+    rt: &impl Abort,
+    alloc: Global,
+    world: &mut World<AnyCable, F>,
+    lines: &str,
+    before: usize,
+    events: &[Event],
+) -> Result<(), WorldFault>
+    requires one { PicksIndexes (F.pre world.old.one) (F.post world.old.one) }
+    requires two { PicksIndexes (F.pre world.old.two) (F.post world.old.two) }
+    ensures algorithm_one { world.new.one ≡ world.old.one }
+    ensures algorithm_two { world.new.two ≡ world.old.two }
+{
+    let came = run_of(world, events);
+    compare_run_of(rt, alloc, lines, (before, events.len()), came)?;
+    Ok(())
 }
 
 /// Plays these lines by one `run`, and compares the replies with theirs.

@@ -5,105 +5,74 @@ use crate::worlds::given::{
 use crate::worlds::joined::joined;
 use crate::worlds::playing::{plays_lines, run_of, step_of, world_of};
 use crate::worlds::starts::COMING_UP;
-use crate::worlds::{Flow, Row, lines_of, plays, tells};
+use crate::worlds::{Row, lines_of, plays, tells};
 use cables::{AnyCable, Cable, Item, Stamp};
+use lagscript::WorldConfig;
 use lagsystem::{BadConfig, PortChange};
 use lagtypes::{AggId, Key};
-use lagworld::{Agreement, BadWorld, Event, Reply, RunFault, World, WorldFault};
+use lagworld::{BadWorld, Event, Reply, RunFault, World, WorldFault};
 use std::alloc::Global;
 use std::process::Abort;
 
-/// System 1 and the system with this number, with these ports, the cables between them and this many lines; and why no
-/// world can be made of them.
-#[derive(Clone, Copy)]
-struct Given {
-    first: &'static [u16],
-    second: &'static [u16],
-    number: u8,
-    cables: &'static [(u16, u16)],
-    lines: usize,
-    reason: BadWorld,
-}
+/// The ports of system 1, those of the other system and its number, the cables between them, this many lines; and why no world can
+/// be made of them.
+type Given = (
+    &'static [u16],
+    &'static [u16],
+    u8,
+    &'static [(u16, u16)],
+    usize,
+    BadWorld,
+);
+
+const NO_PORTS: BadWorld = BadWorld::System {
+    side: 1,
+    reason: BadConfig::Ports,
+};
+
+const FALLING_PORTS: BadWorld = BadWorld::System {
+    side: 2,
+    reason: BadConfig::PortNumber(2),
+};
 
 /// In each, the reasons after the expected one hold too.
 const GIVEN: [Given; 7] = [
-    Given {
-        first: &[],
-        second: &[],
-        number: 1,
-        cables: &[(1, 9)],
-        lines: 0,
-        reason: BadWorld::System {
-            side: 1,
-            reason: BadConfig::Ports,
-        },
-    },
-    Given {
-        first: &[1],
-        second: &[2, 1],
-        number: 1,
-        cables: &[(1, 9)],
-        lines: 0,
-        reason: BadWorld::System {
-            side: 2,
-            reason: BadConfig::PortNumber(2),
-        },
-    },
-    Given {
-        first: &[1],
-        second: &[1],
-        number: 1,
-        cables: &[(1, 9)],
-        lines: 0,
-        reason: BadWorld::SameSystem,
-    },
-    Given {
-        first: &[1],
-        second: &[1],
-        number: 2,
-        cables: &[(1, 9)],
-        lines: 0,
-        reason: BadWorld::CableEnd(1),
-    },
-    Given {
-        first: &[1, 2],
-        second: &[1, 2],
-        number: 2,
-        cables: &[(1, 1), (2, 1)],
-        lines: 0,
-        reason: BadWorld::CableEnd(2),
-    },
-    Given {
-        first: &[1],
-        second: &[1],
-        number: 2,
-        cables: &[(1, 1)],
-        lines: 0,
-        reason: BadWorld::Lines,
-    },
-    Given {
-        first: &[1],
-        second: &[1],
-        number: 2,
-        cables: &[(1, 1)],
-        lines: 2,
-        reason: BadWorld::Lines,
-    },
+    (&[], &[], 1, &[(1, 9)], 0, NO_PORTS),
+    (&[1], &[2, 1], 1, &[(1, 9)], 0, FALLING_PORTS),
+    (&[1], &[1], 1, &[(1, 9)], 0, BadWorld::SameSystem),
+    (&[1], &[1], 2, &[(1, 9)], 0, BadWorld::CableEnd(1)),
+    (
+        &[1, 2],
+        &[1, 2],
+        2,
+        &[(1, 1), (2, 1)],
+        0,
+        BadWorld::CableEnd(2),
+    ),
+    (&[1], &[1], 2, &[(1, 1)], 0, BadWorld::Lines),
+    (&[1], &[1], 2, &[(1, 1)], 2, BadWorld::Lines),
 ];
 
 /// Why no world can be made of this; None if one can.
-fn refusal(alloc: Global, given: Given) -> Result<Option<WorldFault>, WorldFault> {
-    let config = joined(alloc, given.number, given.first, given.second, given.cables)?;
-    let lines = lines(alloc, given.lines, None)?;
-    match World::new(alloc, config, modulo, modulo, lines) {
-        Ok(_) => Ok(None),
-        Err(fault) => Ok(Some(fault)),
-    }
+fn refusal(
+    alloc: Global,
+    config: WorldConfig,
+    lines: Vec<(AnyCable, AnyCable)>,
+) -> Option<WorldFault> {
+    World::new(alloc, config, modulo, modulo, lines).err()
 }
 
 fn refuses(rt: &impl Abort, alloc: Global, place: usize, given: &Given) -> Result<(), WorldFault> {
-    let wanted = Some(WorldFault::BadConfig(given.reason));
-    same_at(rt, "row", place, &refusal(alloc, *given)?, &wanted);
+    let (first, second, number, cables, count, reason) = *given;
+    let config = joined(alloc, number, first, second, cables)?;
+    let came = refusal(alloc, config, lines(alloc, count, None)?);
+    same_at(
+        rt,
+        "row",
+        place,
+        &came,
+        &Some(WorldFault::BadConfig(reason)),
+    );
     Ok(())
 }
 
@@ -137,20 +106,6 @@ fn line(alloc: Global, full: (bool, bool)) -> Result<Vec<(AnyCable, AnyCable)>, 
     Ok(lines)
 }
 
-/// Why no world can be made with this line.
-fn line_refusal(
-    rt: &impl Abort,
-    alloc: Global,
-    full: (bool, bool),
-) -> Result<Option<WorldFault>, WorldFault> {
-    let config = world_config(rt, alloc, ONE_SHORT)?;
-    let lines = line(alloc, full)?;
-    match World::new(alloc, config, modulo, modulo, lines) {
-        Ok(_) => Ok(None),
-        Err(fault) => Ok(Some(fault)),
-    }
-}
-
 /// Compares why no world can be made with this line with the expected reason.
 fn compare_line_refusal(
     rt: &impl Abort,
@@ -158,7 +113,8 @@ fn compare_line_refusal(
     full: (bool, bool),
     wanted: Option<WorldFault>,
 ) -> Result<(), WorldFault> {
-    let came = line_refusal(rt, alloc, full)?;
+    let config = world_config(rt, alloc, ONE_SHORT)?;
+    let came = refusal(alloc, config, line(alloc, full)?);
     same(
         rt,
         "items of a line, and its refusal",
@@ -247,7 +203,9 @@ fn a_run_stops_at_the_first_fault(rt: HostRuntime) -> Result<(), WorldFault> {
 }
 
 /// Events before any port distributes. One frame has 13 octets, another one is of the slow protocols.
-const EARLY: &str = "sense 1 1 => Sensed(true)
+const REFUSED_ROW: Row = Row {
+    setting: INDIVIDUAL,
+    first: "sense 1 1 => Sensed(true)
 sense 2 1 => Sensed(true)
 emit 1 9 => Refused(NoPort)
 configure 1 9 1 128 aggregatable => Refused(NoPort)
@@ -257,22 +215,16 @@ offer 1 1 02000000002002000000001008 => Refused(FrameLength)
 offer 1 1 0180c20000020200000000018809 => Refused(SlowFrame)
 offer 1 1 0200000000200200000000100800 => Refused(NoneDistributing)
 force 1 1 48 => Refused(NotAssigned)
-";
-
-const LATE: &str = "tick 1 50 => Ticked
+",
+    rest: "tick 1 50 => Ticked
 offer 1 1 0200000000200200000000100800 => port 1 serial 0
 move 1 1 48 1 => Refused(SamePort)
 move 1 1 48 2 => Refused(NotDistributing)
 configure 1 1 2 128 individual => Configured(true)
 offer 1 1 0200000000200200000000100800 => Refused(Held)
-";
-
-const REFUSED_ROW: Row = Row {
-    setting: INDIVIDUAL,
-    first: EARLY,
-    rest: LATE,
-    agreements: &[(1, Agreement::NotBoth)],
-    flows: &[],
+",
+    told: "cable 1 => Some(NotBoth)
+",
 };
 
 #[test]
@@ -294,35 +246,19 @@ const NO_FLOWS: [(u8, u16, u16); 9] = [
 ];
 
 /// Each system sends a frame of conversation 48, which the other collects, and then the conversation is forced.
-const FORCED: &str = "offer 1 1 0200000000200200000000100800 => port 1 serial 0
+const FORCED_ROW: Row = Row {
+    setting: TWO_LONG,
+    first: COMING_UP,
+    rest: "offer 1 1 0200000000200200000000100800 => port 1 serial 0
 offer 2 1 0200000000100200000000200800 => port 1 serial 0
 deliver 1 1 => Up(AggId(1))
 deliver 1 2 => Up(AggId(1))
 force 1 1 48 => Forced
 force 2 1 48 => Forced
-";
-
-const FORCED_ROW: Row = Row {
-    setting: TWO_LONG,
-    first: COMING_UP,
-    rest: FORCED,
-    agreements: &[],
-    flows: &[
-        Flow {
-            system: 1,
-            conv: 48,
-            sent: 1,
-            collected: &[0],
-            forced: true,
-        },
-        Flow {
-            system: 2,
-            conv: 48,
-            sent: 1,
-            collected: &[0],
-            forced: true,
-        },
-    ],
+",
+    told: "flow 1 1 48 => 1 [0] forced
+flow 2 1 48 => 1 [0] forced
+",
 };
 
 /// Checks what a world returns for a conversation that does not exist.
@@ -357,7 +293,7 @@ fn nothing_told(rt: &impl Abort, alloc: Global) -> Result<(), WorldFault> {
     let text = lines_of(alloc, &FORCED_ROW)?;
     let mut world = world_of(rt, alloc, FORCED_ROW.setting, None, modulo, modulo)?;
     plays_lines(rt, alloc, &mut world, FORCED_ROW.setting, text.as_str())?;
-    tells(rt, &world, &FORCED_ROW);
+    tells(rt, alloc, &world, FORCED_ROW.told)?;
     same(rt, "cable 0", &world.agreement(0), &None);
     same(rt, "cable 3", &world.agreement(3), &None);
     for flow in &NO_FLOWS {

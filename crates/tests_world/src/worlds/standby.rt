@@ -1,11 +1,11 @@
 use crate::comparing::same;
 use crate::worlds::given::modulo;
 use crate::worlds::playing::{plays_lines, world_of};
-use crate::worlds::{Flow, Row, lines_of, tells};
+use crate::worlds::{Row, lines_of, tells};
 use cables::AnyCable;
 use lagsystem::Choice;
 use lagtypes::AggId;
-use lagworld::{Agreement, World, WorldFault};
+use lagworld::{World, WorldFault};
 use std::alloc::Global;
 use std::process::Abort;
 
@@ -15,81 +15,29 @@ const STANDBY: Choice = Choice::Standby(AggId(1));
 
 /// Two cables between ports with Long Timeout. In both systems an aggregator may have one link.
 const BOTH_LIMITED: &str = r#"
-[[system]]
-mac = "02-00-00-00-00-01"
-aggregators = [1]
-max_links = 1
-port = [
-    { number = 1, key = 1, short = false },
-    { number = 2, key = 1, short = false },
+system = [
+    { mac = "02-00-00-00-00-01", aggregators = [1], max_links = 1, port = [{ number = 1, key = 1, short = false }, { number = 2, key = 1, short = false }] },
+    { mac = "02-00-00-00-00-02", aggregators = [1], max_links = 1, port = [{ number = 1, key = 1, short = false }, { number = 2, key = 1, short = false }] },
 ]
-
-[[system]]
-mac = "02-00-00-00-00-02"
-aggregators = [1]
-max_links = 1
-port = [
-    { number = 1, key = 1, short = false },
-    { number = 2, key = 1, short = false },
-]
-
-[[cable]]
-ends = [1, 1]
-
-[[cable]]
-ends = [2, 2]
+cable = [{ ends = [1, 1] }, { ends = [2, 2] }]
 "#;
 
 /// A limit of one link in system 1 only.
 const FIRST_LIMITED: &str = r#"
-[[system]]
-mac = "02-00-00-00-00-01"
-aggregators = [1]
-max_links = 1
-port = [
-    { number = 1, key = 1, short = false },
-    { number = 2, key = 1, short = false },
+system = [
+    { mac = "02-00-00-00-00-01", aggregators = [1], max_links = 1, port = [{ number = 1, key = 1, short = false }, { number = 2, key = 1, short = false }] },
+    { mac = "02-00-00-00-00-02", aggregators = [1], port = [{ number = 1, key = 1, short = false }, { number = 2, key = 1, short = false }] },
 ]
-
-[[system]]
-mac = "02-00-00-00-00-02"
-aggregators = [1]
-port = [
-    { number = 1, key = 1, short = false },
-    { number = 2, key = 1, short = false },
-]
-
-[[cable]]
-ends = [1, 1]
-
-[[cable]]
-ends = [2, 2]
+cable = [{ ends = [1, 1] }, { ends = [2, 2] }]
 "#;
 
 /// A limit of one link in system 2 only.
 const SECOND_LIMITED: &str = r#"
-[[system]]
-mac = "02-00-00-00-00-01"
-aggregators = [1]
-port = [
-    { number = 1, key = 1, short = false },
-    { number = 2, key = 1, short = false },
+system = [
+    { mac = "02-00-00-00-00-01", aggregators = [1], port = [{ number = 1, key = 1, short = false }, { number = 2, key = 1, short = false }] },
+    { mac = "02-00-00-00-00-02", aggregators = [1], max_links = 1, port = [{ number = 1, key = 1, short = false }, { number = 2, key = 1, short = false }] },
 ]
-
-[[system]]
-mac = "02-00-00-00-00-02"
-aggregators = [1]
-max_links = 1
-port = [
-    { number = 1, key = 1, short = false },
-    { number = 2, key = 1, short = false },
-]
-
-[[cable]]
-ends = [1, 1]
-
-[[cable]]
-ends = [2, 2]
+cable = [{ ends = [1, 1] }, { ends = [2, 2] }]
 "#;
 
 /// Both cables come up, and each end hears the other.
@@ -112,7 +60,10 @@ tick 2 20 => Ticked
 ";
 
 /// Cable 1 carries frames until it is cut, then cable 2 does; cable 1 comes back, and its ports are STANDBY.
-const BOTH: &str = "emit 1 1 => lacpdu 0d
+const BOTH_ROW: Row = Row {
+    setting: BOTH_LIMITED,
+    first: HEARD,
+    rest: "emit 1 1 => lacpdu 0d
 emit 1 2 => Nothing
 deliver 1 2 => Took
 deliver 2 2 => Empty
@@ -137,24 +88,18 @@ tick 1 10 => Ticked
 emit 1 1 => lacpdu 85
 deliver 1 2 => Took
 emit 2 1 => lacpdu 05
-";
-
-const BOTH_ROW: Row = Row {
-    setting: BOTH_LIMITED,
-    first: HEARD,
-    rest: BOTH,
-    agreements: &[(1, Agreement::NotBoth), (2, Agreement::Same)],
-    flows: &[Flow {
-        system: 1,
-        conv: 48,
-        sent: 2,
-        collected: &[1],
-        forced: false,
-    }],
+",
+    told: "cable 1 => Some(NotBoth)
+cable 2 => Some(Same)
+flow 1 1 48 => 2 [1]
+",
 };
 
 /// Port 2 of system 1 is STANDBY; that of system 2 is in its aggregator, and says so.
-const FIRST: &str = "emit 1 1 => lacpdu 0d
+const FIRST_ROW: Row = Row {
+    setting: FIRST_LIMITED,
+    first: HEARD,
+    rest: "emit 1 1 => lacpdu 0d
 emit 1 2 => Nothing
 deliver 1 2 => Took
 deliver 2 2 => Empty
@@ -168,24 +113,18 @@ cut 1 => Cut
 sense 1 1 => Sensed(false)
 emit 1 2 => lacpdu 3d
 offer 1 1 0200000000200200000000100800 => port 2 serial 1
-";
-
-const FIRST_ROW: Row = Row {
-    setting: FIRST_LIMITED,
-    first: HEARD,
-    rest: FIRST,
-    agreements: &[(1, Agreement::NotBoth), (2, Agreement::NotBoth)],
-    flows: &[Flow {
-        system: 1,
-        conv: 48,
-        sent: 2,
-        collected: &[0],
-        forced: false,
-    }],
+",
+    told: "cable 1 => Some(NotBoth)
+cable 2 => Some(NotBoth)
+flow 1 1 48 => 2 [0]
+",
 };
 
 /// Port 2 of system 2 is STANDBY; that of system 1 is in its aggregator, and says so.
-const SECOND: &str = "emit 1 1 => lacpdu 0d
+const SECOND_ROW: Row = Row {
+    setting: SECOND_LIMITED,
+    first: HEARD,
+    rest: "emit 1 1 => lacpdu 0d
 emit 1 2 => lacpdu 0d
 deliver 1 2 => Took
 deliver 2 2 => Took
@@ -193,14 +132,10 @@ emit 2 1 => lacpdu 3d
 emit 2 2 => Nothing
 deliver 1 1 => Took
 deliver 2 1 => Empty
-";
-
-const SECOND_ROW: Row = Row {
-    setting: SECOND_LIMITED,
-    first: HEARD,
-    rest: SECOND,
-    agreements: &[(1, Agreement::Same), (2, Agreement::NotBoth)],
-    flows: &[],
+",
+    told: "cable 1 => Some(Same)
+cable 2 => Some(NotBoth)
+",
 };
 
 /// Selected of ports 1 and 2 of system 1, and of ports 1 and 2 of system 2.
@@ -233,7 +168,7 @@ fn leads_to(rt: &impl Abort, alloc: Global, row: &Row, wanted: Choices) -> Resul
     let text = lines_of(alloc, row)?;
     let mut world = world_of(rt, alloc, row.setting, None, modulo, modulo)?;
     plays_lines(rt, alloc, &mut world, row.setting, text.as_str())?;
-    tells(rt, &world, row);
+    tells(rt, alloc, &world, row.told)?;
     chosen(rt, &world, wanted);
     Ok(())
 }

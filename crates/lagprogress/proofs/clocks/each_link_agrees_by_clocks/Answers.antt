@@ -1,8 +1,9 @@
-use Rattle.lagprogress.proofs.Bundling.{each_active_link_agrees, each_link_agrees}
+use Rattle.lagprogress.proofs.Common.{BothAreActive, OneIsActive}
+use Rattle.lagprogress.proofs.Bundling.{each_link_agrees, one_active, both_active}
 use Rattle.lagprogress.proofs.clocks.each_link_agrees_by_clocks.Goals as goal
 
 pub returns-clause-both : goal.returns-clause-both
-returns-clause-both g c = λ one two. each_active_link_agrees _
+returns-clause-both g c = λ one two. each_link_agrees BothAreActive 323 _ (both_active _)
 
 pub returns-clause-one : goal.returns-clause-one
-returns-clause-one g c = λ one two. each_link_agrees _
+returns-clause-one g c = λ one two. each_link_agrees OneIsActive 624 _ (one_active _)

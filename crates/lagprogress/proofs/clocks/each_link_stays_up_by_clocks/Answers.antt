@@ -1,14 +1,15 @@
-use Rattle.lagprogress.proofs.Bundling.{each_active_link_stays_agreed, each_active_link_stays_up, each_link_stays_agreed, each_link_stays_up}
+use Rattle.lagprogress.proofs.Common.{BothAreActive, OneIsActive}
+use Rattle.lagprogress.proofs.Bundling.{each_link_stays_agreed, each_link_stays_up, one_active, both_active}
 use Rattle.lagprogress.proofs.clocks.each_link_stays_up_by_clocks.Goals as goal
 
 pub returns-clause-up_both : goal.returns-clause-up_both
-returns-clause-up_both g c = λ one two. each_active_link_stays_up _
+returns-clause-up_both g c = λ one two. each_link_stays_up BothAreActive 323 _ (both_active _)
 
 pub returns-clause-up_one : goal.returns-clause-up_one
-returns-clause-up_one g c = λ one two. each_link_stays_up _
+returns-clause-up_one g c = λ one two. each_link_stays_up OneIsActive 624 _ (one_active _)
 
 pub returns-clause-agrees_both : goal.returns-clause-agrees_both
-returns-clause-agrees_both g c = λ one two. each_active_link_stays_agreed _
+returns-clause-agrees_both g c = λ one two. each_link_stays_agreed BothAreActive 323 _ (both_active _)
 
 pub returns-clause-agrees_one : goal.returns-clause-agrees_one
-returns-clause-agrees_one g c = λ one two. each_link_stays_agreed _
+returns-clause-agrees_one g c = λ one two. each_link_stays_agreed OneIsActive 624 _ (one_active _)

@@ -1,7 +1,7 @@
 use Rattle.lagprogress.proofs.Common.{arith, refl, subst, ℕ, ◌∙◌, ◌≡◌, ◌≤◌, One, Side, Algorithms, WorldState, BothAreActive, OneIsActive}
 use Rattle.lagprogress.proofs.Common.{DrainingRounds, HostRounds, PlaysHostRounds, up_if_both_active, up_if_one_is, IsSteady}
-use Rattle.lagprogress.proofs.Bundling.{each_active_link_agrees, each_active_link_comes_up, each_link_agrees, each_link_comes_up}
-use Rattle.lagprogress.proofs.Freeing.{none_is_held_where_active_by_hosts, nothing_is_held_by_hosts}
+use Rattle.lagprogress.proofs.Bundling.{each_link_agrees, each_link_comes_up, one_active, both_active}
+use Rattle.lagprogress.proofs.Freeing.{nothing_is_held_by_hosts}
 use Rattle.lagprogress.proofs.HostLoops.{draining_are_host}
 use Rattle.lagprogress.proofs.Looping.{one_draining_round_more, one_round_more, round_runs, runs_none}
 use Rattle.lagprogress.proofs.MadeWorlds.{agree, distribute, free_by_hosts}
@@ -73,26 +73,32 @@ returns-clause-rounds g c =
     all_played _ c.args.count c.loop-done.done _ _ c.loop-done-test.false c.loop-done.invariant.within c.loop-done.invariant.played
 
 pub returns-clause-distributes_both : goal.returns-clause-distributes_both
-returns-clause-distributes_both g c = distribute g.C.Cable.items g.C.Cable.limit BothAreActive up_if_both_active _ (each_active_link_comes_up _)
+returns-clause-distributes_both g c = distribute g.C.Cable.items g.C.Cable.limit BothAreActive up_if_both_active _
+    (each_link_comes_up BothAreActive 323 _ (both_active _))
     c.args.count _ _
     (all_played _ c.args.count c.loop-done.done _ _ c.loop-done-test.false c.loop-done.invariant.within c.loop-done.invariant.played)
 
 pub returns-clause-agrees_both : goal.returns-clause-agrees_both
-returns-clause-agrees_both g c = agree g.C.Cable.items g.C.Cable.limit BothAreActive up_if_both_active _ (each_active_link_agrees _) c.args.count _ _
+returns-clause-agrees_both g c = agree g.C.Cable.items g.C.Cable.limit BothAreActive up_if_both_active _
+    (each_link_agrees BothAreActive 323 _ (both_active _)) c.args.count _ _
     (all_played _ c.args.count c.loop-done.done _ _ c.loop-done-test.false c.loop-done.invariant.within c.loop-done.invariant.played)
 
 pub returns-clause-distributes_one : goal.returns-clause-distributes_one
-returns-clause-distributes_one g c = distribute g.C.Cable.items g.C.Cable.limit OneIsActive up_if_one_is _ (each_link_comes_up _) c.args.count _ _
+returns-clause-distributes_one g c = distribute g.C.Cable.items g.C.Cable.limit OneIsActive up_if_one_is _
+    (each_link_comes_up OneIsActive 624 _ (one_active _)) c.args.count _ _
     (all_played _ c.args.count c.loop-done.done _ _ c.loop-done-test.false c.loop-done.invariant.within c.loop-done.invariant.played)
 
 pub returns-clause-agrees_one : goal.returns-clause-agrees_one
-returns-clause-agrees_one g c = agree g.C.Cable.items g.C.Cable.limit OneIsActive up_if_one_is _ (each_link_agrees _) c.args.count _ _
+returns-clause-agrees_one g c = agree g.C.Cable.items g.C.Cable.limit OneIsActive up_if_one_is _
+    (each_link_agrees OneIsActive 624 _ (one_active _)) c.args.count _ _
     (all_played _ c.args.count c.loop-done.done _ _ c.loop-done-test.false c.loop-done.invariant.within c.loop-done.invariant.played)
 
 pub returns-clause-frees_both : goal.returns-clause-frees_both
-returns-clause-frees_both g c = free_by_hosts g.C.Cable.items g.C.Cable.limit BothAreActive up_if_both_active _ (none_is_held_where_active_by_hosts _) c.args.count _ _ c.loop-done.invariant.events
+returns-clause-frees_both g c = free_by_hosts g.C.Cable.items g.C.Cable.limit BothAreActive up_if_both_active _
+    (nothing_is_held_by_hosts BothAreActive 323 _ (both_active _)) c.args.count _ _ c.loop-done.invariant.events
     (all_drain _ c.args.count c.loop-done.done _ _ c.loop-done-test.false c.loop-done.invariant.within c.loop-done.invariant.played)
 
 pub returns-clause-frees_one : goal.returns-clause-frees_one
-returns-clause-frees_one g c = free_by_hosts g.C.Cable.items g.C.Cable.limit OneIsActive up_if_one_is _ (nothing_is_held_by_hosts _) c.args.count _ _ c.loop-done.invariant.events
+returns-clause-frees_one g c = free_by_hosts g.C.Cable.items g.C.Cable.limit OneIsActive up_if_one_is _
+    (nothing_is_held_by_hosts OneIsActive 624 _ (one_active _)) c.args.count _ _ c.loop-done.invariant.events
     (all_drain _ c.args.count c.loop-done.done _ _ c.loop-done-test.false c.loop-done.invariant.within c.loop-done.invariant.played)
