@@ -58,13 +58,14 @@ static void read_ports_again(struct lacp *lacp)
 	}
 }
 
-/* Who starts teamd with -n configures each port as it is added, and says nothing of those that are in: NetworkManager. What the teamd before had of
- * such a port becomes its configuration, which `port config update` replaces. */
-static int keep_port_config(struct teamd_context *ctx, const struct teamd_port *tdport, const struct lag_state_port *kept)
+/* Who configures each port by teamdctl as it is added says nothing of those that are in: NetworkManager, which starts teamd with -n, and others, whose
+ * configuration names no such port. What the teamd before had of the port becomes its configuration, which `port config update` replaces. */
+static int keep_port_config(struct teamd_context *ctx, struct lacp *lacp, const struct teamd_port *tdport)
 {
+	const struct lag_state_port *kept = kept_of(lacp, tdport);
 	int err = 0;
 
-	if (!ctx->pre_add_ports || !ctx->init_no_ports || !kept)
+	if (!ctx->pre_add_ports || !kept || (!ctx->init_no_ports && lacp->named[kept - lacp->kept.ports]))
 		return 0;
 	if (kept->priority != PRIO && !teamd_config_path_exists(ctx, "$.ports.%s.lacp_prio", tdport->ifname))
 		err = teamd_config_int_set(ctx, kept->priority, "$.ports.%s.lacp_prio", tdport->ifname);
@@ -78,7 +79,7 @@ static int load_port_config(struct teamd_context *ctx, struct lacp_port *port)
 	const char *name = port->tdport->ifname;
 	int err;
 
-	if ((err = keep_port_config(ctx, port->tdport, kept_of(port->lacp, port->tdport))) ||
+	if ((err = keep_port_config(ctx, port->lacp, port->tdport)) ||
 	    (err = number_of(ctx, &port->cfg.prio, PRIO, 0, USHRT_MAX, "$.ports.%s.lacp_prio", name)) ||
 	    (err = number_of(ctx, &port->cfg.key, 0, 0, USHRT_MAX, "$.ports.%s.lacp_key", name)))
 		return err;

@@ -30,6 +30,7 @@ struct lacp {
 	struct lag_end end;	/* without a system while there is no port */
 	struct lacp_port *carries;	/* the best port of the group that carries, or NULL */
 	struct lag_state kept;	/* what the teamd before this one left */
+	bool named[NIW_MOST_PORTS];	/* which of its ports the configuration names that teamd starts with */
 	int clock;		/* a timerfd */
 	int64_t try_at;		/* when a system that was refused is tried again, in ms */
 	int64_t config_at;	/* when the configuration of the ports was read */

@@ -22,6 +22,7 @@
 #define TICK_NAME "lacp_tick"
 #define SOCKET_NAME "lacp_socket"
 #define TELLING_MS 1200	/* while the device goes down: how long the peers are told, before the links fall silent */
+#define PARTNER_STATE 52	/* where the frame of an LACPDU has what its sender knows of the state of this end */
 #define RETRY_MS 1000	/* until what was refused is tried again: a system, or a port by the kernel */
 
 static const uint8_t slow_address[ETH_ALEN] = { 0x01, 0x80, 0xC2, 0x00, 0x00, 0x02 };
@@ -480,6 +481,21 @@ static bool is_in_device(const struct lacp_port *port)
 	return name && !strcmp(name + 1, port->ctx->team_devname);
 }
 
+/* teamd ends and leaves the port in the device: a last LACPDU, from which the time of the peer counts. It is due where the peer seems to have another
+ * timeout of this end, and nothing else follows from that. None is sent without a partner, nor where three went out just now. */
+static void send_last(struct lacp_port *port)
+{
+	struct niw_system *system = &port->lacp->end.system;
+	uint8_t frame[NIW_FRAME], response[NIW_FRAME];
+
+	if (!port->heard.is || niw_receive_state(system, port->number).number != NIW_RECEIVE_CURRENT)
+		return;
+	memcpy(frame, port->heard.frame, NIW_FRAME);
+	frame[PARTNER_STATE] ^= NIW_STATE_TIMEOUT;
+	niw_receive(system, port->number, frame, sizeof(frame), response, sizeof(response));
+	send_port(port);
+}
+
 static void port_fini(struct teamd_context *ctx, struct teamd_port *tdport, void *priv, void *creator)
 {
 	struct lacp_port *port = priv;
@@ -492,12 +508,11 @@ static void port_fini(struct teamd_context *ctx, struct teamd_port *tdport, void
 		lacp->stays = true;
 		teamd_loop_callback_disable(ctx, TICK_NAME, lacp);
 	}
-	if (!lacp->stays) {
-		/* The peer is told that the link leaves. */
-		advance(lacp);
-		if (niw_hold(&lacp->end.system, port->number, true) == NIW_OK)
-			send_port(port);
-	}
+	advance(lacp);
+	if (lacp->stays)
+		send_last(port);
+	else if (niw_hold(&lacp->end.system, port->number, true) == NIW_OK) /* the peer is told that the link leaves */
+		send_port(port);
 	if (lacp->carries == port)
 		lacp->carries = NULL;
 	if (!lacp->stays)
@@ -600,8 +615,11 @@ static int take_over(struct lacp *lacp)
 
 	if (lacp->ctx->take_over)
 		read_state(lacp);
-	for (size_t i = 0; i < lacp->kept.count; i++)
+	for (size_t i = 0; i < lacp->kept.count; i++) {
+		/* Before link watches name each port that is in the device. */
+		lacp->named[i] = teamd_config_path_exists(lacp->ctx, "$.ports.%s", lacp->kept.ports[i].name);
 		goes_on |= lacp->kept.ports[i].carried && lacp->kept.ports[i].chosen;
+	}
 	lacp->carrier_up = goes_on && !team_carrier_get(lacp->ctx->th, &up) && up;
 	if (!team_get_ifinfo_admin_state(lacp->ctx->ifinfo))
 		lacp->silent_at = lag_now();

@@ -69,6 +69,10 @@ trip() { # NAME SECONDS COMMAND..
     GAP=$(sed 's/.*"gap_ms":\([0-9]*\).*/\1/' /run/to.received /run/from.received | sort -n | tail -1)
     echo "row: $name | $LOST of $((${RATE:-250} * seconds)) | $GAP ms | the command took $AWAY ms, and the machine was up to $LATE ms late$([ $SPARE -gt 500 ] || echo "; the receivers ended $((-SPARE)) ms before the senders")"
 }
+# Whether at most so many were lost, one way: of a port that has half of the frames 62 are half a second.
+lost_few() { # NAME MOST LOST
+    if [ "$3" -gt "$2" ] && [ $LATE -ge 200 ]; then echo "row: inconclusive, the machine was up to $LATE ms late: $1"; else is "$1" yes "$([ "$3" -le "$2" ] && echo yes || echo "$3")"; fi
+}
 # Whether nothing was lost. The peer stops a link that is silent for longer than 2 s: a second passes between two LACPDUs, and its timeout is 3 s.
 lost_none() {
     if [ "$LOST" != "0 0" ] && [ $((AWAY + LATE)) -ge 2000 -o $SPARE -lt 500 ]; then echo "row: inconclusive, the machine was too slow: $1"; else is "$1" "0 0" "$LOST"; fi

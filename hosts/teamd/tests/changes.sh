@@ -11,6 +11,17 @@ is "a teamd that follows with -n: both carry with them" "$BOTH 5 7" "$(state) $(
 teamdctl team0 port config update eth1 '{"lacp_prio": 9, "lacp_key": 5}' 2>/dev/null; sleep 2; is "what it is told then reaches the peer" "5 9" "$(told far1)"
 for n in 1 2; do teamdctl team0 port config update eth$n '{}' 2>/dev/null; done; sleep 2; is "and where it is told nothing, what is usual" "0 255, 0 255" "$(told far1), $(told far2)"
 until_state "$BOTH" 10; is "both carry then" "$BOTH" "$(state)"
+# A manager that configures its ports by teamdctl alone: eth1 comes into the device by ip link, eth2 by teamdctl.
+end; alone() { $T -g -d -N -t team0 "$@" -c '{"device":"team0","runner":{"name":"lacp","fast_rate":true,"tx_hash":["l3","l4"]}}' 2>>/run/log; }
+alone -r; for n in 1 2; do teamdctl team0 port config update eth$n "{\"prio\": 0, \"lacp_prio\": $((6 + n)), \"lacp_key\": 5}" 2>/dev/null; done
+ip link set eth1 down; ip link set eth1 master team0; ip link set eth1 up; teamdctl team0 port add eth2; ip link set team0 up; until_state "$BOTH" 12; sleep 1
+is "ports that are configured by teamdctl alone" "$BOTH 5 7, 5 8" "$(state) $(told far1), $(told far2)"
+for way in "-o" "-o -n"; do
+    from=$(date +%s%N); kill_it; alone $way; away=$((($(date +%s%N) - from) / 1000000)); teamdctl team0 port add eth1; sleep 1.5
+    [ $away -lt 1500 ] || { echo "row: it started after $away ms, so that the peer may have stopped its links"; until_state "$BOTH" 10; }
+    is "a teamd that follows by $way, and has no ports in its configuration: both carry with them" "$BOTH 5 7, 5 8" "$(state) $(told far1), $(told far2)"
+done
+end; ip link del team0; begin; until_state "$BOTH" 10; sleep 1
 ip link set team0 address 52:54:00:00:0c:77; sleep 1; until_state "$BOTH" 10; is "another address of the device: both carry" "$BOTH" "$(state)"
 is "the peer has it" "52:54:00:00:0c:77" "$(ip netns exec far sed -n 's/.*Partner Mac Address: //p' /proc/net/bonding/bond0)"
 ip link set eth1 down; sleep 1; is "a link goes down: the other one carries" "eth1 disabled false, eth2 current true, carrier 1" "$(state)"; ip link set eth1 up; end
