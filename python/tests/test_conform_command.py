@@ -571,6 +571,25 @@ def test_pages_have_the_number_of_tests() -> None:
     assert not text or not [it for it in (*rows, newer) if f"{it}\n" not in text]
 
 
+def test_the_page_has_the_keys_of_json_that_stay(run, tmp_path: Path) -> None:  # type: ignore[no-untyped-def]
+    text = page_of("CONFORM.md")
+    if not text:
+        return
+    assert f"JSON has `format`, now {report.FORMAT}. In format {report.FORMAT} these keys stay" in text
+    of_run, of_test, of_list = (re.findall("`([a-z]+)`", re.search(rf"^\|{it}\|(.*)\|$", text, re.M)[1]) for it in ("a run", "each of `tests`", "`--list --json`"))  # type: ignore[index]
+    assert run(Device, "--only", "FM-01", "--json", "r.json") == 0 and command.main(["--list", "--json", "l.json"]) == 0
+    told, tests = (json.loads((tmp_path / it).read_text()) for it in ("r.json", "l.json"))
+    assert set(of_run) == {*told} and set(of_list) == {"format", *tests, *tests["tests"][0]} - {"causes"}
+    assert set(of_test) - {"holds", "text"} <= {*told["tests"][0]} and {*told["tests"][0]["claims"][0]} == {"holds", "text", "packets"}
+    row = next(it for it in tests["tests"] if it["id"] == "MX-03")
+    assert f'"clause": "{row["clause"]}", "title": "{row["title"]}",\n     "rule": "{row["rule"]}", "tolerance": "{row["tolerance"]}", ..' in text
+
+
+def test_the_page_has_a_statement_of_each_item() -> None:
+    lines = re.search(r"^    # device.pics\n(?:    .*\n)+", page_of("CONFORM.md"), re.M)
+    assert not page_of("CONFORM.md") or lines and [*pics.parsed(lines[0])] == [*pics.ITEMS]
+
+
 def test_the_page_says_what_makes_the_counts_differ() -> None:
     text = page_of("CONFORM.md")
     if not text:
