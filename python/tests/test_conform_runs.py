@@ -371,12 +371,14 @@ def linked_to(example: str) -> list[str]:
 
 @needs_library
 @pytest.mark.parametrize("example", ["device.c", "device_pool.c"])
-def test_the_example_in_c_passes_all(example: str, tmp_path: Path, capsys: pytest.CaptureFixture[str]) -> None:
+def test_the_example_in_c_passes_all(example: str, tmp_path: Path, capsys: pytest.CaptureFixture[str], monkeypatch: pytest.MonkeyPatch) -> None:
     made = str(tmp_path / "device.so")
     line = ["cc", "-Wall", "-Wextra", "-Wconversion", "-Werror", "-shared", "-fPIC", f"-I{HEADER}", "-o", made, str(EXAMPLES / example)]
     subprocess.run([*line, *linked_to(example)], check=True)
     assert command.main(["--memory", made, "--strict"]) == 0
     assert f"\n{len(TESTS) - 1} pass, 0 fail, 1 not applicable{LAST}" in capsys.readouterr().out
+    monkeypatch.chdir(tmp_path)
+    assert command.main(["--memory", "device.so", "--only", "FM-01"]) == 0
 
 
 def test_a_fail_that_the_profile_does_not_carry_has_a_mark(run, tmp_path: Path, capsys: pytest.CaptureFixture[str]) -> None:  # type: ignore[no-untyped-def]
