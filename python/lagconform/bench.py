@@ -13,7 +13,7 @@ from .floods import Meter
 from .model import Claim, Frame, NotHere, Result, Stop, Stuck
 from .partner import PLACES, Partner, slow
 from .pdus import CARRIES, COUNT_AT, DATA, PAYLOAD, SENDERS, SLOW, end, read, told, value
-from .wires import Answer, Hook, Wire
+from .wires import UNKNOWN, Answer, Hook, Wire
 
 # 6.4.4: each timer may be wrong by so much. What is due at once has to be seen so soon: the standard has no number for that, but its
 # limit of three LACPDUs a second, so 1/3 s is right in any case, and a quiet port sends at once.
@@ -30,6 +30,10 @@ HOOK_SECONDS = 40.0
 # The first of the bench's systems: each one has another number in the three octets that are 0 here.
 BASE = Mac("02cf00000001")
 Holds = Callable[[Lacpdu], object]
+
+
+class HookFailed(Stop):
+    """The hook knows what it was asked for, and did not do it, or did not end: the test has no answer."""
 
 
 class Link:
@@ -302,14 +306,15 @@ class Bench:
             link.partner.hush()
 
     def hook(self, *words: str) -> None:
-        """Has the device do something; the test is skipped where there is no hook, or where it does not know these words."""
+        """Has the device do something; the test is skipped where there is no hook, or where it does not know these words, and inconclusive where the
+        hook fails."""
         began, answer = self.now(), self.ask(*words)
         if answer.status:
-            raise NotHere(answer.refusal(words))
+            raise (NotHere if answer.status == UNKNOWN else HookFailed)(answer.refusal(words))
         self.events.append((began, words))
 
     def ask(self, *words: str) -> Answer:
-        """What the hook says to these words; the test is skipped where there is none, or where it does not end."""
+        """What the hook says to these words; the test is skipped where there is none, and inconclusive where it does not end."""
         if not self._hook:
             raise NotHere(f"wants a hook that knows: {' '.join(words)}")
         doing = self._hook.call(words)
@@ -322,7 +327,7 @@ class Bench:
 
         if not self.until(HOOK_SECONDS, ended):
             doing.stop()
-            raise NotHere(f"the hook did not end in {HOOK_SECONDS:g} s: {' '.join(words)}")
+            raise HookFailed(f"the hook did not end in {HOOK_SECONDS:g} s: {' '.join(words)}")
         return got[0]
 
     @contextmanager

@@ -131,7 +131,7 @@ def serve(path: str, bench: socket.socket) -> None:
 def answer(path: str, bench: socket.socket) -> None:
     """Loads the library, and does what the bench calls for, until that closes the socket."""
     try:
-        library = ctypes.CDLL(path)
+        library = ctypes.CDLL(os.path.realpath(path))  # a name without a folder would be looked for among the system's
     except OSError as why:
         bench.send(HEAD.pack(BAD, 0) + f"{path}: {why}".encode()[:4096])
         return

@@ -4,36 +4,38 @@ from __future__ import annotations
 
 import argparse
 import gc
-import json
 import os
 import signal
 import sys
 import time
 import traceback
+from dataclasses import dataclass
 from typing import Callable, Optional, Sequence
 
 from niwhopera import __version__
 from niwhopera._library import functions, library_text
 
 from . import capture, files, junit, known, matrix, own, page, pics, report
-from .bench import BASE, Bench
+from .bench import BASE, Bench, HookFailed
 from .files import are_same, read_text, tell, undisturbed, written
 from .groups import GROUPS, TESTS
 from .listing import as_markdown, as_text
-from .memory import UNKNOWN, World, loaded
-from .model import CAVEAT, FAIL, INCONCLUSIVE, PASS, NotHere, Result, Test
+from .memory import World, loaded
+from .model import CAVEAT, FAIL, INCONCLUSIVE, PASS, Result, Test
 from .options import MEMORY_LINKS, check_words, reader, selected
 from .pdus import number_of
 from .refusals import MOST_LINKS, Refused, check_interfaces
 from .report import Run
-from .resume import SYSTEM, base_of, taken
+from .resume import check, conditions, earlier, taken
 from .runner import CameToNothing, NoDevice, meet, run_all
 from .shadow import Shadow, compare
 from .sockets import Command, PacketWire
-from .wires import Gone
+from .wires import UNKNOWN, Gone
 
 # The statuses of a shell that cannot run a command.
 NO_COMMAND = {126: "may not run it", 127: "does not find it"}
+# What a report has the first system of the bench by.
+SYSTEM = "the bench's first system"
 
 
 class Progress:
@@ -144,34 +146,43 @@ def stand(given: argparse.Namespace) -> Bench:
 
 
 def prepare_device(given: argparse.Namespace, b: Bench) -> None:
-    """Has the hook bring the device into its state; a hook need not know how."""
+    """Has the hook bring the device into its state; a hook need not know `reset`."""
     for words in [["reset"], *(["set", *it.split("=", 1)] for it in given.set)]:
         try:
             answer = b.ask(*words)
-        except NotHere as why:
-            raise Refused(str(why)) from why
+        except HookFailed as why:
+            raise Refused(f"--hook {given.hook}: {why}") from why
         if answer.status in NO_COMMAND:
             raise Refused(f"--hook {given.hook}: the shell {NO_COMMAND[answer.status]}: {answer.said.strip()[-200:]}")
-        if answer.status and words[0] == "set":
-            raise Refused(answer.refusal(words))
-        if answer.status not in (0, UNKNOWN):
-            tell(f"lagconform: {answer.refusal(words)} (status {answer.status})", to=sys.stderr)
+        if answer.status and (words[0] == "set" or answer.status != UNKNOWN):
+            raise Refused(f"--hook {given.hook}: {answer.refusal(words)}")
 
 
-def run_tests(given: argparse.Namespace, b: Bench, tests: Sequence[Test], claimed: dict[str, bool], reasons: dict[str, str]) -> int:
-    """Runs the tests and reports them, whatever ends the run; the status."""
-    before = taken(given.resume, read_text(given.resume, files.MOST_OF_A_RUN), tests) if given.resume else []
-    left = [it for it in tests if it not in [one.test for one in before]]
+@dataclass
+class Plan:
+    """What is to run: the tests, what the device claims of itself, the reasons of known fails, what the verdicts depend on, and the results of an
+    earlier run."""
+
+    tests: Sequence[Test]
+    claimed: dict[str, bool]
+    reasons: dict[str, str]
+    conditions: dict[str, object]
+    before: Sequence[Result] = ()
+
+
+def run_tests(given: argparse.Namespace, b: Bench, plan: Plan) -> int:
+    """Runs the tests that no earlier run has, and reports all, whatever ends the run; the status."""
+    left = [it for it in plan.tests if it not in [one.test for one in plan.before]]
     progress, status, ended = Progress(left, given.repeat, not given.memory), 0, ""
 
     def say(it: Result) -> None:
-        known.mark([it], reasons)
+        known.mark([it], plan.reasons)
         progress.add(it)
 
     try:
         print(beginning(given, left, len(b.links)), flush=True)
         progress.show()
-        run_all(b, left, say, claimed, given.keep_going, given.repeat)
+        run_all(b, left, say, plan.claimed, given.keep_going, given.repeat)
     except KeyboardInterrupt:
         status, ended = 130, "interrupted"
     except CameToNothing as why:
@@ -184,10 +195,10 @@ def run_tests(given: argparse.Namespace, b: Bench, tests: Sequence[Test], claime
     with undisturbed():
         if ended:
             tell(f"\nlagconform: {ended}; the reports have what was run", to=sys.stderr)
-        known.mark(before, reasons)
-        results = sorted([*before, *progress.results], key=lambda it: tests.index(it.test))
-        told = {**about(given, b, results), **({"incomplete": f"{ended}; {len(results)} of {len(tests)} tests ran"} if ended else {})}
-        return finish(given, Run(b, told, results, shadow, given.strict), reasons, status, bool(ended))
+        known.mark(plan.before, plan.reasons)
+        results = sorted([*plan.before, *progress.results], key=lambda it: plan.tests.index(it.test))
+        told = {**about(given, b, results), **({"incomplete": f"{ended}; {len(results)} of {len(plan.tests)} tests ran"} if ended else {})}
+        return finish(given, Run(b, told, plan.conditions, results, shadow, given.strict), status, bool(ended))
 
 
 def beginning(given: argparse.Namespace, tests: Sequence[Test], links: int) -> str:
@@ -206,15 +217,15 @@ def compared(b: Bench) -> Optional[Shadow]:
         return None
 
 
-def finish(given: argparse.Namespace, run: Run, reasons: dict[str, str], status: int, ended: bool) -> int:
+def finish(given: argparse.Namespace, run: Run, status: int, ended: bool) -> int:
     """Writes and prints the reports; the status: of what ended the run, or of its tests."""
     stand_there = write_all(given, run)
-    gone = [f"known fail {name} did not fail" for name in known.no_longer(run.results, reasons)]
-    tell(*gone, *report.closing(run))
+    gone = known.no_longer(run.results)
+    tell(*(f"known fail {name} did not fail" for name in gone), *report.closing(run))
     if not status and not any(it.verdict in (PASS, FAIL) for it in run.results):
         tell("lagconform: no test came to pass or fail", to=sys.stderr)
         status = 2
-    fails = bool(known.new_fails(run.results)) or run.strict and any(it.verdict == INCONCLUSIVE for it in run.results)
+    fails = bool(known.new_fails(run.results)) or run.strict and (bool(gone) or any(it.verdict == INCONCLUSIVE for it in run.results))
     return status or (1 if fails and stand_there else 2 if ended or not stand_there else 0)
 
 
@@ -223,12 +234,28 @@ def interrupt(*_: object) -> None:
     raise KeyboardInterrupt
 
 
+def planned(given: argparse.Namespace) -> Plan:
+    """What the words of the command line ask for."""
+    check_words(given)
+    links = given.links or MEMORY_LINKS if given.memory else max(1, len(given.interfaces))
+    tests = selected(given.only, given.long or bool(given.memory), links, given.left_out)
+    claimed = pics.parsed(read_text(given.pics)) if given.pics else {}
+    reasons = known.parsed(read_text(given.known), (it.id for it in TESTS)) if given.known else {}
+    if not given.resume:
+        return Plan(tests, claimed, reasons, conditions(given, claimed))
+    before = earlier(given.resume, read_text(given.resume, files.MOST_OF_A_RUN))
+    given.system = given.system or before.base  # the bench goes on with the system that it had
+    plan = Plan(tests, claimed, reasons, conditions(given, claimed), taken(before, tests))
+    check(before, plan.conditions)
+    return plan
+
+
 def listed(given: argparse.Namespace) -> int:
     """Prints or writes the tests; the status."""
     tests = sorted(selected(given.only, True, MOST_LINKS, given.left_out), key=TESTS.index)
     if given.json:
-        return 0 if written(given.json, lambda: (json.dumps([*map(report.about_test, tests)], indent=1) + "\n").encode()) else 2
-    tell(as_markdown(tests, titles()) if given.markdown else as_text(tests, titles()))
+        return 0 if written(given.json, lambda: report.json_of_list(tests).encode()) else 2
+    tell(as_markdown(tests, titles()) if given.markdown else as_text(tests, titles(), given.repeat))
     return 0
 
 
@@ -243,15 +270,7 @@ def main(words: Optional[Sequence[str]] = None) -> int:
             own.load(path)
         if given.list:
             return listed(given)
-        check_words(given)
-        links = given.links or MEMORY_LINKS if given.memory else max(1, len(given.interfaces))
-        tests = selected(given.only, given.long or bool(given.memory), links, given.left_out)
-        claimed = pics.parsed(read_text(given.pics)) if given.pics else {}
-        reasons = known.parsed(read_text(given.known), (it.id for it in TESTS)) if given.known else {}
-        if given.resume:
-            before = read_text(given.resume, files.MOST_OF_A_RUN)
-            taken(given.resume, before, tests)
-            given.system = given.system or base_of(before)
+        plan = planned(given)
         gc.disable()  # no pauses
         signal.signal(signal.SIGTERM, interrupt)
         functions()  # without the library no stack is to blame
@@ -271,6 +290,6 @@ def main(words: Optional[Sequence[str]] = None) -> int:
         write_nothing(given, f"the bench has a fault: {type(why).__name__}: {why}")
         return 2
     try:
-        return run_tests(given, b, tests, claimed, reasons)
+        return run_tests(given, b, plan)
     finally:
         b.close()

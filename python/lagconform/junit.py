@@ -22,12 +22,19 @@ UNWANTED = re.compile("[^\t\n\r\x20-\ud7ff\ue000-\ufffd\U00010000-\U0010ffff]")
 
 def tag(run: Run, it: Result) -> str:
     """What a result is to JUnit. A known fail is skipped; so is what came to no answer, unless the run is strict: then it is an error, as it makes
-    the status 1."""
+    the status 1, and so is a known fail that passes."""
     if it.verdict == PASS:
-        return ""
+        return "error" if it.obsolete and run.strict else ""
     if it.verdict == FAIL and not it.known:
         return "failure"
     return "error" if it.verdict == INCONCLUSIVE and run.strict else "skipped"
+
+
+def message(it: Result) -> str:
+    """Why a result is as it is."""
+    if it.obsolete:
+        return f"a known fail that passes: {it.obsolete}"
+    return f"known: {it.known}: {it.why}" if it.known else f"{it.verdict}: {it.why}" if it.verdict != FAIL else it.why
 
 
 def words(run: Run, it: Result) -> list[str]:
@@ -46,7 +53,7 @@ def case(run: Run, it: Result) -> str:
     """A result as a case of JUnit. Its name is the number of its test, which stays where a title gets other words."""
     out = f'<testcase classname={quoteattr(it.test.group)} name={quoteattr(it.test.id)} time="{it.end - it.begin:.3f}">'
     out += f'<properties><property name="title" value={quoteattr(it.test.title)}/></properties>'
-    kind, text = tag(run, it), f"known: {it.known}: {it.why}" if it.known else f"{it.verdict}: {it.why}" if it.verdict != FAIL else it.why
+    kind, text = tag(run, it), message(it)
     body = escape("\n".join(words(run, it)))
     if kind == "skipped":
         out += f"<skipped message={quoteattr(text)}/>"
@@ -112,7 +119,8 @@ def point(run: Run, number: int, it: Result) -> Iterable[str]:
     else:
         yield f"{'not ok' if kind else 'ok'} {name}"
     if kind in ("failure", "error"):
-        yield from ["  ---", f"  message: {json.dumps(it.why)}", f"  severity: {it.verdict}", f"  basis: {it.basis}", "  data:"]
+        told_why = message(it) if it.obsolete else it.why
+        yield from ["  ---", f"  message: {json.dumps(told_why)}", f"  severity: {it.verdict}", f"  basis: {it.basis}", "  data:"]
         yield from (f"    - {json.dumps(line)}" for line in words(run, it))
         yield "  ..."
 

@@ -1,10 +1,11 @@
-"""Fails that are known: a file with the id of a test and a reason on each line. A run in which nothing else fails has status 0."""
+"""Fails that are known: a file with the id of a test and a reason on each line. A run in which nothing else fails has status 0; with
+--strict these have to fail, too: a line that is no longer true hides the next fail."""
 
 from __future__ import annotations
 
 from typing import Iterable
 
-from .model import FAIL, Result
+from .model import FAIL, PASS, Result
 
 
 class BadKnown(Exception):
@@ -28,10 +29,12 @@ def parsed(text: str, tests: Iterable[str]) -> dict[str, str]:
 
 
 def mark(results: Iterable[Result], reasons: dict[str, str]) -> None:
-    """Notes the reason at each fail that is known."""
+    """Notes the reason at each fail that is known, and at each pass whose fail was known."""
     for it in results:
         if it.verdict == FAIL:
             it.known = reasons.get(it.test.id, "")
+        if it.verdict == PASS:
+            it.obsolete = reasons.get(it.test.id, "")
 
 
 def new_fails(results: Iterable[Result]) -> list[Result]:
@@ -39,6 +42,6 @@ def new_fails(results: Iterable[Result]) -> list[Result]:
     return [it for it in results if it.verdict == FAIL and not it.known]
 
 
-def no_longer(results: Iterable[Result], reasons: dict[str, str]) -> list[str]:
-    """Known fails that ran and did not fail: their lines can go."""
-    return [it.test.id for it in results if it.test.id in reasons and it.verdict != FAIL]
+def no_longer(results: Iterable[Result]) -> list[str]:
+    """Known fails that pass: their lines can go."""
+    return [it.test.id for it in results if it.obsolete]

@@ -21,32 +21,33 @@ def marks(it: Test) -> str:
     return f" [{', '.join(wants)}]" if wants else ""
 
 
-def as_text(tests: Sequence[Test], titles: dict[str, str]) -> str:
-    """Tests as lines, by their groups."""
+def as_text(tests: Sequence[Test], titles: dict[str, str], repeat: int = 1) -> str:
+    """Tests as lines, by their groups, and how long they take where each is run so often."""
     out: list[str] = []
     for group in dict.fromkeys(it.group for it in tests):
         out += ["", f"{group}  {titles[group]}"]
         out += [f"  {it.id:7} {it.clause:34} {it.title}{marks(it)}" for it in tests if it.group == group]
-    return "\n".join([*out[1:], "", number_of(len(tests), "test"), *times(tests)])
+    return "\n".join([*out[1:], "", number_of(len(tests), "test"), *times(tests, repeat)])
 
 
 # So long a device is waited for before the first test, at most: the hook, the first LACPDUs, and what it tells in them.
 BEFORE = HOOK_SECONDS + MEETS + SOON
 
 
-def most(tests: Sequence[Test]) -> int:
+def most(tests: Sequence[Test], repeat: int = 1) -> int:
     """After so many minutes a run of these tests ends."""
-    return math.ceil((BEFORE + sum(it.most for it in tests)) / 60)
+    return math.ceil((BEFORE + repeat * sum(it.most for it in tests)) / 60)
 
 
-def times(tests: Sequence[Test]) -> list[str]:
+def times(tests: Sequence[Test], repeat: int = 1) -> list[str]:
     """How long a run of these tests takes by its links."""
     out = []
     for links, name in enumerate(("one link", "two links", "three or four links"), 1):
         for more in (False, True):
             own = [it for it in tests if it.links <= links and (more or not it.is_long)]
-            minutes = max(1, round(sum(it.takes for it in own) / 60))
-            out.append(f"{name}{', --long' if more else ''}: {number_of(len(own), 'test')}, some {minutes} min, at most {most(own)} min")
+            minutes = max(1, round(repeat * sum(it.takes for it in own) / 60))
+            told = f"{number_of(len(own), 'test')}{f', each {repeat} times' if repeat > 1 else ''}"
+            out.append(f"{name}{', --long' if more else ''}: {told}, some {minutes} min, at most {most(own, repeat)} min")
     return out
 
 

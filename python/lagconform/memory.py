@@ -19,7 +19,7 @@ from .child import NEEDED, Child
 from .hanging import limited
 from .pdus import COUNT_AT, DATA, SENDERS
 from .refusals import Refused
-from .wires import Answer, Arrival, Broke, Gone
+from .wires import UNKNOWN, Answer, Arrival, Broke, Gone
 
 # A frame takes so long from one end of a link to the other.
 WIRE_SECONDS = 0.0005
@@ -27,8 +27,6 @@ WIRE_SECONDS = 0.0005
 FLOWS = 64
 # A stack that broke is started again so many times in a run, and not before what it sent is so old that no limit of 6.4.16 counts it.
 MOST_STARTS, DOWN_SECONDS = 20, 1.5
-# The status of a hook that does not know what it is asked for (EX_USAGE of sysexits.h).
-UNKNOWN = 64
 
 
 def flow(number: int, count: int = 0) -> bytes:

@@ -109,8 +109,8 @@ class Test:
 @dataclass
 class Result:
     """What came of a test: packets `first` to `last`, seconds `begin` to `end`, and how late the bench was at most. `gone` says which
-    interface is no longer there, or why a stack is not started again, `known` why a fail is known, `stuck` that no test can go on like this, and
-    `crashed` that a stack in memory broke. `times` counts the verdicts of a test that ran several times."""
+    interface is no longer there, or why a stack is not started again, `known` why a fail is known, `obsolete` why one was known of a test that passes,
+    `stuck` that no test can go on like this, and `crashed` that a stack in memory broke. `times` counts the verdicts of a test that ran several times."""
 
     test: Test
     verdict: str = PASS
@@ -123,6 +123,7 @@ class Result:
     end: float = 0
     late: float = 0
     known: str = ""
+    obsolete: str = ""
     gone: str = ""
     stuck: bool = False
     crashed: bool = False

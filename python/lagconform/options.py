@@ -23,13 +23,14 @@ MEMORY_LINKS = 3
 ABOUT = """Tests a device which runs LACP at the far end of one to four cables, by frames alone.
 
 It prints a line for each test, and in the end the count of each verdict. The status is 0 if nothing failed but what --known has, 1 if
-something did (with --strict also if a test came to no answer), 2 if the bench could not run to its end, a report could not be written, or no
-test came to pass or fail, and 130 after SIGINT. It wants CAP_NET_RAW, and the interfaces for itself: in no bond, in no
+something did (with --strict also if a test came to no answer, or a known fail passes), 2 if the bench could not run to its end, a report
+could not be written, or no test came to pass or fail, and 130 after SIGINT. It wants CAP_NET_RAW, and the interfaces for itself: in no bond, in no
 bridge, and with no other program that speaks LACP there.
 
 With --memory it wants none of these: the device is a stack in a file, and a run of all tests, the long ones too, takes seconds.
 
-The hook is a command that gets words behind it, and ends with status 0 if it did what they say:
+The hook is a command that gets words behind it. It ends with status 0 if it did what they say, and with 64 if it does not know them; another
+status is an error of the hook:
 
     reset                  bring the device into the state in which it is to be tested
     set KEY VALUE          set something of the device: for each --set KEY=VALUE
@@ -39,8 +40,8 @@ The hook is a command that gets words behind it, and ends with status 0 if it di
                            flows between them: UDP from 198.18.0.0/16, to other addresses
                            and ports in each flow
 
-The first two come before the first test, and a hook that the shell cannot run is refused there. `start` does not: the device is configured, and
-sends LACPDUs, before the run begins. Tests that want words which the hook does not know are skipped."""
+The first two come before the first test, and a hook that fails there ends the run. `start` does not come there: the device is configured, and
+sends LACPDUs, before the run begins. Tests that want words which the hook does not know are skipped; where it fails, they are inconclusive."""
 
 
 def system(text: str) -> Mac:
@@ -97,10 +98,10 @@ def add_reports(it: argparse.ArgumentParser) -> None:
     it.add_argument("--report", metavar="FILE", help="write a page of HTML, with a time diagram of each test")
     it.add_argument("--junit", metavar="FILE", help="write a JUnit file")
     it.add_argument("--tap", metavar="FILE", help="write a TAP file (version 14)")
-    it.add_argument("--json", metavar="FILE", help="write a JSON file; with --list of the tests")
+    it.add_argument("--json", metavar="FILE", help="write a JSON file; with --list one of the tests")
     it.add_argument("--matrix", metavar="FILE", help="write a table of Markdown: each clause, its verdict and its tests")
     it.add_argument("--pcap", metavar="FILE", help="write the frames of the run as pcapng, whose packet numbers the reports name")
-    it.add_argument("--captures", metavar="FOLDER", help="write the frames of each test into a file of this folder, as RX-02.pcapng; it is made if it is not there")
+    it.add_argument("--captures", metavar="FOLDER", help="write the frames of each test into a file of this folder, as RX-02.pcapng, and make it")
 
 
 def add_device(it: argparse.ArgumentParser) -> None:
@@ -123,8 +124,8 @@ def add_tests(it: argparse.ArgumentParser) -> None:
     it.add_argument("--not", metavar="TEST", action="append", dest="left_out", default=[], help="tests to leave out; may be given again")
     it.add_argument("--long", action="store_true", help=f"run tests of more than {LONG} s, too; with --memory they always run")
     it.add_argument("--repeat", metavar="N", type=times, default=1, help="run each test N times; its verdict is the worst of them")
-    it.add_argument("--resume", metavar="FILE", help="take verdicts over from the JSON of a run that ended early, and run the other tests")
-    it.add_argument("--strict", action="store_true", help="a test that comes to no answer counts as a fail: in the status, in JUnit and in TAP")
+    it.add_argument("--resume", metavar="FILE", help="take verdicts over from the JSON of a run of this device and build, and run the other tests")
+    it.add_argument("--strict", action="store_true", help="a test without an answer, and a known fail that passes, count as fails, in JUnit and TAP, too")
     it.add_argument("--keep-going", action="store_true", help="go on where five tests in turn came to nothing")
     it.add_argument("--shadow", action="store_true", help="tell where the engine would have sent another LACPDU in the device's place")
     it.add_argument("--seed", type=int, default=1, help="the seed of random frames (1)")

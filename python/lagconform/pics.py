@@ -17,6 +17,7 @@ ITEMS = {
     "marker-responder": "it answers markers (6.2.6 wants it of every system)",
     "two-ports": "both links may join one aggregator: one key, one system",
 }
+EXAMPLE = "`marker-responder no`"
 # What the standard wants of every system, and the items that a bit of an LACPDU tells.
 MANDATORY = ("marker-responder",)
 BITS = {"active": State.ACTIVITY, "short-timeouts": State.TIMEOUT}
@@ -34,9 +35,9 @@ def parsed(text: str) -> dict[str, bool]:
         if not words:
             continue
         if len(words) != 2 or words[1] not in ("yes", "no"):
-            raise BadPics(f"line {number}: an item, and yes or no")
+            raise BadPics(f"line {number}: an item, and yes or no, as {EXAMPLE}; the items are {', '.join(ITEMS)}")
         if words[0] not in ITEMS:
-            raise BadPics(f"line {number}: there is no item {words[0]}; there are {', '.join(ITEMS)}")
+            raise BadPics(f"line {number}: there is no item {words[0]}; the items are {', '.join(ITEMS)}")
         claimed[words[0]] = words[1] == "yes"
     return claimed
 

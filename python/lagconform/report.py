@@ -13,12 +13,17 @@ from .pdus import end, mac
 from .shadow import Shadow
 
 
+# The number of the form of JSON. It grows where a key that CONFORM.md names goes, or gets another meaning; keys may come beside them.
+FORMAT = 1
+
+
 @dataclass
 class Run:
-    """A run to report: the bench with its frames, what it was run with, and the results."""
+    """A run to report: the bench with its frames, what it was, what it was run with, and the results."""
 
     bench: Bench
     about: dict[str, str]
+    conditions: Mapping[str, object]
     results: list[Result]
     shadow: Optional[Shadow] = None
     # Whether a test without an answer counts as a fail.
@@ -96,16 +101,21 @@ def as_json(run: Run, tests: Sequence[Test]) -> str:
         for clause, verdict, own in matrix.rows(run.results)
         for left in [matrix.not_run(clause, own, tests)]
     }
-    whole: dict[str, object] = {"about": run.about, "counts": counts(run.results), "causes": grouped, "clauses": rows}
+    whole: dict[str, object] = {"format": FORMAT, "run": run.conditions, "about": run.about, "counts": counts(run.results), "causes": grouped, "clauses": rows}
     if run.shadow:
         differences = [{"packet": it.frame.number, "what": it.what} for it in run.shadow.differences]
         whole["shadow"] = {"compared": run.shadow.compared, "differences": differences}
     return json.dumps({**whole, "tests": [record(run.bench, it) for it in run.results]}, indent=1) + "\n"
 
 
+def json_of_list(tests: Sequence[Test]) -> str:
+    """JSON of the tests that there are."""
+    return json.dumps({"format": FORMAT, "tests": [*map(about_test, tests)]}, indent=1) + "\n"
+
+
 def json_of_nothing(about: Mapping[str, str]) -> str:
     """JSON of a run in which no test ran; `about` has why."""
-    return json.dumps({"about": about, "counts": counts([]), "causes": {}, "clauses": {}, "tests": []}, indent=1) + "\n"
+    return json.dumps({"format": FORMAT, "about": about, "counts": counts([]), "causes": {}, "clauses": {}, "tests": []}, indent=1) + "\n"
 
 
 def comments(results: Sequence[Result]) -> dict[int, str]:

@@ -1,40 +1,97 @@
-"""A run that goes on where another one ended: the verdicts of its JSON are taken over."""
+"""A run that goes on where another one ended: the verdicts of its JSON are taken over, if it was of the same device."""
 
 from __future__ import annotations
 
+import argparse
+import hashlib
 import json
+from dataclasses import dataclass
 from typing import Any, Mapping, Optional, Sequence
 
 from niwhopera import Mac
 
+from .bench import BASE
 from .model import FAIL, NOT_APPLICABLE, PASS, WHOLE_RUN, Claim, Result, Test
+from .options import MEMORY_LINKS
 from .refusals import Refused
+from .report import FORMAT
 
-# What a report has the first system of the bench by.
-SYSTEM = "the bench's first system"
+# What JSON has the first system of the bench by, among what a run was made with.
+SYSTEM = "system"
 # A test with another verdict runs again.
 TAKEN = (PASS, FAIL, NOT_APPLICABLE)
 
 
-def taken(path: str, text: str, tests: Sequence[Test]) -> list[Result]:
-    """The results of these tests that an earlier run has. Their packets are those of its own capture, and are not named here. What looks at all frames
-    of a run looks at those of this one, too, unless it failed there, or nothing else is left to run."""
+def conditions(given: argparse.Namespace, claimed: Mapping[str, bool]) -> dict[str, object]:
+    """What a verdict depends on beside the test: the device and its build, its links, and the settings of the bench. Nothing else may differ where
+    verdicts are taken over."""
+    links: object = given.interfaces
+    if given.memory:
+        links = given.links or MEMORY_LINKS
+    return {
+        "device": given.device, "links": links, "memory": stack(given.memory) if given.memory else "", "hook": given.hook or "", "set": given.set,
+        "flap": given.flap, "pics": dict(claimed), SYSTEM: str(given.system or BASE), "slack": given.slack,
+    }  # fmt: skip
+
+
+def stack(path: str) -> str:
+    """The file of a stack in memory, and which build it is."""
     try:
-        records: list[Mapping[str, Any]] = json.loads(text)["tests"]
-        found = {str(it["id"]): it for it in records if it["verdict"] in TAKEN}
-        over = all(it.id in found for it in tests if it.group != WHOLE_RUN)
-        stays = [it for it in tests if it.id in found and (over or it.group != WHOLE_RUN or found[it.id]["verdict"] == FAIL)]
-        return [of_record(path, it, found[it.id]) for it in stays]
-    except (ValueError, KeyError, TypeError) as why:
+        with open(path, "rb") as it:
+            return f"{path}, SHA-256 {hashlib.sha256(it.read()).hexdigest()}"
+    except OSError as why:
+        raise Refused(f"{path}: {why.strerror}") from why
+
+
+@dataclass(frozen=True)
+class Earlier:
+    """An earlier run: the file of its JSON, the records of its tests, and what it was made with. One in which no test ran has neither."""
+
+    path: str
+    records: Sequence[Mapping[str, Any]]
+    conditions: Mapping[str, Any]
+
+    @property
+    def base(self) -> Optional[Mac]:
+        """The first system of the bench in it, where it says that."""
+        return Mac(self.conditions[SYSTEM]) if SYSTEM in self.conditions else None
+
+
+def earlier(path: str, text: str) -> Earlier:
+    """The run of a file."""
+    try:
+        whole = json.loads(text)
+        if whole.get("format") != FORMAT:
+            raise Refused(f"{path} has format {whole.get('format', 'none')}, and --resume reads {FORMAT}: it is of another version of lagconform")
+        records = [{"id": str(it["id"]), "verdict": str(it["verdict"]), **it} for it in whole["tests"]]
+        found = Earlier(path, records, dict(whole["run"]) if records else {})
+        assert found.base or not records
+        return found
+    except (ValueError, KeyError, TypeError, AttributeError, AssertionError) as why:
         raise Refused(f"{path} is no JSON of a run of lagconform: {type(why).__name__} {why}") from why
 
 
-def base_of(text: str) -> Optional[Mac]:
-    """The first system of the bench in an earlier run, where it says that."""
+def check(before: Earlier, now: Mapping[str, object]) -> None:
+    """Refuses a run of another device, or of the same one under other conditions: its verdicts are not those of this one."""
+    for name, value in now.items() if before.records else ():
+        if before.conditions.get(name) != value:
+            told, wanted = (json.dumps(it) for it in (before.conditions.get(name), value))
+            raise Refused(
+                f"--resume {before.path}: {name} was {told} there, and is {wanted} now. Verdicts are taken over from the same device and build, "
+                "run by the same words, alone"
+            )
+
+
+def taken(before: Earlier, tests: Sequence[Test]) -> list[Result]:
+    """The results of these tests that an earlier run has. Their packets are those of its own capture, and are not named here. What looks at all frames
+    of a run looks at those of this one, too, unless it failed there, or nothing else is left to run."""
+    found = {it["id"]: it for it in before.records if it["verdict"] in TAKEN}
+    over = all(it.id in found for it in tests if it.group != WHOLE_RUN)
+    stays = [it for it in tests if it.id in found and (over or it.group != WHOLE_RUN or found[it.id]["verdict"] == FAIL)]
     try:
-        return Mac(json.loads(text)["about"][SYSTEM])
-    except (ValueError, KeyError, TypeError):
-        return None
+        return [of_record(before.path, it, found[it.id]) for it in stays]
+    except (ValueError, KeyError, TypeError) as why:
+        raise Refused(f"{before.path} is no JSON of a run of lagconform: {type(why).__name__} {why}") from why
 
 
 def of_record(path: str, test: Test, told: Mapping[str, Any]) -> Result:

@@ -124,7 +124,8 @@ class PacketWire:
         """The usual causes where nothing comes."""
         return (
             "LACP is not enabled on the device's port (mode static or off); the cable ends in another port, or a bridge lies between, which forwards no "
-            "frames to 01-80-C2-00-00-02; the device is passive and its link is down at its end"
+            "frames to 01-80-C2-00-00-02; the card of this machine keeps these frames for an LACP or LLDP agent of its own firmware; the device is passive "
+            "and its link is down at its end"
         )
 
     def now(self) -> float:

@@ -15,6 +15,10 @@ class Arrival(NamedTuple):
     octets: bytes
 
 
+# The status of a hook that does not know what it is asked for (EX_USAGE of sysexits.h). Any other one but 0 is an error of the hook.
+UNKNOWN = 64
+
+
 class Answer(NamedTuple):
     """What a hook, or a stack in memory, said: status 0 if it did what it was told to."""
 
@@ -25,7 +29,8 @@ class Answer(NamedTuple):
     def refusal(self, words: Sequence[str]) -> str:
         """That it did not do what these words say, and why not."""
         said = self.said.strip()[-200:]
-        return f"the {self.who} does not do: {' '.join(words)}{f': {said}' if said else ''}"
+        does = "does not do" if self.status == UNKNOWN else f"failed with status {self.status} ({UNKNOWN} means: it does not know the words)"
+        return f"the {self.who} {does}: {' '.join(words)}{f': {said}' if said else ''}"
 
 
 class Gone(Exception):

@@ -125,9 +125,21 @@ def test_what_a_device_does_not_have_is_not_looked_at(run, tmp_path: Path, capsy
     assert "both links may join" in json.loads((tmp_path / "r.json").read_text())["tests"][1]["why"]
 
 
+def test_a_known_fail_that_passes_fails_a_strict_run(run, tmp_path: Path, capsys: pytest.CaptureFixture[str]) -> None:  # type: ignore[no-untyped-def]
+    (tmp_path / "known").write_text("FM-01 was wrong once\nSL-17 of the hook\n")
+    words = ["--only", "FM-0[12]", "--only", "SL-17", "--known", str(tmp_path / "known"), "--junit", "r.xml", "--tap", "r.tap"]
+    for strict, status, errors, point in ((), 0, "0", "ok 1 - FM-01"), (("--strict",), 1, "1", "not ok 1 - FM-01"):
+        assert run(NoData, *words, *strict) == status
+        said = capsys.readouterr().out
+        assert "\nknown fail FM-01 did not fail\n" in said and "SL-17 did not fail" not in said  # which was skipped
+        assert xml.parse(tmp_path / "r.xml").getroot().get("errors") == errors and f"\n{point}" in (tmp_path / "r.tap").read_text()
+    assert [it.get("message") for it in xml.parse(tmp_path / "r.xml").getroot().iter("error")] == ["a known fail that passes: was wrong once"]
+    assert '  message: "a known fail that passes: was wrong once"\n' in (tmp_path / "r.tap").read_text()
+
+
 @pytest.mark.parametrize("text", ["marker-responder", "marker-responder maybe", "speed yes"])
 def test_a_bad_statement_is_refused(text: str) -> None:
-    with pytest.raises(pics.BadPics, match="line 1"):
+    with pytest.raises(pics.BadPics, match=f"line 1: .*the items are {', '.join(pics.ITEMS)}$"):
         pics.parsed(text)
 
 
@@ -304,11 +316,58 @@ def test_a_run_that_never_began_leaves_what_it_was_to_resume(run, tmp_path: Path
     before = (tmp_path / "r.json").read_text()
     monkeypatch.undo()
     monkeypatch.chdir(tmp_path)
-    assert command.main(["none0", "--resume", "./r.json", *WORDS]) == 2
+    assert command.main(["link1", "link2", "--resume", "./r.json", *WORDS]) == 2
     assert (tmp_path / "r.json").read_text() == before and "r.json stays as it was" in capsys.readouterr().err
-    assert f"No test has a result: {NONE}" in (tmp_path / "r.html").read_text()
+    assert f"No test has a result: {NONE.replace('none0', 'link1')}" in (tmp_path / "r.html").read_text()
     assert run(Device, "--only", "FM-0*", "--only", "MK-01", "--resume", "r.json", "--json", "r.json") == 0
     assert json.loads((tmp_path / "r.json").read_text())["counts"]["pass"] == 10
+
+
+@pytest.mark.parametrize(
+    "name, words, links",
+    [
+        ("device", ["--device", "other build"], 2), ("links", [], 1), ("hook", ["--hook", "true"], 2), ("set", ["--hook", "./hook", "--set", "a=c"], 2),
+        ("pics", ["--pics", "pics"], 2), ("system", ["--system", "06:d1:00:00:00:03"], 2), ("flap", ["--flap"], 2), ("slack", ["--slack", "0.3"], 2),
+        ("links", ["--memory"], 0),
+    ],
+)  # fmt: skip
+def test_verdicts_of_another_device_are_not_taken_over(run, name: str, words: list[str], links: int, tmp_path: Path, capsys: pytest.CaptureFixture[str]) -> None:  # type: ignore[no-untyped-def]
+    (tmp_path / "pics").write_text("two-ports no\n")
+    (tmp_path / "device.py").write_text("from conform_device import Device\n")
+    same = ["--hook", "./hook", "--set", "a=b"] if name == "set" else []
+    assert run(Device, "--only", "FM-0*", *same, "--json", "r.json") == 0
+    assert run(Device, "--only", "FM-0*", *same, "--resume", "r.json") == 0
+    words = [*words, "device.py"] if links == 0 else words
+    capsys.readouterr()
+    assert run(Device, "--only", "FM-0*", *words, "--resume", "r.json", links=links) == 2
+    told = capsys.readouterr()
+    assert f"lagconform: --resume r.json: {name} was " in told.err and not told.out
+
+
+@pytest.mark.parametrize("verdict, wants", [("64", SKIPPED), ("255", INCONCLUSIVE), ("127", INCONCLUSIVE)])
+def test_a_hook_that_fails_skips_no_test(verdict: str, wants: str) -> None:
+    with beside(World(Device()), Waits(f"exit {verdict} #")) as b:
+        meet(b)
+        found = [run_one(b, BY_NAME[it]) for it in ("RX-13", "RX-15", "SL-17")]
+        assert [it.verdict for it in found] == [wants] * 3 and not any(it.stuck for it in found)
+        said = [it.why for it in found]
+        assert said[0] == ("the hook does not do: down 1" if wants == SKIPPED else f"the hook failed with status {verdict} (64 means: it does not know the words): down 1")
+        shared = run_one(b, BY_NAME["SL-01"])  # broadcasts take the place of what the hook does not know, and not of what fails
+        assert f"failed with status {verdict}" in shared.why if wants == INCONCLUSIVE else "would show it (the hook does not do: data start)" in shared.why
+
+
+@pytest.mark.parametrize("line, words, why", [
+    ("exit 1 #", [], "the hook failed with status 1 (64 means: it does not know the words): reset"),
+    ("exit 64 #", ["a=b"], "the hook does not do: set a b"), ("exit 64 #", [], ""), ("exit 0 #", ["a=b"], ""),
+])  # fmt: skip
+def test_a_hook_that_fails_before_the_first_test_ends_the_run(line: str, words: list[str], why: str) -> None:
+    given = argparse.Namespace(hook=line, set=words)
+    with beside(World(Device()), Waits(line)) as b:
+        if not why:
+            command.prepare_device(given, b)
+            return
+        with pytest.raises(refusals.Refused, match=f"^--hook {re.escape(f'{line}: {why}')}$"):
+            command.prepare_device(given, b)
 
 
 def test_a_fault_of_the_bench_before_the_first_test_is_no_fail(tmp_path: Path, monkeypatch: pytest.MonkeyPatch, capsys: pytest.CaptureFixture[str]) -> None:
@@ -320,6 +379,13 @@ def test_a_fault_of_the_bench_before_the_first_test_is_no_fail(tmp_path: Path, m
     assert command.main(["link1", *WORDS]) == 2
     told = "the bench has a fault: ZeroDivisionError: of the bench"
     assert json.loads((tmp_path / "r.json").read_text())["about"]["incomplete"] == told and "in stand" in capsys.readouterr().err
+
+
+class NoData(Device):
+    """Its client sends nothing."""
+
+    def data(self, on: bool) -> None:
+        raise NotImplementedError
 
 
 class Waits:
@@ -421,6 +487,14 @@ def test_the_list_has_each_test(capsys: pytest.CaptureFixture[str]) -> None:
     assert command.main(["--list"]) == 0 and command.main(["--list", "--markdown", "--only", "FM-*"]) == 0
 
 
+def test_the_list_has_the_times_of_tests_that_run_again(capsys: pytest.CaptureFixture[str]) -> None:
+    short = [it for it in TESTS if not it.is_long and it.links == 1]
+    assert command.main(["--list", "--repeat", "10"]) == 0
+    assert f"one link: {len(short)} tests, each 10 times, some {round(sum(it.takes for it in short) / 6)} min, at most" in capsys.readouterr().out
+    most = 10 * (listing.most(short) - listing.BEFORE / 60)
+    assert abs(listing.most(short, 10) - listing.BEFORE / 60 - most) <= 11
+
+
 def test_a_list_that_nobody_reads_to_its_end_is_no_error(monkeypatch: pytest.MonkeyPatch, capsys: pytest.CaptureFixture[str]) -> None:
     reading, writing = os.pipe()
     os.close(reading)
@@ -495,6 +569,25 @@ def test_pages_have_the_number_of_tests() -> None:
     newer = f"|{counts[2][0] - 2}|the {counts[2][0]} without TX-10 and TX-11, which are newer|"
     text = page_of("CONFORM.md")
     assert not text or not [it for it in (*rows, newer) if f"{it}\n" not in text]
+
+
+def test_the_page_has_the_keys_of_json_that_stay(run, tmp_path: Path) -> None:  # type: ignore[no-untyped-def]
+    text = page_of("CONFORM.md")
+    if not text:
+        return
+    assert f"JSON has `format`, now {report.FORMAT}. In format {report.FORMAT} these keys stay" in text
+    of_run, of_test, of_list = (re.findall("`([a-z]+)`", re.search(rf"^\|{it}\|(.*)\|$", text, re.M)[1]) for it in ("a run", "each of `tests`", "`--list --json`"))  # type: ignore[index]
+    assert run(Device, "--only", "FM-01", "--json", "r.json") == 0 and command.main(["--list", "--json", "l.json"]) == 0
+    told, tests = (json.loads((tmp_path / it).read_text()) for it in ("r.json", "l.json"))
+    assert set(of_run) == {*told} and set(of_list) == {"format", *tests, *tests["tests"][0]} - {"causes"}
+    assert set(of_test) - {"holds", "text"} <= {*told["tests"][0]} and {*told["tests"][0]["claims"][0]} == {"holds", "text", "packets"}
+    row = next(it for it in tests["tests"] if it["id"] == "MX-03")
+    assert f'"clause": "{row["clause"]}", "title": "{row["title"]}",\n     "rule": "{row["rule"]}", "tolerance": "{row["tolerance"]}", ..' in text
+
+
+def test_the_page_has_a_statement_of_each_item() -> None:
+    lines = re.search(r"^    # device.pics\n(?:    .*\n)+", page_of("CONFORM.md"), re.M)
+    assert not page_of("CONFORM.md") or lines and [*pics.parsed(lines[0])] == [*pics.ITEMS]
 
 
 def test_the_page_says_what_makes_the_counts_differ() -> None:

@@ -18,10 +18,10 @@ SWITCHES = {"eos": "cat", "nxos": "echo"}
 pytestmark = pytest.mark.skipif(not FOLDER.exists(), reason="no examples")
 
 
-def hook(name: str, *words: str, folder: Path) -> tuple[int, str]:
+def hook(name: str, *words: str, folder: Path, **more: str) -> tuple[int, str]:
     """The status of a hook, and what it would run."""
     files = {it: str(folder / it) for it in ("SENDER", "DAEMON", "FIFO")}
-    env = {**os.environ, **files, "RUN": SWITCHES.get(name, "echo"), "LINKS": "x y"}
+    env = {**os.environ, **files, "RUN": SWITCHES.get(name, "echo"), "LINKS": "x y", **more}
     ended = subprocess.run(["sh", str(FOLDER / name), *words], env=env, capture_output=True, text=True, timeout=30)
     return ended.returncode, ended.stdout
 
@@ -29,6 +29,7 @@ def hook(name: str, *words: str, folder: Path) -> tuple[int, str]:
 @pytest.mark.parametrize("name", [*HOOKS, *SWITCHES])
 def test_a_hook_says_what_it_does_not_know(name: str, tmp_path: Path) -> None:
     assert hook(name, "dance", folder=tmp_path)[0] == 64
+    assert hook(name, "data", "dance", folder=tmp_path)[0] == 64
     assert hook(name, "set", "speed", "9", folder=tmp_path)[0] == 64
     assert hook(name, "reset", folder=tmp_path) == (0, "")
 
@@ -50,7 +51,7 @@ def test_a_hook_takes_links_down_and_up(name: str, tmp_path: Path) -> None:
         ("teamd", "start", "ip link set x down\nip link set y down\nteamd -d -t team0 -c "),
         ("teamd", "stop", "teamd -k -t team0\n"),
         ("openvswitch", "start", "ovs-vsctl --may-exist add-br br0 -- --may-exist add-bond br0 bond0 x y lacp=active "),
-        ("openvswitch", "stop", "ovs-vsctl --if-exists del-port br0 bond0\n"),
+        ("openvswitch", "stop", "ovs-vsctl del-port br0 bond0\n"),
     ],
 )
 def test_a_hook_starts_and_ends_lacp(name: str, word: str, begins: str, tmp_path: Path) -> None:
@@ -73,6 +74,54 @@ def test_a_switch_gets_its_lines(name: str, words: str, lines: list[str], tmp_pa
     status, told = hook(name, *words.split(), folder=tmp_path)
     assert (status, told.splitlines()) == (0, lines)
     assert hook(name, "data", "start", folder=tmp_path)[0] == 64
+
+
+@pytest.mark.parametrize("name, words", [
+    *((name, words) for name in HOOKS if name != "testpmd" for words in ("down 1", "up 2", "stop")),
+    *((name, words) for name in ("bonding", "teamd", "openvswitch") for words in ("start",)),
+    *((name, "data start") for name in HOOKS), ("testpmd", "stop"), ("testpmd", "start"),
+    *((name, words) for name in SWITCHES for words in ("start", "stop", "down 1", "up 2", "set short no")),
+])  # fmt: skip
+def test_a_hook_whose_commands_fail_fails(name: str, words: str, tmp_path: Path) -> None:
+    status, said = hook(name, *words.split(), folder=tmp_path, RUN="false")
+    assert status not in (0, 64), said
+
+
+@pytest.mark.parametrize("name", ["bonding", "lagd", "teamd", "openvswitch"])
+def test_a_hook_takes_no_link_down_that_is_not_there(name: str, tmp_path: Path) -> None:
+    assert hook(name, "down", "2", folder=tmp_path, LINKS="x") == (1, f"{FOLDER / name}: there is no link 2 in LINKS\n")
+
+
+@pytest.mark.parametrize("name", SWITCHES)
+def test_a_line_that_a_switch_refuses_fails(name: str, tmp_path: Path) -> None:
+    (tmp_path / "switch").write_text("cat > /dev/null; echo '% Invalid input'\n")
+    status, said = hook(name, "down", "1", folder=tmp_path, RUN=f"sh {tmp_path / 'switch'}")
+    assert (status, said) == (1, "% Invalid input\n")
+
+
+# Stands for a device with lagd: the file of the interface is there while lagd runs.
+DEVICE = """
+case "$1 $2" in
+    'ip link') [ -e {0}/client ] ;;
+    'lagd '*) {1} touch {0}/client; trap 'rm {0}/client; exit 0' TERM; while :; do sleep 0.1; done ;;
+esac
+"""
+
+
+def test_lagd_is_started_and_ended_by_its_hook_alone(tmp_path: Path) -> None:
+    run = {"RUN": f"sh {tmp_path / 'device'}"}
+    (tmp_path / "device").write_text(DEVICE.format(tmp_path, ""))
+    assert hook("lagd", "start", folder=tmp_path, **run) == (0, "") and (tmp_path / "client").exists()
+    status, said = hook("lagd", "start", folder=tmp_path, **run)
+    assert status == 1 and "lag0 is there already" in said
+    assert hook("lagd", "stop", folder=tmp_path, **run) == (0, "") and not (tmp_path / "client").exists()
+    status, said = hook("lagd", "stop", folder=tmp_path, **run)
+    assert status == 1 and "it has started no lagd" in said
+    (tmp_path / "device").write_text(DEVICE.format(tmp_path, "echo no such interface; exit 2;"))
+    status, said = hook("lagd", "start", folder=tmp_path, **run)
+    assert status == 1 and said.endswith("lagd has ended: no such interface\n")
+    status, said = hook("lagd", "stop", folder=tmp_path, **run)
+    assert status == 1 and "the lagd that it started is gone" in said
 
 
 def test_the_flows_are_those_that_the_bench_counts() -> None:

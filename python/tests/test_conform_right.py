@@ -226,7 +226,7 @@ def test_junit_is_xml_whatever_a_text_has() -> None:
     device = Device()
     b = Bench(World(device))
     found = Result(BY_NAME["FM-01"], FAIL, why="\x1b[31mred\x00\ufffe\ud800", notes=["\x07"])
-    text = junit.as_junit(report.Run(b, {"device": "a\x08b"}, [found]))
+    text = junit.as_junit(report.Run(b, {"device": "a\x08b"}, {}, [found]))
     assert xml.fromstring(text.encode()).get("name") == "a\ufffdb"
     b.close()
     device.stop()

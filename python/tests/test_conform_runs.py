@@ -20,7 +20,7 @@ from conform_faults import CutOff, KeyUnchecked, PartnerLength, RestartsOnChange
 from conform_frames import OtherId, VersionChecked
 from conform_machines import NoNtt
 
-from lagconform import causes, child, command, floods, matrix, memory
+from lagconform import causes, child, command, floods, matrix, memory, report
 from lagconform.bench import Bench
 from lagconform.groups import TESTS
 from lagconform.model import CAVEAT, FAIL, INCONCLUSIVE, NOT_APPLICABLE, PASS, SKIPPED, SURE, Claim, Result
@@ -249,8 +249,13 @@ def test_a_run_goes_on_where_another_one_ended(run, tmp_path: Path, capsys: pyte
     assert said.startswith("6 tests on 3 links") and said.endswith(f"15 pass, 1 fail{LAST}")
     told = {it["id"]: it for it in json.loads((tmp_path / "two.json").read_text())["tests"]}
     assert len(told) == 16 and told["RX-07c"]["notes"] == ["of the run in one.json"] and told["RX-07c"]["verdict"] == "fail"
-    (tmp_path / "bad.json").write_text("[]")
-    assert run(Device, "--resume", "bad.json") == 2 and "is no JSON of a run" in capsys.readouterr().err
+    assert run(Device, "--only", "FM-0*", "--only", "RX-07*", "--resume", "one.json") == 2  # another stack in a file of that name
+    assert re.search("one.json: memory was .device.py, SHA-256 .* Verdicts are taken over from the same device and build", capsys.readouterr().err)
+    for text, why in ("[]", "is no JSON of a run"), ('{"format": 1}', "is no JSON of a run"), ('{"tests": []}', "has format none, and --resume reads 1"):
+        (tmp_path / "bad.json").write_text(text)
+        assert run(Device, "--resume", "bad.json") == 2 and why in capsys.readouterr().err
+    (tmp_path / "nothing.json").write_text(report.json_of_nothing({"incomplete": "it was killed"}))
+    assert run(Device, "--only", "FM-01", "--resume", "nothing.json") == 0
 
 
 def test_the_page_begins_with_what_failed(run, tmp_path: Path) -> None:  # type: ignore[no-untyped-def]
@@ -297,7 +302,8 @@ def test_what_a_device_tells_wrong_on_one_link_is_told_with_the_link(bench) -> N
 def test_a_list_is_written_as_json(tmp_path: Path, monkeypatch: pytest.MonkeyPatch) -> None:
     assert command.main(["--list", "--json", str(tmp_path / "l.json"), "--not", "IV-*"]) == 0
     told = json.loads((tmp_path / "l.json").read_text())
-    assert {it["id"] for it in told} == {it.id for it in TESTS if it.group != "IV"} and told[0]["clause"] == "6.4.2.2, 6.2.10.1"
+    assert {it["id"] for it in told["tests"]} == {it.id for it in TESTS if it.group != "IV"} and told["tests"][0]["clause"] == "6.4.2.2, 6.2.10.1"
+    assert told["format"] == report.FORMAT
 
 
 @pytest.mark.parametrize("words, why", [(["--memory", "x.py", "eth0"], "--memory wants no interface"), (["--memory", "none.py"], "No such file"), (["--memory", "none.so"], "none.so")])
@@ -365,12 +371,14 @@ def linked_to(example: str) -> list[str]:
 
 @needs_library
 @pytest.mark.parametrize("example", ["device.c", "device_pool.c"])
-def test_the_example_in_c_passes_all(example: str, tmp_path: Path, capsys: pytest.CaptureFixture[str]) -> None:
+def test_the_example_in_c_passes_all(example: str, tmp_path: Path, capsys: pytest.CaptureFixture[str], monkeypatch: pytest.MonkeyPatch) -> None:
     made = str(tmp_path / "device.so")
     line = ["cc", "-Wall", "-Wextra", "-Wconversion", "-Werror", "-shared", "-fPIC", f"-I{HEADER}", "-o", made, str(EXAMPLES / example)]
     subprocess.run([*line, *linked_to(example)], check=True)
     assert command.main(["--memory", made, "--strict"]) == 0
     assert f"\n{len(TESTS) - 1} pass, 0 fail, 1 not applicable{LAST}" in capsys.readouterr().out
+    monkeypatch.chdir(tmp_path)
+    assert command.main(["--memory", "device.so", "--only", "FM-01"]) == 0
 
 
 def test_a_fail_that_the_profile_does_not_carry_has_a_mark(run, tmp_path: Path, capsys: pytest.CaptureFixture[str]) -> None:  # type: ignore[no-untyped-def]
