@@ -23,8 +23,8 @@ struct loop {
     struct { uint32_t when[RESPONSES]; unsigned oldest; } responses[PORTS + 1];
 };
 
-/* What the program gives. `chip_next`: the oldest frame to 01-80-C2-00-00-02 that waits, without its FCS and the tag of the chip; or NULL. A port that is
- * blocked passes control frames alone. `chip_flush` forgets what was learned on a LAG. */
+/* What the program gives. `chip_next`: the oldest frame to 01-80-C2-00-00-02 that waits, without its FCS and the tag of the chip; or NULL. Its octets stay
+ * until the next `chip_next`. A port that is blocked passes control frames alone. `chip_flush` forgets what was learned on a LAG. */
 static const uint8_t *chip_next(struct loop *here, uint16_t *port, size_t *length);
 static void chip_send(struct loop *here, uint16_t port, const uint8_t *frame, size_t length);
 static void chip_block(struct loop *here, uint32_t ports, bool blocked);
@@ -115,16 +115,18 @@ static void pass(struct loop *here, uint32_t ticks) {
     part(here);
 }
 
-/* What the task does when a frame waits, and each 100 ms. Frames that waited while it stood still come before the ticks that it missed, lest a partner
- * expire whose LACPDU is there. */
-static inline void turn(struct loop *here, uint32_t ticks) {
+/* What the task does when a frame waits, and each 100 ms; answers whether frames may still wait, for another turn of 0 ticks. Frames that waited while it
+ * stood still come before the ticks that it missed, lest a partner expire whose LACPDU is there. */
+static inline bool turn(struct loop *here, uint32_t ticks) {
     uint16_t port;
     size_t length;
     const uint8_t *frame;
+    unsigned taken = 0;
     if (ticks == 1) pass(here, ticks);
-    for (unsigned taken = 0; taken < FRAMES_TURN && (frame = chip_next(here, &port, &length)); taken++) take(here, port, frame, length);
+    for (; taken < FRAMES_TURN && (frame = chip_next(here, &port, &length)); taken++) take(here, port, frame, length);
     if (ticks > 1) pass(here, ticks);
     settle(here);
+    return taken == FRAMES_TURN;
 }
 
 static inline void set_link(struct loop *here, uint16_t port, bool up) {
@@ -151,6 +153,14 @@ static inline void leave(struct loop *here, uint16_t port) {
     here->leaving |= bit_of(port);
     here->left[port] = here->ticks;
     settle(here);
+}
+
+/* Why a port passes no data, for a log: that it is held niw_port_status says, too, but not why. */
+static inline const char *why_out(struct loop *here, uint16_t port) {
+    if ((here->alone | here->leaving) & bit_of(port)) return "it is in no LAG";
+    if (!(here->up & bit_of(port))) return "its link is down";
+    if (niw_defaulted(&here->system, port).is) return "no LACPDU comes";
+    return niw_port_status_text(niw_port_status(&here->system, port).number);
 }
 
 /* Makes the system of these ports, which have no key of a LAG and are alone; the chip blocks none. */

@@ -25,7 +25,7 @@ struct box {
     uint32_t trunk[LAGS];
     uint32_t blocked;
     struct trapped wait[48]; /* a ring of the frames that the chip trapped */
-    unsigned first, waiting;
+    unsigned first, waiting, lent; /* `lent`: 1: the loop reads the first one */
 };
 
 static struct box one, two;
@@ -49,10 +49,11 @@ static void look(const struct loop *here) {
 
 static const uint8_t *chip_next(struct loop *here, uint16_t *port, size_t *length) {
     struct box *box = box_of(here);
-    if (box->waiting == 0) return NULL;
+    box->first = (box->first + box->lent) % (unsigned)(sizeof box->wait / sizeof *box->wait);
+    box->waiting -= box->lent;
+    box->lent = box->waiting > 0;
+    if (!box->lent) return NULL;
     const struct trapped *oldest = &box->wait[box->first];
-    box->first = (box->first + 1) % (unsigned)(sizeof box->wait / sizeof *box->wait);
-    box->waiting--;
     *port = oldest->port, *length = oldest->length;
     return oldest->octets;
 }
