@@ -1,6 +1,6 @@
 """The wrong definitions that the prover refuses: those of the laws of systems and of progress, and those that operators make.
 
-What crates kept in out/ is used, and what is not kept is proved first. An edit of lagprogress may make a definition of a crate below
+What crates kept in out/ is used, and what is not kept is proved first. An edit of lagnetwork or lagprogress may make a definition of a crate below
 wrong, with the body that meets it: that crate has to be proved still.
 """
 
