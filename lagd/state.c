@@ -24,7 +24,7 @@
 #define MOST_AWAY 3000
 /* How often a copy is written while the same ports would go on from it, in milliseconds: the oldest one that is of use is 90 s old. */
 #define COPIED_EVERY 10000
-/* How long a daemon that ends waits for who writes a copy, and then for who writes the last one, in milliseconds. */
+/* How long a daemon that ends waits for who writes a copy, for the kernel to make who writes the last one, and for that one, in milliseconds. */
 #define MOST_COPYING 500
 /* Of Linux 5.9, and not in older headers. */
 #ifndef SYS_close_range
@@ -219,7 +219,7 @@ static void note_copy(struct state *own, struct copied copied) {
     const char *folder = own->carry->settings->state_dir;
     bool failed = copied.written < 0 || copied.removed < 0;
     if (copied.written < 0 && !own->copy_failed)
-        (void)say(process, LOG_WARNING | ABOUT_HANDOVER, "its state cannot be kept in %s, so a start after a reboot begins anew: %s", folder,
+        (void)say(process, LOG_WARNING | ABOUT_HANDOVER, "its state cannot be kept in %s, and what is there may stay: %s", folder,
             fault_text(copied.written));
     if (!own->copy_failed) note_removal(process, own->copy_name, copied.removed);
     if (own->copy_failed && !failed) (void)say(process, LOG_NOTICE | ABOUT_HANDOVER, "its state can be kept in %s again", folder);

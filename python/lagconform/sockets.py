@@ -20,7 +20,7 @@ from niwhopera import Mac
 
 from .model import NotHere
 from .pdus import BROADCAST_TYPE, DATA, GROUP, SENDERS, SLOW
-from .refusals import read_file
+from .refusals import Refused, read_file
 from .wires import Answer, Arrival, Gone
 
 # Numbers of Linux that the socket module does not name.
@@ -89,6 +89,17 @@ def opened(name: str, index: int) -> socket.socket:
     return it
 
 
+def locked(name: str, index: int) -> socket.socket:
+    """Keeps any other lagconform of this network namespace from an interface until the socket is closed: two give each other false verdicts."""
+    it = socket.socket(socket.AF_UNIX, socket.SOCK_DGRAM)
+    try:
+        it.bind(f"\0lagconform {index}")
+    except OSError as why:
+        it.close()
+        raise Refused(f"{name} is held by another lagconform: end it first") from why
+    return it
+
+
 def tag(more: Sequence[tuple[int, int, bytes]]) -> bytes:
     """The VLAN tag that the kernel took out of a frame; nothing where it had none."""
     for level, kind, told in more:
@@ -106,7 +117,9 @@ class PacketWire:
         self.names = list(names)
         self._indices = [socket.if_nametoindex(it) for it in names]
         self._sockets: list[socket.socket] = []
+        self._locks: list[socket.socket] = []
         try:
+            self._locks += (locked(*it) for it in zip(self.names, self._indices))
             self._sockets += (opened(*it) for it in zip(self.names, self._indices))
         except BaseException:
             self.close()
@@ -116,7 +129,7 @@ class PacketWire:
 
     def close(self) -> None:
         """Closes the sockets."""
-        for it in self._sockets:
+        for it in (*self._sockets, *self._locks):
             it.close()
 
     @property

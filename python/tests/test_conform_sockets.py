@@ -11,6 +11,8 @@ from pathlib import Path
 
 import pytest
 
+from lagconform import sockets
+from lagconform.refusals import Refused
 from lagconform.sockets import Command
 from lagconform.wires import Answer
 
@@ -159,3 +161,12 @@ def test_a_hook_that_is_ended_takes_its_children_along(tmp_path: Path) -> None:
     while stat.exists() and stat.read_text().split()[2] != "Z":
         assert time.monotonic() < limit
         time.sleep(0.01)
+
+
+def test_an_interface_is_one_bench_s() -> None:
+    held = sockets.locked("eth1", 77)
+    with pytest.raises(Refused, match="eth1 is held by another lagconform"):
+        sockets.locked("eth1", 77)
+    sockets.locked("eth2", 78).close()
+    held.close()
+    sockets.locked("eth1", 77).close()

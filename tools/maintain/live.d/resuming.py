@@ -327,7 +327,7 @@ def full_disk(part: Part, theirs: Daemon, kept: str) -> None:
     """A disk that has room for the lock, and for no copy."""
     ours = part.ours(options=["--timeout", "long", "--state-dir", kept])
     both_up(ours, theirs, "both links come to distribute")
-    line = f"its state cannot be kept in {kept}, so a start after a reboot begins anew: No space left on device"
+    line = f"its state cannot be kept in {kept}, and what is there may stay: No space left on device"
     check(within(COPIED, lambda: line in ours.printed()), "a copy that cannot be written has a line", ours.printed())
     command("mount", "-o", "remount,nr_inodes=100", kept)
     check(within(RENEWED, lambda: carried_in(f"{kept}/a0.state") == ["1", "1"]), "it is tried again", ours.printed())
