@@ -11,13 +11,13 @@ import signal
 import subprocess
 from typing import Callable
 
+import usermode
 from built import HOSTS, REFUSE, UNDEFINED, Built
 from checking import Failed, Skipped, check
-from repository import MAINTAIN, TOP
+from repository import TOP
 from switches import words_of
 
 TESTS = os.path.join(HOSTS, "teamd", "tests")
-REGISTERS = os.path.join(MAINTAIN, "hosts.d", "registers.c")
 # How long a guest may take, in seconds.
 LONGEST = {"conform": 2400, "speed": 5400, "many": 3600}
 USUAL, UNDER_VALGRIND = 1200, 3600
@@ -75,7 +75,7 @@ def guest(built: Built, script: str, program: str, name: str, *more: str) -> str
     linux = f"{built.sources.cache}/unpacked/user-mode-linux/usr/bin/linux.uml"
     said = ["mem=1024M", "root=/dev/root", "rootfstype=hostfs", "rootflags=/", "ro", f"init={TESTS}/init", f"uml_dir={own}", "con=null", "con0=null,fd:1", "ssl=null", "panic=-1", "quiet"]
     said += [f"SCRIPT={script}", f"TEAMD={name}", f"PLACE={folder}", f"TESTS={TESTS}", f"PROJECT={TOP}", *more]
-    run = subprocess.Popen([linux, *said], stdin=subprocess.DEVNULL, stdout=subprocess.PIPE, stderr=subprocess.DEVNULL, start_new_session=True, env={**os.environ, "LD_PRELOAD": built.loaded("registers", REGISTERS)})
+    run = subprocess.Popen([linux, *said], stdin=subprocess.DEVNULL, stdout=subprocess.PIPE, stderr=subprocess.DEVNULL, start_new_session=True, env=usermode.environment(built.folder))
     try:
         told, _ = run.communicate(timeout=UNDER_VALGRIND if SLOW in more else LONGEST.get(script, USUAL))
     except subprocess.TimeoutExpired as why:

@@ -7,6 +7,7 @@ import signal
 import socket
 import subprocess
 
+import usermode
 from fetched import Kernel
 from guest import MACS, PLACES, Guest, Line
 from tree import put
@@ -48,7 +49,8 @@ class Native(Guest):
                  "init=/usr/local/sbin/native-init", f"modules={kernel.modules}", f"over={folder}/over", f"uml_dir={folder}/", "con=null",
                  "con0=null,fd:1", "ssl=null", f"ssl1=fd:{far.fileno()}", "systemd.show_status=0"]  # fmt: skip
         with open(f"{folder}/console", "wb") as out:
-            self.process = subprocess.Popen(words, stdin=subprocess.DEVNULL, stdout=out, stderr=out, pass_fds=[far.fileno()], start_new_session=True)
+            self.process = subprocess.Popen(words, stdin=subprocess.DEVNULL, stdout=out, stderr=out, pass_fds=[far.fileno()], start_new_session=True,
+                                            env=usermode.environment(folder))
         far.close()
         self.shell = Line(near)
 

@@ -9,6 +9,7 @@ import signal
 import subprocess
 import time
 
+import usermode
 from checking import Failed, Skipped, command
 from fetching import Packages
 from peer import pipes
@@ -91,7 +92,7 @@ class Guest:
         words += [f"vec{place}:transport=raw,ifname={name},depth=64,gro=0" for place, name in enumerate(LINKS)]
         with open(f"{self.folder}/log", "w", encoding="utf-8") as log:
             pipe = subprocess.PIPE
-            self.process = subprocess.Popen(words, start_new_session=True, stdin=pipe, stdout=pipe, stderr=log)
+            self.process = subprocess.Popen(words, start_new_session=True, stdin=pipe, stdout=pipe, stderr=log, env=usermode.environment(self.folder))
         self.run("true")
 
     def run(self, *words: str) -> str:
