@@ -15,6 +15,8 @@
 
 #include "loop.h"
 
+_Static_assert(sizeof(void *) != 4 || sizeof(struct loop) == 28 + 4 * LAGS + 48 * (PORTS + 1), "docs/FIRMWARE.md tells this size");
+
 static _Alignas(16) uint8_t room[2 * NIW_MEMORY(PORTS, LAGS, ROWS)];
 
 struct trapped { uint16_t port; size_t length; uint8_t octets[NIW_FRAME]; };

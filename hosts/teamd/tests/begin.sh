@@ -73,7 +73,8 @@ trip() { # NAME SECONDS COMMAND..
 lost_few() { # NAME MOST LOST
     if [ "$3" -gt "$2" ] && [ $LATE -ge 200 ]; then echo "row: inconclusive, the machine was up to $LATE ms late: $1"; else is "$1" yes "$([ "$3" -le "$2" ] && echo yes || echo "$3")"; fi
 }
-# Whether nothing was lost. The peer stops a link that is silent for longer than 2 s: a second passes between two LACPDUs, and its timeout is 3 s.
+# Whether nothing was lost. The peer stops a link that is silent for longer than 2 s: a second passes between two LACPDUs, and its timeout is 3 s. With other
+# timeouts BEARS is how long it bears, in ms.
 lost_none() {
-    if [ "$LOST" != "0 0" ] && [ $((AWAY + LATE)) -ge 2000 -o $SPARE -lt 500 ]; then echo "row: inconclusive, the machine was too slow: $1"; else is "$1" "0 0" "$LOST"; fi
+    if [ "$LOST" != "0 0" ] && [ $((AWAY + LATE)) -ge ${BEARS:-2000} -o $SPARE -lt 500 ]; then echo "row: inconclusive, the machine was too slow: $1"; else is "$1" "0 0" "$LOST"; fi
 }

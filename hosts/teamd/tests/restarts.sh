@@ -12,3 +12,10 @@ N=1; begin; until_state "$BOTH" 10; sleep 1
 for k in 1 2 3; do trip "SIGTERM with -N, -o -N" 8 '$T -k -t team0; take'; lost_none "a clean restart loses nothing ($k)"; done
 until_state "$BOTH" 10; is "both carry in the end" "$BOTH" "$(state)"
 N=; end
+# With long timeouts at both ends a peer waits for 90 s, and an LACPDU goes every 30 s.
+ip -n far link del bond0; bond slow; FAST=false BEARS=58000; begin; until_state "$BOTH" 10; sleep 1
+trip "long timeouts, SIGKILL, -o after 25 s" 35 'kill_it; sleep 25; take'; lost_none "with long timeouts a teamd that was killed is followed without loss 25 s later"
+is "both carry after those" "$BOTH" "$(state)"
+trip "long timeouts, SIGKILL, -o after 50 s" 60 'kill_it; sleep 50; take'; lost_none "the same 50 s later"
+is "both carry after these" "$BOTH" "$(state)"
+end
