@@ -23,8 +23,6 @@ CARDS = {"virtio": "virtio-net-pci,speed=10000,duplex=full", "e1000e": "e1000e",
 # A card that has a queue for each processor gets two. Others get one: of more each waits for the others, for most of qemu's time.
 CARD_PROCESSORS = {"vmxnet3": 2}
 NAMED = "[Match]\nPermanentMACAddress={mac}\n[Link]\nName={name}\n"
-# How qemu runs a guest: `kvm` takes a processor of this machine, and its clock.
-ACCEL = os.environ.get("ACCEL", "tcg")
 # For how many seconds of this machine qemu may take to start.
 STARTS = 120
 APPEND = "console=ttyS0 clocksource=tsc tsc=reliable net.ifnames=0 mitigations=off quiet panic=-1 systemd.show_status=0"
@@ -70,11 +68,8 @@ class Emulated(Guest):
     def words(self, kernel: Kernel, image: str) -> list[str]:
         """What qemu is called with."""
         memory = os.environ.get("MEMORY", "512")
-        if ACCEL == "kvm":
-            words = ["-M", "q35,accel=kvm", "-cpu", "host"]
-        else:
-            words = ["-M", "q35,accel=tcg", "-cpu", os.environ.get("CPU", "max"), "-icount", f"shift={os.environ.get('SHIFT', '0')},sleep=on"]
-        words += ["-smp", self.processors, "-m", memory, "-nodefaults", "-display", "none", "-no-reboot", "-kernel", kernel.image, "-initrd", f"{self.folder}/initramfs", "-append", APPEND]
+        words = ["-M", "q35,accel=tcg", "-cpu", os.environ.get("CPU", "max"), "-smp", self.processors, "-m", memory]
+        words += ["-icount", f"shift={os.environ.get('SHIFT', '0')},sleep=on", "-nodefaults", "-display", "none", "-no-reboot", "-kernel", kernel.image, "-initrd", f"{self.folder}/initramfs", "-append", APPEND]
         # Nobody writes these files. A guest of UML locks what it reads, so that qemu would not open it.
         for file in image, kernel.modules:
             words += ["-drive", f"file={file},file.locking=off,if=virtio,format=raw,snapshot=on"]
