@@ -75,6 +75,8 @@ class Bench:
         # Which of our six parameters the device tells wrong: tests go by the rest. What was found before the first test, it tells.
         self.mistold: set[str] = set()
         self.untold: list[str] = []
+        # The tests whose frames those look at that look at all frames of the run.
+        self.ran: set[str] = set()
         # The tests in which a stack in memory broke, and was started again.
         self.broke: list[str] = []
         # What the device claims of itself (--pics).

@@ -56,6 +56,9 @@ KINDS = {"RX-07": 6, "TX-02": 6, "TX-03": 3}
 def above(it: Result, failed: dict[str, Result]) -> list[str]:
     """The fails that explain one, nearest first."""
     test = it.test
+    if it.crashed:
+        first = next(name for name, one in failed.items() if one.crashed == it.crashed)
+        return [first] if first != test.id else []
     unread = [name for name in FORMS if name in failed and UNREAD in failed and test.group != "FM"]
     named = [name for name in test.causes if name in failed and name != test.id]
     few = [name for name in FEW if lateness(it) is not None and name in failed and test.id not in FEW]
@@ -89,7 +92,7 @@ def grouped(results: Sequence[Result]) -> list[Cause]:
     for name, it in rest.items():
         if (of := root(name, rest)) != name:
             roots[of].append(it)
-    return [*found, *(Cause(name, f"{name} {rest[name].test.title}", tuple(more), rest[name]) for name, more in roots.items())]
+    return [*found, *(Cause(name, f"{name} {rest[name].crashed or rest[name].test.title}", tuple(more), rest[name]) for name, more in roots.items())]
 
 
 def told(results: Sequence[Result]) -> list[str]:

@@ -17,12 +17,13 @@ from niwhopera._library import functions, library_text
 
 from . import capture, files, junit, known, matrix, own, page, pics, report
 from .bench import BASE, Bench, HookFailed
+from .edition import edition
 from .files import are_same, read_text, tell, undisturbed, written
 from .groups import GROUPS, TESTS
 from .listing import as_markdown, as_text
 from .memory import World, loaded
 from .model import CAVEAT, FAIL, INCONCLUSIVE, PASS, Result, Test
-from .options import MEMORY_LINKS, check_words, reader, selected
+from .options import MEMORY_LINKS, SEED, check_words, reader, selected
 from .pdus import number_of
 from .refusals import MOST_LINKS, Refused, check_interfaces
 from .report import Run
@@ -34,6 +35,8 @@ from .wires import UNKNOWN, Gone
 
 # The statuses of a shell that cannot run a command.
 NO_COMMAND = {126: "may not run it", 127: "does not find it"}
+# The status of a run beside a device that never spoke.
+SILENT = 3
 # What a report has the first system of the bench by.
 SYSTEM = "the bench's first system"
 
@@ -77,7 +80,7 @@ def about(given: argparse.Namespace, b: Bench, results: Sequence[Result]) -> dic
     """What the run was."""
     begun = moment(b.wire.started)
     late = max((it.late for it in results), default=0.0)
-    told = {"device": given.device, **report.about_device(b), "begun": begun, "slack": f"{given.slack:g} s, beside the 0.25 s of a timer (6.4.4)"}
+    told = {"device": given.device, **edition(), **report.about_device(b), "begun": begun, "slack": f"{given.slack:g} s, beside the 0.25 s of a timer (6.4.4)"}
     told[SYSTEM] = str(b.base)
     told.update({"the bench was late": f"{late:.3f} s at most", "seed": str(given.seed), "rules": CAVEAT})
     told.update({"the stack broke": f"and was started again {number_of(len(b.broke), 'time')}, in {', '.join(b.broke)}"} if b.broke else {})
@@ -106,7 +109,7 @@ def write_all(given: argparse.Namespace, run: Run) -> bool:
 def write_nothing(given: argparse.Namespace, why: str, over: bool = False) -> None:
     """Has the reports say that no test ran: what stands there of a run before would pass for this one. With `over` only those that are there do.
     A file that --resume reads stays, and so do captures."""
-    told = {"device": given.device, "begun": moment(time.time()), "incomplete": why}
+    told = {"device": given.device, **edition(), "begun": moment(time.time()), "incomplete": why}
     reports: list[tuple[Optional[str], Callable[[], bytes]]] = [
         (given.json, lambda: report.json_of_nothing(told).encode()),
         (given.junit, lambda: junit.junit_of_nothing(given.device, why).encode()),
@@ -241,9 +244,11 @@ def planned(given: argparse.Namespace) -> Plan:
     tests = selected(given.only, given.long or bool(given.memory), links, given.left_out)
     claimed = pics.parsed(read_text(given.pics)) if given.pics else {}
     reasons = known.parsed(read_text(given.known), (it.id for it in TESTS)) if given.known else {}
-    if not given.resume:
+    before = earlier(given.resume, read_text(given.resume, files.MOST_OF_A_RUN)) if given.resume else None
+    if given.seed is None:
+        given.seed = before.conditions.get("seed", SEED) if before else SEED  # random frames are those that the run had
+    if not before:
         return Plan(tests, claimed, reasons, conditions(given, claimed))
-    before = earlier(given.resume, read_text(given.resume, files.MOST_OF_A_RUN))
     given.system = given.system or before.base  # the bench goes on with the system that it had
     plan = Plan(tests, claimed, reasons, conditions(given, claimed), taken(before, tests))
     check(before, plan.conditions)
@@ -281,7 +286,7 @@ def main(words: Optional[Sequence[str]] = None) -> int:
         told = f"{file}: {why}" if file else str(why)
         print(f"lagconform: {told}", file=sys.stderr)
         write_nothing(given, told)
-        return 2
+        return SILENT if isinstance(why, NoDevice) else 2
     except KeyboardInterrupt:
         write_nothing(given, "interrupted before the first test")
         return 130

@@ -6,6 +6,7 @@ import math
 from typing import Sequence
 
 from .bench import HOOK_SECONDS, SOON
+from .edition import edition
 from .model import CAVEAT, Test
 from .pdus import number_of
 from .runner import MEETS
@@ -27,7 +28,12 @@ def as_text(tests: Sequence[Test], titles: dict[str, str], repeat: int = 1) -> s
     for group in dict.fromkeys(it.group for it in tests):
         out += ["", f"{group}  {titles[group]}"]
         out += [f"  {it.id:7} {it.clause:34} {it.title}{marks(it)}" for it in tests if it.group == group]
-    return "\n".join([*out[1:], "", number_of(len(tests), "test"), *times(tests, repeat)])
+    return "\n".join([*out[1:], "", number_of(len(tests), "test"), *times(tests, repeat), spoken_of()])
+
+
+def spoken_of() -> str:
+    """The editions of the standard and of the tests, as a line."""
+    return "; ".join(f"{name}: {text}" for name, text in edition().items())
 
 
 # So long a device is waited for before the first test, at most: the hook, the first LACPDUs, and what it tells in them.
@@ -53,7 +59,7 @@ def times(tests: Sequence[Test], repeat: int = 1) -> list[str]:
 
 def as_markdown(tests: Sequence[Test], titles: dict[str, str]) -> str:
     """Tests as tables of Markdown."""
-    out = [f"# lagconform: {number_of(len(tests), 'test')}", "", f"Made by `lagconform --list --markdown`. {CAVEAT}"]
+    out = [f"# lagconform: {number_of(len(tests), 'test')}", "", f"Made by `lagconform --list --markdown`; {spoken_of()}. {CAVEAT}"]
     for group in dict.fromkeys(it.group for it in tests):
         out += ["", f"## {group}: {titles[group]}", "", HEADS, "|---|---|---|---|---|---|---|"]
         for it in tests:

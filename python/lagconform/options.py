@@ -20,11 +20,13 @@ from .runner import ordered
 
 # So many links a stack in memory has: what each test wants.
 MEMORY_LINKS = 3
+# The seed of random frames.
+SEED = 1
 ABOUT = """Tests a device which runs LACP at the far end of one to four cables, by frames alone.
 
 It prints a line for each test, and in the end the count of each verdict. The status is 0 if nothing failed but what --known has, 1 if
 something did (with --strict also if a test came to no answer, or a known fail passes), 2 if the bench could not run to its end, a report
-could not be written, or no test came to pass or fail, and 130 after SIGINT. It wants CAP_NET_RAW, and the interfaces for itself: in no bond, in no
+could not be written, or no test came to pass or fail, 3 if the device sent no LACPDU before the first test, and 130 after SIGINT. It wants CAP_NET_RAW, and the interfaces for itself: in no bond, in no
 bridge, and with no other program that speaks LACP there.
 
 With --memory it wants none of these: the device is a stack in a file, and a run of all tests, the long ones too, takes seconds.
@@ -128,7 +130,7 @@ def add_tests(it: argparse.ArgumentParser) -> None:
     it.add_argument("--strict", action="store_true", help="a test without an answer, and a known fail that passes, count as fails, in JUnit and TAP, too")
     it.add_argument("--keep-going", action="store_true", help="go on where five tests in turn came to nothing")
     it.add_argument("--shadow", action="store_true", help="tell where the engine would have sent another LACPDU in the device's place")
-    it.add_argument("--seed", type=int, default=1, help="the seed of random frames (1)")
+    it.add_argument("--seed", type=int, help=f"the seed of random frames ({SEED}, or that of the run that --resume names)")
     it.add_argument("--slack", metavar="SECONDS", type=seconds, default=0.15, help="so late this machine and the link may be (0.15)")
     it.add_argument("--list", action="store_true", help="print the tests, and end")
     it.add_argument("--markdown", action="store_true", help="with --list: as tables")

@@ -16,7 +16,7 @@ NAME, NUMBER = re.compile("[A-Z][A-Z0-9]*"), re.compile("[0-9]+[a-z]?")
 def load(path: str) -> None:
     """Puts the tests of a file among those of the bench."""
     try:
-        found = [it for it in runpy.run_path(path).values() if isinstance(it, Group)]
+        found = list(dict.fromkeys(it for it in runpy.run_path(path).values() if isinstance(it, Group) and it not in GROUPS))
     except (Exception, SystemExit) as why:
         raise Refused(f"--tests {path}: {type(why).__name__}: {why}") from why
     if not any(it.tests for it in found):

@@ -8,6 +8,7 @@ from typing import Mapping, Optional, Sequence
 
 from . import causes, matrix
 from .bench import Bench
+from .edition import edition
 from .model import CAVEAT, CRASH, FAIL, PROFILE, VERDICTS, Result, Test
 from .pdus import end, mac
 from .shadow import Shadow
@@ -53,7 +54,7 @@ def summary(results: Sequence[Result]) -> str:
     """The counts as a line, without the verdicts that no test has but pass and fail; how many fails are known stands behind theirs, and how many
     PROFILE does not carry, and how many are crashes, which go by no rule."""
     fails = [it for it in results if it.verdict == FAIL]
-    kinds = {"known": sum(bool(it.known) for it in fails), f"by {CRASH}": sum(it.crashed for it in fails)}
+    kinds = {"known": sum(bool(it.known) for it in fails), f"by {CRASH}": sum(bool(it.crashed) for it in fails)}
     kinds[f"not by {PROFILE}"] = sum(it.basis not in (PROFILE, CRASH) for it in fails)
     listed = ", ".join(f"{count} {kind}" for kind, count in kinds.items() if count)
     told = {FAIL: f" ({listed})"} if listed else {}
@@ -87,7 +88,7 @@ def record(b: Bench, it: Result) -> dict[str, object]:
         sender = "bench" if frame.out else "device"
         frames[number] = {"seconds": round(frame.time, 6), "link": frame.link, "from": sender, "octets": frame.octets.hex()}
     return {
-        **about_test(it.test), "basis": it.basis, "verdict": it.verdict, "why": it.why, "known": it.known, "notes": it.notes, "times": it.times,
+        **about_test(it.test), "basis": it.basis, "verdict": it.verdict, "why": it.why, "known": it.known, "notes": it.notes, "times": it.times, "crashed": it.crashed,
         "seconds": [round(it.begin, 3), round(it.end, 3)], "late": round(it.late, 3), "packets": [it.first, it.last],
         "claims": [{"holds": claim.holds, "text": claim.text, "packets": claim.packets} for claim in it.claims], "frames": frames,
     }  # fmt: skip
@@ -110,7 +111,7 @@ def as_json(run: Run, tests: Sequence[Test]) -> str:
 
 def json_of_list(tests: Sequence[Test]) -> str:
     """JSON of the tests that there are."""
-    return json.dumps({"format": FORMAT, "tests": [*map(about_test, tests)]}, indent=1) + "\n"
+    return json.dumps({"format": FORMAT, "about": edition(), "tests": [*map(about_test, tests)]}, indent=1) + "\n"
 
 
 def json_of_nothing(about: Mapping[str, str]) -> str:

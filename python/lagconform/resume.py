@@ -11,6 +11,7 @@ from typing import Any, Mapping, Optional, Sequence
 from niwhopera import Mac
 
 from .bench import BASE
+from .edition import edition
 from .model import FAIL, NOT_APPLICABLE, PASS, WHOLE_RUN, Claim, Result, Test
 from .options import MEMORY_LINKS
 from .refusals import Refused
@@ -23,14 +24,14 @@ TAKEN = (PASS, FAIL, NOT_APPLICABLE)
 
 
 def conditions(given: argparse.Namespace, claimed: Mapping[str, bool]) -> dict[str, object]:
-    """What a verdict depends on beside the test: the device and its build, its links, and the settings of the bench. Nothing else may differ where
-    verdicts are taken over."""
+    """What a verdict depends on: the edition of the tests, the device and its build, its links, and the settings of the bench. Nothing of it may differ
+    where verdicts are taken over."""
     links: object = given.interfaces
     if given.memory:
         links = given.links or MEMORY_LINKS
     return {
-        "device": given.device, "links": links, "memory": stack(given.memory) if given.memory else "", "hook": given.hook or "", "set": given.set,
-        "flap": given.flap, "pics": dict(claimed), SYSTEM: str(given.system or BASE), "slack": given.slack,
+        **edition(), "device": given.device, "links": links, "memory": stack(given.memory) if given.memory else "", "hook": given.hook or "", "set": given.set,
+        "flap": given.flap, "pics": dict(claimed), SYSTEM: str(given.system or BASE), "slack": given.slack, "seed": given.seed,
     }  # fmt: skip
 
 
@@ -98,4 +99,4 @@ def of_record(path: str, test: Test, told: Mapping[str, Any]) -> Result:
     """A result of its record."""
     claims = [Claim(bool(it["holds"]), str(it["text"]), ()) for it in told["claims"]]
     notes = [*map(str, told["notes"]), f"of the run in {path}"]
-    return Result(test, str(told["verdict"]), str(told["why"]), claims, notes)
+    return Result(test, str(told["verdict"]), str(told["why"]), claims, notes, crashed=str(told.get("crashed", "")))

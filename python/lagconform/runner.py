@@ -11,8 +11,10 @@ from niwhopera import State
 from .bench import QUIET, SOON, Bench
 from .floods import FLOOD
 from .matrix import WORST
-from .model import FAIL, INCONCLUSIVE, PASS, SURE, WHOLE_RUN, Claim, DoesNotApply, NotHere, Result, Stop, Stuck, Test
+from .model import FAIL, INCONCLUSIVE, NOT_APPLICABLE, PASS, SKIPPED, SURE, WHOLE_RUN, Claim, DoesNotApply, Frame, NotHere, Result, Stop, Stuck, Test
+from .pdus import number_of
 from .pics import ITEMS, lacking
+from .refusals import Refused
 from .wires import Broke, Gone
 
 # So long a device is waited for at the start.
@@ -20,7 +22,7 @@ MEETS = 35.0
 
 
 class NoDevice(Exception):
-    """No LACPDU came, or none that can be read; its text says on which interfaces."""
+    """The device sent no LACPDU; the text says on which interfaces."""
 
 
 def meet(b: Bench) -> None:
@@ -33,8 +35,8 @@ def meet(b: Bench) -> None:
     missing = [it for it in b.links.values() if not it.spoke]
     names = ", ".join(it.name for it in missing)
     if flood := before.flood().text:
-        raise NoDevice(f"no LACPDU came in {MEETS:g} s on {names}. {flood}")
-    raise NoDevice(f"no LACPDU came in {MEETS:g} s on {names}. The usual causes: {b.wire.silence}")
+        raise Refused(f"no LACPDU came in {MEETS:g} s on {names}. {flood}")
+    raise NoDevice(f"the device is silent: no LACPDU came in {MEETS:g} s on {names}. The usual causes: {b.wire.silence}")
 
 
 def learn(b: Bench) -> None:
@@ -118,9 +120,9 @@ def run_one(b: Bench, test: Test, claimed: Optional[Mapping[str, bool]] = None) 
     except Broke as why:
         broke = why
         text, _, trace = str(why).partition("\n")
-        last = [it.number for it in b.frames[result.first - 1 :] if it.out][-1:]
-        result.claims.insert(0, Claim(False, f"{text}; has to go on", tuple(last), SURE))
-        result.crashed = True
+        last = [it for it in b.frames[result.first - 1 :] if it.out][-1:]
+        result.claims.insert(0, Claim(False, f"{text}; has to go on", tuple(it.number for it in last), SURE))
+        result.crashed = f"{text}, behind {shape(last[0]) if last else 'no frame'}"
         result.notes += [trace] if trace else []
     except Gone as why:
         result.verdict, result.why, result.gone = INCONCLUSIVE, str(why), str(why)
@@ -136,8 +138,15 @@ def run_one(b: Bench, test: Test, claimed: Optional[Mapping[str, bool]] = None) 
             link.partner.right()
     if broke:
         result.gone = revive(b, test, broke)
+    if test.group != WHOLE_RUN and result.verdict not in (SKIPPED, NOT_APPLICABLE):
+        b.ran.add(test.id)
     b.result = None
     return result
+
+
+def shape(frame: Frame) -> str:
+    """What a frame is: crashes behind one shape, told in the same words, have one cause."""
+    return "an LACPDU" if frame.lacpdu else "a Marker PDU" if frame.marker else "a frame that is no PDU"
 
 
 def revive(b: Bench, test: Test, broke: Broke) -> str:
@@ -156,10 +165,14 @@ def revive(b: Bench, test: Test, broke: Broke) -> str:
 def judge(b: Bench, result: Result, flood: Flood = Flood()) -> None:
     """The verdict: a claim that does not hold is a fail, unless the bench itself or a flood is to blame."""
     failed = [it for it in result.claims if not it.holds]
+    if result.test.group == WHOLE_RUN:
+        result.notes.append(f"it looked at the frames of {number_of(len(b.ran), 'other test')} of this run")
     if failed:
         result.verdict, result.why = FAIL, failed[0].text
     elif result.verdict == PASS and not result.claims:
         result.verdict, result.why = INCONCLUSIVE, "nothing was claimed"
+    elif result.verdict == PASS and result.test.group == WHOLE_RUN and not b.ran:
+        result.verdict, result.why = INCONCLUSIVE, "no other test ran, and so there were no frames to look at"
     b.latest = max(b.latest, b.late)
     result.last, result.end, result.late = len(b.frames), b.now(), b.latest if result.test.group == WHOLE_RUN else b.late
     if flood.text:

@@ -12,8 +12,9 @@ from conform_faults import SecondPartnerKey, WrongEcho
 from test_conform_kinds import Bridge, JoinsKeys
 from test_conform_right import NoIndividual
 
-from lagconform import command, listing, options, own, pics
+from lagconform import causes, command, listing, options, pics
 from lagconform.bench import BASE, Bench
+from lagconform.edition import edition
 from lagconform.groups import GROUPS, TESTS
 from lagconform.model import FAIL, INCONCLUSIVE, PASS, SPARE, WHOLE_RUN, Group, Result
 from lagconform.model import Test as Case
@@ -46,7 +47,8 @@ def whole() -> dict[str, str]:
 
 @pytest.mark.parametrize("group", [it.name for it in GROUPS])
 def test_each_test_alone_comes_to_what_it_comes_to_in_a_run(whole: dict[str, str], group: str) -> None:
-    alone = {it.id: play(Device, [it])[0] for it in TESTS if it.group == group}
+    beside = [BY_NAME["FM-01"]] if group == WHOLE_RUN else []  # whose frames it looks at
+    alone = {it.id: play(Device, [*beside, it])[-1] for it in TESTS if it.group == group}
     assert not [f"{name} {it.verdict}: {it.why}" for name, it in alone.items() if it.verdict != whole[name]]
 
 
@@ -104,6 +106,24 @@ def test_a_resumed_run_looks_at_its_own_frames_too(run, tmp_path: Path) -> None:
     assert taken == ["FM-01", told["tests"][-1]["id"]]
 
 
+def test_what_looks_at_all_frames_tells_whose_and_wants_some() -> None:
+    whole = [it for it in TESTS if it.group == WHOLE_RUN]
+    alone, found = play(Device, whole), play(Device, [BY_NAME["FM-01"], BY_NAME["RX-14"], *whole])[2:]
+    assert {(it.verdict, it.why) for it in alone} == {(INCONCLUSIVE, "no other test ran, and so there were no frames to look at")}
+    assert {it.verdict for it in found} == {PASS} and all("it looked at the frames of 1 other test of this run" in it.notes for it in found)
+
+
+def test_a_resumed_run_has_the_seed_of_the_first_and_tests_of_one_edition(run, tmp_path: Path, capsys: pytest.CaptureFixture[str]) -> None:  # type: ignore[no-untyped-def]
+    words = ["--only", "RB-04", "--only", "FM-01"]
+    assert run(Device, *words[:2], "--seed", "7", "--json", "one.json") == 0
+    for seed in [], ["--seed", "7"]:
+        assert run(Device, *words, *seed, "--resume", "one.json", "--json", "two.json") == 0
+        assert json.loads((tmp_path / "two.json").read_text())["about"]["seed"] == "7"
+    assert run(Device, *words, "--seed", "8", "--resume", "one.json") == 2 and "seed was 7 there, and is 8 now" in capsys.readouterr().err
+    (tmp_path / "old.json").write_text((tmp_path / "one.json").read_text().replace(edition()["tests"], "lagconform 0.1"))
+    assert run(Device, *words, "--resume", "old.json") == 2 and 'tests was "lagconform 0.1" there' in capsys.readouterr().err
+
+
 def test_the_systems_of_a_bench_are_those_that_it_was_given(run, capsys: pytest.CaptureFixture[str]) -> None:  # type: ignore[no-untyped-def]
     base = Mac("06d100000003")
     assert [it.verdict for it in play(Device, [BY_NAME["SL-02"], BY_NAME["IV-04"]], base)] == [PASS, PASS]
@@ -144,6 +164,12 @@ def test_tests_of_ones_own_run_beside_those_of_the_bench(run, tmp_path: Path, ca
     assert run(Device, "--tests", str(tmp_path / "lab.py"), "--list") == 2 and "a name of its own" in capsys.readouterr().err
 
 
+def test_a_group_of_two_names_is_one_group(run, tmp_path: Path) -> None:  # type: ignore[no-untyped-def]
+    (tmp_path / "lab.py").write_text(f"from lagconform.groups.receive import group as receive\n{OWN}\nlab = group\n")
+    assert run(Device, "--tests", "lab.py", "--only", "LAB-*", "--json", "r.json") == 0
+    assert [it["id"] for it in json.loads((tmp_path / "r.json").read_text())["tests"]] == ["LAB-01"] and [it.name for it in GROUPS].count("LAB") == 1
+
+
 @pytest.mark.parametrize("text, why", [
     ("", "no lagconform.model.Group"), ("raise ValueError('x')", "ValueError: x"), (OWN.replace('"LAB"', '"L/B"'), "a name of its own"),
     (OWN.replace('"01"', '"a"'), "a number of its own"), (OWN.replace("takes=3", "links=9"), "wants 9 links"),
@@ -182,6 +208,18 @@ def test_a_crash_goes_by_no_rule(run, tmp_path: Path, capsys: pytest.CaptureFixt
     assert ", by crash: the stack broke" in said and "0 pass, 1 fail (1 by crash). " in said
     assert json.loads((tmp_path / "r.json").read_text())["tests"][0]["basis"] == "crash"
     assert 'type="fail by crash"' in (tmp_path / "r.xml").read_text() and "\n  basis: crash\n" in (tmp_path / "r.tap").read_text()
+
+
+def test_crashes_of_one_kind_have_one_cause(run, tmp_path: Path, capsys: pytest.CaptureFixture[str]) -> None:  # type: ignore[no-untyped-def]
+    tests = [word for it in ("VN-10", "RB-08", "FM-01") for word in ("--only", it)]
+    assert run(Crashes, *tests, "--json", "r.json") == 1
+    told = json.loads((tmp_path / "r.json").read_text())
+    assert told["causes"] == {"VN-10": ["RB-08"]} and {it["crashed"] for it in told["tests"]} == {"", "the stack broke by IndexError in take: , behind an LACPDU"}
+    line = "cause: VN-10 the stack broke by IndexError in take: , behind an LACPDU: explains RB-08\n"
+    assert line in capsys.readouterr().out
+    assert run(Crashes, *tests, "--resume", "r.json") == 1 and line in capsys.readouterr().out
+    found = [Result(BY_NAME[it], FAIL, crashed=f"in take, behind {frame}") for it, frame in (("VN-10", "an LACPDU"), ("RB-08", "a Marker PDU"))]
+    assert [it.name for it in causes.grouped(found)] == ["VN-10", "RB-08"]
 
 
 # What the page says.

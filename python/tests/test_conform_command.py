@@ -18,6 +18,7 @@ import pytest
 from conform_device import Device, Individual, LongTimeouts, World, beside
 from conform_faults import KeyUnchecked, NoWait, SystemUnchecked
 from conform_frames import NoMarkers
+from niwhopera import __version__
 
 from lagconform import causes, command, files, known, listing, options, page, pics, refusals, report
 from lagconform.bench import Bench, most_within
@@ -435,7 +436,7 @@ def test_a_silent_device_is_refused_with_the_usual_causes() -> None:
             return False
 
     with beside(World(Silent())) as b:
-        with pytest.raises(NoDevice, match="no LACPDU came in 35 s on link1, link2. The usual causes"):
+        with pytest.raises(NoDevice, match="^the device is silent: no LACPDU came in 35 s on link1, link2. The usual causes"):
             meet(b)
         assert b.now() >= 35
 
@@ -484,6 +485,7 @@ def test_the_list_has_each_test(capsys: pytest.CaptureFixture[str]) -> None:
     titles = {it.name: it.title for it in GROUPS}
     text, table = listing.as_text(TESTS, titles), listing.as_markdown(TESTS, titles)
     assert all(f"  {name} " in text and f"\n| {name}" in table for name in BY_NAME)
+    assert all(f"standard: IEEE 802.1AX-2014; tests: lagconform {__version__}, SHA-256 " in it for it in (text, table))
     assert command.main(["--list"]) == 0 and command.main(["--list", "--markdown", "--only", "FM-*"]) == 0
 
 
@@ -579,7 +581,7 @@ def test_the_page_has_the_keys_of_json_that_stay(run, tmp_path: Path) -> None:  
     of_run, of_test, of_list = (re.findall("`([a-z]+)`", re.search(rf"^\|{it}\|(.*)\|$", text, re.M)[1]) for it in ("a run", "each of `tests`", "`--list --json`"))  # type: ignore[index]
     assert run(Device, "--only", "FM-01", "--json", "r.json") == 0 and command.main(["--list", "--json", "l.json"]) == 0
     told, tests = (json.loads((tmp_path / it).read_text()) for it in ("r.json", "l.json"))
-    assert set(of_run) == {*told} and set(of_list) == {"format", *tests, *tests["tests"][0]} - {"causes"}
+    assert set(of_run) == {*told} and {"standard", "tests"} <= {*told["about"]} and set(of_list) == {"format", *tests, *tests["tests"][0]} - {"causes"}
     assert set(of_test) - {"holds", "text"} <= {*told["tests"][0]} and {*told["tests"][0]["claims"][0]} == {"holds", "text", "packets"}
     row = next(it for it in tests["tests"] if it["id"] == "MX-03")
     assert f'"clause": "{row["clause"]}", "title": "{row["title"]}",\n     "rule": "{row["rule"]}", "tolerance": "{row["tolerance"]}", ..' in text

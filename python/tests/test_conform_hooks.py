@@ -4,7 +4,10 @@ from __future__ import annotations
 
 import os
 import runpy
+import socket
 import subprocess
+import sys
+import threading
 from pathlib import Path
 
 import pytest
@@ -122,6 +125,49 @@ def test_lagd_is_started_and_ended_by_its_hook_alone(tmp_path: Path) -> None:
     assert status == 1 and said.endswith("lagd has ended: no such interface\n")
     status, said = hook("lagd", "stop", folder=tmp_path, **run)
     assert status == 1 and "the lagd that it started is gone" in said
+
+
+PAGE = FOLDER.parents[1] / "docs" / "CONFORM.md"
+
+
+@pytest.mark.skipif(not PAGE.exists(), reason="no page")
+def test_the_hook_of_the_page_runs(tmp_path: Path) -> None:
+    (tmp_path / "hook").write_text(PAGE.read_text().partition("```sh\n")[2].partition("```")[0])
+
+    def says(run: str, words: str) -> tuple[int, str]:
+        ended = subprocess.run(["sh", str(tmp_path / "hook"), *words.split()], env={**os.environ, "RUN": run}, capture_output=True, text=True, timeout=30)
+        return ended.returncode, ended.stdout
+
+    does = {
+        "stop": "ip link del bond0\n", "down 2": "ip link set eth2 down\n", "up 1": "ip link set eth1 up\n",
+        "set rate slow": "ip link set bond0 type bond lacp_rate slow\n", "reset": "",
+    }  # fmt: skip
+    assert {it: says("echo", it) for it in does} == {it: (0, told) for it, told in does.items()}
+    assert says("echo", "start")[0] == 0 and says("echo", "start")[1].count("master bond0\n") == 2
+    assert {says("false", it)[0] for it in (*does, "start") if it != "reset"} == {1}
+    assert {says("echo", it)[0] for it in ("data start", "data stop", "set speed 9", "down 3", "dance")} == {64}
+
+
+TRIAL = FOLDER.parents[1] / "tools" / "maintain" / "peers.d" / "hook.py"
+
+
+@pytest.mark.skipif(not TRIAL.exists(), reason="no tools")
+@pytest.mark.parametrize("answer, status, said", [("0well", 0, "well"), ("1KeyError: 'data'", 64, "KeyError: 'data'"), ("1Failed: no link", 1, "Failed: no link"), ("", 1, "")])
+def test_the_hook_of_a_trial_tells_what_is_unknown_from_what_failed(answer: str, status: int, said: str, tmp_path: Path) -> None:
+    with socket.socket(socket.AF_UNIX) as listening:
+        listening.bind(str(tmp_path / "hook"))
+        listening.listen()
+
+        def serve() -> None:
+            with listening.accept()[0] as call:
+                assert call.recv(1000) == b"down 1"
+                call.sendall(answer.encode())
+
+        serves = threading.Thread(target=serve)
+        serves.start()
+        ended = subprocess.run([sys.executable, str(TRIAL), str(tmp_path / "hook"), "down", "1"], capture_output=True, text=True, timeout=30)
+        serves.join()
+    assert (ended.returncode, ended.stdout) == (status, f"{said}\n")
 
 
 def test_the_flows_are_those_that_the_bench_counts() -> None:

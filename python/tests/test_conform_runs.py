@@ -22,6 +22,7 @@ from conform_machines import NoNtt
 
 from lagconform import causes, child, command, floods, matrix, memory, report
 from lagconform.bench import Bench
+from lagconform.edition import edition
 from lagconform.groups import TESTS
 from lagconform.model import CAVEAT, FAIL, INCONCLUSIVE, NOT_APPLICABLE, PASS, SKIPPED, SURE, Claim, Result
 from lagconform.runner import IN_TURN, CameToNothing, Flood, judge, meet, ordered, run_all, run_times
@@ -303,7 +304,7 @@ def test_a_list_is_written_as_json(tmp_path: Path, monkeypatch: pytest.MonkeyPat
     assert command.main(["--list", "--json", str(tmp_path / "l.json"), "--not", "IV-*"]) == 0
     told = json.loads((tmp_path / "l.json").read_text())
     assert {it["id"] for it in told["tests"]} == {it.id for it in TESTS if it.group != "IV"} and told["tests"][0]["clause"] == "6.4.2.2, 6.2.10.1"
-    assert told["format"] == report.FORMAT
+    assert told["format"] == report.FORMAT and told["about"] == edition()
 
 
 @pytest.mark.parametrize("words, why", [(["--memory", "x.py", "eth0"], "--memory wants no interface"), (["--memory", "none.py"], "No such file"), (["--memory", "none.so"], "none.so")])
@@ -393,7 +394,7 @@ def test_what_a_stack_can_not_do_is_told_as_such(stack, capsys: pytest.CaptureFi
     lacks = "def link(self, port, up):\n    raise NotImplementedError\n"
     assert stack(lacks, "--only", "RX-13", "--only", "FM-01") == 0
     assert "the stack does not do: down 1: it has no function `link`\n" in capsys.readouterr().out
-    assert stack(f"{lacks}def may_send(self):\n    return False\n") == 2
+    assert stack(f"{lacks}def may_send(self):\n    return False\n", "--json", "r.json") == 3
     said = capsys.readouterr().err
     assert "no LACPDU came in 35 s on link1, link2, link3. The usual causes: the stack does not call send" in said and "cable" not in said
 
@@ -470,7 +471,7 @@ def broken(folder: Path, line: str, other: str) -> str:
 
 
 @needs_library
-def test_a_library_that_crashes_on_a_runt_fails_the_tests_that_send_one(tmp_path: Path, monkeypatch: pytest.MonkeyPatch) -> None:
+def test_a_library_that_crashes_on_a_runt_fails_the_tests_that_send_one(tmp_path: Path, capfd: pytest.CaptureFixture[str], monkeypatch: pytest.MonkeyPatch) -> None:
     monkeypatch.chdir(tmp_path)
     begin = "    uint8_t response[NIW_FRAME];\n"
     made = broken(tmp_path, begin, f"{begin}    if (size < 50)\n        *(volatile int *)0 = 1;\n")
@@ -478,6 +479,7 @@ def test_a_library_that_crashes_on_a_runt_fails_the_tests_that_send_one(tmp_path
     assert command.main(words) == 1
     found = {it.get("name", ""): it for it in xml.parse(tmp_path / "r.xml").getroot().iter("testcase")}
     fails = [name for name, it in found.items() if it.find("failure") is not None]
+    assert "cause: VN-22 the stack crashed by SIGSEGV in device_take, behind a frame that is no PDU: explains RB-01, RB-04\n" in capfd.readouterr().out
     assert fails == ["VN-22", "RB-01", "RB-04"] and not [*xml.parse(tmp_path / "r.xml").getroot().iter("error")]
     assert all("crashed by SIGSEGV in device_take; has to go on" in str(it.get("message")) for it in xml.parse(tmp_path / "r.xml").getroot().iter("failure"))
     (tmp_path / "known").write_text("".join(f"{it} crashes\n" for it in fails))
