@@ -110,7 +110,8 @@ class Test:
 class Result:
     """What came of a test: packets `first` to `last`, seconds `begin` to `end`, and how late the bench was at most. `gone` says which
     interface is no longer there, or why a stack is not started again, `known` why a fail is known, `obsolete` why one was known of a test that passes,
-    `stuck` that no test can go on like this, and `crashed` how a stack in memory broke, and behind what. `times` counts the verdicts of a test that ran several times."""
+    `stuck` that no test can go on like this, and `crashed` how a stack in memory broke, and behind which kind of frame. `times` counts the verdicts of a
+    test that ran several times."""
 
     test: Test
     verdict: str = PASS

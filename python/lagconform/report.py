@@ -88,8 +88,8 @@ def record(b: Bench, it: Result) -> dict[str, object]:
         sender = "bench" if frame.out else "device"
         frames[number] = {"seconds": round(frame.time, 6), "link": frame.link, "from": sender, "octets": frame.octets.hex()}
     return {
-        **about_test(it.test), "basis": it.basis, "verdict": it.verdict, "why": it.why, "known": it.known, "notes": it.notes, "times": it.times, "crashed": it.crashed,
-        "seconds": [round(it.begin, 3), round(it.end, 3)], "late": round(it.late, 3), "packets": [it.first, it.last],
+        **about_test(it.test), "basis": it.basis, "verdict": it.verdict, "why": it.why, "known": it.known, "notes": it.notes, "times": it.times,
+        "crashed": it.crashed, "seconds": [round(it.begin, 3), round(it.end, 3)], "late": round(it.late, 3), "packets": [it.first, it.last],
         "claims": [{"holds": claim.holds, "text": claim.text, "packets": claim.packets} for claim in it.claims], "frames": frames,
     }  # fmt: skip
 
