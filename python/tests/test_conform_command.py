@@ -308,7 +308,7 @@ def test_a_run_that_is_killed_leaves_no_report_of_another(tmp_path: Path, monkey
         raise NoDevice("none")
 
     monkeypatch.setattr(command, "stand", stand)
-    assert command.main(["link1", *WORDS]) == 2
+    assert command.main(["link1", *WORDS]) == command.SILENT
     assert [*seen[0]] == ["r.json"] and json.loads(seen[0]["r.json"])["about"]["incomplete"] == "the run did not come to its end"
 
 
