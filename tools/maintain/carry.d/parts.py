@@ -228,7 +228,7 @@ def open_vswitch(programs: Programs) -> None:
             check_order(outcome, "to Open vSwitch, with a cut", ours.text())
             check_end(ours, "the sending end")
         finally:
-            ours.stop()
+            ours.kill()
             peer.end()
 
 

@@ -4,6 +4,7 @@ from __future__ import annotations
 
 import os
 import shutil
+from pathlib import Path
 from typing import Callable
 
 from booted import ANSWERS, BOOTS, TARGET, Machine, put
@@ -36,8 +37,7 @@ WAYS: dict[str, tuple[dict[str, str], list[str], list[str]]] = {
 def text_of(file: str) -> str:
     """A file of lagd/boot, with the names of our members."""
     path = os.path.join(TOP, "lagd", "boot", file)
-    with open(path if os.path.exists(path) else path.replace("eth2", "eth1"), encoding="utf-8") as it:
-        text = it.read()
+    text = Path(path if os.path.exists(path) else path.replace("eth2", "eth1")).read_text(encoding="utf-8")
     return text.replace("eth1", "a1" if file.startswith("eth2") else "a0").replace("eth2", "a1")
 
 

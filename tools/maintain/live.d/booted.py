@@ -8,6 +8,7 @@ import shutil
 import signal
 import subprocess
 import time
+from pathlib import Path
 from typing import Callable
 
 from checking import Skipped, check, command, within
@@ -141,8 +142,7 @@ class Machine:
         check(active, "systemd starts the unit, whose Type is notify", self.told())
 
     def told(self) -> str:
-        with open(self.log, encoding="utf-8") as it:
-            return it.read()[-3000:] + self.tells("journalctl", "--no-pager", "--lines", "60")
+        return Path(self.log).read_text(encoding="utf-8")[-3000:] + self.tells("journalctl", "--no-pager", "--lines", "60")
 
     def drop(self) -> None:
         if self.process.poll() is None:

@@ -5,6 +5,7 @@ from __future__ import annotations
 import os
 import re
 import shutil
+from pathlib import Path
 from typing import Callable
 
 from at_boot import BUNDLE, UNIT
@@ -25,8 +26,7 @@ def told_lines(program: str) -> str:
 
 
 def text_of(*path: str) -> str:
-    with open(os.path.join(DAEMON, *path), encoding="utf-8") as it:
-        return it.read()
+    return Path(os.path.join(DAEMON, *path)).read_text(encoding="utf-8")
 
 
 def lay(program: str) -> Callable[[str], None]:
