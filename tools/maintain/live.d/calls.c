@@ -130,6 +130,11 @@ void turn(struct niw_system *one, struct niw_system *other, unsigned ticks) {
     }
 }
 
+void bring_up(struct niw_system *one, struct niw_system *other) {
+    for (uint16_t port = 1; port <= 2; port++) CHECK(niw_set_link(one, port, true) == NIW_OK && niw_set_link(other, port, true) == NIW_OK);
+    turn(one, other, 60);
+}
+
 /* Each call refuses each pointer that is null. */
 static void check_null_in_calls(struct niw_system *live) {
     struct niw_system empty = NIW_EMPTY;
@@ -464,9 +469,7 @@ static void check_force_port(void) {
     uint16_t agg;
     make(&one, 5, 7, 256, 0);
     make(&other, 6, 9, 256, 0);
-    for (uint16_t port = 1; port <= 2; port++)
-        CHECK(niw_set_link(&one, port, true) == NIW_OK && niw_set_link(&other, port, true) == NIW_OK);
-    turn(&one, &other, 60);
+    bring_up(&one, &other);
     agg = (uint16_t)niw_choice(&one, 1).number;
     CHECK(niw_offer(&one, agg, data, sizeof data).number == 1 && niw_force_port(&one, 1).number == 0);
     CHECK(niw_conversation_state(&one, agg, 4).what == NIW_CONVERSATION_ON && niw_move_conversation(&one, agg, 4, 2) == NIW_OK);
@@ -628,9 +631,7 @@ static void check_algorithms(void) {
         make(&one, 5, 7, 4096, 0);
         the_algorithm = NIW_BY_NUMBER;
         make(&other, 6, 9, 4096, 0);
-        for (uint16_t port = 1; port <= 2; port++)
-            CHECK(niw_set_link(&one, port, true) == NIW_OK && niw_set_link(&other, port, true) == NIW_OK);
-        turn(&one, &other, 60);
+        bring_up(&one, &other);
         CHECK(niw_restart(&other) == NIW_OK && niw_distributes(&one, 1).is && niw_distributes(&one, 2).is);
         agg = (uint16_t)niw_choice(&one, 1).number;
         for (size_t i = 0; i < sizeof conversations / sizeof *conversations; i++) {
@@ -696,9 +697,7 @@ static void check_limit(void) {
     memset(views, 0, sizeof views);
     make(&one, 3, 7, 256, 1);
     make(&other, 4, 9, 256, 1);
-    for (uint16_t port = 1; port <= 2; port++)
-        CHECK(niw_set_link(&one, port, true) == NIW_OK && niw_set_link(&other, port, true) == NIW_OK);
-    turn(&one, &other, 60);
+    bring_up(&one, &other);
     agg = (uint16_t)niw_choice(&one, 1).number;
     CHECK(agg >= 1 && niw_choice(&one, 2).number == agg && !niw_is_standby(&one, 1).is && niw_is_standby(&one, 2).is);
     CHECK(niw_port_status(&one, 2).number == NIW_PORT_STATUS_STANDBY && niw_port_status(&one, 1).number == NIW_PORT_STATUS_DISTRIBUTING);
@@ -709,8 +708,7 @@ static void check_limit(void) {
     CHECK(niw_choice(&one, 1).number == 0 && !niw_is_standby(&one, 1).is && !niw_is_standby(&one, 2).is);
     turn(&one, &other, 20);
     CHECK(niw_distributing(&one, agg, numbers, NIW_MOST_PORTS).number == 1 && numbers[0] == 2);
-    CHECK(niw_set_link(&one, 1, true) == NIW_OK && niw_set_link(&other, 1, true) == NIW_OK);
-    turn(&one, &other, 60);
+    bring_up(&one, &other);
     CHECK(niw_is_standby(&one, 1).is && !niw_is_standby(&one, 2).is && niw_choice(&one, 1).number == agg);
     CHECK(niw_free(&one) == NIW_OK && niw_free(&other) == NIW_OK);
 }
@@ -735,9 +733,7 @@ int main(void) {
     asked = askings;
     check_first_frame(&one);
     check_faults(&one);
-    CHECK(niw_set_link(&one, 2, true) == NIW_OK && niw_set_link(&other, 1, true) == NIW_OK);
-    CHECK(niw_set_link(&other, 2, true) == NIW_OK);
-    turn(&one, &other, 60);
+    bring_up(&one, &other);
     check_distributing(&one);
     agg = (uint16_t)niw_choice(&one, 1).number;
     check_conversation(&one, &other, agg);

@@ -31,36 +31,21 @@ uint64_t milliseconds(void) {
 }
 
 bool has_fast_member(const struct members_private *own, uint16_t port) {
-    (void)own;
-    (void)port;
     return is_fast_member;
 }
 
 unsigned count_entries(int index, const char *begin) {
-    (void)index;
-    (void)begin;
     return entries;
 }
 
 bool await_input(int epoll_file, int fd, uint32_t tag) {
-    (void)epoll_file;
     return fd >= 0 && tag == RESPONSES;
 }
 
-void stop(int status, const char *what, const char *which) {
-    fprintf(stderr, "flights: %s: %s\n", what, which);
-    _Exit(status);
-}
-
 void receive_data(struct tap_plane *tap, uint16_t port) {
-    (void)tap;
-    (void)port;
 }
 
 void send_frame(struct protocol *protocol, struct link *link, const uint8_t *frame) {
-    (void)protocol;
-    (void)link;
-    (void)frame;
     answered++;
 }
 
@@ -73,8 +58,6 @@ static uint32_t mark_of(struct msghdr *message) {
 
 bool give_marker(struct tap_plane *tap, struct link *link, const uint8_t *marker, struct msghdr *message) {
     const uint8_t *at = marker + AT;
-    (void)tap;
-    (void)link;
     ids[sent % 64] = (uint32_t)at[0] << 24 | (uint32_t)at[1] << 16 | (uint32_t)at[2] << 8 | at[3];
     marks[sent++ % 64] = mark_of(message);
     by_mark += mark_of(message) != 0;

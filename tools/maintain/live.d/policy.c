@@ -157,7 +157,6 @@ uint64_t milliseconds(void) {
     return now;
 }
 uint64_t ticks_passed(const struct system_private *own) {
-    (void)own;
     return now / TICK;
 }
 uint64_t boottime(void) {
@@ -215,13 +214,9 @@ void put_host(struct tap_plane *tap, uint8_t *packet, size_t length) {
 
 /* lines, and the carrier of the device, */
 bool say(struct process *process, int level, const char *format, ...) {
-    (void)process;
-    (void)level;
-    (void)format;
     return true;
 }
 const char *selection_text(enum selection selection) {
-    (void)selection;
     return "";
 }
 static bool any_distributes(struct lagd *lagd) {
@@ -234,28 +229,14 @@ void set_carrier(struct device *device, bool on) {
     end_of(device)->carrier = on;
 }
 void notify_bundle(const struct bundle *bundle, const char *what) {
-    (void)what;
     CHECK(bundle->state == BUNDLE_DOWN || any_distributes(&end_of(bundle)->lagd));
 }
 
 void keep_port(struct state *state, uint16_t number, uint16_t port) {
-    (void)state;
-    (void)number;
-    (void)port;
 }
 
 /* the library, */
-bool is_done(struct process *process, uint32_t status, const char *call) {
-    (void)process;
-    if (status != NIW_OK) check(false, call, niw_status_text(status));
-    return status == NIW_OK;
-}
-bool is_told(struct process *process, struct niw_number answer, const char *call, uint64_t *number) {
-    *number = answer.number;
-    return is_done(process, answer.status, call);
-}
 bool carries(struct protocol *protocol, const struct link *link) {
-    (void)protocol;
     return link->view.port_status == NIW_PORT_STATUS_DISTRIBUTING;
 }
 void read_views(struct protocol *protocol) {
@@ -287,25 +268,18 @@ size_t packet_room(void) {
     return 2048;
 }
 bool has_segments(const uint8_t *packet) {
-    (void)packet;
     return false;
 }
 uint32_t count_segments(const uint8_t *packet, size_t length) {
-    (void)packet;
-    (void)length;
     return 1;
 }
 bool has_right_length(const uint8_t *packet, size_t length, uint32_t mtu) {
-    (void)packet;
     return length <= mtu + ETH_HLEN;
 }
 uint32_t longest_payload(const struct device *own) {
-    (void)own;
     return ETH_DATA_LEN;
 }
 struct niw_number conversation_of(struct protocol *protocol, const uint8_t *frame, size_t length) {
-    (void)protocol;
-    (void)length;
     return (struct niw_number){.status = NIW_OK, .number = conversation_at(frame)};
 }
 
@@ -315,7 +289,6 @@ static bool answer(struct tap_plane *tap, struct link *link, const uint8_t *resp
     return true;
 }
 static void accept_any(struct tap_plane *tap, struct link *link, const struct arrival *arrival, uint32_t id) {
-    (void)id;
     accept_response(tap->protocol, link, arrival);
 }
 
@@ -326,43 +299,26 @@ NOTHING(count_losses, tap_plane)
 NOTHING(pass_announcing_tick, carry)
 NOTHING(pass_tap_tick, device)
 void announce_soon(struct announce_private *own) {
-    (void)own;
 }
 void note_taken(struct conversation *conversation, uint32_t segments) {
-    (void)conversation;
-    (void)segments;
 }
 uint32_t sum_speeds(struct tap_plane *tap) {
-    (void)tap;
     return 1000;
 }
 void set_speed(struct device *device, uint32_t megabits) {
-    (void)device;
-    (void)megabits;
 }
 void run_hook(struct protocol *protocol, const char *path, enum bundle_state before) {
-    (void)protocol;
-    (void)path;
-    (void)before;
 }
 /* The device is up here, and no port comes or goes. */
 bool is_halted(const struct halt_private *own) {
-    (void)own;
     return false;
 }
 
 uint16_t count_links(const struct ports *ports) {
-    (void)ports;
     return PORTS;
 }
 
 void tell_watchers_of(struct control *control, const struct link *link) {
-    (void)control;
-    (void)link;
-}
-_Noreturn void stop(int status, const char *what, const char *which) {
-    printf("policy: %s: %s\n", what, which);
-    exit(status);
 }
 
 /* The plane: frames come here alone, and members have one queue. */
