@@ -8,6 +8,7 @@
 #include <stdlib.h>
 #include <string.h>
 
+#include "alone.h"
 #include "checks.h"
 #include "daemon.h"
 #include "netlink.h"
@@ -133,22 +134,12 @@ bool read_team(struct team_netlink_private *own, int index, struct team_now *now
 }
 
 /* What the daemon has beside. */
-uint64_t milliseconds(void) {
-    return lagd->carry.time;
-}
-uint64_t ticks_passed(const struct system_private *own) {
-    return lagd->carry.time / TICK;
-}
-int tap_index(const struct device *own) {
-    return DEVICE;
-}
-bool is_team_port(const struct team_plane *own, uint16_t port) {
-    return is_port[port];
-}
-void give_team_addresses(struct team_plane *team) {
-}
-void look_again(struct changes_private *own) {
-}
+ANSWERS(uint64_t milliseconds, lagd->carry.time, void)
+ANSWERS(uint64_t ticks_passed, lagd->carry.time / TICK, const struct system_private *own)
+ANSWERS(int tap_index, DEVICE, const struct device *own)
+ANSWERS(bool is_team_port, is_port[port], const struct team_plane *own, uint16_t port)
+NOTHING(give_team_addresses, struct team_plane *team)
+NOTHING(look_again, struct changes_private *own)
 void set_carrier(struct device *device, bool on) {
     carrier = on;
 }

@@ -8,6 +8,7 @@
 #include <string.h>
 #include <sys/socket.h>
 
+#include "alone.h"
 #include "checks.h"
 #include "daemon.h"
 
@@ -26,25 +27,11 @@ static bool is_fast_member;
 static unsigned sent, by_mark, answered, entries = 4;
 static uint32_t ids[64], marks[64];
 
-uint64_t milliseconds(void) {
-    return now;
-}
-
-bool has_fast_member(const struct members_private *own, uint16_t port) {
-    return is_fast_member;
-}
-
-unsigned count_entries(int index, const char *begin) {
-    return entries;
-}
-
-bool await_input(int epoll_file, int fd, uint32_t tag) {
-    return fd >= 0 && tag == RESPONSES;
-}
-
-void receive_data(struct tap_plane *tap, uint16_t port) {
-}
-
+ANSWERS(uint64_t milliseconds, now, void)
+ANSWERS(bool has_fast_member, is_fast_member, const struct members_private *own, uint16_t port)
+ANSWERS(unsigned count_entries, entries, int index, const char *begin)
+ANSWERS(bool await_input, fd >= 0 && tag == RESPONSES, int epoll_file, int fd, uint32_t tag)
+NOTHING(receive_data, struct tap_plane *tap, uint16_t port)
 void send_frame(struct protocol *protocol, struct link *link, const uint8_t *frame) {
     answered++;
 }

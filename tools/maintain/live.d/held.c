@@ -6,6 +6,7 @@
 #include <stdlib.h>
 #include <string.h>
 
+#include "alone.h"
 #include "checks.h"
 #include "daemon.h"
 
@@ -21,10 +22,7 @@ static struct lagd tested, *lagd = &tested;
 
 const char *const program = "held";
 
-size_t packet_room(void) {
-    return LARGE_OCTETS;
-}
-
+ANSWERS(size_t packet_room, LARGE_OCTETS, void)
 /* Whether so many frames of a conversation wait. */
 static bool waits(uint16_t conversation, uint64_t wanted) {
     uint64_t waiting;

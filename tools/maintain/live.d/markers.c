@@ -7,6 +7,7 @@
 #include <stdlib.h>
 #include <string.h>
 
+#include "alone.h"
 #include "checks.h"
 #include "daemon.h"
 
@@ -30,14 +31,8 @@ static bool answered; /* whether the response to the last marker came */
 
 static const uint8_t OWN[6] = {2, 0, 0, 0, 0, 0xaa}, PARTNER[6] = {2, 0, 0, 0, 0, 0xbb}, STRANGER[6] = {2, 0, 0, 0, 0, 0xcc};
 
-uint64_t milliseconds(void) {
-    return now;
-}
-
-uint64_t ticks_passed(const struct system_private *own) {
-    return now / TICK;
-}
-
+ANSWERS(uint64_t milliseconds, now, void)
+ANSWERS(uint64_t ticks_passed, now / TICK, const struct system_private *own)
 bool say(struct process *process, int level, const char *format, ...) {
     lines++;
     return true;
