@@ -490,7 +490,7 @@ def unit(programs: Programs, words: str) -> Iterator[tuple[Machine, End]]:
         finally:
             theirs.kill()
             machine.process.send_signal(signal.SIGKILL)
-            machine.drop()
+            machine.close()
 
 
 def unit_of(programs: Programs, name: str, words: str) -> None:

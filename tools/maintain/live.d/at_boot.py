@@ -2,6 +2,7 @@
 
 from __future__ import annotations
 
+import contextlib
 import os
 import shutil
 from pathlib import Path
@@ -86,8 +87,7 @@ def boot_with(name: str) -> Callable[[Part], None]:
             raise Skipped("there is no /dev/net/tun")
         if not shutil.which("ping"):
             raise Skipped("no command ping (Debian: iputils-ping)")
-        machine = Machine(part, more=lay_over(Packages(PEERS, True), name))
-        try:
+        with contextlib.closing(Machine(part, more=lay_over(Packages(PEERS, True), name))) as machine:
             theirs = part.theirs(options=["--carry", "lag0"])
             within(ANSWERS, lambda: inside(THEIRS, "ip", "link", "set", "lag0", "up").returncode == 0)
             ip(THEIRS, "address", "add", f"{THEIRS_AT}/24", "dev", "lag0")
@@ -105,8 +105,6 @@ def boot_with(name: str) -> Callable[[Part], None]:
             check(within(ANSWERS, pings), "with one link it answers", machine.told())
             inside(THEIRS, "ip", "link", "set", "b0", "up")
             settle(machine, theirs, "once the other one is back")
-        finally:
-            machine.drop()
 
     return boot
 
