@@ -400,6 +400,15 @@ def check_whole(outcome: Outcome, ours: End, theirs: End, *, cables_lose: bool) 
     check(holds, f"{sent:,} frames went into the cables, {sent - taken:,} were lost there", ours.text(), theirs.text())
 
 
+def check_through(programs: Programs, ours: End, theirs: End, seconds: float, events: Sequence[Event], what: str) -> Outcome:
+    """Links go and come back: no frame is overtaken, each came or is counted, and both links carry again."""
+    outcome = run_flows(programs, seconds, events)
+    check_order(outcome, what, ours.text())
+    check_whole(outcome, ours, theirs, cables_lose=True)
+    check(within(COMES_BACK, lambda: ours.links() == 2), "both links carry again", ours.text())
+    return outcome
+
+
 def move_all(end: End) -> Callable[[], None]:
     """Each busy conversation moves to the next port."""
     return lambda: end.process.send_signal(signal.SIGUSR2)

@@ -11,8 +11,8 @@ import struct
 import time
 from typing import Any, ContextManager
 
-from bonds import (COMES_BACK, COMES_UP, DEVICE, FLOWS, RIGHTS, Cables, End, Programs, cables, check_end, check_none_lost, check_order, check_taken, check_whole,
-                   every, kernel_count, lay_direct, move_all, pair, run_flows, wait_for_links)
+from bonds import (COMES_UP, DEVICE, FLOWS, RIGHTS, Cables, End, Event, Programs, cables, check_end, check_none_lost, check_order, check_taken,
+                   check_through, check_whole, every, kernel_count, lay_direct, move_all, pair, run_flows, wait_for_links)
 from checking import Skipped, check, within
 from packets import host_socket, packet_to_cut
 from spaces import OURS, THEIRS, inside, ip, packet_socket, within_space
@@ -96,10 +96,7 @@ def fast_troubles(programs: Programs) -> None:
     with fast_pair(programs, options=["--flight", "200"]) as (laid, ours, theirs):
         events = [(1, lambda: laid.tell("cut", 1)), (3, lambda: laid.tell("join", 1)), (8, lambda: laid.tell("cut", 0)),
                   (10, lambda: laid.tell("join", 0)), (15, lambda: laid.tell("silence", 1)), (20, lambda: laid.tell("hear", 1))]
-        outcome = run_flows(programs, 24, events)
-        check_order(outcome, "by the kernel, through cuts and a silence", ours.text())
-        check_whole(outcome, ours, theirs, cables_lose=True)
-        check(within(COMES_BACK, lambda: ours.links() == 2), "both links carry again", ours.text())
+        check_through(programs, ours, theirs, 24, events, "by the kernel, through cuts and a silence")
 
 
 def fast_overload(programs: Programs) -> None:
@@ -133,10 +130,8 @@ def fast_ends(programs: Programs) -> None:
 def fast_away(programs: Programs) -> None:
     """A pair of interfaces vanishes and is there again, with the rights that the daemon has left then; and a MAC address that changes."""
     with fast_pair(programs, delays=(), before=RIGHTS if shutil.which("setpriv") else ()) as (_, ours, theirs):
-        outcome = run_flows(programs, 8, [(1, lambda: ip(OURS, "link", "del", "a1")), (4, lambda: lay_direct(1))])
-        check_order(outcome, "by the kernel, through an interface that vanishes", ours.text())
-        check_whole(outcome, ours, theirs, cables_lose=True)
-        check(within(COMES_BACK, lambda: ours.links() == 2), "both links carry again", ours.text())
+        events: list[Event] = [(1, lambda: ip(OURS, "link", "del", "a1")), (4, lambda: lay_direct(1))]
+        check_through(programs, ours, theirs, 8, events, "by the kernel, through an interface that vanishes")
         before = ours.told()["ports"][1]["data"]["passed_on"]
         run_flows(programs, 4, [(0.5, move_all(ours)), (1.5, move_all(ours))])
         passed = ours.told()["ports"][1]["data"]["passed_on"] - before

@@ -143,29 +143,28 @@ def sums(programs: Programs) -> None:
         check(ours.data("without_sums") > 0, f"{ours.data('without_sums')} frames came without their sums", ours.text())
 
 
-def set_features(space: str, name: str, *words: str) -> None:
-    if inside(space, "ethtool", "-K", name, *words).returncode:
-        raise Skipped(f"no ethtool sets {' '.join(words)} of {name} (Debian: ethtool)")
+def set_features(*words: str) -> None:
+    """Both members of ours can do this, or cannot."""
+    for name in "a0", "a1":
+        if inside(OURS, "ethtool", "-K", name, *words).returncode:
+            raise Skipped(f"no ethtool sets {' '.join(words)} of {name} (Debian: ethtool)")
 
 
 def uncut(programs: Programs) -> None:
     """Frames of several segments, over members that cannot cut them; before the start, and while it runs."""
     for way in "--offload", "--fast":
         with cables(programs, ()):
-            for name in "a0", "a1":
-                set_features(OURS, name, "tso", "off", "gso", "off")
+            set_features("tso", "off", "gso", "off")
             ours, theirs = End(programs, OURS, options=[way, "--hash", "layer3+4"]), End(programs, THEIRS, options=[way])
             wait_for_links(ours, theirs)
             stream = run_stream(2)
             unsent, cut = ours.data("data_unsent"), ours.carry()["segmented"]
             check(unsent == 0, f"{way}: {stream.bits / 1e9:.2f} Gb/s, {unsent} of {cut:,} frames of several segments lost", ours.text())
             check(cut > 0 or way == "--fast", f"{way}: {cut:,} frames of several segments came to the daemon", ours.text())
-            for name in "a0", "a1":
-                set_features(OURS, name, "tso", "on", "gso", "on")
+            set_features("tso", "on", "gso", "on")
             stream = run_stream(1)
             check(ours.data("data_unsent") == 0, f"{way}: {stream.bits / 1e9:.2f} Gb/s once they can", ours.text())
-            for name in "a0", "a1":
-                set_features(OURS, name, "tx", "off")
+            set_features("tx", "off")
             stream = run_stream(1)
             check(ours.data("data_unsent") == 0, f"{way}: {stream.bits / 1e9:.2f} Gb/s where they leave the sums to the kernel, too", ours.text())
 

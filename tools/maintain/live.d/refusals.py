@@ -140,7 +140,8 @@ def steps_of(refused: str) -> tuple[Steps, list[str], list[str]]:
 def write_file(folder: str, names: list[str], keys: dict[str, str]) -> str:
     """Writes the file of a bundle; answers its path."""
     path = os.path.join(folder, "bundle.conf")
-    Path(path).write_text("\n".join(["[Bundle]", *(f"{name}={value}" for name, value in keys.items()), *(f"[Port {name}]" for name in names), ""]), encoding="utf-8")
+    lines = ["[Bundle]", *(f"{name}={value}" for name, value in keys.items()), *(f"[Port {name}]" for name in names), ""]
+    Path(path).write_text("\n".join(lines), encoding="utf-8")
     return path
 
 

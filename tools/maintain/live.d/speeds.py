@@ -181,7 +181,8 @@ def fastest(part: Part) -> None:
         file = os.path.join(part.folder, "fastest.conf")
 
         def write(more: str) -> None:
-            Path(file).write_text(f"[Bundle]\nkey={KEY}\nsystem=32768,{SYSTEM}\nkey-by-speed=yes\n{more}" + "".join(f"[Port {name}]\n" for name in names), encoding="utf-8")
+            ports = "".join(f"[Port {name}]\n" for name in names)
+            Path(file).write_text(f"[Bundle]\nkey={KEY}\nsystem=32768,{SYSTEM}\nkey-by-speed=yes\n{more}{ports}", encoding="utf-8")
 
         theirs = part.theirs("u0", "u1", "u2:key=6")
         write("")
