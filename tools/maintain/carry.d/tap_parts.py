@@ -65,7 +65,7 @@ def fast_outage(programs: Programs) -> None:
         run_flows(programs, 9, events)
         check_fast(ours, FLOWS // 2)
         check_end(ours, "the sending end")
-        restart = [(0.5, theirs.stop), (4.0, lambda: theirs.__init__(programs, THEIRS, options=["--fast"]))]  # type: ignore[misc]
+        restart = [(0.5, theirs.kill), (4.0, lambda: theirs.__init__(programs, THEIRS, options=["--fast"]))]  # type: ignore[misc]
         run_flows(programs, 5, restart)
         check_alive(programs, ours, "the peer was killed, and started again, under a load")
 
