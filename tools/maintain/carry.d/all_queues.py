@@ -117,16 +117,14 @@ def queues_kept(programs: Programs) -> None:
             check(within(FOLLOWS, lambda: ours.told()["ports"][0]["data"]["queues"] == QUEUES), f"{name}: a member has its queues", ours.printed())
             check(settings_of(OURS, "a0") != before, f"{name}: RPS and XPS are changed", before)
             check(ask_gro(OURS, "a0") == bool(way), f"{name}: GRO is {'on' if way else 'off'}", ours.printed())
-            ours.process.send_signal(signal.SIGKILL)
-            ours.process.wait()
+            ours.kill()
             ours = End(programs, OURS, options=[*way, *ALL])
             ours.ends("the daemon")
             check(settings_of(OURS, "a0") == before and ask_gro(OURS, "a0"), f"{name}: they are as they were", before, settings_of(OURS, "a0"))
             ours = End(programs, OURS, options=[*way, "--queues", "one"])
             one = lambda: setting(OURS, "a0", "tx-1/xps_cpus") == ""
             check(within(FOLLOWS, one), f"{name}: one queue is left", ours.printed())
-            ours.process.send_signal(signal.SIGKILL)
-            ours.process.wait()
+            ours.kill()
             ours = End(programs, OURS, options=[*way, *ALL])
             check(within(FOLLOWS, lambda: not one()), f"{name}: the next daemon gives all back", ours.printed())
             check("gets one queue" not in ours.printed(), f"{name}: and keeps them", ours.printed())
@@ -169,12 +167,7 @@ def queues_unlike(programs: Programs) -> None:
     are forced turns frames round there, so this machine can tell."""
     tried: list[tuple[tuple[str, ...], str]] = [((), ""), (("--fast",), ""), ((), programs.forcing)]
     for way, program in tried:
-        with cables(programs, (), QUEUES):
-            if inside(OURS, "tc", "qdisc", "add", "dev", "a0", "root", "handle", "6c61:", "mq").returncode:
-                raise Skipped("tc gives no queue a discipline of its own")
-            ours, theirs = (End(programs, space, program=program, options=[*way, *ALL]) for space in (OURS, THEIRS))
-            ready = lambda: all(end.links() == 2 and end.carry()["markers"] == "answered" for end in (ours, theirs))
-            check(within(COMES_UP, ready), "two links carry", ours.text(), ours.printed())
+        with given_queues(programs, way, program) as (ours, _):
             for queue in range(1, QUEUES):
                 words = ("parent", f"6c61:{queue + 1}", "tbf", "rate", f"{1000 + 300 * queue}kbit", "burst", "2000", "limit", "20000")
                 if inside(OURS, "tc", "qdisc", "replace", "dev", "a0", *words).returncode:
@@ -260,12 +253,10 @@ def queues_refused(programs: Programs) -> None:
         ip(OURS, "link", "set", "m0", "up")
         inside(OURS, "tc", "qdisc", "replace", "dev", "a0", "root", "pfifo_fast")
         ours = End(programs, OURS, names=("a0", "m0"), options=ALL)
-        try:
-            lines = ("a0: it gets one queue: its queueing discipline is neither", "m0: it gets one queue: it stands on another interface")
-            check(within(FOLLOWS, lambda: all(line in ours.printed() for line in lines)), "members that cannot keep their queues get one", ours.printed())
-            check([port["data"]["queues"] for port in ours.told()["ports"]] == [1, 1], "the status says so", ours.text())
-        finally:
-            ours.stop()
+        lines = ("a0: it gets one queue: its queueing discipline is neither", "m0: it gets one queue: it stands on another interface")
+        check(within(FOLLOWS, lambda: all(line in ours.printed() for line in lines)), "members that cannot keep their queues get one", ours.printed())
+        check([port["data"]["queues"] for port in ours.told()["ports"]] == [1, 1], "the status says so", ours.text())
+        ours.kill()
         inside(OURS, "tc", "qdisc", "del", "dev", "a0", "root")
         sealed = ("sh", "-c", 'mount -o remount,bind,ro /sys && exec "$@"', "sh")
         channels(QUEUES)
@@ -291,12 +282,12 @@ def queues_disciplines(programs: Programs) -> None:
 
 
 @contextlib.contextmanager
-def given_queues(programs: Programs, way: tuple[str, ...] = ()) -> Iterator[tuple[End, End]]:
+def given_queues(programs: Programs, way: tuple[str, ...] = (), program: str = "") -> Iterator[tuple[End, End]]:
     """Two ends, of which one has at a0 an mq with the handle of the daemon: a veth gets none by itself."""
     with cables(programs, (), QUEUES):
         if inside(OURS, "tc", "qdisc", "add", "dev", "a0", "root", "handle", "6c61:", "mq").returncode:
             raise Skipped("tc gives no queue a discipline of its own")
-        ours, theirs = (End(programs, space, options=[*way, *ALL]) for space in (OURS, THEIRS))
+        ours, theirs = (End(programs, space, program=program, options=[*way, *ALL]) for space in (OURS, THEIRS))
         ready = lambda: all(end.links() == 2 and end.carry()["markers"] == "answered" for end in (ours, theirs))
         check(within(COMES_UP, ready), "two links carry", ours.text(), ours.printed())
         yield ours, theirs
@@ -383,8 +374,7 @@ def queues_back(programs: Programs) -> None:
                 time.sleep(2)
             check(within(COMES_BACK, lambda: used() == queues), f"{name}: {queues} queues are used", used(), ours.printed())
             if killed:
-                ours.process.send_signal(signal.SIGKILL)
-                ours.process.wait()
+                ours.kill()
                 ours = End(programs, OURS, options=ALL)
             ours.ends("the daemon")
             check(settings_of(OURS, "a0") == before, f"{name}: they are as they were", before, settings_of(OURS, "a0"), ours.printed())
@@ -400,8 +390,7 @@ def queues_steady(programs: Programs) -> None:
         time.sleep(1)
         before = changes()
         for by in signal.SIGUSR1, signal.SIGKILL:
-            ours.process.send_signal(by)
-            ours.process.wait()
+            ours.leave(by)
             ours = End(programs, OURS, options=ALL)
             check(within(FOLLOWS, lambda: "a0: it gets one queue" in ours.printed()), f"{by.name}: the next daemon leaves it one", ours.printed())
             check(changes() == before, f"{by.name}: the link stays up", before, changes())

@@ -184,11 +184,6 @@ class End(Daemon):
         told = self.told()
         return told["carrying"] if told["carry"]["carrier"] else 0
 
-    def stop(self) -> None:
-        if self.process.poll() is None:
-            self.process.kill()
-        self.process.wait()
-
 
 # The ends that were started at the cables that are laid.
 started: list[End] = []
@@ -269,13 +264,19 @@ def cables(programs: Programs, delays: Sequence[int] = DELAYS, queues: int = 1) 
         yield laid
     finally:
         while started:
-            started.pop().stop()
+            started.pop().kill()
         if laid:
             laid.drop()
         for space in (OURS, THEIRS, MIDDLE):
             command("ip", "netns", "del", space)
         with contextlib.suppress(FileNotFoundError):
             os.unlink(f"{programs.folder}/cables.sock")
+
+
+def wait_for_links(*ends: End, count: int = DIRECT) -> None:
+    """Waits until so many links of each end carry, and it knows that the other one answers markers."""
+    if not within(COMES_UP, lambda: all(end.links() == count and end.carry()["markers"] == "answered" for end in ends)):
+        raise Failed(f"{count} links carry", *(end.text() for end in ends), *(end.printed()[-2000:] for end in ends))
 
 
 @contextlib.contextmanager
@@ -285,9 +286,7 @@ def pair(programs: Programs, *, delays: Sequence[int] = DELAYS, program: str = "
     with cables(programs, delays, queues) as laid:
         count = len(laid.delays) or DIRECT
         ends = [End(programs, space, program=program, options=options, links=count, before=before) for space in (OURS, THEIRS)]
-        ready = lambda: all(end.links() == count and end.carry()["markers"] == "answered" for end in ends)
-        if not within(COMES_UP, ready):
-            raise Failed(f"{count} links carry", *(end.text() for end in ends))
+        wait_for_links(*ends, count=count)
         yield laid, ends[0], ends[1]
 
 
@@ -399,6 +398,15 @@ def check_whole(outcome: Outcome, ours: End, theirs: End, *, cables_lose: bool) 
     sent, taken = ours.data("data_sent"), theirs.data("data_received") + theirs.data("socket_full")
     holds = taken <= sent if cables_lose else taken == sent
     check(holds, f"{sent:,} frames went into the cables, {sent - taken:,} were lost there", ours.text(), theirs.text())
+
+
+def check_through(programs: Programs, ours: End, theirs: End, seconds: float, events: Sequence[Event], what: str) -> Outcome:
+    """Links go and come back: no frame is overtaken, each came or is counted, and both links carry again."""
+    outcome = run_flows(programs, seconds, events)
+    check_order(outcome, what, ours.text())
+    check_whole(outcome, ours, theirs, cables_lose=True)
+    check(within(COMES_BACK, lambda: ours.links() == 2), "both links carry again", ours.text())
+    return outcome
 
 
 def move_all(end: End) -> Callable[[], None]:

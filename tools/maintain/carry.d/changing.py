@@ -2,13 +2,14 @@
 
 from __future__ import annotations
 
+import contextlib
 import signal
 import subprocess
 import time
 from threading import Event, Thread
 from typing import Callable
 
-from bonds import COMES_UP, DEVICE, RATE, End, Outcome, Programs, cables, check_order, kernel_count, lay_direct, run_flows
+from bonds import COMES_UP, DEVICE, RATE, End, Outcome, Programs, cables, check_order, kernel_count, lay_direct, run_flows, wait_for_links
 from checking import Failed, check, within
 from restarting import WAYS, Kept, Manager
 from spaces import OURS, THEIRS, inside, ip
@@ -73,8 +74,7 @@ def changes(programs: Programs) -> None:
             for number in range(2, LINKS):
                 lay_direct(number)
             ours, theirs = End(programs, OURS, options=options, links=2), End(programs, THEIRS, options=options, links=LINKS)
-            if not within(COMES_UP, lambda: ours.links() == theirs.links() == 2 and ours.carry()["markers"] == "answered"):
-                raise Failed("two links carry", ours.text(), theirs.text())
+            wait_for_links(ours, theirs)
             outcome = flow_while(programs, ours, ["a2", "a3"], f"{way}, at the sending end")
             what = f"{outcome.sent - outcome.received} of {outcome.sent:,} frames are lost, {outcome.refused} of them before the daemon"
             check(outcome.lost() <= outcome.lost_here, f"{way}: {what}", outcome, ours.text(), theirs.text())
@@ -97,36 +97,28 @@ def changes(programs: Programs) -> None:
 def fewer(programs: Programs) -> None:
     """A daemon is started again with a member gone, and with that one again: the other ports keep their numbers, and their peers see nothing."""
     for way, options in WAYS.items():
-        manager = Manager(programs.folder)
-        with cables(programs, ()):
+        with contextlib.closing(Manager(programs.folder)) as manager, cables(programs, ()):
             lay_direct(2)
             kept = Kept(programs, OURS, options, manager, ("a0", "a1", "a2"))
             theirs = End(programs, THEIRS, options=options, links=3)
-            try:
-                ready = lambda: kept.links() == theirs.links() == 3 and kept.carry()["markers"] == "answered"
-                if not within(COMES_UP, ready):
-                    raise Failed("three links carry", kept.text(), theirs.text())
-                time.sleep(1)
-                before = len(theirs.printed())
-                kept.members = ("a0", "a2")
-                outcome = run_flows(programs, 6, [(1, lambda: kept.again(signal.SIGUSR1))])
-                check_order(outcome, f"{way}: without a1", kept.text())
-                check(carried(kept) == {"a0": 1, "a2": 3}, f"{way}: the others keep their numbers", kept.text())
-                lines = [line for line in theirs.printed()[before:].splitlines() if " port " in line and (" b0:" in line or " b2:" in line)]
-                check(not lines, f"{way}: their peers saw nothing", *lines)
-                check("b1: the partner is not synchronized" in theirs.printed()[before:], f"{way}: that of a1 was told", theirs.printed()[before:])
-                check("a1: it left the bundle" in kept.printed() and len(kept.told()["ports"]) == 2, f"{way}: it left", kept.text(), kept.printed())
-                check(outcome.lost() <= 4 * 64, f"{way}: {outcome.lost()} of {outcome.sent:,} frames were in hand", outcome, kept.text())
-                kept.members = ("a0", "a1", "a2")
-                kept.again(signal.SIGUSR1)
-                check(within(COMES_UP, lambda: carried(kept) == {"a0": 1, "a1": 2, "a2": 3}), f"{way}: with a1 again", kept.text())
-                for name in "b0", "b2":
-                    check(theirs.count(name, "distributed") == 1, f"{way}: {name} distributes since the start", theirs.printed())
-                kept.ends("the daemon")
-            finally:
-                kept.stop()
-                theirs.stop()
-                manager.drop()
+            wait_for_links(kept, theirs, count=3)
+            time.sleep(1)
+            before = len(theirs.printed())
+            kept.members = ("a0", "a2")
+            outcome = run_flows(programs, 6, [(1, lambda: kept.again(signal.SIGUSR1))])
+            check_order(outcome, f"{way}: without a1", kept.text())
+            check(carried(kept) == {"a0": 1, "a2": 3}, f"{way}: the others keep their numbers", kept.text())
+            lines = [line for line in theirs.printed()[before:].splitlines() if " port " in line and (" b0:" in line or " b2:" in line)]
+            check(not lines, f"{way}: their peers saw nothing", *lines)
+            check("b1: the partner is not synchronized" in theirs.printed()[before:], f"{way}: that of a1 was told", theirs.printed()[before:])
+            check("a1: it left the bundle" in kept.printed() and len(kept.told()["ports"]) == 2, f"{way}: it left", kept.text(), kept.printed())
+            check(outcome.lost() <= 4 * 64, f"{way}: {outcome.lost()} of {outcome.sent:,} frames were in hand", outcome, kept.text())
+            kept.members = ("a0", "a1", "a2")
+            kept.again(signal.SIGUSR1)
+            check(within(COMES_UP, lambda: carried(kept) == {"a0": 1, "a1": 2, "a2": 3}), f"{way}: with a1 again", kept.text())
+            for name in "b0", "b2":
+                check(theirs.count(name, "distributed") == 1, f"{way}: {name} distributes since the start", theirs.printed())
+            kept.ends("the daemon")
 
 
 def none_left(programs: Programs) -> None:

@@ -11,9 +11,10 @@ import struct
 import time
 from typing import Any, ContextManager
 
-from bonds import (COMES_BACK, COMES_UP, DEVICE, FLOWS, RIGHTS, Cables, End, Programs, cables, check_end, check_none_lost, check_order, check_taken, check_whole,
-                   every, kernel_count, lay_direct, move_all, pair, run_flows)
-from checking import Failed, Skipped, check, within
+from bonds import (COMES_UP, DEVICE, FLOWS, RIGHTS, Cables, End, Event, Programs, cables, check_end, check_none_lost, check_order, check_taken,
+                   check_through, check_whole, every, kernel_count, lay_direct, move_all, pair, run_flows, wait_for_links)
+from checking import Skipped, check, within
+from packets import host_socket, packet_to_cut
 from spaces import OURS, THEIRS, inside, ip, packet_socket, within_space
 from streams import run_stream
 
@@ -23,8 +24,6 @@ FAST, PASSED = 20000, 0.1
 SEGMENTED = 1000
 # bpf(2), its BPF_PROG_QUERY, and where programs of TCX stand: as an interface receives, and as it sends.
 BPF, QUERY, TCX, ASKED_OCTETS, COUNT_AT = 321, 16, (46, 47), 64, 24
-# Of linux/if_packet.h.
-SOL_PACKET, VNET_HDR = 263, 15
 
 
 def count_programs(space: str, device: str) -> int:
@@ -97,10 +96,7 @@ def fast_troubles(programs: Programs) -> None:
     with fast_pair(programs, options=["--flight", "200"]) as (laid, ours, theirs):
         events = [(1, lambda: laid.tell("cut", 1)), (3, lambda: laid.tell("join", 1)), (8, lambda: laid.tell("cut", 0)),
                   (10, lambda: laid.tell("join", 0)), (15, lambda: laid.tell("silence", 1)), (20, lambda: laid.tell("hear", 1))]
-        outcome = run_flows(programs, 24, events)
-        check_order(outcome, "by the kernel, through cuts and a silence", ours.text())
-        check_whole(outcome, ours, theirs, cables_lose=True)
-        check(within(COMES_BACK, lambda: ours.links() == 2), "both links carry again", ours.text())
+        check_through(programs, ours, theirs, 24, events, "by the kernel, through cuts and a silence")
 
 
 def fast_overload(programs: Programs) -> None:
@@ -118,13 +114,11 @@ def fast_ends(programs: Programs) -> None:
     with cables(programs, ()):
         ip(OURS, "tuntap", "add", DEVICE, "mode", "tap", "vnet_hdr")
         ours, theirs = End(programs, OURS, options=["--fast"]), End(programs, THEIRS, options=["--fast"])
-        if not within(COMES_UP, lambda: ours.links() == theirs.links() == 2 and ours.carry()["markers"] == "answered"):
-            raise Failed("two links carry", ours.text())
+        wait_for_links(ours, theirs)
         run_flows(programs, 2)
         check_fast(ours)
         check(count_programs(OURS, DEVICE) > 0, "the kernel runs programs at the TAP device")
-        ours.process.send_signal(signal.SIGKILL)
-        ours.process.wait()
+        ours.kill()
         time.sleep(0.5)
         check(count_programs(OURS, DEVICE) == count_programs(OURS, "a0") == 0, "with the daemon killed it runs none")
         before = [kernel_count(OURS, name, "tx_packets") for name in ("a0", "a1")]
@@ -136,10 +130,8 @@ def fast_ends(programs: Programs) -> None:
 def fast_away(programs: Programs) -> None:
     """A pair of interfaces vanishes and is there again, with the rights that the daemon has left then; and a MAC address that changes."""
     with fast_pair(programs, delays=(), before=RIGHTS if shutil.which("setpriv") else ()) as (_, ours, theirs):
-        outcome = run_flows(programs, 8, [(1, lambda: ip(OURS, "link", "del", "a1")), (4, lambda: lay_direct(1))])
-        check_order(outcome, "by the kernel, through an interface that vanishes", ours.text())
-        check_whole(outcome, ours, theirs, cables_lose=True)
-        check(within(COMES_BACK, lambda: ours.links() == 2), "both links carry again", ours.text())
+        events: list[Event] = [(1, lambda: ip(OURS, "link", "del", "a1")), (4, lambda: lay_direct(1))]
+        check_through(programs, ours, theirs, 8, events, "by the kernel, through an interface that vanishes")
         before = ours.told()["ports"][1]["data"]["passed_on"]
         run_flows(programs, 4, [(0.5, move_all(ours)), (1.5, move_all(ours))])
         passed = ours.told()["ports"][1]["data"]["passed_on"] - before
@@ -158,8 +150,7 @@ def fast_refused(programs: Programs) -> None:
         ours, theirs = End(programs, OURS, options=["--fast"]), End(programs, THEIRS, options=["--fast"])
         line = "a1: its data stays with the daemon: its queueing discipline is neither noqueue, bfifo nor pfifo"
         check(within(COMES_UP, lambda: line in ours.printed()), "a member with pfifo_fast is left to the daemon", ours.printed())
-        if not within(COMES_UP, lambda: ours.links() == theirs.links() == 2 and ours.carry()["markers"] == "answered"):
-            raise Failed("two links carry", ours.text())
+        wait_for_links(ours, theirs)
         outcome = run_flows(programs, 5, every(1, 4, move_all(ours)))
         check_order(outcome, "by the kernel on one link, by the daemon on the other", ours.text())
         check_whole(outcome, ours, theirs, cables_lose=True)
@@ -171,14 +162,10 @@ def fast_requeued(programs: Programs) -> None:
     """A member gets another queueing discipline, and the former one again: its other settings stay, which would cost its link."""
     with cables(programs, ()):
         ip(OURS, "link", "del", "a0")
-        two = ("numtxqueues", "2", "numrxqueues", "2")
-        ip(OURS, "link", "add", "a0", *two, "type", "veth", "peer", "name", "b0", "netns", THEIRS)
-        for space, name in (OURS, "a0"), (THEIRS, "b0"):
-            ip(space, "link", "set", name, "up")
+        lay_direct(0, 2)
         had = inside(OURS, "ethtool", "-l", "a0").stdout
         ours, theirs = End(programs, OURS, options=["--fast"]), End(programs, THEIRS, options=["--fast"])
-        if not within(COMES_UP, lambda: ours.links() == theirs.links() == 2 and ours.carry()["markers"] == "answered"):
-            raise Failed("two links carry", ours.text())
+        wait_for_links(ours, theirs)
         changes = lambda: inside(OURS, "cat", "/sys/class/net/a0/carrier_changes").stdout
         before, line = changes(), "a0: its data stays with the daemon"
         if inside(OURS, "tc", "qdisc", "replace", "dev", "a0", "root", "pfifo_fast").returncode:
@@ -201,8 +188,7 @@ def fast_unfit(programs: Programs) -> None:
         for space, name in (OURS, "a0"), (OURS, "a1"), (THEIRS, "b0"), (THEIRS, "b1"):
             ip(space, "link", "set", name, "mtu", "1400")
         time.sleep(1)
-        sent, seen = packet_socket(OURS, DEVICE, 0), packet_socket(THEIRS, DEVICE, 3)
-        sent.setsockopt(SOL_PACKET, VNET_HDR, 1)
+        sent, seen = host_socket(), packet_socket(THEIRS, DEVICE, 3)
         seen.settimeout(1)
         header, plain = bytes.fromhex("0200000000070200000000dd"), bytes(10)
         for _ in range(20):
@@ -211,27 +197,16 @@ def fast_unfit(programs: Programs) -> None:
         check_fast(ours)
         before = ours.carry()["unfit"]
         with contextlib.suppress(OSError):  # the kernel tells who sends that it is lost
-            sent.send(segments_of(1448) + header + segmented(3000))
+            sent.send(packet_to_cut(3000, 1448, header))
         for _ in range(20):
             sent.send(plain + header + bytes.fromhex("88b5") + bytes(46))
         check(within(3, lambda: ours.carry()["unfit"] == before + 1), "a frame of segments that are too long is lost, and counted", ours.text())
         kinds = [frame[12:14] for frame in all_of(seen) if frame[:12] == header]
         check(kinds == [b"\x88\xb5"] * 40, f"{len(kinds)} frames of its conversation come, and none of those segments", kinds)
-        sent.send(segments_of(1300) + header + segmented(3000))
+        sent.send(packet_to_cut(3000, 1300, header))
         check(any(frame[12:14] == b"\x08\x00" for frame in all_of(seen)), "one of segments that fit comes", ours.text())
         sent.close()
         seen.close()
-
-
-def segments_of(octets: int) -> bytes:
-    """What the kernel is told of a frame of TCP over IPv4 that is cut into segments with so many octets: virtio_net_hdr."""
-    return struct.pack("=BBHHHH", 1, 1, 54, octets, 34, 16)
-
-
-def segmented(octets: int) -> bytes:
-    """A frame of TCP over IPv4, behind the addresses of Ethernet."""
-    network = struct.pack("!BBHHHBBH4s4s", 0x45, 0, 40 + octets, 1, 0, 64, 6, 0, bytes((10, 0, 0, 1)), bytes((10, 0, 0, 2)))
-    return b"\x08\x00" + network + struct.pack("!HHIIBBHHH", 1, 2, 1, 1, 0x50, 0x10, 1024, 0, 0) + bytes(octets)
 
 
 def all_of(seen: socket.socket) -> list[bytes]:

@@ -11,6 +11,7 @@ from typing import Callable
 
 from bonds import DEVICE, End, Programs, check_end, pair, run_flows
 from checking import check
+from packets import packet_to_cut
 from spaces import OURS, ip, within_space
 
 # Of linux/if_tun.h: a request, IFF_TAP with IFF_NO_PI and IFF_VNET_HDR, and what the guest takes of segments and sums.
@@ -23,18 +24,8 @@ OTHERS, SECONDS = 2000, 5
 ROWS = (20, 1, False), (200, 8, False), (200, 47, False), (100, 48, True), (400, 48, True), (200, 536, True)
 
 
-def make_packet(size: int) -> bytes:
-    """What the kernel is told of a packet of several segments, and the packet, whose sum is left to a card."""
-    transport = struct.pack(">HHIIBBHHH", 1234, 9, 1, 1, 0x50, 0x10, 100, 0, 0) + bytes(OCTETS)
-    network = struct.pack(">BBHHHBBH4s4s", 0x45, 0, 20 + len(transport), 1, 0x4000, 64, 6, 0, bytes([192, 0, 2, 9]), bytes([192, 0, 2, 2]))
-    total = sum(struct.unpack(">10H", network))
-    total = (total & 0xFFFF) + (total >> 16)
-    network = network[:10] + struct.pack(">H", ~total & 0xFFFF) + network[12:]
-    return struct.pack("=BBHHHH", 1, 1, 54, size, 34, 16) + bytes.fromhex("02bb00000001" "0200000000cc" "0800") + network + transport
-
-
 def send_packets(guest: int, rate: int, size: int, seconds: float) -> None:
-    packet, begin, sent = make_packet(size), time.monotonic(), 0
+    packet, begin, sent = packet_to_cut(OCTETS, size, bytes.fromhex("02bb00000001" "0200000000cc")), time.monotonic(), 0
     while time.monotonic() < begin + seconds:
         if sent > (time.monotonic() - begin) * rate:
             time.sleep(0.002)

@@ -7,32 +7,28 @@ import functools
 import os
 import re
 import select
-import signal
 import socket
 import struct
 import time
+from pathlib import Path
 from typing import Callable
 
-from bonds import COMES_UP, DEVICE, End, Programs, cables
-from checking import Failed, Skipped, check, command, within
+from bonds import COMES_UP, DEVICE, End, Programs, cables, wait_for_links
+from checking import Skipped, check, command, within
 from daemon import SYSTEM
 from spaces import OURS, THEIRS, inside, ip, octets, packet_socket, within_space
+from stream_parts import ADDRESSES6, give_both_addresses
 from streams import ADDRESSES, give_addresses, run_stream
 
 # Who asks for the address of our end.
 ASKER = "02:00:00:00:00:77"
 ARP, ANSWER = 0x0806, 2
-# Both ends of the addresses of IPv6, and how much is sent each way.
-ADDRESSES6, OCTETS = ("2001:db8::1", "2001:db8::2"), 300000
+# How much is sent each way.
+OCTETS = 300000
 # Of linux/if_tun.h: a request, and IFF_TAP with IFF_NO_PI.
 SET_DEVICE, TAP_PLAIN = 0x400454CA, 0x1002
 # How the daemon's queue looks, and what a kernel gives a TAP device.
 OWN_QUEUE = "bfifo 6c61: "
-
-
-def wait_for_links(ours: End, theirs: End) -> None:
-    if not within(COMES_UP, lambda: ours.links() == theirs.links() == 2 and ours.carry()["markers"] == "answered"):
-        raise Failed("two links carry", ours.text(), ours.printed(), theirs.text())
 
 
 def answers_of_arp(seconds: float = 1.0) -> list[str]:
@@ -59,8 +55,7 @@ def filters(name: str) -> tuple[int, bool]:
 def asks_kernel(programs: Programs) -> None:
     """lagd --check tells what a file wants and the kernel lacks."""
     path = os.path.join(programs.folder, "asked.conf")
-    with open(path, "w", encoding="utf-8") as it:
-        it.write("[Bundle]\nkey=1\nsystem=1,02:00:00:00:00:01\ncarry=lag0\nfast=yes\n[Port a0]\n")
+    Path(path).write_text("[Bundle]\nkey=1\nsystem=1,02:00:00:00:00:01\ncarry=lag0\nfast=yes\n[Port a0]\n", encoding="utf-8")
     lacks = f"lagd: {path}:5: fast: the kernel has no program of an interface, which Linux has from 6.6 on\n"
     for program, wanted in (programs.old_kernel, (1, lacks)), (programs.daemon, (0, "")):
         ended = command(program, "--check", path)
@@ -80,8 +75,7 @@ def stacks(programs: Programs) -> None:
         check(answers == [SYSTEM], f"{len(answers)} answers who has the address of {DEVICE}", answers, ours.printed())
         check("a1: it has a clsact already" in ours.printed() and "a0: it has" not in ours.printed(),
               "a line tells of filters of others", ours.printed())
-        ours.process.send_signal(signal.SIGKILL)
-        ours.process.wait()
+        ours.kill()
         check(filters("a0") == filters("a1") == (1, True), "a killed daemon leaves its filters", filters("a0"), filters("a1"))
         ours = start()
         wait_for_links(ours, theirs)
@@ -142,39 +136,35 @@ def sums(programs: Programs) -> None:
     with cables(programs, ()):
         ours, theirs = End(programs, OURS), End(programs, THEIRS, options=["--offload"])
         wait_for_links(ours, theirs)
-        give_addresses((DEVICE, DEVICE))
-        for space, address in zip((OURS, THEIRS), ADDRESSES6):
-            inside(space, "sysctl", "-qw", f"net.ipv6.conf.{DEVICE}.disable_ipv6=0")
-            ip(space, "address", "add", f"{address}/64", "dev", DEVICE, "nodad")
+        give_both_addresses()
         for family, hosts, version in (socket.AF_INET, ADDRESSES, 4), (socket.AF_INET6, ADDRESSES6, 6):
             for kind, name in (socket.SOCK_DGRAM, "UDP"), (socket.SOCK_STREAM, "TCP"):
                 check(carries_both_ways(kind, family, hosts), f"{name} over IPv{version} goes both ways", ours.text(), theirs.text())
         check(ours.data("without_sums") > 0, f"{ours.data('without_sums')} frames came without their sums", ours.text())
 
 
-def set_features(space: str, name: str, *words: str) -> None:
-    if inside(space, "ethtool", "-K", name, *words).returncode:
-        raise Skipped(f"no ethtool sets {' '.join(words)} of {name} (Debian: ethtool)")
+def set_features(*words: str) -> None:
+    """Both members of ours can do this, or cannot."""
+    for name in "a0", "a1":
+        if inside(OURS, "ethtool", "-K", name, *words).returncode:
+            raise Skipped(f"no ethtool sets {' '.join(words)} of {name} (Debian: ethtool)")
 
 
 def uncut(programs: Programs) -> None:
     """Frames of several segments, over members that cannot cut them; before the start, and while it runs."""
     for way in "--offload", "--fast":
         with cables(programs, ()):
-            for name in "a0", "a1":
-                set_features(OURS, name, "tso", "off", "gso", "off")
+            set_features("tso", "off", "gso", "off")
             ours, theirs = End(programs, OURS, options=[way, "--hash", "layer3+4"]), End(programs, THEIRS, options=[way])
             wait_for_links(ours, theirs)
             stream = run_stream(2)
             unsent, cut = ours.data("data_unsent"), ours.carry()["segmented"]
             check(unsent == 0, f"{way}: {stream.bits / 1e9:.2f} Gb/s, {unsent} of {cut:,} frames of several segments lost", ours.text())
             check(cut > 0 or way == "--fast", f"{way}: {cut:,} frames of several segments came to the daemon", ours.text())
-            for name in "a0", "a1":
-                set_features(OURS, name, "tso", "on", "gso", "on")
+            set_features("tso", "on", "gso", "on")
             stream = run_stream(1)
             check(ours.data("data_unsent") == 0, f"{way}: {stream.bits / 1e9:.2f} Gb/s once they can", ours.text())
-            for name in "a0", "a1":
-                set_features(OURS, name, "tx", "off")
+            set_features("tx", "off")
             stream = run_stream(1)
             check(ours.data("data_unsent") == 0, f"{way}: {stream.bits / 1e9:.2f} Gb/s where they leave the sums to the kernel, too", ours.text())
 
@@ -199,20 +189,16 @@ def disciplines(programs: Programs) -> None:
         for way in "--fast", "--offload":
             start = functools.partial(End, programs, OURS, options=[way], names=("t0", "t1"))
             ours = start()
-            try:
-                check(within(COMES_UP, lambda: discipline_of("t0") == OWN_QUEUE), f"{way}: {usual} gives way to one that keeps the order", discipline_of("t0"))
-                check(discipline_of("t1") == "tbf 7: ", "what an administrator set stays", discipline_of("t1"), ours.printed())
-                check("t1: its queueing discipline is neither" in ours.printed() and "t0: its" not in ours.printed(), "with a line", ours.printed())
-                ours.process.send_signal(signal.SIGKILL)
-                ours.process.wait()
-                check(discipline_of("t0") == OWN_QUEUE, "a killed daemon leaves it", discipline_of("t0"))
-                ours = start()
-                check(within(COMES_UP, lambda: bool(ours.told())) and discipline_of("t0") == OWN_QUEUE, "the next one takes it over", discipline_of("t0"))
-                ours.ends("the daemon")
-                check(discipline_of("t0") == usual, f"and {usual} is back, as it ends", discipline_of("t0"))
-                check(discipline_of("t1") == "tbf 7: ", "what an administrator set stays", discipline_of("t1"))
-            finally:
-                ours.stop()
+            check(within(COMES_UP, lambda: discipline_of("t0") == OWN_QUEUE), f"{way}: {usual} gives way to one that keeps the order", discipline_of("t0"))
+            check(discipline_of("t1") == "tbf 7: ", "what an administrator set stays", discipline_of("t1"), ours.printed())
+            check("t1: its queueing discipline is neither" in ours.printed() and "t0: its" not in ours.printed(), "with a line", ours.printed())
+            ours.kill()
+            check(discipline_of("t0") == OWN_QUEUE, "a killed daemon leaves it", discipline_of("t0"))
+            ours = start()
+            check(within(COMES_UP, lambda: bool(ours.told())) and discipline_of("t0") == OWN_QUEUE, "the next one takes it over", discipline_of("t0"))
+            ours.ends("the daemon")
+            check(discipline_of("t0") == usual, f"and {usual} is back, as it ends", discipline_of("t0"))
+            check(discipline_of("t1") == "tbf 7: ", "what an administrator set stays", discipline_of("t1"))
 
 
 def octets_of(name: str) -> int:

@@ -20,8 +20,8 @@ import restoring
 import selecting
 import stream_parts
 from announced import announced
-from bonds import (COMES_BACK, COMES_UP, DEVICE, FLOWS, PEERS, RIGHTS, Cables, Carry, End, Event, Programs, ask_gro, cables, check_end,
-                   check_none_lost, check_order, check_whole, every, lay_direct, move_all, pair, run_flows)
+from bonds import (COMES_UP, DEVICE, FLOWS, PEERS, RIGHTS, Cables, Carry, End, Event, Programs, ask_gro, cables, check_end,
+                   check_none_lost, check_order, check_through, check_whole, every, lay_direct, move_all, pair, run_flows)
 from fast_parts import (fast, fast_away, fast_ends, fast_filtered, fast_hash, fast_overload, fast_refused, fast_requeued, fast_troubles, fast_unfit,
                         fast_unwaited, offload)
 from models import model
@@ -63,13 +63,9 @@ def moves(programs: Programs) -> None:
 def cuts(programs: Programs) -> None:
     """Each link is cut for 2 s, and joined."""
     with pair(programs) as (laid, ours, theirs):
-        both = lambda: ours.links() == 2
         events = [(1, lambda: laid.tell("cut", 1)), (3, lambda: laid.tell("join", 1)), (8, lambda: laid.tell("cut", 0)),
                   (10, lambda: laid.tell("join", 0))]
-        outcome = run_flows(programs, 14, events)
-        check_order(outcome, "through two cuts", ours.text())
-        check_whole(outcome, ours, theirs, cables_lose=True)
-        check(within(COMES_BACK, both), "both links carry again", ours.text())
+        check_through(programs, ours, theirs, 14, events, "through two cuts")
         carry = ours.carry()
         check(carry["moves"] > 0, f"{carry['moves']} conversations moved to the links that came back", ours.text())
 
@@ -79,11 +75,8 @@ def silence(programs: Programs) -> None:
     with pair(programs, options=["--flight", "200"]) as (laid, ours, theirs):
         events = [(1, lambda: laid.tell("silence", 1)), (6, lambda: laid.tell("hear", 1)), (10, lambda: laid.tell("silence", 0)),
                   (15, lambda: laid.tell("hear", 0))]
-        outcome = run_flows(programs, 18, events)
-        check_order(outcome, "through two silences", ours.text())
+        outcome = check_through(programs, ours, theirs, 18, events, "through two silences")
         check(outcome.gap_ms <= SILENCE_MS, f"a silent link cost {outcome.gap_ms} ms, {SILENCE_MS} at most", ours.printed())
-        check_whole(outcome, ours, theirs, cables_lose=True)
-        check(within(COMES_BACK, lambda: ours.links() == 2), "both links carry again", ours.text())
 
 
 def switches(programs: Programs) -> None:
@@ -129,10 +122,8 @@ def stays_while_heard(programs: Programs, laid: Cables, ours: End, theirs: End) 
 def away(programs: Programs) -> None:
     """A pair of interfaces vanishes, and is there again."""
     with pair(programs, delays=()) as (_, ours, theirs):
-        outcome = run_flows(programs, 8, [(1, lambda: ip(OURS, "link", "del", "a1")), (4, lambda: lay_direct(1))])
-        check_order(outcome, "through an interface that vanishes", ours.text())
-        check_whole(outcome, ours, theirs, cables_lose=True)
-        check(within(COMES_BACK, lambda: ours.links() == 2), "both links carry again", ours.text())
+        events: list[Event] = [(1, lambda: ip(OURS, "link", "del", "a1")), (4, lambda: lay_direct(1))]
+        check_through(programs, ours, theirs, 8, events, "through an interface that vanishes")
 
 
 def restarts(programs: Programs) -> None:
@@ -228,7 +219,7 @@ def open_vswitch(programs: Programs) -> None:
             check_order(outcome, "to Open vSwitch, with a cut", ours.text())
             check_end(ours, "the sending end")
         finally:
-            ours.stop()
+            ours.kill()
             peer.end()
 
 

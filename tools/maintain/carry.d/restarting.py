@@ -13,13 +13,14 @@ import time
 from array import array
 from dataclasses import replace
 from functools import partial
+from pathlib import Path
 from threading import Event, Thread, Timer
 from typing import Callable, Iterator, Sequence
 
 from beside import print_rows, switch_ends
 from booted import BOOTS, Machine
 from bonds import (COMES_BACK, COMES_UP, DEVICE, DIRECT, FLIGHT, FLOWS, LATE, MIDDLE, RATE, End, Outcome, Programs, ask_gro, cables, check_none_lost,
-                   check_order, late, lay_direct, move_all, run_flows)
+                   check_order, late, lay_direct, move_all, run_flows, wait_for_links)
 from checking import Failed, Skipped, check, found, within
 from daemon import ENDS, SYSTEM, Daemon, Part
 from openvswitch import OpenVSwitch
@@ -101,7 +102,7 @@ class Manager:
         moved = " ".join([*(f"{3 + place}<&{file}" for place, file in enumerate(files)), *(f"{file}<&-" for file in self.files.values())])
         return ["bash", "-c", f'{text} exec "$@" {moved}', "bash"]
 
-    def drop(self) -> None:
+    def close(self) -> None:
         """Keeps nothing any more, as where its unit is stopped."""
         self.socket.sendto(b"END", self.path) if self.reader.is_alive() else None
         self.reader.join()
@@ -132,15 +133,13 @@ class Kept(End):
 
     def without_carry(self, rights: Sequence[str] = ()) -> Daemon:
         """Its daemon hands over to one that carries no data."""
-        self.process.send_signal(signal.SIGUSR1)
-        self.process.wait(ENDS)
+        self.leave()
         before, files = self.given()
         return Daemon(self.programs.daemon, self.programs.folder, self.at, SYSTEM, "23", "a0", "a1", before=[*before, *rights], files=files)
 
     def again(self, by: signal.Signals, after: float = 0.0, between: Callable[[], object] = lambda: None) -> None:
         """Its daemon ends by a signal, and is started again."""
-        self.process.send_signal(by)
-        self.process.wait(ENDS)
+        self.leave(by)
         time.sleep(after)
         between()
         self.launch()
@@ -156,12 +155,11 @@ def managed(programs: Programs, options: Sequence[str], *, space: str = OURS, ha
             kept = Kept(programs, space, options, manager)
             ends = [kept, End(programs, THEIRS if space == OURS else OURS, options=options)]
             ip(space, "address", "add", ADDRESS, "dev", DEVICE)
-            if not within(COMES_UP, lambda: all(end.links() == DIRECT and end.carry()["markers"] == "answered" for end in ends)):
-                raise Failed("two links carry", *(end.text() for end in ends))
+            wait_for_links(*ends)
             yield kept, ends[1]
     finally:
         if manager:
-            manager.drop()
+            manager.close()
 
 
 def device_number(space: str = OURS) -> str:
@@ -326,8 +324,7 @@ def change_between(programs: Programs, words: Sequence[str]) -> None:
         check(within(ENDS, lambda: ask_gro(OURS, "a1")), f"{name}: what is a member no more gets GRO back", kept.printed())
         within(COMES_UP, lambda: peer.links() == 1)
         check_flows(programs, kept, peer, f"{name}, a link that was taken out")
-        kept.process.send_signal(signal.SIGUSR1)
-        kept.process.wait(ENDS)
+        kept.leave()
         peer.process.kill()
         kept.launch()
         check(within(4.5, lambda: kept.links() == 0), f"{name}: where the peer is gone, the carrier goes in its time", kept.text(), kept.printed())
@@ -420,8 +417,7 @@ def tells_of_device(path: str) -> bool:
     """Whether a state is whole, and of the device that is there."""
     if not os.path.exists(path):
         return False
-    with open(path, encoding="utf-8") as it:
-        lines = it.read().splitlines()
+    lines = Path(path).read_text(encoding="utf-8").splitlines()
     return "end" in lines and any(line.startswith(f"tap {device_number()} ") for line in lines)
 
 
@@ -445,8 +441,7 @@ def handover_foreign(programs: Programs) -> None:
         ours = End(programs, OURS)
         path = left.format(os.stat(f"/run/netns/{OURS}").st_ino)
         check(within(ENDS, lambda: tells_of_device(path)), "the state tells of the device", ours.printed())
-        ours.process.kill()
-        ours.process.wait(ENDS)
+        ours.kill()
     with cables(programs, ()):
         ip(OURS, "tuntap", "add", "foreign0", "mode", "tap")
         number = inside(OURS, "cat", "/sys/class/net/foreign0/ifindex").stdout.strip()
@@ -464,8 +459,7 @@ def handover_foreign(programs: Programs) -> None:
 def handover_old_kernel(programs: Programs) -> None:
     """A kernel that gives the device a carrier as it is opened: it has none while nothing flows."""
     with managed(replace(programs, daemon=programs.old_kernel), (), has_manager=False) as (kept, peer):
-        kept.process.send_signal(signal.SIGUSR1)
-        kept.process.wait(ENDS)
+        kept.leave()
         peer.process.kill()
         time.sleep(4)
         kept.launch()
@@ -494,9 +488,9 @@ def unit(programs: Programs, words: str) -> Iterator[tuple[Machine, End]]:
                 raise Failed(f"{words}: both links of the unit carry", machine.told())
             yield machine, theirs
         finally:
-            theirs.stop()
+            theirs.kill()
             machine.process.send_signal(signal.SIGKILL)
-            machine.drop()
+            machine.close()
 
 
 def unit_of(programs: Programs, name: str, words: str) -> None:

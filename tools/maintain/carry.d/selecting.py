@@ -3,7 +3,6 @@
 from __future__ import annotations
 
 import contextlib
-import signal
 import subprocess
 from typing import Callable, Iterator
 
@@ -38,8 +37,7 @@ def two_peers(programs: Programs, *options: str) -> Iterator[tuple[Cables, End]]
                 raise Failed("all links come up", ours.text())
             yield laid, ours
         finally:
-            second.process.kill()
-            second.process.wait()
+            second.kill()
 
 
 def active(end: End) -> str:
@@ -99,8 +97,7 @@ def selected_apart(programs: Programs) -> None:
         check(active(ours) == "a0 a1", "with data of the peer this end goes where that comes", ours.text())
         check("the peer sends in aggregator" in ours.printed() and "alone" in ours.text(), "and says so", ours.printed(), ours.text())
         check(theirs.carry()["handed_up"] > back[0], "data arrives", outcome, theirs.text())
-        ours.process.send_signal(signal.SIGUSR1)
-        ours.process.wait()
+        ours.leave()
         ours = End(programs, OURS, names=NAMES, options=["--select", "priority"])
         stays = lambda: active(ours) == "a0 a1" and "it follows the peer" in ours.text()
         check(within(1, stays), "the next daemon goes on there", ours.text(), ours.printed())

@@ -8,7 +8,6 @@ import hashlib
 import os
 import signal
 import socket
-import struct
 import subprocess
 import threading
 import time
@@ -16,27 +15,19 @@ from typing import Callable, Iterator
 
 from bonds import ANSWERS, COMES_BACK, DEVICE, End, Event, Programs, check_end, kernel_count, pair
 from checking import Failed, check, within
+from packets import PORT, host_socket, internet_sum, packet_to_cut
 from spaces import OURS, THEIRS, inside, ip, packet_socket, within_space
 from streams import ADDRESSES, give_addresses
 from tap_parts import check_deleted
 
 ADDRESSES6 = ("2001:db8::1", "2001:db8::2")
-PORT, OCTETS_AT_ONCE = 7000, 1 << 16
+OCTETS_AT_ONCE = 1 << 16
 # How many octets a stream has, and in how many seconds it has to come, whatever happens meanwhile.
 OCTETS, COMES_WITHIN = 40_000_000, 90
 # The most frames of a stream that are looked at on a cable.
 MOST_FRAMES = 2000
 # Packets that a program has cut, how many octets each has, and those of the smallest segments (TCP_MIN_SND_MSS of Linux).
 SMALL_PACKETS, SMALL_OCTETS, SMALLEST = 4, 65000, 48
-# Of linux/if_packet.h.
-SOL_PACKET, PACKET_VNET_HDR = 263, 15
-
-
-def internet_sum(octets: bytes) -> int:
-    """The sum of which the checksum of IP and TCP is the complement; of octets with a right one 0xFFFF."""
-    octets += bytes(len(octets) % 2)
-    total = sum(int.from_bytes(octets[at:at + 2], "big") for at in range(0, len(octets), 2))
-    return total % 0xFFFF or 0xFFFF
 
 
 def is_complete(frame: bytes) -> bool:
@@ -142,22 +133,11 @@ def streams(programs: Programs) -> None:
         check_end(theirs, "the receiving end")
 
 
-def packet_to_cut(octets: int, size: int, tags: bytes = b"") -> bytes:
-    """A packet of TCP as a packet socket takes it, with so many octets, which is to be cut into segments of `size` of them."""
-    addresses = b"".join(map(socket.inet_aton, ADDRESSES))
-    ip_header = struct.pack("!BBHHHBBH", 0x45, 0, 40 + octets, 0, 0x4000, 64, 6, 0) + addresses
-    pseudo_sum = internet_sum(addresses + struct.pack("!HH", 6, 20 + octets))
-    tcp_header = struct.pack("!HHIIBBHHH", PORT, PORT, 0, 0, 0x50, 0x10, 500, pseudo_sum, 0)
-    told = struct.pack("=BBHHHH", 1, 1, 54 + len(tags), size, 34 + len(tags), 16)  # struct virtio_net_hdr
-    return told + bytes([2] * 12) + tags + b"\x08\x00" + ip_header + tcp_header + bytes(octets)
-
-
 def small_segments(programs: Programs) -> None:
     """Packets of the smallest segments that Linux makes are cut, and one of smaller ones is unfit."""
     with pair(programs, delays=()) as (_, ours, theirs):
         before, frames = ours.carry(), SMALL_PACKETS * -(-SMALL_OCTETS // SMALLEST)
-        with packet_socket(OURS, DEVICE, 0) as host:
-            host.setsockopt(SOL_PACKET, PACKET_VNET_HDR, 1)
+        with host_socket() as host:
             for size in (*[SMALLEST] * SMALL_PACKETS, SMALLEST - 1):
                 host.send(packet_to_cut(SMALL_OCTETS, size))
 
@@ -169,9 +149,8 @@ def small_segments(programs: Programs) -> None:
               taken(), ours.text())
         check_end(ours, "the sending end")
     with pair(programs, delays=()) as (_, ours, theirs):
-        with packet_socket(OURS, DEVICE, 0) as host:
-            host.setsockopt(SOL_PACKET, PACKET_VNET_HDR, 1)
-            host.send(packet_to_cut(3000, 1000, b"\x88\xa8\x00\x05" + b"\x81\x00\x00\x05" * 2))
+        with host_socket() as host:
+            host.send(packet_to_cut(3000, 1000, tags=b"\x88\xa8\x00\x05" + b"\x81\x00\x00\x05" * 2))
         check(within(ANSWERS, lambda: theirs.carry()["handed_up"] == 3), "a packet with three tags is cut, too",
               ours.text())
 

@@ -8,14 +8,15 @@ import errno
 import shutil
 import signal
 import socket
-import struct
 import subprocess
 import time
 from typing import Iterator
 
-from bonds import (COMES_BACK, COMES_UP, DEVICE, FLOWS, MIDDLE, RATE, End, Event, Programs, cables, check_end, check_order, every, move_all, pair, run_flows)
-from checking import Failed, Skipped, check, within
+from bonds import (COMES_BACK, COMES_UP, DEVICE, FLOWS, MIDDLE, RATE, End, Event, Programs, cables, check_end, check_order, every, move_all, pair, run_flows,
+                   wait_for_links)
+from checking import Skipped, check, within
 from fast_parts import check_fast, fast_pair
+from packets import host_socket, packet_to_cut
 from speeds import FULL, Cable, Settings, make_tap, renew
 from spaces import OURS, THEIRS, inside, ip, packet_socket
 from streams import run_stream
@@ -64,7 +65,7 @@ def fast_outage(programs: Programs) -> None:
         run_flows(programs, 9, events)
         check_fast(ours, FLOWS // 2)
         check_end(ours, "the sending end")
-        restart = [(0.5, theirs.stop), (4.0, lambda: theirs.__init__(programs, THEIRS, options=["--fast"]))]  # type: ignore[misc]
+        restart = [(0.5, theirs.kill), (4.0, lambda: theirs.__init__(programs, THEIRS, options=["--fast"]))]  # type: ignore[misc]
         run_flows(programs, 5, restart)
         check_alive(programs, ours, "the peer was killed, and started again, under a load")
 
@@ -78,8 +79,7 @@ def fast_start(programs: Programs) -> None:
         sender = subprocess.Popen(words, stdout=subprocess.DEVNULL)
         try:
             ends = [End(programs, space, options=["--fast"]) for space in (OURS, THEIRS)]
-            if not within(COMES_UP, lambda: ends[0].links() == ends[1].links() == 2):
-                raise Failed("two links carry", ends[0].text())
+            wait_for_links(*ends)
             sender.wait(30)
             check_alive(programs, ends[0], "the daemon was started while its host sent")
         finally:
@@ -299,12 +299,10 @@ def queues(programs: Programs) -> None:
         inside(OURS, "sysctl", "-qw", "net.core.rps_default_mask=3")
         for option, wanted in lines.items():
             end = End(programs, OURS, names=("q0", "m0"), options=[option] if option else [])
-            try:
-                check(within(FOLLOWS, lambda: all(line in end.printed() for line in wanted)), f"{option or 'plain'}: each has a line", end.printed())
-                mask = inside(OURS, "cat", f"/sys/class/net/{DEVICE}/queues/rx-0/rps_cpus").stdout.strip()
-                check(set(mask) <= set("0,"), f"{option or 'plain'}: RPS spreads nothing at {DEVICE}", mask)
-            finally:
-                end.stop()
+            check(within(FOLLOWS, lambda: all(line in end.printed() for line in wanted)), f"{option or 'plain'}: each has a line", end.printed())
+            mask = inside(OURS, "cat", f"/sys/class/net/{DEVICE}/queues/rx-0/rps_cpus").stdout.strip()
+            check(set(mask) <= set("0,"), f"{option or 'plain'}: RPS spreads nothing at {DEVICE}", mask)
+            end.kill()
 
 
 def send_or_lose(sent: socket.socket, packet: bytes) -> None:
@@ -318,18 +316,13 @@ def send_or_lose(sent: socket.socket, packet: bytes) -> None:
 
 def segments(programs: Programs) -> None:
     """Frames whose segments have, with their headers, as many octets as a frame may have, and one more."""
-    frame = bytes.fromhex("02bb00000001" "02aa00000000" "0800" "45000fc8" "00000000" "40060000" "0a630001" "0a630002" "1f901f90")
-    frame += bytes(8) + b"\x50\x10\xff\xff" + bytes(4) + bytes(4000)
     for option in "--offload", "--fast":
-        with pair(programs, delays=(), options=[option]) as (_, ours, theirs):
-            sent = packet_socket(OURS, DEVICE, 0)
-            sent.setsockopt(263, 15, 1)  # SOL_PACKET, PACKET_VNET_HDR
+        with pair(programs, delays=(), options=[option]) as (_, ours, theirs), host_socket() as sent:
             for octets, unfit in (1460, 0), (1461, 3):
                 before = ours.carry()["from_host"]
                 for _ in range(3):
-                    send_or_lose(sent, struct.pack("=BBHHHH", 1, 1, 54, octets, 34, 16) + frame)
+                    send_or_lose(sent, packet_to_cut(4000, octets))
                     time.sleep(0.3)
                 told = ours.carry()
                 holds = told["from_host"] == before + 3 and told["unfit"] == unfit
                 check(holds, f"{option}: of three frames with segments of {octets + 54} octets {told['unfit']} are unfit", ours.text())
-            sent.close()

@@ -2,8 +2,10 @@
 
 from __future__ import annotations
 
+import contextlib
 import os
 import shutil
+from pathlib import Path
 from typing import Callable
 
 from booted import ANSWERS, BOOTS, TARGET, Machine, put
@@ -36,8 +38,7 @@ WAYS: dict[str, tuple[dict[str, str], list[str], list[str]]] = {
 def text_of(file: str) -> str:
     """A file of lagd/boot, with the names of our members."""
     path = os.path.join(TOP, "lagd", "boot", file)
-    with open(path if os.path.exists(path) else path.replace("eth2", "eth1"), encoding="utf-8") as it:
-        text = it.read()
+    text = Path(path if os.path.exists(path) else path.replace("eth2", "eth1")).read_text(encoding="utf-8")
     return text.replace("eth1", "a1" if file.startswith("eth2") else "a0").replace("eth2", "a1")
 
 
@@ -86,8 +87,7 @@ def boot_with(name: str) -> Callable[[Part], None]:
             raise Skipped("there is no /dev/net/tun")
         if not shutil.which("ping"):
             raise Skipped("no command ping (Debian: iputils-ping)")
-        machine = Machine(part, more=lay_over(Packages(PEERS, True), name))
-        try:
+        with contextlib.closing(Machine(part, more=lay_over(Packages(PEERS, True), name))) as machine:
             theirs = part.theirs(options=["--carry", "lag0"])
             within(ANSWERS, lambda: inside(THEIRS, "ip", "link", "set", "lag0", "up").returncode == 0)
             ip(THEIRS, "address", "add", f"{THEIRS_AT}/24", "dev", "lag0")
@@ -105,8 +105,6 @@ def boot_with(name: str) -> Callable[[Part], None]:
             check(within(ANSWERS, pings), "with one link it answers", machine.told())
             inside(THEIRS, "ip", "link", "set", "b0", "up")
             settle(machine, theirs, "once the other one is back")
-        finally:
-            machine.drop()
 
     return boot
 

@@ -2,12 +2,14 @@
 
 from __future__ import annotations
 
+import contextlib
 import os
 import re
 import shutil
 import signal
 import subprocess
 import time
+from pathlib import Path
 from typing import Callable
 
 from checking import Skipped, check, command, within
@@ -141,10 +143,9 @@ class Machine:
         check(active, "systemd starts the unit, whose Type is notify", self.told())
 
     def told(self) -> str:
-        with open(self.log, encoding="utf-8") as it:
-            return it.read()[-3000:] + self.tells("journalctl", "--no-pager", "--lines", "60")
+        return Path(self.log).read_text(encoding="utf-8")[-3000:] + self.tells("journalctl", "--no-pager", "--lines", "60")
 
-    def drop(self) -> None:
+    def close(self) -> None:
         if self.process.poll() is None:
             self.process.kill()
             self.process.wait()
@@ -200,8 +201,7 @@ def comes_back(machine: Machine, theirs: Daemon, what: str, by: str) -> None:
 
 def boot(part: Part) -> None:
     part.unhurried()
-    machine = Machine(part)
-    try:
+    with contextlib.closing(Machine(part)) as machine:
         theirs = part.theirs(options=["--timeout", "long"])
         machine.comes_up()
         both = lambda: theirs.distributes("b0", "b1") and machine.property("StatusText") == "up, 2 of 2 links carry"
@@ -231,8 +231,6 @@ def boot(part: Part) -> None:
         check(machine.tells("find", "/run/lagd/uplink", "-name", "*.sock") == "", "and its socket is gone")
         check(machine.tells("find", "/var/lib/lagd/uplink", "-name", "*.state") == "", "and so is the copy of its state")
         machine.process.send_signal(signal.SIGKILL)
-    finally:
-        machine.drop()
 
 
 PARTS = {"the unit under systemd": boot}

@@ -8,6 +8,7 @@
 #include <stdlib.h>
 #include <string.h>
 
+#include "alone.h"
 #include "checks.h"
 #include "daemon.h"
 #include "netlink.h"
@@ -56,7 +57,6 @@ static bool is_on(uint16_t agg, uint16_t conv) {
 
 struct niw_number lagffi_offer_conversation(struct niw_system *handle, uint16_t agg, uint16_t conv) {
     struct niw_number answer = {.status = NIW_OK};
-    (void)handle;
     if (on[agg][conv] != 0 && !is_on(agg, conv)) answer.status = NIW_HELD;
     if (on[agg][conv] == 0 && lagd->carry.active_count == 0) answer.status = NIW_NONE_DISTRIBUTING;
     if (answer.status == NIW_OK && on[agg][conv] == 0) on[agg][conv] = lagd->carry.active_ports[conv % lagd->carry.active_count];
@@ -66,20 +66,17 @@ struct niw_number lagffi_offer_conversation(struct niw_system *handle, uint16_t 
 
 uint32_t lagffi_force(struct niw_system *handle, uint16_t agg, uint16_t conv) {
     bool held = on[agg][conv] != 0 && !is_on(agg, conv);
-    (void)handle;
     if (held) on[agg][conv] = 0;
     return held ? NIW_OK : NIW_NOT_ASSIGNED;
 }
 
 uint32_t lagffi_rest(struct niw_system *handle, uint16_t agg, uint16_t conv) {
     bool has = is_on(agg, conv);
-    (void)handle;
     if (has) on[agg][conv] = 0;
     return has ? NIW_OK : NIW_NOT_ASSIGNED;
 }
 
 bool ask_state(struct protocol *protocol, uint16_t agg, uint16_t number, struct niw_assignment *state) {
-    (void)protocol;
     *state = (struct niw_assignment){.port = on[agg][number], .what = NIW_CONVERSATION_FREE};
     if (on[agg][number] != 0) state->what = is_on(agg, number) ? NIW_CONVERSATION_ON : NIW_CONVERSATION_WANTED;
     return true;
@@ -87,13 +84,6 @@ bool ask_state(struct protocol *protocol, uint16_t agg, uint16_t number, struct 
 
 bool is_held(const struct niw_assignment *state) {
     return state->what == NIW_CONVERSATION_WANTED;
-}
-
-bool is_done(struct process *process, uint32_t status, const char *call) {
-    (void)process;
-    if (status == NIW_OK) return true;
-    check(false, call, "the library does it");
-    exit(tell_checks());
 }
 
 static bool refuses(void) {
@@ -104,7 +94,6 @@ static bool refuses(void) {
 }
 
 bool set_port_enabled(const struct team_netlink_private *own, int index, int port, bool wanted) {
-    (void)own;
     uint16_t number = (uint16_t)(port - INDEX);
     if (index != DEVICE || !is_port[number] || refuses()) return false;
     for (uint16_t bucket = 0; !wanted && bucket < CONVERSATIONS; bucket++) {
@@ -119,7 +108,6 @@ bool set_port_enabled(const struct team_netlink_private *own, int index, int por
 bool set_bucket(const struct team_netlink_private *own, int index, uint16_t bucket, int port) {
     uint16_t before = member_of[bucket] == 0 ? 0 : (uint16_t)(member_of[bucket] - INDEX);
     bool leaves = before != 0 && before != port - INDEX && distributes[before] && placed_in == aggregator;
-    (void)own;
     if (index != DEVICE || !enabled[port - INDEX] || refuses()) return false;
     if (leaves && last_counted[bucket] + FLIGHT > counted_at) early = true;
     member_of[bucket] = port;
@@ -127,13 +115,11 @@ bool set_bucket(const struct team_netlink_private *own, int index, uint16_t buck
 }
 
 bool ask_interface(int index, const char *name, struct interface *device) {
-    (void)name;
     *device = (struct interface){.index = index, .octets_sent = all_sent};
     return true;
 }
 
 bool read_team(struct team_netlink_private *own, int index, struct team_now *now) {
-    (void)own;
     *now = (struct team_now){0};
     errno = ENOBUFS;
     if (unread > 0 && unread-- > 0) return false;
@@ -148,34 +134,16 @@ bool read_team(struct team_netlink_private *own, int index, struct team_now *now
 }
 
 /* What the daemon has beside. */
-uint64_t milliseconds(void) {
-    return lagd->carry.time;
-}
-uint64_t ticks_passed(const struct system_private *own) {
-    (void)own;
-    return lagd->carry.time / TICK;
-}
-int tap_index(const struct device *own) {
-    (void)own;
-    return DEVICE;
-}
-bool is_team_port(const struct team_plane *own, uint16_t port) {
-    (void)own;
-    return is_port[port];
-}
-void give_team_addresses(struct team_plane *team) {
-    (void)team;
-}
-void look_again(struct changes_private *own) {
-    (void)own;
-}
+ANSWERS(uint64_t milliseconds, lagd->carry.time, void)
+ANSWERS(uint64_t ticks_passed, lagd->carry.time / TICK, const struct system_private *own)
+ANSWERS(int tap_index, DEVICE, const struct device *own)
+ANSWERS(bool is_team_port, is_port[port], const struct team_plane *own, uint16_t port)
+NOTHING(give_team_addresses, struct team_plane *team)
+NOTHING(look_again, struct changes_private *own)
 void set_carrier(struct device *device, bool on) {
-    (void)device;
     carrier = on;
 }
 bool say(struct process *process, int level, const char *format, ...) {
-    (void)process;
-    (void)level;
     unread_told += strstr(format, "does not tell") != NULL;
     return true;
 }

@@ -130,6 +130,19 @@ void turn(struct niw_system *one, struct niw_system *other, unsigned ticks) {
     }
 }
 
+void bring_up(struct niw_system *one, struct niw_system *other) {
+    for (uint16_t port = 1; port <= 2; port++) CHECK(niw_set_link(one, port, true) == NIW_OK && niw_set_link(other, port, true) == NIW_OK);
+    turn(one, other, 60);
+}
+
+/* The readers of a port: what each answers without a handle, of an empty one, and of a port that there is not. */
+#define EACH_READER_OF_A_PORT(asks) \
+    asks(is_up) asks(state) asks(receive_state) asks(is_due) asks(party) asks(partner) asks(group) asks(defaulted) asks(distributes) asks(choice) \
+    asks(is_standby) asks(mux_state) asks(port_status) asks(current_while) asks(wait_while) asks(ntt) asks(held) asks(answers) asks(load)
+#define IS_NULL(reader) CHECK(niw_##reader(NULL, 1).status == NIW_NULL);
+#define HAS_NO_SYSTEM(reader) CHECK(niw_##reader(&empty, 1).status == NIW_NO_SYSTEM);
+#define HAS_NO_PORT(reader) CHECK(niw_##reader(live, 3).status == NIW_NO_PORT);
+
 /* Each call refuses each pointer that is null. */
 static void check_null_in_calls(struct niw_system *live) {
     struct niw_system empty = NIW_EMPTY;
@@ -164,21 +177,14 @@ static void check_null_in_readers(struct niw_system *live) {
     CHECK(niw_views(NULL, views, NIW_MOST_PORTS).status == NIW_NULL && niw_views(live, NULL, NIW_MOST_PORTS).status == NIW_NULL);
     CHECK(niw_due(NULL).status == NIW_NULL && niw_due(NULL).number == 0);
     CHECK(niw_ports(NULL, numbers, NIW_MOST_PORTS).status == NIW_NULL && niw_ports(live, NULL, NIW_MOST_PORTS).status == NIW_NULL);
-    CHECK(niw_aggregators(NULL).status == NIW_NULL && niw_is_up(NULL, 1).status == NIW_NULL);
-    CHECK(niw_state(NULL, 1).status == NIW_NULL && niw_receive_state(NULL, 1).status == NIW_NULL);
-    CHECK(niw_is_due(NULL, 1).status == NIW_NULL && niw_party(NULL, 1).status == NIW_NULL);
-    CHECK(niw_partner(NULL, 1).status == NIW_NULL && niw_group(NULL, 1).status == NIW_NULL);
-    CHECK(niw_defaulted(NULL, 1).status == NIW_NULL && niw_distributes(NULL, 1).status == NIW_NULL);
-    CHECK(niw_choice(NULL, 1).status == NIW_NULL && niw_is_standby(NULL, 1).status == NIW_NULL);
-    CHECK(niw_mux_state(NULL, 1).status == NIW_NULL && niw_port_status(NULL, 1).status == NIW_NULL);
-    CHECK(niw_current_while(NULL, 1).status == NIW_NULL && niw_wait_while(NULL, 1).status == NIW_NULL);
-    CHECK(niw_ntt(NULL, 1).status == NIW_NULL && niw_held(NULL, 1).status == NIW_NULL && niw_answers(NULL, 1).status == NIW_NULL);
+    CHECK(niw_aggregators(NULL).status == NIW_NULL);
+    EACH_READER_OF_A_PORT(IS_NULL)
     CHECK(niw_conversation_ports(NULL, 1, numbers, 64, marks, 64).status == NIW_NULL);
     CHECK(niw_conversation_ports(live, 1, NULL, 64, marks, 64).status == NIW_NULL);
     CHECK(niw_conversation_ports(live, 1, numbers, 64, NULL, 64).status == NIW_NULL);
     CHECK(niw_released(NULL, 1, marks, 64, marks, 64).status == NIW_NULL && niw_released(live, 1, NULL, 64, marks, 64).status == NIW_NULL);
     CHECK(niw_released(live, 1, marks, 64, NULL, 64).status == NIW_NULL);
-    CHECK(niw_load(NULL, 1).status == NIW_NULL && niw_distributing(NULL, 1, numbers, NIW_MOST_PORTS).status == NIW_NULL);
+    CHECK(niw_distributing(NULL, 1, numbers, NIW_MOST_PORTS).status == NIW_NULL);
     CHECK(niw_distributing(live, 1, NULL, NIW_MOST_PORTS).status == NIW_NULL);
     CHECK(niw_conversation(NULL, frame, sizeof frame).status == NIW_NULL && niw_conversation(live, NULL, NIW_FRAME).status == NIW_NULL);
     CHECK(niw_conversation_state(NULL, 1, 4).status == NIW_NULL && niw_next_marker(NULL).status == NIW_NULL);
@@ -197,19 +203,13 @@ static void check_refusals(struct niw_system *live) {
     CHECK(niw_due(&empty).status == NIW_NO_SYSTEM && niw_due(live).number == 0 && niw_due(live).status == NIW_OK);
     CHECK(niw_ticks(&empty, 2) == NIW_NO_SYSTEM && niw_ticks(&empty, 0) == NIW_NO_SYSTEM);
     CHECK(niw_tick(&empty) == NIW_NO_SYSTEM && niw_restart(&empty) == NIW_NO_SYSTEM && niw_free(&empty) == NIW_NO_SYSTEM);
-    CHECK(niw_party(&empty, 1).status == NIW_NO_SYSTEM && niw_next_marker(&empty).status == NIW_NO_SYSTEM);
+    CHECK(niw_next_marker(&empty).status == NIW_NO_SYSTEM && niw_force_port(&empty, 1).status == NIW_NO_SYSTEM);
+    EACH_READER_OF_A_PORT(HAS_NO_SYSTEM)
+    EACH_READER_OF_A_PORT(HAS_NO_PORT)
     CHECK(niw_transmit(live, 1, frame, NIW_FRAME - 1).status == NIW_BUFFER);
     CHECK(niw_receive(live, 1, frame, sizeof frame, frame, 0).status == NIW_BUFFER);
     CHECK(niw_ports(live, numbers, 63).status == NIW_BUFFER && niw_distributing(live, 1, numbers, 63).status == NIW_BUFFER);
-    CHECK(niw_set_link(live, 9, true) == NIW_NO_PORT && niw_is_due(live, 0).status == NIW_NO_PORT);
-    CHECK(niw_partner(live, 3).status == NIW_NO_PORT && niw_group(live, 3).status == NIW_NO_PORT);
-    CHECK(niw_is_standby(live, 3).status == NIW_NO_PORT && niw_is_standby(&empty, 1).status == NIW_NO_SYSTEM);
-    CHECK(niw_load(live, 3).status == NIW_NO_PORT && niw_load(&empty, 1).status == NIW_NO_SYSTEM);
-    CHECK(niw_force_port(live, 3).status == NIW_NO_PORT && niw_force_port(&empty, 1).status == NIW_NO_SYSTEM);
-    CHECK(niw_port_status(live, 3).status == NIW_NO_PORT && niw_port_status(&empty, 1).status == NIW_NO_SYSTEM);
-    CHECK(niw_current_while(live, 3).status == NIW_NO_PORT && niw_current_while(&empty, 1).status == NIW_NO_SYSTEM);
-    CHECK(niw_wait_while(live, 3).status == NIW_NO_PORT && niw_wait_while(&empty, 1).status == NIW_NO_SYSTEM);
-    CHECK(niw_ntt(live, 3).status == NIW_NO_PORT && niw_ntt(&empty, 1).status == NIW_NO_SYSTEM);
+    CHECK(niw_set_link(live, 9, true) == NIW_NO_PORT && niw_is_due(live, 0).status == NIW_NO_PORT && niw_force_port(live, 3).status == NIW_NO_PORT);
     CHECK(niw_offer(live, 3, frame, sizeof frame).status == NIW_NO_AGGREGATOR && niw_force(live, 0, 1) == NIW_NO_AGGREGATOR);
     CHECK(niw_offer(live, 1, frame, sizeof frame).status == NIW_NONE_DISTRIBUTING);
     CHECK(niw_offer(live, 1, frame, 13).status == NIW_FRAME_LENGTH && niw_conversation(live, frame, 13).status == NIW_FRAME_LENGTH);
@@ -227,10 +227,8 @@ static void check_no_port(struct niw_system *live) {
     struct niw_received received = niw_receive(live, 3, frame, sizeof frame, response, sizeof response);
     CHECK(received.status == NIW_NO_PORT && received.what == 0 && received.number == 0);
     CHECK(changed.status == NIW_NO_PORT && !changed.is && !niw_is_due(live, 3).is && !niw_is_standby(live, 3).is);
-    CHECK(niw_state(live, 3).status == NIW_NO_PORT && niw_receive_state(live, 3).status == NIW_NO_PORT);
-    CHECK(niw_mux_state(live, 3).status == NIW_NO_PORT && niw_choice(live, 3).status == NIW_NO_PORT);
-    CHECK(niw_load(live, 3).number == 0 && niw_distributes(live, 3).status == NIW_NO_PORT);
-    CHECK(party.status == NIW_NO_PORT && party.system_priority == 0 && memcmp(party.system_mac, zero, sizeof zero) == 0);
+    EACH_READER_OF_A_PORT(HAS_NO_PORT)
+    CHECK(niw_load(live, 3).number == 0 && party.status == NIW_NO_PORT && party.system_priority == 0 && memcmp(party.system_mac, zero, sizeof zero) == 0);
     CHECK(party.key == 0 && party.port_priority == 0 && party.port == 0 && !party.aggregatable);
 }
 
@@ -464,9 +462,7 @@ static void check_force_port(void) {
     uint16_t agg;
     make(&one, 5, 7, 256, 0);
     make(&other, 6, 9, 256, 0);
-    for (uint16_t port = 1; port <= 2; port++)
-        CHECK(niw_set_link(&one, port, true) == NIW_OK && niw_set_link(&other, port, true) == NIW_OK);
-    turn(&one, &other, 60);
+    bring_up(&one, &other);
     agg = (uint16_t)niw_choice(&one, 1).number;
     CHECK(niw_offer(&one, agg, data, sizeof data).number == 1 && niw_force_port(&one, 1).number == 0);
     CHECK(niw_conversation_state(&one, agg, 4).what == NIW_CONVERSATION_ON && niw_move_conversation(&one, agg, 4, 2) == NIW_OK);
@@ -628,9 +624,7 @@ static void check_algorithms(void) {
         make(&one, 5, 7, 4096, 0);
         the_algorithm = NIW_BY_NUMBER;
         make(&other, 6, 9, 4096, 0);
-        for (uint16_t port = 1; port <= 2; port++)
-            CHECK(niw_set_link(&one, port, true) == NIW_OK && niw_set_link(&other, port, true) == NIW_OK);
-        turn(&one, &other, 60);
+        bring_up(&one, &other);
         CHECK(niw_restart(&other) == NIW_OK && niw_distributes(&one, 1).is && niw_distributes(&one, 2).is);
         agg = (uint16_t)niw_choice(&one, 1).number;
         for (size_t i = 0; i < sizeof conversations / sizeof *conversations; i++) {
@@ -696,9 +690,7 @@ static void check_limit(void) {
     memset(views, 0, sizeof views);
     make(&one, 3, 7, 256, 1);
     make(&other, 4, 9, 256, 1);
-    for (uint16_t port = 1; port <= 2; port++)
-        CHECK(niw_set_link(&one, port, true) == NIW_OK && niw_set_link(&other, port, true) == NIW_OK);
-    turn(&one, &other, 60);
+    bring_up(&one, &other);
     agg = (uint16_t)niw_choice(&one, 1).number;
     CHECK(agg >= 1 && niw_choice(&one, 2).number == agg && !niw_is_standby(&one, 1).is && niw_is_standby(&one, 2).is);
     CHECK(niw_port_status(&one, 2).number == NIW_PORT_STATUS_STANDBY && niw_port_status(&one, 1).number == NIW_PORT_STATUS_DISTRIBUTING);
@@ -709,8 +701,7 @@ static void check_limit(void) {
     CHECK(niw_choice(&one, 1).number == 0 && !niw_is_standby(&one, 1).is && !niw_is_standby(&one, 2).is);
     turn(&one, &other, 20);
     CHECK(niw_distributing(&one, agg, numbers, NIW_MOST_PORTS).number == 1 && numbers[0] == 2);
-    CHECK(niw_set_link(&one, 1, true) == NIW_OK && niw_set_link(&other, 1, true) == NIW_OK);
-    turn(&one, &other, 60);
+    bring_up(&one, &other);
     CHECK(niw_is_standby(&one, 1).is && !niw_is_standby(&one, 2).is && niw_choice(&one, 1).number == agg);
     CHECK(niw_free(&one) == NIW_OK && niw_free(&other) == NIW_OK);
 }
@@ -735,9 +726,7 @@ int main(void) {
     asked = askings;
     check_first_frame(&one);
     check_faults(&one);
-    CHECK(niw_set_link(&one, 2, true) == NIW_OK && niw_set_link(&other, 1, true) == NIW_OK);
-    CHECK(niw_set_link(&other, 2, true) == NIW_OK);
-    turn(&one, &other, 60);
+    bring_up(&one, &other);
     check_distributing(&one);
     agg = (uint16_t)niw_choice(&one, 1).number;
     check_conversation(&one, &other, agg);

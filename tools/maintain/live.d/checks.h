@@ -26,6 +26,9 @@ void make(struct niw_system *handle, uint8_t who, uint16_t key, uint16_t convers
 /* Ticks both systems, and carries what is due from one to the other after each tick. */
 void turn(struct niw_system *one, struct niw_system *other, unsigned ticks);
 
+/* Has all links of both come up, and both distribute. */
+void bring_up(struct niw_system *one, struct niw_system *other);
+
 /* Reads and writes payloads by niw_decode and niw_encode. */
 void check_payloads(void);
 

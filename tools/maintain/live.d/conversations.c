@@ -63,9 +63,7 @@ void check_plane(void) {
     make(&one, 5, 7, 256, 0);
     make(&other, 6, 9, 256, 0);
     CHECK(!niw_probe(&one, 1, marker, sizeof marker).is && niw_probe(&one, 1, marker, sizeof marker).status == NIW_OK);
-    for (uint16_t port = 1; port <= 2; port++)
-        CHECK(niw_set_link(&one, port, true) == NIW_OK && niw_set_link(&other, port, true) == NIW_OK);
-    turn(&one, &other, 60);
+    bring_up(&one, &other);
     agg = (uint16_t)niw_choice(&one, 1).number;
     CHECK(niw_offer(&one, agg, data, sizeof data).number == 1 && niw_offer_conversation(&one, agg, 4).number == 1);
     CHECK(niw_offer_conversation(&one, agg, 7).number == 2 && niw_conversation_state(&one, agg, 7).what == NIW_CONVERSATION_ON);

@@ -8,6 +8,7 @@ import os
 import re
 import signal
 import subprocess
+from pathlib import Path
 from typing import Any, Callable, NoReturn, Protocol, Sequence
 
 from checking import Skipped, check, within
@@ -54,8 +55,7 @@ class Daemon:
             return int(times.read().split()[0]) / 1e9
 
     def printed(self) -> str:
-        with open(self.log, encoding="utf-8") as it:
-            return it.read()
+        return Path(self.log).read_text(encoding="utf-8")
 
     def lines(self, name: str) -> list[str]:
         """What it printed of a port, without times."""
@@ -92,6 +92,16 @@ class Daemon:
             return self.process.wait(ENDS)
         except subprocess.TimeoutExpired:
             return None
+
+    def kill(self) -> None:
+        """It is gone, and could tell nobody."""
+        self.process.kill()
+        self.process.wait()
+
+    def leave(self, by: signal.Signals = signal.SIGUSR1) -> None:
+        """It hands over to the next one, or ends by another signal."""
+        self.process.send_signal(by)
+        self.process.wait(ENDS)
 
     def ends(self, name: str, by: signal.Signals = signal.SIGTERM) -> None:
         """A signal ends it."""
@@ -142,13 +152,24 @@ class Part:
     def theirs(self, *names: str, **more: Any) -> Daemon:
         return self.start(THEIRS, OTHER, "5", *(names or ("b0", "b1")), **more)
 
+    def alone(self, **more: Any) -> Daemon:
+        """A daemon of ours at one link, which is up."""
+        ours = self.ours("a0", **more)
+        within(ENDS, lambda: ours.port("a0")["link"] == "up")
+        return ours
+
     def refused(self, *words: str) -> tuple[int, str]:
         """A daemon that does not start: its status, and its line on standard error."""
         ended = inside(OURS, self.program, "--folder", os.path.join(self.folder, "run"), *words, timeout=ENDS)
         return ended.returncode, ended.stderr
 
+    def end_all(self) -> None:
+        """What a part leaves of daemons ends by a signal."""
+        for it in self.running:
+            if isinstance(it, Daemon) and it.process.poll() is None:
+                it.ends("the daemon" if it.space == OURS else "the other daemon")
+
     def drop(self) -> None:
         for each in self.running:
-            if each.process.poll() is None:
-                each.process.kill()
-                each.process.wait()
+            each.process.kill()
+            each.process.wait()

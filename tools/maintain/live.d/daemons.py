@@ -12,6 +12,7 @@ import socket
 import struct
 import termios
 import time
+from typing import Sequence
 
 from checking import Skipped, check, command, within
 from daemon import ENDS, KEY, OTHER, SYSTEM, Daemon, Part
@@ -43,6 +44,13 @@ LINK_GONE, RTM_DELLINK, INDEX = struct.Struct("=IHHIIBxHiII"), 17, "/sys/class/n
 def both_up(ours: Daemon, theirs: Daemon, what: str) -> None:
     holds = within(COMES_UP, lambda: ours.distributes("a0", "a1") and theirs.distributes("b0", "b1"))
     check(holds, what, ours.text(), theirs.text())
+
+
+def pair_up(part: Part, what: str = "both links distribute", ours: Sequence[str] = (), theirs: Sequence[str] = ()) -> tuple[Daemon, Daemon]:
+    """Two daemons with these options, whose links come to distribute."""
+    both = part.ours(options=ours), part.theirs(options=theirs)
+    both_up(*both, what)
+    return both
 
 
 def follow_link(daemon: Daemon, downed: str) -> None:
@@ -104,8 +112,7 @@ def drop_link(ours: Daemon, theirs: Daemon) -> None:
 
 
 def two_daemons(part: Part) -> None:
-    ours, theirs = part.ours(), part.theirs()
-    both_up(ours, theirs, "two daemons: both links come to distribute at both ends")
+    ours, theirs = pair_up(part, "two daemons: both links come to distribute at both ends")
     for daemon, name, system, key, port in (ours, "a1", OTHER, 5, 2), (theirs, "b0", SYSTEM, int(KEY), 1):
         partner = daemon.port(name)["partner"]
         named = (partner["system_priority"], partner["system"], partner["key"], partner["port"])
@@ -176,11 +183,9 @@ def lone_daemon(part: Part) -> None:
     ip(OURS, "link", "set", "away", "name", "a0")
     ip(OURS, "link", "set", "a0", "up")
     check(within(ENDS, lambda: daemon.port("a0")["link"] == "up"), "and is taken up when it has its name again", daemon.text())
-    daemon.process.kill()
-    daemon.process.wait()
+    daemon.kill()
     again = part.ours("a0", "a1")
     check(within(ENDS, again.ports), "after one that was killed another one starts", again.printed())
-    again.ends("the daemon")
 
 
 def other_addresses(daemon: Daemon, wire: Wire) -> None:
@@ -246,11 +251,9 @@ def stranger(part: Part) -> None:
     other_addresses(daemon, wire)
     count_frames(daemon, wire)
     flood(daemon, wire)
-    second = part.start(OURS, OTHER, "9", "a1")
+    part.start(OURS, OTHER, "9", "a1")
     both = lambda: [daemon.port(name)["actor"]["key"] for name in ("a0", "a1")] == [int(KEY), 9]
     check(within(ENDS, both), "the status has both daemons of a namespace", daemon.text())
-    daemon.ends("the daemon")
-    second.ends("the other one")
 
 
 def churn(part: Part) -> None:
@@ -276,15 +279,12 @@ def churn(part: Part) -> None:
     told = inside(OURS, daemon.program, "--folder", daemon.folder, "--metrics").stdout
     check('lagd_port_partner_churn{bundle="a0",interface="a0",port="1"} 1' in told.splitlines(), "so say the metrics", told)
     check(becomes(COMES_UP, IS_ACTIVE | IN_SYNC, "NO_CHURN"), "until its peer is synchronized", daemon.text())
-    daemon.ends("the daemon")
 
 
 def stall(part: Part) -> None:
     """A daemon is stopped for 5 s. Its peer waits 90 s, and sends each second. Then all ticks would be made up at once: its own link
     would expire though LACPDUs wait for it."""
-    theirs = part.theirs(options=["--timeout", "long"])
-    ours = part.ours()
-    both_up(ours, theirs, "both links distribute")
+    ours, theirs = pair_up(part, theirs=["--timeout", "long"])
     lines, sent = ours.lines("a0"), ours.count("a0", "lacpdus_sent")
     ours.process.send_signal(signal.SIGSTOP)
     time.sleep(STALL)
@@ -293,14 +293,11 @@ def stall(part: Part) -> None:
     within(ENDS, lambda: ours.count("a0", "lacpdus_received") >= taken)
     check(ours.distributes("a0", "a1") and ours.lines("a0") == lines, "after a stall the links are as before", ours.printed())
     check(ours.count("a0", "lacpdus_sent") <= sent + 3, "and what was missed is not sent at once", sent, ours.text())
-    for daemon, name in (ours, "the daemon"), (theirs, "the other daemon"):
-        daemon.ends(name)
 
 
 def stall_of_sender(part: Part) -> None:
     """A daemon that sends each second is stopped for 5 s."""
-    theirs, ours = part.theirs(), part.ours()
-    both_up(ours, theirs, "both links distribute")
+    ours, theirs = pair_up(part)
     wire = Wire(THEIRS, "b0")
     ours.process.send_signal(signal.SIGSTOP)
     time.sleep(STALL)
@@ -338,13 +335,11 @@ def full_queue(part: Part) -> None:
     check(len(askers) > 1 and told, f"stopped, with {len(askers)} questions unanswered, it keeps nobody waiting", line)
     daemon.process.send_signal(signal.SIGCONT)
     check(within(ENDS, lambda: daemon.port("a0")["link"] == "up"), "it answers again", daemon.printed())
-    daemon.ends("the daemon")
 
 
 def false_changes(part: Part, seconds: float = 4) -> None:
     """Another program sends messages to the socket on which the kernel tells of interfaces: that one is taken away."""
-    theirs, ours = part.theirs(), part.ours()
-    both_up(ours, theirs, "both links distribute")
+    ours, theirs = pair_up(part)
     lines = ours.lines("a0")
     with within_space(OURS):
         sender = socket.socket(socket.AF_NETLINK, socket.SOCK_RAW | socket.SOCK_NONBLOCK, socket.NETLINK_ROUTE)
@@ -359,7 +354,6 @@ def false_changes(part: Part, seconds: float = 4) -> None:
     after = ours.count("a0", "lacpdus_sent")
     check(after >= before + 2, "the daemon sends meanwhile", before, after)
     both_up(ours, theirs, "and both links distribute")
-    ours.ends("the daemon")
 
 
 def quiet_ports(part: Part) -> None:
@@ -375,8 +369,6 @@ def quiet_ports(part: Part) -> None:
     share = (ours.busy() - busy) / (time.monotonic() - begin)
     check(ours.count("a0", "lacpdus_received") >= came + 5, "LACPDUs come meanwhile", came, ours.text())
     check(share <= SHARE, f"a daemon of {MANY} ports takes {share:.2%} of a processor, at most {SHARE:.1%}")
-    for daemon, name in (ours, "the daemon"), (theirs, "the other daemon"):
-        daemon.ends(name)
 
 
 def reasons(part: Part) -> None:
@@ -399,7 +391,6 @@ def reasons(part: Part) -> None:
     check(within(ENDS, says("no LACPDU came in time")), "a link that falls silent says so", daemon.text())
     told = daemon.text()
     check("  status: no LACPDU came in time\n" in told and "current_while" in told, "so does the status as text", told)
-    daemon.ends("the daemon")
 
 
 def full_pipe(part: Part) -> None:
@@ -418,7 +409,6 @@ def full_pipe(part: Part) -> None:
     check(told, "what could not be printed is told when somebody reads again")
     os.close(reader)
     follow_link(ours, "b1")
-    ours.ends("a daemon whose reader is gone")
 
 
 def options(part: Part) -> None:
@@ -433,8 +423,6 @@ def options(part: Part) -> None:
     check(states == [{"aggregation"}, {"activity", "timeout"}], "one is passive and long, the other one active, short, individual", states)
     partner = theirs.port("b0")["partner"]
     check((partner["key"], partner["port_priority"]) == (8, 100), "the peer sees the same", partner)
-    for daemon, name in (ours, "the daemon"), (theirs, "the other daemon"):
-        daemon.ends(name)
 
 
 def limit(part: Part) -> None:
@@ -446,7 +434,6 @@ def limit(part: Part) -> None:
     check(within(ENDS, lambda: ours.last_line("a1").startswith(f"{full}, aggregator 1, ")), "its line says so", ours.printed())
     ip(THEIRS, "link", "set", "b0", "down")
     check(within(COMES_UP, lambda: ours.distributes("a1") and theirs.distributes("b1")), "it takes over", ours.text())
-    ours.ends("the daemon")
 
 
 def not_root(part: Part) -> None:
@@ -464,7 +451,6 @@ def not_root(part: Part) -> None:
     both_up(ours, theirs, "not as root, both links distribute")
     found = [it.getsockopt(socket.SOL_SOCKET, socket.SO_PRIORITY) for it in sockets_of(ours.process.pid)]
     check(found == [CONTROL, CONTROL], "its frames have the priority of control frames, too", found)
-    ours.ends("the daemon")
 
 
 def before_data(part: Part) -> None:
@@ -499,7 +485,6 @@ def bond(part: Part) -> None:
     check(re.search(rf"details partner lacp pdu:.*?oper key: {KEY}\b", view, re.S), "the driver names our key", view)
     check(re.search(r"number of ports: 2", view), "the driver has both links in one aggregator", view)
     follow_link(daemon, "b1")
-    daemon.ends("the daemon")
 
 
 PARTS = {

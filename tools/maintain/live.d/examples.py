@@ -7,6 +7,7 @@ import glob
 import os
 import re
 import shutil
+from pathlib import Path
 
 import library
 from checking import check, command
@@ -33,8 +34,7 @@ def check_programs(folder: str, libraries: list[str]) -> None:
     pooled = ["-DNIW_POOL", library.PORTABLE]
     for text in sorted(glob.glob(f"{EXAMPLES}/*.txt")):
         name = os.path.basename(text).removesuffix(".txt")
-        with open(text, encoding="utf-8") as it:
-            wanted = it.read()
+        wanted = Path(text).read_text(encoding="utf-8")
         for linked in [pooled, [*pooled, *LARGER]] if name == "pool" else [libraries]:
             told = ran(build(os.path.join(folder, name), [os.path.join(EXAMPLES, f"{name}.c")], linked, *STRICT))
             named = " ".join([f"examples/c/{name}.c", *(LARGER if LARGER[0] in linked else [])])

@@ -8,6 +8,7 @@
 #include <string.h>
 #include <sys/socket.h>
 
+#include "alone.h"
 #include "checks.h"
 #include "daemon.h"
 
@@ -26,41 +27,12 @@ static bool is_fast_member;
 static unsigned sent, by_mark, answered, entries = 4;
 static uint32_t ids[64], marks[64];
 
-uint64_t milliseconds(void) {
-    return now;
-}
-
-bool has_fast_member(const struct members_private *own, uint16_t port) {
-    (void)own;
-    (void)port;
-    return is_fast_member;
-}
-
-unsigned count_entries(int index, const char *begin) {
-    (void)index;
-    (void)begin;
-    return entries;
-}
-
-bool await_input(int epoll_file, int fd, uint32_t tag) {
-    (void)epoll_file;
-    return fd >= 0 && tag == RESPONSES;
-}
-
-void stop(int status, const char *what, const char *which) {
-    fprintf(stderr, "flights: %s: %s\n", what, which);
-    _Exit(status);
-}
-
-void receive_data(struct tap_plane *tap, uint16_t port) {
-    (void)tap;
-    (void)port;
-}
-
+ANSWERS(uint64_t milliseconds, now, void)
+ANSWERS(bool has_fast_member, is_fast_member, const struct members_private *own, uint16_t port)
+ANSWERS(unsigned count_entries, entries, int index, const char *begin)
+ANSWERS(bool await_input, fd >= 0 && tag == RESPONSES, int epoll_file, int fd, uint32_t tag)
+NOTHING(receive_data, struct tap_plane *tap, uint16_t port)
 void send_frame(struct protocol *protocol, struct link *link, const uint8_t *frame) {
-    (void)protocol;
-    (void)link;
-    (void)frame;
     answered++;
 }
 
@@ -73,8 +45,6 @@ static uint32_t mark_of(struct msghdr *message) {
 
 bool give_marker(struct tap_plane *tap, struct link *link, const uint8_t *marker, struct msghdr *message) {
     const uint8_t *at = marker + AT;
-    (void)tap;
-    (void)link;
     ids[sent % 64] = (uint32_t)at[0] << 24 | (uint32_t)at[1] << 16 | (uint32_t)at[2] << 8 | at[3];
     marks[sent++ % 64] = mark_of(message);
     by_mark += mark_of(message) != 0;

@@ -31,9 +31,6 @@ static const uint8_t *waiting;                  /* what waits there, or is the a
 static size_t waiting_length;
 
 bool await_input(int epoll_file, int fd, uint32_t tag) {
-    (void)epoll_file;
-    (void)fd;
-    (void)tag;
     return true;
 }
 
@@ -42,8 +39,6 @@ bool await_output(int epoll_file, int fd, uint32_t tag) {
 }
 
 void await_no_more(int epoll_file, int fd) {
-    (void)epoll_file;
-    (void)fd;
 }
 
 static size_t least(size_t one, size_t other) {
@@ -168,15 +163,12 @@ static void fuzz_state(const uint8_t *octets, size_t length) {
 
 /* The kernel gets no question. */
 ssize_t __wrap_mnl_socket_sendto(const struct mnl_socket *asked, const void *question, size_t length) {
-    (void)asked;
-    (void)question;
     return (ssize_t)length;
 }
 
 /* The one part of an answer. What the last one left behind it may not be read. */
 ssize_t __wrap_mnl_socket_recvfrom(const struct mnl_socket *asked, void *part, size_t room) {
     size_t length = least(waiting_length, room);
-    (void)asked;
     errno = EAGAIN;
     if (!waiting) return -1;
     ASAN_UNPOISON_MEMORY_REGION(part, room);

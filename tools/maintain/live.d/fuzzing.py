@@ -9,7 +9,7 @@ import shutil
 import struct
 
 from checking import check, command
-from linking import DAEMON, INCLUDE, STRICT, daemon_sources
+from linking import DAEMON, INCLUDE, STANDING_IN, STRICT, daemon_sources
 from repository import MAINTAIN, daemon_words
 from spaces import GROUP, SLOW_PROTOCOLS, lacpdu, octets
 
@@ -48,7 +48,7 @@ def fuzz(folder: str, libraries: list[str], seconds: int) -> None:
     compiled, linked = daemon_words()
     sources = [path for path in daemon_sources() if path != os.path.join(DAEMON, "main.c")]
     made, seeds = os.path.join(folder, "fuzz"), os.path.join(folder, "seeds")
-    words = ["-g", "-O1", "-fsanitize=fuzzer,address,undefined", "-fno-sanitize-recover=undefined", *STRICT, *compiled, f"-I{DAEMON}", INCLUDE]
+    words = ["-g", "-O1", "-fsanitize=fuzzer,address,undefined", "-fno-sanitize-recover=undefined", *STRICT, STANDING_IN, *compiled, f"-I{DAEMON}", INCLUDE]
     built = command("clang", *words, *WRAPPED, "-o", made, *sources, f"{MAINTAIN}/live.d/fuzz.c", *libraries, *linked)
     if built.returncode and "libclang_rt" not in built.stderr:
         check(False, "clang builds the fuzzer", built.stderr[-3000:])

@@ -13,8 +13,8 @@ from typing import Callable
 
 from checking import Skipped, check, within
 from daemon import ENDS, OTHER, SYSTEM, Part
-from daemons import COMES_UP, ELSEWHERE, GOES_DOWN, NOBODY, SOURCE, STRANGER, both_up
-from spaces import GROUP, OURS, SLOW_PROTOCOLS, THEIRS, Wire, flap, inside, ip, lacpdu, marker, most_within, octets, packet_socket
+from daemons import COMES_UP, ELSEWHERE, GOES_DOWN, NOBODY, SOURCE, STRANGER, both_up, pair_up
+from spaces import GROUP, OURS, SLOW_PROTOCOLS, THEIRS, Wire, flap, inside, ip, lacpdu, make_pair, marker, most_within, octets, packet_socket
 
 # Where SIGSTOP is given so many messages of the kernel that some are lost.
 MANY_MESSAGES = 3000
@@ -51,13 +51,11 @@ def partner_policy(part: Part) -> None:
     ours = part.ours("a0:individual", options=["--partner", f"32768,{STRANGER}"])
     foreign = lambda: ours.count("a0", "foreign_received") > 0
     check(within(ENDS, foreign) and ours.port("a0")["partner"]["defaulted"], "who is not the given partner is none", ours.text())
-    ours.ends("the daemon")
 
 
 def any_partner(part: Part) -> None:
     """With any partner, whoever speaks is one; the log names both."""
-    ours, wire = part.ours("a0"), Wire(THEIRS, "b0")
-    within(ENDS, lambda: ours.port("a0")["link"] == "up")
+    ours, wire = part.alone(), Wire(THEIRS, "b0")
     for _ in range(4):
         wire.send(lacpdu(OTHER, 1))
         wire.send(lacpdu(STRANGER, 1))
@@ -65,13 +63,11 @@ def any_partner(part: Part) -> None:
     told = lambda: [line for line in ours.lines("a0") if line.startswith("another system speaks, last 32768,")]
     check(within(ENDS, told), "with any partner a line names who else speaks", ours.printed())
     check(ours.count("a0", "partner_changes") == 7, "and changes of the partner are counted", ours.text())
-    ours.ends("the daemon")
 
 
 def first_until_down(part: Part) -> None:
     """The first one stays the partner until the link goes down."""
-    ours, wire = part.ours("a0", options=["--partner", "first"]), Wire(THEIRS, "b0")
-    within(ENDS, lambda: ours.port("a0")["link"] == "up")
+    ours, wire = part.alone(options=["--partner", "first"]), Wire(THEIRS, "b0")
     named = lambda system: ours.port("a0")["partner"]["system"] == system
     wire.send(lacpdu(STRANGER, 1))
     check(within(ENDS, lambda: named(STRANGER)), "who speaks first is the partner", ours.text())
@@ -86,7 +82,6 @@ def first_until_down(part: Part) -> None:
         return bool(named(OTHER))
 
     check(within(ENDS, other), "until the link goes down", ours.text())
-    ours.ends("the daemon")
 
 
 def without_partner(part: Part) -> None:
@@ -101,14 +96,12 @@ def without_partner(part: Part) -> None:
 
 def minimum(part: Part) -> None:
     """A bundle of two links that wants both."""
-    ours, theirs = part.ours(options=["--min-links", "2"]), part.theirs()
-    both_up(ours, theirs, "both links distribute")
+    ours, theirs = pair_up(part, ours=["--min-links", "2"])
     state = lambda wanted: lambda: f"status: {wanted}, " in ours.text()
     check(within(ENDS, state("up")), "the bundle is up", ours.text())
     ip(THEIRS, "link", "set", "b1", "down")
     check(within(GOES_DOWN, state("down")), "with fewer links than min-links it is down", ours.text())
     check(within(GOES_DOWN, lambda: "status: degraded, 1 of 2" in theirs.text()), "at the peer, who wants one, degraded", theirs.text())
-    ours.ends("the daemon")
 
 
 def tagged(vlan: int, protocol: int = 0x8100) -> bytes:
@@ -119,8 +112,7 @@ def tagged(vlan: int, protocol: int = 0x8100) -> bytes:
 
 def tags(part: Part) -> None:
     """LACPDUs with a VLAN tag, without and with an interface of that VLAN."""
-    ours = part.ours("a0")
-    within(ENDS, lambda: ours.port("a0")["link"] == "up")
+    ours = part.alone()
     sender = packet_socket(THEIRS, "b0", 0)
     for frame in tagged(5), tagged(5, 0x88A8):
         sender.send(frame)
@@ -131,13 +123,11 @@ def tags(part: Part) -> None:
     port = ours.port("a0")
     spared = port["partner"]["defaulted"] and port["counters"].get("lacpdus_received") == 0
     check(spared and port["counters"].get("tagged_received", 0) >= 2, "no LACPDU with a VLAN tag is taken", ours.text())
-    ours.ends("the daemon")
 
 
 def many_markers(part: Part, count: int = 1000) -> None:
     """More markers than the standard lets a peer send: first nobody is known, and then they come from another one than the partner."""
-    ours, wire = part.ours("a0"), Wire(THEIRS, "b0")
-    within(ENDS, lambda: ours.port("a0")["link"] == "up")
+    ours, wire = part.alone(), Wire(THEIRS, "b0")
     for _ in range(count):
         wire.send(marker(1))
         time.sleep(0.003)
@@ -162,13 +152,11 @@ def many_markers(part: Part, count: int = 1000) -> None:
     within(ENDS, lambda: ours.count("a0", "markers_received") == all_came)
     later, most = ours.count("a0", "marker_responses_sent") - sent, turns + 2 * (time.monotonic() - begin + 1)
     check(turns + 2 <= later <= most, "each of its markers is answered, and two a second at most of another one", later, most)
-    ours.ends("the daemon")
 
 
 def many_lacpdus(part: Part, seconds: float = 10) -> None:
     """Each LACPDU of a partner that does not know this end wants one, while the daemon gets its processor late now and then."""
-    ours, wire = part.ours("a0"), Wire(THEIRS, "b0")
-    within(ENDS, lambda: ours.port("a0")["link"] == "up")
+    ours, wire = part.alone(), Wire(THEIRS, "b0")
     until, turn, times = time.monotonic() + seconds, 0, []
     while time.monotonic() < until:
         turn += 1
@@ -179,13 +167,11 @@ def many_lacpdus(part: Part, seconds: float = 10) -> None:
         time.sleep(0.03)
         times += wire.arrivals(b"\1\1")
     check(most_within(times) == 3 and len(times) > seconds, "any second has three LACPDUs at most", most_within(times), times)
-    ours.ends("the daemon")
 
 
 def silent_first(part: Part) -> None:
     """The first partner changes its system, and its link stays up."""
-    ours, wire = part.ours("a0", options=["--partner", "first"]), Wire(THEIRS, "b0")
-    within(ENDS, lambda: ours.port("a0")["link"] == "up")
+    ours, wire = part.alone(options=["--partner", "first"]), Wire(THEIRS, "b0")
     wire.send(lacpdu(STRANGER, 1))
     check(within(ENDS, lambda: ours.port("a0")["pinned"] == f"32768,{STRANGER}"), "who speaks first is the partner", ours.text())
     begin = time.monotonic()
@@ -198,7 +184,6 @@ def silent_first(part: Part) -> None:
     waited = time.monotonic() - begin
     check(taken and waited > 4, f"when it was silent until the port ran on defaults, another one is, after {waited:.1f} s", ours.text())
     check(ours.count("a0", "foreign_received") > 3 and ours.count("a0", "defaulted") == 1, "and not before", ours.text())
-    ours.ends("the daemon")
 
 
 def same_system(part: Part) -> None:
@@ -216,7 +201,6 @@ def same_system(part: Part) -> None:
     line = f"its partner is port 1 of 32768,{STRANGER}, and so is that of port 1 a0: two hosts may have this system"
     check(line in ours.lines("a1") and "partner port: that of a1, too" in ours.text(), "so do a line and the text", ours.printed())
     check(within(ENDS, lambda: told(2, None)), "and no longer once they have two ports", ours.text())
-    ours.ends("the daemon")
 
 
 def ignored_hangup(part: Part) -> None:
@@ -226,7 +210,6 @@ def ignored_hangup(part: Part) -> None:
     ours.process.send_signal(signal.SIGHUP)
     time.sleep(1)
     check(ours.process.poll() is None and ours.distributes("a0", "a1"), "SIGHUP does not end it", ours.printed())
-    ours.ends("the daemon")
 
 
 def odd_signals(part: Part) -> None:
@@ -242,8 +225,7 @@ def odd_signals(part: Part) -> None:
 
 def anew_while_stopped(part: Part) -> None:
     """A daemon is stopped while its interface is made anew with the same number, and so much happens that it is not told of that."""
-    ours, theirs = part.ours(), part.theirs()
-    both_up(ours, theirs, "both links distribute")
+    ours, theirs = pair_up(part)
     flap(THEIRS, "b1", 5)
     before = ours.count("a1", "link_losses")
     index = inside(OURS, "cat", "/sys/class/net/a1/ifindex").stdout.strip()
@@ -251,27 +233,22 @@ def anew_while_stopped(part: Part) -> None:
     for _ in range(MANY_MESSAGES // 1000):
         ip(OURS, "-batch", "-", input="link set a0 txqueuelen 999\nlink set a0 txqueuelen 1000\n" * 500)
     ip(OURS, "link", "del", "a1")
-    ip(OURS, "link", "add", "a1", "index", index, "type", "veth", "peer", "name", "b1", "netns", THEIRS)
-    ip(OURS, "link", "set", "a1", "up")
-    ip(THEIRS, "link", "set", "b1", "up")
+    make_pair(1, ("index", index))
     ours.process.send_signal(signal.SIGCONT)
     both_up(ours, theirs, "an interface that was made anew with its number is taken up")
     after = ours.count("a1", "link_losses")
     check(before < after < before + 20, "its losses are counted on, and do not wrap", before, after)
-    ours.ends("the daemon")
 
 
 def modes(part: Part) -> None:
     """The status socket has its mode by itself, and who may not ask is told that."""
     os.chmod(part.folder, 0o755)
-    ours = part.ours("a0", before=["sh", "-c", 'umask 0; exec "$@"', "sh"])
-    within(ENDS, ours.ports)
+    ours = part.alone(before=["sh", "-c", 'umask 0; exec "$@"', "sh"])
     mode = stat.S_IMODE(os.stat(ours.socket()).st_mode)
     check(mode == 0o660, "the status socket has mode 0660, whatever the umask is", oct(mode))
     words = ["setpriv", "--reuid", NOBODY, "--regid", NOBODY, "--clear-groups", ours.program, "--folder", ours.folder, "--status"]
     told = inside(OURS, *words)
     check(told.returncode == 1 and "permission denied" in told.stderr, "who may not ask is told that permission is denied", told.stderr)
-    ours.ends("the daemon")
 
 
 # Asks without end, and reads no answer.
@@ -290,8 +267,7 @@ while True:
 
 def busy_askers(part: Part) -> None:
     """Some ask without end, and some connect and say nothing: another one is answered."""
-    ours = part.ours("a0")
-    within(ENDS, ours.ports)
+    ours = part.alone()
     busy = [subprocess.Popen(["python3", "-c", HASTY, ours.socket()]) for _ in range(2)]
     silent = [socket.socket(socket.AF_UNIX, socket.SOCK_STREAM | socket.SOCK_NONBLOCK) for _ in range(100)]
     for it in silent:
@@ -308,7 +284,6 @@ def busy_askers(part: Part) -> None:
         it.close()
     check(answers == [0] * 9, "beside busy and silent askers each question is answered", answers)
     check(ours.count("a0", "lacpdus_sent") >= before + 1 and share < 0.3, "and the daemon goes on", f"{share:.1%}", ours.text())
-    ours.ends("the daemon")
 
 
 def folders(part: Part) -> None:
@@ -347,12 +322,10 @@ def false_socket(part: Part) -> None:
 
 def two_folders(part: Part) -> None:
     """A second daemon with another folder does not take an interface that one has."""
-    ours = part.ours("a0")
-    within(ENDS, ours.ports)
+    part.alone()
     ended = inside(OURS, "timeout", "3", part.program, "--folder", os.path.join(part.folder, "other"), "9", f"32768,{OTHER}", "a0")
     wanted = f"another lagd has the interface, one of user 0: a0"
     check(ended.returncode == 1 and wanted in ended.stderr, "a second daemon with another folder is refused", ended.returncode, ended.stderr)
-    ours.ends("the daemon")
 
 
 def other_names(part: Part) -> None:
@@ -364,7 +337,6 @@ def other_names(part: Part) -> None:
     theirs = part.theirs()
     both = lambda: ours.distributes("thefirstinterfacebyitslongname", "a1") and theirs.distributes("b0", "b1")
     check(within(COMES_UP, both), "an interface is taken by an alternative name", ours.text())
-    ours.ends("the daemon")
 
 
 def name_twice(part: Part) -> None:
@@ -380,7 +352,6 @@ def full_log(part: Part) -> None:
     both_up(ours, theirs, "with a log of at most 512 octets both links distribute")
     flap(OURS, "a1", 40)
     both_up(ours, theirs, "and do so when the log is full")
-    ours.ends("the daemon")
 
 
 PARTS = {

@@ -6,6 +6,7 @@
 #include <stdlib.h>
 #include <string.h>
 
+#include "alone.h"
 #include "checks.h"
 #include "daemon.h"
 
@@ -21,26 +22,7 @@ static struct lagd tested, *lagd = &tested;
 
 const char *const program = "held";
 
-void stop(int status, const char *what, const char *which) {
-    printf("held: %s: %s\n", what, which);
-    exit(status);
-}
-
-bool is_done(struct process *process, uint32_t status, const char *call) {
-    (void)process;
-    if (status != NIW_OK) stop(1, call, niw_status_text(status));
-    return true;
-}
-
-bool is_told(struct process *process, struct niw_number answer, const char *call, uint64_t *number) {
-    *number = answer.number;
-    return is_done(process, answer.status, call);
-}
-
-size_t packet_room(void) {
-    return LARGE_OCTETS;
-}
-
+ANSWERS(size_t packet_room, LARGE_OCTETS, void)
 /* Whether so many frames of a conversation wait. */
 static bool waits(uint16_t conversation, uint64_t wanted) {
     uint64_t waiting;

@@ -6,6 +6,7 @@ import glob
 import os
 import re
 import shutil
+from pathlib import Path
 from subprocess import CompletedProcess
 from typing import NamedTuple, Sequence
 
@@ -142,18 +143,23 @@ ALONE = (
 )  # fmt: skip
 
 
+# What stands in for others in a program is given what it does not use.
+STANDING_IN = "-Wno-unused-parameter"
+
+
 def build_alone(folder: str, libraries: Sequence[str], it: Alone) -> str:
     """Builds a program over sources of the daemon alone, with ASan and UBSan; answers its path."""
-    sources = [*(f"{MAINTAIN}/live.d/{name}.c" for name in (it.name, "checks")), *sources_of(*it.sources)]
-    return build(os.path.join(folder, f"{it.name}-alone"), sources, [*libraries, *it.linked], *STRICT, f"-I{DAEMON}", *SANITIZED, *(f"-Wl,--wrap={name}" for name in it.wrapped))
+    sources = [*(f"{MAINTAIN}/live.d/{name}.c" for name in (it.name, "alone", "checks")), *sources_of(*it.sources)]
+    words = [*STRICT, STANDING_IN, f"-I{DAEMON}", *SANITIZED, *(f"-Wl,--wrap={name}" for name in it.wrapped)]
+    return build(os.path.join(folder, f"{it.name}-alone"), sources, [*libraries, *it.linked], *words)
 
 
 def build_policy(folder: str, libraries: Sequence[str]) -> str:
     """Builds what the daemon decides of data alone, with ASan and UBSan, over cables in memory; answers the path of the program. What it is
     not linked with it does not call."""
     decides = ("bundle", "carry", "data", "flight", "frames", "held", "markers", "moves", "names", "probe", "select")
-    sources = [*(f"{MAINTAIN}/live.d/{name}.c" for name in ("policy", "checks")), *sources_of(*decides)]
-    return build(os.path.join(folder, "policy"), sources, libraries, *STRICT, f"-I{DAEMON}", *SANITIZED)
+    sources = [*(f"{MAINTAIN}/live.d/{name}.c" for name in ("policy", "alone", "checks")), *sources_of(*decides)]
+    return build(os.path.join(folder, "policy"), sources, libraries, *STRICT, STANDING_IN, f"-I{DAEMON}", *SANITIZED)
 
 
 def build_memory(folder: str, libraries: Sequence[str]) -> str:
@@ -212,8 +218,7 @@ def build_refusing(folder: str, libraries: Sequence[str]) -> str:
 def check_header_alone(folder: str) -> None:
     """The header has no warning in any C and C++ of gcc and clang, where they are here."""
     source, told, count = os.path.join(folder, "alone.c"), "", 0
-    with open(source, "w", encoding="utf-8") as out:
-        out.write('#include "lag.h"\n')
+    Path(source).write_text('#include "lag.h"\n', encoding="utf-8")
     languages: list[tuple[str, list[str], list[str]]] = [("c", ["c99", "c11", "c17"], [])]
     languages.append(("c++", ["c++11", "c++17", "c++20"], ["-Wold-style-cast"]))
     for language, standards, more in languages:

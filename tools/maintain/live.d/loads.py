@@ -12,7 +12,7 @@ import time
 
 from checking import Failed, check, command, within
 from daemon import ENDS, KEY, OTHER, SYSTEM, Daemon, Part
-from daemons import COMES_UP, both_up
+from daemons import COMES_UP, both_up, pair_up
 from repository import CC, COMPILER, MAINTAIN
 from service import Filed, write
 from spaces import OURS, THEIRS, inside, ip, make_pair
@@ -83,7 +83,6 @@ def whole_status(part: Part) -> None:
     whole = metrics.endswith("\n") and f'{{bundle="{"b" * 127}",interface="{names[-1]}",port="64"}} ' in values[-1]
     check(whole and sum('port="64"' in line for line in values) == sum('port="1"' in line for line in values) > 20,
           f"and {len(metrics)} octets of metrics", metrics[-500:])
-    ours.ends("the daemon")
 
 
 def build_flood(folder: str) -> str:
@@ -104,8 +103,7 @@ def memory(daemon: Daemon) -> int:
 def rubbish(part: Part) -> None:
     """As many frames of rubbish a second as the machine makes, on one of two ports."""
     flood = build_flood(part.folder)
-    ours, theirs = part.ours(), part.theirs()
-    both_up(ours, theirs, "both links distribute")
+    ours, theirs = pair_up(part)
     before, sent, waited = memory(ours), ours.count("a1", "lacpdus_sent"), 0.0
     ways: list[tuple[str, str, list[str]]] = [(THEIRS, "b0", []), (OURS, "a0", ["received"]), (OURS, "a0", ["received"])]
     floods = [subprocess.Popen(["ip", "netns", "exec", space, flood, name, str(FLOODED), *more], stdout=subprocess.PIPE, text=True)
@@ -125,7 +123,6 @@ def rubbish(part: Part) -> None:
     check(waited < 2, f"and a status comes within {waited:.2f} s")
     check(memory(ours) < before + GROWTH or part.sanitized, "the daemon does not grow", before, memory(ours))
     both_up(ours, theirs, "then both links distribute again")
-    ours.ends("the daemon")
 
 
 def stop_for_a_minute(part: Part) -> None:
@@ -146,21 +143,17 @@ def stop_for_a_minute(part: Part) -> None:
     again = second.count("a1", "lacpdus_sent") - sent
     check(again <= 6, "what was missed is not sent at once", again)
     check(within(COMES_UP, up), "and the second one comes up again", ours.text(), patient.text())
-    for daemon in ours, second, patient, other:
-        daemon.ends("each of the daemons")
 
 
 def folder_goes(part: Part) -> None:
     """The folder of the status socket is removed: the bundle goes on."""
-    ours, theirs = part.ours(), part.theirs()
-    both_up(ours, theirs, "both links distribute")
+    ours, theirs = pair_up(part)
     shutil.rmtree(ours.folder)
     told = inside(OURS, ours.program, "--folder", ours.folder, "--status")
     check(told.returncode == 1 and told.stderr.startswith("lagd: no lagd answers in: "), "without its folder nobody answers", told.stderr)
     time.sleep(4)
     lines = [ours.last_line(name) for name in ("a0", "a1")]
     check(ours.process.poll() is None and all(line.startswith("it distributes,") for line in lines), "and both links still distribute", ours.printed())
-    ours.ends("the daemon")
 
 
 PARTS = {

@@ -12,6 +12,7 @@ import socket
 import subprocess
 import threading
 import time
+from pathlib import Path
 from typing import Any
 
 from checking import Skipped, check, within
@@ -54,8 +55,7 @@ class Agent:
         want_subagent()
         self.part, self.socket = part, os.path.join(part.folder, "agentx")
         self.file, self.log = (os.path.join(part.folder, name) for name in ("snmpd.conf", "subagent"))
-        with open(self.file, "w", encoding="utf-8") as it:
-            it.write(CONFIGURATION.format(self.socket))
+        Path(self.file).write_text(CONFIGURATION.format(self.socket), encoding="utf-8")
         ip(OURS, "link", "set", "lo", "up")
         self.words = [build_subagent(part.folder), "--agentx", f"unix:{self.socket}", "--folder", folder]
         self.master = self.start_master()
@@ -231,8 +231,7 @@ def gone(part: Part) -> None:
     ours.process.send_signal(signal.SIGCONT)
     check(within(GOES, lambda: len(agent.rows()) == 73), "and has them again when it goes on", agent.rows())
     before = agent.last_changed()
-    ours.process.kill()
-    ours.process.wait()
+    ours.kill()
     check(within(GOES, lambda: not agent.rows()), "a daemon that is killed has no rows", agent.rows())
     check(agent.last_changed() > before, "and dot3adTablesLastChanged says so", before, agent.last_changed())
     again = part.ours("a0", "a1")

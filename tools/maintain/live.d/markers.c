@@ -7,6 +7,7 @@
 #include <stdlib.h>
 #include <string.h>
 
+#include "alone.h"
 #include "checks.h"
 #include "daemon.h"
 
@@ -30,50 +31,22 @@ static bool answered; /* whether the response to the last marker came */
 
 static const uint8_t OWN[6] = {2, 0, 0, 0, 0, 0xaa}, PARTNER[6] = {2, 0, 0, 0, 0, 0xbb}, STRANGER[6] = {2, 0, 0, 0, 0, 0xcc};
 
-uint64_t milliseconds(void) {
-    return now;
-}
-
-uint64_t ticks_passed(const struct system_private *own) {
-    (void)own;
-    return now / TICK;
-}
-
-bool is_done(struct process *process, uint32_t status, const char *call) {
-    (void)process;
-    if (status == NIW_OK) return true;
-    printf("markers: %s: %s\n", call, niw_status_text(status));
-    exit(1);
-}
-
-bool is_told(struct process *process, struct niw_number answer, const char *call, uint64_t *number) {
-    *number = answer.number;
-    return is_done(process, answer.status, call);
-}
-
+ANSWERS(uint64_t milliseconds, now, void)
+ANSWERS(uint64_t ticks_passed, now / TICK, const struct system_private *own)
 bool say(struct process *process, int level, const char *format, ...) {
-    (void)process;
-    (void)level;
-    (void)format;
     lines++;
     return true;
 }
 
 const char *mac_text(const uint8_t *mac, char room[static 32]) {
-    (void)mac;
     return room[0] = 0, room;
 }
 
 void send_new_marker(struct plane *plane, struct link *link, const uint8_t *frame) {
-    (void)plane;
-    (void)link;
-    (void)frame;
     sent++;
 }
 
 bool send_marker_again(struct tap_plane *tap, uint16_t port) {
-    (void)tap;
-    (void)port;
     return again++, true;
 }
 
@@ -88,8 +61,6 @@ static void write_frame(uint8_t *frame, const uint8_t source[static ETH_ALEN], u
 
 struct niw_sent __wrap_lagffi_probe(struct niw_system *handle, uint16_t port, uint8_t *frame, size_t room);
 struct niw_sent __wrap_lagffi_probe(struct niw_system *handle, uint16_t port, uint8_t *frame, size_t room) {
-    (void)handle;
-    (void)room;
     write_frame(frame, OWN, NIW_MARKER_INFORMATION, port, ++last_id);
     answered = false;
     return (struct niw_sent){.is = true, .what = NIW_SENT_MARKER, .octets = NIW_FRAME};
@@ -98,8 +69,6 @@ struct niw_sent __wrap_lagffi_probe(struct niw_system *handle, uint16_t port, ui
 /* As the library notes it of this port. */
 struct niw_number __wrap_lagffi_answers(struct niw_system *handle, uint16_t port);
 struct niw_number __wrap_lagffi_answers(struct niw_system *handle, uint16_t port) {
-    (void)handle;
-    (void)port;
     return (struct niw_number){.number = answered ? NIW_ANSWERS_ANSWERED : NIW_ANSWERS_ASKED};
 }
 

@@ -6,6 +6,7 @@ import os
 import signal
 import subprocess
 import time
+from pathlib import Path
 
 from checking import check, within
 from daemon import ENDS, Daemon, Part
@@ -32,8 +33,7 @@ class Minimal:
         part.running.append(self)
 
     def printed(self) -> str:
-        with open(self.log, encoding="utf-8") as it:
-            return it.read()
+        return Path(self.log).read_text(encoding="utf-8")
 
     def printed_in_all(self, *lines: str) -> bool:
         return self.printed().splitlines() == list(lines)

@@ -2,9 +2,11 @@
 
 from __future__ import annotations
 
+import contextlib
 import os
 import re
 import shutil
+from pathlib import Path
 from typing import Callable
 
 from at_boot import BUNDLE, UNIT
@@ -25,8 +27,7 @@ def told_lines(program: str) -> str:
 
 
 def text_of(*path: str) -> str:
-    with open(os.path.join(DAEMON, *path), encoding="utf-8") as it:
-        return it.read()
+    return Path(os.path.join(DAEMON, *path)).read_text(encoding="utf-8")
 
 
 def lay(program: str) -> Callable[[str], None]:
@@ -55,8 +56,7 @@ def units(part: Part) -> None:
     want_subagent()
     if not os.path.exists("/lib/systemd/system/lldpd.service") or not os.path.exists("/dev/net/tun"):
         raise Skipped("no lldpd (Debian: lldpd), or no /dev/net/tun")
-    machine = Machine(part, more=lay(build_subagent(part.folder, [])))
-    try:
+    with contextlib.closing(Machine(part, more=lay(build_subagent(part.folder, [])))) as machine:
         theirs = part.theirs(options=["--carry", "lag0"])
         machine.comes_up()
         check(within(ANSWERS, lambda: machine.run("ip", "link", "set", "lag0", "up").returncode == 0), "the device is set up", machine.told())
@@ -76,8 +76,6 @@ def units(part: Part) -> None:
             machine.run("systemctl", "restart", unit)
         check(within(COMES_BACK + COMES_UP, lambda: walk().count("\n") == 73), "and does so after all were started again", walk(), machine.told())
         check(within(ANSWERS, lambda: shows(machine).count("OUI: 00,80,C2, SubType: 7, Len: 5 03,") == 2), "and so does lldpd", shows(machine), machine.told())
-    finally:
-        machine.drop()
 
 
 PARTS = {"SNMP and LLDP under systemd": units}

@@ -13,6 +13,7 @@
 #include <stdlib.h>
 #include <string.h>
 
+#include "alone.h"
 #include "checks.h"
 #include "daemon.h"
 
@@ -153,17 +154,9 @@ static void put_slow(struct end *end, uint16_t port, uint8_t *frame) {
 }
 
 /* What the policy asks of the rest of the daemon: the clock, */
-uint64_t milliseconds(void) {
-    return now;
-}
-uint64_t ticks_passed(const struct system_private *own) {
-    (void)own;
-    return now / TICK;
-}
-uint64_t boottime(void) {
-    return now;
-}
-
+ANSWERS(uint64_t milliseconds, now, void)
+ANSWERS(uint64_t ticks_passed, now / TICK, const struct system_private *own)
+ANSWERS(uint64_t boottime, now, void)
 /* data and markers, */
 void put_data(struct tap_plane *tap, uint16_t port, uint16_t number, uint8_t *packet, size_t length) {
     struct end *end = end_of(tap);
@@ -214,16 +207,8 @@ void put_host(struct tap_plane *tap, uint8_t *packet, size_t length) {
 }
 
 /* lines, and the carrier of the device, */
-bool say(struct process *process, int level, const char *format, ...) {
-    (void)process;
-    (void)level;
-    (void)format;
-    return true;
-}
-const char *selection_text(enum selection selection) {
-    (void)selection;
-    return "";
-}
+ANSWERS(bool say, true, struct process *process, int level, const char *format, ...)
+ANSWERS(const char *selection_text, "", enum selection selection)
 static bool any_distributes(struct lagd *lagd) {
     for (uint16_t port = 1; port <= PORTS; port++)
         if (niw_distributes(&lagd->protocol.own_system, port).is) return true;
@@ -234,30 +219,12 @@ void set_carrier(struct device *device, bool on) {
     end_of(device)->carrier = on;
 }
 void notify_bundle(const struct bundle *bundle, const char *what) {
-    (void)what;
     CHECK(bundle->state == BUNDLE_DOWN || any_distributes(&end_of(bundle)->lagd));
 }
 
-void keep_port(struct state *state, uint16_t number, uint16_t port) {
-    (void)state;
-    (void)number;
-    (void)port;
-}
-
+NOTHING(keep_port, struct state *state, uint16_t number, uint16_t port)
 /* the library, */
-bool is_done(struct process *process, uint32_t status, const char *call) {
-    (void)process;
-    if (status != NIW_OK) check(false, call, niw_status_text(status));
-    return status == NIW_OK;
-}
-bool is_told(struct process *process, struct niw_number answer, const char *call, uint64_t *number) {
-    *number = answer.number;
-    return is_done(process, answer.status, call);
-}
-bool carries(struct protocol *protocol, const struct link *link) {
-    (void)protocol;
-    return link->view.port_status == NIW_PORT_STATUS_DISTRIBUTING;
-}
+ANSWERS(bool carries, link->view.port_status == NIW_PORT_STATUS_DISTRIBUTING, struct protocol *protocol, const struct link *link)
 void read_views(struct protocol *protocol) {
     struct niw_view views[NIW_MOST_PORTS];
     uint64_t changed;
@@ -280,32 +247,15 @@ void send_due(struct protocol *protocol) {
 }
 
 /* packets, of which each is a frame without a head, */
-size_t head_octets(void) {
-    return 0;
-}
-size_t packet_room(void) {
-    return 2048;
-}
-bool has_segments(const uint8_t *packet) {
-    (void)packet;
-    return false;
-}
-uint32_t count_segments(const uint8_t *packet, size_t length) {
-    (void)packet;
-    (void)length;
-    return 1;
-}
+ANSWERS(size_t head_octets, 0, void)
+ANSWERS(size_t packet_room, 2048, void)
+ANSWERS(bool has_segments, false, const uint8_t *packet)
+ANSWERS(uint32_t count_segments, 1, const uint8_t *packet, size_t length)
 bool has_right_length(const uint8_t *packet, size_t length, uint32_t mtu) {
-    (void)packet;
     return length <= mtu + ETH_HLEN;
 }
-uint32_t longest_payload(const struct device *own) {
-    (void)own;
-    return ETH_DATA_LEN;
-}
+ANSWERS(uint32_t longest_payload, ETH_DATA_LEN, const struct device *own)
 struct niw_number conversation_of(struct protocol *protocol, const uint8_t *frame, size_t length) {
-    (void)protocol;
-    (void)length;
     return (struct niw_number){.status = NIW_OK, .number = conversation_at(frame)};
 }
 
@@ -315,56 +265,22 @@ static bool answer(struct tap_plane *tap, struct link *link, const uint8_t *resp
     return true;
 }
 static void accept_any(struct tap_plane *tap, struct link *link, const struct arrival *arrival, uint32_t id) {
-    (void)id;
     accept_response(tap->protocol, link, arrival);
 }
 
 /* and what is not here: the settings of the device. */
-#define NOTHING(name, part) \
-    void name(struct part *of) { (void)of; }
-NOTHING(count_losses, tap_plane)
-NOTHING(pass_announcing_tick, carry)
-NOTHING(pass_tap_tick, device)
-void announce_soon(struct announce_private *own) {
-    (void)own;
-}
-void note_taken(struct conversation *conversation, uint32_t segments) {
-    (void)conversation;
-    (void)segments;
-}
-uint32_t sum_speeds(struct tap_plane *tap) {
-    (void)tap;
-    return 1000;
-}
-void set_speed(struct device *device, uint32_t megabits) {
-    (void)device;
-    (void)megabits;
-}
-void run_hook(struct protocol *protocol, const char *path, enum bundle_state before) {
-    (void)protocol;
-    (void)path;
-    (void)before;
-}
+NOTHING(count_losses, struct tap_plane *tap)
+NOTHING(pass_announcing_tick, struct carry *carry)
+NOTHING(pass_tap_tick, struct device *device)
+NOTHING(announce_soon, struct announce_private *own)
+NOTHING(note_taken, struct conversation *conversation, uint32_t segments)
+ANSWERS(uint32_t sum_speeds, 1000, struct tap_plane *tap)
+NOTHING(set_speed, struct device *device, uint32_t megabits)
+NOTHING(run_hook, struct protocol *protocol, const char *path, enum bundle_state before)
 /* The device is up here, and no port comes or goes. */
-bool is_halted(const struct halt_private *own) {
-    (void)own;
-    return false;
-}
-
-uint16_t count_links(const struct ports *ports) {
-    (void)ports;
-    return PORTS;
-}
-
-void tell_watchers_of(struct control *control, const struct link *link) {
-    (void)control;
-    (void)link;
-}
-_Noreturn void stop(int status, const char *what, const char *which) {
-    printf("policy: %s: %s\n", what, which);
-    exit(status);
-}
-
+ANSWERS(bool is_halted, false, const struct halt_private *own)
+ANSWERS(uint16_t count_links, PORTS, const struct ports *ports)
+NOTHING(tell_watchers_of, struct control *control, const struct link *link)
 /* The plane: frames come here alone, and members have one queue. */
 static const struct carrying FRAMES = {.settle = settle_frames, .tick = pass_tick_of_frames, .keeps_aggregator = hears_peer,
     .frames_heard = frames_handed_up, .tell_host = tell_speed_and_carrier, .go_on = settle_carry,

@@ -8,6 +8,7 @@ import signal
 import time
 from concurrent.futures import ThreadPoolExecutor
 from dataclasses import dataclass
+from pathlib import Path
 from threading import Event, Thread
 from typing import Callable, Iterator
 
@@ -107,10 +108,8 @@ def reloaded(trial: Trial) -> Iterator[float]:
         it.write("activity=passive\nhold=yes\n")
     trial.tell(signal.SIGHUP)
     yield 3.0
-    with open(file, encoding="utf-8") as was:
-        text = was.read()
-    with open(file, "w", encoding="utf-8") as it:
-        it.write(text.replace("[Bundle]", "[Bundle]\nmax-links=1"))
+    text = Path(file).read_text(encoding="utf-8")
+    Path(file).write_text(text.replace("[Bundle]", "[Bundle]\nmax-links=1"), encoding="utf-8")
     trial.tell(signal.SIGHUP)
     yield 10.0
 
@@ -141,8 +140,8 @@ def steps_of(refused: str) -> tuple[Steps, list[str], list[str]]:
 def write_file(folder: str, names: list[str], keys: dict[str, str]) -> str:
     """Writes the file of a bundle; answers its path."""
     path = os.path.join(folder, "bundle.conf")
-    with open(path, "w", encoding="utf-8") as out:
-        out.write("\n".join(["[Bundle]", *(f"{name}={value}" for name, value in keys.items()), *(f"[Port {name}]" for name in names), ""]))
+    lines = ["[Bundle]", *(f"{name}={value}" for name, value in keys.items()), *(f"[Port {name}]" for name in names), ""]
+    Path(path).write_text("\n".join(lines), encoding="utf-8")
     return path
 
 

@@ -9,12 +9,13 @@ import re
 import shutil
 import signal
 import time
+from pathlib import Path
 from typing import Callable, Iterator, Sequence
 
 from checking import Failed, Skipped, check, command, within
 from daemon import ENDS, Daemon, Part
-from daemons import COMES_UP, GOES_DOWN, both_up
-from spaces import OURS, THEIRS, ip, make_pair
+from daemons import COMES_UP, GOES_DOWN, both_up, pair_up
+from spaces import OURS, THEIRS, flap, ip, make_pair
 
 # What the first line says that the next daemon prints: it went on, or why it did not.
 WENT_ON, NOT_USED = "2 of 2 links go on", "the state that the last daemon left is not used: "
@@ -30,17 +31,14 @@ def state_file(daemon: Daemon) -> str:
 
 
 def changed(path: str, change: Callable[[str], str]) -> None:
-    with open(path, encoding="utf-8") as it:
-        text = it.read()
-    with open(path, "w", encoding="utf-8") as it:
-        it.write(change(text))
+    text = Path(path).read_text(encoding="utf-8")
+    Path(path).write_text(change(text), encoding="utf-8")
 
 
 def hand_over(part: Part, ours: Daemon, between: Callable[[], None] = lambda: None, by: signal.Signals = signal.SIGUSR1,
               names: Sequence[str] = ("a0", "a1"), options: Sequence[str] = ()) -> Daemon:
     """The next daemon, after something that happens between both."""
-    ours.process.send_signal(by)
-    ours.process.wait(ENDS)
+    ours.leave(by)
     between()
     again = part.ours(*names, options=options)
     if not within(ENDS, lambda: "bundle" in again.printed()):
@@ -50,8 +48,7 @@ def hand_over(part: Part, ours: Daemon, between: Callable[[], None] = lambda: No
 
 def goes_on(part: Part) -> None:
     """By SIGUSR1, and by SIGKILL, each time with no line of the peer; twice in a row, too."""
-    ours, theirs = part.ours(), part.theirs()
-    both_up(ours, theirs, "two daemons: both links come to distribute")
+    ours, theirs = pair_up(part, "two daemons: both links come to distribute")
     time.sleep(1.5)
     lines = theirs.printed()
     for by in signal.SIGUSR1, signal.SIGUSR1, signal.SIGKILL:
@@ -69,8 +66,7 @@ def goes_on(part: Part) -> None:
 
 def in_a_row(part: Part) -> None:
     """A daemon that hands over before it has sent an LACPDU, of which the peer wants one each 30 s."""
-    ours, theirs = part.ours(), part.theirs(options=["--timeout", "long"])
-    both_up(ours, theirs, "two daemons: both links come to distribute")
+    ours, theirs = pair_up(part, "two daemons: both links come to distribute", theirs=["--timeout", "long"])
     time.sleep(1.5)
     lines = theirs.printed()
     for turn in range(3):
@@ -107,8 +103,7 @@ def gives_way(part: Part, ours: Daemon, theirs: Daemon, what: str, text: str, be
 
 def begins_anew(part: Part) -> None:
     """A state that is of no use."""
-    ours, theirs = part.ours(), part.theirs()
-    both_up(ours, theirs, "two daemons: both links come to distribute")
+    ours, theirs = pair_up(part, "two daemons: both links come to distribute")
     time.sleep(1.5)
     length = os.path.getsize(state_file(ours))
     rows: list[tuple[str, str, Callable[[], None]]] = [
@@ -141,22 +136,16 @@ def blocked(ours: Daemon) -> Iterator[None]:
 
 def things_change(part: Part) -> None:
     """What changes between both daemons: a link, an interface, the peer, the settings; and a state that cannot be written."""
-    ours, theirs = part.ours(), part.theirs()
-    both_up(ours, theirs, "two daemons: both links come to distribute")
+    ours, theirs = pair_up(part, "two daemons: both links come to distribute")
     time.sleep(1.5)
 
     def remake() -> None:
         ip(OURS, "link", "del", "a1")
         make_pair(1)
 
-    def flap() -> None:
-        ip(THEIRS, "link", "set", "b1", "down")
-        ip(THEIRS, "link", "set", "b1", "up")
-
-    for what, between in ("a link that went and came back", flap), ("an interface that was made anew", remake):
+    for what, between in ("a link that went and came back", lambda: flap(THEIRS, "b1", 1)), ("an interface that was made anew", remake):
         ours = gives_way(part, ours, theirs, what, "1 of 2 links go on", between)
-    theirs.process.kill()
-    theirs.process.wait()
+    theirs.kill()
     peers: list[Daemon] = []
     ours = hand_over(part, ours, lambda: peers.append(part.theirs(options=["--port-priority", "77"])))
     theirs = peers[0]
@@ -261,8 +250,7 @@ def outlives_crash(part: Part) -> None:
     kept = os.path.join(part.folder, "crashed")
     os.makedirs(kept, exist_ok=True)
     copy, options = f"{kept}/a0.state", ["--timeout", "long", "--state-dir", kept]
-    ours, theirs = part.ours(options=options), part.theirs(options=["--timeout", "long"])
-    both_up(ours, theirs, "both links come to distribute")
+    ours, theirs = pair_up(part, "both links come to distribute", ours=options, theirs=["--timeout", "long"])
     check(within(COPIED, lambda: carried_in(copy) == ["1", "1"]), "a copy is kept while the daemon runs", os.listdir(kept))
     first = os.stat(copy).st_ino
     check(within(RENEWED, lambda: os.path.exists(copy) and os.stat(copy).st_ino != first), "it is renewed", os.listdir(kept))
@@ -308,8 +296,7 @@ def other_name(part: Part, kept: str) -> None:
 
 def short_of_time(part: Part, kept: str) -> None:
     """Where an end waits for 3 s, no start after a reboot is in time: only a daemon that leaves writes a copy. What cannot be written has a line."""
-    ours, theirs = part.ours(options=["--state-dir", kept]), part.theirs(options=["--timeout", "long"])
-    both_up(ours, theirs, "with a short timeout both links come to distribute")
+    ours, theirs = pair_up(part, "with a short timeout both links come to distribute", ours=["--state-dir", kept], theirs=["--timeout", "long"])
     time.sleep(2)
     check(not os.path.exists(f"{kept}/a0.state"), "with a short timeout no copy is kept", os.listdir(kept))
     ours.ends("the daemon")
@@ -354,8 +341,7 @@ def hangs_on_disk(part: Part) -> None:
 def frozen_disk(part: Part, disk: str) -> None:
     kept = f"{disk}/kept"
     options = ["--timeout", "long", "--state-dir", kept]
-    ours, theirs = part.ours(options=options), part.theirs(options=["--timeout", "long"])
-    both_up(ours, theirs, "both links come to distribute")
+    ours, theirs = pair_up(part, "both links come to distribute", ours=options, theirs=["--timeout", "long"])
     check(within(COPIED, lambda: carried_in(f"{kept}/a0.state") == ["1", "1"]), "there is a copy", os.listdir(kept))
     lines = theirs.printed()
     if command("fsfreeze", "-f", disk).returncode:

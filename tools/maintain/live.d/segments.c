@@ -29,15 +29,9 @@ static unsigned took;
 static bool refuses_joined, refuses_all;
 static uint64_t state = 7;
 
-void stop(int status, const char *what, const char *which) {
-    fprintf(stderr, "segments: %s: %s\n", what, which);
-    _Exit(status);
-}
-
 bool give_host(struct tap_plane *tap, const struct iovec *parts, unsigned count, size_t length) {
     uint8_t *packet = malloc(length);
     size_t at = 0;
-    (void)tap;
     for (unsigned i = 0; i < count; at += parts[i++].iov_len) {
         CHECK(at + parts[i].iov_len <= length);
         memcpy(packet + at, parts[i].iov_base, parts[i].iov_len);

@@ -10,13 +10,14 @@ import signal
 import socket
 import subprocess
 import time
+from pathlib import Path
 from typing import Callable, Mapping, Sequence
 
 from checking import Skipped, check, command, within
 from daemon import ENDS, KEY, OTHER, SYSTEM, Daemon, Part
-from daemons import COMES_UP, GOES_DOWN, NOBODY, both_up
+from daemons import COMES_UP, GOES_DOWN, NOBODY, both_up, pair_up
 from repository import TOP, daemon_words
-from spaces import OURS, THEIRS, inside, ip, make_pair
+from spaces import OURS, THEIRS, flap, inside, ip, make_pair
 
 UNIT = os.path.join(TOP, "lagd", "lagd@.service")
 # Where the journal listens, and a line that it gets.
@@ -105,8 +106,7 @@ CONTRADICTIONS = {
 
 
 def write(path: str, text: str) -> None:
-    with open(path, "w", encoding="utf-8") as out:
-        out.write(text)
+    Path(path).write_text(text, encoding="utf-8")
 
 
 class Filed(Daemon):
@@ -114,12 +114,29 @@ class Filed(Daemon):
 
     def __init__(self, part: Part, file: str, before: Sequence[str] = (), more: Mapping[str, str] | None = None, options: Sequence[str] = ()) -> None:
         self.space, self.program, self.folder = OURS, part.program, os.path.join(part.folder, "run")
-        self.log = os.path.join(part.folder, "filed")
+        self.log, self.file = os.path.join(part.folder, "filed"), file
         self.words = [*before, part.program, "--folder", self.folder, *options, "--config", file]
         with open(self.log, "w", encoding="utf-8") as log:
             words = ["ip", "netns", "exec", OURS, *self.words]
             self.process = subprocess.Popen(words, stdout=log, stderr=log, env={**os.environ, **(more or {})})
         part.running.append(self)
+
+    def reload(self, text: str, told: str) -> str:
+        """Its file has another text, and SIGHUP reads it; answers what the daemon prints then."""
+        write(self.file, text)
+        before = len(self.printed())
+        self.process.send_signal(signal.SIGHUP)
+        check(within(ENDS, lambda: told in self.printed()[before:]), f"after SIGHUP a line says: {told}", self.printed()[before:])
+        return self.printed()[before:]
+
+
+def filed(part: Part, text: str = FILE) -> tuple[Filed, Daemon]:
+    """A daemon of a file, and another one, whose links come to distribute."""
+    path = os.path.join(part.folder, "uplink.conf")
+    write(path, text)
+    ours, theirs = Filed(part, path), part.theirs()
+    both_up(ours, theirs, "the bundle of a file comes to distribute")
+    return ours, theirs
 
 
 def check_of_machine(part: Part, path: str) -> None:
@@ -163,38 +180,28 @@ def files(part: Part) -> None:
         right = inside(OURS, part.program, "--check", path)
         check((right.returncode, right.stderr) == (0, ""), f"a right one is not, with the address {address}", right.stderr)
     check_of_machine(part, path)
-    write(path, FILE.replace(SYSTEM, NOTATIONS[-1]))
     mixed = inside(OURS, part.program, "--config", path, "--min-links", "2")
     check(mixed.returncode == 2, "a file and options of a bundle do not go together", mixed.stderr)
-    ours, theirs = Filed(part, path), part.theirs()
-    both_up(ours, theirs, "the bundle of a file comes to distribute")
+    ours, theirs = filed(part, FILE.replace(SYSTEM, NOTATIONS[-1]))
     ports = ours.ports()
     values = {name: (port["actor"]["key"], port["actor"]["port_priority"]) for name, port in ports.items()}
     check(values == {"a0": (23, 32768), "a1": (23, 100)}, "its ports have the values of the file", values)
     check("---- uplink ----\n" in ours.text(), "it has the name of the file", ours.text())
     check(theirs.port("b0")["partner"]["system"] == SYSTEM, f"the peer sees {NOTATIONS[-1]} as {SYSTEM}", theirs.text())
-    ours.ends("the daemon")
 
 
 def own_address(part: Part) -> None:
     """With `system=auto` the system has the address of the first interface, which has to be there at the start."""
-    path, name = os.path.join(part.folder, "uplink.conf"), "an-alternative-name-of-a0"
+    name = "an-alternative-name-of-a0"
     text = FILE.replace(f"32768,{SYSTEM}", "auto").replace("partner=first\n", "")
-    write(path, text)
-    ours, theirs = Filed(part, path), part.theirs()
-    both_up(ours, theirs, "a bundle with system=auto comes to distribute")
+    ours, theirs = filed(part, text)
     address = ours.port("a0")["address"]
     partners = [port["partner"] for port in theirs.ports().values()]
     named = [(it["system_priority"], it["system"]) for it in partners]
     check(named == [(32768, address)] * 2, "its peer sees priority 32768 and the address of the first interface", named, address)
-    printed = len(ours.printed())
-    write(path, text.replace("min-links=1", "min-links=2"))
-    ours.process.send_signal(signal.SIGHUP)
-    check(within(ENDS, lambda: "read again" in ours.printed()[printed:]), "it reloads its file", ours.printed()[printed:])
-    check("restart" not in ours.printed()[printed:], "and has the same system still", ours.printed()[printed:])
-    write(path, text.replace("min-links=1", f"partner=32768,{address}"))
-    ours.process.send_signal(signal.SIGHUP)
-    check(within(ENDS, lambda: ":5: expected a partner that is not this system: partner" in ours.printed()), "which is no partner, says a reload", ours.printed())
+    printed = ours.reload(text.replace("min-links=1", "min-links=2"), "read again")
+    check("restart" not in printed, "and has the same system still", printed)
+    ours.reload(text.replace("min-links=1", f"partner=32768,{address}"), ":5: expected a partner that is not this system: partner")
     ours.ends("the daemon")
     ip(OURS, "link", "property", "add", "dev", "a0", "altname", name)
     for options, names, status, told in (
@@ -210,46 +217,34 @@ def own_address(part: Part) -> None:
 
 def reloads(part: Part) -> None:
     """SIGHUP reads the file again."""
-    path = os.path.join(part.folder, "uplink.conf")
-    write(path, FILE)
-    ours, theirs = Filed(part, path), part.theirs()
-    both_up(ours, theirs, "the bundle of a file comes to distribute")
-
-    def check_after(text: str, told: str) -> None:
-        write(path, text)
-        before = len(ours.printed())
-        ours.process.send_signal(signal.SIGHUP)
-        check(within(ENDS, lambda: told in ours.printed()[before:]), f"after SIGHUP a line says: {told}", ours.printed()[before:])
-
+    ours, theirs = filed(part)
     lines = ours.lines("a0")
-    check_after(FILE.replace("priority=100", "priority=200"), "read again, 1 ports changed")
+    ours.reload(FILE.replace("priority=100", "priority=200"), "read again, 1 ports changed")
     check(within(ENDS, lambda: ours.port("a1")["actor"]["port_priority"] == 200), "a port has another priority", ours.text())
     both_up(ours, theirs, "both links distribute")
     check(ours.lines("a0") == lines, "the other port was not touched", ours.printed())
-    check_after(FILE.replace("priority=100", "priority=200\nindividual=yes"), "read again, 1 ports changed")
+    ours.reload(FILE.replace("priority=100", "priority=200\nindividual=yes"), "read again, 1 ports changed")
     gone = lambda: "aggregation" not in ours.port("a1")["actor"]["state"]
     check(within(ENDS, gone) and ours.lines("a0") == lines, "it is individual now, and the other port was not touched", ours.text())
-    check_after(FILE.replace("min-links=1", "min-links=2").replace("priority=100", "priority=200"), "read again, 1 ports changed")
+    ours.reload(FILE.replace("min-links=1", "min-links=2").replace("priority=100", "priority=200"), "read again, 1 ports changed")
     both_up(ours, theirs, "both links distribute again")
     check("min_links: 2" in ours.text(), "min-links is another one", ours.text())
-    check_after(FILE.replace("min-links=1", "wait-to-restore=3600"), "read again, 1 ports changed")
+    ours.reload(FILE.replace("min-links=1", "wait-to-restore=3600"), "read again, 1 ports changed")
     both_up(ours, theirs, "both links distribute once more")
-    for state in "down", "up":
-        ip(OURS, "link", "set", "a1", state)
+    flap(OURS, "a1", 1)
     waits = "the link is back, and waits for wait-to-restore"
     check(within(ENDS, lambda: ours.port("a1")["status"] == waits) and ours.distributes("a0"), "a link that comes back waits", ours.text())
     told = inside(OURS, ours.program, "--folder", ours.folder, "--metrics").stdout
     check('lagd_port_status{bundle="uplink",interface="a1",port="2"} 131' in told, "so say the metrics", told)
-    check_after(FILE, "read again, 0 ports changed")
+    ours.reload(FILE, "read again, 0 ports changed")
     both_up(ours, theirs, "without wait-to-restore both links distribute again")
-    check_after(FILE.replace("key=23", "key=24"), "a key that no port had at the start: a restart of this bundle is needed")
-    check_after(FILE.replace("32768", "1"), "another system: a restart of this bundle is needed")
-    check_after(FILE + "max-links=7\n", "the file is wrong, and nothing is changed")
+    ours.reload(FILE.replace("key=23", "key=24"), "a key that no port had at the start: a restart of this bundle is needed")
+    ours.reload(FILE.replace("32768", "1"), "another system: a restart of this bundle is needed")
+    ours.reload(FILE + "max-links=7\n", "the file is wrong, and nothing is changed")
     check(ours.distributes("a0") and ours.lines("a0") == lines, "and the first port was never touched", ours.printed())
-    os.unlink(path)
+    os.unlink(ours.file)
     ours.process.send_signal(signal.SIGHUP)
     check(within(ENDS, lambda: "No such file" in ours.printed()), "a file that is gone changes nothing", ours.printed())
-    ours.ends("the daemon")
 
 
 def ports_change(part: Part) -> None:
@@ -262,10 +257,7 @@ def ports_change(part: Part) -> None:
     head, numbers = FILE.partition("[Port")[0], lambda: {name: port["port"] for name, port in ours.ports().items()}
 
     def reloaded(text: str, changed: int, ports: dict[str, int]) -> None:
-        write(path, text)
-        before = len(ours.printed())
-        ours.process.send_signal(signal.SIGHUP)
-        check(within(ENDS, lambda: f"read again, {changed} ports changed" in ours.printed()[before:]), f"{changed} ports change", ours.printed()[before:])
+        ours.reload(text, f"read again, {changed} ports changed")
         check(within(COMES_UP, lambda: numbers() == ports and ours.distributes(*ports)), f"the ports are {ports}", ours.text())
 
     lines = ours.lines("a1")
@@ -283,7 +275,6 @@ def ports_change(part: Part) -> None:
     write(path, head)
     alone = Filed(part, path)
     check(within(ENDS, lambda: "0 of 0 links carry" in alone.text()), "a daemon starts without a port", alone.printed())
-    alone.ends("the daemon")
 
 
 def questions(part: Part) -> None:
@@ -308,7 +299,6 @@ def questions(part: Part) -> None:
         asker.close()
     command("prlimit", "--pid", str(ours.process.pid), "--nofile=1024:")
     check(within(ENDS, lambda: bool(ours.ports())), "and answers again", ours.printed())
-    ours.ends("the daemon")
 
 
 def stuck_state(part: Part) -> None:
@@ -392,22 +382,15 @@ def shows_settings(part: Part) -> None:
     check(inside(OURS, ours.program, "--check", path).returncode == 0, "what was shown is a file of a bundle", told)
     ours = Filed(part, path)
     check(within(ENDS, lambda: shown() == told), "a daemon of this file shows the same", told, shown())
-    ours.ends("the daemon of this file")
 
 
 def running_settings(part: Part) -> None:
     """SIGHUP changes activity, timeout, max-links and which ports are held, without a link that goes down."""
-    path = os.path.join(part.folder, "uplink.conf")
-    write(path, FILE)
-    ours, theirs = Filed(part, path), part.theirs()
-    both_up(ours, theirs, "the bundle of a file comes to distribute")
+    ours, theirs = filed(part)
 
     def reloaded(text: str, changed: int) -> None:
-        write(path, text)
-        before = len(ours.printed())
-        ours.process.send_signal(signal.SIGHUP)
-        told = lambda: f"read again, {changed} ports changed" in ours.printed()[before:]
-        check(within(ENDS, told) and "restart" not in ours.printed()[before:], f"{changed} ports change at once", ours.printed()[before:])
+        printed = ours.reload(text, f"read again, {changed} ports changed")
+        check("restart" not in printed, f"{changed} ports change at once", printed)
 
     bits = lambda: set(ours.port("a1")["actor"]["state"]) & {"activity", "timeout"}
     lines = ours.lines("a1")
@@ -421,8 +404,7 @@ def running_settings(part: Part) -> None:
     stops = lambda: ours.port("a1")["status"] == "the host holds it" and not theirs.distributes("b1")
     check(within(GOES_DOWN, stops) and ours.distributes("a0"), "a port is held, and its peer stops, too", ours.text(), theirs.text())
     check("degraded, 1 of 2 links carry" in ours.printed(), "the bundle has a link less", ours.printed())
-    for state in "down", "up":
-        ip(OURS, "link", "set", "a1", state)
+    flap(OURS, "a1", 1)
     check(within(COMES_UP, lambda: ours.port("a1")["status"] == "the host holds it"), "it is held when its link comes back, too", ours.text())
     reloaded(FILE, 1)
     both_up(ours, theirs, "it is let go, and both links distribute")
@@ -432,16 +414,14 @@ def running_settings(part: Part) -> None:
     reloaded(FILE.replace("min-links=1", "max-links=2"), 0)
     both_up(ours, theirs, "with max-links=2 both links distribute")
     ours.ends("the daemon")
-    write(path, FILE + "hold=yes\n")
-    again = Filed(part, path)
+    write(ours.file, FILE + "hold=yes\n")
+    again = Filed(part, ours.file)
     check(within(COMES_UP, lambda: again.distributes("a0")) and again.port("a1")["status"] == "the host holds it", "a port is held from the start", again.text())
-    again.ends("the daemon")
 
 
 def watchers(part: Part) -> None:
     """Changes as they happen: lines, and JSON; and counts in the form of Prometheus."""
-    ours, theirs = part.ours(), part.theirs()
-    both_up(ours, theirs, "both links distribute")
+    ours, theirs = pair_up(part)
     told: dict[tuple[str, ...], str] = {}
     seeing: list[subprocess.Popen[bytes]] = []
     for kind in (), ("--json",):
@@ -473,7 +453,7 @@ def watchers(part: Part) -> None:
 
 def metrics_of_two(part: Part) -> None:
     """Two daemons: each metric has one head."""
-    first, second = part.ours("a0"), part.start(OURS, OTHER, "9", "a1")
+    first, _ = part.ours("a0"), part.start(OURS, OTHER, "9", "a1")
     within(ENDS, lambda: set(first.ports()) == {"a0", "a1"})
     text = inside(OURS, first.program, "--folder", first.folder, "--metrics").stdout
     heads = re.findall(r"^# TYPE (\w+) ", text, re.M)
@@ -482,8 +462,6 @@ def metrics_of_two(part: Part) -> None:
     starts = [name for at, name in enumerate(groups) if at == 0 or groups[at - 1] != name]
     check(len(starts) == len(set(starts)) == len(heads), "and its values stand together", starts)
     check(text.count('lagd_bundle_links{bundle="a1"} 1\n') == 1 and text.count('lagd_bundle_links{bundle="a0"} 1\n') == 1, "of both", text)
-    first.ends("the daemon")
-    second.ends("the other one")
 
 
 def hooks(part: Part) -> None:
@@ -492,8 +470,7 @@ def hooks(part: Part) -> None:
     state = "$LAGD_BUNDLE $LAGD_PREVIOUS $LAGD_STATE $LAGD_CARRYING/$LAGD_LINKS $LAGD_AGGREGATOR"
     write(hook, f'#!/bin/sh\ncat /proc/self/timerslack_ns > {slack}\necho "{state}" >> {told}\nexec sleep 60\n')
     os.chmod(hook, 0o755)
-    ours, theirs = part.ours(options=["--hook", hook]), part.theirs()
-    both_up(ours, theirs, "both links distribute")
+    ours, theirs = pair_up(part, ours=["--hook", hook])
     ip(THEIRS, "link", "set", "b1", "down")
     ip(THEIRS, "link", "set", "b0", "down")
     seen = lambda: open(told, encoding="utf-8").read().split("\n")[:-1] if os.path.exists(told) else []
@@ -506,7 +483,6 @@ def hooks(part: Part) -> None:
     check("Z" not in children, "hooks that end leave nothing", children)
     for line in command("ps", "--ppid", str(ours.process.pid), "-o", "pid=").stdout.split():
         os.kill(int(line), signal.SIGKILL)
-    ours.ends("the daemon")
 
 
 def managed(part: Part) -> None:
@@ -526,7 +502,7 @@ def managed(part: Part) -> None:
             pass
         return word in told
 
-    ours, theirs = Filed(part, file, more={"NOTIFY_SOCKET": path}), part.theirs()
+    ours, _ = Filed(part, file, more={"NOTIFY_SOCKET": path}), part.theirs()
     check(within(ENDS, lambda: hears("READY=1")), "the manager is told that the daemon is ready", told)
     check(within(ENDS, lambda: hears("WATCHDOG=1")), "that it lives", told)
     check(within(COMES_UP, lambda: hears("STATUS=up, 2 of 2 links carry")), "and what it does", told)
@@ -535,7 +511,6 @@ def managed(part: Part) -> None:
     check(within(ENDS, lambda: hears("READY=1")) and "RELOADING=1" in told, "it is told of a reload", told)
     ours.process.send_signal(signal.SIGTERM)
     check(within(ENDS, lambda: hears("STOPPING=1")) and ours.status() == 0, "and of the end", told)
-    theirs.ends("the other daemon")
 
 
 def ids_of_lines() -> dict[str, str]:
@@ -598,7 +573,6 @@ def journal(part: Part) -> None:
     time.sleep(0.5)
     lines = reader.recv(4096).decode().splitlines()
     check(lines[:1] == ["<4>port 1 a0: no LACPDU came in time, aggregator 0, no partner"], "a line has its priority, and no time", *lines)
-    ours.ends("the daemon")
 
 
 def rights(part: Part) -> None:
@@ -613,7 +587,6 @@ def rights(part: Part) -> None:
     check(found == wanted, "as root the daemon keeps CAP_NET_RAW alone", found)
     make_pair(1)
     check(within(ENDS, lambda: ours.port("a1")["link"] == "up"), "and takes up an interface that comes later", ours.text())
-    ours.ends("the daemon")
 
 
 def unit(part: Part) -> None:

@@ -59,9 +59,7 @@ void check_settings(void) {
     make(&one, 5, 7, 256, 0);
     make(&other, 6, 9, 256, 0);
     check_refused_settings(&one);
-    for (uint16_t port = 1; port <= 2; port++)
-        CHECK(niw_set_link(&one, port, true) == NIW_OK && niw_set_link(&other, port, true) == NIW_OK);
-    turn(&one, &other, 60);
+    bring_up(&one, &other);
     check_held(&one, &other, (uint16_t)niw_choice(&one, 1).number);
     check_modes(&one);
     turn(&one, &other, 20);

@@ -8,7 +8,7 @@ import os
 import socket
 import struct
 import subprocess
-from typing import Any, Iterator
+from typing import Any, Iterator, Sequence
 
 from checking import Failed, Skipped, command
 
@@ -37,9 +37,9 @@ def drop_spaces() -> None:
         command("ip", "netns", "del", space)
 
 
-def make_pair(place: int) -> None:
-    """A pair of a0 and b0, or a1 and b1, with both ends up."""
-    made = command("ip", "-n", OURS, "link", "add", f"a{place}", "type", "veth", "peer", "name", f"b{place}", "netns", THEIRS)
+def make_pair(place: int, own: Sequence[str] = (), other: Sequence[str] = ()) -> None:
+    """A pair of a0 and b0, or a1 and b1, with both ends up, each made with words of its own."""
+    made = command("ip", "-n", OURS, "link", "add", f"a{place}", *own, "type", "veth", "peer", "name", f"b{place}", *other, "netns", THEIRS)
     if made.returncode:
         raise Skipped(f"no veth pairs: {made.stderr.strip()}")
     ip(OURS, "link", "set", f"a{place}", "up")

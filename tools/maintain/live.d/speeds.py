@@ -2,6 +2,7 @@
 
 from __future__ import annotations
 
+import contextlib
 import ctypes
 import fcntl
 import os
@@ -11,6 +12,8 @@ import socket
 import struct
 import threading
 import time
+from pathlib import Path
+from typing import Iterator
 
 from checking import Skipped, check, within
 from daemon import KEY, SYSTEM, Daemon, Part
@@ -110,20 +113,24 @@ def groups_of(daemon: Daemon, names: list[str]) -> list[list[str]]:
     return sorted(found.values())
 
 
-def join(names: list[str]) -> list[Cable]:
+@contextlib.contextmanager
+def joined(names: list[str]) -> Iterator[list[Cable]]:
     """A cable of a TAP device for each of ours, with speeds; of 1000 Mb/s but for one."""
     cables = [Cable(make_tap(OURS, name), make_tap(THEIRS, f"u{name[1:]}")) for name in names]
-    for name in names[:-1]:
-        renew(name[1:], 1000, FULL)
-    renew(names[-1][1:], 100, FULL)
-    return cables
+    try:
+        for name in names[:-1]:
+            renew(name[1:], 1000, FULL)
+        renew(names[-1][1:], 100, FULL)
+        yield cables
+    finally:
+        for cable in cables:
+            cable.cut()
 
 
 def unequal(part: Part) -> None:
     """Three links, of which one is slower: with key-by-speed it shares no group with the others."""
     names = ["t0", "t1", "t2"]
-    cables = join(names)
-    try:
+    with joined(names) as cables:
         theirs = part.theirs("u0", "u1", "u2")
         ours = part.ours(*names)
         check(within(COMES_UP, lambda: groups_of(ours, names) == [names]), "without key-by-speed unequal links share a group", ours.text())
@@ -148,16 +155,12 @@ def unequal(part: Part) -> None:
         check(within(COMES_UP, lambda: groups_of(ours, names) == [names]), "back at the speed of the others, it joins them", ours.text())
         ours.ends("the daemon")
         theirs.ends("the other daemon")
-    finally:
-        for cable in cables:
-            cable.cut()
 
 
 def many_speeds(part: Part) -> None:
     """More speeds of one key than have aggregators: at most four do."""
     names = [f"t{place}" for place in range(5)]
-    cables = join(names)
-    try:
+    with joined(names):
         for place, speed in enumerate((10, 100, 1000, 2500, 10000)):
             renew(place, speed, FULL)
         theirs, ours = part.theirs(*(f"u{place}" for place in range(5))), part.ours(*names, options=["--key-by-speed"])
@@ -168,22 +171,18 @@ def many_speeds(part: Part) -> None:
         check(keys == [int(KEY) + more for more in range(5)], "each has a key of its own", keys)
         ours.ends("the daemon")
         theirs.ends("the other daemon")
-    finally:
-        for cable in cables:
-            cable.cut()
 
 
 def fastest(part: Part) -> None:
     """Of two groups the faster one carries with select=bandwidth, whichever has more links; also after a reload, and when it goes."""
     names = ["t0", "t1", "t2"]
-    cables = join(names)
-    try:
+    with joined(names):
         renew(2, 10000, FULL)
         file = os.path.join(part.folder, "fastest.conf")
 
         def write(more: str) -> None:
-            with open(file, "w", encoding="utf-8") as it:
-                it.write(f"[Bundle]\nkey={KEY}\nsystem=32768,{SYSTEM}\nkey-by-speed=yes\n{more}" + "".join(f"[Port {name}]\n" for name in names))
+            ports = "".join(f"[Port {name}]\n" for name in names)
+            Path(file).write_text(f"[Bundle]\nkey={KEY}\nsystem=32768,{SYSTEM}\nkey-by-speed=yes\n{more}{ports}", encoding="utf-8")
 
         theirs = part.theirs("u0", "u1", "u2:key=6")
         write("")
@@ -204,9 +203,6 @@ def fastest(part: Part) -> None:
         check(within(COMES_UP, lambda: "degraded, 2 of 3 links carry" in ours.text()), "a group of fewer than min-links comes last", ours.text())
         ours.ends("the daemon")
         theirs.ends("the other daemon")
-    finally:
-        for cable in cables:
-            cable.cut()
 
 
 PARTS = {

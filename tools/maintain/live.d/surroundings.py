@@ -11,12 +11,13 @@ import socket
 import subprocess
 import sys
 import time
+from pathlib import Path
 
 from checking import Skipped, check, within
 from daemon import ENDS, OTHER, SYSTEM, Daemon, Part
-from daemons import COMES_UP, NOBODY, both_up
+from daemons import COMES_UP, NOBODY, both_up, pair_up
 from service import Filed
-from spaces import OURS, THEIRS, inside, ip, octets, packet_socket
+from spaces import OURS, THEIRS, inside, ip, make_pair, octets, packet_socket
 
 # A program that takes all names that a lock of one of the first interfaces may have, as a user without rights.
 SQUATTER = """import os, socket, sys, time
@@ -116,7 +117,6 @@ def squatted_locks(part: Part) -> None:
     check(within(ENDS, lambda: theirs.port("a0")["link"] == "up"), "a daemon of another user", theirs.printed())
     status, line = part.refused("9", f"32768,{OTHER}", "a0")
     check((status, line) == (1, f"lagd: another lagd has the interface, one of user {NOBODY}: a0\n"), "keeps root's from its interface", line)
-    theirs.ends("the daemon")
 
 
 def frame(to: str, kind: int) -> bytes:
@@ -159,20 +159,12 @@ def told_at(daemon: Daemon, name: str) -> float | None:
     return datetime.datetime.fromisoformat(found[-1] + "+00:00").timestamp() if found else None
 
 
-def make_even_pair(place: int) -> None:
-    """A pair whose ends have one number, as if each was a card: the kernel tells of a carrier that goes there once a second."""
-    number = str(1000 + place)
-    made = inside(OURS, "ip", "link", "add", f"a{place}", "index", number, "type", "veth", "peer", "name", f"b{place}", "index", number, "netns", THEIRS)
-    if made.returncode:
-        raise Skipped(f"no veth pairs of one number: {made.stderr.strip()}")
-    ip(OURS, "link", "set", f"a{place}", "up")
-    ip(THEIRS, "link", "set", f"b{place}", "up")
-
-
 def second_cut(part: Part) -> None:
-    """Two links are cut within a second: neither is told late, after another name either, and without /sys."""
+    """Two links are cut within a second: neither is told late, after another name either, and without /sys. Both ends of a link have one number, as
+    if each was a card: the kernel tells of a carrier that goes there once a second."""
     for place in 2, 3:
-        make_even_pair(place)
+        number = ("index", str(1000 + place))
+        make_pair(place, number, number)
     inside(OURS, "ip", "link", "property", "add", "dev", "a3", "altname", "third")
     theirs = part.theirs("b2", "b3")
     for before in WITH_AND_WITHOUT_SYS:
@@ -204,8 +196,7 @@ def cut_twice(ours: Daemon, theirs: Daemon) -> None:
 
 def queued_data(part: Part) -> None:
     """Other programs send more than an interface takes, whose queue knows no priority: no LACPDU waits there, and none is refused."""
-    ours, theirs = part.ours(), part.theirs()
-    both_up(ours, theirs, "both links distribute")
+    ours, theirs = pair_up(part)
     for words in SLOW_QUEUE:
         made = inside(OURS, "tc", "qdisc", "add", "dev", "a0", *words)
         if made.returncode:
@@ -219,7 +210,6 @@ def queued_data(part: Part) -> None:
     check(dropped and int(dropped[1]) > 100, "the queue drops data", dropped and dropped[0])
     check(port["failed_sent"] == 0 and port["lacpdus_sent"] >= sent + FLOODED - 2, "no LACPDU is refused", port)
     check(now["expired"] == before["expired"] and now["lacpdus_received"] >= before["lacpdus_received"] + FLOODED - 2, "and the peer hears them in time", before, now)
-    ours.ends("the daemon")
 
 
 def has(name: str, wanted: bool, queues: str = "") -> bool:
@@ -234,9 +224,7 @@ def kept_settings(part: Part) -> None:
     if not shutil.which("ethtool"):
         raise Skipped("no command ethtool (Debian: ethtool)")
     ip(OURS, "link", "del", "a0")
-    ip(OURS, "link", "add", "a0", "numrxqueues", "4", "numtxqueues", "4", "type", "veth", "peer", "name", "b0", "netns", THEIRS)
-    ip(OURS, "link", "set", "a0", "up")
-    ip(THEIRS, "link", "set", "b0", "up")
+    make_pair(0, ("numrxqueues", "4", "numtxqueues", "4"))
     for words in ["-L", "a0", "rx", "3", "tx", "3"], ["-K", "a0", "gro", "on"]:
         inside(OURS, "ethtool", *words)
     check(has("a0", True, "3"), "an interface with GRO and three queues", inside(OURS, "ethtool", "-l", "a0").stdout)
@@ -253,22 +241,18 @@ def kept_settings(part: Part) -> None:
     for options in PLAIN_AND_FAST:
         first = part.ours("a0", options=["--carry", "lag0", *options])
         check(within(ENDS, lambda: first.ports() and has("a0", False, "1")), f"a member has neither {options}", first.printed())
-        first.process.kill()
-        first.process.wait()
+        first.kill()
         check(has("a0", False, "1") and len(files()) == 1, "after SIGKILL neither", files())
         second = part.ours("a0", options=["--carry", "lag0", *options])
         check(within(ENDS, lambda: second.ports()), "the next daemon", second.printed())
         second.ends("it")
         check(has("a0", True, "3") and not files(), "and the interface has both again", files())
-    first = part.ours("a0", options=["--carry", "lag0"])
-    within(ENDS, first.ports)
-    first.process.kill()
-    first.process.wait()
+    first = part.alone(options=["--carry", "lag0"])
+    first.kill()
     number = inside(OURS, "cat", "/sys/class/net/a0/ifindex").stdout.strip()
     ip(OURS, "link", "del", "a0")
-    ip(OURS, "link", "add", "a0", "index", number, "type", "veth", "peer", "name", "b0", "netns", THEIRS)
-    second = part.ours("a0", options=["--carry", "lag0"])
-    within(ENDS, second.ports)
+    make_pair(0, ("index", number))
+    second = part.alone(options=["--carry", "lag0"])
     second.ends("the next daemon")
     check(has("a0", False), "another interface of the same number keeps what it had")
 
@@ -277,20 +261,16 @@ def long_masks(part: Part) -> None:
     """The mask of RPS of a machine with many processors is put back whole."""
     mask = ",".join(["ffffffff"] * 64)
     path, place = os.path.join(part.folder, "mask"), "/sys/class/net/a0/queues/rx-0/rps_cpus"
-    with open(path, "w", encoding="ascii") as out:
-        out.write(f"{mask}\n")
+    Path(path).write_text(f"{mask}\n", encoding="ascii")
 
     def now() -> str:
-        with open(path, encoding="ascii") as it:
-            return it.read().strip()
+        return Path(path).read_text(encoding="ascii").strip()
 
     before = ["unshare", "--mount", "sh", "-c", f'mount --bind {path} {place} && exec "$@"', "sh"]
     ours = part.ours("a0", options=["--carry", "lag0", "--fast"], before=before)
     check(within(ENDS, lambda: now() == "1"), "one processor takes what a member receives", now(), ours.printed())
-    ours.process.kill()
-    ours.process.wait()
-    again = part.ours("a0", options=["--carry", "lag0", "--fast"], before=before)
-    within(ENDS, again.ports)
+    ours.kill()
+    again = part.alone(options=["--carry", "lag0", "--fast"], before=before)
     again.ends("the next daemon")
     check(now() == mask, f"after SIGKILL and SIGTERM a mask of {len(mask)} characters is back", now(), again.printed())
 
@@ -304,8 +284,7 @@ def watchers_of(daemon: Daemon, count: int, user: int) -> subprocess.Popen[str]:
 def places(part: Part) -> None:
     """Whoever watches leaves places for those who ask."""
     os.chmod(part.folder, 0o755)
-    ours = part.ours("a0")
-    within(ENDS, ours.ports)
+    ours = part.alone()
     for crowd in [0], [0, 1001, 1002, 1003, 1004]:
         running = [watchers_of(ours, 30, user) for user in crowd]
         refused = [int(it.stdout.readline() if it.stdout else 0) for it in running]
@@ -319,7 +298,6 @@ def places(part: Part) -> None:
             it.kill()
             it.wait()
         within(ENDS, lambda: inside(OURS, "timeout", "1", part.program, "--folder", ours.folder, "--watch").stderr == "")
-    ours.ends("the daemon")
 
 
 def ups(text: str) -> dict[str, int]:
@@ -344,12 +322,10 @@ def silent_daemons(part: Part) -> None:
         check("a1.sock: its daemon does not answer" in told.stderr, f"of a daemon that is stopped {words} says so", told.stderr, told.returncode)
         check(words == ["--watch"] or "a0" in told.stdout, "and the other one answers", told.stdout)
     check(ups(told.stdout) == {"a0": 1, "a1": 0}, "its bundle is not up", told.stdout)
-    second.process.kill()
-    second.process.wait()
+    second.kill()
     told = ask("--metrics")
     check(ups(told.stdout) == {"a0": 1, "a1": 0} and told.returncode == 0, "nor is that of one that was killed", told.stdout, told.stderr)
-    first.process.kill()
-    first.process.wait()
+    first.kill()
     told = ask("--metrics")
     check(ups(told.stdout) == {"a0": 0, "a1": 0} and told.returncode == 0, "where all were killed, none is", told.stdout, told.stderr)
     again = part.ours("a0")
@@ -362,13 +338,11 @@ def one_name(part: Part) -> None:
     """Two bundles of one name in a folder: the second one does not take the socket of the first one."""
     for name, interface in ("one", "a0"), ("two", "a1"):
         os.mkdir(os.path.join(part.folder, name))
-        with open(os.path.join(part.folder, name, "uplink.conf"), "w", encoding="ascii") as out:
-            out.write(f"[Bundle]\nkey=7\nsystem=1,{SYSTEM}\n[Port {interface}]\n")
+        Path(os.path.join(part.folder, name, "uplink.conf")).write_text(f"[Bundle]\nkey=7\nsystem=1,{SYSTEM}\n[Port {interface}]\n", encoding="ascii")
     first = Filed(part, os.path.join(part.folder, "one", "uplink.conf"))
     check(within(ENDS, lambda: ups(inside(OURS, part.program, "--folder", first.folder, "--metrics").stdout) == {"uplink": 1}), "a bundle with a name", first.printed())
     status, line = part.refused("--config", os.path.join(part.folder, "two", "uplink.conf"))
     check((status, line) == (1, "lagd: another lagd has this bundle: uplink\n"), "a second one of that name is refused", line)
-    first.ends("the daemon")
 
 
 PARTS = {

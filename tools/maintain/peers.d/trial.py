@@ -8,7 +8,7 @@ import time
 
 from capturing import Capture, most_in_a_second
 from checking import check, command, within
-from daemon import ENDS, Daemon, Part
+from daemon import Daemon, Part
 from peer import Stranger
 from repository import TOOLS
 from spaces import OURS, drop_spaces, ip, make_spaces
