@@ -30,8 +30,6 @@ mod replays;
 #[cfg(test)]
 mod slow;
 #[cfg(test)]
-mod spent;
-#[cfg(test)]
 mod streams;
 #[cfg(test)]
 mod telling;
@@ -39,7 +37,5 @@ mod telling;
 mod texts;
 #[cfg(test)]
 mod watching;
-#[cfg(test)]
-mod worlds;
 #[cfg(test)]
 mod wrong_answers;

@@ -27,24 +27,6 @@ ends = [1, 1]
 ends = [2, 2]
 ";
 
-/// Two cables that one frame fills.
-const LIMIT_1: &str = "[[cable]]
-ends = [1, 1]
-limit = 1
-[[cable]]
-ends = [2, 2]
-limit = 1
-";
-
-/// Two cables that two frames fill.
-const LIMIT_2: &str = "[[cable]]
-ends = [1, 1]
-limit = 2
-[[cable]]
-ends = [2, 2]
-limit = 2
-";
-
 /// Two cables with room for all frames of these tests.
 const LIMIT_8: &str = "[[cable]]
 ends = [1, 1]
@@ -187,57 +169,6 @@ fn a_conversation_moves(rt: HostRuntime) -> Result<(), Fail> {
     plays(&rt, &[BOTH_UP, MOVE], &[TWO_PORTS, LIMIT_8])
 }
 
-/// Three frames on a cable with room for two.
-const FULL: &str = "offer 1 1 0200000000200200000000100800 -> port 1 serial 0 sent
-offer 1 1 0200000000200200000000100800 -> port 1 serial 1 sent
-offer 1 1 0200000000200200000000100800 -> port 1 serial 2 lost
-deliver 1 2 -> up 1
-deliver 1 2 -> up 1
-deliver 1 2 -> empty
-cable 1 agreement same
-cable 2 agreement same
-flow 1/1/48 sent 3 collected 0 1
-";
-
-/// A marker on a cable that one frame fills.
-const NARROW: &str = "offer 1 1 0200000000200200000000100800 -> port 1 serial 0 sent
-offer 1 1 0200000000200200000000100800 -> port 1 serial 1 lost
-move 1 1 48 2 -> moved
-emit 1 1 -> lacpdu 3d lost
-emit 1 1 -> marker 1 lost
-deliver 1 2 -> up 1
-tick 1 30 -> ticked
-emit 1 1 -> marker 2 sent
-deliver 1 2 -> responded sent
-deliver 1 1 -> released 1
-offer 1 1 0200000000200200000000100800 -> port 2 serial 2 sent
-deliver 2 2 -> up 1
-cable 1 agreement same
-cable 2 agreement same
-flow 1/1/48 sent 3 collected 0 2
-";
-
-#[test]
-fn a_full_cable_loses_what_is_sent(rt: HostRuntime) -> Result<(), Fail> {
-    plays(&rt, &[BOTH_UP, FULL], &[TWO_PORTS, LIMIT_2])?;
-    plays(&rt, &[BOTH_UP, NARROW], &[TWO_PORTS, LIMIT_1])
-}
-
-/// Frames of system 2 on a cable with room for one.
-const BACK: &str = "offer 2 1 0200000000100200000000200800 -> port 1 serial 0 sent
-offer 2 1 0200000000100200000000200800 -> port 1 serial 1 lost
-deliver 1 1 -> up 1
-deliver 1 1 -> empty
-cable 1 agreement same
-cable 2 agreement same
-flow 2/1/48 sent 2 collected 0
-";
-
-#[test]
-fn a_limit_is_that_of_both_directions(rt: HostRuntime) -> Result<(), Fail> {
-    plays(&rt, &[BOTH_UP, BACK], &[TWO_PORTS, LIMIT_1])
-}
-
 /// Two systems with an aggregator and a port of each of two keys, and cables of unlike limits.
 const TWO_KEYS: &str = r#"
 system = [
@@ -256,10 +187,11 @@ offer 2 1 0200000000130200000000240800 -> port 1 serial 1 lost
 deliver 2 2 -> up 2
 deliver 2 2 -> up 2
 deliver 1 1 -> up 1
+force 2 1 55 -> forced
 cable 1 agreement same
 cable 2 agreement same
 flow 1/2/255 sent 3 collected 0 1
-flow 2/1/55 sent 2 collected 0
+flow 2/1/55 sent 2 collected 0 forced
 ";
 
 #[test]

@@ -239,3 +239,26 @@ fn runs(
 fn plays(rt: &impl Abort, alloc: Global, row: &Row) -> Result<(), WorldFault> {
     runs(rt, alloc, row, None, 0)
 }
+
+/// What happens after a beginning: events with their expected replies, and what the readers are expected to return at the end.
+type After = (EventLines, &'static str);
+
+/// Plays each of these in a new world of these systems, after this beginning.
+fn play_after(
+    rt: &impl Abort,
+    alloc: Global,
+    (setting, first): (Setting, EventLines),
+    rows: &[After],
+) -> Result<(), WorldFault> {
+    for (rest, told) in rows {
+        let (rest, told) = (*rest, *told);
+        let row = Row {
+            setting,
+            first,
+            rest,
+            told,
+        };
+        plays(rt, alloc, &row)?;
+    }
+    Ok(())
+}

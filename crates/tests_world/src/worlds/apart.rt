@@ -2,52 +2,46 @@ use crate::comparing::same;
 use crate::worlds::given::{ONE_SHORT, TWO_LONG, add_line, empty_direction, modulo, world_config};
 use crate::worlds::playing::{plays_lines, runs_lines, step_of, world_of};
 use crate::worlds::starts::{COMING_UP, ONE_CABLE};
-use crate::worlds::{Row, plays, tells};
+use crate::worlds::{After, EventLines, Row, play_after, plays, tells};
 use cables::AnyCable;
 use lagworld::{Event, Reply, World, WorldFault};
 use std::alloc::Global;
 use std::process::Abort;
 
-/// Conversation 48 is forced while it has no port.
-const FORCED_EARLY_ROW: Row = Row {
-    setting: TWO_LONG,
-    first: "sense 1 1 => Sensed(true)
+/// The link of cable 1 is up.
+const LINK_UP: EventLines = "sense 1 1 => Sensed(true)
 sense 1 2 => Sensed(true)
-",
-    rest: "force 1 1 48 => Refused(NotAssigned)
+";
+
+/// Between ports with Long Timeout.
+const BEHIND: [After; 2] = [
+    // Conversation 48 is forced while it has no port.
+    (
+        "force 1 1 48 => Refused(NotAssigned)
 tick 1 950 => Ticked
 tick 2 950 => Ticked
 offer 1 1 0200000000200200000000100800 => port 1 serial 0
 ",
-    told: "cable 1 => Some(Defaults)
+        "cable 1 => Some(Defaults)
 flow 1 1 48 => 1 []
 ",
-};
-
-#[test]
-fn a_force_that_is_refused_does_not_count(rt: HostRuntime) -> Result<(), WorldFault> {
-    plays(&rt, rt.alloc(), &FORCED_EARLY_ROW)
-}
-
-/// A cable that is whole is joined once more while an LACPDU is on it.
-const JOINED_ROW: Row = Row {
-    setting: TWO_LONG,
-    first: "sense 1 1 => Sensed(true)
-sense 1 2 => Sensed(true)
-tick 1 10 => Ticked
+    ),
+    // A cable that is whole is joined once more while an LACPDU is on it.
+    (
+        "tick 1 10 => Ticked
 tick 2 10 => Ticked
-",
-    rest: "emit 1 1 => lacpdu c5
+emit 1 1 => lacpdu c5
 join 1 => Joined
 deliver 1 2 => Took
 ",
-    told: "cable 1 => Some(NotBoth)
+        "cable 1 => Some(NotBoth)
 ",
-};
+    ),
+];
 
 #[test]
-fn a_cable_that_is_joined_keeps_what_is_on_it(rt: HostRuntime) -> Result<(), WorldFault> {
-    plays(&rt, rt.alloc(), &JOINED_ROW)
+fn events_of_a_link_that_is_up(rt: HostRuntime) -> Result<(), WorldFault> {
+    play_after(&rt, rt.alloc(), (TWO_LONG, LINK_UP), &BEHIND)
 }
 
 /// Nothing is on a cable.
@@ -80,24 +74,6 @@ fn nothing_happens(rt: &impl Abort, alloc: Global) -> Result<(), WorldFault> {
 #[test]
 fn nothing_is_no_event_of_a_cable(rt: HostRuntime) -> Result<(), WorldFault> {
     nothing_happens(&rt, rt.alloc())
-}
-
-/// The frames are of conversation 255, the last: octets 5 and 11 give 0x20 xor 0xdf (profile).
-const LAST_ROW: Row = Row {
-    setting: TWO_LONG,
-    first: COMING_UP,
-    rest: "offer 1 1 0200000000200200000000df0800 => port 2 serial 0
-offer 1 1 0200000000200200000000df0800 => port 2 serial 1
-deliver 2 2 => Up(AggId(1))
-deliver 2 2 => Up(AggId(1))
-",
-    told: "flow 1 1 255 => 2 [0, 1]
-",
-};
-
-#[test]
-fn the_last_conversation_is_counted(rt: HostRuntime) -> Result<(), WorldFault> {
-    plays(&rt, rt.alloc(), &LAST_ROW)
 }
 
 /// Cable 1 joins port 1 of system 1 and port 2 of system 2.

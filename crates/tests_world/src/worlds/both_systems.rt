@@ -2,7 +2,7 @@ use crate::comparing::same_at;
 use crate::worlds::given::{ONE_SHORT, TWO_LONG, TWO_SHORT, modulo};
 use crate::worlds::playing::{runs_lines, world_of};
 use crate::worlds::starts::{COMING_UP, ONE_CABLE};
-use crate::worlds::{Row, plays, runs};
+use crate::worlds::{After, Row, play_after, plays, runs};
 use lagworld::{Agreement, WorldFault};
 use std::alloc::Global;
 use std::process::Abort;
@@ -64,65 +64,45 @@ emit 2 2 => lacpdu 3f
 deliver 2 1 => Took
 ";
 
-const DROPPED_ROW: Row = Row {
-    setting: TWO_SHORT,
-    first: UP,
-    rest: "offer 1 1 0200000000200200000000100800 => port 1 serial 0
+/// Between ports with Short Timeout that distribute.
+const BOTH_UP: [After; 4] = [
+    // A dropped frame is not collected.
+    (
+        "offer 1 1 0200000000200200000000100800 => port 1 serial 0
 configure 2 1 2 128 aggregatable => Configured(true)
 deliver 1 2 => Dropped
 ",
-    told: "cable 1 => Some(NotBoth)
+        "cable 1 => Some(NotBoth)
 cable 2 => Some(Same)
 flow 1 1 48 => 1 []
 ",
-};
-
-#[test]
-fn a_dropped_frame_is_not_collected(rt: HostRuntime) -> Result<(), WorldFault> {
-    plays(&rt, rt.alloc(), &DROPPED_ROW)
-}
-
-const MOVES_BACK_ROW: Row = Row {
-    setting: TWO_SHORT,
-    first: UP,
-    rest: "offer 2 1 0200000000200200000000100800 => port 1 serial 0
+    ),
+    // A conversation of system 2 moves.
+    (
+        "offer 2 1 0200000000200200000000100800 => port 1 serial 0
 deliver 1 1 => Up(AggId(1))
 move 2 1 48 2 => Moved
 emit 2 1 => Marker(1, true)
 deliver 1 1 => Responded(true)
 deliver 1 2 => Released(1)
 ",
-    told: "cable 1 => Some(Same)
+        "cable 1 => Some(Same)
 cable 2 => Some(Same)
 flow 2 1 48 => 1 [0]
 ",
-};
-
-#[test]
-fn a_conversation_of_system_2_moves(rt: HostRuntime) -> Result<(), WorldFault> {
-    plays(&rt, rt.alloc(), &MOVES_BACK_ROW)
-}
-
-const PRIORITY_ROW: Row = Row {
-    setting: TWO_SHORT,
-    first: UP,
-    rest: "configure 1 1 1 129 aggregatable => Configured(true)
+    ),
+    // Another priority is a change.
+    (
+        "configure 1 1 1 129 aggregatable => Configured(true)
 configure 1 1 1 128 aggregatable => Configured(true)
 ",
-    told: "cable 1 => Some(NotBoth)
+        "cable 1 => Some(NotBoth)
 cable 2 => Some(Same)
 ",
-};
-
-#[test]
-fn another_priority_is_a_change(rt: HostRuntime) -> Result<(), WorldFault> {
-    plays(&rt, rt.alloc(), &PRIORITY_ROW)
-}
-
-const BOTH_RELEASED_ROW: Row = Row {
-    setting: TWO_SHORT,
-    first: UP,
-    rest: "offer 1 1 0200000000200200000000100800 => port 1 serial 0
+    ),
+    // One response releases two conversations.
+    (
+        "offer 1 1 0200000000200200000000100800 => port 1 serial 0
 offer 1 1 0200000000220200000000100800 => port 1 serial 0
 move 1 1 48 2 => Moved
 move 1 1 50 2 => Moved
@@ -132,16 +112,17 @@ deliver 1 2 => Up(AggId(1))
 deliver 1 2 => Responded(true)
 deliver 1 1 => Released(2)
 ",
-    told: "cable 1 => Some(Same)
+        "cable 1 => Some(Same)
 cable 2 => Some(Same)
 flow 1 1 48 => 1 [0]
 flow 1 1 50 => 1 [0]
 ",
-};
+    ),
+];
 
 #[test]
-fn one_response_releases_two_conversations(rt: HostRuntime) -> Result<(), WorldFault> {
-    plays(&rt, rt.alloc(), &BOTH_RELEASED_ROW)
+fn what_either_system_does(rt: HostRuntime) -> Result<(), WorldFault> {
+    play_after(&rt, rt.alloc(), (TWO_SHORT, UP), &BOTH_UP)
 }
 
 const RESPONSE_LOST_ROW: Row = Row {
@@ -184,88 +165,61 @@ fn an_lacpdu_has_the_change_count_of_its_own_port(rt: HostRuntime) -> Result<(),
     plays(&rt, rt.alloc(), &STAMPED_ROW)
 }
 
-const RESTARTED_ROW: Row = Row {
-    setting: TWO_LONG,
-    first: COMING_UP,
-    rest: "offer 2 1 0200000000100200000000200800 => port 1 serial 0
-restart 2 => Restarted
-deliver 1 1 => Empty
-offer 2 1 0200000000100200000000200800 => Refused(NoneDistributing)
-offer 1 1 0200000000200200000000100800 => port 1 serial 0
+/// A port of one cable that carries gets another value, and its own again.
+const CHANGED: [After; 4] = [
+    // Equal values are not enough to agree.
+    (
+        "tick 2 10 => Ticked
+emit 2 1 => lacpdu 3f
+configure 1 1 2 128 aggregatable => Configured(true)
+configure 1 1 1 128 aggregatable => Configured(true)
+deliver 1 1 => Took
+tick 1 20 => Ticked
 ",
-    told: "cable 1 => Some(NotBoth)
-cable 2 => Some(NotBoth)
-flow 2 1 48 => 1 []
-flow 1 1 48 => 1 []
+        "cable 1 => Some(Changed)
 ",
-};
-
-#[test]
-fn a_restart_of_system_2_empties_the_cables(rt: HostRuntime) -> Result<(), WorldFault> {
-    plays(&rt, rt.alloc(), &RESTARTED_ROW)
-}
-
-const FORCED_TWICE_ROW: Row = Row {
-    setting: TWO_LONG,
-    first: COMING_UP,
-    rest: "offer 1 1 0200000000200200000000100800 => port 1 serial 0
-force 1 1 48 => Forced
-offer 1 1 0200000000200200000000100800 => port 1 serial 1
-force 1 1 48 => Forced
-",
-    told: "flow 1 1 48 => 2 [] forced
-",
-};
-
-#[test]
-fn a_conversation_stays_forced(rt: HostRuntime) -> Result<(), WorldFault> {
-    plays(&rt, rt.alloc(), &FORCED_TWICE_ROW)
-}
-
-/// Port 1 of system 1 gets another priority, and its own again.
-const PRIORITY_CHANGED_ROW: Row = Row {
-    setting: ONE_SHORT,
-    first: ONE_CABLE,
-    rest: "tick 2 10 => Ticked
+    ),
+    // Port 1 of system 1 gets another priority, and its own again.
+    (
+        "tick 2 10 => Ticked
 emit 2 1 => lacpdu 3f
 configure 1 1 1 129 aggregatable => Configured(true)
 configure 1 1 1 128 aggregatable => Configured(true)
 deliver 1 1 => Took
 tick 1 20 => Ticked
 ",
-    told: "cable 1 => Some(Changed)
+        "cable 1 => Some(Changed)
 ",
-};
-
-/// Port 1 of system 1 gets another Aggregation bit, and its own again.
-const AGGREGATION_CHANGED_ROW: Row = Row {
-    rest: "tick 2 10 => Ticked
+    ),
+    // Port 1 of system 1 gets another Aggregation bit, and its own again.
+    (
+        "tick 2 10 => Ticked
 emit 2 1 => lacpdu 3f
 configure 1 1 1 128 individual => Configured(true)
 configure 1 1 1 128 aggregatable => Configured(true)
 deliver 1 1 => Took
 tick 1 20 => Ticked
 ",
-    ..PRIORITY_CHANGED_ROW
-};
-
-/// Port 1 of system 2 gets another key, and its own again.
-const CHANGED_BACK_ROW: Row = Row {
-    rest: "tick 1 10 => Ticked
+        "cable 1 => Some(Changed)
+",
+    ),
+    // Port 1 of system 2 gets another key, and its own again.
+    (
+        "tick 1 10 => Ticked
 emit 1 1 => lacpdu 3f
 configure 2 1 2 128 aggregatable => Configured(true)
 configure 2 1 1 128 aggregatable => Configured(true)
 deliver 1 2 => Took
 tick 2 20 => Ticked
 ",
-    ..PRIORITY_CHANGED_ROW
-};
+        "cable 1 => Some(Changed)
+",
+    ),
+];
 
 #[test]
 fn each_value_of_each_system_counts_as_a_change(rt: HostRuntime) -> Result<(), WorldFault> {
-    plays(&rt, rt.alloc(), &PRIORITY_CHANGED_ROW)?;
-    plays(&rt, rt.alloc(), &AGGREGATION_CHANGED_ROW)?;
-    plays(&rt, rt.alloc(), &CHANGED_BACK_ROW)
+    play_after(&rt, rt.alloc(), (ONE_SHORT, ONE_CABLE), &CHANGED)
 }
 
 /// Port 1 of system 1 is changed and agrees again as soon as its LACPDUs were received; the same values once more are no

@@ -1,51 +1,58 @@
 use crate::worlds::given::{INDIVIDUAL, TWO_LONG};
 use crate::worlds::starts::COMING_UP;
-use crate::worlds::{Row, plays};
+use crate::worlds::{After, Row, play_after, plays};
 use lagworld::WorldFault;
 
-const TOLD_OF_CUT_ROW: Row = Row {
-    setting: TWO_LONG,
-    first: COMING_UP,
-    rest: "offer 1 1 0200000000200200000000100800 => port 1 serial 0
+/// Between ports with Long Timeout that distribute.
+const BOTH_UP: [After; 3] = [
+    // A port that is told of the cut frees its conversations.
+    (
+        "offer 1 1 0200000000200200000000100800 => port 1 serial 0
 cut 1 => Cut
 offer 1 1 0200000000200200000000100800 => port 1 serial 1 lost
 sense 1 1 => Sensed(false)
 offer 1 1 0200000000200200000000100800 => port 2 serial 2
 deliver 2 2 => Up(AggId(1))
 ",
-    told: "cable 1 => Some(NotBoth)
+        "cable 1 => Some(NotBoth)
 cable 2 => Some(Same)
 flow 1 1 48 => 3 [2]
 ",
-};
-
-#[test]
-fn a_port_that_is_told_of_the_cut_frees_its_conversations(
-    rt: HostRuntime,
-) -> Result<(), WorldFault> {
-    plays(&rt, rt.alloc(), &TOLD_OF_CUT_ROW)
-}
-
-const RESTARTED_ROW: Row = Row {
-    setting: TWO_LONG,
-    first: COMING_UP,
-    rest: "offer 1 1 0200000000200200000000100800 => port 1 serial 0
+    ),
+    // A restart empties the cables.
+    (
+        "offer 1 1 0200000000200200000000100800 => port 1 serial 0
 restart 1 => Restarted
 deliver 1 2 => Empty
 offer 1 1 0200000000200200000000100800 => Refused(NoneDistributing)
 offer 2 1 0200000000100200000000200800 => port 1 serial 0
 deliver 1 1 => Disabled
 ",
-    told: "cable 1 => Some(NotBoth)
+        "cable 1 => Some(NotBoth)
 cable 2 => Some(NotBoth)
 flow 1 1 48 => 1 []
 flow 2 1 48 => 1 []
 ",
-};
+    ),
+    // A restart of system 2 empties the cables.
+    (
+        "offer 2 1 0200000000100200000000200800 => port 1 serial 0
+restart 2 => Restarted
+deliver 1 1 => Empty
+offer 2 1 0200000000100200000000200800 => Refused(NoneDistributing)
+offer 1 1 0200000000200200000000100800 => port 1 serial 0
+",
+        "cable 1 => Some(NotBoth)
+cable 2 => Some(NotBoth)
+flow 2 1 48 => 1 []
+flow 1 1 48 => 1 []
+",
+    ),
+];
 
 #[test]
-fn a_restart_empties_the_cables(rt: HostRuntime) -> Result<(), WorldFault> {
-    plays(&rt, rt.alloc(), &RESTARTED_ROW)
+fn cuts_and_restarts(rt: HostRuntime) -> Result<(), WorldFault> {
+    play_after(&rt, rt.alloc(), (TWO_LONG, COMING_UP), &BOTH_UP)
 }
 
 const CONFIGURED_ROW: Row = Row {
