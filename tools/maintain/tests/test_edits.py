@@ -119,9 +119,3 @@ def test_everywhere_is_each_place(crate: Path) -> None:
 def test_a_test_at_its_time_limit_refuses_nothing() -> None:
     output = ["test a ... FAILED", "  it took the time limit of 60 s", "test b ... FAILED", "  7 and not 8", "the time limit"]
     assert [edits.is_cut_off(output, at) for at in (0, 2)] == [True, False]
-
-
-def test_a_copy_without_builds_keeps_what_was_proved() -> None:
-    names = ["rlib", "incremental", "lagtool", "tests"]
-    assert edits.unbuilt("crates/x/out", names) == ["lagtool", "tests"]
-    assert edits.unbuilt("crates/x/src", names) == []
