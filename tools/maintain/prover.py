@@ -68,12 +68,16 @@ def ran(folder: str) -> list[str]:
     return found
 
 
+def result(trial: Trial, is_right: bool, text: str) -> Result:
+    """What became of an edit, as it is printed."""
+    return trial, is_right, f"{text}{trial.says and f': {trial.says}'}" if is_right else f"FAILED {text}"
+
+
 def judged(text: str | None) -> tuple[bool, str]:
     """Whether an edit passed of which `rt ci` said this, and what to print."""
     if text is None:
-        return False, "FAILED was not tried, as its crate is not proved as it stands"
-    is_right = text.startswith(REFUSED) and not text.startswith(LIMITED)
-    return is_right, text if is_right else f"FAILED {text}"
+        return False, "was not tried, as its crate is not proved as it stands"
+    return text.startswith(REFUSED) and not text.startswith(LIMITED), text
 
 
 def tried(folder: str, attempts: list[Attempt]) -> Iterator[Result]:
@@ -86,7 +90,7 @@ def tried(folder: str, attempts: list[Attempt]) -> Iterator[Result]:
     found = filter(None, map(TOLD.match, ran(folder)))
     told = {(crate, file): text for crate, file, text in (it.groups() for it in found)}
     for it in attempts:
-        yield it.trial, *judged(told.get((it.trial.crate, it.file)))
+        yield result(it.trial, *judged(told.get((it.trial.crate, it.file))))
 
 
 def named(every: dict[str, list[Trial]], words: list[str]) -> list[Trial]:

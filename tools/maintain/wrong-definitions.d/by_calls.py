@@ -40,10 +40,10 @@ def is_of(trial: Trial) -> bool:
     return any(place == PLACE for place, _ in trial.tests)
 
 
-def words_for(top: str) -> list[str]:
+def words_for(top: str, jobs: int) -> list[str]:
     """The words that prove and build the library in a folder that is a copy of the crate, over the libraries of these crates."""
     rt = rtlib()
-    of_crate = rt.Crate(os.path.join(top, "crates", CRATE), top, {}).words(["--jobs", "1"])
+    of_crate = rt.Crate(os.path.join(top, "crates", CRATE), top, {}).words(["--jobs", str(jobs)])
     tools = ["--toolchain", os.path.join(kit(), "toolchain"), "--backend", "llvm"]
     return [os.path.join(kit(), "bin", "rattle"), "build", *of_crate, *rt.KEPT, *tools, "-o", f"out/lib{CRATE}.a"]
 
@@ -70,22 +70,22 @@ def called(words: list[str], crate: str) -> tuple[list[str], str | None]:
 
 def try_edit(words: list[str], crate: str, trial: Trial) -> tuple[bool, str]:
     if not any(file.startswith("specs/") for file, _, _ in trial.pairs):
-        return False, "FAILED the edit makes no definition wrong"
+        return False, "the edit makes no definition wrong"
     was, fault = apply(crate, trial.pairs)
     if fault:
-        return False, f"FAILED {fault}"
+        return False, fault
     try:
         failed, fault = called(words, crate)
     finally:
         restore(was)
     if fault:
-        return False, f"FAILED {fault}"
+        return False, fault
     wanted = [function for _, function in trial.tests]
     missing = [function for function in wanted if function not in failed]
     if missing:
         others = ", ".join(dict.fromkeys(failed)) or "nothing"
-        return False, f"FAILED {', '.join(missing)} does not refuse, but {others}: {trial.says}"
-    return True, f"refused by {', '.join(wanted)} of calls.c: {trial.says}"
+        return False, f"{', '.join(missing)} does not refuse, but {others}: {trial.says}"
+    return True, f"refused by {', '.join(wanted)} of calls.c"
 
 
 def try_all(folder: str, trials: list[Trial]) -> Iterator[Result]:
@@ -94,11 +94,11 @@ def try_all(folder: str, trials: list[Trial]) -> Iterator[Result]:
         return
     first = os.path.join(copy_crates(folder, [CRATE]), CRATE)
     prover.ran(folder)
-    words = words_for(folder)
-    failed, fault = called(words, first)
+    failed, fault = called(words_for(folder, lanes()), first)
     if failed or fault:
-        yield from ((it, False, f"FAILED {CRATE} does not pass as it stands: {fault or ', '.join(failed)}") for it in trials)
+        yield from (prover.result(it, False, f"{CRATE} does not pass as it stands: {fault or ', '.join(failed)}") for it in trials)
         return
+    words = words_for(folder, 1)
     free: queue.Queue[str] = queue.Queue()
     for number in range(min(lanes(), len(trials))):
         free.put(shutil.copytree(first, os.path.join(folder, f"lane {number}")))
@@ -112,4 +112,4 @@ def try_all(folder: str, trials: list[Trial]) -> Iterator[Result]:
 
     with ThreadPoolExecutor(free.qsize()) as pool:
         for trial, (is_right, text) in zip(trials, pool.map(tried, trials)):
-            yield trial, is_right, text
+            yield prover.result(trial, is_right, text)

@@ -64,20 +64,16 @@ def try_counterexample(folder: str, trial: Trial, path: str) -> tuple[bool, str]
     return is_proved, "refuted: the law is false of it" if is_proved else "the counterexample is not proved"
 
 
-def said(trial: Trial, is_right: bool, text: str) -> Result:
-    return trial, is_right, f"{'' if is_right else 'FAILED '}{text}: {trial.says}"
-
-
 def try_all(folder: str, trials: list[Trial]) -> Iterator[Result]:
     """Tries these edits; answers each, whether it is refused, and what to print."""
     others = [it for it in trials if any(file.startswith("..") for file, _, _ in it.pairs)]
     attempts = [prover.attempt("definition", it) for it in trials if it not in others]
     for trial, is_right, text in prover.tried(os.path.join(folder, "law"), attempts):
-        file = unread([text.removeprefix(f"{prover.REFUSED}: ")]) if is_right else None
-        yield said(trial, False, f"{file} does not read any more") if file else (trial, is_right, f"{text}: {trial.says}")
+        file = unread([text.removeprefix(f"{prover.REFUSED}: ")])
+        yield prover.result(trial, False, f"{file} does not read any more") if file else (trial, is_right, text)
     for number, trial in enumerate(others):
-        yield said(trial, *try_below(os.path.join(folder, f"below {number}"), trial))
+        yield prover.result(trial, *try_below(os.path.join(folder, f"below {number}"), trial))
     for trial in trials:
         path = os.path.join(DEFINITIONS, f"{trial.crate}.{trial.name}.counterexample")
         if os.path.exists(path):
-            yield said(trial, *try_counterexample(os.path.join(folder, "counterexample"), trial, path))
+            yield prover.result(trial, *try_counterexample(os.path.join(folder, "counterexample"), trial, path))
