@@ -8,7 +8,7 @@ import pytest
 
 import loading  # noqa: F401  (tools/ is looked up)
 import edits
-from repository import Missing
+from repository import Missing, crates
 
 EDIT = """says: the limit is one more
 refused-by: tests_system systems::limits::a_limit_holds
@@ -119,3 +119,8 @@ def test_everywhere_is_each_place(crate: Path) -> None:
 def test_a_test_at_its_time_limit_refuses_nothing() -> None:
     output = ["test a ... FAILED", "  it took the time limit of 60 s", "test b ... FAILED", "  7 and not 8", "the time limit"]
     assert [edits.is_cut_off(output, at) for at in (0, 2)] == [True, False]
+
+
+@pytest.mark.parametrize("crate", crates())
+def test_a_crate_has_at_most_ten_edits_in_must_fail(crate: str) -> None:
+    assert len(edits.must_fail(crate)) <= 10

@@ -8,7 +8,6 @@ fails. `rt ci` makes the crates below, of what it kept; each lane has a copy of 
 from __future__ import annotations
 
 import os
-import queue
 import re
 import shutil
 import subprocess
@@ -99,17 +98,12 @@ def try_all(folder: str, trials: list[Trial]) -> Iterator[Result]:
         yield from (prover.result(it, False, f"{CRATE} does not pass as it stands: {fault or ', '.join(failed)}") for it in trials)
         return
     words = words_for(folder, 1)
-    free: queue.Queue[str] = queue.Queue()
-    for number in range(min(lanes(), len(trials))):
-        free.put(shutil.copytree(first, os.path.join(folder, f"lane {number}")))
+    count = min(lanes(), len(trials))
 
-    def tried(trial: Trial) -> tuple[bool, str]:
-        crate = free.get()
-        try:
-            return try_edit(words, crate, trial)
-        finally:
-            free.put(crate)
+    def in_lane(number: int) -> list[Result]:
+        crate = shutil.copytree(first, os.path.join(folder, f"lane {number}"))
+        return [prover.result(it, *try_edit(words, crate, it)) for it in trials[number::count]]
 
-    with ThreadPoolExecutor(free.qsize()) as pool:
-        for trial, (is_right, text) in zip(trials, pool.map(tried, trials)):
-            yield prover.result(trial, is_right, text)
+    with ThreadPoolExecutor(count) as pool:
+        for results in pool.map(in_lane, range(count)):
+            yield from results
