@@ -70,7 +70,8 @@ def ran(folder: str) -> list[str]:
 
 def result(trial: Trial, is_right: bool, text: str) -> Result:
     """What became of an edit, as it is printed."""
-    return trial, is_right, f"{text}{trial.says and f': {trial.says}'}" if is_right else f"FAILED {text}"
+    said = f": {trial.says}" if trial.says else ""
+    return trial, is_right, f"{text}{said}" if is_right else f"FAILED {text}"
 
 
 def judged(text: str | None) -> tuple[bool, str]:
@@ -88,9 +89,9 @@ def tried(folder: str, attempts: list[Attempt]) -> Iterator[Result]:
     for it in attempts:
         write(os.path.join(top, it.trial.crate, "must-fail", it.file), it.text)
     found = filter(None, map(TOLD.match, ran(folder)))
-    told = {(crate, file): text for crate, file, text in (it.groups() for it in found)}
+    said = {(it[1], it[2]): it[3] for it in found}
     for it in attempts:
-        yield result(it.trial, *judged(told.get((it.trial.crate, it.file))))
+        yield result(it.trial, *judged(said.get((it.trial.crate, it.file))))
 
 
 def named(every: dict[str, list[Trial]], words: list[str]) -> list[Trial]:

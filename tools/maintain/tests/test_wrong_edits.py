@@ -134,6 +134,7 @@ def fake(monkeypatch: pytest.MonkeyPatch, folder: Path, *lines: str, status: int
     monkeypatch.setattr(prover, "RT", str(rt))
 
 
+ERROR = "./proofs/A.antt:3:4: error: no"
 PASSED = "rt: must-fail captures/body-one.edit: refused, as it must be: note: src/a.rt:3:4: it is not proved"
 
 
@@ -149,10 +150,10 @@ def test_each_edit_that_is_asked_has_a_line(tmp_path: Path, monkeypatch: pytest.
     assert (prover.told(iter(results[:1])), prover.told(iter(()))) == (0, 1)
 
 
-def test_what_the_prover_says_of_a_crate_that_is_not_proved_is_told(tmp_path: Path, monkeypatch: pytest.MonkeyPatch, capsys: pytest.CaptureFixture[str]) -> None:
-    fake(monkeypatch, tmp_path, "== low", "axioms", "rt: low proved", "== captures", "./proofs/A.antt:1:2: error: no", "rt: captures NOT PROVED", status=1)
+def test_why_a_crate_is_not_proved_is_told(tmp_path: Path, monkeypatch: pytest.MonkeyPatch, capsys: pytest.CaptureFixture[str]) -> None:
+    fake(monkeypatch, tmp_path, "== low", "axioms", "rt: low proved", "== captures", ERROR, "rt: captures NOT PROVED", status=1)
     assert [it[1] for it in prover.tried(str(tmp_path / "copy"), [prover.attempt("body", TRIALS[0])])] == [False]
-    assert capsys.readouterr().err == "rt: low proved\n== captures\n./proofs/A.antt:1:2: error: no\nrt: captures NOT PROVED\n"
+    assert capsys.readouterr().err == f"rt: low proved\n== captures\n{ERROR}\nrt: captures NOT PROVED\n"
     fake(monkeypatch, tmp_path, "rt: crates.txt names no crate", status=2)
     with pytest.raises(Missing, match="ended with status 2:\nrt: crates.txt names no crate"):
         prover.ran(str(tmp_path / "copy"))
@@ -169,9 +170,9 @@ def test_words_name_edits() -> None:
 @pytest.mark.parametrize(
     ("lines", "right", "said"),
     [
-        (["rt: lagmodel proved", "./proofs/A.antt:3:4: error: no", "rt: lagnetwork NOT PROVED"], True, "refused, as it must be: ./proofs/A.antt:3:4: error: no"),
+        (["rt: lagmodel proved", ERROR, "rt: lagnetwork NOT PROVED"], True, f"refused, as it must be: {ERROR}"),
         (["rt: lagmodel proved", "rt: lagnetwork proved"], False, "the prover refuses nothing"),
-        (["./proofs/A.antt:3:4: error: no", "rt: lagmodel NOT PROVED", "rt: lagnetwork NOT PROVED: its library lagmodel failed"], False, "the prover refuses lagmodel, lagnetwork"),
+        ([ERROR, "rt: lagmodel NOT PROVED", "rt: lagnetwork NOT PROVED: its library"], False, "the prover refuses lagmodel, lagnetwork"),
         (["rt: lagmodel proved", "./specs/B.antt:3:4: error: no", "rt: lagnetwork NOT PROVED"], False, "specs/B.antt does not read any more"),
         (["rt: lagmodel proved", "rt: lagnetwork NOT PROVED"], False, "something does not read any more"),
     ],
