@@ -11,21 +11,17 @@ import os
 import re
 import shutil
 import subprocess
-import sys
 from concurrent.futures import ThreadPoolExecutor
 from typing import Iterator
 
 import prover
+from checking import Failed
 from edits import Trial, apply, copy_crates, restore
 from lanes import lanes
+from linking import build_calls
 from processors import rtlib
 from prover import Result
-from repository import MAINTAIN, kit, runtime
-
-sys.path.insert(0, os.path.join(MAINTAIN, "live.d"))
-
-from checking import Failed
-from linking import build_calls
+from repository import kit, runtime
 
 CRATE = "lagffi"
 # What stands in the place of a crate in a line `refused-by:`.
