@@ -160,7 +160,7 @@ def test_why_a_crate_is_not_proved_is_told(tmp_path: Path, monkeypatch: pytest.M
 
 
 def test_words_name_edits() -> None:
-    every = {"captures": TRIALS, "cables": []}
+    every: dict[str, list[edits.Trial]] = {"captures": TRIALS, "cables": []}
     assert prover.named(every, []) == prover.named(every, ["captures"]) == TRIALS
     assert prover.named(every, ["captures/other", "cables"]) == TRIALS[1:]
     with pytest.raises(Missing, match="there is no edit captures/none"):
