@@ -10,16 +10,14 @@ import os
 import shutil
 from dataclasses import dataclass
 from itertools import takewhile
-from typing import Callable, Iterable
+from typing import Iterable
 
-from repository import CRATES, MAINTAIN, Missing, below, crates, lines
+from repository import CRATES, MAINTAIN, TOP, Missing, below, crates, lines
 
 BODIES = os.path.join(MAINTAIN, "wrong-bodies.d")
 DEFINITIONS = os.path.join(MAINTAIN, "wrong-definitions.d")
 # A replacement: the file, the old text and the new one.
 Pair = tuple[str, str, str]
-# What of a folder with these names is not copied.
-Ignore = Callable[[str, list[str]], Iterable[str]]
 
 
 def read(path: str) -> str:
@@ -33,42 +31,30 @@ def write(path: str, text: str) -> None:
         file.write(text)
 
 
-def unbuilt(folder: str, names: list[str]) -> list[str]:
-    """What a copy leaves out that keeps what `rt` proved and built."""
-    return [it for it in names if it not in ("rlib", "incremental")] if os.path.basename(folder) == "out" else []
-
-
-def copy_crates(folder: str, crates: Iterable[str], ignore: Ignore = shutil.ignore_patterns("out")) -> str:
-    """Copies these crates and those of the repository that they stand on; answers their folder."""
-    taken = below(*crates)
+def copy_crates(folder: str, crates: Iterable[str]) -> str:
+    """Copies these crates and those of the repository that they stand on, without their edits; answers their folder."""
+    rows, taken = lines(), below(*crates)
     for name in taken:
-        shutil.copytree(os.path.join(CRATES, name), os.path.join(folder, "crates", name), ignore=ignore)
-    write_list(folder, taken)
+        shutil.copytree(os.path.join(CRATES, name), os.path.join(folder, "crates", name), ignore=shutil.ignore_patterns("out", "must-fail"))
+    write(os.path.join(folder, "crates.txt"), "".join(f"{rows[name]}\n" for name in taken))
+    shutil.copy(os.path.join(TOP, "HANDLES"), folder)
     return os.path.join(folder, "crates")
-
-
-def write_list(folder: str, crates: Iterable[str]) -> None:
-    """Writes crates.txt of a folder that has these crates alone."""
-    rows = lines()
-    write(os.path.join(folder, "crates.txt"), "".join(f"{rows[name]}\n" for name in crates))
 
 
 @dataclass(frozen=True)
 class Trial:
-    """An edit as it is tried: what it says, its replacements, the tests that it names as pairs of a crate and a test of it, and
-    whether an operator made it."""
+    """An edit as it is tried: what it says, its replacements, and the tests that it names as pairs of a crate and a test of it."""
 
     crate: str
     name: str
     says: str
     pairs: tuple[Pair, ...]
     tests: tuple[tuple[str, str], ...] = ()
-    is_made: bool = False
 
     def fault(self) -> str | None:
         """Why this is no wrong definition; None if it is one. One that names tests may be a body alone, of which no contract speaks."""
         makes_wrong = any("specs/" in file or self.tests for file, _, _ in self.pairs)
-        if not self.is_made and not (self.says and makes_wrong):
+        if not (self.says and makes_wrong):
             return "the edit has no line `says:`, or makes no definition wrong"
         return "the edit names tests of two crates" if len({crate for crate, _ in self.tests}) > 1 else None
 

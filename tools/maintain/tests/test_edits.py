@@ -8,7 +8,7 @@ import pytest
 
 import loading  # noqa: F401  (tools/ is looked up)
 import edits
-from repository import Missing
+from repository import Missing, crates
 
 EDIT = """says: the limit is one more
 refused-by: tests_system systems::limits::a_limit_holds
@@ -121,7 +121,6 @@ def test_a_test_at_its_time_limit_refuses_nothing() -> None:
     assert [edits.is_cut_off(output, at) for at in (0, 2)] == [True, False]
 
 
-def test_a_copy_without_builds_keeps_what_was_proved() -> None:
-    names = ["rlib", "incremental", "lagtool", "tests"]
-    assert edits.unbuilt("crates/x/out", names) == ["lagtool", "tests"]
-    assert edits.unbuilt("crates/x/src", names) == []
+@pytest.mark.parametrize("crate", crates())
+def test_a_crate_has_at_most_ten_edits_in_must_fail(crate: str) -> None:
+    assert len(edits.must_fail(crate)) <= 10

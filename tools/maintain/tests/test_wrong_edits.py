@@ -1,4 +1,4 @@
-"""tools/maintain/wrong-definitions and tools/maintain/wrong-bodies: which tests and functions an edit names, and what an answer means."""
+"""tools/maintain/wrong-definitions and tools/maintain/wrong-bodies: which tests an edit names, and what an answer means."""
 
 from __future__ import annotations
 
@@ -9,9 +9,11 @@ import pytest
 import loading
 import edits
 
-bodies = loading.program("wrong-bodies")
+import prover
+from repository import Missing
+
 named = loading.module("wrong-definitions.d", "by_tests")
-prover = loading.module("wrong-definitions.d", "by_prover")
+by_prover = loading.module("wrong-definitions.d", "by_prover")
 
 TESTS = """use lagsystem::calls;
 
@@ -56,16 +58,16 @@ def test_a_module_comes_with_those_that_it_names(tmp_path: Path) -> None:
     assert named.with_named(str(tmp_path), ["a"]) == ["a", "b", "c"]
 
 
-PASSED, FAILED = ["test m::t ... ok", "test m_1000::t ... ok"], "test m_3::t ... FAILED"
+OK, FAILED = ["test m::t ... ok", "test m_1000::t ... ok"], "test m_3::t ... FAILED"
 
 
 @pytest.mark.parametrize(
     ("lines", "right", "said"),
     [
-        ([*PASSED, FAILED, "test result: FAILED"], True, "refused by tests_system: m::t: it is 5"),
-        ([*PASSED, "test m_3::t ... ok", "test result: ok"], False, "m::t does not refuse: it is 5"),
+        ([*OK, FAILED, "test result: FAILED"], True, "refused by tests_system: m::t"),
+        ([*OK, "test m_3::t ... ok", "test result: ok"], False, "m::t does not refuse: it is 5"),
         ([FAILED, "test result: FAILED"], False, "tests_system m::t does not pass without an edit"),
-        ([*PASSED, FAILED, "  its time limit", "test result: FAILED"], False, "m::t does not end: it is 5"),
+        ([*OK, FAILED, "  its time limit", "test result: FAILED"], False, "m::t does not end: it is 5"),
         (["error: no"], False, "the tests do not build or do not end:\nerror: no"),
     ],
 )
@@ -74,10 +76,10 @@ def test_a_named_test_fails_in_the_copy_alone(lines: list[str], right: bool, sai
     assert named.verdict(lines, 3, 1000, trial, ("tests_system", ("m::t",))) == (right, said)
 
 
-@pytest.mark.parametrize(("ends", "right", "said"), [("FAILED", True, "refused by tests_system: m::t: 5 for 4"), ("ok", False, "nothing refuses: 5 for 4")])
+@pytest.mark.parametrize(("ends", "right", "said"), [("FAILED", True, "refused by tests_system: m::t"), ("ok", False, "nothing refuses: 5 for 4")])
 def test_any_test_may_refuse_what_names_none(ends: str, right: bool, said: str) -> None:
     lines = ["test m_1000::t ... ok", "test m_1000::u ... ok", f"test m_3::t ... {ends}", "test m_3::u ... ok", "test result: x"]
-    trial = edits.Trial("lagsystem", "five", "5 for 4", (("src/a.rt", "4", "5"),), is_made=True)
+    trial = edits.Trial("lagsystem", "five", "5 for 4", (("src/a.rt", "4", "5"),))
     assert named.verdict(lines, 3, 1000, trial, ("tests_system", ("m::t", "m::u"))) == (right, said)
 
 
@@ -85,83 +87,104 @@ def test_the_tests_that_look_at_a_crate() -> None:
     def modules(crate: str) -> list[tuple[str, set[str]]]:
         return [(place, {it.split("::")[0] for it in tests}) for place, tests in named.looks(edits.Trial(crate, "x", "5 for 4", ()))]
 
-    assert modules("portmachines") == [("tests_parts", {"of_portmachines"})]
-    first, second = modules("lagtypes")
-    assert first == ("tests_parts", {"of_lagtypes"}) and first[1] < second[1]
+    assert modules("collector") == [("tests_parts", {"of_collector"})]
+    assert ("tests_parts", "of_lagtypes") in [(place, it) for place, found in modules("lagtypes") for it in found]
     assert [place for place, _ in named.looks(edits.Trial("lagsystem", "x", "5 for 4", ()))][:1] == ["tests_system"]
     assert named.looks(edits.Trial("lagsystem", "x", "it is 5", (), (("tests_world", "m::t"),))) == [("tests_world", ("m::t",))]
 
 
-PROOF = "use x.{a}\n\npub both : A → B\nboth a = b\n  where\n    inner : C\n    inner = c\nabbrev other (n : ℕ) : D\n"
+EDITS = {
+    "one": (("src/a.rt", "1", "2"), ("src/a.rt", "return 3;", ""), ("specs/A.antt", "4", "5")),
+    "other": (("src/a.rt", "6", "7"),),
+}
+TRIALS = [edits.Trial("captures", name, "", pairs) for name, pairs in EDITS.items()]
 
 
-@pytest.mark.parametrize(("line", "name"), [(3, "both"), (4, "both"), (7, "both"), (8, "other"), (1, "?")])
-def test_a_refusal_is_of_a_declaration(tmp_path: Path, line: int, name: str) -> None:
-    (tmp_path / "P.antt").write_text(PROOF)
-    assert prover.name_at(str(tmp_path / "P.antt"), line) == name
-
-
-def test_what_depends_on_a_refusal_is_left_out(tmp_path: Path) -> None:
-    (tmp_path / "P.antt").write_text(PROOF)
-    output = "./P.antt:4:1: error: not proved\n./P.antt:8:2: error: it depends on `both`\n./P.antt:3:1: error: no\nsome words\n"
-    assert prover.refusals(str(tmp_path), output) == [("P.antt", "both")]
-
-
-NAMES = ["lagsystem::calls::System::tick", "lagsystem::calls::Inner::tick", "lagsystem::calls::walk", "lagsystem::fault::FaultDisplay::fmt"]
+def test_an_edit_is_a_file_of_must_fail() -> None:
+    text = "file: src/a.rt\nold: 1\nnew: 2\nold: return 3;\nnew: \nfile: specs/A.antt\nold: 4\nnew: 5\n"
+    assert prover.attempt("body", TRIALS[0]) == (TRIALS[0], "body-one.edit", text)
+    for it in edits.must_fail("captures"):
+        assert prover.own(it).file == f"{it.name}.edit"
+        assert edits.read_trial("captures", it.name, prover.own(it).text.splitlines()) == it
 
 
 @pytest.mark.parametrize(
-    ("file", "text", "found"),
+    ("text", "right"),
     [
-        ("src/calls.rt", "impl Inner {\n}\nimpl System {\n    pub fn tick(&mut self) {\n        now", NAMES[:1]),
-        ("src/calls.rt", "impl<'a, F: Any> Inner<'a, F> {\n    pub(crate) fn tick(&mut self) {\n", NAMES[1:2]),
-        ("src/calls.rt", "impl System {\n    fn tick(&self) {}\n}\npub fn walk(a: u16) {\n", NAMES[2:3]),
-        ("src/fault.rt", "impl fmt::Display for Fault {\n    fn fmt(&self) {\n", NAMES[3:]),
-        ("specs/Calls.antt", "pub fn walk(", []),
-        ("src/other.rt", "pub fn walk(", []),
+        ("refused, as it must be: note: src/a.rt:3:4: it is not proved", True),
+        ("refused, as it must be (only because a proof file names what the edit took away): ./proofs/A.antt:1:2: error: `b` is not in scope", True),
+        ("refused, as it must be (only by a limit of the prover, which gave no verdict): ./proofs/A.antt:1:2: error", False),
+        ("NOT REFUSED: the crate is still proved with this edit", False),
+        ("BAD EDIT: it has no 'old:' and 'new:' pair", False),
+        ("NOT TRIED: its check was killed, most likely for memory", False),
+        (None, False),
     ],
 )
-def test_an_edit_is_of_the_last_function_before_it(file: str, text: str, found: list[str]) -> None:
-    assert bodies.function_at("lagsystem", file, text, NAMES) == found
+def test_an_edit_passes_where_the_prover_reads_and_refuses_it(text: str | None, right: bool) -> None:
+    _, is_right, told = prover.result(edits.Trial("low", "x", "it is 5", ()), *prover.judged(text))
+    assert (is_right, told.startswith("FAILED ")) == (right, not right)
+    assert (f"{text}: it is 5" if right else text or "was not tried") in told
 
 
-def test_functions_are_found_behind_the_edits_before() -> None:
-    text = "impl System {\n    fn tick(&self) { 1 }\n}\nfn walk() { 2 }\n"
-    pairs = [("src/calls.rt", "{ 1 }", "{ fn walked() }"), ("src/calls.rt", "{ 2 }", "{ 3 }")]
-    assert bodies.functions_of("lagsystem", pairs, {"src/calls.rt": text}, NAMES) == [NAMES[0], NAMES[2]]
+def fake(monkeypatch: pytest.MonkeyPatch, folder: Path, *lines: str, status: int = 0) -> None:
+    """A command rt that prints these lines, and the names of the edits that it finds."""
+    rt = folder / "rt"
+    rt.write_text("#!/bin/sh\ncat <<'END'\n" + "".join(f"{it}\n" for it in lines) + f"END\nls HANDLES crates/captures/must-fail\nexit {status}\n")
+    rt.chmod(0o755)
+    monkeypatch.setattr(prover, "RT", str(rt))
+
+
+ERROR = "./proofs/A.antt:3:4: error: no"
+PASSED = "rt: must-fail captures/body-one.edit: refused, as it must be: note: src/a.rt:3:4: it is not proved"
+
+
+def test_each_edit_that_is_asked_has_a_line(tmp_path: Path, monkeypatch: pytest.MonkeyPatch, capsys: pytest.CaptureFixture[str]) -> None:
+    fake(monkeypatch, tmp_path, "== captures", "rt: captures proved", PASSED, "rt: must-fail captures/other.edit: refused, as it must be", status=1)
+    results = list(prover.tried(str(tmp_path / "copy"), [prover.attempt("body", it) for it in TRIALS]))
+    assert [(trial.name, is_right) for trial, is_right, _ in results] == [("one", True), ("other", False)]
+    assert "was not tried" in results[1][2]
+    assert capsys.readouterr().err == "rt: captures proved\n"
+    assert sorted(it.name for it in (tmp_path / "copy" / "crates" / "captures" / "must-fail").iterdir()) == ["body-one.edit", "body-other.edit"]
+    assert prover.told(iter(results)) == 1
+    assert capsys.readouterr().out.endswith("\n1 passed, 1 failed\n")
+    assert (prover.told(iter(results[:1])), prover.told(iter(()))) == (0, 1)
+
+
+def test_why_a_crate_is_not_proved_is_told(tmp_path: Path, monkeypatch: pytest.MonkeyPatch, capsys: pytest.CaptureFixture[str]) -> None:
+    fake(monkeypatch, tmp_path, "== low", "axioms", "rt: low proved", "== captures", ERROR, "rt: captures NOT PROVED", status=1)
+    assert [it[1] for it in prover.tried(str(tmp_path / "copy"), [prover.attempt("body", TRIALS[0])])] == [False]
+    assert capsys.readouterr().err == f"rt: low proved\n== captures\n{ERROR}\nrt: captures NOT PROVED\n"
+    fake(monkeypatch, tmp_path, "rt: crates.txt names no crate", status=2)
+    with pytest.raises(Missing, match="ended with status 2:\nrt: crates.txt names no crate"):
+        prover.ran(str(tmp_path / "copy"))
+
+
+def test_words_name_edits() -> None:
+    every: dict[str, list[edits.Trial]] = {"captures": TRIALS, "cables": []}
+    assert prover.named(every, []) == prover.named(every, ["captures"]) == TRIALS
+    assert prover.named(every, ["captures/other", "cables"]) == TRIALS[1:]
+    with pytest.raises(Missing, match="there is no edit captures/none"):
+        prover.named(every, ["captures/none"])
 
 
 @pytest.mark.parametrize(
-    ("status", "output", "right", "said"),
+    ("lines", "right", "said"),
     [
-        (1, "note: src/a.rt:3:4: it is not proved\nlogic=not-proved holes=2\n", True, "refused: src/a.rt:3:4: it is not proved"),
-        (0, "logic=proved axioms=0\n", False, "PROVED: no contract refuses it"),
-        (0, "only=lagsystem::a proved\n", False, "PROVED: no contract refuses it"),
-        (1, "src/a.rt:1:2: error: `b`: it is no name\n", False, "BAD EDIT: the prover cannot read it: src/a.rt:1:2: error: `b`: it is no name"),
-        (
-            1,
-            "src/a.rt:5:6: error: `c` is not in scope\nlogic=not-proved\n",
-            False,
-            "BAD EDIT: the prover cannot read it: src/a.rt:5:6: error: `c` is not in scope",
-        ),
-        (2, "rt: no crate\n", False, "BAD EDIT: it did not reach the prover:\nrt: no crate"),
+        (["rt: lagmodel proved", ERROR, "rt: lagnetwork NOT PROVED"], True, f"refused, as it must be: {ERROR}"),
+        (["rt: lagmodel proved", "rt: lagnetwork proved"], False, "the prover refuses nothing"),
+        ([ERROR, "rt: lagmodel NOT PROVED", "rt: lagnetwork NOT PROVED: its library"], False, "the prover refuses lagmodel, lagnetwork"),
+        (["rt: lagmodel proved", "./specs/B.antt:3:4: error: no", "rt: lagnetwork NOT PROVED"], False, "specs/B.antt does not read any more"),
+        (["rt: lagmodel proved", "rt: lagnetwork NOT PROVED"], False, "something does not read any more"),
     ],
 )
-def test_an_edit_is_read_and_refused(status: int, output: str, right: bool, said: str) -> None:
-    found, told = bodies.judge(status, output, ["src/a.rt"])
-    assert (found, told) == (right, said)
+def test_an_edit_of_a_crate_below_is_refused_above_alone(
+    tmp_path: Path, monkeypatch: pytest.MonkeyPatch, lines: list[str], right: bool, said: str
+) -> None:
+    trial = next(it for it in edits.stored_in(edits.DEFINITIONS, "lagnetwork") if it.pairs[0][0].startswith(".."))
+    monkeypatch.setattr(prover, "ran", lambda folder: lines)
+    assert by_prover.try_below(str(tmp_path), trial) == (right, said)
 
 
-@pytest.mark.parametrize(
-    ("text", "fault"),
-    [
-        ("file: src/a.rt\nold: 1\nnew: 2\n", None),
-        ("file: src/a.rt\n", "it has no pair of an old and a new text"),
-        ("file: ../a.rt\nold: 1\nnew: 2\n", "a pair has no old text, or names no file of src, specs or proofs"),
-        ("file: src/../b.rt\nold: 1\nnew: 2\n", "a pair has no old text, or names no file of src, specs or proofs"),
-        ("old: 1\nnew: 2\n", "a pair has no old text, or names no file of src, specs or proofs"),
-        ("file: src/a.rt\nnew: 2\n", "a pair has no old text, or names no file of src, specs or proofs"),
-    ],
-)
-def test_a_wrong_body_has_pairs_of_its_crate(text: str, fault: str | None) -> None:
-    assert bodies.fault_of(edits.read_trial("low", "x", text.splitlines()).pairs) == fault
+def test_a_definition_that_does_not_read_is_none() -> None:
+    assert by_prover.unread(["note: src/a.rt:1:2: it is not proved", "./proofs/A.antt:1:2: error: no", "(1)"]) is None
+    assert by_prover.unread(["./proofs/A.antt:1:2: error: no", "specs/B.antt:1:2: error: no"]) == "specs/B.antt"

@@ -1,25 +1,27 @@
 """The wrong definitions of the C library, which a program in C refuses.
 
-`rt` builds a static library only of a crate that is proved. So here an edit has to be proved too: no contract tells it from what
-stands there. Then tools/maintain/live.d/calls.c is linked with the library that it makes, and the function of calls.c that the edit names has
-to have a check that fails. What a crate below kept in out/ is used, and what is not kept is proved first.
+A static library is built only of a crate that is proved. So here an edit has to be proved too: no contract tells it from what stands there. Then
+tools/maintain/live.d/calls.c is linked with the library that it makes, and the function of calls.c that the edit names has to have a check that
+fails. `rt ci` makes the crates below, of what it kept; each lane has a copy of lagffi with what its first build proved, and builds over that.
 """
 
 from __future__ import annotations
 
 import os
 import re
+import shutil
 import subprocess
-import sys
+from concurrent.futures import ThreadPoolExecutor
 from typing import Iterator
 
-from edits import Trial, apply, copy_crates, restore, unbuilt
-from repository import MAINTAIN, RT, runtime
-
-sys.path.insert(0, os.path.join(MAINTAIN, "live.d"))
-
+import prover
 from checking import Failed
+from edits import Trial, apply, copy_crates, restore
+from lanes import lanes
 from linking import build_calls
+from processors import rtlib
+from prover import Result
+from repository import kit, runtime
 
 CRATE = "lagffi"
 # What stands in the place of a crate in a line `refused-by:`.
@@ -33,9 +35,17 @@ def is_of(trial: Trial) -> bool:
     return any(place == PLACE for place, _ in trial.tests)
 
 
-def called(crate: str) -> tuple[list[str], str | None]:
-    """Builds the library of a crate and calls it; answers the functions of calls.c with a check that fails, or what is wrong."""
-    ran = subprocess.run([RT, "lib", "--jobs", "1"], cwd=crate, stdout=subprocess.PIPE, stderr=subprocess.STDOUT, text=True)
+def words_for(top: str, jobs: int) -> list[str]:
+    """The words that prove and build the library in a folder that is a copy of the crate, over the libraries of these crates."""
+    rt = rtlib()
+    of_crate = rt.Crate(os.path.join(top, "crates", CRATE), top, {}).words(["--jobs", str(jobs)])
+    tools = ["--toolchain", os.path.join(kit(), "toolchain"), "--backend", "llvm"]
+    return [os.path.join(kit(), "bin", "rattle"), "build", *of_crate, *rt.KEPT, *tools, "-o", f"out/lib{CRATE}.a"]
+
+
+def called(words: list[str], crate: str) -> tuple[list[str], str | None]:
+    """Builds the library of a copy of the crate and calls it; answers the functions of calls.c with a check that fails, or what is wrong."""
+    ran = subprocess.run(words, cwd=crate, stdin=subprocess.DEVNULL, stdout=subprocess.PIPE, stderr=subprocess.STDOUT, text=True)
     if ran.returncode:
         return [], "is not proved, so there is no library:\n" + "\n".join(ran.stdout.splitlines()[-12:])
     out = os.path.join(crate, "out")
@@ -53,14 +63,14 @@ def called(crate: str) -> tuple[list[str], str | None]:
     return failed, None
 
 
-def try_edit(crate: str, trial: Trial) -> tuple[bool, str]:
+def try_edit(words: list[str], crate: str, trial: Trial) -> tuple[bool, str]:
     if not any(file.startswith("specs/") for file, _, _ in trial.pairs):
         return False, "the edit makes no definition wrong"
     was, fault = apply(crate, trial.pairs)
     if fault:
         return False, fault
     try:
-        failed, fault = called(crate)
+        failed, fault = called(words, crate)
     finally:
         restore(was)
     if fault:
@@ -70,15 +80,26 @@ def try_edit(crate: str, trial: Trial) -> tuple[bool, str]:
     if missing:
         others = ", ".join(dict.fromkeys(failed)) or "nothing"
         return False, f"{', '.join(missing)} does not refuse, but {others}: {trial.says}"
-    return True, f"refused by {', '.join(wanted)} of calls.c: {trial.says}"
+    return True, f"refused by {', '.join(wanted)} of calls.c"
 
 
-def try_all(folder: str, trials: list[Trial]) -> Iterator[tuple[Trial, tuple[bool | None, str]]]:
-    """Tries these edits, one at a time; answers each, and whether it is refused and what to print."""
+def try_all(folder: str, trials: list[Trial]) -> Iterator[Result]:
+    """Tries these edits; answers each, whether it is refused, and what to print."""
     if not trials:
         return
-    crate = os.path.join(copy_crates(os.path.join(folder, "calls"), [CRATE], unbuilt), CRATE)
-    failed, fault = called(crate)
-    for trial in trials:
-        stands = f"does not pass as it stands: {fault or ', '.join(failed)}" if fault or failed else None
-        yield trial, (False, stands) if stands else try_edit(crate, trial)
+    first = os.path.join(copy_crates(folder, [CRATE]), CRATE)
+    prover.ran(folder)
+    failed, fault = called(words_for(folder, lanes()), first)
+    if failed or fault:
+        yield from (prover.result(it, False, f"{CRATE} does not pass as it stands: {fault or ', '.join(failed)}") for it in trials)
+        return
+    words = words_for(folder, 1)
+    count = min(lanes(), len(trials))
+
+    def in_lane(number: int) -> list[Result]:
+        crate = shutil.copytree(first, os.path.join(folder, f"lane {number}"))
+        return [prover.result(it, *try_edit(words, crate, it)) for it in trials[number::count]]
+
+    with ThreadPoolExecutor(count) as pool:
+        for results in pool.map(in_lane, range(count)):
+            yield from results
