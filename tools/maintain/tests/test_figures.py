@@ -2,31 +2,25 @@
 
 from __future__ import annotations
 
-import os
 from typing import Any
 
 import pytest
 
 import loading
-from repository import TOP, Missing
+from repository import Missing
 
 figures = loading.module("", "figures")
 TABLE = "|way|frames|\n|lagd|10|\n"
 
 
-def page_of(path: str) -> str:
-    with open(os.path.join(TOP, path), encoding="utf-8") as it:
-        return it.read()
-
-
 @pytest.mark.parametrize("copy", figures.COPIES, ids=[f"{it.page}: {it.sentence[:40]} {it.sources}" for it in figures.COPIES])
 def test_each_figure_of_each_copy_is_compared(copy: Any) -> None:
-    text = page_of(copy.page)
+    text = loading.text_of(copy.page)
     place = figures.place_of(copy, text)
-    assert figures.with_figures(copy, text, page_of) == text and len(place.groups()) == copy.sentence.count("{}") > 0
+    assert figures.with_figures(copy, text, loading.text_of) == text and len(place.groups()) == copy.sentence.count("{}") > 0
     for group in range(1, len(place.groups()) + 1):
         wrong = text[: place.start(group)] + "7654321" + text[place.end(group) :]
-        assert figures.with_figures(copy, wrong, page_of) == text
+        assert figures.with_figures(copy, wrong, loading.text_of) == text
 
 
 @pytest.mark.parametrize(

@@ -14,7 +14,6 @@ lag_h = loading.module("interface.d", "lag_h")
 bindings = loading.module("interface.d", "bindings")
 elsewhere = loading.module("interface.d", "elsewhere")
 rust = loading.module("interface.d", "rust")
-tool = loading.program("interface")
 
 SOURCE = """
 #[repr(C)]
@@ -143,11 +142,6 @@ WRITTEN_ENUM = """    NIW_OK = 0,
     NIW_OTHER = 4,       /* this is wrong */
     NIW_MORE = 6         /* of C */
 """
-
-
-def test_all_that_is_written_stands_as_it_is_written() -> None:
-    made = tool.written()
-    assert made.differs == [] and [path for path, text in made.files.items() if tool.stands(path) != text] == []
 
 
 def test_an_export_has_its_sentence_its_refusals_and_its_parameters() -> None:
