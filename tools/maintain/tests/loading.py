@@ -13,6 +13,12 @@ TOOLS = os.path.dirname(MAINTAIN)
 sys.path[:0] = [MAINTAIN, TOOLS]
 
 
+def text_of(path: str) -> str:
+    """A text of the repository."""
+    with open(os.path.join(os.path.dirname(TOOLS), path), encoding="utf-8") as it:
+        return it.read()
+
+
 def place_of(name: str) -> str:
     """A file or folder of tools/maintain/, or where it has none of this name, of tools/."""
     path = os.path.join(MAINTAIN, name)

@@ -55,23 +55,15 @@ def test_a_run_is_in_order_where_nothing_is_overtaken_or_twice(capsys: pytest.Ca
     assert said(capsys.readouterr().out) == ["passed" if holds else "FAILED"]
 
 
-@pytest.mark.parametrize("name", ["unfit", "none_carries", "queue_full", "held_too_long", "overflowed", "waiting", "from_host", "data_sent", "data_unsent"])
-def test_each_count_of_the_host_counts(capsys: pytest.CaptureFixture[str], name: str) -> None:
+OF_HOST = "unfit none_carries queue_full held_too_long overflowed waiting from_host data_sent data_unsent".split()
+OF_MEMBERS = "handed_up host_untaken other_aggregator uncollected wrong_length data_received".split()
+
+
+@pytest.mark.parametrize("name", [*OF_HOST, *OF_MEMBERS, "none of them"])
+def test_each_count_of_the_host_and_of_the_members_counts(capsys: pytest.CaptureFixture[str], name: str) -> None:
     carry, data = ({key: value + (key == name) for key, value in counts.items()} for counts in (CARRY, DATA))
     bonds.check_end(Told(carry, data), "it")
-    assert said(capsys.readouterr().out) == ["FAILED", "passed"]
-
-
-@pytest.mark.parametrize("name", ["handed_up", "host_untaken", "other_aggregator", "uncollected", "wrong_length", "data_received"])
-def test_each_count_of_the_members_counts(capsys: pytest.CaptureFixture[str], name: str) -> None:
-    carry, data = ({key: value + (key == name) for key, value in counts.items()} for counts in (CARRY, DATA))
-    bonds.check_end(Told(carry, data), "it")
-    assert said(capsys.readouterr().out) == ["passed", "FAILED"]
-
-
-def test_an_end_whose_counts_are_one_is_whole(capsys: pytest.CaptureFixture[str]) -> None:
-    bonds.check_end(Told(CARRY, DATA), "it")
-    assert said(capsys.readouterr().out) == ["passed", "passed"]
+    assert said(capsys.readouterr().out) == ["FAILED" if name in names else "passed" for names in (OF_HOST, OF_MEMBERS)]
 
 
 class Holds(Told):

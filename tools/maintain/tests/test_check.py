@@ -5,6 +5,7 @@ from __future__ import annotations
 import os
 import subprocess
 from pathlib import Path
+from typing import Callable
 
 import pytest
 
@@ -12,6 +13,23 @@ import loading
 from repository import Missing
 
 check = loading.program("check")
+
+
+@pytest.fixture
+def tool(tmp_path: Path, monkeypatch: pytest.MonkeyPatch) -> Callable[[str], None]:
+    """Writes the one tool of all checks, `pages` and `live`, in a repository of its own."""
+    subprocess.run(["git", "init", "-q", str(tmp_path)], check=True)
+    for name in ("TOP", "TOOLS"):
+        monkeypatch.setattr(check, name, str(tmp_path))
+    monkeypatch.setattr(check, "LOGS", str(tmp_path / ".git"))
+    monkeypatch.setattr(check, "CHECKS", {name: check.Check("tool", "", "") for name in ("pages", "live")})
+    monkeypatch.setattr(check, "READS", {"live": "read"})
+
+    def written(script: str) -> None:
+        (tmp_path / "tool").write_text(f"#!/bin/sh\n{script}\n")
+        (tmp_path / "tool").chmod(0o755)
+
+    return written
 
 
 def test_each_check_is_a_tool() -> None:
@@ -47,51 +65,33 @@ def test_the_end_has_the_longest_first_and_tells_what_did_not_run() -> None:
     assert check.summary(ended[:1]) == ["1 passed, 0 failed"]
 
 
-@pytest.mark.parametrize("status, how", [(0, "passed"), (1, "FAILED"), (2, "not run")])
-def test_a_status_says_how_a_check_ended(status: int, how: str, tmp_path: Path, monkeypatch: pytest.MonkeyPatch) -> None:
-    tool = tmp_path / "tool"
-    tool.write_text(f"#!/bin/sh\necho last line\nexit {status}\n")
-    tool.chmod(0o755)
-    monkeypatch.setattr(check, "TOOLS", str(tmp_path))
-    monkeypatch.setattr(check, "LOGS", str(tmp_path))
-    monkeypatch.setitem(check.CHECKS, "pages", check.Check("tool", "", ""))
+@pytest.mark.parametrize(
+    ("script", "how", "last"),
+    [
+        ("echo last line", "passed", "last line"),
+        ("echo last line; exit 1", "FAILED", "last line"),
+        ("echo last line; exit 2", "not run", "last line"),
+        ("echo 'row: inconclusive, the machine was too slow: a restart'; echo inconclusive: another; echo 2 passed", "passed", "2 passed, 2 inconclusive"),
+    ],
+)
+def test_a_status_says_how_a_check_ended(script: str, how: str, last: str, tool: Callable[[str], None]) -> None:
+    tool(script)
     ended = check.ends("pages", [])
-    assert (ended.how, ended.last) == (how, "last line")
+    assert (ended.how, ended.last) == (how, last)
 
 
-def test_the_rest_is_what_has_not_passed_on_these_files(tmp_path: Path, monkeypatch: pytest.MonkeyPatch) -> None:
-    tool, read = tmp_path / "tool", tmp_path / "read"
-    tool.write_text("#!/bin/sh\necho 1 passed, 0 failed\n")
-    tool.chmod(0o755)
-    read.write_text("as it was")
-    subprocess.run(["git", "init", "-q", str(tmp_path)], check=True)
-    for name in ("TOP", "TOOLS"):
-        monkeypatch.setattr(check, name, str(tmp_path))
-    monkeypatch.setattr(check, "LOGS", str(tmp_path / ".git"))
-    monkeypatch.setattr(check, "CHECKS", {"pages": check.Check("tool", "", ""), "live": check.Check("tool", "", "")})
-    monkeypatch.setattr(check, "READS", {"live": "read"})
+def test_the_rest_is_what_has_not_passed_on_these_files(tmp_path: Path, tool: Callable[[str], None]) -> None:
+    tool("echo 1 passed, 0 failed")
+    (tmp_path / "read").write_text("as it was")
     assert check.ends("pages", []).how == check.ends("live", []).how == "passed"
     assert check.asked(["--rest"]) == []
     (tmp_path / "other").write_text("new")
     assert check.asked(["--rest"]) == [("pages", [])]
-    read.write_text("as it is")
+    (tmp_path / "read").write_text("as it is")
     assert check.asked(["--rest"]) == [("pages", []), ("live", [])]
 
 
-def test_what_was_inconclusive_is_counted(tmp_path: Path, monkeypatch: pytest.MonkeyPatch) -> None:
-    (tmp_path / "tool").write_text("#!/bin/sh\necho 'row: inconclusive, the machine was too slow: a restart'\necho inconclusive: another\necho 2 passed, 0 failed\n")
-    (tmp_path / "tool").chmod(0o755)
-    monkeypatch.setattr(check, "TOOLS", str(tmp_path))
-    monkeypatch.setattr(check, "LOGS", str(tmp_path))
-    monkeypatch.setitem(check.CHECKS, "pages", check.Check("tool", "", ""))
-    assert check.ends("pages", []).last == "2 passed, 0 failed, 2 inconclusive"
-
-
-def test_what_failed_or_ran_with_words_of_its_own_is_of_the_rest(tmp_path: Path, monkeypatch: pytest.MonkeyPatch) -> None:
-    (tmp_path / "tool").write_text('#!/bin/sh\n[ "$1" = part ]\n')
-    (tmp_path / "tool").chmod(0o755)
-    monkeypatch.setattr(check, "TOOLS", str(tmp_path))
-    monkeypatch.setattr(check, "LOGS", str(tmp_path))
-    monkeypatch.setattr(check, "CHECKS", {"pages": check.Check("tool", "", "")})
+def test_what_failed_or_ran_with_words_of_its_own_is_of_the_rest(tool: Callable[[str], None]) -> None:
+    tool('[ "$1" = part ]')
     assert [check.ends("pages", words).how for words in ([], ["part"])] == ["FAILED", "passed"]
-    assert check.asked(["--rest"]) == [("pages", [])]
+    assert check.asked(["--rest"]) == [("pages", []), ("live", [])]

@@ -3,17 +3,13 @@
 from __future__ import annotations
 
 import re
-from pathlib import Path
 
-import loading  # noqa: F401
-from repository import TOP
-
-LAGD = Path(TOP, "lagd")
+import loading
 
 
 def table(file: str, name: str) -> str:
     """The rows of a table in C."""
-    found = re.search(rf"\b{name}\[\] = \{{\n(.*?)\n\}};", (LAGD / file).read_text(encoding="utf-8"), re.S)
+    found = re.search(rf"\b{name}\[\] = \{{\n(.*?)\n\}};", loading.text_of(f"lagd/{file}"), re.S)
     assert found, name
     return found[1]
 
@@ -29,5 +25,5 @@ def test_letters_and_names_of_options_and_keys_stand_once() -> None:
 
 def test_docs_name_the_keys_of_a_bundle_that_a_reload_changes() -> None:
     rows = re.findall(r"^    \{\"([\w-]+)\", (.*?)\},$", table("settings.c", "BUNDLE_KEYS"), re.M | re.S)
-    told = re.search(r"^What ports have of their own .*? change at once", Path(TOP, "docs/LAGD.md").read_text(encoding="utf-8"), re.M | re.S)
+    told = re.search(r"^What ports have of their own .*? change at once", loading.text_of("docs/LAGD.md"), re.M | re.S)
     assert told and set(re.findall(r"`([\w-]+)`", told[0])) == {name for name, row in rows if ".restart" not in row} - {"key", "port-priority"}

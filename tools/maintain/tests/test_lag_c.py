@@ -20,6 +20,7 @@ functions: Any = loading.module("lag-c.d", "functions")
 text: Any = loading.module("lag-c.d", "text")
 # The one that the other modules import.
 wasm: Any = sys.modules["wasm"]
+HEAD = pathlib.Path(text.HEAD).read_text(encoding="utf-8")
 needs_node = pytest.mark.skipif(not shutil.which("node"), reason="there is no node")
 
 I32, I64 = 0x7F, 0x7E
@@ -84,11 +85,6 @@ def jobs_of_numbers() -> dict[str, tuple[list[int], int, bytes]]:
     return jobs
 
 
-def head() -> str:
-    with open(text.HEAD, encoding="utf-8") as it:
-        return it.read()
-
-
 def compiled(folder: pathlib.Path, source: str, *words: str) -> pathlib.Path:
     (folder / "job.c").write_text(source, encoding="utf-8")
     include = f"{loading.TOOLS}/../crates/lagffi/include"
@@ -114,7 +110,7 @@ def test_each_instruction_of_numbers_computes_what_node_does(level: str, tmp_pat
     each = "#define EACH(it) for (u64 at_##it = 0, it; at_##it < sizeof edges / sizeof *edges && (it = edges[at_##it], 1); at_##it++)"
     edges = f"static const volatile u64 edges[] = {{{', '.join(f'{it}ull' for it in EDGES)}}};"
     main = ["#include <stdio.h>", "static const ARRAY(data, 1);", edges, each, *functions.written(wasm.Module(octets)), "int main(void) {", *rows, "    return 0;\n}\n"]
-    assert subprocess.run([str(compiled(tmp_path, "\n".join([head(), *main]), level))], capture_output=True, text=True).stdout == wanted
+    assert subprocess.run([str(compiled(tmp_path, "\n".join([HEAD, *main]), level))], capture_output=True, text=True).stdout == wanted
 
 
 def test_memory_has_the_octets_of_a_number_from_low_to_high(tmp_path: pathlib.Path) -> None:
@@ -133,7 +129,7 @@ def test_memory_has_the_octets_of_a_number_from_low_to_high(tmp_path: pathlib.Pa
     wanted = {0x28: 0x85868788, 0x29: 0x8182838485868788, 0x2C: 0xFFFFFF88, 0x2D: 0x88, 0x2E: 0xFFFF8788, 0x2F: 0x8788, 0x30: 2**64 - 0x78, 0x31: 0x88,
               0x32: 2**64 - 0x7878, 0x33: 0x8788, 0x34: 2**64 - 0x7A797878, 0x35: 0x85868788}
     lines += [f"    if (its_get_{code:x}(AT(m)) != {told}ull) return {code};" for code, told in wanted.items()]
-    source = "\n".join([head(), "static const ARRAY(data, 1);", *functions.written(wasm.Module(of(jobs, memory))), "int main(void) {", *lines, "    return 0;\n}\n"])
+    source = "\n".join([HEAD, "static const ARRAY(data, 1);", *functions.written(wasm.Module(of(jobs, memory))), "int main(void) {", *lines, "    return 0;\n}\n"])
     assert subprocess.run([str(compiled(tmp_path, source, "-O2"))]).returncode == 0
 
 

@@ -18,19 +18,16 @@ typedef int lagffi_no_function;
 """
 
 
-def test_the_functions_of_a_header_in_the_order_of_their_names(tmp_path: Path, monkeypatch: pytest.MonkeyPatch) -> None:
+@pytest.mark.parametrize(("text", "found"), [(HEADER, ["lagffi_abi", "lagffi_tick"]), ("/* nothing */\n", None)])
+def test_the_functions_of_a_header_in_the_order_of_their_names(tmp_path: Path, monkeypatch: pytest.MonkeyPatch, text: str, found: list[str] | None) -> None:
     header = tmp_path / "lag.h"
-    header.write_text(HEADER, encoding="utf-8")
+    header.write_text(text, encoding="utf-8")
     monkeypatch.setattr(library, "HEADER", str(header))
-    assert library.exports() == ["lagffi_abi", "lagffi_tick"]
-
-
-def test_a_header_without_a_function_is_refused(tmp_path: Path, monkeypatch: pytest.MonkeyPatch) -> None:
-    header = tmp_path / "lag.h"
-    header.write_text("/* nothing */\n", encoding="utf-8")
-    monkeypatch.setattr(library, "HEADER", str(header))
-    with pytest.raises(Missing, match="declares no function"):
-        library.exports()
+    if found:
+        assert library.exports() == found
+    else:
+        with pytest.raises(Missing, match="declares no function"):
+            library.exports()
 
 
 def test_each_function_is_shown_in_its_version_and_nothing_else(tmp_path: Path, monkeypatch: pytest.MonkeyPatch) -> None:
@@ -51,11 +48,10 @@ def test_what_a_command_prints() -> None:
     assert library.printed("cat", given="a text\n") == "a text\n"
 
 
-def test_a_command_that_fails_is_told_with_what_it_said() -> None:
-    with pytest.raises(Missing, match="failed: no such thing"):
-        library.printed("sh", "-c", "echo no such thing >&2; exit 3")
-
-
-def test_a_command_that_is_not_here_is_told() -> None:
-    with pytest.raises(Missing, match="there is no command no-such-command in PATH"):
-        library.printed("no-such-command")
+@pytest.mark.parametrize(
+    ("words", "why"),
+    [(["sh", "-c", "echo no such thing >&2; exit 3"], "failed: no such thing"), (["no-such-command"], "there is no command no-such-command in PATH")],
+)
+def test_a_command_that_fails_or_is_not_here_is_told(words: list[str], why: str) -> None:
+    with pytest.raises(Missing, match=why):
+        library.printed(*words)

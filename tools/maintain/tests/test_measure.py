@@ -1,4 +1,4 @@
-"""tools/maintain/measure: what a file counts as, lines in common, chains of calls."""
+"""tools/maintain/measure: what a file counts as, and what its lines are."""
 
 from __future__ import annotations
 
@@ -8,7 +8,6 @@ import loading
 
 measure = loading.program("measure")
 
-LINES = "".join(f"let line_{it} = {it};\n" for it in range(6))
 FILES = {
     "crates.txt": "high: low\nlow:\nlagffi staticlib: high\n",
     "crates/lagffi/src/a.rt": 'pub extern "C" fn lagffi_go() {\n    go(1)\n}\n',
@@ -47,28 +46,12 @@ def test_a_file_counts_by_its_place(path: str, kind: str | None) -> None:
     assert measure.kind_of(path) == kind
 
 
-def test_two_files_have_lines_in_common_if_six_in_turn_are_equal() -> None:
-    assert measure.pairs_in_common({"a": LINES, "b": "use x;\n// y\n" + LINES, "c": LINES.replace("4", "5")}) == 1
-
-
-def test_a_way_goes_through_public_functions_of_lower_crates() -> None:
-    calls = measure.Calls(FILES)
-    assert calls.hops(["lagd:serve", "low:end"]) == "6"
-    assert calls.hops(["lagd:serve", "high:gone|go", "|", "high:go", "low:low_step"]) == "5"
-    assert calls.hops(["lagd:serve", "low:hidden"]) == "-"
-
-
 def test_the_c_library_is_its_crate_and_all_below_it() -> None:
     assert measure.crates_of_library({"lagffi": ["high"], "high": ["low", "std_alloc"], "low": [], "other": ["low"]}) == {"lagffi", "high", "low"}
 
 
 def test_empty_lines_are_left_out() -> None:
     assert measure.filled(["a\n\n b\n", "\t\nc"]) == 3
-
-
-def test_edits_and_changes_are_not_touched() -> None:
-    files = {"docs/A.md": "`is_new`", "python/niwhopera/_numbers.py": "is_new", "CHANGELOG.md": "is_new", "crates/a/must-fail/b.edit": "is_new"}
-    assert measure.counted(measure.touched(files, r"\bis_new\b")) == "2 / 1"
 
 
 def test_the_product_stands_beside_what_checks_it() -> None:

@@ -2,7 +2,6 @@
 
 from __future__ import annotations
 
-import os
 import re
 
 import pytest
@@ -42,23 +41,18 @@ def test_a_module_for_another_processor_is_retargeted_or_refused() -> None:
         module.retargeted("call void @llvm.x86.sse2.pause()\n")
 
 
-def told_in(*places: str) -> str:
-    with open(os.path.join(packing.TOP, *places), encoding="utf-8") as it:
-        return it.read()
-
-
 def numbers(text: str) -> list[int]:
     return sorted(int(it) for it in re.findall(r"\d+", text))
 
 
 def remarks() -> list[str]:
     """The rules whose advice asks for nothing."""
-    return re.findall(r"number: (\d+),[^{}]*advice: \"None is needed", told_in("crates", "findings", "src", "rule.rt"))
+    return re.findall(r"number: (\d+),[^{}]*advice: \"None is needed", loading.text_of("crates/findings/src/rule.rt"))
 
 
 def test_trouble_ranks_findings_as_the_page_does() -> None:
     ranks = dict(re.findall(r"(LEADING|FOLLOWING) = \[([\d, ]+)\]", packing.text_of("causes.js")))
-    page = " ".join(told_in("docs", "TROUBLE.md").split())
+    page = " ".join(loading.text_of("docs/TROUBLE.md").split())
     told = re.search(r"Rules ([^.]*) explain others\. Those of ([^.]*) often follow[^.]*\. ([^.]*) want nothing: leave them\.", page)
     assert told
     for text, rules in zip(told.groups(), (ranks["LEADING"], ranks["FOLLOWING"], " ".join(remarks()))):
@@ -66,7 +60,7 @@ def test_trouble_ranks_findings_as_the_page_does() -> None:
 
 
 def test_trouble_says_of_each_rule_which_end_has_to_change() -> None:
-    of_ends = set(numbers(" ".join(re.findall(r"number: (\d+),", told_in("crates", "findings", "src", "rule.rt")))))
+    of_ends = set(numbers(" ".join(re.findall(r"number: (\d+),", loading.text_of("crates/findings/src/rule.rt")))))
     of_ends -= {28, *map(int, remarks())}  # 28 is of the capture
-    table = told_in("docs", "TROUBLE.md").split("**Which end has to change?**")[1].split("\n\n")[1]
+    table = loading.text_of("docs/TROUBLE.md").split("**Which end has to change?**")[1].split("\n\n")[1]
     assert numbers(" ".join(re.findall(r"^\|(\d[^|]*)\|", table, re.M))) == sorted(of_ends)

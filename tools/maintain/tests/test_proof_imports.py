@@ -87,9 +87,3 @@ def test_no_line_is_wider_than_allowed() -> None:
     lines = tool.import_lines("Rattle.high.proofs.Common", [f"name{number}" for number in range(60)])
     assert max(map(len, lines)) <= tool.WIDTH
     assert [item.name for line in lines for item in tool.items_of(line)] == [f"name{number}" for number in range(60)]
-
-
-def test_the_proofs_of_the_repository_are_as_the_tool_writes_them() -> None:
-    crates = [tool.Crate(path.parent.name) for path in sorted(tool.CRATES.glob("*/proofs"))]
-    different = [path for crate in crates for path, text in crate.written().items() if not tool.is_as(path, text)]
-    assert not different

@@ -11,7 +11,6 @@ from typing import Any
 import pytest
 
 import loading
-from repository import CRATES
 
 refusing = loading.module("", "refusing")
 memory = loading.program("refuse-memory")
@@ -65,8 +64,7 @@ def test_a_run_that_does_not_pass_is_counted() -> None:
 @pytest.mark.parametrize(("crate", "test"), memory.TESTS)
 def test_each_test_that_it_runs_stands(crate: str, test: str) -> None:
     *modules, name = test.split("::")
-    with open(os.path.join(CRATES, crate, "src", *modules) + ".rt", encoding="utf-8") as it:
-        assert re.search(rf"#\[test\]\nfn {name}\(", it.read())
+    assert re.search(rf"#\[test\]\nfn {name}\(", loading.text_of(os.path.join("crates", crate, "src", *modules) + ".rt"))
 
 
 def test_the_words_name_a_test_of_a_crate(monkeypatch: pytest.MonkeyPatch) -> None:

@@ -1,0 +1,165 @@
+"""Figures that sentences of pages copy: each row names a sentence, and what finds its figures in a table, a source or a stored report."""
+
+from __future__ import annotations
+
+import glob
+import os
+import re
+from typing import Callable, NamedTuple, Sequence
+
+from repository import TOP, Missing
+
+README, LAGD, ASSURANCE, TROUBLE, CONFORM = "README.md", "docs/LAGD.md", "docs/ASSURANCE.md", "docs/TROUBLE.md", "docs/CONFORM.md"
+MEASURED, PEERS, CONTRIBUTING, EXAMPLES = "docs/PERFORMANCE.md", "docs/PEERS.md", "CONTRIBUTING.md", "examples/README.md"
+HEADER = "crates/lagffi/include/lag.h"
+ROUNDS, CUT_OFF = (f"crates/lagprogress/specs/{it}.antt" for it in ("Rounds", "CutOff"))
+FEWER, FEWER_IF_PASSIVE, FORGETS = (
+    f"examples/{it}-rounds.short" for it in ("no-agreement-after-319", "no-agreement-after-320", "an-end-forgets-after-599")
+)
+Matches = Sequence[re.Match[str]]
+
+
+def same(found: Matches) -> list[str]:
+    """The groups, which are the same wherever the pattern is found."""
+    every = {it.groups() for it in found}
+    if len(every) != 1:
+        raise Missing(f"it finds {len(every)} texts, and is to find one")
+    return list(every.pop())
+
+
+def count(found: Matches) -> list[str]:
+    """How often the pattern is found."""
+    return [str(len(found))]
+
+
+def seconds(found: Matches) -> list[str]:
+    """The sum of ticks of 100 ms."""
+    return [f"{sum(int(it[1]) for it in found) / 10:g}"]
+
+
+class Copy(NamedTuple):
+    """A sentence of a page, with `{}` in the place of each figure, and a pattern that finds them in its sources. White space fits any other."""
+
+    page: str
+    sentence: str
+    sources: str
+    pattern: str
+    figures: Callable[[Matches], list[str]] = same
+
+
+PRINTS = "tools/maintain/live.d/examples.py", r'^PRINTS = "both ends distribute after (\d+) ticks of (\d+) ms'
+PROMISED = "|{} rounds, {}.{} s|{} rounds, {}.{} s|"
+UNTIL_UP = ROUNDS, r"^up_if_both_active = (\d+)(\d)$[^=]*^up_if_one_is = (\d+)(\d)$"
+ROUND = r'"round (\d+)"'
+OVER_FIVE = r"\|(5\.[1-9]|[6-9]\.\d)"
+TICK = r"^\d+ tick 1 (\d+) ->"
+
+
+def rounds(what: str) -> tuple[str, str]:
+    """The rounds of a definition, and the seconds before and behind their point."""
+    return ROUNDS, rf"^{what}_if_both_active = ((\d+)(\d))$[^=]*^{what}_if_one_is = ((\d+)(\d))$"
+
+
+COPIES: tuple[Copy, ...] = (
+    Copy(README, "in {} to {} minutes on four processors", MEASURED, r"^\|`tools/test`\|(\d+)\|(\d+)\|"),
+    Copy(README, "`out/bin/two_ends` prints `both ends distribute after {} ticks of {} ms`", *PRINTS),
+    Copy(README, "within {}.{} s if both ends of each cable are active, and within {}.{} s if one is", *UNTIL_UP),
+    Copy(README, "That is {} and {} rounds of 100 ms", ROUNDS, r"^up_if_both_active = (\d+)$[^=]*^up_if_one_is = (\d+)$"),
+    Copy(README, "takes [{} ns](docs/PERFORMANCE.md#times-of-calls)", MEASURED, r"^\|receive, LACPDU that changes nothing\|[\d.]+\|([\d.]+)(?:\|[\d.]+){7}\|$"),
+    Copy(README, "or {} to {} ns from C", MEASURED, r"^\|an LACPDU that changes nothing\|(\d+)-(\d+)\|"),
+    Copy(README, "`niw_resume` takes {} octets of", MEASURED, r"^\|`niw_resume`, c/lag\.c\|.*\|([\d,]+)\|-\|$"),
+    # Of these none came out of order, which is a 0 of the row.
+    Copy(README, "Of {} frames sent through `lagd`", MEASURED, r"^\|lagd\|([\d,]+)\|[\d,]+\|\d+\|0\|0\|"),
+    Copy("docs/USING.md", "It prints `both ends distribute after {} ticks of {} ms`", *PRINTS),
+    Copy("docs/ABI.md", "{} octets, {} more for each port, {} for each conversation of each aggregator, and {} for each aggregator", HEADER,
+         r"\(size_t\)(\d+) \+ \(size_t\)(\d+) \* \(ports\) \+ \(\(size_t\)(\d+) \* \(conversations\) \+ (\d+)\) \* \(aggregators\)"),
+    Copy(MEASURED, "one aggregator of 256 conversations, which take {} octets each", HEADER, r"\(size_t\)(\d+) \* \(conversations\)"),
+    Copy(MEASURED, "Not reached: 5 ns for `offer_conversation` with one conversation in use, which takes {} to {} ns", MEASURED,
+         rf"^\|offer_conversation{OVER_FIVE}(?:\|[\d.]+){{5}}{OVER_FIVE}(?:\|[\d.]+){{2}}\|$"),
+    Copy(LAGD, "It ran [on Linux {}](PEERS.md#one-run)", PEERS, r"^This run is of .* on Linux ([\d.]+) and"),
+    Copy(LAGD, "and [{}, {} and {}](PERFORMANCE.md#guests-with-kernels-of-debian).", MEASURED, r"^\|what happens\|([\d.]+)\|([\d.]+)\|([\d.]+) \(virtio"),
+    Copy(CONTRIBUTING, "as there are processors and {} GB of memory for each", "tools/lanes.py", r"^EACH = (\d+)_000_000_000$"),
+    Copy(ASSURANCE, "with one conversation, two links, two moves and {} frames,", "tools/maintain/carry.d/models.py", r"^FRAMES, MORE = (\d+), \d+$"),
+    Copy(ASSURANCE, f"of each whole cable know each other{PROMISED}", *rounds("known")),
+    Copy(ASSURANCE, f"distributes at both ends, which name the same group{PROMISED}", *rounds("up")),
+    Copy(ASSURANCE, f"each end is asked in them until nothing is due{PROMISED}", *rounds("freed")),
+    Copy(ASSURANCE, f"a full aggregator whose links all agree{PROMISED}", *rounds("up")),
+    Copy(ASSURANCE, "each link distributes and agrees|{} rounds, {}.{} s|the same|", CUT_OFF, r"IsHealthyAt i l old → ((\d+)(\d)) ≤ n → Plays gives"),
+    Copy(ASSURANCE, "the wrong bodies and laws that tell most|{}|the prover", "crates/*/must-fail/*.edit", r"\A", count),
+    Copy(ASSURANCE, "|wrong bodies|{}|the prover", "tools/maintain/wrong-bodies.d/*.edits", "^edit:", count),
+    Copy(ASSURANCE, "each with the body that meets it|{}|", "tools/maintain/wrong-definitions.d/*.edits", "^edit:", count),
+    Copy(ASSURANCE, "cut at every length; {},{} frames of up to", "crates/tests_system/src/systems/hostile.rt", r"const FRAMES: u32 = (\d+)_(\d+);"),
+    Copy("docs/internals/THEOREMS.md", "- *{} | {}* means: after", ROUNDS, r"^up_if_both_active = (\d+)$[^=]*^up_if_one_is = (\d+)$"),
+    Copy("docs/internals/THEOREMS.md", "for knowing with one active end they are [more than {}](../../examples/an-end", FORGETS, ROUND),
+    Copy(EXAMPLES, "promise agreement after {} healthy rounds if both ends are active|", FEWER, ROUND),
+    Copy(EXAMPLES, "why none can promise it after {} if one end is active|", FEWER_IF_PASSIVE, ROUND),
+    Copy(EXAMPLES, "promise that the ends know each other after {} then|", FORGETS, ROUND),
+    Copy(TROUBLE, "one or both active|both distribute|{} s|", "examples/two-ports-come-up.txt", TICK, seconds),
+    Copy(TROUBLE, "one or both active|both distribute|{} s|", "examples/one-end-is-passive.txt", TICK, seconds),
+    Copy(TROUBLE, "(`set_link`)|both distribute|{} s|", "examples/a-cable-is-cut-and-comes-back.txt", rf"{TICK}(?![\s\S]*^\d+ join 1 )", seconds),
+    Copy(TROUBLE, "and the ends ran on defaults meanwhile|both distribute|more than {}.{} s: a port on defaults", FEWER, r'"round (\d+)(\d)"'),
+    Copy(TROUBLE, "|at most {}.{} s, or {}.{} s if one end is active: bounds, not the least", *UNTIL_UP),
+    Copy("docs/COMMAND.md", '{"record":"counts","packets":{},"slow":{},"ends":{},"findings":{},"beyond":{}}', "examples/captures/marker-echo.json",
+         r'^{"record":"counts","packets":(\d+),"slow":(\d+),"ends":(\d+),"findings":(\d+),"beyond":(\d+)}$'),
+    Copy(CONFORM, "{} tests on 2 links, some 12 min", PEERS, r"^\|\*pass\*\|(\d+)\|.*\n\|\*fail\*\|0\|.*\n\|\*inconclusive\*\|0\|.*\n\|\*skipped\*\|0\|"),
+    Copy(CONFORM, "{} pass, {} fail, {} inconclusive, {} skipped", PEERS,
+         r"^\|\*pass\*\|\d+\|(\d+)\|.*\n\|\*fail\*\|\d+\|(\d+)\|.*\n\|\*inconclusive\*\|\d+\|(\d+)\|.*\n\|\*skipped\*\|\d+\|(\d+)\|"),
+    Copy("docs/CONFORMANCE.md", "[{} tests pass and none fails](PEERS.md#conformance)", PEERS,
+         r"^\|\*pass\*\|(\d+)\|.*\n\|\*fail\*\|0\|.*\n\|\*inconclusive\*\|0\|.*\n\|\*skipped\*\|0\|"),
+)
+
+
+def place_of(copy: Copy, text: str) -> re.Match[str]:
+    """Where the sentence stands, its figures as groups."""
+    parts = [r"\s+".join(map(re.escape, re.split(r"\s+", part))) for part in copy.sentence.split("{}")]
+    found = list(re.finditer(r"([^\s|()\[\]]+?)".join(parts), text))
+    if len(found) != 1:
+        raise Missing(f"{copy.page} has this {len(found)} times, and is to have it once: {copy.sentence}")
+    return found[0]
+
+
+def with_figures(copy: Copy, text: str, read: Callable[[str], str]) -> str:
+    """The text of a page with the figures of this copy."""
+    place = place_of(copy, text)
+    files = [os.path.relpath(it, TOP) for it in glob.glob(os.path.join(TOP, copy.sources))] if "*" in copy.sources else [copy.sources]
+    try:
+        figures = copy.figures([it for path in files for it in re.finditer(copy.pattern, read(path), re.M)])
+    except Missing as why:
+        raise Missing(f"{copy.page} copies {copy.pattern} of {copy.sources}, and {why}") from None
+    for group, figure in reversed(list(enumerate(figures, 1))):
+        text = text[: place.start(group)] + figure + text[place.end(group) :]
+    return text
+
+
+def written(read: Callable[[str], str], faults: list[str], copies: Sequence[Copy] = COPIES) -> dict[str, str]:
+    """The pages with the figures that they copy. What is missing is kept among the faults, and its sentence left as it is."""
+    told: dict[str, str] = {}
+    for copy in copies:
+        text = told.get(copy.page) or read(copy.page)
+        try:
+            told[copy.page] = with_figures(copy, text, lambda path: told.get(path) or read(path))
+        except Missing as why:
+            faults.append(str(why))
+    return told
+
+
+def rules_found(page: str, stored: Callable[[str], str]) -> list[str]:
+    """Where a row of examples/README.md that ends with rules of `lagtool capture` has others than the stored records and report of its capture."""
+    wrong = []
+    for name, told in re.findall(r"^\|[^|]*?([\w-]+)\.pcap(?:ng)?\b[^|]*\|[^|]*\|rules? ([^|;]*)[^|]*\|$", page, re.M):
+        said = {int(it) for it in re.findall(r"\d+", told)}
+        wanted = {int(it) for it in re.findall(r'(?:"record":"finding","rule":|^finding )(\d+)', stored(name), re.M)}
+        if said != wanted:
+            wrong.append(f"{EXAMPLES}: of {name} it has the rules {sorted(said)}, and what is stored of the capture {sorted(wanted)}")
+    return wrong
+
+
+def lines_to_read(page: str, read: Callable[[str], str]) -> list[str]:
+    """Where a row of ASSURANCE that says what to read of specs/ has another number of lines that are not empty."""
+    wrong = []
+    for told, number in re.findall(r"^\|[^|]*\|(`\w+`: [^|]*)\|([\d,]+)\|$", page, re.M):
+        files = [f"crates/{crate}/specs/{name}.antt" for crate, names in re.findall(r"`(\w+)`: ([^;]*)", told) for name in re.findall(r"`(\w+)`", names)]
+        lines = sum(bool(line.strip()) for path in files for line in read(path).splitlines())
+        if number != f"{lines:,}":
+            wrong.append(f"{ASSURANCE}: {told[:60]}.. has {number} lines, and they are {lines:,}")
+    return wrong
