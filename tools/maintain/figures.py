@@ -52,6 +52,11 @@ PROMISED = "|{} rounds, {}.{} s|{} rounds, {}.{} s|"
 UNTIL_UP = ROUNDS, r"^up_if_both_active = (\d+)(\d)$[^=]*^up_if_one_is = (\d+)(\d)$"
 ROUND = r'"round (\d+)"'
 OVER_FIVE = r"\|(5\.[1-9]|[6-9]\.\d)"
+# The ways of lagd beside the driver, and when to choose each.
+WAYS = {
+    "`lagd`": "order counts, speed does not", "`offload`": "the same, with few streams", "`fast`": "order and speed count",
+    "`plane=team`": "speed counts, with all queues", "bonding": "a server is in use",
+}  # fmt: skip
 TICK = r"^\d+ tick 1 (\d+) ->"
 
 
@@ -78,6 +83,7 @@ COPIES: tuple[Copy, ...] = (
          rf"^\|offer_conversation{OVER_FIVE}(?:\|[\d.]+){{5}}{OVER_FIVE}(?:\|[\d.]+){{2}}\|$"),
     Copy(LAGD, "It ran [on Linux {}](PEERS.md#one-run)", PEERS, r"^This run is of .* on Linux ([\d.]+) and"),
     Copy(LAGD, "and [{}, {} and {}](PERFORMANCE.md#guests-with-kernels-of-debian).", MEASURED, r"^\|what happens\|([\d.]+)\|([\d.]+)\|([\d.]+) \(virtio"),
+    *(Copy(LAGD, f"|{{}}, {{}}|{{}}; {{}}|{chosen}|", MEASURED, rf"^\|{way}\|([\d.]+)\|([\d.]+)\|(?:[\d.]+\|){{3}}(\d+)\|\d+\|([\d.]+)\|") for way, chosen in WAYS.items()),
     Copy(CONTRIBUTING, "as there are processors and {} GB of memory for each", "tools/lanes.py", r"^EACH = (\d+)_000_000_000$"),
     Copy(ASSURANCE, "with one conversation, two links, two moves and {} frames,", "tools/maintain/carry.d/models.py", r"^FRAMES, MORE = (\d+), \d+$"),
     Copy(ASSURANCE, f"of each whole cable know each other{PROMISED}", *rounds("known")),
