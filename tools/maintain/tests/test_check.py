@@ -95,3 +95,9 @@ def test_what_failed_or_ran_with_words_of_its_own_is_of_the_rest(tool: Callable[
     tool('[ "$1" = part ]')
     assert [check.ends("pages", words).how for words in ([], ["part"])] == ["FAILED", "passed"]
     assert check.asked(["--rest"]) == [("pages", []), ("live", [])]
+
+
+def test_a_check_reads_its_tool_and_what_that_imports_and_names() -> None:
+    read = check.parts_of(os.path.join(loading.TOOLS, "maintain", "peers"))
+    assert {f"tools/{it}" for it in ("repository.py", *(f"maintain/{it}" for it in ("peers", "peers.d/hook.py", "live.d/usermode.py", "live.d/registers.c")))} <= {*read}
+    assert not any(it.startswith("tools/maintain/carry") or it.endswith("live.d/calls.c") for it in read)
