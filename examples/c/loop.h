@@ -18,6 +18,7 @@ struct loop {
     uint32_t leaving;     /* the ports that will be alone, a second after they left */
     uint32_t held;        /* the ports that niw_hold holds */
     uint32_t trunk[LAGS]; /* what the chip was told: bit 0 has data of port 1 taken and sent */
+    uint32_t least[LAGS]; /* with fewer ports than these a LAG passes no data; the program sets it, and calls `settle` */
     uint32_t ticks;
     uint32_t left[PORTS + 1]; /* the tick at which a port left */
     struct { uint32_t when[RESPONSES]; unsigned oldest; } responses[PORTS + 1];
@@ -49,7 +50,7 @@ static uint32_t members_of(struct loop *here, uint16_t lag) {
     uint64_t count = niw_distributing(&here->system, lag, ports, NIW_MOST_PORTS).number;
     uint32_t members = 0;
     for (uint64_t i = 0; i < count; i++) members |= bit_of(ports[i]);
-    return members;
+    return count < here->least[lag - 1] ? 0 : members;
 }
 
 /* A port is blocked before it leaves its trunk, and passes data once it is in one. */
@@ -135,7 +136,7 @@ static inline void set_link(struct loop *here, uint16_t port, bool up) {
     settle(here);
 }
 
-/* The user puts a port into a LAG. */
+/* The user puts a port, from 1 to PORTS, into a LAG, from 1 to LAGS; one of another LAG leaves that first. */
 static inline void join(struct loop *here, uint16_t port, uint16_t lag) {
     struct niw_change change = {.key = lag, .priority = 128, .aggregatable = true};
     uint32_t bit = bit_of(port);

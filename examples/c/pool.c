@@ -15,7 +15,7 @@
 
 #include "loop.h"
 
-_Static_assert(sizeof(void *) != 4 || sizeof(struct loop) == 28 + 4 * LAGS + 48 * (PORTS + 1), "docs/FIRMWARE.md tells this size");
+_Static_assert(sizeof(void *) != 4 || sizeof(struct loop) == 28 + 8 * LAGS + 48 * (PORTS + 1), "docs/FIRMWARE.md tells this size");
 
 static _Alignas(16) uint8_t room[2 * NIW_MEMORY(PORTS, LAGS, ROWS)];
 
@@ -187,6 +187,16 @@ static void show_links(void) {
     printf("; up again: all after %u\n", run(100, ALL));
 }
 
+/* With fewer ports than the least no data passes; the ports go on in LACP. */
+static void show_least(void) {
+    one.loop.least[0] = two.loop.least[0] = PORTS;
+    set_links(1, 1, false);
+    printf("all ports are wanted, and one is down: no data after %u tick", run(10, 0));
+    set_links(1, 1, true);
+    printf("; up again: all after %u\n", run(100, ALL));
+    one.loop.least[0] = two.loop.least[0] = 0;
+}
+
 /* The user takes a port out of its LAG while its cable is in place, at one end alone, and puts it back. */
 static void show_leaving(void) {
     unsigned ticks = 0;
@@ -224,6 +234,7 @@ int main(void) {
     show_markers();
     show_late_ticks();
     show_links();
+    show_least();
     show_leaving();
     show_lags();
     set_links(1, PORTS, false);
