@@ -1,5 +1,7 @@
 use crate::systems::{DATA, Row, Side, lacpdu, mac, marker};
-use lagsystem::{AggId, Call, Key, NoMemory, PortChange, Received, Reply, SystemFault};
+use lagsystem::{
+    AggId, Call, HostCall, HostReply, Key, NoMemory, PortChange, Received, Reply, SystemFault,
+};
 use slowpdu::{Lacpdu, MarkerKind, frame};
 use std::alloc::Global;
 
@@ -165,4 +167,42 @@ fn reply_of(row: Row<'_>) -> Reply {
         Row::Restart => Reply::Restart,
         _ => Reply::Tick,
     }
+}
+
+/// The expected answer to a probe of a port: a marker with this identifier, or None.
+fn probed(
+    port: u16,
+    answer: Result<Option<u32>, SystemFault>,
+) -> Result<Option<[u8; 124]>, SystemFault> {
+    match answer? {
+        Some(id) => {
+            let payload = marker(MarkerKind::Information, port, 1, id).encode();
+            Ok(Some(frame(mac(port), &payload)))
+        }
+        None => Ok(None),
+    }
+}
+
+/// The call of a host that a row makes, with its expected reply; None if it makes none.
+pub(crate) fn host_call_of(row: Row<'_>) -> Option<(HostCall, HostReply)> {
+    let made = match row {
+        Row::OffersConversation(agg, conv, answer) => (
+            HostCall::OfferConversation(AggId(agg), conv),
+            HostReply::OfferConversation(answer),
+        ),
+        Row::Leaves(agg, conv, answer) => (
+            HostCall::LeaveConversation(AggId(agg), conv),
+            HostReply::LeaveConversation(answer),
+        ),
+        Row::Rests(agg, conv, answer) => {
+            (HostCall::Rest(AggId(agg), conv), HostReply::Rest(answer))
+        }
+        Row::ForcesPort(port, answer) => (HostCall::ForcePort(port), HostReply::ForcePort(answer)),
+        Row::Probes(port, answer) => (
+            HostCall::Probe(port),
+            HostReply::Probe(probed(port, answer)),
+        ),
+        _ => return None,
+    };
+    Some(made)
 }
