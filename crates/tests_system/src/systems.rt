@@ -35,18 +35,29 @@ use std::process::Abort;
 /// A data frame of conversation 48.
 const DATA: [u8; 14] = [2, 0, 0, 0, 0, 0x20, 2, 0, 0, 0, 0, 0x10, 8, 0];
 
+/// A data frame of conversation 49.
+const NEXT: [u8; 14] = [2, 0, 0, 0, 0, 0x21, 2, 0, 0, 0, 0, 0x10, 8, 0];
+
+/// A data frame of conversation 50.
+const THIRD: [u8; 14] = [2, 0, 0, 0, 0, 0x22, 2, 0, 0, 0, 0, 0x10, 8, 0];
+
+/// A data frame of conversation 255.
+const LAST: [u8; 14] = [2, 0, 0, 0, 0, 0xa5, 2, 0, 0, 0, 0, 0x5a, 8, 0];
+
 /// A call, or several, with the expected result; or what the readers are expected to return.
 #[derive(Clone, Copy)]
 pub(crate) enum Row<'a> {
     Link(u16, bool),
+    /// The links of these ports come up.
+    Links(&'a [u16]),
     Ticks(u16),
     Restart,
     /// An LACPDU with this Actor and Partner information is received on a port.
     Takes(u16, Side, Side),
-    /// The LACPDU of a system's port with the same number is received on a port: it is in its aggregator, and knows the port.
-    Joins(u8, u16),
-    /// The same on a port with the priority of its rank.
-    RankedJoins(u8, u16),
+    /// The LACPDU of a system's port with the same number is received on each port: it is in its aggregator, and knows the port.
+    Joins(u8, &'a [u16]),
+    /// The same on ports with the priorities of their ranks.
+    RankedJoins(u8, &'a [u16]),
     /// `receive` of this frame on a port returns this.
     Hears(u16, &'a [u8], Received),
     /// `receive` of this frame on a port returns this, and the readers return for the port what they returned before.
@@ -176,7 +187,7 @@ impl Response {
 }
 
 /// What the readers return for a port.
-#[derive(Clone, Copy, Debug, PartialEq)]
+#[derive(Clone, Copy, Debug, Default, PartialEq)]
 pub(crate) struct PortFacts {
     party: Option<Party>,
     partner: Option<Info>,
@@ -194,25 +205,6 @@ pub(crate) struct PortFacts {
     wait_while: Option<u8>,
     ntt: Option<bool>,
 }
-
-/// What the readers return for a port that does not exist.
-const NOTHING: PortFacts = PortFacts {
-    party: None,
-    partner: None,
-    group: None,
-    defaulted: None,
-    distributes: None,
-    choice: None,
-    mux: None,
-    receive: None,
-    state: None,
-    up: None,
-    due: None,
-    status: None,
-    current_while: None,
-    wait_while: None,
-    ntt: None,
-};
 
 /// The distribution algorithm of the tests.
 pub(crate) fn modulo(conv: u16, count: usize) -> usize

@@ -35,10 +35,9 @@ pub(crate) fn told(port: u16) -> Row<'static> {
 }
 
 /// Ports 3 and 7 come to distribute in aggregator 1; the link of port 9 stays down. Each sends its LACPDU.
-pub(crate) fn come_up() -> [Row<'static>; 7] {
+pub(crate) fn come_up() -> [Row<'static>; 6] {
     [
-        Row::Link(3, true),
-        Row::Link(7, true),
+        Row::Links(&[3, 7]),
         Row::Takes(3, theirs(3), Side::Of(1, 3, 5, 0x05)),
         Row::Takes(7, theirs(7), Side::Of(1, 7, 5, 0x05)),
         Row::Ticks(20),

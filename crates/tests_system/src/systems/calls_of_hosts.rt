@@ -4,11 +4,9 @@ use lagsystem::{Call, HostCall, HostReply, Received, Reply, System, SystemFault}
 use slowpdu::frame;
 
 /// Ports 1 and 2 come to distribute in aggregator 1. What is Wanted on port 1 goes behind the marker of a probe.
-const PROBED: [Row<'static>; 13] = [
-    Row::Link(1, true),
-    Row::Link(2, true),
-    Row::Joins(2, 1),
-    Row::Joins(2, 2),
+const PROBED: [Row<'static>; 11] = [
+    Row::Links(&[1, 2]),
+    Row::Joins(2, &[1, 2]),
     Row::Ticks(20),
     Row::OffersConversation(1, 48, Ok(1)),
     Row::OffersConversation(1, 49, Ok(2)),

@@ -54,12 +54,42 @@ impl Plan {
         self.push(Call::Transmit(port), Reply::Transmit(Err(none)))
     }
 
+    fn push_links(&mut self, ports: &[u16]) -> Result<(), NoMemory> {
+        for port in ports {
+            self.push(Call::SetLink(*port, true), Reply::SetLink(Ok(())))?;
+        }
+        Ok(())
+    }
+
+    /// Adds the LACPDUs of a system, which name ports with the priorities of their ranks or with that of the tests' ports.
+    fn push_joins(
+        &mut self,
+        alloc: Global,
+        system: u8,
+        ports: &[u16],
+        ranked: bool,
+    ) -> Result<(), NoMemory> {
+        for port in ports {
+            let ours = if ranked {
+                Side::Ranked(*port, 0x07)
+            } else {
+                Side::Of(1, *port, 1, 0x07)
+            };
+            let call = told(alloc, *port, Side::Of(system, *port, 1, 0x0d), ours)?;
+            self.push(call, Reply::Receive(Ok(Received::TookLacpdu)))?;
+        }
+        Ok(())
+    }
+
     /// Adds the calls of a row, if it makes any.
     fn push_row(&mut self, alloc: Global, row: Row<'_>) -> Result<(), NoMemory> {
         match row {
             Row::Ticks(ticks) => self.push_ticks(ticks),
             Row::Quiet(port, ticks) => self.push_quiet_ticks(port, ticks),
             Row::Unknown(port) => self.push_unknown(alloc, port),
+            Row::Links(ports) => self.push_links(ports),
+            Row::Joins(system, ports) => self.push_joins(alloc, system, ports, false),
+            Row::RankedJoins(system, ports) => self.push_joins(alloc, system, ports, true),
             _ => match call_of(alloc, row)? {
                 Some(call) => self.push(call, reply_of(row)),
                 None => Ok(()),
@@ -110,14 +140,6 @@ fn call_of(alloc: Global, row: Row<'_>) -> Result<Option<Call>, NoMemory> {
         Row::Link(port, up) => Call::SetLink(port, up),
         Row::Restart => Call::Restart,
         Row::Takes(port, actor, partner) => told(alloc, port, actor, partner)?,
-        Row::Joins(system, port) => {
-            let (actor, partner) = (Side::Of(system, port, 1, 0x0d), Side::Of(1, port, 1, 0x07));
-            told(alloc, port, actor, partner)?
-        }
-        Row::RankedJoins(system, port) => {
-            let (actor, partner) = (Side::Of(system, port, 1, 0x0d), Side::Ranked(port, 0x07));
-            told(alloc, port, actor, partner)?
-        }
         Row::Releases(port, response, _) => heard(alloc, port, &response.marker().encode())?,
         Row::Hears(port, octets, _) | Row::Keeps(port, octets, _) => {
             Call::Receive(port, Vec::from_slice(alloc, octets)?)
@@ -144,9 +166,7 @@ fn sent(port: u16, payload: &[u8; 110]) -> Reply {
 fn reply_of(row: Row<'_>) -> Reply {
     match row {
         Row::Link(_, _) => Reply::SetLink(Ok(())),
-        Row::Takes(_, _, _) | Row::Joins(_, _) | Row::RankedJoins(_, _) => {
-            Reply::Receive(Ok(Received::TookLacpdu))
-        }
+        Row::Takes(_, _, _) => Reply::Receive(Ok(Received::TookLacpdu)),
         Row::Releases(_, _, count) => Reply::Receive(Ok(Received::Released(count))),
         Row::Hears(_, _, answer) | Row::Keeps(_, _, answer) => Reply::Receive(Ok(answer)),
         Row::Configures(_, _, answer) => Reply::Configure(Ok(answer)),
