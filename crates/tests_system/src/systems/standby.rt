@@ -40,7 +40,7 @@ const ONE_OF_THREE: [Row<'static>; 4] = [
 ];
 
 /// Port 3 has taken the place of port 1, and distributes; port 2 is STANDBY still.
-fn third_promoted() -> [Row<'static>; 2] {
+fn third_promoted() -> [Row<'static>; 4] {
     [
         Row::Chosen(2, STANDBY),
         Row::Chosen(3, SELECTED),

@@ -125,7 +125,7 @@ const FIVE_PEERS: [Row<'static>; 6] = [
 ];
 
 /// Of five ports the first two are links, and the others stay out of their aggregators, until no port hears any more.
-const THREE_OUT: [Row<'static>; 17] = [
+const THREE_OUT: [Row<'static>; 18] = [
     Row::Ticks(7),
     Row::Status(1, PortStatus::Waiting(13)),
     Row::Status(2, PortStatus::Waiting(13)),
