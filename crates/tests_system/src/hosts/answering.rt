@@ -213,7 +213,7 @@ fn a_sent_marker_asks_and_an_lacpdu_does_not(rt: HostRuntime) -> Result<(), Fail
     let alloc = rt.alloc();
     let mut system = System::new(alloc, config(alloc, 70)?, modulo)?;
     let mut notes = Answering::nobody_asked();
-    play(&rt, alloc, &mut system, &come_up()[..5])?;
+    play(&rt, alloc, &mut system, &come_up()[..4])?;
     steps(&rt, alloc, &mut system, &mut notes, &FIRST)?;
     play(&rt, alloc, &mut system, &MOVED)?;
     steps(&rt, alloc, &mut system, &mut notes, &THEN)
