@@ -108,29 +108,16 @@ fn groups_are_unordered_pairs(rt: HostRuntime) {
 #[test]
 fn parties_match_by_all_six_parameters(rt: HostRuntime) {
     let party = distinct();
-    let mut system_priority = party;
-    system_priority.system.priority = 4661;
-    let mut mac = party;
-    mac.system.mac[3] = 0;
-    let mut key = party;
-    key.key = Key(4);
-    let mut port_priority = party;
-    port_priority.port.priority = 201;
-    let mut port_number = party;
-    port_number.port.number = 8;
-    let mut aggregatable = party;
-    aggregatable.aggregatable = false;
-    let rows = [
-        (party, true),
-        (system_priority, false),
-        (mac, false),
-        (key, false),
-        (port_priority, false),
-        (port_number, false),
-        (aggregatable, false),
-    ];
-    for (place, (other, want)) in rows.iter().enumerate() {
-        same_in_row(&rt, place, &party.matches(other), want);
+    holds(&rt, "matches itself", party.matches(&distinct()));
+    let mut others = [party; 6];
+    others[0].system.priority = 4661;
+    others[1].system.mac[3] = 0;
+    others[2].key = Key(4);
+    others[3].port.priority = 201;
+    others[4].port.number = 8;
+    others[5].aggregatable = false;
+    for (place, other) in others.iter().enumerate() {
+        same_in_row(&rt, place, &party.matches(other), &false);
     }
 }
 

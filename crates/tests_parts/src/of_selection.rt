@@ -62,11 +62,20 @@ fn aggregators(alloc: Global) -> Result<Aggregators, NoMemory> {
     Aggregators::new(alloc, &[Key(1), Key(1), Key(2)])
 }
 
+const NONE: Choice = Choice::Unselected;
+
+/// The ports have these choices.
+fn chosen(choices: [Choice; 3]) -> [PortView; 3] {
+    let mut views = views();
+    for (view, choice) in views.iter_mut().zip(choices) {
+        view.choice = choice;
+    }
+    views
+}
+
 /// Port 1 is a member of aggregator 1.
 fn first_selected() -> [PortView; 3] {
-    let mut views = views();
-    views[0].choice = selected(1);
-    views
+    chosen([selected(1), NONE, NONE])
 }
 
 /// Port 1 is a member of aggregator 1, and the partner of port 2 is Individual.
@@ -111,13 +120,6 @@ fn two_joinable() -> [PortView; 3] {
     views
 }
 
-/// Ports 1 and 3, of different partners, are members of aggregator 1.
-fn two_groups() -> [PortView; 3] {
-    let mut views = first_selected();
-    views[2].choice = selected(1);
-    views
-}
-
 /// The partner of port 2 has another key than that of port 1, which is a member of aggregator 1.
 fn second_partner_key() -> [PortView; 3] {
     let mut views = first_selected();
@@ -144,26 +146,38 @@ fn same_individual_own() -> [PortView; 3] {
     views
 }
 
-#[test]
-fn chooses_by_key_and_group(rt: HostRuntime) -> Result<(), NoMemory> {
-    let aggregators = aggregators(rt.alloc())?;
-    let rows = [
-        (views(), 1, 1),
-        (first_selected(), 2, 1),
-        (first_selected(), 3, 2),
-        (second_individual(), 2, 2),
-        (second_other_key(), 2, 3),
-        (second_taken(), 1, 2),
-        (two_joinable(), 2, 1),
-        (two_groups(), 2, 2),
-        (second_partner_key(), 2, 2),
-        (same_individual(), 2, 2),
-        (same_individual_own(), 2, 2),
-    ];
+/// Views, a port of them, and the aggregator that it chooses.
+type Chooses = ([PortView; 3], u16, Option<u16>);
+
+fn choose(rt: &impl Abort, aggregators: &Aggregators, rows: &[Chooses]) {
     for (place, (views, port, want)) in rows.iter().enumerate() {
         let chosen = aggregators.choose(views, *port);
-        same_in_row(&rt, place, &chosen, &Some(AggId(*want)));
+        same_in_row(rt, place, &chosen, &want.map(AggId));
     }
+}
+
+#[test]
+fn chooses_by_key_and_group(rt: HostRuntime) -> Result<(), NoMemory> {
+    let rows = [
+        (views(), 1, Some(1)),
+        (first_selected(), 2, Some(1)),
+        (first_selected(), 3, Some(2)),
+        (second_individual(), 2, Some(2)),
+        (second_other_key(), 2, Some(3)),
+        (second_taken(), 1, Some(2)),
+        (two_joinable(), 2, Some(1)),
+        // ports 1 and 3, of different partners
+        (chosen([selected(1), NONE, selected(1)]), 2, Some(2)),
+        (second_partner_key(), 2, Some(2)),
+        (same_individual(), 2, Some(2)),
+        (same_individual_own(), 2, Some(2)),
+        (both_taken(), 2, None),
+        (second_own(), 2, None),
+        (first_selected(), 1, None),
+        (first_selected(), 4, None),
+        (views(), 0, None),
+    ];
+    choose(&rt, &aggregators(rt.alloc())?, &rows);
     Ok(())
 }
 
@@ -195,23 +209,6 @@ fn chooses_with(
 fn keys_beyond_the_last_number_are_left_out(rt: HostRuntime) -> Result<(), NoMemory> {
     chooses_with(&rt, rt.alloc(), 65_534, Some(AggId(65_535)))?;
     chooses_with(&rt, rt.alloc(), 65_535, None)
-}
-
-#[test]
-fn chooses_none(rt: HostRuntime) -> Result<(), NoMemory> {
-    let aggregators = aggregators(rt.alloc())?;
-    let rows = [
-        (both_taken(), 2),
-        (second_own(), 2),
-        (first_selected(), 1),
-        (first_selected(), 4),
-        (views(), 0),
-    ];
-    for (place, (views, port)) in rows.iter().enumerate() {
-        let chosen = aggregators.choose(views, *port);
-        same_in_row(&rt, place, &chosen, &None);
-    }
-    Ok(())
 }
 
 #[test]
@@ -399,23 +396,12 @@ fn new_makes_aggregators_without_a_limit(rt: HostRuntime) -> Result<(), NoMemory
 
 /// Port 1 is STANDBY with aggregator 1.
 fn first_standby() -> [PortView; 3] {
-    let mut views = views();
-    views[0].choice = standby(1);
-    views
-}
-
-/// Port 1 is STANDBY with aggregator 1, and port 3, whose partner is another one, with aggregator 2.
-fn both_occupied() -> [PortView; 3] {
-    let mut views = first_standby();
-    views[2].choice = standby(2);
-    views
+    chosen([standby(1), NONE, NONE])
 }
 
 /// Port 1 is a member of aggregator 1; port 3, whose partner is another one, is STANDBY with it.
 fn member_and_standby() -> [PortView; 3] {
-    let mut views = first_selected();
-    views[2].choice = standby(1);
-    views
+    chosen([selected(1), NONE, standby(1)])
 }
 
 /// Port 1 is STANDBY with aggregator 1, and the partner of port 2 is Individual.
@@ -425,34 +411,27 @@ fn individual_beside_standby() -> [PortView; 3] {
     views
 }
 
-/// What a port of these views chooses with this limit.
-fn chooses_under(
-    rt: &impl Abort,
-    alloc: Global,
-    limit: Option<u16>,
-    rows: &[([PortView; 3], u16, u16)],
-) -> Result<(), NoMemory> {
-    let aggregators = Aggregators::with_limit(alloc, &[Key(1), Key(1), Key(2)], limit)?;
-    for (place, (views, port, want)) in rows.iter().enumerate() {
-        let chosen = aggregators.choose(views, *port);
-        same_in_row(rt, place, &chosen, &Some(AggId(*want)));
-    }
-    Ok(())
-}
-
 /// What a port chooses does not depend on the limit.
 #[test]
 fn a_standby_port_occupies_its_aggregator(rt: HostRuntime) -> Result<(), NoMemory> {
     let rows = [
-        (first_standby(), 2, 1),
-        (first_standby(), 3, 2),
-        (both_occupied(), 2, 1),
-        (member_and_standby(), 2, 2),
-        (individual_beside_standby(), 2, 2),
-        (first_selected(), 2, 1),
+        (first_standby(), 2, Some(1)),
+        (first_standby(), 3, Some(2)),
+        // the partner of port 3 is another one
+        (chosen([standby(1), NONE, standby(2)]), 2, Some(1)),
+        (member_and_standby(), 2, Some(2)),
+        (individual_beside_standby(), 2, Some(2)),
+        (first_selected(), 2, Some(1)),
     ];
-    chooses_under(&rt, rt.alloc(), None, &rows)?;
-    chooses_under(&rt, rt.alloc(), Some(1), &rows)
+    for limit in [None, Some(1)] {
+        let keys = [Key(1), Key(1), Key(2)];
+        choose(
+            &rt,
+            &Aggregators::with_limit(rt.alloc(), &keys, limit)?,
+            &rows,
+        );
+    }
+    Ok(())
 }
 
 #[test]

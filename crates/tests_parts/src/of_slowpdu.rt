@@ -153,10 +153,10 @@ fn nothing_is_too_long(rt: HostRuntime) -> Result<(), AllocError> {
     Ok(())
 }
 
-/// The payload with two octets changed.
-fn changed(payload: [u8; 110], changes: [(usize, u8); 2]) -> [u8; 110] {
-    let mut all = payload;
-    for (at, octet) in &changes {
+/// These octets with some of them changed.
+fn changed<const N: usize>(octets: [u8; N], changes: &[(usize, u8)]) -> [u8; N] {
+    let mut all = octets;
+    for (at, octet) in changes {
         if let Some(there) = all.get_mut(*at) {
             *there = *octet;
         }
@@ -178,7 +178,7 @@ fn payloads_are_refused_for_the_first_cause(rt: HostRuntime) {
         (marker, [(2, 3), (2, 3)], WireFault::MarkerTlv(3), 4),
     ];
     for (place, (payload, changes, fault, number)) in rows.iter().enumerate() {
-        let answer = decode(&changed(*payload, *changes));
+        let answer = decode(&changed(*payload, changes));
         same_in_row(&rt, place, &answer, &Err(*fault));
         same_in_row(&rt, place, &fault.number(), number);
     }
@@ -274,15 +274,6 @@ fn markers_are_answered_once(rt: HostRuntime) {
     same(&rt, "to a response", &respond(&response), &None);
 }
 
-/// The frame with another octet at this place.
-fn with(frame: [u8; 124], place: usize, octet: u8) -> [u8; 124] {
-    let mut changed = frame;
-    if let Some(there) = changed.get_mut(place) {
-        *there = octet;
-    }
-    changed
-}
-
 fn is_of_kind(rt: &impl Abort, octets: &[u8], kind: Kind<'_>) {
     same(rt, "classify", &classify(octets), &kind);
 }
@@ -298,10 +289,10 @@ fn frames_are_told_apart_by_their_type(rt: HostRuntime) {
     is_of_kind(&rt, &sent, Kind::Control(&payload));
     is_of_kind(&rt, front, Kind::Control(&[]));
     is_of_kind(&rt, &sent[..13], Kind::TooShort);
-    is_of_kind(&rt, &with(sent, 0, 2), Kind::Control(&payload));
-    is_of_kind(&rt, &with(sent, 12, 8), Kind::Data);
-    is_of_kind(&rt, &with(sent, 12, 0x87), Kind::Data);
-    is_of_kind(&rt, &with(sent, 13, 0xcc), Kind::Data);
+    is_of_kind(&rt, &changed(sent, &[(0, 2)]), Kind::Control(&payload));
+    is_of_kind(&rt, &changed(sent, &[(12, 8)]), Kind::Data);
+    is_of_kind(&rt, &changed(sent, &[(12, 0x87)]), Kind::Data);
+    is_of_kind(&rt, &changed(sent, &[(13, 0xcc)]), Kind::Data);
 }
 
 /// An LACPDU in which no two fields are equal.

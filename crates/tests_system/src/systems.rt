@@ -21,8 +21,9 @@ ghost use Rattle.std.specs.Prelude.{◌≡◌, ◌<◌};
 ghost use Rattle.distributor.specs.Calls.{PicksIndexes};
 
 use crate::comparing::same_in_row;
-use crate::systems::plan::{Plan, plan_of};
+use crate::systems::plan::{host_call_of, plan_of};
 use bitflags::Flags;
+use dataplane::{adopt, offer_conversation_in_active_aggregator};
 use lagsystem::{
     AggId, Assignment, Choice, Config, Group, Info, Key, MuxState, NoMemory, Party, PortConfig,
     PortId, PortStatus, ReceiveState, Received, State, System, SystemFault, SystemId,
@@ -34,18 +35,29 @@ use std::process::Abort;
 /// A data frame of conversation 48.
 const DATA: [u8; 14] = [2, 0, 0, 0, 0, 0x20, 2, 0, 0, 0, 0, 0x10, 8, 0];
 
+/// A data frame of conversation 49.
+const NEXT: [u8; 14] = [2, 0, 0, 0, 0, 0x21, 2, 0, 0, 0, 0, 0x10, 8, 0];
+
+/// A data frame of conversation 50.
+const THIRD: [u8; 14] = [2, 0, 0, 0, 0, 0x22, 2, 0, 0, 0, 0, 0x10, 8, 0];
+
+/// A data frame of conversation 255.
+const LAST: [u8; 14] = [2, 0, 0, 0, 0, 0xa5, 2, 0, 0, 0, 0, 0x5a, 8, 0];
+
 /// A call, or several, with the expected result; or what the readers are expected to return.
 #[derive(Clone, Copy)]
-enum Row<'a> {
+pub(crate) enum Row<'a> {
     Link(u16, bool),
+    /// The links of these ports come up.
+    Links(&'a [u16]),
     Ticks(u16),
     Restart,
     /// An LACPDU with this Actor and Partner information is received on a port.
     Takes(u16, Side, Side),
-    /// The LACPDU of a system's port with the same number is received on a port: it is in its aggregator, and knows the port.
-    Joins(u8, u16),
-    /// The same on a port with the priority of its rank.
-    RankedJoins(u8, u16),
+    /// The LACPDU of a system's port with the same number is received on each port: it is in its aggregator, and knows the port.
+    Joins(u8, &'a [u16]),
+    /// The same on ports with the priorities of their ranks.
+    RankedJoins(u8, &'a [u16]),
     /// `receive` of this frame on a port returns this.
     Hears(u16, &'a [u8], Received),
     /// `receive` of this frame on a port returns this, and the readers return for the port what they returned before.
@@ -62,6 +74,16 @@ enum Row<'a> {
     Unknown(u16),
     /// `offer` of a frame in an aggregator returns this.
     Offers(u16, &'a [u8], Result<u16, SystemFault>),
+    /// `offer_conversation` returns this.
+    OffersConversation(u16, u16, Result<u16, SystemFault>),
+    /// `offer_conversation_in_active_aggregator` returns this.
+    OffersInActiveAggregator(u16, u16, Result<u16, SystemFault>),
+    Leaves(u16, u16, Result<(), SystemFault>),
+    Rests(u16, u16, Result<(), SystemFault>),
+    /// `adopt` on a port returns this.
+    Adopts(u16, u16, u16, Result<(), SystemFault>),
+    /// `probe` returns a marker with this identifier, or None.
+    Probes(u16, Result<Option<u32>, SystemFault>),
     /// `move_conversation` to a port returns this.
     Moves(u16, u16, u16, Result<(), SystemFault>),
     Forces(u16, u16, Result<(), SystemFault>),
@@ -104,6 +126,8 @@ enum Row<'a> {
     Next(Option<u32>),
     /// `ticks_until_due` returns this.
     Waits(Option<u16>),
+    /// `held` of a port returns this.
+    Held(u16, Result<u32, SystemFault>),
     /// `load` of a port returns this.
     Load(u16, Result<u32, SystemFault>),
     /// `ports` returns these, and `aggregators` this number.
@@ -124,7 +148,7 @@ pub(crate) enum Side {
 }
 
 impl Side {
-    fn info(self) -> Info {
+    pub(crate) fn info(self) -> Info {
         match self {
             Side::Of(system, port, key, state) => end(system, port, key, state),
             Side::Ranked(port, state) => Info {
@@ -153,17 +177,17 @@ fn rank(port: u16) -> u16 {
 
 /// A Marker Response: the port and the last octet of the system's MAC address that it names, and its identifier.
 #[derive(Clone, Copy)]
-pub(crate) struct Response(u16, u8, u32);
+pub(crate) struct Response(pub(crate) u16, pub(crate) u8, pub(crate) u32);
 
 impl Response {
-    fn marker(self) -> Marker {
+    pub(crate) fn marker(self) -> Marker {
         let Response(port, system, id) = self;
         marker(MarkerKind::Response, port, system, id)
     }
 }
 
 /// What the readers return for a port.
-#[derive(Clone, Copy, Debug, PartialEq)]
+#[derive(Clone, Copy, Debug, Default, PartialEq)]
 pub(crate) struct PortFacts {
     party: Option<Party>,
     partner: Option<Info>,
@@ -182,27 +206,8 @@ pub(crate) struct PortFacts {
     ntt: Option<bool>,
 }
 
-/// What the readers return for a port that does not exist.
-const NOTHING: PortFacts = PortFacts {
-    party: None,
-    partner: None,
-    group: None,
-    defaulted: None,
-    distributes: None,
-    choice: None,
-    mux: None,
-    receive: None,
-    state: None,
-    up: None,
-    due: None,
-    status: None,
-    current_while: None,
-    wait_while: None,
-    ntt: None,
-};
-
 /// The distribution algorithm of the tests.
-fn modulo(conv: u16, count: usize) -> usize
+pub(crate) fn modulo(conv: u16, count: usize) -> usize
     ensures { 0 < count → result < count }
 {
     if count == 0 {
@@ -265,7 +270,7 @@ fn marker(kind: MarkerKind, port: u16, system: u8, id: u32) -> Marker {
     }
 }
 
-fn lacpdu(actor: Info, partner: Info) -> [u8; 110] {
+pub(crate) fn lacpdu(actor: Info, partner: Info) -> [u8; 110] {
     Lacpdu {
         actor,
         partner,
@@ -275,7 +280,7 @@ fn lacpdu(actor: Info, partner: Info) -> [u8; 110] {
 }
 
 /// The MAC address of the port with this number, and of the system with this number.
-fn mac(number: u16) -> [u8; 6] {
+pub(crate) fn mac(number: u16) -> [u8; 6] {
     let [_, low] = number.to_be_bytes();
     [2, 0, 0, 0, 0, low]
 }
@@ -329,7 +334,7 @@ fn ports(alloc: Global, numbers: &[u16]) -> Result<Vec<PortConfig>, NoMemory> {
 }
 
 /// System 1 with these ports, and this many aggregators of key 1.
-fn config(alloc: Global, numbers: &[u16], count: usize) -> Result<Config, NoMemory> {
+pub(crate) fn config(alloc: Global, numbers: &[u16], count: usize) -> Result<Config, NoMemory> {
     Ok(Config {
         system: end(1, 1, 1, 0).system,
         max_delay: 0,
@@ -362,6 +367,7 @@ fn tells_port<F: Fn(u16, usize) -> usize + Drop>(
         Row::Mux(port, state) => same_in_row(rt, place, &system.mux_state(port), &Some(state)),
         Row::Defaulted(port, is) => same_in_row(rt, place, &system.defaulted(port), &Some(is)),
         Row::Due(port, is) => same_in_row(rt, place, &system.is_due(port), &Some(is)),
+        Row::Held(port, held) => same_in_row(rt, place, &system.held(port), &held),
         Row::Load(port, load) => same_in_row(rt, place, &system.load(port), &load),
         _ => {}
     }
@@ -441,20 +447,6 @@ fn sets<F: Fn(u16, usize) -> usize + Drop>(
     }
 }
 
-/// Forces what is held on a port, where a row says so.
-fn forces_port<F: Fn(u16, usize) -> usize + Drop>(
-    rt: &impl Abort,
-    system: &mut System<F>,
-    place: usize,
-    row: Row<'_>,
-)
-    ensures { system.new.algorithm ≡ system.old.algorithm }
-{
-    if let Row::ForcesPort(port, answer) = row {
-        same_in_row(rt, place, &system.force_port(port), &answer);
-    }
-}
-
 /// The port for which the readers are expected to return what they returned before; 0, which no port has, if there is
 /// none.
 fn kept_port(row: Row<'_>) -> u16 {
@@ -464,39 +456,101 @@ fn kept_port(row: Row<'_>) -> u16 {
     }
 }
 
-/// Makes the calls of a plan at once, and compares the replies with the expected ones.
-fn makes_calls<F: Fn(u16, usize) -> usize + Drop>(
+/// Makes the calls of a row, and compares the replies with the expected ones.
+fn calls<F: Fn(u16, usize) -> usize + Drop>(
     rt: &impl Abort,
     alloc: Global,
     system: &mut System<F>,
     place: usize,
-    plan: &Plan,
+    row: Row<'_>,
 ) -> Result<(), SystemFault>
-    requires { PicksIndexes (F.pre system.old.algorithm) (F.post system.old.algorithm) }
+    requires usable { PicksIndexes (F.pre system.old.algorithm) (F.post system.old.algorithm) }
     ensures { system.new.algorithm ≡ system.old.algorithm }
 {
-    let replies = system.drive(alloc, &plan.calls)?;
-    same_in_row(rt, place, &replies.as_slice(), &plan.replies.as_slice());
+    match host_call_of(row) {
+        Some((call, reply)) => {
+            same_in_row(rt, place, &system.host_call(&call), &reply);
+            Ok(())
+        }
+        None => {
+            let plan = plan_of(alloc, row)?;
+            let replies = system.drive(alloc, &plan.calls)?;
+            same_in_row(rt, place, &replies.as_slice(), &plan.replies.as_slice());
+            Ok(())
+        }
+    }
+}
+
+/// Makes a call of a data plane, or else those of a system.
+fn carries<F: Fn(u16, usize) -> usize + Drop>(
+    rt: &impl Abort,
+    alloc: Global,
+    system: &mut System<F>,
+    place: usize,
+    row: Row<'_>,
+) -> Result<(), SystemFault>
+    requires usable { PicksIndexes (F.pre system.old.algorithm) (F.post system.old.algorithm) }
+    ensures { system.new.algorithm ≡ system.old.algorithm }
+{
+    match row {
+        Row::OffersInActiveAggregator(agg, conv, answer) => {
+            let came = offer_conversation_in_active_aggregator(system, AggId(agg), conv);
+            same_in_row(rt, place, &came, &answer);
+            Ok(())
+        }
+        Row::Adopts(agg, conv, port, answer) => {
+            let came = adopt(system, AggId(agg), conv, port);
+            same_in_row(rt, place, &came, &answer);
+            Ok(())
+        }
+        _ => calls(rt, alloc, system, place, row),
+    }
+}
+
+/// Plays a row on a system.
+fn step<F: Fn(u16, usize) -> usize + Drop>(
+    rt: &impl Abort,
+    alloc: Global,
+    system: &mut System<F>,
+    place: usize,
+    row: Row<'_>,
+) -> Result<(), SystemFault>
+    requires usable { PicksIndexes (F.pre system.old.algorithm) (F.post system.old.algorithm) }
+    ensures { system.new.algorithm ≡ system.old.algorithm }
+{
+    let before = look(system, kept_port(row));
+    carries(rt, alloc, system, place, row)?;
+    sets(rt, system, place, row);
+    same_in_row(rt, place, &look(system, kept_port(row)), &before);
+    tells(rt, system, place, row);
     Ok(())
 }
 
-/// Plays rows on a new system, one after another.
-fn plays(
+/// Plays rows on a system, one after another.
+pub(crate) fn play<F: Fn(u16, usize) -> usize + Drop>(
+    rt: &impl Abort,
+    alloc: Global,
+    system: &mut System<F>,
+    rows: &[Row<'_>],
+) -> Result<(), SystemFault>
+    requires usable { PicksIndexes (F.pre system.old.algorithm) (F.post system.old.algorithm) }
+    ensures { system.new.algorithm ≡ system.old.algorithm }
+{
+    for (place, row) in rows.iter().enumerate() {
+        step(rt, alloc, system, place, *row)?;
+    }
+    Ok(())
+}
+
+/// Plays rows on a new system.
+pub(crate) fn plays(
     rt: &impl Abort,
     alloc: Global,
     given: Config,
     rows: &[Row<'_>],
 ) -> Result<(), SystemFault> {
     let mut system = System::new(alloc, given, modulo)?;
-    for (place, row) in rows.iter().enumerate() {
-        let before = look(&system, kept_port(*row));
-        makes_calls(rt, alloc, &mut system, place, &plan_of(alloc, *row)?)?;
-        forces_port(rt, &mut system, place, *row);
-        sets(rt, &mut system, place, *row);
-        same_in_row(rt, place, &look(&system, kept_port(*row)), &before);
-        tells(rt, &system, place, *row);
-    }
-    Ok(())
+    play(rt, alloc, &mut system, rows)
 }
 
 /// Plays lists of rows, one after another.

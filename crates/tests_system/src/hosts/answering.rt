@@ -2,9 +2,11 @@ ghost use Rattle.std.specs.Prelude.{◌≡◌};
 ghost use Rattle.distributor.specs.Calls.{PicksIndexes};
 
 use crate::comparing::same;
-use crate::hosts::playing::{Row as Played, come_up, config, marker, modulo, play};
+use crate::hosts::playing::{come_up, config};
+use crate::systems::{Response, Row as Played, mac, modulo, play};
 use dataplane::{Answering, MarkerNote};
-use lagsystem::{Call, NoMemory, Reply, System, SystemFault};
+use lagsystem::{Call, NoMemory, Reply, System};
+use slowpdu::frame;
 use std::alloc::Global;
 use std::process::Abort;
 use std::test::Fail;
@@ -17,24 +19,10 @@ enum Row {
     /// `transmit` sends an LACPDU, of subtype 1, or a marker, of subtype 2.
     Sends(u16, u8),
     Probes(u16),
-    /// A response comes on the first port. It names system 0x21 or another one, a port and an identifier.
+    /// A response comes on the first port. It names system 1 or another one, a port and an identifier.
     Responds(u16, u8, u16, u32),
     /// The number of the note, and its word.
     Noted(u16, u8, &'static str),
-}
-
-/// A response to the marker with this identifier of a port of a system (6.5.3.3).
-fn response(system: u8, port: u16, id: u32) -> [u8; 124] {
-    let mut octets = marker(2, [2, 0, 0, 0, 0, 0x43], port, id);
-    octets[25] = system;
-    octets
-}
-
-/// The octets of a frame.
-fn octets_of(alloc: Global, frame: &[u8; 124]) -> Result<Vec<u8>, NoMemory> {
-    let mut octets = Vec::with_capacity(alloc, 124)?;
-    octets.extend_from_slice(frame)?;
-    Ok(octets)
 }
 
 /// The call of a row.
@@ -43,8 +31,9 @@ fn call_of(alloc: Global, row: Row) -> Result<Call, NoMemory> {
         Row::Link(port, up) => Ok(Call::SetLink(port, up)),
         Row::Sends(port, _) => Ok(Call::Transmit(port)),
         Row::Responds(on, system, port, id) => {
-            let frame = response(system, port, id);
-            Ok(Call::Receive(on, octets_of(alloc, &frame)?))
+            let payload = Response(port, system, id).marker().encode();
+            let octets = Vec::from_slice(alloc, &frame(mac(0x43), &payload))?;
+            Ok(Call::Receive(on, octets))
         }
         _ => Ok(Call::Restart),
     }
@@ -147,7 +136,7 @@ fn a_probe_asks_and_a_response_answers(rt: HostRuntime) -> Result<(), Fail> {
         Row::Probes(3),
         Row::Noted(3, 1, "asked"),
         Row::Noted(7, 0, "never-asked"),
-        Row::Responds(3, 0x21, 3, 70),
+        Row::Responds(3, 1, 3, 70),
         Row::Noted(3, 2, "answered"),
         Row::Noted(7, 0, "never-asked"),
         // a marker after the answer forgets nothing, nor do a link that is up, one that is not there, and that of another port
@@ -170,22 +159,22 @@ fn a_response_to_another_marker_does_not_answer(rt: HostRuntime) -> Result<(), F
         Row::Link(3, true),
         Row::Link(7, true),
         // to no marker yet
-        Row::Responds(3, 0x21, 3, 70),
+        Row::Responds(3, 1, 3, 70),
         Row::Noted(3, 0, "never-asked"),
         Row::Probes(3),
         Row::Probes(7),
         // to another port, another system, another identifier, and on another port
-        Row::Responds(3, 0x21, 7, 70),
-        Row::Responds(3, 0x22, 3, 70),
-        Row::Responds(3, 0x21, 3, 71),
-        Row::Responds(7, 0x21, 3, 70),
+        Row::Responds(3, 1, 7, 70),
+        Row::Responds(3, 2, 3, 70),
+        Row::Responds(3, 1, 3, 71),
+        Row::Responds(7, 1, 3, 70),
         Row::Noted(3, 1, "asked"),
         Row::Noted(7, 1, "asked"),
         // to the marker before the last
         Row::Probes(3),
-        Row::Responds(3, 0x21, 3, 70),
+        Row::Responds(3, 1, 3, 70),
         Row::Noted(3, 1, "asked"),
-        Row::Responds(3, 0x21, 3, 72),
+        Row::Responds(3, 1, 3, 72),
         Row::Noted(3, 2, "answered"),
         Row::Noted(7, 1, "asked"),
     ];
@@ -199,7 +188,7 @@ fn a_restart_forgets(rt: HostRuntime) -> Result<(), Fail> {
         Row::Link(7, true),
         Row::Probes(3),
         Row::Probes(7),
-        Row::Responds(7, 0x21, 7, 71),
+        Row::Responds(7, 1, 7, 71),
         Row::Restarts,
         Row::Noted(3, 0, "never-asked"),
         Row::Noted(7, 0, "never-asked"),
@@ -218,15 +207,15 @@ fn a_sent_marker_asks_and_an_lacpdu_does_not(rt: HostRuntime) -> Result<(), Fail
         Row::Sends(3, 2),
         Row::Noted(3, 1, "asked"),
         Row::Noted(7, 0, "never-asked"),
-        Row::Responds(3, 0x21, 3, 70),
+        Row::Responds(3, 1, 3, 70),
         Row::Noted(3, 2, "answered"),
     ];
     let alloc = rt.alloc();
     let mut system = System::new(alloc, config(alloc, 70)?, modulo)?;
     let mut notes = Answering::nobody_asked();
-    play(&rt, &mut system, &come_up()[..5]);
+    play(&rt, alloc, &mut system, &come_up()[..4])?;
     steps(&rt, alloc, &mut system, &mut notes, &FIRST)?;
-    play(&rt, &mut system, &MOVED);
+    play(&rt, alloc, &mut system, &MOVED)?;
     steps(&rt, alloc, &mut system, &mut notes, &THEN)
 }
 
@@ -258,8 +247,8 @@ fn calls_that_are_driven_are_noted_one_after_another(rt: HostRuntime) -> Result<
     let calls = calls_of(
         alloc,
         &[
-            Row::Responds(3, 0x21, 3, 70),
-            Row::Responds(7, 0x21, 7, 71),
+            Row::Responds(3, 1, 3, 70),
+            Row::Responds(7, 1, 7, 71),
             Row::Link(3, false),
             Row::Link(3, true),
         ],

@@ -1,4 +1,5 @@
-use crate::hosts::playing::{Row, plays};
+use crate::hosts::playing::plays;
+use crate::systems::{Response, Row};
 use lagsystem::{Assignment, SystemFault};
 
 #[test]
@@ -6,7 +7,7 @@ fn a_conversation_is_held_until_it_is_free_elsewhere(rt: HostRuntime) -> Result<
     const ROWS: [Row<'static>; 13] = [
         // 165 % 2 is 1: the second port that distributes
         Row::OffersInActiveAggregator(1, 165, Ok(7)),
-        Row::State(1, 165, Assignment::On(7)),
+        Row::Conversing(1, 165, Some(Assignment::On(7))),
         Row::OffersInActiveAggregator(1, 165, Ok(7)),
         Row::OffersInActiveAggregator(2, 165, Err(SystemFault::Held)),
         // before every other refusal
@@ -14,9 +15,9 @@ fn a_conversation_is_held_until_it_is_free_elsewhere(rt: HostRuntime) -> Result<
         Row::Leaves(1, 165, Ok(())),
         Row::OffersInActiveAggregator(2, 165, Err(SystemFault::Held)),
         Row::OffersInActiveAggregator(1, 165, Err(SystemFault::Held)),
-        Row::Marks(7, Some(11)),
+        Row::Marks(7, 11),
         Row::OffersInActiveAggregator(2, 165, Err(SystemFault::Held)),
-        Row::Releases(7, 11, 1),
+        Row::Releases(7, Response(7, 1, 11), 1),
         // it is free, and no port distributes in aggregator 2
         Row::OffersInActiveAggregator(2, 165, Err(SystemFault::NoneDistributing)),
         Row::OffersInActiveAggregator(1, 165, Ok(7)),

@@ -1,12 +1,9 @@
-use crate::hosts::playing::{Row, plays};
+use crate::hosts::playing::plays;
+use crate::systems::{Response, Row};
 use lagsystem::{Assignment, SystemFault};
 
 #[test]
 fn a_conversation_leaves_its_port_for_none(rt: HostRuntime) -> Result<(), SystemFault> {
-    const WANTED: Assignment = Assignment::Wanted {
-        port: 7,
-        preferred: None,
-    };
     const FLUSHING: Assignment = Assignment::Flushing {
         port: 7,
         id: 40,
@@ -17,18 +14,18 @@ fn a_conversation_leaves_its_port_for_none(rt: HostRuntime) -> Result<(), System
         Row::OffersConversation(1, 23, Ok(7)),
         Row::OffersConversation(1, 25, Ok(7)),
         Row::Leaves(1, 23, Ok(())),
-        Row::State(1, 23, WANTED),
-        Row::State(1, 25, Assignment::On(7)),
+        Row::Wanted(1, 23, 7, None),
+        Row::Conversing(1, 25, Some(Assignment::On(7))),
         Row::Held(7, Ok(1)),
         Row::Held(3, Ok(0)),
-        Row::Marks(7, Some(40)),
-        Row::State(1, 23, FLUSHING),
+        Row::Marks(7, 40),
+        Row::Conversing(1, 23, Some(FLUSHING)),
         Row::Held(7, Ok(1)),
-        Row::Releases(7, 40, 1),
-        Row::State(1, 23, Assignment::Free { preferred: None }),
+        Row::Releases(7, Response(7, 1, 40), 1),
+        Row::Free(1, 23, None),
         Row::Held(7, Ok(0)),
         Row::ForcesPort(7, Ok(0)),
-        Row::State(1, 25, Assignment::On(7)),
+        Row::Conversing(1, 25, Some(Assignment::On(7))),
     ];
     plays(&rt, rt.alloc(), 40, &ROWS)
 }
@@ -46,11 +43,11 @@ fn leaving_is_refused_in_order(rt: HostRuntime) -> Result<(), SystemFault> {
         Row::Leaves(1, 6, Ok(())),
         Row::Leaves(1, 6, Err(SystemFault::Held)),
         // the last identifier
-        Row::Marks(3, Some(4294967295)),
+        Row::Marks(3, 4294967295),
         Row::Next(None),
         Row::Leaves(1, 6, Err(SystemFault::Held)),
         Row::Leaves(1, 8, Err(SystemFault::MarkersSpent)),
-        Row::State(1, 8, Assignment::On(3)),
+        Row::Conversing(1, 8, Some(Assignment::On(3))),
     ];
     plays(&rt, rt.alloc(), 4294967295, &ROWS)
 }
@@ -65,14 +62,14 @@ fn a_conversation_rests(rt: HostRuntime) -> Result<(), SystemFault> {
         Row::Rests(1, 256, Err(SystemFault::NotAssigned)),
         Row::Rests(1, 10, Err(SystemFault::NotAssigned)),
         Row::Rests(1, 13, Err(SystemFault::Held)),
-        Row::Marks(7, Some(2)),
+        Row::Marks(7, 2),
         Row::Rests(1, 13, Err(SystemFault::Held)),
         Row::Rests(1, 9, Ok(())),
-        Row::State(1, 9, Assignment::Free { preferred: None }),
+        Row::Free(1, 9, None),
         Row::Rests(1, 9, Err(SystemFault::NotAssigned)),
         Row::Held(7, Ok(1)),
         Row::ForcesPort(7, Ok(1)),
-        Row::State(1, 13, Assignment::Free { preferred: Some(3) }),
+        Row::Free(1, 13, Some(3)),
         Row::Held(7, Ok(0)),
         Row::ForcesPort(7, Ok(0)),
         Row::Held(8, Err(SystemFault::NoPort)),

@@ -1,4 +1,5 @@
-use crate::hosts::playing::{Row, plays};
+use crate::hosts::playing::plays;
+use crate::systems::{Response, Row};
 use lagsystem::{Assignment, SystemFault};
 
 /// A data frame of conversation 0xa5, 165: octets 5 and 11 differ by that.
@@ -9,18 +10,18 @@ fn a_conversation_goes_where_its_frames_go(rt: HostRuntime) -> Result<(), System
     const ROWS: [Row<'static>; 16] = [
         // 165 % 2 is 1: the second port that distributes
         Row::OffersConversation(1, 165, Ok(7)),
-        Row::State(1, 165, Assignment::On(7)),
+        Row::Conversing(1, 165, Some(Assignment::On(7))),
         Row::Offers(1, &FRAME, Ok(7)),
         // another number is another conversation, though it is the same host
         Row::OffersConversation(1, 90, Ok(3)),
-        Row::State(1, 165, Assignment::On(7)),
+        Row::Conversing(1, 165, Some(Assignment::On(7))),
         Row::Moves(1, 165, 3, Ok(())),
         Row::OffersConversation(1, 165, Err(SystemFault::Held)),
         Row::Offers(1, &FRAME, Err(SystemFault::Held)),
         Row::Due(7, true),
-        Row::Marks(7, Some(11)),
+        Row::Marks(7, 11),
         Row::OffersConversation(1, 165, Err(SystemFault::Held)),
-        Row::Releases(7, 11, 1),
+        Row::Releases(7, Response(7, 1, 11), 1),
         // it prefers the port that it was moved to
         Row::OffersConversation(1, 165, Ok(3)),
         Row::Offers(1, &FRAME, Ok(3)),

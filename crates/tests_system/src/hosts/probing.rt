@@ -1,4 +1,5 @@
-use crate::hosts::playing::{Row, plays};
+use crate::hosts::playing::plays;
+use crate::systems::{Response, Row};
 use lagsystem::{Assignment, SystemFault};
 
 #[test]
@@ -10,22 +11,22 @@ fn a_probe_is_the_next_marker(rt: HostRuntime) -> Result<(), SystemFault> {
         age: 0,
     };
     const ROWS: [Row<'static>; 16] = [
-        Row::Marks(3, None),
+        Row::Silent(3),
         Row::Probes(3, Ok(Some(70))),
         Row::Next(Some(71)),
         // nobody waits for it
-        Row::Releases(3, 70, 0),
+        Row::Releases(3, Response(3, 1, 70), 0),
         Row::OffersConversation(1, 14, Ok(3)),
         Row::OffersConversation(1, 16, Ok(3)),
         Row::Moves(1, 14, 7, Ok(())),
         Row::Due(3, true),
         Row::Probes(3, Ok(Some(71))),
-        Row::State(1, 14, FLUSHING),
-        Row::State(1, 16, Assignment::On(3)),
+        Row::Conversing(1, 14, Some(FLUSHING)),
+        Row::Conversing(1, 16, Some(Assignment::On(3))),
         Row::Due(3, false),
-        Row::Marks(3, None),
-        Row::Releases(3, 71, 1),
-        Row::State(1, 14, Assignment::Free { preferred: Some(7) }),
+        Row::Silent(3),
+        Row::Releases(3, Response(3, 1, 71), 1),
+        Row::Free(1, 14, Some(7)),
         Row::Probes(7, Ok(Some(72))),
     ];
     plays(&rt, rt.alloc(), 70, &ROWS)

@@ -1,9 +1,10 @@
 ghost use Rattle.std.specs.Prelude.{◌<◌};
 
 use crate::comparing::{same, same_in_row};
-use crate::hosts::playing::{Row, config, heard, modulo, play};
+use crate::hosts::playing::{config, heard, told};
+use crate::systems::{Row, look, modulo, play};
 use dataplane::{ResumeFault, SavedPort, adopt, resume};
-use lagsystem::{AggId, Assignment, BadConfig, Choice, Config, NoMemory, System, SystemFault};
+use lagsystem::{AggId, BadConfig, Choice, Config, NoMemory, System, SystemFault};
 use std::alloc::Global;
 use std::process::Abort;
 use std::test::Fail;
@@ -19,7 +20,7 @@ const PARTNER_KEY: usize = 47;
 const PARTNER_STATE: usize = 52;
 
 /// What is saved of a port whose LACPDU is so old; its Actor is synchronized.
-fn saved(port: u16, age: u32) -> SavedPort {
+pub(crate) fn saved(port: u16, age: u32) -> SavedPort {
     SavedPort {
         port,
         aggregator: 1,
@@ -60,28 +61,21 @@ fn refused(
 
 #[test]
 fn saved_ports_distribute_at_once(rt: HostRuntime) -> Result<(), Fail> {
-    const ROWS: [Row<'static>; 8] = [
+    const ROWS: [Row<'static>; 7] = [
         Row::Due(3, false),
-        Row::Sends(7),
         Row::Due(9, false),
-        Row::State(1, 14, Assignment::Free { preferred: None }),
+        Row::Free(1, 14, None),
         Row::OffersConversation(1, 14, Ok(3)),
         Row::OffersConversation(1, 15, Ok(7)),
         Row::Moves(1, 14, 7, Ok(())),
-        Row::Marks(3, Some(70)),
+        Row::Marks(3, 70),
     ];
     let alloc = rt.alloc();
     let ports = [saved(3, 899), saved(7, 0)];
-    let Ok(mut system) = resume(alloc, config(alloc, 70)?, modulo, &ports) else {
-        same(&rt, "there is a system", &false, &true);
-        return Ok(());
-    };
+    let mut system = resume(alloc, config(alloc, 70)?, modulo, &ports)?;
     same(&rt, "distributes", &system.distributes(7), &Some(true));
-    if let Ok(Some(sent)) = system.transmit(3) {
-        same(&rt, "Actor_State", &sent[ACTOR_STATE], &0x3d);
-        same(&rt, "Partner_State", &sent[PARTNER_STATE], &0x0d);
-    }
-    play(&rt, &mut system, &ROWS);
+    play(&rt, alloc, &mut system, &[told(3), told(7)])?;
+    play(&rt, alloc, &mut system, &ROWS)?;
     Ok(())
 }
 
@@ -154,14 +148,7 @@ fn is_new<F: Fn(u16, usize) -> usize + Drop>(
     port: u16,
 ) {
     same(rt, "is_up", &system.is_up(port), &Some(false));
-    same(rt, "state", &system.state(port), &fresh.state(port));
-    let came = system.receive_state(port);
-    same(rt, "receive", &came, &fresh.receive_state(port));
-    same(rt, "party", &system.party(port), &fresh.party(port));
-    same(rt, "partner", &system.partner(port), &fresh.partner(port));
-    same(rt, "choice", &system.choice(port), &fresh.choice(port));
-    same(rt, "mux", &system.mux_state(port), &fresh.mux_state(port));
-    same(rt, "ntt", &system.ntt(port), &fresh.ntt(port));
+    same(rt, "the readers", &look(system, port), &look(fresh, port));
     same(rt, "current_while", &system.current_while(port), &Some(0));
     same(rt, "wait_while", &system.wait_while(port), &Some(0));
 }
@@ -177,10 +164,7 @@ fn ports_come_back_into_their_aggregators(rt: HostRuntime) -> Result<(), Fail> {
     ];
     let fresh = System::new(alloc, config(alloc, 70)?, modulo)?;
     for (row, ports) in rows.iter().enumerate() {
-        let Ok(system) = resume(alloc, config(alloc, 70)?, modulo, ports) else {
-            same_in_row(&rt, row, &false, &true);
-            return Ok(());
-        };
+        let system = resume(alloc, config(alloc, 70)?, modulo, ports)?;
         are_back(&rt, &system, ports);
         let other = if row == 2 { 3 } else { 9 };
         is_new(&rt, &system, &fresh, other);
@@ -199,10 +183,7 @@ fn of_two_ports(alloc: Global) -> Result<Config, NoMemory> {
 fn the_second_port_of_a_group_takes_the_empty_aggregator(rt: HostRuntime) -> Result<(), Fail> {
     let alloc = rt.alloc();
     let ports = [of_system(3, 2, 0, 0x99), of_system(7, 2, 600, 0x99)];
-    let Ok(mut system) = resume(alloc, of_two_ports(alloc)?, modulo, &ports) else {
-        same(&rt, "there is a system", &false, &true);
-        return Ok(());
-    };
+    let mut system = resume(alloc, of_two_ports(alloc)?, modulo, &ports)?;
     are_back(&rt, &system, &ports);
     let came = adopt(&mut system, AggId(2), 14, 3);
     same(&rt, "adopted in 2", &came, &Ok(()));

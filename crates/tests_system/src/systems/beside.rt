@@ -16,7 +16,7 @@ const PORT_TWO_HEARS_PORT_3: Row<'static> = Row::Takes(
 );
 
 /// Port 1 is served as well as a port can be.
-const PORT_ONE_IS_SERVED: Row<'static> = Row::Joins(2, 1);
+const PORT_ONE_IS_SERVED: Row<'static> = Row::Joins(2, &[1]);
 
 const STARTS: [Row<'static>; 3] = [Row::Link(1, true), Row::Link(2, true), PORT_ONE_IS_SERVED];
 

@@ -1,24 +1,16 @@
-use crate::systems::{DATA, Response, Row, Side, config, joined, plays, plays_lists, plays_with};
+use crate::systems::{
+    DATA, LAST, NEXT, Response, Row, Side, THIRD, config, joined, plays, plays_lists, plays_with,
+};
 use lagsystem::{Assignment, Received, SystemFault};
-
-/// A data frame of conversation 49.
-const NEXT: [u8; 14] = [2, 0, 0, 0, 0, 0x21, 2, 0, 0, 0, 0, 0x10, 8, 0];
-
-/// A data frame of conversation 50.
-const THIRD: [u8; 14] = [2, 0, 0, 0, 0, 0x22, 2, 0, 0, 0, 0, 0x10, 8, 0];
-
-/// A data frame of conversation 255.
-const LAST: [u8; 14] = [2, 0, 0, 0, 0, 0xa5, 2, 0, 0, 0, 0, 0x5a, 8, 0];
 
 /// A data frame of conversation 304 if there are 4096 of them, and of conversation 48 if there are 256.
 const WIDE: [u8; 14] = [2, 0, 0, 0, 0xf1, 0x20, 2, 0, 0, 0, 0, 0x10, 8, 0];
 
 /// Ports 1 and 2 come up: both distribute in aggregator 1, with system 2 as their partner; then nothing is due, and no
 /// LACPDU was sent in the last eleven ticks.
-pub(crate) fn coming_up() -> [Row<'static>; 17] {
+pub(crate) fn coming_up() -> [Row<'static>; 16] {
     [
-        Row::Link(1, true),
-        Row::Link(2, true),
+        Row::Links(&[1, 2]),
         Row::Takes(1, Side::Of(2, 1, 1, 0x05), Side::Of(1, 1, 1, 0x07)),
         Row::Takes(2, Side::Of(2, 2, 1, 0x05), Side::Of(1, 2, 1, 0x07)),
         Row::Ticks(20),

@@ -1,6 +1,6 @@
 ghost use Rattle.distributor.specs.Calls.{PicksIndexes};
 
-use crate::comparing::{same, same_in_row};
+use crate::comparing::same;
 use crate::systems::conversations::{LEAVING, coming_up};
 use crate::systems::plan::{Plan, plan_of_all};
 use crate::systems::{DATA, PortFacts, Response, Row, Side, config, joined, look, modulo};
@@ -10,17 +10,6 @@ use std::process::Abort;
 
 fn looks<F: Fn(u16, usize) -> usize + Drop>(system: &System<F>) -> [PortFacts; 2] {
     [look(system, 1), look(system, 2)]
-}
-
-/// What the readers return is as before.
-fn looks_as<F: Fn(u16, usize) -> usize + Drop>(
-    rt: &impl Abort,
-    system: &System<F>,
-    before: &[PortFacts; 2],
-) {
-    let after = looks(system);
-    same_in_row(rt, 1, &after[0], &before[0]);
-    same_in_row(rt, 2, &after[1], &before[1]);
 }
 
 /// Makes the calls of a plan at once; returns whether the replies are the expected ones. If memory for the replies is
@@ -37,7 +26,7 @@ fn follows<F: Fn(u16, usize) -> usize + Drop>(
     match driven.drive(alloc, &plan.calls) {
         Ok(replies) => Ok(replies.as_slice() == plan.replies.as_slice()),
         Err(refused) => {
-            looks_as(rt, driven, &before);
+            same(rt, "the readers", &looks(driven), &before);
             Err(SystemFault::from(refused))
         }
     }
@@ -68,9 +57,8 @@ fn is_driven(rt: &impl Abort, alloc: Global, lists: &[&[Row<'_>]]) -> Result<(),
 
 #[test]
 fn every_kind_of_call(rt: HostRuntime) -> Result<(), SystemFault> {
-    const ROWS: [Row<'static>; 17] = [
-        Row::Link(1, true),
-        Row::Link(2, true),
+    const ROWS: [Row<'static>; 16] = [
+        Row::Links(&[1, 2]),
         Row::Takes(1, Side::Of(2, 1, 1, 0x0d), Side::Of(1, 1, 1, 0x07)),
         Row::Takes(2, Side::Of(2, 2, 1, 0x0d), Side::Of(1, 2, 1, 0x07)),
         Row::Ticks(20),

@@ -1,4 +1,4 @@
-use crate::systems::{DATA, Row, Side, config, joined, plays, plays_lists};
+use crate::systems::{DATA, LAST, Row, Side, config, joined, plays, plays_lists};
 use lagsystem::{Assignment, Config, NoMemory, SystemFault};
 use std::alloc::Global;
 
@@ -14,9 +14,6 @@ const FOURTH: [u8; 14] = [2, 0, 0, 0, 0, 0x13, 2, 0, 0, 0, 0, 0x10, 8, 0];
 /// A data frame of conversation 254.
 const LAST_BUT_ONE: [u8; 14] = [2, 0, 0, 0, 0, 0xa4, 2, 0, 0, 0, 0, 0x5a, 8, 0];
 
-/// A data frame of conversation 255.
-const LAST: [u8; 14] = [2, 0, 0, 0, 0, 0xa5, 2, 0, 0, 0, 0, 0x5a, 8, 0];
-
 /// A data frame of conversation 304, if there are 4096 of them.
 const WIDE: [u8; 14] = [2, 0, 0, 0, 1, 0x20, 2, 0, 0, 0, 0, 0x10, 8, 0];
 
@@ -30,10 +27,8 @@ fn three_ports(alloc: Global) -> Result<Config, NoMemory> {
 }
 
 /// Ports 1 and 2 come to distribute in aggregator 1, and port 3 in aggregator 2.
-const ALL_UP: [Row<'static>; 9] = [
-    Row::Link(1, true),
-    Row::Link(2, true),
-    Row::Link(3, true),
+const ALL_UP: [Row<'static>; 7] = [
+    Row::Links(&[1, 2, 3]),
     Row::Takes(1, Side::Of(2, 1, 1, 0x0d), Side::Of(1, 1, 1, 0x05)),
     Row::Takes(2, Side::Of(2, 2, 1, 0x0d), Side::Of(1, 2, 1, 0x05)),
     Row::Takes(3, Side::Of(3, 3, 1, 0x0d), Side::Of(1, 3, 1, 0x05)),

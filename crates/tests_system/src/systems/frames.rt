@@ -1,5 +1,5 @@
 use crate::systems::{
-    DATA, NOTHING, PortFacts, Row, Side, config, end, lacpdu, mac, no_partner, plays, plays_with,
+    DATA, PortFacts, Row, Side, config, end, lacpdu, mac, no_partner, plays, plays_with,
     port_without_partner,
 };
 use bitflags::Flags;
@@ -80,10 +80,9 @@ fn three_answers_then_the_window_then_a_restart(rt: HostRuntime) -> Result<(), S
 }
 
 /// Two ports come up in aggregator 1; then the partner of port 1 has another key.
-pub(crate) fn other_key() -> [Row<'static>; 16] {
+pub(crate) fn other_key() -> [Row<'static>; 15] {
     [
-        Row::Link(1, true),
-        Row::Link(2, true),
+        Row::Links(&[1, 2]),
         Row::Hears(1, &DATA, Received::Dropped),
         Row::Takes(1, Side::Of(2, 1, 1, 0x0d), Side::Of(1, 1, 1, 0x07)),
         Row::Takes(2, Side::Of(2, 2, 1, 0x0d), Side::Of(1, 2, 1, 0x07)),
@@ -192,17 +191,18 @@ fn a_port_is_given_another_key(rt: HostRuntime) -> Result<(), SystemFault> {
 
 #[test]
 fn a_port_that_is_not_there(rt: HostRuntime) -> Result<(), SystemFault> {
-    const ROWS: [Row<'static>; 8] = [
+    let nothing = PortFacts::default();
+    let rows = [
         Row::Unknown(0),
         Row::Unknown(2),
         Row::Unknown(4),
-        Row::Shows(0, NOTHING),
-        Row::Shows(2, NOTHING),
-        Row::Shows(4, NOTHING),
+        Row::Shows(0, nothing),
+        Row::Shows(2, nothing),
+        Row::Shows(4, nothing),
         Row::Has(&[1, 3], 1),
         Row::Distributing(2, &[]),
     ];
-    plays_with(&rt, rt.alloc(), &[1, 3], 1, &[&ROWS])
+    plays_with(&rt, rt.alloc(), &[1, 3], 1, &[&rows])
 }
 
 /// A passive port without a partner: its periodic machine stays in NO_PERIODIC, in which NTT is clear.

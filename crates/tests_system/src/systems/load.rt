@@ -1,8 +1,5 @@
-use crate::systems::{DATA, Row, plays_with};
+use crate::systems::{DATA, NEXT, Row, plays_with};
 use lagsystem::SystemFault;
-
-/// A data frame of conversation 49.
-const NEXT: [u8; 14] = [2, 0, 0, 0, 0, 0x21, 2, 0, 0, 0, 0, 0x10, 8, 0];
 
 /// A port without a peer distributes with a defaulted partner.
 #[test]

@@ -1,5 +1,7 @@
 use crate::systems::{DATA, Row, Side, lacpdu, mac, marker};
-use lagsystem::{AggId, Call, Key, NoMemory, PortChange, Received, Reply, SystemFault};
+use lagsystem::{
+    AggId, Call, HostCall, HostReply, Key, NoMemory, PortChange, Received, Reply, SystemFault,
+};
 use slowpdu::{Lacpdu, MarkerKind, frame};
 use std::alloc::Global;
 
@@ -52,12 +54,42 @@ impl Plan {
         self.push(Call::Transmit(port), Reply::Transmit(Err(none)))
     }
 
+    fn push_links(&mut self, ports: &[u16]) -> Result<(), NoMemory> {
+        for port in ports {
+            self.push(Call::SetLink(*port, true), Reply::SetLink(Ok(())))?;
+        }
+        Ok(())
+    }
+
+    /// Adds the LACPDUs of a system, which name ports with the priorities of their ranks or with that of the tests' ports.
+    fn push_joins(
+        &mut self,
+        alloc: Global,
+        system: u8,
+        ports: &[u16],
+        ranked: bool,
+    ) -> Result<(), NoMemory> {
+        for port in ports {
+            let ours = if ranked {
+                Side::Ranked(*port, 0x07)
+            } else {
+                Side::Of(1, *port, 1, 0x07)
+            };
+            let call = told(alloc, *port, Side::Of(system, *port, 1, 0x0d), ours)?;
+            self.push(call, Reply::Receive(Ok(Received::TookLacpdu)))?;
+        }
+        Ok(())
+    }
+
     /// Adds the calls of a row, if it makes any.
     fn push_row(&mut self, alloc: Global, row: Row<'_>) -> Result<(), NoMemory> {
         match row {
             Row::Ticks(ticks) => self.push_ticks(ticks),
             Row::Quiet(port, ticks) => self.push_quiet_ticks(port, ticks),
             Row::Unknown(port) => self.push_unknown(alloc, port),
+            Row::Links(ports) => self.push_links(ports),
+            Row::Joins(system, ports) => self.push_joins(alloc, system, ports, false),
+            Row::RankedJoins(system, ports) => self.push_joins(alloc, system, ports, true),
             _ => match call_of(alloc, row)? {
                 Some(call) => self.push(call, reply_of(row)),
                 None => Ok(()),
@@ -108,14 +140,6 @@ fn call_of(alloc: Global, row: Row<'_>) -> Result<Option<Call>, NoMemory> {
         Row::Link(port, up) => Call::SetLink(port, up),
         Row::Restart => Call::Restart,
         Row::Takes(port, actor, partner) => told(alloc, port, actor, partner)?,
-        Row::Joins(system, port) => {
-            let (actor, partner) = (Side::Of(system, port, 1, 0x0d), Side::Of(1, port, 1, 0x07));
-            told(alloc, port, actor, partner)?
-        }
-        Row::RankedJoins(system, port) => {
-            let (actor, partner) = (Side::Of(system, port, 1, 0x0d), Side::Ranked(port, 0x07));
-            told(alloc, port, actor, partner)?
-        }
         Row::Releases(port, response, _) => heard(alloc, port, &response.marker().encode())?,
         Row::Hears(port, octets, _) | Row::Keeps(port, octets, _) => {
             Call::Receive(port, Vec::from_slice(alloc, octets)?)
@@ -142,9 +166,7 @@ fn sent(port: u16, payload: &[u8; 110]) -> Reply {
 fn reply_of(row: Row<'_>) -> Reply {
     match row {
         Row::Link(_, _) => Reply::SetLink(Ok(())),
-        Row::Takes(_, _, _) | Row::Joins(_, _) | Row::RankedJoins(_, _) => {
-            Reply::Receive(Ok(Received::TookLacpdu))
-        }
+        Row::Takes(_, _, _) => Reply::Receive(Ok(Received::TookLacpdu)),
         Row::Releases(_, _, count) => Reply::Receive(Ok(Received::Released(count))),
         Row::Hears(_, _, answer) | Row::Keeps(_, _, answer) => Reply::Receive(Ok(answer)),
         Row::Configures(_, _, answer) => Reply::Configure(Ok(answer)),
@@ -165,4 +187,42 @@ fn reply_of(row: Row<'_>) -> Reply {
         Row::Restart => Reply::Restart,
         _ => Reply::Tick,
     }
+}
+
+/// The expected answer to a probe of a port: a marker with this identifier, or None.
+fn probed(
+    port: u16,
+    answer: Result<Option<u32>, SystemFault>,
+) -> Result<Option<[u8; 124]>, SystemFault> {
+    match answer? {
+        Some(id) => {
+            let payload = marker(MarkerKind::Information, port, 1, id).encode();
+            Ok(Some(frame(mac(port), &payload)))
+        }
+        None => Ok(None),
+    }
+}
+
+/// The call of a host that a row makes, with its expected reply; None if it makes none.
+pub(crate) fn host_call_of(row: Row<'_>) -> Option<(HostCall, HostReply)> {
+    let made = match row {
+        Row::OffersConversation(agg, conv, answer) => (
+            HostCall::OfferConversation(AggId(agg), conv),
+            HostReply::OfferConversation(answer),
+        ),
+        Row::Leaves(agg, conv, answer) => (
+            HostCall::LeaveConversation(AggId(agg), conv),
+            HostReply::LeaveConversation(answer),
+        ),
+        Row::Rests(agg, conv, answer) => {
+            (HostCall::Rest(AggId(agg), conv), HostReply::Rest(answer))
+        }
+        Row::ForcesPort(port, answer) => (HostCall::ForcePort(port), HostReply::ForcePort(answer)),
+        Row::Probes(port, answer) => (
+            HostCall::Probe(port),
+            HostReply::Probe(probed(port, answer)),
+        ),
+        _ => return None,
+    };
+    Some(made)
 }

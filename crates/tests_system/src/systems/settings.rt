@@ -1,19 +1,14 @@
-use crate::systems::{DATA, Response, Row, Side, config, plays, plays_lists, plays_with};
+use crate::systems::{DATA, Response, Row, Side, THIRD, config, plays, plays_lists, plays_with};
 use lagsystem::{AggId, BadConfig, Choice, MuxState, PortStatus, SystemFault};
 
 const SELECTED: Choice = Choice::Selected(AggId(1));
 
 const STANDBY: Choice = Choice::Standby(AggId(1));
 
-/// A data frame of conversation 50.
-const OTHER_DATA: [u8; 14] = [2, 0, 0, 0, 0, 0x22, 2, 0, 0, 0, 0, 0x10, 8, 0];
-
 /// Ports 3 and 4 come up, and distribute.
-const TWO_UP: [Row<'static>; 6] = [
-    Row::Link(3, true),
-    Row::Link(4, true),
-    Row::Joins(2, 3),
-    Row::Joins(2, 4),
+const TWO_UP: [Row<'static>; 4] = [
+    Row::Links(&[3, 4]),
+    Row::Joins(2, &[3, 4]),
     Row::Ticks(20),
     Row::Distributing(1, &[3, 4]),
 ];
@@ -25,7 +20,7 @@ fn a_port_is_held_before_its_link_comes_up(rt: HostRuntime) -> Result<(), System
         Row::Status(1, PortStatus::LinkDown),
         Row::Link(1, true),
         Row::Status(1, PortStatus::Held),
-        Row::Joins(2, 1),
+        Row::Joins(2, &[1]),
         Row::Ticks(20),
         Row::Chosen(1, Choice::Unselected),
         Row::Mux(1, MuxState::Detached),
@@ -33,7 +28,7 @@ fn a_port_is_held_before_its_link_comes_up(rt: HostRuntime) -> Result<(), System
         // an LACPDU that does not name the port
         Row::Takes(1, Side::Of(2, 1, 1, 0x0d), Side::Nobody(0)),
         Row::Sends(1, Side::Of(1, 1, 1, 0x07), Side::Of(2, 1, 1, 0x05)),
-        Row::Joins(2, 1),
+        Row::Joins(2, &[1]),
         Row::Holds(1, false, Ok(())),
         Row::Chosen(1, SELECTED),
         Row::Status(1, PortStatus::Waiting(20)),
@@ -47,7 +42,7 @@ fn a_port_is_held_before_its_link_comes_up(rt: HostRuntime) -> Result<(), System
 fn a_port_that_distributes_leaves_when_it_is_held(rt: HostRuntime) -> Result<(), SystemFault> {
     const HELD: [Row<'static>; 15] = [
         Row::Offers(1, &DATA, Ok(3)),
-        Row::Offers(1, &OTHER_DATA, Ok(3)),
+        Row::Offers(1, &THIRD, Ok(3)),
         Row::Sends(3, Side::Of(1, 3, 1, 0x3f), Side::Of(2, 3, 1, 0x0d)),
         Row::Holds(3, true, Ok(())),
         Row::Chosen(3, Choice::Unselected),
@@ -91,20 +86,16 @@ fn a_restart_lets_each_port_go(rt: HostRuntime) -> Result<(), SystemFault> {
         Row::Restart,
         Row::Link(3, true),
         Row::Status(3, PortStatus::NoLacpdu),
-        Row::Joins(2, 3),
+        Row::Joins(2, &[3]),
         Row::Chosen(3, SELECTED),
     ];
     plays_with(&rt, rt.alloc(), &[3, 4], 1, &[&TWO_UP, &ROWS])
 }
 
 /// Ports 1, 2 and 3 come up, with one link for each aggregator: port 1 is its member.
-const ONE_OF_THREE: [Row<'static>; 10] = [
-    Row::Link(1, true),
-    Row::Link(2, true),
-    Row::Link(3, true),
-    Row::Joins(2, 1),
-    Row::Joins(2, 2),
-    Row::Joins(2, 3),
+const ONE_OF_THREE: [Row<'static>; 6] = [
+    Row::Links(&[1, 2, 3]),
+    Row::Joins(2, &[1, 2, 3]),
     Row::Ticks(20),
     Row::Chosen(1, SELECTED),
     Row::Chosen(2, STANDBY),
@@ -160,10 +151,8 @@ fn a_limit_is_raised_and_lowered(rt: HostRuntime) -> Result<(), SystemFault> {
         Row::Restart,
     ];
     const AGAIN: [Row<'static>; 3] = [Row::Link(1, true), Row::Link(2, true), Row::Link(3, true)];
-    const JOINED: [Row<'static>; 5] = [
-        Row::Joins(2, 1),
-        Row::Joins(2, 2),
-        Row::Joins(2, 3),
+    const JOINED: [Row<'static>; 3] = [
+        Row::Joins(2, &[1, 2, 3]),
         Row::Chosen(2, SELECTED),
         Row::Chosen(3, STANDBY),
     ];
@@ -184,7 +173,7 @@ fn a_limit_is_raised_and_lowered(rt: HostRuntime) -> Result<(), SystemFault> {
 fn a_port_gets_another_mode(rt: HostRuntime) -> Result<(), SystemFault> {
     const ROWS: [Row<'static>; 16] = [
         Row::Link(1, true),
-        Row::Joins(2, 1),
+        Row::Joins(2, &[1]),
         Row::Silent(1),
         Row::Mode(1, true, true, Ok(())),
         Row::Silent(1),
@@ -193,7 +182,7 @@ fn a_port_gets_another_mode(rt: HostRuntime) -> Result<(), SystemFault> {
         Row::Mode(1, false, false, Ok(())),
         Row::Sends(1, Side::Of(1, 1, 1, 0x04), Side::Of(2, 1, 1, 0x0d)),
         Row::Timers(1, 30, 20, false),
-        Row::Joins(2, 1),
+        Row::Joins(2, &[1]),
         Row::Timers(1, 900, 20, true),
         // a restart goes back to the configured mode
         Row::Restart,
@@ -223,7 +212,7 @@ fn a_passive_port_begins_to_send(rt: HostRuntime) -> Result<(), SystemFault> {
 fn lacpdus_say_the_delay_that_is_set(rt: HostRuntime) -> Result<(), SystemFault> {
     const ROWS: [Row<'static>; 10] = [
         Row::Link(1, true),
-        Row::Joins(2, 1),
+        Row::Joins(2, &[1]),
         Row::Delay(27),
         Row::Silent(1),
         Row::Mode(1, true, false, Ok(())),

@@ -40,9 +40,8 @@ fn a_port_without_a_peer_tells_why(rt: HostRuntime) -> Result<(), SystemFault> {
 
 /// Two ports of one group, of which the second hears its peer 6 ticks later. Its peer takes it for synchronized, so it asks
 /// to tell it otherwise.
-const BOTH_WAIT: [Row<'static>; 19] = [
-    Row::Link(1, true),
-    Row::Link(2, true),
+const BOTH_WAIT: [Row<'static>; 18] = [
+    Row::Links(&[1, 2]),
     Row::Takes(1, Side::Of(2, 1, 1, 0x05), Side::Of(1, 1, 1, 0x07)),
     Row::Status(1, PortStatus::Waiting(20)),
     Row::Timers(1, 30, 20, false),
@@ -116,12 +115,8 @@ fn a_port_in_attached_keeps_no_other_waiting(rt: HostRuntime) -> Result<(), Syst
 }
 
 /// Ports 1 to 5 come up. Ports 2 and 3 have the same peer, and port 5 has the system itself as its peer.
-const FIVE_PEERS: [Row<'static>; 10] = [
-    Row::Link(1, true),
-    Row::Link(2, true),
-    Row::Link(3, true),
-    Row::Link(4, true),
-    Row::Link(5, true),
+const FIVE_PEERS: [Row<'static>; 6] = [
+    Row::Links(&[1, 2, 3, 4, 5]),
     Row::Takes(1, Side::Of(2, 1, 1, 0x0d), Side::Of(1, 1, 1, 0x07)),
     Row::Takes(2, Side::Of(3, 2, 1, 0x0d), Side::Of(1, 2, 1, 0x07)),
     Row::Takes(3, Side::Of(3, 3, 1, 0x0d), Side::Of(1, 3, 1, 0x07)),
@@ -165,8 +160,7 @@ fn a_system_is_its_priority_and_address(rt: HostRuntime) -> Result<(), SystemFau
     let mut other = end(1, 9, 6, 0x05);
     other.system.priority = 32767;
     let rows = [
-        Row::Link(1, true),
-        Row::Link(2, true),
+        Row::Links(&[1, 2]),
         Row::Takes(1, Side::Exactly(other), Side::Of(1, 1, 1, 0x07)),
         Row::Status(1, PortStatus::Waiting(20)),
         Row::Chosen(1, Choice::Selected(AggId(1))),

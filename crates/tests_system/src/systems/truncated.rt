@@ -8,7 +8,7 @@ use std::alloc::Global;
 use std::process::Abort;
 
 /// What all readers return for a system with ports 1 and 2 and aggregators 1 and 2.
-#[derive(Drop)]
+#[derive(Debug, Drop, PartialEq)]
 struct Told {
     ports: Vec<u16>,
     seen: [PortFacts; 2],
@@ -50,19 +50,6 @@ fn all_told<F: Fn(u16, usize) -> usize + Drop>(
     })
 }
 
-/// Compares what all readers return with what they returned before.
-fn same_told(rt: &impl Abort, place: usize, came: &Told, before: &Told) {
-    same_in_row(rt, place, &came.ports, &before.ports);
-    same_in_row(rt, place, &came.seen[0], &before.seen[0]);
-    same_in_row(rt, place, &came.seen[1], &before.seen[1]);
-    same_in_row(rt, place, &came.loads, &before.loads);
-    same_in_row(rt, place, &came.aggregators, &before.aggregators);
-    same_in_row(rt, place, &came.in_first, &before.in_first);
-    same_in_row(rt, place, &came.in_second, &before.in_second);
-    same_in_row(rt, place, &came.conversations, &before.conversations);
-    same_in_row(rt, place, &came.next_marker, &before.next_marker);
-}
-
 /// The expected result of `receive` for the first octets of a control frame, this many.
 fn answer_to(count: usize) -> Received {
     if count < 14 {
@@ -94,8 +81,7 @@ fn changes_nothing<F: Fn(u16, usize) -> usize + Drop>(
 ) -> Result<(), NoMemory> {
     let came = system.receive(1, octets);
     same_in_row(rt, octets.len(), &came, &Ok(answer_to(octets.len())));
-    let after = all_told(alloc, system)?;
-    same_told(rt, octets.len(), &after, before);
+    same_in_row(rt, octets.len(), &all_told(alloc, system)?, before);
     Ok(())
 }
 

@@ -77,9 +77,8 @@ fn room_in_the_window_is_told(rt: HostRuntime) -> Result<(), SystemFault> {
 }
 
 /// Two ports of one aggregator distribute, and hear their peer again.
-const BOTH_DISTRIBUTE: [Row<'static>; 15] = [
-    Row::Link(1, true),
-    Row::Link(2, true),
+const BOTH_DISTRIBUTE: [Row<'static>; 14] = [
+    Row::Links(&[1, 2]),
     Row::Takes(1, Side::Of(2, 1, 1, 0x0d), Side::Of(1, 1, 1, 0x07)),
     Row::Takes(2, Side::Of(2, 2, 1, 0x0d), Side::Of(1, 2, 1, 0x07)),
     Row::Waits(Some(20)),

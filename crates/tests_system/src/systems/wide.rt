@@ -28,13 +28,9 @@ fn port_of(conv: u16) -> u16 {
 }
 
 /// Ports 1, 3 and 9 come up, and distribute in aggregator 1.
-const THREE_UP: [Row<'static>; 8] = [
-    Row::Link(1, true),
-    Row::Link(3, true),
-    Row::Link(9, true),
-    Row::Joins(2, 1),
-    Row::Joins(2, 3),
-    Row::Joins(2, 9),
+const THREE_UP: [Row<'static>; 4] = [
+    Row::Links(&[1, 3, 9]),
+    Row::Joins(2, &[1, 3, 9]),
     Row::Ticks(20),
     Row::Distributing(1, &[1, 3, 9]),
 ];

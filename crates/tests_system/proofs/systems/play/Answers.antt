@@ -1,10 +1,10 @@
 use Rattle.std.proofs.Common.{sym, subst}
 use Rattle.distributor.specs.Calls.{PicksIndexes}
-use Rattle.tests_system.proofs.hosts.playing.play.Goals as goal
+use Rattle.tests_system.proofs.systems.play.Goals as goal
 
 -- the system has the algorithm that it had at first
-pub comes-requires : goal.comes-requires
-comes-requires g c =
+pub step-requires : goal.step-requires
+step-requires g c =
     record {
       usable =
           subst (λ f. PicksIndexes (λ conv count. g.F.Fn.pre f (conv, (count, tt)))
