@@ -93,7 +93,7 @@ COPIES: tuple[Copy, ...] = (
     Copy(ASSURANCE, "each link distributes and agrees|{} rounds, {}.{} s|the same|", CUT_OFF, r"IsHealthyAt i l old → ((\d+)(\d)) ≤ n → Plays gives"),
     Copy(ASSURANCE, "the wrong bodies and laws that tell most|{}|the prover", "crates/*/must-fail/*.edit", r"\A", count),
     Copy(ASSURANCE, "|wrong bodies|{}|the prover", "tools/maintain/wrong-bodies.d/*.edits", "^edit:", count),
-    Copy(ASSURANCE, "each with the body that meets it|{}|", "tools/maintain/wrong-definitions.d/*.edits", "^edit:", count),
+    Copy(ASSURANCE, "of laws the definition alone|{}|", "tools/maintain/wrong-definitions.d/*.edits", "^edit:", count),
     Copy(ASSURANCE, "cut at every length; {},{} frames of up to", "crates/tests_system/src/systems/hostile.rt", r"const FRAMES: u32 = (\d+)_(\d+);"),
     Copy("docs/internals/THEOREMS.md", "- *{} | {}* means: after", ROUNDS, r"^up_if_both_active = (\d+)$[^=]*^up_if_one_is = (\d+)$"),
     Copy("docs/internals/THEOREMS.md", "for knowing with one active end they are [more than {}](../../examples/an-end", FORGETS, ROUND),
