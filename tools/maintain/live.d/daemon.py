@@ -164,10 +164,16 @@ class Part:
         return ended.returncode, ended.stderr
 
     def end_all(self) -> None:
-        """What a part leaves of daemons ends by a signal."""
+        """What a part leaves of daemons ends by a signal; none of the others crashed."""
         for it in self.running:
-            if isinstance(it, Daemon) and it.process.poll() is None:
-                it.ends("the daemon" if it.space == OURS else "the other daemon")
+            if not isinstance(it, Daemon):
+                continue
+            name = "the daemon" if it.space == OURS else "the other daemon"
+            status = it.process.poll()
+            if status is None:
+                it.ends(name)
+            elif status < 0 and status != -signal.SIGKILL:
+                check(False, f"{name} ended by {signal.Signals(-status).name}", it.printed())
 
     def drop(self) -> None:
         for each in self.running:

@@ -28,8 +28,11 @@ def unread(lines: list[str]) -> str | None:
 
 
 def try_below(folder: str, trial: Trial) -> tuple[bool, str]:
-    """Makes an edit on a copy; the crates below have to be proved still, and the crate of the edit is to be refused."""
-    _, fault = apply(os.path.join(copy_crates(folder, [trial.crate]), trial.crate), trial.pairs)
+    """Makes an edit on a copy in which all is proved; the crates below have to be proved still, and the crate of the edit is to be refused."""
+    crate = os.path.join(copy_crates(folder, [trial.crate]), trial.crate)
+    if any("NOT PROVED" in line for line in prover.ran(folder)):
+        return False, "is not proved as it stands"
+    _, fault = apply(crate, trial.pairs)
     if fault:
         return False, fault
     lines = prover.ran(folder)
