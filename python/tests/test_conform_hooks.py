@@ -148,6 +148,32 @@ def test_the_hook_of_the_page_runs(tmp_path: Path) -> None:
     assert {says("echo", it)[0] for it in ("data start", "data stop", "set speed 9", "down 3", "dance")} == {64}
 
 
+@pytest.mark.parametrize("name, more", [("bonding", {"BOND": "bond1"}), ("lagd", {"WORDS": "--follow"}), ("teamd", {"RUN": "env"}), ("openvswitch", {"LINKS": "z"})])
+def test_hooks_of_two_devices_share_no_sender(name: str, more: dict[str, str], tmp_path: Path) -> None:
+    (tmp_path / name).write_text((FOLDER / name).read_text())
+    (tmp_path / "hook.sh").write_text((FOLDER / "hook.sh").read_text() + 'data_start() { echo "$SENDER $DAEMON"; }\n')
+
+    def files(**other: str) -> str:
+        env = {**{it: value for it, value in os.environ.items() if it not in ("SENDER", "DAEMON")}, "RUN": "echo", **other}
+        ended = subprocess.run(["sh", str(tmp_path / name), "data", "start"], env=env, capture_output=True, text=True, timeout=30, check=True)
+        return ended.stdout
+
+    one, other = files(), files(**more)
+    assert one == files() and one.startswith("/run/lagconform-flows-")
+    assert not set(one.split()) & set(other.split())
+
+
+# Runs flows.py with a socket that takes all and sends nothing.
+SENDS = "import runpy, socket, sys, unittest.mock; socket.socket = unittest.mock.MagicMock(); runpy.run_path(sys.argv.pop(1), run_name='__main__')"
+
+
+def test_the_flows_end_where_nobody_takes_their_lines() -> None:
+    with subprocess.Popen([sys.executable, "-c", SENDS, str(FOLDER / "flows.py"), "x"], stdout=subprocess.PIPE, stderr=subprocess.DEVNULL) as flows:
+        assert flows.stdout and flows.stdout.readline() == b"1\n"
+        flows.stdout.close()
+        assert flows.wait(20) != 0
+
+
 TRIAL = FOLDER.parents[1] / "tools" / "maintain" / "peers.d" / "hook.py"
 
 

@@ -6,11 +6,11 @@ import xml.etree.ElementTree as xml
 from typing import Iterable, Iterator, Optional, Sequence, Type
 
 import pytest
-from conform_device import Device, World, beside, is_lacpdu
+from conform_device import Device, World, beside, is_lacpdu, put
 from conform_faults import KeyUnchecked, LinkUnseen, set_bits
 
 from lagconform import command, junit, options, report
-from lagconform.bench import HOOK_SECONDS, Bench
+from lagconform.bench import BASE, HOOK_SECONDS, Bench
 from lagconform.groups import TESTS
 from lagconform.memory import Done
 from lagconform.model import FAIL, INCONCLUSIVE, PASS, SKIPPED, Result
@@ -58,6 +58,26 @@ class Neighbours(Device):
 @pytest.mark.parametrize("kind, name", [(NoIndividual, "RX-12f"), (NoIndividual, "MX-08"), (Individual, "FM-08"), (Neighbours, "IV-03")])
 def test_a_right_device_of_its_own_kind_passes(kind: Type[Device], name: str) -> None:
     found = play(kind, "RX-01", name)[-1]
+    assert found.verdict == PASS, found.why
+
+
+class BehindAnotherRun(Device):
+    """Tells a partner of the run before, until it hears of this one."""
+
+    def __init__(self) -> None:
+        super().__init__()
+        self.heard: set[int] = set()
+
+    def hears(self, port: int, frame: bytes) -> Iterable[bytes]:
+        self.heard.add(port)
+        yield frame
+
+    def says(self, port: int, frame: bytes) -> Iterable[bytes]:
+        yield frame if port in self.heard else put(frame, 26, BASE[:2] + b"\0\0\x63" + BASE[5:])
+
+
+def test_what_a_device_tells_of_the_run_before_is_not_looked_at() -> None:
+    found = play(BehindAnotherRun, "FM-01", "IV-04")[-1]
     assert found.verdict == PASS, found.why
 
 
