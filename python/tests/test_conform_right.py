@@ -61,24 +61,27 @@ def test_a_right_device_of_its_own_kind_passes(kind: Type[Device], name: str) ->
     assert found.verdict == PASS, found.why
 
 
+BEFORE = BASE[:2] + b"\0\0\x63" + BASE[5:]
+
+
 class BehindAnotherRun(Device):
-    """Tells a partner of the run before, until it hears of this one."""
-
-    def __init__(self) -> None:
-        super().__init__()
-        self.heard: set[int] = set()
-
-    def hears(self, port: int, frame: bytes) -> Iterable[bytes]:
-        self.heard.add(port)
-        yield frame
+    """Tells a partner of the run before until it has taken one of this run, which takes a while."""
 
     def says(self, port: int, frame: bytes) -> Iterable[bytes]:
-        yield frame if port in self.heard else put(frame, 26, BASE[:2] + b"\0\0\x63" + BASE[5:])
+        yield put(frame, 26, BEFORE) if self.now < 0.45 else frame
 
 
 def test_what_a_device_tells_of_the_run_before_is_not_looked_at() -> None:
-    found = play(BehindAnotherRun, "FM-01", "IV-04")[-1]
-    assert found.verdict == PASS, found.why
+    with beside(World(Device())) as b:
+        meet(b)
+        octets = next(it.octets for it in b.frames if not it.out)
+    with beside(World(BehindAnotherRun())) as b:
+        b.log(1, 0.0, False, put(octets, 26, BEFORE))
+        meet(b)
+        found = [run_one(b, BY_NAME[it]) for it in ("FM-01", "IV-04")]
+        told = [it.number for it in b.frames if it.lacpdu and it.lacpdu.partner.system.mac == BEFORE]
+    assert told[0] == 1 and len(told) > 2
+    assert {it.verdict for it in found} == {PASS}, found[-1].why
 
 
 class TerminatorMeasured(Device):
