@@ -177,7 +177,10 @@ def test_the_data_of_the_page_s_hook_is_begun_and_ended(tmp_path: Path) -> None:
     assert time.monotonic() < limit
 
 
-@pytest.mark.parametrize("name, more", [("bonding", {"BOND": "bond1"}), ("lagd", {"WORDS": "--follow"}), ("teamd", {"RUN": "env"}), ("openvswitch", {"LINKS": "z"})])
+@pytest.mark.parametrize(
+    "name, more",
+    [("bonding", {"BOND": "bond1"}), ("lagd", {"WORDS": "--follow"}), ("teamd", {"RUN": "env"}), ("openvswitch", {"LINKS": "z"})],
+)
 def test_hooks_of_two_devices_share_no_sender(name: str, more: dict[str, str], tmp_path: Path) -> None:
     (tmp_path / name).write_text((FOLDER / name).read_text())
     (tmp_path / "hook.sh").write_text((FOLDER / "hook.sh").read_text() + 'data_start() { echo "$SENDER $DAEMON"; }\n')
