@@ -2,7 +2,8 @@
 """flows.py INTERFACE: sends frames of 64 flows on an interface, each flow twice a second, until it is ended or a minute has passed.
 
 They are what lagconform looks for between `data start` and `data stop`: UDP from 198.18.0.0/16 (RFC 2544), to other addresses and ports in
-each flow. The flows differ in MAC, IP and port, so that a device that hashes any of these spreads them.
+each flow. The flows differ in MAC, IP and port, so that a device that hashes any of these spreads them. It prints a line each half second, and ends
+where nobody takes that: behind an ssh that was ended, the device does not send on.
 """
 
 import socket
@@ -39,6 +40,7 @@ def main() -> None:
         for number in range(FLOWS):
             out.send(flow(number, count))
             time.sleep(0.5 / FLOWS)
+        print(count, flush=True)
 
 
 if __name__ == "__main__":

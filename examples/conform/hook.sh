@@ -1,11 +1,13 @@
 # What the hooks of this folder have in common; each sets its own functions and reads this file.
 #
 # RUN stands before each command that is run on the device, as RUN="ssh root@device" or RUN="ip netns exec far"; without it the device
-# is this machine. LINKS are the device's ends of the links, in the order of lagconform's. CLIENT is the interface of its bond.
+# is this machine. LINKS are the device's ends of the links, in the order of lagconform's. CLIENT is the interface of its bond. Runs on several
+# devices at once, each with its own RUN, LINKS, CLIENT or WORDS, have files of their own, by DEVICE_NUMBER.
 # Status 0: done; 64: this hook does not know the words; another one: it failed, and what it prints says how.
 
 LINKS=${LINKS:-eth1 eth2}
-SENDER=${SENDER:-/run/lagconform-flows.pid}
+DEVICE_NUMBER=$(echo "$RUN/$LINKS/$CLIENT/$WORDS" | cksum | cut -d' ' -f1)
+SENDER=${SENDER:-/run/lagconform-flows-$DEVICE_NUMBER.pid}
 FLOWS=${FLOWS:-$(dirname "$(realpath "$0")")/flows.py}
 
 link() { echo "$LINKS " | cut -d' ' -f"$1"; }

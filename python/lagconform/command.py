@@ -177,13 +177,14 @@ def run_tests(given: argparse.Namespace, b: Bench, plan: Plan) -> int:
     """Runs the tests that no earlier run has, and reports all, whatever ends the run; the status."""
     left = [it for it in plan.tests if it not in [one.test for one in plan.before]]
     progress, status, ended = Progress(left, given.repeat, not given.memory), 0, ""
+    known.mark(plan.before, plan.reasons)
 
     def say(it: Result) -> None:
         known.mark([it], plan.reasons)
         progress.add(it)
 
     try:
-        print(beginning(given, left, len(b.links)), flush=True)
+        print(beginning(given, left, len(b.links)), *taken_over(given, plan.before), sep="\n", flush=True)
         progress.show()
         run_all(b, left, say, plan.claimed, given.keep_going, given.repeat)
     except KeyboardInterrupt:
@@ -198,7 +199,6 @@ def run_tests(given: argparse.Namespace, b: Bench, plan: Plan) -> int:
     with undisturbed():
         if ended:
             tell(f"\nlagconform: {ended}; the reports have what was run", to=sys.stderr)
-        known.mark(plan.before, plan.reasons)
         results = sorted([*plan.before, *progress.results], key=lambda it: plan.tests.index(it.test))
         told = {**about(given, b, results), **({"incomplete": f"{ended}; {len(results)} of {len(plan.tests)} tests ran"} if ended else {})}
         return finish(given, Run(b, told, plan.conditions, results, shadow, given.strict), status, bool(ended))
@@ -209,6 +209,11 @@ def beginning(given: argparse.Namespace, tests: Sequence[Test], links: int) -> s
     minutes = max(1, round(sum(it.takes for it in tests) * given.repeat / 60))
     times = f", each {given.repeat} times" if given.repeat > 1 else ""
     return f"{number_of(len(tests), 'test')} on {number_of(links, 'link')}{times}" + ("" if given.memory else f", some {minutes} min")
+
+
+def taken_over(given: argparse.Namespace, before: Sequence[Result]) -> list[str]:
+    """The fails of an earlier run, as lines."""
+    return [f"{report.line(it)}\n{'':23}of the run in {given.resume}" for it in before if it.verdict == FAIL]
 
 
 def compared(b: Bench) -> Optional[Shadow]:

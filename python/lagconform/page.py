@@ -153,12 +153,17 @@ def link_to(it: Result) -> str:
     return f'<a href="#{it.test.id}">{it.test.id}</a>'
 
 
+def by_its_kind(it: Result) -> str:
+    """A fail by its name, with what carries its rule."""
+    return f"{link_to(it)} (by {escape(it.basis)})"
+
+
 def fails(results: Sequence[Result]) -> str:
     """What failed, by its causes."""
     out = []
     for cause in causes.grouped(results):
-        first = f"{link_to(cause.root)} {escape(cause.root.test.title)}: {escape(why(cause.root))}" if cause.root else escape(cause.text)
-        more = f"<br>explains {', '.join(map(link_to, cause.explains))}" if cause.explains else ""
+        first = f"{by_its_kind(cause.root)} {escape(cause.root.test.title)}: {escape(why(cause.root))}" if cause.root else escape(cause.text)
+        more = f"<br>explains {', '.join(map(by_its_kind, cause.explains))}" if cause.explains else ""
         out.append(f'<li class="fail">{first}{more}</li>')
     return f"<h2>Fails</h2><ol>{''.join(out)}</ol>" if out else ""
 

@@ -571,6 +571,7 @@ def test_pages_have_the_number_of_tests() -> None:
     newer = f"|{counts[2][0] - 2}|the {counts[2][0]} without TX-10 and TX-11, which are newer|"
     text = page_of("CONFORM.md")
     assert not text or not [it for it in (*rows, newer) if f"{it}\n" not in text]
+    assert not text or f"or a third link, so none had {listed([it.id for it in TESTS if it.is_long or it.links > 2])}." in " ".join(text.split())
 
 
 def test_the_page_has_the_keys_of_json_that_stay(run, tmp_path: Path) -> None:  # type: ignore[no-untyped-def]
@@ -583,6 +584,9 @@ def test_the_page_has_the_keys_of_json_that_stay(run, tmp_path: Path) -> None:  
     told, tests = (json.loads((tmp_path / it).read_text()) for it in ("r.json", "l.json"))
     assert set(of_run) == {*told} and {"standard", "tests"} <= {*told["about"]} and set(of_list) == {"format", *tests, *tests["tests"][0]} - {"causes"}
     assert set(of_test) - {"holds", "text"} <= {*told["tests"][0]} and {*told["tests"][0]["claims"][0]} == {"holds", "text", "packets"}
+    about, frames = (re.search(rf"^\|{it}\|(.*)\|$", text, re.M)[1] for it in ("`about` of a run", "`frames` of a test"))  # type: ignore[index]
+    assert {*told["about"]} - {"link 2", "link 3", "times"} <= {*re.findall("`([^`]+)`", about.partition("Where it is so")[0])}
+    assert {*next(iter(told["tests"][0]["frames"].values()))} == {*re.findall("`([a-z]+)`", frames)} - {"bench", "device"}
     row = next(it for it in tests["tests"] if it["id"] == "MX-03")
     assert f'"clause": "{row["clause"]}", "title": "{row["title"]}",\n     "rule": "{row["rule"]}", "tolerance": "{row["tolerance"]}", ..' in text
 

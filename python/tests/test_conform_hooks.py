@@ -3,11 +3,13 @@
 from __future__ import annotations
 
 import os
+import re
 import runpy
 import socket
 import subprocess
 import sys
 import threading
+import time
 from pathlib import Path
 
 import pytest
@@ -146,6 +148,62 @@ def test_the_hook_of_the_page_runs(tmp_path: Path) -> None:
     assert says("echo", "start")[0] == 0 and says("echo", "start")[1].count("master bond0\n") == 2
     assert {says("false", it)[0] for it in (*does, "start") if it != "reset"} == {1}
     assert {says("echo", it)[0] for it in ("data start", "data stop", "set speed 9", "down 3", "dance")} == {64}
+
+
+@pytest.mark.skipif(not PAGE.exists(), reason="no page")
+def test_the_data_of_the_page_s_hook_is_begun_and_ended(tmp_path: Path) -> None:
+    text = PAGE.read_text()
+    first, rest = text.partition("```sh\n")[2].partition("```")[0].split("    *)\n")
+    more = re.search(r"^    'data start'\)\n(?:    .*\n)+", text, re.M)
+    assert more
+    (tmp_path / "hook").write_text(f"{first}{more[0]}    *)\n{rest}")
+    (tmp_path / "examples").symlink_to(FOLDER.parent)
+    (tmp_path / "device").write_text('echo "$*" > said; cat > got; echo >> got; exec sleep 60')
+
+    def says(words: str) -> int:
+        env = {**os.environ, "RUN": "sh device"}
+        return subprocess.run(["sh", "hook", *words.split()], env=env, cwd=tmp_path, capture_output=True, timeout=30, check=False).returncode
+
+    assert says("data start") == 0
+    limit = time.monotonic() + 20
+    while not ((tmp_path / "got").exists() and (tmp_path / "got").read_text().endswith("\n\n")) and time.monotonic() < limit:
+        time.sleep(0.05)
+    sender = int((tmp_path / "flows.pid").read_text())
+    assert (tmp_path / "said").read_text() == "python3 - bond0\n"
+    assert (tmp_path / "got").read_text() == (FOLDER / "flows.py").read_text() + "\n"
+    assert says("data stop") == 0 and not (tmp_path / "flows.pid").exists()
+    while Path(f"/proc/{sender}/cmdline").exists() and Path(f"/proc/{sender}/cmdline").read_bytes() and time.monotonic() < limit:
+        time.sleep(0.05)
+    assert time.monotonic() < limit
+
+
+@pytest.mark.parametrize(
+    "name, more",
+    [("bonding", {"BOND": "bond1"}), ("lagd", {"WORDS": "--follow"}), ("teamd", {"RUN": "env"}), ("openvswitch", {"LINKS": "z"})],
+)
+def test_hooks_of_two_devices_share_no_sender(name: str, more: dict[str, str], tmp_path: Path) -> None:
+    (tmp_path / name).write_text((FOLDER / name).read_text())
+    (tmp_path / "hook.sh").write_text((FOLDER / "hook.sh").read_text() + 'data_start() { echo "$SENDER $DAEMON"; }\n')
+
+    def files(**other: str) -> str:
+        env = {**{it: value for it, value in os.environ.items() if it not in ("SENDER", "DAEMON")}, "RUN": "echo", **other}
+        ended = subprocess.run(["sh", str(tmp_path / name), "data", "start"], env=env, capture_output=True, text=True, timeout=30, check=True)
+        return ended.stdout
+
+    one, other = files(), files(**more)
+    assert one == files() and one.startswith("/run/lagconform-flows-")
+    assert not set(one.split()) & set(other.split())
+
+
+# Runs flows.py with a socket that takes all and sends nothing.
+SENDS = "import runpy, socket, sys, unittest.mock; socket.socket = unittest.mock.MagicMock(); runpy.run_path(sys.argv.pop(1), run_name='__main__')"
+
+
+def test_the_flows_end_where_nobody_takes_their_lines() -> None:
+    with subprocess.Popen([sys.executable, "-c", SENDS, str(FOLDER / "flows.py"), "x"], stdout=subprocess.PIPE, stderr=subprocess.DEVNULL) as flows:
+        assert flows.stdout and flows.stdout.readline() == b"1\n"
+        flows.stdout.close()
+        assert flows.wait(20) != 0
 
 
 TRIAL = FOLDER.parents[1] / "tools" / "maintain" / "peers.d" / "hook.py"

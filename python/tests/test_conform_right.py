@@ -6,11 +6,11 @@ import xml.etree.ElementTree as xml
 from typing import Iterable, Iterator, Optional, Sequence, Type
 
 import pytest
-from conform_device import Device, World, beside, is_lacpdu
+from conform_device import Device, World, beside, is_lacpdu, put
 from conform_faults import KeyUnchecked, LinkUnseen, set_bits
 
 from lagconform import command, junit, options, report
-from lagconform.bench import HOOK_SECONDS, Bench
+from lagconform.bench import BASE, HOOK_SECONDS, Bench
 from lagconform.groups import TESTS
 from lagconform.memory import Done
 from lagconform.model import FAIL, INCONCLUSIVE, PASS, SKIPPED, Result
@@ -59,6 +59,29 @@ class Neighbours(Device):
 def test_a_right_device_of_its_own_kind_passes(kind: Type[Device], name: str) -> None:
     found = play(kind, "RX-01", name)[-1]
     assert found.verdict == PASS, found.why
+
+
+BEFORE = BASE[:2] + b"\0\0\x63" + BASE[5:]
+
+
+class BehindAnotherRun(Device):
+    """Tells a partner of the run before until it has taken one of this run, which takes a while."""
+
+    def says(self, port: int, frame: bytes) -> Iterable[bytes]:
+        yield put(frame, 26, BEFORE) if self.now < 0.45 else frame
+
+
+def test_what_a_device_tells_of_the_run_before_is_not_looked_at() -> None:
+    with beside(World(Device())) as b:
+        meet(b)
+        octets = next(it.octets for it in b.frames if not it.out)
+    with beside(World(BehindAnotherRun())) as b:
+        b.log(1, 0.0, False, put(octets, 26, BEFORE))
+        meet(b)
+        found = [run_one(b, BY_NAME[it]) for it in ("FM-01", "IV-04")]
+        told = [it.number for it in b.frames if it.lacpdu and it.lacpdu.partner.system.mac == BEFORE]
+    assert told[0] == 1 and len(told) > 2
+    assert {it.verdict for it in found} == {PASS}, found[-1].why
 
 
 class TerminatorMeasured(Device):

@@ -20,7 +20,7 @@ from conform_faults import CutOff, KeyUnchecked, PartnerLength, RestartsOnChange
 from conform_frames import OtherId, VersionChecked
 from conform_machines import NoNtt
 
-from lagconform import causes, child, command, floods, matrix, memory, report
+from lagconform import causes, child, command, floods, matrix, memory, page, report
 from lagconform.bench import Bench
 from lagconform.edition import edition
 from lagconform.groups import TESTS
@@ -247,7 +247,8 @@ def test_a_run_goes_on_where_another_one_ended(run, tmp_path: Path, capsys: pyte
     capsys.readouterr()
     assert run(KeyUnchecked, "--only", "FM-0*", "--only", "RX-07*", "--resume", "one.json", "--json", "two.json", "--report", "r.html") == 1
     said = capsys.readouterr().out
-    assert said.startswith("6 tests on 3 links") and said.endswith(f"15 pass, 1 fail{LAST}")
+    assert said.startswith("6 tests on 3 links\nfail           RX-07c ") and said.endswith(f"15 pass, 1 fail{LAST}")
+    assert f"\n{'':23}6.4.9 (recordPDU), by PROFILE: " in said and said.count(f"\n{'':23}of the run in one.json\n") == 1
     told = {it["id"]: it for it in json.loads((tmp_path / "two.json").read_text())["tests"]}
     assert len(told) == 16 and told["RX-07c"]["notes"] == ["of the run in one.json"] and told["RX-07c"]["verdict"] == "fail"
     assert run(Device, "--only", "FM-0*", "--only", "RX-07*", "--resume", "one.json") == 2  # another stack in a file of that name
@@ -261,10 +262,17 @@ def test_a_run_goes_on_where_another_one_ended(run, tmp_path: Path, capsys: pyte
 
 def test_the_page_begins_with_what_failed(run, tmp_path: Path) -> None:  # type: ignore[no-untyped-def]
     assert run(NoNtt, "--only", "TX-*", "--only", "FM-01", "--report", "r.html") == 1
-    page = (tmp_path / "r.html").read_text()
-    assert page.index("<h2>Fails</h2>") < page.index("<th>device</th>") < page.index('id="FM-01"')
-    assert "what the device tells comes " in page and 'name="viewport"' in page and "prefers-color-scheme:dark" in page
-    assert '#only-fail:checked~.tests .t:not(.fail)' in page and 'id="only-fail"' in page and "<h2>Clauses</h2>" in page
+    said = (tmp_path / "r.html").read_text()
+    assert said.index("<h2>Fails</h2>") < said.index("<th>device</th>") < said.index('id="FM-01"')
+    assert "what the device tells comes " in said and 'name="viewport"' in said and "prefers-color-scheme:dark" in said
+    assert '#only-fail:checked~.tests .t:not(.fail)' in said and 'id="only-fail"' in said and "<h2>Clauses</h2>" in said
+
+
+def test_the_page_says_of_each_fail_what_carries_its_rule(run, tmp_path: Path) -> None:  # type: ignore[no-untyped-def]
+    failed = [Result(BY_NAME[it], FAIL, "it failed") for it in ("MK-06", "VN-07", "RX-08", "RX-11")]
+    said = page.fails(failed)
+    assert '<a href="#MK-06">MK-06</a> (by memory) A burst of markers: it failed' in said and "VN-07</a> (by two devices) " in said
+    assert 'RX-08</a> (by PROFILE) ' in said and 'explains <a href="#RX-11">RX-11</a> (by PROFILE)</li>' in said
 
 
 def test_fails_that_are_late_by_one_number_have_one_cause(bench) -> None:  # type: ignore[no-untyped-def]

@@ -2,11 +2,12 @@
 
 from __future__ import annotations
 
+from math import inf
 from typing import Optional, Tuple
 
 from niwhopera import Info, Lacpdu, State
 
-from ..bench import Bench
+from ..bench import PROMPT, Bench
 from ..model import SURE, Frame, Group
 from ..pdus import PAYLOAD, SIX, SLOW, is_of_lag, number_of, put, read, value
 
@@ -64,14 +65,17 @@ def whole(b: Bench) -> None:
 @group.test("04", "6.4.9 (recordPDU)", "The partner that it tells is one that it was told", "look at all LACPDUs of the run whose partner is one of our systems",
             rule="each was sent on that link before", takes=0.1)  # fmt: skip
 def known(b: Bench) -> None:
-    """A partner that is told was the actor of an LACPDU on that link: nothing is mixed between links."""
+    """A partner that is told was the actor of an LACPDU on that link: nothing is mixed between links. What the device tells until it has taken our first
+    LACPDU there may be of the run before."""
     sent: dict[int, set[Told]] = {link: set() for link in b.links}
+    begin: dict[int, float] = {}
     wrong = []
     for frame in b.frames:
         pdu = frame.lacpdu or (shown(frame) if frame.out else None)
         if pdu and frame.out:
             sent[frame.link].add(told_of(b, pdu.actor))
-        elif pdu and b.is_ours(pdu.partner.system.mac) and told_of(b, pdu.partner) not in sent[frame.link]:
+            begin.setdefault(frame.link, frame.time + PROMPT)
+        elif pdu and frame.time > begin.get(frame.link, inf) and b.is_ours(pdu.partner.system.mac) and told_of(b, pdu.partner) not in sent[frame.link]:
             wrong.append(frame)
     b.claim(not wrong, f"{len(wrong)} LACPDUs tell a partner that was never there; has to be none", *wrong[:3], bears=SURE)
 
