@@ -181,8 +181,15 @@ def test_an_edit_of_a_crate_below_is_refused_above_alone(
     tmp_path: Path, monkeypatch: pytest.MonkeyPatch, lines: list[str], right: bool, said: str
 ) -> None:
     trial = next(it for it in edits.stored_in(edits.DEFINITIONS, "lagnetwork") if it.pairs[0][0].startswith(".."))
-    monkeypatch.setattr(prover, "ran", lambda folder: lines)
+    runs = iter([["rt: lagmodel is kept", "rt: lagnetwork is kept"], lines])
+    monkeypatch.setattr(prover, "ran", lambda folder: next(runs))
     assert by_prover.try_below(str(tmp_path), trial) == (right, said)
+
+
+def test_a_crate_that_is_not_proved_refuses_nothing(tmp_path: Path, monkeypatch: pytest.MonkeyPatch) -> None:
+    trial = next(it for it in edits.stored_in(edits.DEFINITIONS, "lagnetwork") if it.pairs[0][0].startswith(".."))
+    monkeypatch.setattr(prover, "ran", lambda folder: ["rt: lagmodel proved", ERROR, "rt: lagnetwork NOT PROVED"])
+    assert by_prover.try_below(str(tmp_path), trial) == (False, "is not proved as it stands")
 
 
 def test_a_definition_that_does_not_read_is_none() -> None:
