@@ -48,7 +48,7 @@ def memory() -> int:
     return found
 
 
-def lanes() -> int:
-    """As many lanes as RT_JOBS says; without it one for each 3 GB of memory, at least one and at most one for each processor."""
+def lanes(each: int = EACH) -> int:
+    """As many lanes as RT_JOBS says; without it one for so much memory each, at least one and at most one for each processor."""
     asked = os.environ.get("RT_JOBS", "")
-    return max(1, int(asked) if asked.isdecimal() else min(processors(), memory() // EACH))
+    return max(1, int(asked) if asked.isdecimal() else min(processors(), memory() // each))

@@ -18,7 +18,7 @@ struct loop {
     uint32_t leaving;     /* the ports that will be alone, a second after they left */
     uint32_t held;        /* the ports that niw_hold holds */
     uint32_t trunk[LAGS]; /* what the chip was told: bit 0 has data of port 1 taken and sent */
-    uint32_t least[LAGS]; /* with fewer ports than these a LAG passes no data; the program sets it, and calls `settle` */
+    uint32_t least[LAGS]; /* with fewer ports than these a LAG passes no data, and the peer goes on sending; set it behind `begin`, then `settle` */
     uint32_t ticks;
     uint32_t left[PORTS + 1]; /* the tick at which a port left */
     struct { uint32_t when[RESPONSES]; unsigned oldest; } responses[PORTS + 1];

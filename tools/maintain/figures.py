@@ -28,12 +28,16 @@ def same(found: Matches) -> list[str]:
 
 
 def count(found: Matches) -> list[str]:
-    """How often the pattern is found."""
+    """How often the pattern is found, which it is."""
+    if not found:
+        raise Missing("it finds none")
     return [str(len(found))]
 
 
 def seconds(found: Matches) -> list[str]:
     """The sum of ticks of 100 ms."""
+    if not found:
+        raise Missing("it finds none")
     return [f"{sum(int(it[1]) for it in found) / 10:g}"]
 
 
@@ -132,6 +136,8 @@ def with_figures(copy: Copy, text: str, read: Callable[[str], str]) -> str:
         figures = copy.figures([it for path in files for it in re.finditer(copy.pattern, read(path), re.M)])
     except Missing as why:
         raise Missing(f"{copy.page} copies {copy.pattern} of {copy.sources}, and {why}") from None
+    if len(figures) != copy.sentence.count("{}"):
+        raise Missing(f"{copy.page} copies {copy.sentence.count('{}')} figures of {copy.sources}, which has {len(figures)}: {copy.sentence}")
     for group, figure in reversed(list(enumerate(figures, 1))):
         text = text[: place.start(group)] + figure + text[place.end(group) :]
     return text

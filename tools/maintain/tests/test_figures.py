@@ -29,7 +29,7 @@ def test_each_figure_of_each_copy_is_compared(copy: Any) -> None:
         ("Of 7 frames\nnone", TABLE, None),
         ("Of 7 frames", TABLE, "A has this 0 times"),
         ("Of 7 frames none. Of 8 frames none", TABLE, "A has this 2 times"),
-        ("Of 7 frames none", "", "it finds 0 texts"),
+        ("Of 7 frames none", "1way\n", "it finds 0 texts"),
         ("Of 7 frames none", TABLE + TABLE.replace("10", "11"), "it finds 2 texts"),
         ("Of 7 frames none", TABLE + TABLE, None),
     ],
