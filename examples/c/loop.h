@@ -136,7 +136,7 @@ static inline void set_link(struct loop *here, uint16_t port, bool up) {
     settle(here);
 }
 
-/* The user puts a port, from 1 to PORTS, into a LAG, from 1 to LAGS; one of another LAG leaves that first. */
+/* The user puts a port, from 1 to PORTS, into a LAG, from 1 to LAGS; it may be in another one. */
 static inline void join(struct loop *here, uint16_t port, uint16_t lag) {
     struct niw_change change = {.key = lag, .priority = 128, .aggregatable = true};
     uint32_t bit = bit_of(port);
