@@ -16,6 +16,7 @@ struct loop {
     uint32_t up;          /* the links, bit 0 that of port 1 */
     uint32_t alone;       /* the ports of no LAG: the chip forwards there as on any port */
     uint32_t leaving;     /* the ports that will be alone, a second after they left */
+    uint32_t other_speed; /* the ports whose speed is not that of their LAG, which stay out of it; set it, then `settle` */
     uint32_t held;        /* the ports that niw_hold holds */
     uint32_t trunk[LAGS]; /* what the chip was told: bit 0 has data of port 1 taken and sent */
     uint32_t least[LAGS]; /* with fewer ports than these a LAG passes no data, and the peer goes on sending; set it behind `begin`, then `settle` */
@@ -36,9 +37,10 @@ static uint32_t bit_of(uint16_t port) {
     return UINT32_C(1) << (port - 1);
 }
 
-/* A port that hears nobody, whose link is down or that is of no LAG is held, lest it keep the others out; the first LACPDU that comes lets it go. */
+/* A port that hears nobody, whose link is down, that is of no LAG or of another speed is held, lest it keep the others out; one that hears nobody is let go
+ * by the first LACPDU that comes. */
 static void hold_ports(struct loop *here) {
-    uint32_t out = ~here->up | here->alone | here->leaving;
+    uint32_t out = ~here->up | here->alone | here->leaving | here->other_speed;
     for (uint16_t port = 1; port <= PORTS; port++) {
         bool hold = out & bit_of(port) || niw_defaulted(&here->system, port).is;
         if (hold != ((here->held & bit_of(port)) != 0) && niw_hold(&here->system, port, hold) == NIW_OK) here->held ^= bit_of(port);
@@ -156,17 +158,24 @@ static inline void leave(struct loop *here, uint16_t port) {
     settle(here);
 }
 
-/* Why a port passes no data, for a log: that it is held niw_port_status says, too, but not why. */
+/* Why a port passes no data, for a log, or that it distributes: that it is held niw_port_status says, too, but not why, and of `least` it knows nothing. */
 static inline const char *why_out(struct loop *here, uint16_t port) {
     if ((here->alone | here->leaving) & bit_of(port)) return "it is in no LAG";
     if (!(here->up & bit_of(port))) return "its link is down";
+    if (here->other_speed & bit_of(port)) return "its speed is not that of its LAG";
     if (niw_defaulted(&here->system, port).is) return "no LACPDU comes";
-    return niw_port_status_text(niw_port_status(&here->system, port).number);
+    uint64_t status = niw_port_status(&here->system, port).number;
+    uint32_t passes = 0;
+    for (uint16_t lag = 0; lag < LAGS; lag++) passes |= here->trunk[lag];
+    if (status == NIW_PORT_STATUS_DISTRIBUTING && !(passes & bit_of(port))) return "its LAG has fewer ports than the least";
+    return niw_port_status_text(status);
 }
 
-/* Makes the system of these ports, which have no key of a LAG and are alone; the chip blocks none. */
+/* Makes the system of these ports, which have no key of a LAG and are alone; the chip blocks none. `here` is all zero before, or its system was freed: one
+ * that has a system keeps it, and the answer is NIW_HAS_SYSTEM. */
 static inline uint32_t begin(struct loop *here, const struct niw_config *config, const struct niw_port *ports) {
     uint16_t keys[LAGS];
+    if (here->system.live) return NIW_HAS_SYSTEM;
     for (uint16_t lag = 1; lag <= LAGS; lag++) keys[lag - 1] = lag;
     *here = (struct loop){.system = NIW_EMPTY, .alone = UINT32_MAX, .ticks = SECOND};
     return niw_new(&here->system, config, keys, LAGS, ports, PORTS).status;

@@ -15,7 +15,7 @@
 
 #include "loop.h"
 
-_Static_assert(sizeof(void *) != 4 || sizeof(struct loop) == 28 + 8 * LAGS + 48 * (PORTS + 1), "docs/FIRMWARE.md tells this size");
+_Static_assert(sizeof(void *) != 4 || sizeof(struct loop) == 32 + 8 * LAGS + 48 * (PORTS + 1), "docs/FIRMWARE.md tells this size");
 
 static _Alignas(16) uint8_t room[2 * NIW_MEMORY(PORTS, LAGS, ROWS)];
 
@@ -191,10 +191,21 @@ static void show_links(void) {
 static void show_least(void) {
     one.loop.least[0] = two.loop.least[0] = PORTS;
     set_links(1, 1, false);
-    printf("all ports are wanted, and one is down: no data after %u tick", run(10, 0));
+    printf("all ports are wanted, and port 1 is down: no data after %u tick", run(10, 0));
+    printf("; of port 1: %s; of port 2: %s\n", why_out(&one.loop, 1), why_out(&one.loop, 2));
     set_links(1, 1, true);
-    printf("; up again: all after %u\n", run(100, ALL));
+    printf("it is up again: all after %u ticks\n", run(100, ALL));
     one.loop.least[0] = two.loop.least[0] = 0;
+}
+
+/* The link of a port comes up at another speed, which the ports beside it don't have. */
+static void show_speed(void) {
+    one.loop.other_speed = two.loop.other_speed = 1;
+    printf("port 1 has another speed: the others after %u tick", run(10, ALL & ~UINT32_C(1)));
+    printf("; of port 1: %s\n", why_out(&one.loop, 1));
+    one.loop.other_speed = two.loop.other_speed = 0;
+    printf("it has that of its LAG: all after %u ticks", run(100, ALL));
+    printf("; of port 1: %s\n", why_out(&one.loop, 1));
 }
 
 /* The user takes a port out of its LAG while its cable is in place, at one end alone, and puts it back. */
@@ -228,6 +239,7 @@ int main(void) {
     niw_give_memory(room, sizeof room);
     printf("two handles of one buffer: %s, %s\n", niw_status_text(make(&one, 1, ROWS)), niw_status_text(make(&two, 2, ROWS)));
     printf("a third one with 4096 conversations: %s\n", niw_status_text(begin(&third, &large, ports)));
+    printf("a second begin of the first one: %s\n", niw_status_text(begin(&one.loop, &large, ports)));
     join_all(&one);
     join_all(&two);
     show_silent_ports();
@@ -235,6 +247,7 @@ int main(void) {
     show_late_ticks();
     show_links();
     show_least();
+    show_speed();
     show_leaving();
     show_lags();
     set_links(1, PORTS, false);

@@ -276,13 +276,14 @@ def main(words: Optional[Sequence[str]] = None) -> int:
         print(f"lagconform {__version__}", library_text(), sep="\n")
         return 0
     try:
+        signal.signal(signal.SIGTERM, interrupt)
+        signal.pthread_sigmask(signal.SIG_UNBLOCK, files.ENDS)  # one that came before is heard here
         for path in given.tests:
             own.load(path)
         if given.list:
             return listed(given)
         plan = planned(given)
         gc.disable()  # no pauses
-        signal.signal(signal.SIGTERM, interrupt)
         functions()  # without the library no stack is to blame
         write_nothing(given, "the run did not come to its end", over=True)
         b = stand(given)

@@ -13,6 +13,8 @@ from .refusals import Refused
 
 # No list of known fails is longer, and no JSON of a run.
 LONGEST, MOST_OF_A_RUN = 1 << 20, 1 << 28
+# The signals that end a run.
+ENDS = signal.SIGINT, signal.SIGTERM
 
 
 def read_text(path: str, longest: int = LONGEST) -> str:
@@ -77,7 +79,7 @@ def tell(*lines: str, to: Optional[TextIO] = None) -> None:
 @contextmanager
 def undisturbed() -> Iterator[None]:
     """SIGINT and SIGTERM do nothing inside."""
-    before = {it: signal.signal(it, signal.SIG_IGN) for it in (signal.SIGINT, signal.SIGTERM)}
+    before = {it: signal.signal(it, signal.SIG_IGN) for it in ENDS}
     try:
         yield
     finally:

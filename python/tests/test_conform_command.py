@@ -8,6 +8,7 @@ import os
 import re
 import signal
 import struct
+import subprocess
 import sys
 import time
 import xml.etree.ElementTree as xml
@@ -215,6 +216,18 @@ def test_signals_wait_while_reports_are_written() -> None:
         os.kill(os.getpid(), signal.SIGTERM)
         os.kill(os.getpid(), signal.SIGINT)
     assert signal.getsignal(signal.SIGTERM) is before
+
+
+def test_a_signal_while_modules_are_read_is_told(tmp_path: Path) -> None:
+    sends = f"if name == 'lagconform.command': os.kill(os.getpid(), {int(signal.SIGTERM)})"
+    sent = f"import os, sys\nclass Sends:\n    @staticmethod\n    def find_spec(name, *_):\n        {sends}\nsys.meta_path.insert(0, Sends)\n"
+    (tmp_path / "sitecustomize.py").write_text(sent)
+    paths = os.pathsep.join([str(tmp_path), str(Path(__file__).parents[1])])
+    words = [sys.executable, "-m", "lagconform", "none0", "--json", "r.json", "--tap", "r.tap"]
+    ended = subprocess.run(words, cwd=tmp_path, env={**os.environ, "PYTHONPATH": paths}, capture_output=True, timeout=300, check=False)
+    assert ended.returncode == 130, ended
+    assert json.loads((tmp_path / "r.json").read_text())["about"]["incomplete"] == "interrupted before the first test"
+    assert (tmp_path / "r.tap").read_text().endswith("Bail out! interrupted before the first test\n")
 
 
 @pytest.mark.parametrize("path, why", [("none/r.json", "there is no folder"), (".", "it is a folder"), ("/proc/sys/r", "can't be written")])
