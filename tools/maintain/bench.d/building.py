@@ -70,8 +70,8 @@ def build_library(cache: str) -> str:
     return f"{folder}/out/lib{NAME}.a"
 
 
-def build_harness(cache: str, library: str, switch: str | None) -> str:
-    """Builds the harness over the library and, if it is here, Open vSwitch; answers its file."""
+def build_harness(cache: str, library: str) -> str:
+    """Builds the harness over the library; answers its file."""
     sources, built = f"{BENCH}/harness", f"{cache}/built"
     os.makedirs(built, exist_ok=True)
     compiles = [
@@ -82,11 +82,6 @@ def build_harness(cache: str, library: str, switch: str | None) -> str:
     links = [f"{built}/codec_gcc.o", f"{built}/codec_clang.o", f"{built}/heap.o", library, runtime()]
     links += [f"-Wl,--wrap={name}" for name in ("malloc", "realloc", "free")]
     words = ["rustc", "--edition", "2024", "-O", f"{sources}/main.rs", "-o", f"{built}/harness"]
-    if switch:
-        includes = [f"-I{switch}", f"-I{switch}/include", f"-I{switch}/lib"]
-        compiles.append(["gcc", "-O2", "-D_GNU_SOURCE", *includes, "-c", f"{sources}/ovs.c", "-o", f"{built}/ovs.o"])
-        links += [f"{built}/ovs.o", f"{switch}/lib/.libs/libopenvswitch.a", "-latomic", "-lm", "-lpthread"]
-        words += ["--cfg", "ovs"]
     for compile_words in compiles:
         log_run(cache, "harness", compile_words)
     log_run(cache, "harness", words + [f"-Clink-arg={it}" for it in links])

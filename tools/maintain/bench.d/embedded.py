@@ -31,7 +31,7 @@ def text(file: str) -> int:
 
 def compiled(cache: str, folder: str, sources: str) -> list[str]:
     """The objects of Open vSwitch's side."""
-    files = [*(f"{sources}/lib/{name}.c" for name in PARTS), f"{BENCH}/harness/ovs.c", f"{BENCH}/embedded/standing.c"]
+    files = [*(f"{sources}/lib/{name}.c" for name in PARTS), *(f"{BENCH}/embedded/{name}.c" for name in ("ovs", "standing"))]
     made = []
     for file in files:
         made.append(f"{folder}/{os.path.basename(file)}.o")

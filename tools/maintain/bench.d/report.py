@@ -14,14 +14,6 @@ LIMITS = [("1", "0", "none"), ("1", "64", "64"), ("1", "32", "32"), ("2", "0", "
 # Each with a limit, and the same without.
 AGAINST = [(("1", "64"), ("1", "0")), (("1", "32"), ("1", "0")), (("2", "16"), ("2", "0"))]
 CODECS = [("rust", "plain Rust"), ("gcc", "gcc -O2"), ("clang", "clang -O3")]
-SAME, TICK = "receive, LACPDU that changes nothing", "tick"
-# What of Open vSwitch stands beside which call: the call, the harness's word for the other, its name, the ratio to reach.
-BESIDE = [
-    (SAME, "reply", "lacp_process_packet, update and reply", 1.0),
-    (SAME, "same", "lacp_process_packet alone", 1.5),
-    ("receive, LACPDU whose Sync flips", "flips", "lacp_process_packet, Sync flips", None),
-    (TICK, "run", "lacp_run, nothing due", 0.5),
-]
 WORST = 20_000
 
 
@@ -45,7 +37,7 @@ class Measured:
                 self.times[(kind, *name)] = float(time)
                 self.wrong[(kind, *name)] = int(wrong)
                 self.answers += int(calls)
-            elif kind in ("codec", "ovs"):
+            elif kind == "codec":
                 *name, time = words
                 self.times[(kind, *name)] = float(time)
             elif kind == "answers":
@@ -64,7 +56,7 @@ class Table:
 
     def __init__(self) -> None:
         self.rows = self.wrong = 0
-        self.goals: list[tuple[str, float | None, float, str]] = []
+        self.goals: list[tuple[str, float, float, str]] = []
 
     def section(self, head: list[str], rows: list[tuple[list[str], bool]]) -> None:
         """Prints a section; each row is its cells, and whether its answers were right."""
@@ -76,15 +68,13 @@ class Table:
             self.rows += 1
             self.wrong += not is_right
 
-    def goal(self, text: str, reached: float | None, most: float, unit: str = "") -> None:
+    def goal(self, text: str, reached: float, most: float, unit: str = "") -> None:
         self.goals.append((text, reached, most, unit))
 
     def print_goals(self) -> None:
         rows = []
         for text, reached, most, unit in self.goals:
-            told = "not measured" if reached is None else f"{reached:.2f}{unit}"
-            verdict = "-" if reached is None else "reached" if reached <= most else "not reached"
-            rows.append(([text, f"{most:g}{unit}", told, verdict], True))
+            rows.append(([text, f"{most:g}{unit}", f"{reached:.2f}{unit}", "reached" if reached <= most else "not reached"], True))
         self.section(["speed to reach, the worst of its row", "at most", "measured", ""], rows)
 
 
@@ -134,23 +124,6 @@ def limit_rows(table: Table, m: Measured) -> None:
         table.goal(f"{name}, with a limit and none promoted beside none", worst, 1.1)
 
 
-def switch_rows(table: Table, m: Measured, version: str | None) -> None:
-    """Beside Open vSwitch; of a call here the slowest of the three uses of conversations counts."""
-    rows, is_right = [], not m.wrong.get(("answers", "Open vSwitch"))
-    for call, other, name, most in BESIDE:
-        found = [m.times.get(("ovs", other, ports)) for ports in PORTS]
-        theirs = [it for it in found if it is not None]
-        ours = [max(m.times["call", call, ports, used] for used in USED) for ports in PORTS]
-        known = len(theirs) == len(PORTS)
-        ratios = [a / b for a, b in zip(ours, theirs)] if known else []
-        told = [number(it) for it in theirs] if known else ["-"] * 3
-        rows.append(([f"{call} / {name}", *told, *([f"{it:.2f}" for it in ratios] or ["-"] * 3)], is_right))
-        if most:
-            table.goal(f"{call} beside {name}", max(ratios) if known else None, most)
-    what = f"Open vSwitch {version}" if version else "Open vSwitch, which is not here"
-    table.section([f"ours / {what}", *(f"its ns, {it} ports" for it in PORTS), *(f"ratio, {it}" for it in PORTS)], rows)
-
-
 def offer_rows(table: Table, m: Measured) -> None:
     one, all_of = m.times["alone", "offer", "64", "1"], m.times["call", "offer", "64", "all"]
     wrong = m.wrong["alone", "offer", "64", "1"]
@@ -198,7 +171,7 @@ def machine() -> str:
     return f"{os.cpu_count()} processors {names[0] if names else '?'}, load {os.getloadavg()[0]:.1f}"
 
 
-def print_table(text: str, version: str | None, programs: list[tuple[str, float | None, int]] | None) -> int:
+def print_table(text: str, programs: list[tuple[str, float | None, int]] | None) -> int:
     """Prints all; answers how many rows were wrong."""
     m, table = Measured(text), Table()
     rounds, (seconds,) = m.names("rounds")[0], m.counts["rounds", m.names("rounds")[0]]
@@ -207,7 +180,6 @@ def print_table(text: str, version: str | None, programs: list[tuple[str, float 
     call_rows(table, m)
     wide_rows(table, m)
     limit_rows(table, m)
-    switch_rows(table, m, version)
     offer_rows(table, m)
     crowded_rows(table, m)
     memory_rows(table, m)

@@ -1,4 +1,4 @@
-"""Open vSwitch: its source package is fetched from Debian, and configured and its library built in the cache folder."""
+"""Open vSwitch: its source package is fetched from Debian, and configured in the cache folder."""
 
 from __future__ import annotations
 
@@ -13,11 +13,9 @@ from repository import Missing
 
 # A mirror may lack the sources of an older suite.
 SUITES = ["bookworm", "trixie", "sid"]
-BUILT = "lib/.libs/libopenvswitch.a"
 # Stands once the headers are made that lib/lacp.c wants.
 CONFIGURED = "lib/configured"
-# What is not timed is left out, since the harness is not linked with the libraries that it wants. Two of them are taken where
-# they are found, and have no option: their tests are answered.
+# What lib/lacp.c does not want is left out. Two libraries are taken where they are found, and have no option: their tests are answered.
 WITHOUT = ["--disable-ssl", "--disable-libcapng", "--disable-afxdp"]
 WITHOUT += ["ac_cv_lib_unbound_ub_ctx_create=no", "ac_cv_lib_unwind_unw_backtrace=no"]
 # Else make wants automake, since an unpacked file may be older than what it was made from.
@@ -84,15 +82,3 @@ def configured(cache: str) -> tuple[str | None, str]:
     except (Missing, OSError, StopIteration, tarfile.TarError) as why:
         return None, str(why) or "its package has no lib/lacp.c"
     return sources, version(sources)
-
-
-def built(cache: str) -> tuple[str | None, str]:
-    """The same, with its library."""
-    sources, told = configured(cache)
-    if sources and not os.path.isfile(f"{sources}/{BUILT}"):
-        say("building its library, some two minutes")
-        try:
-            log_run(cache, "openvswitch", ["make", JOBS, *AS_IT_IS, "lib/libopenvswitch.la"], cwd=sources)
-        except Missing as why:
-            return None, str(why)
-    return sources, told

@@ -55,20 +55,6 @@ def test_a_long_text_is_cut() -> None:
     assert draw.cut("a" * 24 + "b") == "a" * 24 + ".."
 
 
-def test_an_arrow_leads_from_where_a_frame_was_sent_to_where_it_came() -> None:
-    picture = drawn("emit 1 4 -> lacpdu 3d sent", "sense 2 2 -> down", "deliver 4 2 -> took")
-    assert f'<path d="M0 70 L400 118" stroke="{draw.BLUE}" marker-end="url(#tip)"/>' in picture
-    assert "1  port 4: LACPDU 3d active,aggregatable,synchronized,collecting,distributing<" in picture
-    assert "3  took<" in picture and CROSS not in picture
-
-
-def test_frames_of_a_cable_come_in_their_order() -> None:
-    sent = ["emit 2 1 -> marker 7 sent", "emit 2 1 -> lacpdu 05 sent"]
-    picture = drawn(*sent, "deliver 1 1 -> responded sent", "deliver 1 1 -> took", "deliver 1 2 -> released 3")
-    for way, colour in ("M400 70 L0 118", draw.BROWN), ("M400 94 L0 142", draw.BLUE), ("M0 118 L400 166", draw.BROWN):
-        assert f'<path d="{way}" stroke="{colour}" marker-end="url(#tip)"/>' in picture
-
-
 def test_a_repeated_frame_stays_on_its_cable() -> None:
     picture = drawn("emit 1 4 -> lacpdu 3d sent", "repeat 4 2 -> took", "deliver 4 2 -> took")
     assert f'<path d="M0 70 L400 94" stroke="{draw.BLUE}" marker-end="url(#tip)" stroke-dasharray="2 3"/>' in picture
@@ -93,17 +79,6 @@ def test_a_frame_that_does_not_come_ends_in_a_cross(lines: list[str], crosses: i
 def test_a_frame_that_was_lost_at_once_is_not_on_its_cable() -> None:
     picture = drawn("emit 1 4 -> lacpdu 3d lost", "emit 1 4 -> lacpdu 05 sent", "deliver 4 2 -> took")
     assert f'<path d="M0 94 L400 118" stroke="{draw.BLUE}" marker-end="url(#tip)"/>' in picture and picture.count(CROSS) == 1
-
-
-def test_a_data_frame_is_named_by_its_conversation() -> None:
-    picture = drawn("offer 1 1 0200000000210200000000100800 -> port 9 serial 12 sent", "offer 1 1 02 -> refused 3 frame-length")
-    assert "1  port 9: data 49 #12<" in picture
-    assert f'fill="{draw.RED}">2  offer 1 02: refused 3 frame-length<' in picture
-
-
-def test_the_ticks_of_each_system_are_its_time() -> None:
-    picture = drawn("tick 1 10 -> ticked", "tick 2 3 -> ticked", "tick 1 5 -> ticked")
-    assert "1  at 1.0 s<" in picture and "2  at 0.3 s<" in picture and "3  at 1.5 s<" in picture
 
 
 def test_a_link_has_an_arrow_for_each_frame_and_a_line_for_each_finding() -> None:

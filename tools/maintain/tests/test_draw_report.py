@@ -31,11 +31,6 @@ def test_an_entry_has_its_parts() -> None:
     assert (entries[4].kept, entries[4].port) == (None, None)
 
 
-def test_the_end_of_a_report_has_agreements_and_flows() -> None:
-    read = report.read(TEXT)
-    assert (len(read.ends), read.cables, read.flows) == (3, 2, {(2, 6, 49)})
-
-
 @pytest.mark.parametrize(("flow", "conversation"), [("2/6/801", 801), ("2/6/33", 33), ("1/6/801", 33)])
 def test_a_conversation_is_of_4096_where_a_flow_names_it(flow: str, conversation: int) -> None:
     octets = "020000000321" + "020000000000" + "0800"

@@ -189,18 +189,12 @@ def test_structs_and_numbers_that_differ_are_told_by_their_names() -> None:
     assert struct.startswith("struct niw_end: ") and number == "number NIW_ROOM: the sources have 25; the header has 24"
 
 
-def test_enumerators_count_on_and_a_header_has_each_once() -> None:
-    text = "#define NIW_VERSION 8\n#define NIW_ROOM 24\nenum { NIW_FIRST, NIW_SECOND, NIW_FIFTH = 5, NIW_SIXTH };\n"
-    assert numbering.of_header(text) == {"NIW_ROOM": 24, "NIW_FIRST": 0, "NIW_SECOND": 1, "NIW_FIFTH": 5, "NIW_SIXTH": 6}
+def test_a_header_has_each_enumerator_once() -> None:
     with pytest.raises(numbering.Missing, match="NIW_FIRST stands twice in the header"):
-        numbering.of_header(text + "enum { NIW_FIRST };\n")
+        numbering.of_header("enum { NIW_FIRST };\nenum { NIW_FIRST };\n")
 
 
-def test_variants_have_the_numbers_behind_their_arrows_and_constants_their_names() -> None:
-    text = "MuxState::CollectingDistributing => 3,\nAssignment::Flushing { port, .. } => told(3, port),\nReceived::Up(aggregator) => (6, aggregator),\n"
-    assert dict(numbering.told(text)) == {"NIW_MUX_COLLECTING_DISTRIBUTING": 3, "NIW_CONVERSATION_FLUSHING": 3, "NIW_RECEIVED_HANDED_UP": 6}
-    found = numbering.of_sources("const NOT_HERE: u32 = 7;\nconst WRONG_BUFFER_LENGTH: u32 = 15;", {})
-    assert (found["NIW_NOT_HERE"], found["NIW_BUFFER"]) == (7, 15)
+def test_a_constant_has_one_number() -> None:
     with pytest.raises(numbering.Missing, match="NIW_NOT_HERE has two numbers in the sources"):
         numbering.of_sources("const NOT_HERE: u32 = 7;\nconst NOT_HERE: u32 = 8;", {})
 
@@ -232,12 +226,9 @@ def test_two_names_of_one_number_and_a_missing_one_are_refused(monkeypatch: pyte
         lag_h.enumerators("SystemFault", KNOWN, body)
 
 
-def test_each_number_has_its_text() -> None:
-    texts = {"NIW_OK": "done", "NIW_NO_ROAD": "no road", "NIW_OTHER": "other"}
-    wanted = '        "done",\n        "no road",\n        "unknown",\n        "other"'
-    assert lag_h.written_texts({"NIW_OK": 0, "NIW_NO_ROAD": 1, "NIW_OTHER": 3}, texts) == wanted
+def test_a_number_without_a_text_is_refused() -> None:
     with pytest.raises(lag_h.Missing, match="no text of NIW_NEW"):
-        lag_h.written_texts({"NIW_OK": 0, "NIW_NEW": 1}, texts)
+        lag_h.written_texts({"NIW_OK": 0, "NIW_NEW": 1}, {"NIW_OK": "done"})
 
 
 def test_a_refusal_keeps_its_cells_and_a_new_one_says_its_line(monkeypatch: pytest.MonkeyPatch) -> None:
@@ -273,11 +264,6 @@ def test_the_release_is_written_where_it_stands_once() -> None:
     assert elsewhere.released(text, '\nversion = "', "0.12.3") == text.replace('version = "0.1.0"', 'version = "0.12.3"')
     with pytest.raises(lag_h.Missing, match="not found once"):
         elsewhere.released(text, 'edition = "', "0.2.0")
-
-
-def test_the_c_program_lists_each_export() -> None:
-    made = elsewhere.called("{\n#define EXPORT(name) {#name}\n    EXPORT(old),\n};\n", [TELL, TICK])
-    assert made == "{\n#define EXPORT(name) {#name}\n    EXPORT(tell), EXPORT(tick),\n};\n"
 
 
 # What is written of lag.h for Python and Rust `tools/maintain/interface --check` compares whole; it has no such names and types.

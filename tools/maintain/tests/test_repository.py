@@ -10,7 +10,6 @@ from pathlib import Path
 import pytest
 
 import loading
-import edits
 import repository
 
 LISTED = """# Each line names a crate.
@@ -53,11 +52,6 @@ def test_a_crate_uses_those_of_the_repository(listed: None) -> None:
 )
 def test_what_is_below_comes_first_and_once(listed: None, names: list[str], found: list[str]) -> None:
     assert repository.below(*names) == found
-
-
-@pytest.mark.parametrize("crate", repository.crates())
-def test_a_crate_has_at_most_ten_edits_in_must_fail(crate: str) -> None:
-    assert len(edits.must_fail(crate)) <= 10
 
 
 @pytest.fixture

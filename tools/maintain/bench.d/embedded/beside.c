@@ -15,8 +15,8 @@
 
 extern unsigned long heap_held; /* heap.c: octets */
 
-/* harness/ovs.c: its kinds of rounds. */
-enum { THEIRS_SAME, THEIRS_SYNC, THEIRS_RUN, THEIRS_REPLY };
+/* ovs.c: its kinds of rounds. */
+enum { THEIRS_SAME, THEIRS_RUN, THEIRS_REPLY };
 int ovs_setup(int which, int ports);
 long ovs_calls(int which, int kind, long rounds);
 

@@ -1,12 +1,10 @@
-//! Times the library `lagbench` beside plain Rust, plain C and Open vSwitch, all in one run, for so many seconds:
+//! Times the library `lagbench` beside plain Rust and plain C, all in one run, for so many seconds:
 //! `harness SECONDS [WORD]`; with a word, of the calls of a system only those whose lines begin with it. Each line that it prints
 //! is one measurement, its words parted by tabs; tools/maintain/bench makes a table of them.
 //! A time is the least of many repeats, in nanoseconds of this thread.
 
 mod codec;
 mod heap;
-#[cfg(ovs)]
-mod ovs;
 mod system;
 mod time;
 
@@ -116,29 +114,15 @@ fn print_codecs(codecs: &codec::Codecs) {
     println!("answers\tcodec\t{}\t{}", codecs.calls, codecs.calls - codecs.right + codecs.unequal());
 }
 
-#[cfg(ovs)]
-fn print_bonds(bonds: &ovs::Bonds) {
-    for (ports, times) in PORTS.iter().zip(&bonds.least) {
-        for (name, time) in ovs::KINDS.iter().zip(times) {
-            println!("ovs\t{name}\t{ports}\t{time}");
-        }
-    }
-    println!("answers\tOpen vSwitch\t{}\t{}", bonds.calls, bonds.wrong);
-}
-
 fn main() {
     let seconds: f64 = std::env::args().nth(1).map_or(30.0, |it| it.parse().unwrap());
     let began = Instant::now();
     let mut codecs = codec::Codecs::new();
     let mut jobs = jobs(&std::env::args().nth(2).unwrap_or_default());
-    #[cfg(ovs)]
-    let mut bonds = ovs::Bonds::new(&PORTS);
     let mut rounds = 0;
     while rounds < 3 || began.elapsed().as_secs_f64() < seconds {
         (0..8).for_each(|_| codecs.again());
         jobs.iter_mut().for_each(|it| it.1.again());
-        #[cfg(ovs)]
-        bonds.again();
         rounds += 1;
     }
     println!("rounds\t{rounds}\t{:.0}", began.elapsed().as_secs_f64());
@@ -146,7 +130,5 @@ fn main() {
     for (words, job) in &jobs {
         println!("{words}\t{}\t{}\t{}", job.time(), job.calls, job.wrong);
     }
-    #[cfg(ovs)]
-    print_bonds(&bonds);
     print_memory();
 }

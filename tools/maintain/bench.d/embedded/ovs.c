@@ -10,7 +10,7 @@
 
 #define MOST 64
 
-enum kind { SAME, SYNC_FLIPS, RUN, FLIPS_AND_RUN };
+enum kind { SAME, RUN, FLIPS_AND_RUN };
 
 struct heard {
     struct dp_packet packet;
@@ -107,8 +107,6 @@ static long round_of(struct bond *bond, enum kind kind, int odd)
     switch (kind) {
     case SAME:
         return hear(bond, 0);
-    case SYNC_FLIPS:
-        return odd ? bond->ports - hear(bond, 1) : hear(bond, 0);
     case RUN:
         lacp_run(bond->lacp, count_sent);
         return sent == before;
