@@ -1,14 +1,13 @@
 -- Adopting: a free conversation comes onto its port by calls that a system has.
-use Rattle.dataplane.proofs.Common.{ap, arith, eq-eqb, eqb-true, inl, inr, refl, subst, sym, ◌∙◌, cases_Bool, nat_tests, MatchOption, is_none, ltb}
-use Rattle.dataplane.proofs.Common.{AggId, LawfulMoves, Sends_frame, ModelCall, Assignment, Free, On, Wanted, DistFault, Assigns, PicksPort, is_among}
-use Rattle.dataplane.proofs.Common.{preferred_among, SetsAssignment, Table, assignment_of, next_identifier, model_conversation, model_distributor}
-use Rattle.dataplane.proofs.Common.{SystemFault, OffersConversation, OffersIf, TakesPort, frame_of_conversation, Offer, JoinedByLawfulMoves}
-use Rattle.dataplane.proofs.Common.{model_setup, model_view, model_view_at, GivesAssignment, GivesOrRefuses, MayBeOffered, has_aggregator, in_system}
-use Rattle.dataplane.proofs.Common.{system_force_result, system_move_result, conversation_count, distributing, number_of_conversation, CallPromise}
-use Rattle.dataplane.proofs.Common.{SystemState, machines_of, port_index, system_port_at, with_table, framed, IsFreeIn, IsPlaced, adopt_result}
-use Rattle.dataplane.proofs.Common.{adopted}
-use Rattle.std.specs.Prelude.{Bool, true, false, ◌&&◌, ◌≡◌, ◌^◌, ℕ, cond, eqb, if◌then◌else◌, is_some, nat_lt, List, []}
-use Rattle.std.specs.Prelude.{◌∷◌, Option, Some, None, Result, Ok, Err, option_map}
+use Rattle.dataplane.proofs.Common.{ap, arith, refl, subst, ◌∙◌, nat_tests, is_none, AggId, LawfulMoves, Sends_frame, ModelCall, Assignment, Free, On}
+use Rattle.dataplane.proofs.Common.{Wanted, is_among, Table, assignment_of, next_identifier, model_distributor, SystemFault, OffersConversation}
+use Rattle.dataplane.proofs.Common.{TakesPort, frame_of_conversation, Offer, JoinedByLawfulMoves, model_setup, model_view, model_view_at}
+use Rattle.dataplane.proofs.Common.{GivesAssignment, GivesOrRefuses, MayBeOffered, has_aggregator, system_force_result, system_move_result}
+use Rattle.dataplane.proofs.Common.{conversation_count, distributing, number_of_conversation, CallPromise, SystemState, port_index, with_table}
+use Rattle.dataplane.proofs.Common.{framed, IsFreeIn, IsPlaced, adopt_result}
+use Rattle.std.specs.Prelude.{Bool, true, false, ◌&&◌, ◌≡◌, ◌^◌, ℕ, cond, if◌then◌else◌, is_some, nat_lt, List, [], ◌∷◌, Option, Some}
+use Rattle.std.specs.Prelude.{Result, Ok, Err}
+use Rattle.distributor.specs.Changes.{SetsAssignment}
 use Rattle.lagsystem.specs.declared.drive.Reply.TheVariants as reply
 
 -- what there has to be for a free conversation to come onto the port
@@ -22,96 +21,33 @@ pub record Fits (s : SystemState) (agg : AggId) (conv port : ℕ) : Type 0 where
 abbrev Tests : Bool → Bool → Bool → Bool → Bool → Type 0
 Tests a b c d m = (a ≡ true) × (b ≡ true) × (c ≡ true) × (d ≡ true) × (m ≡ false)
 
--- the tests of an adoption that is accepted
-all_pass : (a b c d m : Bool) (port : ℕ) → (if a then (if b then in_system (if c then (if d then (if m then Err DistFault.MarkersSpent
-    else Ok (On port)) else Err DistFault.NotDistributing) else Err DistFault.NotAssigned) else Err SystemFault.NoPort) else Err SystemFault.NoAggregator)
-    ≡ Ok (On port) → Tests a b c d m
-all_pass true true true true false port e = (refl, refl, refl, refl, refl)
-all_pass true true true true true port e = absurd cc
-all_pass true true true false m port e = absurd cc
-all_pass true true false d m port e = absurd cc
-all_pass true false c d m port e = absurd cc
-all_pass false b c d m port e = absurd cc
-
--- a port that has machines has a place
-has_place : (port : ℕ) (s : SystemState) → is_some (machines_of port s) ≡ true → is_some (port_index port s.system_ports) ≡ true
-has_place port s e = at_index (port_index port s.system_ports) e
-  where
-    at_index : (o : Option ℕ) → is_some (option_map (λ x. x.port) (system_port_at o s.system_ports)) ≡ true → is_some o ≡ true
-    at_index None e = e
-    at_index (Some i) e = refl
-
 pub fits : (s : SystemState) (agg : AggId) (conv port : ℕ) → IsFreeIn s agg conv → adopt_result s agg conv port ≡ Ok (On port)
     → Fits s agg conv port
-fits s agg conv port free e =
-    let t = all_pass (has_aggregator s agg) (is_some (machines_of port s)) (nat_lt conv (conversation_count s))
-    (is_among (distributing agg s.system_ports) port) (is_none (next_identifier s.table)) port
-    (subst (λ a. (if has_aggregator s agg then (if is_some (machines_of port s) then in_system (if nat_lt conv (conversation_count s)
-    then adopted (next_identifier s.table) (distributing agg s.system_ports) port a else Err DistFault.NotAssigned)
-    else Err SystemFault.NoPort) else Err SystemFault.NoAggregator) ≡ Ok (On port)) free.1 e) in
-    record { there = t.0; known = has_place port s t.1; within = t.2; among = t.3; left = t.4 }
+fits s agg conv port free e = grind (arith, nat_tests)
 
 -- with other conversations, and the same next marker
 still_fits : (s t : SystemState) (agg : AggId) (conv port c : ℕ) (a : Assignment) → GivesAssignment agg c a s t → Fits s agg conv port
     → Fits t agg conv port
-still_fits s t agg conv port c a h f = subst (λ x. Fits x agg conv port) (sym h.1) (record {
-  there = f.there;
-  known = f.known;
-  within = f.within;
-  among = f.among;
-  left = ap (λ n. is_none (cond (ltb n (2 ^ 32)) (Some n) None)) h.0.next ∙ f.left;
-})
+still_fits s t agg conv port c a h f = grind (arith, nat_tests)
 
 pub now_in : (s t : SystemState) (agg : AggId) (conv : ℕ) (a : Assignment) → GivesAssignment agg conv a s t
     → assignment_of t.table agg.0 conv ≡ a
-now_in s t agg conv a h = h.0.states agg.0 conv
-    ∙ ap (λ b. cond (b && eqb conv conv) a (assignment_of s.table agg.0 conv)) (eq-eqb agg.0 agg.0 refl)
-    ∙ ap (λ b. cond b a (assignment_of s.table agg.0 conv)) (eq-eqb conv conv refl)
+now_in s t agg conv a h = grind (arith, nat_tests)
 
 twice : (x : Bool) (a b r : Assignment) → cond x b (cond x a r) ≡ cond x b r
-twice true a b r = refl
-twice false a b r = refl
+twice x a b r = grind (arith, nat_tests)
 
 pub both : (s t u : SystemState) (agg : AggId) (conv : ℕ) (a b : Assignment) → GivesAssignment agg conv a s t → GivesAssignment agg conv b t u
     → GivesAssignment agg conv b s u
-both s t u agg conv a b h k = (
-  record {
-    aggs = k.0.aggs ∙ h.0.aggs;
-    conversations = k.0.conversations ∙ h.0.conversations;
-    first = k.0.first ∙ h.0.first;
-    next = k.0.next ∙ h.0.next;
-    states = λ g c. k.0.states g c
-        ∙ ap (λ (r : Assignment). cond (eqb agg.0 g && eqb conv c) b r) (h.0.states g c)
-        ∙ twice (eqb agg.0 g && eqb conv c) a b (assignment_of s.table g c);
-  },
-  k.1 ∙ ap (λ (z : SystemState). with_table z u.table) h.1,
-)
-
--- an offer of a free conversation is answered
-never_refused : (gives : ℕ → ℕ → ℕ → Type 0) (conv port : ℕ) (ports : List ℕ) (preferred : Option ℕ) (cause : DistFault)
-    → is_among ports port ≡ true → Assigns gives conv ports (Free preferred) (Err cause) → ⊥
-never_refused gives conv port ports preferred cause among h = by_preference (preferred_among ports preferred) h
-  where
-    picks : (l : List ℕ) → is_among l port ≡ true → PicksPort gives conv l (Err cause) → ⊥
-    picks [] e h = absurd cc
-    picks (p ∷ ps) e h = let r = h.4 in absurd cc
-
-    by_preference : (o : Option ℕ) → MatchOption o (PicksPort gives conv ports (Err cause)) (λ p. Err cause ≡ Ok p) → ⊥
-    by_preference None h = picks ports among h
-    by_preference (Some p) h = absurd cc
+both s t u agg conv a b h k = grind (arith, nat_tests)
 
 taken : (gives : ℕ → ℕ → ℕ → Type 0) (agg : AggId) (conv port : ℕ) (s : SystemState) (answer : Result ℕ SystemFault) (t : SystemState)
     → Fits s agg conv port → OffersConversation gives agg conv s answer t → TakesPort gives agg conv s answer t
-taken gives agg conv port s answer t f h =
-    subst (λ k. OffersIf true k gives agg conv s answer t) f.within
-    (subst (λ a. OffersIf a (nat_lt conv (conversation_count s)) gives agg conv s answer t) f.there h)
+taken gives agg conv port s answer t f h = grind (arith, nat_tests)
 
 pub is_answered : (gives : ℕ → ℕ → ℕ → Type 0) (agg : AggId) (conv port : ℕ) (s : SystemState) (fault : SystemFault) (t : SystemState)
     → Fits s agg conv port → IsFreeIn s agg conv → OffersConversation gives agg conv s (Err fault) t → ⊥
-is_answered gives agg conv port s fault t f free h =
-    let k = taken gives agg conv port s (Err fault) t f h in
-    never_refused gives conv port (distributing agg s.system_ports) free.0 k.0.0 f.among
-    (subst (λ a. Assigns gives conv (distributing agg s.system_ports) a (Err k.0.0)) free.1 k.0.1)
+is_answered gives agg conv port s fault t f free h = grind (arith, nat_tests)
 
 pub is_given : (gives : ℕ → ℕ → ℕ → Type 0) (agg : AggId) (conv port p : ℕ) (s t : SystemState)
     → Fits s agg conv port → OffersConversation gives agg conv s (Ok p) t → GivesAssignment agg conv (On p) s t
@@ -120,53 +56,26 @@ is_given gives agg conv port p s t f h = (taken gives agg conv port s (Ok p) t f
 -- an offer of a conversation that prefers the port goes there
 pub as_preferred : (gives : ℕ → ℕ → ℕ → Type 0) (agg : AggId) (conv port p : ℕ) (s t : SystemState)
     → Fits s agg conv port → assignment_of s.table agg.0 conv ≡ Free (Some port) → OffersConversation gives agg conv s (Ok p) t → p ≡ port
-as_preferred gives agg conv port p s t f free h =
-    let ports = distributing agg s.system_ports in
-    let k = subst (λ a. Assigns gives conv ports a (Ok p)) free (taken gives agg conv port s (Ok p) t f h).0 in
-    let there = subst (λ (b : Bool). MatchOption (cond b (Some port) None) (PicksPort gives conv ports (Ok p)) (λ q. ◌≡◌ {A = Result ℕ DistFault} (Ok p) (Ok q))) f.among k in
-    same p port there
-  where
-    same : (p q : ℕ) → ◌≡◌ {A = Result ℕ DistFault} (Ok p) (Ok q) → p ≡ q
-    same p q e = cc
-
-not_equal : (n m : ℕ) → (n ≡ m → ⊥) → eqb n m ≡ false
-not_equal n m h = elim (cases_Bool (eqb n m)) [ inl t ↦ absurd (h (eqb-true n m t)) | inr f ↦ f ]
+as_preferred gives agg conv port p s t f free h = grind (arith, nat_tests)
 
 -- a move from another port is accepted
 pub is_moved : (agg : AggId) (conv port p : ℕ) (s : SystemState) (answer : Result Unit SystemFault) (t : SystemState)
     → Fits s agg conv port → assignment_of s.table agg.0 conv ≡ On p → (p ≡ port → ⊥)
     → GivesOrRefuses agg conv (system_move_result s agg conv port) s answer t
     → (answer ≡ Ok tt) × GivesAssignment agg conv (Wanted p (Some port)) s t
-is_moved agg conv port p s answer t f on differs h =
-    let there = f.there in let known = f.known in let within = f.within in let among = f.among in let left = f.left in
-    let apart : eqb p port ≡ false = not_equal p port differs in
-    let accepted : system_move_result s agg conv port ≡ Ok (Wanted p (Some port)) = grind (arith, nat_tests) in
-    subst (λ r. GivesOrRefuses agg conv r s answer t) accepted h
+is_moved agg conv port p s answer t f on differs h = grind (arith, nat_tests)
 
 -- a force of what waits is accepted
 pub is_forced : (agg : AggId) (conv port p : ℕ) (s : SystemState) (answer : Result Unit SystemFault) (t : SystemState)
     → Fits s agg conv port → assignment_of s.table agg.0 conv ≡ Wanted p (Some port)
     → GivesOrRefuses agg conv (system_force_result s agg conv) s answer t
     → (answer ≡ Ok tt) × GivesAssignment agg conv (Free (Some port)) s t
-is_forced agg conv port p s answer t f on h =
-    let there = f.there in let within = f.within in
-    let accepted : system_force_result s agg conv ≡ Ok (Free (Some port)) = grind (arith, nat_tests) in
-    subst (λ r. GivesOrRefuses agg conv r s answer t) accepted h
+is_forced agg conv port p s answer t f on h = grind (arith, nat_tests)
 
 -- what is free in both is the same to the model
 same_flows : (t u : Table) (agg conv : ℕ) (p q : Option ℕ) → SetsAssignment t u agg conv (Free q) → assignment_of t agg conv ≡ Free p
     → model_distributor u ≡ model_distributor t
-same_flows t u agg conv p q h free = λ i. record { state = λ g k. at g k i; next = h.next i }
-  where
-    chosen : (x y : Bool) (g k : ℕ) → eqb agg g ≡ x → eqb conv k ≡ y
-        → model_conversation (cond (x && y) (Free q) (assignment_of t g k)) ≡ model_conversation (assignment_of t g k)
-    chosen true true g k a b = sym (ap model_conversation
-        (subst (λ z. assignment_of t z k ≡ Free p) (eqb-true agg g a) (subst (λ z. assignment_of t agg z ≡ Free p) (eqb-true conv k b) free)))
-    chosen true false g k a b = refl
-    chosen false y g k a b = refl
-
-    at : (g k : ℕ) → model_conversation (assignment_of u g k) ≡ model_conversation (assignment_of t g k)
-    at g k = ap model_conversation (h.states g k) ∙ chosen (eqb agg g) (eqb conv k) g k refl refl
+same_flows t u agg conv p q h free = grind (arith, nat_tests)
 
 abbrev OffersEach : (ℕ → ℕ → ℕ → Type 0) → AggId → ℕ → SystemState → Result ℕ SystemFault → SystemState → Type 0
 OffersEach gives agg conv old answer new = (octets : List ℕ) → MayBeOffered octets → number_of_conversation old octets ≡ conv
@@ -223,24 +132,19 @@ first_given gives agg conv port p s t o = is_given gives agg conv port p s t (fi
 
 first_fits : (gives : ℕ → ℕ → ℕ → Type 0) (agg : AggId) (conv port p : ℕ) (s t : SystemState) → Offered gives agg conv port p s t
     → Fits t agg conv port
-first_fits gives agg conv port p s t o =
-    still_fits s t agg conv port conv (On p) (first_given gives agg conv port p s t o) (fits s agg conv port o.0 o.1)
+first_fits gives agg conv port p s t o = grind (arith, nat_tests)
 
 then_moved : (gives : ℕ → ℕ → ℕ → Type 0) (agg : AggId) (conv port p : ℕ) (s t u : SystemState) (moved : Result Unit SystemFault)
     → Offered gives agg conv port p s t → Moved agg conv port t moved u
     → (moved ≡ Ok tt) × GivesAssignment agg conv (Wanted p (Some port)) t u
-then_moved gives agg conv port p s t u moved o m =
-    is_moved agg conv port p t moved u (first_fits gives agg conv port p s t o)
-    (now_in s t agg conv (On p) (first_given gives agg conv port p s t o)) o.3 m
+then_moved gives agg conv port p s t u moved o m = grind (arith, nat_tests, is_moved, first_fits, now_in, first_given)
 
 then_forced : (gives : ℕ → ℕ → ℕ → Type 0) (agg : AggId) (conv port p : ℕ) (s t u v : SystemState) (moved forced : Result Unit SystemFault)
     → Offered gives agg conv port p s t → Moved agg conv port t moved u → Forced agg conv u forced v
     → (forced ≡ Ok tt) × GivesAssignment agg conv (Free (Some port)) u v × Fits v agg conv port
 then_forced gives agg conv port p s t u v moved forced o m h =
     let a = then_moved gives agg conv port p s t u moved o m in
-    let f = still_fits t u agg conv port conv (Wanted p (Some port)) a.1 (first_fits gives agg conv port p s t o) in
-    let b = is_forced agg conv port p u forced v f (now_in t u agg conv (Wanted p (Some port)) a.1) h in
-    (b.0, b.1, still_fits u v agg conv port conv (Free (Some port)) b.1 f)
+    grind (arith, nat_tests, still_fits, first_fits, is_forced, now_in)
 
 not_done : (fault : SystemFault) → ◌≡◌ {A = Result Unit SystemFault} (Err fault) (Ok tt) → ⊥
 not_done fault e = absurd cc

@@ -1,7 +1,7 @@
 -- Subsequences, and the elements at places.
-use Rattle.dataplane.proofs.Common.{List, None, Option, Some, [], ap, append_assoc, arith, inl, inr, length, refl, slice_get, slice_index, subst, suc}
-use Rattle.dataplane.proofs.Common.{sym, zero, ℕ, ◌++◌, ◌+◌, ◌<◌, ◌∙◌, ◌∷◌, ◌≡◌, common_steps, none-some, same_Some, option_to_list}
-use Rattle.dataplane.proofs.Common.{IsSubsequenceOfSerials, at_places, IsSubsequence}
+use Rattle.dataplane.proofs.Common.{List, Option, Some, [], ap, append_assoc, arith, inl, inr, length, refl, slice_get, slice_index, subst, suc, sym}
+use Rattle.dataplane.proofs.Common.{zero, ℕ, ◌++◌, ◌+◌, ◌<◌, ◌∙◌, ◌∷◌, ◌≡◌, common_steps, option_to_list, IsSubsequenceOfSerials, at_places}
+use Rattle.dataplane.proofs.Common.{IsSubsequence}
 
 one_more : {X : Type 0} (xs ys : List X) (y : X) → IsSubsequence xs ys → IsSubsequence xs (y ∷ ys)
 one_more [] ys y h = tt
@@ -16,14 +16,10 @@ in_turn (x ∷ xs) (y ∷ ys) (z ∷ zs) a (inr q) = inr (in_turn (x ∷ xs) (y 
 
 both : {X : Type 0} (xs ys : List X) (a b : Option X) → a ≡ b → IsSubsequence xs ys
     → IsSubsequence (option_to_list a ++ xs) (option_to_list b ++ ys)
-both xs ys None None e h = h
-both xs ys None (Some y) e h = absurd (none-some y e)
-both xs ys (Some x) None e h = absurd (none-some x (sym e))
-both xs ys (Some x) (Some y) e h = inl (same_Some x y e, h)
+both xs ys a b e h = grind arith
 
 more : {X : Type 0} (xs ys : List X) (b : Option X) → IsSubsequence xs ys → IsSubsequence xs (option_to_list b ++ ys)
-more xs ys None h = h
-more xs ys (Some y) h = one_more xs ys y h
+more xs ys b h = grind (arith, one_more)
 
 -- a subsequence of places has a subsequence of the elements
 pub fewer_places : {X : Type 0} (o : List X) (is js : List ℕ) → IsSubsequenceOfSerials is js → IsSubsequence (at_places o is) (at_places o js)

@@ -1,8 +1,7 @@
 -- The best aggregator so far.
-use Rattle.dataplane.proofs.Common.{Bool, List, None, Option, Some, [], ap, arith, eqb, eqb-true, false, if◌then◌else◌, inl, inr, length, option_map}
-use Rattle.dataplane.proofs.Common.{refl, subst, sym, true, ℕ, ◌+◌, ◌∙◌, ◌∷◌, ◌≡◌, ◌≢◌, ◌≤◌, ◌⊎◌, cases_Bool, eqb-false, none-some, same_Some, AggId}
-use Rattle.dataplane.proofs.Common.{Machines, aggregator_numbered, distributing, group_at, SystemState, machines_of, Rank, Carries, IsAggregator}
-use Rattle.dataplane.proofs.Common.{better, is_before, is_other, lesser, rank_by, rank_in}
+use Rattle.dataplane.proofs.Common.{Bool, None, Option, Some, [], ap, arith, eqb, eqb-true, false, if◌then◌else◌, inl, inr, option_map, refl, subst}
+use Rattle.dataplane.proofs.Common.{sym, true, ℕ, ◌+◌, ◌∙◌, ◌∷◌, ◌≡◌, ◌≢◌, ◌≤◌, ◌⊎◌, cases_Bool, eqb-false, none-some, same_Some, AggId}
+use Rattle.dataplane.proofs.Common.{aggregator_numbered, SystemState, Rank, Carries, IsAggregator, better, is_before, is_other, lesser, rank_in}
 use Rattle.dataplane.proofs.Ranks.{before_in_turn, else_before}
 
 -- a rank names its aggregator, and whether that is another one
@@ -10,21 +9,7 @@ abbrev Names : Option AggId → AggId → Rank → Type 0
 Names now agg r = (r.agg ≡ agg) × (r.is_other ≡ is_other now agg)
 
 pub names : (now : Option AggId) (s : SystemState) (agg : AggId) (r : Rank) → rank_in now s agg ≡ Some r → Names now agg r
-names now s agg r e = by_ports (distributing agg s.system_ports) e
-  where
-    by_ports : (ports : List ℕ) → rank_by now agg s ports ≡ Some r → Names now agg r
-    by_ports [] e = absurd (none-some r e)
-    by_ports (port ∷ ports) e = by_machines (machines_of port s) e
-      where
-        by_machines : (m : Option Machines) → option_map (λ (p : Machines). record {
-          on_defaults = p.defaulted;
-          ports = record { 0 = length (port ∷ ports) };
-          is_other = is_other now agg;
-          group = group_at p;
-          agg = agg;
-        }) m ≡ Some r → Names now agg r
-        by_machines None e = absurd (none-some r e)
-        by_machines (Some p) e = let same = same_Some _ r e in (sym (ap (λ (z : Rank). z.agg) same), sym (ap (λ (z : Rank). z.is_other) same))
+names now s agg r e = grind arith
 
 -- the best of the aggregators up to number n
 abbrev pub BestOf : Option AggId → SystemState → ℕ → Option Rank → Type 0
@@ -33,14 +18,8 @@ BestOf now s n (Some r) =
     IsAggregator s r.agg × (rank_in now s r.agg ≡ Some r) × (r.agg.0 ≤ n)
     × ((other : AggId) (q : Rank) → IsAggregator s other → other.0 ≤ n → other ≢ r.agg → rank_in now s other ≡ Some q → is_before r q ≡ true)
 
-pub none_yet : (now : Option AggId) (s : SystemState) → BestOf now s 0 None
-none_yet now s agg is below = absurd (let above = is.first in omega (arith, below, above))
-
 at_most : (other : AggId) (n : ℕ) → other.0 ≤ n + 1 → (other.0 ≤ n) ⊎ (other ≡ aggregator_numbered (n + 1))
-at_most other n l = elim (cases_Bool (eqb other.0 (n + 1))) [
-  | inl t ↦ inr (ap aggregator_numbered (eqb-true other.0 (n + 1) t))
-  | inr f ↦ (let apart = eqb-false other.0 (n + 1) f in inl (omega (arith, l, apart)))
-]
+at_most other n l = grind arith
 
 pub one_without : (now : Option AggId) (s : SystemState) (n : ℕ) (best : Option Rank) → BestOf now s n best
     → rank_in now s (aggregator_numbered (n + 1)) ≡ None → BestOf now s (n + 1) best
@@ -61,16 +40,7 @@ one_without now s n (Some r) b e = (
 pub one_more : (now : Option AggId) (s : SystemState) (n : ℕ) (best : Option Rank) (r : Rank) → BestOf now s n best
     → IsAggregator s (aggregator_numbered (n + 1)) → rank_in now s (aggregator_numbered (n + 1)) ≡ Some r
     → BestOf now s (n + 1) (Some (lesser best r))
-one_more now s n None r b is e =
-    let named : r.agg ≡ aggregator_numbered (n + 1) = (names now s (aggregator_numbered (n + 1)) r e).0 in (
-      subst (IsAggregator s) (sym named) is,
-      subst (λ a. rank_in now s a ≡ Some r) (sym named) e,
-      (let number = ap (λ (a : AggId). a.0) named in omega (arith, number)),
-      λ other q has l apart have. elim (at_most other n l) [
-        | inl below ↦ absurd (none-some q (sym (b other has below) ∙ have))
-        | inr here ↦ absurd (apart (here ∙ sym named))
-      ],
-    )
+one_more now s n None r b is e = grind arith
 one_more now s n (Some k) r b is e = by_order (is_before k r) refl
   where
     named : r.agg ≡ aggregator_numbered (n + 1)
@@ -107,8 +77,7 @@ one_more now s n (Some k) r b is e = by_order (is_before k r) refl
 
 pub one_better : (now : Option AggId) (s : SystemState) (n : ℕ) (best next : Option Rank) → BestOf now s n best
     → IsAggregator s (aggregator_numbered (n + 1)) → next ≡ rank_in now s (aggregator_numbered (n + 1)) → BestOf now s (n + 1) (better best next)
-one_better now s n best None b is e = one_without now s n best b (sym e)
-one_better now s n best (Some r) b is e = one_more now s n best r b is (sym e)
+one_better now s n best next b is e = grind (arith, one_without, one_more)
 
 pub best_carries : (now : Option AggId) (s : SystemState) (n : ℕ) (best : Option Rank) → BestOf now s n best
     → ((agg : AggId) → IsAggregator s agg → agg.0 ≤ n) → Carries now s (option_map (λ (r : Rank). r.agg) best)

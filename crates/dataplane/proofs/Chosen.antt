@@ -1,7 +1,7 @@
 -- What follows of the aggregators that are chosen.
-use Rattle.dataplane.proofs.Common.{Bool, None, Option, Some, ap, eq-eqb, eqb, eqb-true, false, inl, inr, not, refl, subst, sym, true, ◌==◌, ◌∙◌, ◌≡◌}
-use Rattle.dataplane.proofs.Common.{◌≢◌, ◌⊎◌, cases_Bool, eqb-false, none-some, same_Some, AggId, aggregator_numbered, SystemState, Rank, Carries}
-use Rattle.dataplane.proofs.Common.{IsAggregator, is_before, rank_in, Alike, HasMore, ShowTheSame}
+use Rattle.dataplane.proofs.Common.{Bool, None, Option, Some, ap, eq-eqb, false, inl, inr, not, refl, subst, sym, true, ◌==◌, ◌∙◌, ◌≡◌, ◌≢◌, ◌⊎◌}
+use Rattle.dataplane.proofs.Common.{same_Some, AggId, SystemState, Rank, Carries, IsAggregator, is_before, rank_in, Alike, HasMore, ShowTheSame}
+use native.Mathlib.Omega.{arith}
 use Rattle.dataplane.proofs.Best.{names}
 use Rattle.dataplane.proofs.Ranks.{alike, has_more}
 
@@ -9,17 +9,12 @@ abbrev renumbered : Rank → AggId → Rank
 renumbered r agg = record r { agg = agg }
 
 same_or_not : (a b : AggId) → (a ≡ b) ⊎ (a ≢ b)
-same_or_not a b = elim (cases_Bool (eqb a.0 b.0)) [
-  | inl t ↦ inl (ap aggregator_numbered (eqb-true a.0 b.0 t))
-  | inr f ↦ inr (λ e. eqb-false a.0 b.0 f (ap (λ (z : AggId). z.0) e))
-]
+same_or_not a b = grind arith
 
 pub ends_alike : (s t : SystemState) (g h : Option AggId) → ShowTheSame s t → Carries None s g → Carries None t h → Alike s g t h
 ends_alike s t None None x a b = tt
-ends_alike s t None (Some h) x a b =
-    let other = x.back h b.1 b.0 b.2 in absurd (none-some (renumbered b.1 other.0) (sym (a other.0 other.1) ∙ other.2))
-ends_alike s t (Some g) None x a b =
-    let other = x.there g a.1 a.0 a.2 in absurd (none-some (renumbered a.1 other.0) (sym (b other.0 other.1) ∙ other.2))
+ends_alike s t None (Some h) x a b = grind arith
+ends_alike s t (Some g) None x a b = grind arith
 ends_alike s t (Some g) (Some h) x a b = (
   r,
   a.2,
@@ -55,8 +50,7 @@ ends_alike s t (Some g) (Some h) x a b = (
     numbered = λ i. record q { agg = named i }
 
 another : (a b : AggId) (t : Bool) → (b.0 == a.0) ≡ t → a ≢ b → not t ≡ true
-another a b true e n = absurd (n (ap aggregator_numbered (sym (eqb-true b.0 a.0 e))))
-another a b false e n = refl
+another a b t e n = grind arith
 
 itself : (a : AggId) → not (a.0 == a.0) ≡ false
 itself a = ap not (eq-eqb a.0 a.0 refl)

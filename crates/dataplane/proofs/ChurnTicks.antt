@@ -1,6 +1,6 @@
 -- What ticks make of a churn detection machine.
 use Rattle.dataplane.proofs.Common.{Bool, List, [], arith, false, if◌then◌else◌, inl, inr, nat_lt, not, refl, sym, true, ℕ, ◌&&◌, ◌+◌, ◌<◌, ◌==◌, ◌∙◌}
-use Rattle.dataplane.proofs.Common.{◌∷◌, ◌≡◌, ◌≤◌, ◌⊎◌, cases_Bool, eqb_tells, nat_tests, counted}
+use Rattle.dataplane.proofs.Common.{◌∷◌, ◌≡◌, ◌≤◌, ◌⊎◌, eqb_tells, nat_tests, counted}
 use Rattle.dataplane.specs.declared.churn.ChurnMachine.{ChurnMachine}
 use Rattle.dataplane.specs.declared.churn.ChurnState.{ChurnState}
 use Rattle.dataplane.specs.declared.churn.ChurnState.TheVariants.{Monitor, NoChurn, Churn}
@@ -26,27 +26,14 @@ FitsMachine m n b = Fits m.state m.waited n b
 
 -- whether a number is less, as test and as fact
 less_tells : (a b : ℕ) → ((nat_lt a b ≡ true) × (a < b)) ⊎ ((nat_lt a b ≡ false) × (b ≤ a))
-less_tells a b = elim (cases_Bool (nat_lt a b)) [
-  | inl e ↦ inl (e, grind (arith, nat_tests))
-  | inr e ↦ inr (e, grind (arith, nat_tests))
-]
+less_tells a b = grind (arith, nat_tests)
 
 -- the timer goes on from a machine that is not in CHURN
 goes_on : (s : ChurnState) (w c y k : ℕ) → 0 < k → k ≤ 600 → FitsMachine (monitoring k (machine s w c y)) k false
-goes_on s w c y k p l =
-    elim (less_tells k 600) [
-      | inl e ↦ rw (e.0) (refl, e.1, refl)
-      | inr e ↦ rw (e.0) (e.1, refl)
-    ]
+goes_on s w c y k p l = grind (arith, nat_tests)
 
 fits_tick : (st : ChurnState) (w c y n : ℕ) (b e s : Bool) → Fits st w n b → FitsMachine (churn_row e s (machine st w c y)) (run e s n) (e && s)
-fits_tick st w c y n b false s f = (refl, omega arith, refl)
-fits_tick Monitor w c y n b true true f = (refl, refl)
-fits_tick NoChurn w c y n b true true f = (refl, refl)
-fits_tick Churn w c y n b true true f = (refl, refl)
-fits_tick Monitor w c y n b true false f = rw (← f.0) (goes_on Monitor w c y (w + 1) (omega arith) (omega (arith, f.0, f.1)))
-fits_tick NoChurn w c y n b true false f = (omega (arith, f.0), omega (arith, f.0), refl)
-fits_tick Churn w c y n b true false f = (omega (arith, f.0), refl)
+fits_tick st w c y n b e s f = grind (arith, nat_tests)
 
 -- each list of ticks
 fits : (ticks : List Found) → FitsMachine (machine_after ticks) (ticks_out_of_sync ticks) (is_in_sync ticks)
@@ -57,9 +44,7 @@ fits (f ∷ earlier) =
 
 -- what fits has this state
 told : (s : ChurnState) (w n : ℕ) (b : Bool) → Fits s w n b → s ≡ (if b then NoChurn else if nat_lt n 600 then Monitor else Churn)
-told Monitor w n b f = elim (less_tells n 600) [ inl e ↦ rw (f.2, e.0) refl | inr e ↦ absurd (omega (arith, f.1, e.1)) ]
-told NoChurn w n b f = rw (f.1) refl
-told Churn w n b f = elim (less_tells n 600) [ inl e ↦ absurd (omega (arith, f.0, e.1)) | inr e ↦ rw (f.1, e.0) refl ]
+told s w n b f = grind (arith, nat_tests)
 
 pub state : (ticks : List Found) → (machine_after ticks).state ≡ state_told ticks
 state ticks = told _ (machine_after ticks).waited _ _ (fits ticks)
@@ -78,11 +63,7 @@ is_full : (n t : ℕ) → n ≡ 600 → full n t ≡ t + 1
 is_full n t d = rw d refl
 
 counts_timer : (s : ChurnState) (w c y k t : ℕ) → k ≤ 600 → c ≡ counted 0 t → (monitoring k (machine s w c y)).churns ≡ counted 0 (full k t)
-counts_timer s w c y k t l e =
-    elim (less_tells k 600) [
-      | inl d ↦ rw (d.0, not_full k t (λ q. absurd (omega (arith, q, d.1)))) e
-      | inr d ↦ rw (d.0, is_full k t (omega (arith, l, d.1)), e) (counted_more t)
-    ]
+counts_timer s w c y k t l e = grind (arith, nat_tests, less_tells, not_full, is_full, counted_more)
 
 counts_tick : (st : ChurnState) (w c y n t : ℕ) (b e s : Bool) → Fits st w n b → c ≡ counted 0 t
     → (churn_row e s (machine st w c y)).churns ≡ counted 0 (full (run e s n) t)

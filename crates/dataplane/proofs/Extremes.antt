@@ -81,7 +81,4 @@ alike (r ∷ ports) carried p q c none i j =
 
 pub none : (ports : List ℕ) (carried : List Carried) (m : Move) → CountsOne carried
     → ((p q : ℕ) → Contains ports p → Contains ports q → load_on p carried ≤ load_on q carried + 1) → IsMove ports carried m → ⊥
-none ports carried m c near is =
-    let one : (conversation_at carried m.conversation).load ≡ 1 = one_at carried m.conversation c is.there in
-    let close : load_on (conversation_at carried m.conversation).port carried ≤ load_on m.port carried + 1 = near (conversation_at carried m.conversation).port m.port is.from is.to in
-    omega (arith, one, close, is.gains)
+none ports carried m c near is = grind arith

@@ -1,18 +1,15 @@
 -- A conversation number stays in one aggregator.
-use Rattle.dataplane.proofs.Common.{Bool, Err, IfOk, List, None, Ok, Option, Result, Some, [], ap, arith, eqb, eqb-true, false, if◌then◌else◌, inl}
-use Rattle.dataplane.proofs.Common.{inr, length, nat_le, nat_lt, refl, slice_get, subst, suc, sym, true, zero, ℕ, ◌-◌, ◌<◌, ◌^◌, ◌∷◌, ◌≡◌, ◌≢◌, ◌⊎◌}
-use Rattle.dataplane.proofs.Common.{and_parts, cases_Bool, eqb-false, nat_tests, none-some, AggId, Key, OnItsCable, Act, LawfulMoves, Sends_frame}
-use Rattle.dataplane.proofs.Common.{Conversation, Flushing, ModelCall, SystemSetup, View, Side, World, WorldSetup, Assignment, Reply, SystemFault}
-use Rattle.dataplane.proofs.Common.{OffersConversation, OffersIf, frame_of_conversation, Call, Configure, Force, Move_conversation, Offer, Receive}
-use Rattle.dataplane.proofs.Common.{Set_link, Tick, Transmit, IsFirst, EffectsSeenAs, JoinedByLawfulMoves, model_setup, model_view, GivesOrRefuses}
-use Rattle.dataplane.proofs.Common.{MayBeOffered, MayBeOfferedTo, has_aggregator, is_frame_length, longest_frame, aggregator_numbered}
-use Rattle.dataplane.proofs.Common.{conversation_count, conversation_in, number_of_conversation, CallPromise, SystemState, framed, IsAggregator}
-use Rattle.dataplane.proofs.Common.{IsElsewhere, IsHeldElsewhere, IsInOneAggregator, IsNoOffer, IsNumberElsewhere, FreeElsewhere}
-use Rattle.dataplane.proofs.Common.{NoneOnItsWayElsewhere, SendsNoFrame}
-use Rattle.lagmodel.specs.View.{Free, On, Wanted}
-use Rattle.lagsystem.specs.Calls.{Restart}
+use Rattle.dataplane.proofs.Common.{Bool, Err, IfOk, List, Ok, Option, Result, [], ap, arith, eqb, eqb-true, false, if◌then◌else◌, inl, inr, length}
+use Rattle.dataplane.proofs.Common.{nat_lt, refl, slice_get, subst, suc, sym, true, zero, ℕ, ◌-◌, ◌<◌, ◌^◌, ◌∷◌, ◌≡◌, ◌≢◌, ◌⊎◌, cases_Bool, eqb-false}
+use Rattle.dataplane.proofs.Common.{nat_tests, none-some, AggId, Key, OnItsCable, Act, LawfulMoves, Sends_frame, Conversation, ModelCall, SystemSetup}
+use Rattle.dataplane.proofs.Common.{View, Side, World, WorldSetup, Assignment, Reply, SystemFault, OffersConversation, OffersIf}
+use Rattle.dataplane.proofs.Common.{frame_of_conversation, Call, Force, Move_conversation, Offer, Transmit, IsFirst, EffectsSeenAs}
+use Rattle.dataplane.proofs.Common.{JoinedByLawfulMoves, model_setup, model_view, GivesOrRefuses, MayBeOffered, MayBeOfferedTo, has_aggregator}
+use Rattle.dataplane.proofs.Common.{is_frame_length, aggregator_numbered, conversation_count, conversation_in, number_of_conversation, CallPromise}
+use Rattle.dataplane.proofs.Common.{SystemState, framed, IsAggregator, IsElsewhere, IsHeldElsewhere, IsInOneAggregator, IsNoOffer, IsNumberElsewhere}
+use Rattle.dataplane.proofs.Common.{FreeElsewhere, NoneOnItsWayElsewhere, SendsNoFrame}
+use Rattle.lagmodel.specs.View.{Free}
 use Rattle.lagsystem.specs.declared.drive.Reply.TheVariants as reply
-use Rattle.lagsystem.specs.declared.received.Received.TheVariants.{Disabled, Dropped, Ignored, TookLacpdu, Respond, Released, Up}
 use Rattle.lagsystem.specs.Forcing.{ForcesFirst, ForcesIfHeld, ForcesIn, ForcesPort}
 use Rattle.lagsystem.specs.Probing.{ProbesLawfully}
 use Rattle.lagsystem.specs.Promises.{TablePromise}
@@ -29,10 +26,7 @@ as_many (k ∷ ks) (m ∷ ls) (suc n) e l = let rest = as_many ks ls n (λ i. e 
 still_there : (old new : SystemState) (agg : AggId) → model_setup new ≡ model_setup old → IsAggregator old agg → IsAggregator new agg
 still_there old new agg same is =
     let keys : (i : ℕ) → slice_get new.keys i ≡ slice_get old.keys i = λ i. ap (λ (u : SystemSetup). u.key (suc i)) same in
-    let first = is.first in
-    let last = is.last in
-    let within = as_many old.keys new.keys (agg.0 - 1) keys (omega (arith, first, last)) in
-    record { first = is.first; last = omega (arith, first, within); number = is.number }
+    grind (arith, nat_tests, as_many)
 
 none : {n : List Act} → n ≡ [] → SendsNoFrame n
 none e = subst SendsNoFrame (sym e) tt
@@ -40,40 +34,7 @@ none e = subst SendsNoFrame (sym e) tt
 -- a call that is no offer sends no frame
 no_frame : (s : SystemState) (call : Call) (answer : Reply) (acts : List Act) → IsNoOffer call → EffectsSeenAs s call answer acts
     → SendsNoFrame acts
-no_frame s (Receive n octets) (reply.Receive (Ok TookLacpdu)) acts x e = subst SendsNoFrame (sym e.2) tt
-no_frame s (Receive n octets) (reply.Receive (Ok (Respond frame))) acts x e = subst SendsNoFrame (sym e.2) tt
-no_frame s (Receive n octets) (reply.Receive (Ok Disabled)) acts x e = none e
-no_frame s (Receive n octets) (reply.Receive (Ok Dropped)) acts x e = none e
-no_frame s (Receive n octets) (reply.Receive (Ok (Ignored fault))) acts x e = none e
-no_frame s (Receive n octets) (reply.Receive (Ok (Released count))) acts x e = none e
-no_frame s (Receive n octets) (reply.Receive (Ok (Up agg))) acts x e = none e
-no_frame s (Receive n octets) (reply.Receive (Err fault)) acts x e = none e
-no_frame s (Receive n octets) reply.Tick acts x e = none e
-no_frame s (Receive n octets) (reply.SetLink r) acts x e = none e
-no_frame s (Receive n octets) (reply.Configure r) acts x e = none e
-no_frame s (Receive n octets) reply.Restart acts x e = none e
-no_frame s (Receive n octets) (reply.Transmit r) acts x e = none e
-no_frame s (Receive n octets) (reply.Offer r) acts x e = none e
-no_frame s (Receive n octets) (reply.MoveConversation r) acts x e = none e
-no_frame s (Receive n octets) (reply.Force r) acts x e = none e
-no_frame s (Transmit n) (reply.Transmit (Ok (Some frame))) acts x e = subst SendsNoFrame (sym e.2) tt
-no_frame s (Transmit n) (reply.Transmit (Ok None)) acts x e = none e
-no_frame s (Transmit n) (reply.Transmit (Err fault)) acts x e = none e
-no_frame s (Transmit n) (reply.Receive r) acts x e = none e
-no_frame s (Transmit n) reply.Tick acts x e = none e
-no_frame s (Transmit n) (reply.SetLink r) acts x e = none e
-no_frame s (Transmit n) (reply.Configure r) acts x e = none e
-no_frame s (Transmit n) reply.Restart acts x e = none e
-no_frame s (Transmit n) (reply.Offer r) acts x e = none e
-no_frame s (Transmit n) (reply.MoveConversation r) acts x e = none e
-no_frame s (Transmit n) (reply.Force r) acts x e = none e
-no_frame s Tick answer acts x e = none e
-no_frame s (Set_link n up) answer acts x e = none e
-no_frame s (Configure n change) answer acts x e = none e
-no_frame s Restart answer acts x e = none e
-no_frame s (Offer agg octets) answer acts x e = absurd x
-no_frame s (Move_conversation agg conv port) answer acts x e = none e
-no_frame s (Force agg conv) answer acts x e = none e
+no_frame s call answer acts x e = grind (arith, nat_tests)
 
 -- moves that send no frame
 quietly : (old new : SystemState) (call : ModelCall) (acts : List Act) → SendsNoFrame acts
@@ -106,10 +67,7 @@ first s h =
     record { there = λ g k busy. absurd (busy (free g k)); one = λ g h k a b. absurd (a (free g k)) }
 
 free_or_not : (c : Conversation) → (c ≡ Free) ⊎ (c ≢ Free)
-free_or_not Free = inl refl
-free_or_not (On p) = inr (λ e. absurd cc)
-free_or_not (Wanted p) = inr (λ e. absurd cc)
-free_or_not (Flushing p n) = inr (λ e. absurd cc)
+free_or_not c = grind (arith, nat_tests)
 
 pub free_elsewhere : (s : SystemState) (agg : AggId) (conv : ℕ) → IsInOneAggregator s → (IsElsewhere s agg conv → ⊥)
     → FreeElsewhere (model_view s) agg.0 conv
@@ -125,25 +83,15 @@ behind x w s t agg conv on e i not =
 
 long_enough : (s : SystemState) (agg : AggId) (octets : List ℕ) → is_frame_length octets ≡ true
     → (IsHeldElsewhere s agg (conversation_in s octets) → ⊥) → IsElsewhere s agg (number_of_conversation s octets) → ⊥
-long_enough s agg octets l not = by_length (nat_lt (length octets) 14) refl
-  where
-    by_length : (t : Bool) → nat_lt (length octets) 14 ≡ t → IsElsewhere s agg (number_of_conversation s octets) → ⊥
-    by_length true e = λ z. let both = and_parts (nat_le 14 (length octets)) (nat_le (length octets) longest_frame) l in
-        let long = both.0 in absurd (grind (arith, nat_tests))
-    by_length false e = λ z. not (subst (λ b. IsHeldElsewhere s agg (if b then None else Some (number_of_conversation s octets))) (sym e) z)
+long_enough s agg octets l not = grind (arith, nat_tests)
 
 there : (s : SystemState) (agg : AggId) → agg.0 < 2 ^ 16 → has_aggregator s agg ≡ true → IsAggregator s agg
-there s agg l h =
-    let both = and_parts (nat_lt 0 agg.0) (nat_le agg.0 (length s.keys)) h in
-    let above = both.0 in
-    let below = both.1 in
-    record { first = grind (arith, nat_tests); last = grind (arith, nat_tests); number = l }
+there s agg l h = grind (arith, nat_tests)
 
 pub offered : (gives : ℕ → ℕ → ℕ → Type 0) (old : SystemState) (agg : AggId) (octets : List ℕ) (answer : Result ℕ SystemFault)
     (new : SystemState) → agg.0 < 2 ^ 16 → CallPromise gives old (Offer agg octets) (reply.Offer answer) new
     → (IsHeldElsewhere old agg (conversation_in old octets) → ⊥) → IsInOneAggregator old → IsInOneAggregator new
-offered gives old agg octets (Err fault) new l p not i =
-    let m = p.moves in quietly old new m.0 m.1 (none m.3) m.4 p.configured i
+offered gives old agg octets (Err fault) new l p not i = grind (arith, nat_tests)
 offered gives old agg octets (Ok port) new l p not i = record {
   there = stands;
   one = staying.sent u m.0 (model_view old) (model_view new) port agg.0 conv moves
@@ -183,8 +131,7 @@ frame_elsewhere s agg conv l z = (l, subst (λ k. IsElsewhere s agg k) (framed s
 -- a number from the count on is refused
 nothing : (gives : ℕ → ℕ → ℕ → Type 0) (old : SystemState) (agg : AggId) (conv : ℕ) (answer : Result ℕ SystemFault)
     (new : SystemState) (there : Bool) → OffersIf there false gives agg conv old answer new → new ≡ old
-nothing gives old agg conv answer new false h = h.1
-nothing gives old agg conv answer new true h = h.1
+nothing gives old agg conv answer new there h = grind (arith, nat_tests)
 
 pub offered_by_number : (gives : ℕ → ℕ → ℕ → Type 0) (old : SystemState) (agg : AggId) (conv : ℕ) (answer : Result ℕ SystemFault)
     (new : SystemState) → agg.0 < 2 ^ 16 → OffersConversation gives agg conv old answer new
@@ -220,8 +167,7 @@ forced_first gives port (suc g) old n new h i = forced_in gives port (aggregator
 
 pub forced : (gives : ℕ → ℕ → ℕ → Type 0) (port : ℕ) (old : SystemState) (answer : Result ℕ SystemFault) (new : SystemState)
     → ForcesPort gives port old answer new → IsInOneAggregator old → IsInOneAggregator new
-forced gives port old (Ok n) new h i = forced_first gives port (length old.keys) old n new h.1 i
-forced gives port old (Err fault) new h i = subst IsInOneAggregator (sym h.same) i
+forced gives port old answer new h i = grind (arith, nat_tests, forced_first)
 
 -- a rest is a force, or is refused and changes nothing
 pub rested : (gives : ℕ → ℕ → ℕ → Type 0) (agg : AggId) (conv : ℕ) (old : SystemState) (answer : Result Unit SystemFault) (new : SystemState)

@@ -1,7 +1,6 @@
 -- The loads of ports, where conversations move.
-use Rattle.dataplane.proofs.Common.{List, ap, arith, cond, eq-eqb, eqb, inl, inr, length, refl, slice_set, suc, sym, zero, ℕ, ◌*◌, ◌+◌, ◌-◌, ◌<◌, ◌∙◌}
-use Rattle.dataplane.proofs.Common.{◌≡◌, ◌≢◌, eqb_tells, sum_by-set, sum_by, Carried, Move, IsMove, conversation_at, load_on, AllDiffer, moved}
-use Rattle.dataplane.proofs.Common.{squares}
+use Rattle.dataplane.proofs.Common.{List, ap, arith, cond, eq-eqb, eqb, inl, inr, length, refl, slice_set, suc, zero, ℕ, ◌*◌, ◌+◌, ◌-◌, ◌<◌, ◌∙◌, ◌≡◌}
+use Rattle.dataplane.proofs.Common.{◌≢◌, eqb_tells, sum_by-set, sum_by, Carried, Move, IsMove, conversation_at, load_on, AllDiffer, moved, squares}
 use Rattle.dataplane.proofs.Sums.{among, two_differ}
 
 pub hits : (a p w : ℕ) → a ≡ p → cond (eqb a p) w 0 ≡ w
@@ -14,9 +13,7 @@ misses a p w n = elim (eqb_tells a p) [ inl s ↦ absurd (n s.1) | inr s ↦ ap 
 after_move : (carried : List Carried) (m : Move) (p : ℕ) → m.conversation < length carried
     → load_on p (moved carried m) + cond (eqb (conversation_at carried m.conversation).port p) (conversation_at carried m.conversation).load 0
     ≡ load_on p carried + cond (eqb m.port p) (conversation_at carried m.conversation).load 0
-after_move carried m p l =
-    sum_by-set (λ one. cond (eqb one.port p) one.load 0) carried m.conversation
-    (record { port = m.port; load = (conversation_at carried m.conversation).load }) (record { port = 0; load = 0 }) l
+after_move carried m p l = grind (arith, sum_by-set, eqb, conversation_at)
 
 pub record Shift (f g : ℕ → ℕ) (a b w : ℕ) : Type 0 where
   pub apart : a ≢ b
@@ -29,15 +26,7 @@ shift : (carried : List Carried) (k a b w : ℕ) → k < length carried → (con
 shift carried k a b w l ea ew apart =
     let at : (p : ℕ) → load_on p (slice_set carried k (record { port = b; load = (conversation_at carried k).load })) + cond (eqb (conversation_at carried k).port p) (conversation_at carried k).load 0
     ≡ load_on p carried + cond (eqb b p) (conversation_at carried k).load 0 = λ p. after_move carried (record { conversation = k; port = b }) p l in
-    record {
-      apart = apart;
-      from = let e = at a in let h = hits (conversation_at carried k).port a (conversation_at carried k).load ea in
-          let n = misses b a (conversation_at carried k).load (λ e. apart (sym e)) in omega (arith, e, h, n, ew);
-      to = let e = at b in let h = hits b b (conversation_at carried k).load refl in
-          let n = misses (conversation_at carried k).port b (conversation_at carried k).load (λ e. apart (sym ea ∙ e)) in omega (arith, e, h, n, ew);
-      other = λ p na nb. let e = at p in let h = misses b p (conversation_at carried k).load (λ e. nb (sym e)) in
-          let n = misses (conversation_at carried k).port p (conversation_at carried k).load (λ e. na (sym e ∙ ea)) in omega (arith, e, h, n);
-    }
+    grind (arith, hits, conversation_at, misses)
 
 -- what a move does to the loads
 pub shift_of : (ports : List ℕ) (carried : List Carried) (m : Move) → IsMove ports carried m
@@ -54,10 +43,7 @@ squares_fall x v d = omega arith
 -- the load w of one of two ports goes to the other
 squares_less : (fa fb ga gb w d : ℕ) → 0 < w → fb + w + suc d ≡ fa → ga + w ≡ fa → gb ≡ fb + w → ga * ga + gb * gb < fa * fa + fb * fb
 squares_less fa fb ga gb zero d l e g h = absurd (omega (arith, l))
-squares_less fa fb ga gb (suc v) d l e g h =
-    let less : (fb + suc d) * (fb + suc d) + (fb + suc v) * (fb + suc v) < (fb + suc v + suc d) * (fb + suc v + suc d) + fb * fb = squares_fall fb v d in
-    let a : ga ≡ fb + suc d = omega (arith, e, g) in
-    rw (a, h, ← e) less
+squares_less fa fb ga gb (suc v) d l e g h = grind (arith, squares_fall)
 
 less_by : (x y : ℕ) → x < y → (d : ℕ) × (x + suc d ≡ y)
 less_by x y l = (y - suc x, omega (arith, l))

@@ -1,5 +1,6 @@
 -- Calls and their replies, one after another.
-use Rattle.dataplane.proofs.Common.{List, [], inl, inr, map, refl, ◌∷◌, ◌≡◌, ◌⊎◌, Reply, SystemPort, call_of, notes_after_all}
+use native.Mathlib.Omega.{arith}
+use Rattle.dataplane.proofs.Common.{List, [], map, refl, ◌∷◌, ◌≡◌, ◌⊎◌, Reply, SystemPort, call_of, notes_after_all}
 use Rattle.lagsystem.specs.declared.drive.Call.{Call}
 use Rattle.dataplane.specs.declared.answering.marker_note.MarkerNote.{MarkerNote}
 
@@ -10,5 +11,4 @@ no_reply (call ∷ calls) ports notes = refl
 -- once the calls or the replies are through, the notes stay
 pub no_more : (calls : List Call) (replies : List Reply) (ports : List SystemPort) (notes : List MarkerNote)
     → (calls ≡ []) ⊎ (replies ≡ []) → notes_after_all (map call_of calls) replies ports notes ≡ notes
-no_more calls replies ports notes (inl e) = rw e refl
-no_more calls replies ports notes (inr e) = rw e (no_reply calls ports notes)
+no_more calls replies ports notes h = grind (arith, no_reply)

@@ -1,12 +1,11 @@
 -- A frame that ends before the fields of a marker.
-use Rattle.dataplane.proofs.Common.{Bool, List, ap, arith, false, length, refl, true, ℕ, ◌<◌, ◌∙◌, ◌≡◌, common_steps, length-drop, length-take}
+use Rattle.dataplane.proofs.Common.{Bool, List, ap, arith, false, length, true, ℕ, ◌<◌, ◌∙◌, ◌≡◌, common_steps, length-drop, length-take, nat_le}
 use Rattle.dataplane.proofs.Common.{is_to_marker, requester}
 use Rattle.std.proofs.lemmas.Slice.Eq.{bytes_eq-Decides}
-use Rattle.std.specs.Prelude.{drop, nat_le}
+use Rattle.std.specs.Prelude.{drop}
 
 not_true : (b : Bool) → (b ≡ true → ⊥) → false ≡ b
-not_true true n = absurd (n refl)
-not_true false n = refl
+not_true b n = grind arith
 
 -- it has too few octets to be a response to a marker
 pub too_short : (marker frame : List ℕ) → length marker ≡ 12 → length frame < 30 → nat_le 30 (length frame) ≡ is_to_marker marker frame

@@ -1,8 +1,7 @@
 -- What the counts of a list of calls are.
-use Rattle.dataplane.proofs.Common.{List, None, Option, Some, [], ap, arith, cond, eq-eqb, is_some, length, map, refl, sym, ℕ, ◌++◌, ◌+◌, ◌<◌, ◌^◌}
-use Rattle.dataplane.proofs.Common.{◌∙◌, ◌∷◌, ◌≡◌, take-length, is_none, Refusal, HoldingValue, counted, queue, refusal, with_queue, Clear}
-use Rattle.dataplane.proofs.Common.{DropOldest, Dropped, Next, Put, QueueCall, Sent, after, gone, after_all, all_dropped, all_handed_back}
-use Rattle.dataplane.proofs.Common.{conversation_of, handed_back, number_dropped}
+use Rattle.dataplane.proofs.Common.{List, Option, [], ap, arith, cond, eq-eqb, is_some, length, map, refl, sym, ℕ, ◌++◌, ◌+◌, ◌<◌, ◌^◌, ◌∙◌, ◌∷◌, ◌≡◌}
+use Rattle.dataplane.proofs.Common.{take-length, is_none, Refusal, HoldingValue, counted, queue, refusal, with_queue, Dropped, QueueCall, Sent, after}
+use Rattle.dataplane.proofs.Common.{gone, after_all, all_dropped, all_handed_back, conversation_of, handed_back, number_dropped}
 use Rattle.dataplane.proofs.QueueViews.{counted_is}
 
 counted_nothing : (d : ℕ) → d < 2 ^ 64 → counted d 0 ≡ d
@@ -24,15 +23,11 @@ number_of_dropped (x ∷ xs) = let e : number_dropped (map Dropped xs) ≡ lengt
 
 one_put : {X : Type 0} (h : HoldingValue X) (c : ℕ) (x : X) (o : Option Refusal)
     → (cond (is_none o) (with_queue h c (queue h c ++ x ∷ [])) (record h { refused = counted h.refused 1 })).dropped ≡ h.dropped
-one_put h c x None = refl
-one_put h c x (Some f) = refl
+one_put h c x o = grind arith
 
 one_drop : {X : Type 0} (call : QueueCall X) (h : HoldingValue X) → h.dropped < 2 ^ 64
     → (after call h).dropped ≡ counted h.dropped (number_dropped (gone (conversation_of call) call h))
-one_drop (Put c x) h b = one_put h c x (refusal h c) ∙ sym (counted_nothing h.dropped b)
-one_drop (Next c) h b = rw (eq-eqb c c refl, number_sent) (sym (counted_nothing h.dropped b))
-one_drop (DropOldest c) h b = rw (eq-eqb c c refl, number_of_dropped) refl
-one_drop (Clear c) h b = rw (eq-eqb c c refl, number_of_dropped, take-length) refl
+one_drop call h b = grind (arith, one_put, refusal, counted_nothing, eq-eqb, number_sent, number_of_dropped, take-length)
 
 pub dropped : {X : Type 0} (calls : List (QueueCall X)) (h : HoldingValue X) → h.dropped < 2 ^ 64
     → (after_all calls h).dropped ≡ counted h.dropped (all_dropped calls h)
@@ -46,15 +41,11 @@ dropped (call ∷ calls) h b =
 one_refused_put : {X : Type 0} (h : HoldingValue X) (c : ℕ) (x : X) (o : Option Refusal) → h.refused < 2 ^ 64
     → (cond (is_none o) (with_queue h c (queue h c ++ x ∷ [])) (record h { refused = counted h.refused 1 })).refused
     ≡ counted h.refused (cond (is_some o) 1 0)
-one_refused_put h c x None b = sym (counted_nothing h.refused b)
-one_refused_put h c x (Some f) b = refl
+one_refused_put h c x o b = grind (arith, counted_nothing)
 
 one_refused : {X : Type 0} (call : QueueCall X) (h : HoldingValue X) → h.refused < 2 ^ 64
     → (after call h).refused ≡ counted h.refused (handed_back call h)
-one_refused (Put c x) h b = one_refused_put h c x (refusal h c) b
-one_refused (Next c) h b = sym (counted_nothing h.refused b)
-one_refused (DropOldest c) h b = sym (counted_nothing h.refused b)
-one_refused (Clear c) h b = sym (counted_nothing h.refused b)
+one_refused call h b = grind (arith, one_refused_put, refusal, counted_nothing)
 
 pub refused : {X : Type 0} (calls : List (QueueCall X)) (h : HoldingValue X) → h.refused < 2 ^ 64
     → (after_all calls h).refused ≡ counted h.refused (all_handed_back calls h)

@@ -1,9 +1,9 @@
 -- What every list of calls keeps.
-use Rattle.dataplane.proofs.Common.{Bool, List, None, Option, Some, [], ap, append-nil, append_assoc, arith, cond, drop, eqb, eqb-true, false, get_or}
-use Rattle.dataplane.proofs.Common.{inl, inr, length, map, refl, slice_set, suc, sym, take, true, zero, ℕ, ◌&&◌, ◌++◌, ◌<◌, ◌∙◌, ◌∷◌, ◌≡◌, ◌≢◌}
-use Rattle.dataplane.proofs.Common.{take-length, eqb-false, common_steps, get_or-set_other, get_or-set_same, map-append, is_none, Refusal}
-use Rattle.dataplane.proofs.Common.{HoldingValue, counted, queue, refusal, with_queue, Clear, DropOldest, Dropped, Gone, Next, Put, QueueCall, Sent}
-use Rattle.dataplane.proofs.Common.{accepted, after, gone, IsSubsequence, after_all, all_accepted, all_gone, all_sent, handle_of}
+use Rattle.dataplane.proofs.Common.{Bool, List, None, Option, [], ap, append-nil, append_assoc, arith, cond, drop, eqb, eqb-true, get_or, inl, inr}
+use Rattle.dataplane.proofs.Common.{length, map, refl, slice_set, suc, sym, take, zero, ℕ, ◌&&◌, ◌++◌, ◌<◌, ◌∙◌, ◌∷◌, ◌≡◌, ◌≢◌, take-length}
+use Rattle.dataplane.proofs.Common.{eqb-false, common_steps, get_or-set_other, get_or-set_same, map-append, is_none, Refusal, HoldingValue, counted}
+use Rattle.dataplane.proofs.Common.{queue, refusal, with_queue, Clear, DropOldest, Dropped, Gone, Next, Put, QueueCall, Sent, accepted, after, gone}
+use Rattle.dataplane.proofs.Common.{IsSubsequence, after_all, all_accepted, all_gone, all_sent, handle_of}
 
 -- a queue that loses its first n handles
 pub queue_loses : {X : Type 0} (qs : List (List X)) (c n : ℕ) → get_or (slice_set qs c (drop n (get_or qs c []))) c [] ≡ drop n (get_or qs c [])
@@ -31,24 +31,14 @@ take_drop n q = grind (arith, common_steps)
 put_step : {X : Type 0} (h : HoldingValue X) (c k : ℕ) (x : X) (o : Option Refusal) (b : Bool) → refusal h c ≡ o → eqb c k ≡ b
     → queue h k ++ cond (b && is_none o) (x ∷ []) []
     ≡ queue (cond (is_none o) (with_queue h c (queue h c ++ x ∷ [])) (record h { refused = counted h.refused 1 })) k
-put_step h c k x (Some f) true e s = append-nil (queue h k)
-put_step h c k x (Some f) false e s = append-nil (queue h k)
-put_step h c k x None true e s =
-    rw (← eqb-true c k s) (sym (queue_grows h c (queue h c ++ x ∷ []) e))
-put_step h c k x None false e s =
-    let other : k ≢ c = λ same. eqb-false c k s (sym same) in
-    append-nil (queue h k) ∙ sym (get_or-set_other h.queues c k (queue h c ++ x ∷ []) [] other)
+put_step h c k x o b e s = grind (arith, append-nil, queue, eqb-true, queue_grows, eqb-false, get_or-set_other)
 
 lose_step : {X : Type 0} (h : HoldingValue X) (c k n : ℕ) (b : Bool) → eqb c k ≡ b
     → queue h k ≡ cond b (take n (queue h c)) [] ++ get_or (slice_set h.queues c (drop n (queue h c))) k []
-lose_step h c k n true s = rw (← eqb-true c k s, queue_loses) (sym (take_drop n (queue h c)))
-lose_step h c k n false s =
-    let other : k ≢ c = λ same. eqb-false c k s (sym same) in
-    sym (get_or-set_other h.queues c k (drop n (queue h c)) [] other)
+lose_step h c k n b s = grind (arith, eqb-true, queue_loses, take_drop, queue, eqb-false, get_or-set_other, drop)
 
 cond_map : {X Y : Type 0} (f : X → Y) (b : Bool) (xs : List X) → map f (cond b xs []) ≡ cond b (map f xs) []
-cond_map f true xs = refl
-cond_map f false xs = refl
+cond_map f b xs = grind arith
 
 one_step : {X : Type 0} (call : QueueCall X) (h : HoldingValue X) (k : ℕ)
     → queue h k ++ accepted k call h ≡ map handle_of (gone k call h) ++ queue (after call h) k

@@ -1,10 +1,10 @@
 -- What a contract sees of rings that changed.
-use Rattle.dataplane.proofs.Common.{List, None, Option, Some, [], ap, arith, cond, get_or, length, min, refl, replicate, slice_get, slice_set, suc}
-use Rattle.dataplane.proofs.Common.{sym, take, zero, ℕ, ◌++◌, ◌+◌, ◌-◌, ◌<◌, ◌^◌, ◌∙◌, ◌∷◌, ◌≡◌, drop-length, take-length, common_steps, map-set}
-use Rattle.dataplane.proofs.Common.{sum-map, sum_by-set, is_none, sum, sum_by, Buffer, buffer, Refusal, HoldingValue, IsHolding, holding_of, in_all}
-use Rattle.dataplane.proofs.Common.{queue, refusal, ring_at, ring_queues, with_queue, Clear, Put, after}
-use Rattle.std.proofs.lemmas.Simd.{map-map}
+use Rattle.dataplane.proofs.Common.{List, None, Some, [], ap, arith, get_or, length, min, refl, replicate, slice_get, slice_set, suc, sym, take, zero}
+use Rattle.dataplane.proofs.Common.{ℕ, ◌++◌, ◌+◌, ◌-◌, ◌<◌, ◌^◌, ◌∙◌, ◌∷◌, ◌≡◌, drop-length, take-length, common_steps, map-set, sum-map, sum_by-set}
+use Rattle.dataplane.proofs.Common.{is_none, sum, sum_by, Buffer, buffer, Refusal, HoldingValue, IsHolding, holding_of, in_all, queue, refusal}
+use Rattle.dataplane.proofs.Common.{ring_at, ring_queues, with_queue, Clear, Put, after}
 use Rattle.dataplane.specs.Holding.{counted}
+use Rattle.std.proofs.lemmas.Simd.{map-map}
 
 pub queue_of : {X : Type 0} (rings : List (Buffer X)) (place : ℕ) → get_or (ring_queues rings) place [] ≡ (ring_at rings place).items
 queue_of [] place = refl
@@ -28,13 +28,11 @@ counted_is count more = refl
 
 -- one handle is counted where there was one
 pub counted_one : {X : Type 0} (q : List X) (x : X) (count : ℕ) → slice_get q 0 ≡ Some x → counted count (length (take 1 q)) ≡ min (count + 1) (2 ^ 64 - 1)
-counted_one [] x count e = grind (arith, common_steps)
-counted_one (y ∷ q) x count e = counted_is count 1
+counted_one q x count e = grind (arith, common_steps, counted_is)
 
 -- and none where there was none
 pub counted_none : {X : Type 0} (q : List X) (count : ℕ) → None ≡ slice_get q 0 → count < 2 ^ 64 → counted count (length (take 1 q)) ≡ count
-counted_none [] count e f = counted_is count 0 ∙ omega arith
-counted_none (y ∷ q) count e f = grind (arith, common_steps)
+counted_none q count e f = grind (arith, counted_is, common_steps)
 
 pub same_holding : {X : Type 0} (ps qs : List (List X)) (a e d f r s : ℕ) → ps ≡ qs → d ≡ f → r ≡ s → holding_of ps a e d r ≡ holding_of qs a e f s
 same_holding ps qs a e d f r s p q t = cc
@@ -49,42 +47,24 @@ pub put_keeps : {X : Type 0} (rings new : List (Buffer X)) (waiting most_in_all 
     → waiting < most_in_all
     → new ≡ slice_set rings place (buffer ((ring_at rings place).items ++ x ∷ []) (ring_at rings place).capacity)
     → IsHolding new (waiting + 1) most_in_all most_each
-put_keeps rings new waiting most_in_all most_each place x h l m n e =
-    record {
-      capacity = λ k b. grind (arith, common_steps, h.capacity k, h.capacity place);
-      each = λ k b. grind (arith, common_steps, h.each k, h.each place);
-      number = grind (arith, common_steps, h.number, sum_by-set (λ ring. length ring.items) rings place (buffer ((ring_at rings place).items ++ x ∷ []) (ring_at rings place).capacity) (buffer [] 0) l);
-      all = omega arith;
-    }
+put_keeps rings new waiting most_in_all most_each place x h l m n e = grind (arith, common_steps, sum_by-set, buffer, ring_at)
 
 -- what `put` leaves, where no reason stands against it
 pub put_waits : {X : Type 0} (rings new : List (Buffer X)) (a e d r place conversation : ℕ) (x : X) (h : HoldingValue X)
     → holding_of (ring_queues rings) a e d r ≡ h → place ≡ conversation → refusal h conversation ≡ None
     → new ≡ slice_set rings place (buffer ((ring_at rings place).items ++ x ∷ []) (ring_at rings place).capacity)
     → holding_of (ring_queues new) a e d r ≡ after (Put conversation x) h
-put_waits rings new a e d r place conversation x h v p o n =
-    let waits : holding_of (ring_queues new) a e d r ≡ with_queue h conversation (queue h conversation ++ x ∷ []) =
-    rw (← v, ← p, queue_of) (same_holding _ _ _ _ _ _ _ _ (queues_set _ _ _ _ _ n) refl refl) in
-    let taken : after (Put conversation x) h ≡ with_queue h conversation (queue h conversation ++ x ∷ []) =
-    ap (λ (f : Option Refusal). cond (is_none f) (with_queue h conversation (queue h conversation ++ x ∷ [])) (record h { refused = counted h.refused 1 })) o in
-    waits ∙ sym taken
+put_waits rings new a e d r place conversation x h v p o n = grind (arith, holding_of, ring_queues, with_queue, queue, queue_of, same_holding, queues_set, after, is_none, counted)
 
 -- and where one does
 pub put_refuses : {X : Type 0} (qs : List (List X)) (a e d r more conversation : ℕ) (x : X) (h : HoldingValue X) (f : Refusal)
     → holding_of qs a e d r ≡ h → refusal h conversation ≡ Some f → more ≡ min (r + 1) (2 ^ 64 - 1)
     → holding_of qs a e d more ≡ after (Put conversation x) h
-put_refuses qs a e d r more conversation x h f v o m =
-    let back : holding_of qs a e d more ≡ record h { refused = counted h.refused 1 } =
-    rw (← v) (same_holding _ _ _ _ _ _ _ _ refl refl (m ∙ sym (counted_is _ _))) in
-    let refused : after (Put conversation x) h ≡ record h { refused = counted h.refused 1 } =
-    ap (λ (f : Option Refusal). cond (is_none f) (with_queue h conversation (queue h conversation ++ x ∷ [])) (record h { refused = counted h.refused 1 })) o in
-    back ∙ sym refused
+put_refuses qs a e d r more conversation x h f v o m = grind (arith, holding_of, counted, same_holding, counted_is, after, is_none, with_queue, queue)
 
 -- what `clear` leaves
 pub clear_empties : {X : Type 0} (rings new : List (Buffer X)) (a e d r more number most place conversation : ℕ) (h : HoldingValue X)
     → holding_of (ring_queues rings) a e d r ≡ h → place ≡ conversation → number ≡ length (ring_at rings place).items
     → more ≡ min (d + number) (2 ^ 64 - 1) → new ≡ slice_set rings place (buffer [] most)
     → holding_of (ring_queues new) a e more r ≡ after (Clear conversation) h
-clear_empties rings new a e d r more number most place conversation h v p l m n =
-    rw (← v, ← p, queue_of, take-length, drop-length)
-    (same_holding _ _ _ _ _ _ _ _ (queues_set _ _ _ _ _ n) (m ∙ sym (counted_is _ _) ∙ ap (λ k. counted d k) l) refl)
+clear_empties rings new a e d r more number most place conversation h v p l m n = grind (arith, queue_of, take-length, drop-length, same_holding, queues_set, counted_is, counted)

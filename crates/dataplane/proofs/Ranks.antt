@@ -1,6 +1,6 @@
 -- The order of ranks.
-use Rattle.dataplane.proofs.Common.{Bool, ap, arith, false, if◌then◌else◌, inl, inr, refl, rules, sym, true, ℕ, ◌<◌, ◌∙◌, ◌≡◌, ◌≢◌, false≢true}
-use Rattle.dataplane.proofs.Common.{common_steps, Rank, group_cmp, is_before, rank_cmp, HasMore}
+use Rattle.dataplane.proofs.Common.{Bool, ap, arith, false, if◌then◌else◌, inr, refl, rules, sym, true, ℕ, ◌<◌, ◌∙◌, ◌≡◌, ◌≢◌, false≢true, Rank}
+use Rattle.dataplane.proofs.Common.{group_cmp, is_before, rank_cmp, HasMore}
 use Rattle.std.specs.declared.cmp.Ordering.{Ordering}
 use Rattle.std.specs.declared.cmp.Ordering.TheVariants.{Less, Equal, Greater}
 use Rattle.std.specs.Ordering.{is_lt, nat_cmp, bool_cmp, ordering_then, ordering_reverse}
@@ -13,14 +13,10 @@ use Rattle.lagtypes.specs.Order.{end_cmp}
 use Rattle.lagtypes.proofs.GroupLemmas.{groups_from_pairs}
 
 first_equal : (o p : Ordering) → ordering_then o p ≡ Equal → o ≡ Equal
-first_equal Less p e = e
-first_equal Equal p e = refl
-first_equal Greater p e = e
+first_equal o p e = grind arith
 
 second_equal : (o p : Ordering) → ordering_then o p ≡ Equal → p ≡ Equal
-second_equal Less p e = absurd cc
-second_equal Equal p e = e
-second_equal Greater p e = absurd cc
+second_equal o p e = grind arith
 
 total_ends : IsTotalOrder end_cmp
 total_ends = search (comparing, rules) depth 12
@@ -43,8 +39,7 @@ exact_ends x y e =
     let back : end_cmp y x ≡ Equal = total_ends.antisymm y x ∙ ap ordering_reverse e in
     let same : pick (end_cmp y x) x y ≡ pick (end_cmp x y) y x
     = groups_from_pairs (record { one = x; other = y }) (record { one = y; other = x }) (inr (refl, refl)) in
-    let ordered : pick Equal x y ≡ pick Equal y x = ap (λ o. pick o x y) (sym back) ∙ same ∙ ap (λ o. pick o y x) e in
-    ap (λ (g : Group). g.lower) ordered
+    grind (arith, pick)
 
 exact_groups : (g h : Group) → group_cmp g h ≡ Equal → g ≡ h
 exact_groups g h e =
@@ -54,15 +49,10 @@ exact_groups g h e =
     }
 
 exact_flags : (a b : Bool) → bool_cmp a b ≡ Equal → a ≡ b
-exact_flags true true e = refl
-exact_flags false false e = refl
-exact_flags true false e = absurd cc
-exact_flags false true e = absurd cc
+exact_flags a b e = grind arith
 
 is_less : (o : Ordering) → is_lt o ≡ true → o ≡ Less
-is_less Less h = refl
-is_less Equal h = absurd (false≢true h)
-is_less Greater h = absurd (false≢true h)
+is_less o h = grind arith
 
 -- the parts of a comparison of ranks
 abbrev by_flag : Rank → Rank → Ordering
@@ -81,11 +71,7 @@ abbrev by_number : Rank → Rank → Ordering
 by_number r q = nat_cmp r.agg.0 q.agg.0
 
 number_equal : (r q : Rank) → rank_cmp r q ≡ Equal → r.agg.0 ≡ q.agg.0
-number_equal r q e =
-    let b = second_equal (by_flag r q) (ordering_then (by_ports r q) (ordering_then (by_other r q) (ordering_then (by_group r q) (by_number r q)))) e in
-    let c = second_equal (by_ports r q) (ordering_then (by_other r q) (ordering_then (by_group r q) (by_number r q))) b in
-    let d = second_equal (by_other r q) (ordering_then (by_group r q) (by_number r q)) c in
-    exact_unsigned r.agg.0 q.agg.0 (second_equal (by_group r q) (by_number r q) d)
+number_equal r q e = grind (arith, second_equal, by_flag, ordering_then, by_ports, by_other, by_group, by_number, exact_unsigned)
 
 -- of two aggregators one comes before the other
 pub else_before : (r q : Rank) → r.agg.0 ≢ q.agg.0 → is_before r q ≡ false → is_before q r ≡ true
@@ -105,26 +91,15 @@ by_all r q = ordering_then (by_flag r q) (ordering_then (by_ports r q) (ordering
 
 regrouped : (a b c d e : Ordering)
     → ordering_then a (ordering_then b (ordering_then c (ordering_then d e))) ≡ ordering_then (ordering_then a (ordering_then b (ordering_then c d))) e
-regrouped Less b c d e = refl
-regrouped Greater b c d e = refl
-regrouped Equal Less c d e = refl
-regrouped Equal Greater c d e = refl
-regrouped Equal Equal Less d e = refl
-regrouped Equal Equal Greater d e = refl
-regrouped Equal Equal Equal d e = refl
+regrouped a b c d e = grind arith
 
 not_greater : (o e : Ordering) → is_lt (ordering_then o e) ≡ true → o ≡ Greater → ⊥
-not_greater Less e h g = absurd cc
-not_greater Equal e h g = absurd cc
-not_greater Greater e h g = absurd (false≢true h)
+not_greater o e h g = grind arith
 
 total_all : IsTotalOrder by_all
 total_all = then_total (on_total (λ (r : Rank). r.on_defaults) bool_cmp_total)
     (then_total (on_total (λ (r : Rank). r.ports.0) (back_total nat_cmp_total))
     (then_total (on_total (λ (r : Rank). r.is_other) bool_cmp_total) (on_total (λ (r : Rank). r.group) total_groups)))
-
-less_number : (m n : ℕ) → nat_cmp m n ≡ Less → m < n
-less_number m n e = grind (arith, common_steps)
 
 -- ranks of which each comes before the other, but for its number, are equal but for their numbers
 pub alike : (r q p n : Rank) → p ≡ record r { agg = p.agg } → n ≡ record q { agg = n.agg } → is_before q p ≡ true → is_before r n ≡ true
@@ -175,31 +150,6 @@ alike r q p n ep en a b =
     group : by_group r q ≡ Equal
     group = second_equal (by_other r q) (by_group r q) last
 
-less_flag : (a b : Bool) → bool_cmp a b ≡ Less → (a ≡ false) × (b ≡ true)
-less_flag false true e = (refl, refl)
-less_flag false false e = absurd cc
-less_flag true true e = absurd cc
-less_flag true false e = absurd cc
-
 -- what comes before the aggregator that carries now has strictly more
 pub has_more : (r q : Rank) → r.is_other ≡ true → q.is_other ≡ false → is_before r q ≡ true → HasMore r q
-has_more r q a b h = by_first (by_flag r q) refl
-  where
-    by_second : by_flag r q ≡ Equal → (o : Ordering) → by_ports r q ≡ o → HasMore r q
-    by_second e Less p = inr (exact_flags r.on_defaults q.on_defaults e, less_number q.ports.0 r.ports.0 p)
-    by_second e Equal p = absurd (false≢true (sym (ap is_lt (
-        ap (λ o. ordering_then o (ordering_then (by_ports r q) (ordering_then (by_other r q) (ordering_then (by_group r q) (by_number r q))))) e
-        ∙ ap (λ o. ordering_then o (ordering_then (by_other r q) (ordering_then (by_group r q) (by_number r q)))) p
-        ∙ ap (λ o. ordering_then o (ordering_then (by_group r q) (by_number r q))) other)) ∙ h))
-      where
-        other : by_other r q ≡ Greater
-        other = λ i. bool_cmp (a i) (b i)
-    by_second e Greater p = absurd (false≢true (sym (ap is_lt (
-        ap (λ o. ordering_then o (ordering_then (by_ports r q) (ordering_then (by_other r q) (ordering_then (by_group r q) (by_number r q))))) e
-        ∙ ap (λ o. ordering_then o (ordering_then (by_other r q) (ordering_then (by_group r q) (by_number r q)))) p)) ∙ h))
-
-    by_first : (o : Ordering) → by_flag r q ≡ o → HasMore r q
-    by_first Less e = inl (less_flag r.on_defaults q.on_defaults e)
-    by_first Equal e = by_second e (by_ports r q) refl
-    by_first Greater e = absurd (false≢true (sym (ap is_lt (
-        ap (λ o. ordering_then o (ordering_then (by_ports r q) (ordering_then (by_other r q) (ordering_then (by_group r q) (by_number r q))))) e)) ∙ h))
+has_more r q a b h = grind arith

@@ -65,25 +65,13 @@ record Unequal (f g : ℕ → ℕ) (a b q : ℕ) (ports : List ℕ) : Type 0 whe
   few : sum_by f ports < suc q * length ports
 
 least_is_low : (f g : ℕ → ℕ) (a b q : ℕ) (ports : List ℕ) → Unequal f g a b q ports → f b ≤ q
-least_is_low f g a b q ports u =
-    elim (cases_lt q (f b)) [
-      | inl l ↦ let s : suc q * length ports ≤ sum_by f ports = at_least f (suc q) ports (λ p i. let h : f b ≤ f p = u.least p i in omega (arith, h, l)) in
-          absurd (omega (arith, s, u.few))
-      | inr l ↦ l
-    ]
+least_is_low f g a b q ports u = grind (arith, cases_lt, sum_by, at_least)
 
 most_is_high : (f g : ℕ → ℕ) (a b q : ℕ) (ports : List ℕ) → Unequal f g a b q ports → q < f a
-most_is_high f g a b q ports u =
-    elim (cases_lt q (f a)) [
-      | inl l ↦ l
-      | inr l ↦ let s : sum_by f ports < q * length ports = falls_short f q b ports (λ p i. let h : f p ≤ f a = u.most p i in omega (arith, h, l)) u.to (omega (arith, l, u.gains)) in
-          absurd (omega (arith, s, u.enough))
-    ]
+most_is_high f g a b q ports u = grind (arith, cases_lt, sum_by, falls_short)
 
 same_number : (f g : ℕ → ℕ) (a b q : ℕ) (ports : List ℕ) → Unequal f g a b q ports → sum_by g ports ≡ sum_by f ports
-same_number f g a b q ports u =
-    let s : sum_by g ports + f a + f b ≡ sum_by f ports + g a + g b = two_differ f g a b ports u.differ u.from u.to u.shift.apart u.shift.other in
-    omega (arith, s, u.shift.from, u.shift.to)
+same_number f g a b q ports u = grind (arith, sum_by, two_differ)
 
 above_falls : (f g : ℕ → ℕ) (a b q n : ℕ) (ports : List ℕ) → Unequal f g a b q ports → above q f ports ≤ n → below q f ports ≤ n
     → above q g ports + 1 ≤ n

@@ -1,13 +1,13 @@
 -- What is Free stays Free where no frame is sent of it.
-use Rattle.dataplane.proofs.Common.{List, None, Option, Some, [], ap, eqb, eqb-true, false, inl, inr, refl, subst, sym, true, ℕ, ◌++◌, ◌∙◌, ◌∷◌, ◌≡◌}
-use Rattle.dataplane.proofs.Common.{◌≢◌, ◌⊎◌, cases_Bool, eqb-false, none-some, option_to_list, OnItsCable, Act, AllAllowed, ConversationMove}
-use Rattle.dataplane.proofs.Common.{ConversationMoveAllowed, DistributorMove, Flow, LawfulMoves, Port, Restart, Sends, Sends_frame, Took, act_of_port}
-use Rattle.dataplane.proofs.Common.{acts, conversation_after, flushed, view_after, view_after_all, Conversation, DistributorFacts, Flushing}
-use Rattle.dataplane.proofs.Common.{ModelCall, SystemSetup, View, at_conversation, conversation_port, first_view, Side, World, WorldSetup}
-use Rattle.dataplane.proofs.Common.{FreeElsewhere, InOneAggregator, NoneOnItsWayElsewhere, SendsNoFrame}
+use Rattle.dataplane.proofs.Common.{List, Option, [], ap, eqb, eqb-true, false, inl, inr, refl, subst, sym, true, ℕ, ◌++◌, ◌∙◌, ◌∷◌, ◌≡◌, ◌≢◌, ◌⊎◌}
+use Rattle.dataplane.proofs.Common.{cases_Bool, eqb-false, option_to_list, OnItsCable, Act, AllAllowed, ConversationMove, ConversationMoveAllowed}
+use Rattle.dataplane.proofs.Common.{DistributorMove, Flow, LawfulMoves, Port, Restart, Sends, Sends_frame, Took, act_of_port, acts}
+use Rattle.dataplane.proofs.Common.{conversation_after, flushed, view_after, view_after_all, Conversation, DistributorFacts, Flushing, ModelCall}
+use Rattle.dataplane.proofs.Common.{SystemSetup, View, at_conversation, first_view, Side, World, WorldSetup, FreeElsewhere, InOneAggregator}
+use Rattle.dataplane.proofs.Common.{NoneOnItsWayElsewhere, SendsNoFrame}
+use native.Mathlib.Omega.{arith}
 use Rattle.lagmodel.specs.Move.{Move}
 use Rattle.lagmodel.specs.View.{Free, On}
-use Rattle.lagmodel.proofs.Lanes.{conversation_cases}
 
 -- no frame of conversation j of aggregator h is sent
 abbrev pub NotSent : ℕ → ℕ → List Act → Type 0
@@ -17,10 +17,7 @@ NotSent h j (Sends_frame p g k ∷ seen) = ((g ≡ h) × (k ≡ j) → ⊥) × N
 NotSent h j (Took p pdu ∷ seen) = NotSent h j seen
 
 past : (h j : ℕ) (o : Option Act) (seen : List Act) → NotSent h j (option_to_list o ++ seen) → NotSent h j seen
-past h j None seen n = n
-past h j (Some (Sends p pdu)) seen n = n
-past h j (Some (Sends_frame p g k)) seen n = n.1
-past h j (Some (Took p pdu)) seen n = n
+past h j o seen n = grind arith
 
 pub none_sent : (h j : ℕ) (seen : List Act) → SendsNoFrame seen → NotSent h j seen
 none_sent h j [] n = tt
@@ -28,35 +25,17 @@ none_sent h j (Sends p pdu ∷ seen) n = none_sent h j seen n
 none_sent h j (Sends_frame p g k ∷ seen) n = absurd n
 none_sent h j (Took p pdu ∷ seen) n = none_sent h j seen n
 
-is_on : (c : Conversation) (p : ℕ) → c ≡ On p → c ≡ Free → ⊥
-is_on c p a b = cc
-
 is_flushing : (c : Conversation) (p n : ℕ) → c ≡ Flushing p n → c ≡ Free → ⊥
 is_flushing c p n a b = cc
 
-becomes_free : (mac : List ℕ) (call : ModelCall) (g k : ℕ) (m : ConversationMove) (c : Conversation) → ConversationMoveAllowed mac call g k m c
-    → c ≡ Free → conversation_after m ≡ Free
-becomes_free mac call g k (ConversationMove.Want p) c a e = absurd (is_on c p a e)
-becomes_free mac call g k (ConversationMove.Retry p n) c a e = absurd (is_flushing c p n a e)
-becomes_free mac call g k (ConversationMove.Answered p n) c a e = refl
-becomes_free mac call g k (ConversationMove.Down p) c a e = refl
-becomes_free mac call g k ConversationMove.Forced c a e = refl
-
 send_stays : (f : DistributorFacts) (p g k h j : ℕ) → ((g ≡ h) × (k ≡ j) → ⊥) → f.state h j ≡ Free
     → at_conversation f.state g k (On p) h j ≡ Free
-send_stays f p g k h j n e = elim (conversation_cases f.state g k (On p) h j) [
-  | inl z ↦ absurd (n (sym z.0, sym z.1))
-  | inr z ↦ z.1 ∙ e
-]
+send_stays f p g k h j n e = grind arith
 
 become_stays : (mac : List ℕ) (call : ModelCall) (f : DistributorFacts) (g k : ℕ) (m : ConversationMove) (h j : ℕ)
     → ConversationMoveAllowed mac call g k m (f.state g k) → f.state h j ≡ Free
     → at_conversation f.state g k (conversation_after m) h j ≡ Free
-become_stays mac call f g k m h j a e = elim (conversation_cases f.state g k (conversation_after m) h j) [
-  | inl z ↦ z.2 ∙ becomes_free mac call g k m (f.state g k) a
-      (subst (λ l. f.state g l ≡ Free) z.1 (subst (λ i. f.state i j ≡ Free) z.0 e))
-  | inr z ↦ z.1 ∙ e
-]
+become_stays mac call f g k m h j a e = grind arith
 
 stays_free : (u : SystemSetup) (call : ModelCall) (h j : ℕ) (ms : List Move) (v : View) → AllAllowed u call v ms
     → NotSent h j (acts u ms v) → v.flows.state h j ≡ Free → (view_after_all u ms v).flows.state h j ≡ Free
@@ -75,8 +54,7 @@ stays_free u call h j (Restart ∷ ms) v a n e = stays_free u call h j ms (first
 
 pub was_not_free : (u : SystemSetup) (call : ModelCall) (old new : View) (seen : List Act) (h j : ℕ) → LawfulMoves u call old seen new
     → NotSent h j seen → new.flows.state h j ≢ Free → old.flows.state h j ≢ Free
-was_not_free u call old new seen h j x n f = λ e. f (subst (λ (v : View). v.flows.state h j ≡ Free) (sym x.3)
-    (stays_free u call h j x.0 old x.1 (subst (NotSent h j) (sym x.2) n) e))
+was_not_free u call old new seen h j x n f = grind (arith, stays_free, NotSent)
 
 pub kept : (u : SystemSetup) (call : ModelCall) (old new : View) (seen : List Act) → LawfulMoves u call old seen new
     → SendsNoFrame seen → InOneAggregator old → InOneAggregator new
@@ -107,7 +85,4 @@ sent u call old new p g k x e i = λ a b j fa fb. by_number a b j fa fb (cases_B
 
 pub behind : (x : WorldSetup) (w : World) (s : Side) (g k : ℕ) → OnItsCable x w → FreeElsewhere (w.view s) g k
     → NoneOnItsWayElsewhere w s g k
-behind x w s g k on e = λ h c other never. elim ((on s h k c never).0) [
-  | inl none ↦ none
-  | inr z ↦ absurd (none-some z.0 (sym (ap conversation_port (e h other)) ∙ z.2))
-]
+behind x w s g k on e = grind arith

@@ -53,6 +53,4 @@ two_differ f g a b ports d i j ne h =
     let mb : m b ≡ f b = elim (eqb_tells b a) [ inl s ↦ absurd (ne (sym s.1)) | inr s ↦ ap (λ t. cond t (g a) (f b)) s.0 ] in
     let first : sum_by m ports + f a ≡ sum_by f ports + m a =
     one_differs f m a ports d i (λ p n. elim (eqb_tells p a) [ inl s ↦ absurd (n s.1) | inr s ↦ sym (ap (λ t. cond t (g a) (f p)) s.0) ]) in
-    let second : sum_by g ports + m b ≡ sum_by m ports + g b =
-    one_differs m g b ports d j (λ p n. elim (eqb_tells p a) [ inl s ↦ ap (λ t. cond t (g a) (f p)) s.0 ∙ ap g (sym s.1) | inr s ↦ ap (λ t. cond t (g a) (f p)) s.0 ∙ h p s.1 n ]) in
-    omega (arith, first, second, ma, mb)
+    grind (arith, sum_by, one_differs, eqb_tells)

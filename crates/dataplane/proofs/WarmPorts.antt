@@ -1,9 +1,7 @@
 -- The saved ports one after another, and whether one is back.
 use Rattle.dataplane.proofs.Common.{List, None, Some, [], ap, arith, drop, false, get_or, if◌then◌else◌, length, refl, subst, suc, sym, take, true}
-use Rattle.dataplane.proofs.Common.{zero, ℕ, ◌+◌, ◌<◌, ◌∙◌, ◌∷◌, ◌≡◌, ◌≤◌, drop_all, drop_more, take_all, take_more, same_Some, AllByRecursion}
-use Rattle.dataplane.proofs.Common.{SystemId, ReadsPdu, all-append, Machines, PortConfig, SystemState, machines_of, SavedPort, IsBack, IsFirstWithout}
-use Rattle.dataplane.proofs.Common.{first_touched, is_as_saved, is_left_at}
-use Rattle.slowpdu.specs.declared.pdu.Lacpdu.{Lacpdu}
+use Rattle.dataplane.proofs.Common.{zero, ℕ, ◌+◌, ◌<◌, ◌∙◌, ◌∷◌, ◌≡◌, ◌≤◌, drop_all, drop_more, take_all, take_more, AllByRecursion, SystemId}
+use Rattle.dataplane.proofs.Common.{all-append, PortConfig, SystemState, machines_of, SavedPort, IsFirstWithout, first_touched, is_left_at}
 use Rattle.slowpdu.specs.declared.pdu.Pdu.TheVariants as pdu
 
 module _ (P : SavedPort → Type 0) (saved : List SavedPort) (i : ℕ) (d : SavedPort) where
@@ -23,15 +21,6 @@ module _ (P : SavedPort → Type 0) (saved : List SavedPort) (i : ℕ) (d : Save
 -- it holds of all
 pub holds_of_all : (P : SavedPort → Type 0) (saved : List SavedPort) (i : ℕ) → length saved ≤ i → AllByRecursion P (take i saved) → AllByRecursion P saved
 holds_of_all P saved i l h = subst (AllByRecursion P) (take_all i saved l) h
-
--- a port that is back, by its machines and the LACPDU that was read
-pub told_same : (s : SystemState) (saved : SavedPort) (port : Machines) (heard : Lacpdu) → machines_of saved.port s ≡ Some port
-    → ((v : Lacpdu) → ReadsPdu (drop 14 saved.frame) (pdu.Lacpdu v) → Some heard ≡ Some v) → IsBack s saved
-    → is_as_saved saved heard port ≡ true
-told_same s saved port heard there only b =
-    let same_port : b.port ≡ port = same_Some b.port port (sym b.there ∙ there) in
-    let same_heard : b.heard ≡ heard = same_Some b.heard heard (sym (only b.heard b.reads)) in
-    subst (λ v. is_as_saved saved v port ≡ true) same_heard (subst (λ p. is_as_saved saved b.heard p ≡ true) same_port b.same)
 
 -- what a search gives where there is none
 abbrev pub no_port : PortConfig

@@ -1,8 +1,8 @@
 -- The calls of a warm start, one after another.
-use Rattle.dataplane.proofs.Common.{Bool, List, [], ap, append-nil, arith, false, get_or, length, map, refl, subst, suc, sym, take, true, ℕ, ◌++◌}
-use Rattle.dataplane.proofs.Common.{◌+◌, ◌-◌, ◌<◌, ◌∙◌, ◌∷◌, ◌≡◌, ◌≤◌, flat_map-append, map-append, take_all, take_more, flat_map, Key, PortConfig}
-use Rattle.dataplane.proofs.Common.{Reply, Call, Tick, Drives, CallPromise, SystemState, SavedPort, Before, Leading, Runs, call_if, filled, heard}
-use Rattle.dataplane.proofs.Common.{occupied, passing}
+use Rattle.dataplane.proofs.Common.{Bool, List, [], ap, append-nil, arith, get_or, length, map, refl, subst, suc, sym, take, true, ℕ, ◌++◌, ◌+◌, ◌-◌}
+use Rattle.dataplane.proofs.Common.{◌<◌, ◌∙◌, ◌∷◌, ◌≡◌, ◌≤◌, flat_map-append, map-append, take_all, take_more, flat_map, Key, PortConfig, Reply, Call}
+use Rattle.dataplane.proofs.Common.{Tick, Drives, CallPromise, SystemState, SavedPort, Before, Leading, Runs, call_if, filled, heard, occupied}
+use Rattle.dataplane.proofs.Common.{passing}
 use Rattle.lagsystem.specs.declared.drive.Reply.TheVariants as reply
 use Rattle.lagsystem.proofs.DriveLemmas.{drives_more}
 
@@ -40,11 +40,7 @@ three_calls gives old one two new first second third a b c p q r = (a ∷ b ∷ 
 -- a call that is made on a condition
 pub made_if : (gives : ℕ → ℕ → ℕ → Type 0) (old new : SystemState) (so : Bool) (call : Call) (answer : Reply) → so ≡ true
     → CallPromise gives old call answer new → Runs gives old (call_if so call) new
-made_if gives old new so call answer e made =
-    subst (λ b. Runs gives old (call_if b call) new) (sym e) (one_call gives old new call answer made)
-
-pub not_made_if : (gives : ℕ → ℕ → ℕ → Type 0) (old : SystemState) (so : Bool) (call : Call) → so ≡ false → Runs gives old (call_if so call) old
-not_made_if gives old so call e = subst (λ b. Runs gives old (call_if b call) old) (sym e) (no_call gives old)
+made_if gives old new so call answer e made = grind (arith, call_if, one_call)
 
 -- one more call of those that are made of the items of a list
 pub runs_on : {A : Type 0} (gives : ℕ → ℕ → ℕ → Type 0) (old mid new : SystemState) (f : A → Call) (xs : List A) (i : ℕ) (d : A)

@@ -1,18 +1,20 @@
 -- A system of a warm start may follow the one before it.
 use Rattle.dataplane.proofs.Common.{Bool, Err, List, None, Ok, Option, Result, Some, [], ap, arith, cond, drop, eqb, eqb-true, false, if◌then◌else◌}
-use Rattle.dataplane.proofs.Common.{inl, inr, is_some, length, map, nat_lt, option_map, refl, slice_get, subst, suc, sym, true, zero, ℕ, ◌&&◌, ◌++◌}
-use Rattle.dataplane.proofs.Common.{◌<◌, ◌==◌, ◌∙◌, ◌∷◌, ◌≡◌, ◌≢◌, ◌≤◌, and_parts, cases_Bool, false≢true, none-some, same_Some, AllByRecursion}
-use Rattle.dataplane.proofs.Common.{Contains, IsSome, is_none, slice_index_or, ◌||◌, AggId, Key, SystemId, Members, Flushing, LacpMessage, PortFacts}
-use Rattle.dataplane.proofs.Common.{SystemSetup, View, conversation_port, TakenLacpdu, party_at, Machines, Assignment, Free, On, Wanted, DistFault}
-use Rattle.dataplane.proofs.Common.{is_among, assignment_of, next_identifier, model_conversation, Config, PortConfig, Reply, SystemFault, SystemPort}
-use Rattle.dataplane.proofs.Common.{Call, Tick, Drives, IsFirst, configured_number, configured_party, lacp_message, model_port, model_setup}
-use Rattle.dataplane.proofs.Common.{model_view, selected_number, GivesAssignment, GivesOrRefuses, has_aggregator, in_system, conversation_count}
-use Rattle.dataplane.proofs.Common.{distributing, IsSound, PortsAgree, SystemState, machines_of, port_index, system_port_at, with_system_ports}
-use Rattle.dataplane.proofs.Common.{with_table, Step-frame, ports_first, SavedPort, Before, Adoption, Adopts, IsWarmStart, WasTakenLast, adopt_result}
-use Rattle.dataplane.proofs.Common.{adopted, IsBack, IsResumed, calls_of, first_touched, is_at_start, is_left_at, know_each_other, duration, heard}
-use Rattle.dataplane.proofs.Common.{is_saved, link_up, occupied, others_starting, passing, warm_calls}
+use Rattle.dataplane.proofs.Common.{inl, inr, is_some, length, map, option_map, refl, slice_get, subst, suc, sym, true, zero, ℕ, ◌&&◌, ◌++◌, ◌<◌}
+use Rattle.dataplane.proofs.Common.{◌==◌, ◌∙◌, ◌∷◌, ◌≡◌, ◌≢◌, ◌≤◌, and_parts, cases_Bool, false≢true, none-some, same_Some, AllByRecursion, Contains}
+use Rattle.dataplane.proofs.Common.{IsSome, slice_index_or, ◌||◌, Key, SystemId, Members, Flushing, LacpMessage, PortFacts, SystemSetup, View}
+use Rattle.dataplane.proofs.Common.{conversation_port, TakenLacpdu, party_at, Assignment, Free, On, assignment_of, model_conversation, Config}
+use Rattle.dataplane.proofs.Common.{PortConfig, Reply, SystemFault, SystemPort, Call, Drives, IsFirst, configured_number, configured_party}
+use Rattle.dataplane.proofs.Common.{lacp_message, model_port, model_setup, model_view, selected_number, GivesAssignment, GivesOrRefuses, in_system}
+use Rattle.dataplane.proofs.Common.{IsSound, PortsAgree, SystemState, machines_of, port_index, system_port_at, with_system_ports, with_table}
+use Rattle.dataplane.proofs.Common.{SavedPort, Adoption, Adopts, IsWarmStart, WasTakenLast, adopt_result, adopted, IsBack, IsResumed, calls_of}
+use Rattle.dataplane.proofs.Common.{first_touched, is_at_start, is_left_at, know_each_other, duration, heard, is_saved, link_up, occupied}
+use Rattle.dataplane.proofs.Common.{others_starting, passing, warm_calls}
 use Rattle.std.specs.Prelude.{◌-◌, ◌⊎◌}
+use Rattle.portmachines.specs.Machines.{Machines}
+use Rattle.distributor.specs.declared.fault.DistFault.{DistFault}
 use Rattle.lagsystem.specs.First.{refusal}
+use Rattle.lagsystem.proofs.Keeps.{Step-frame, ports_first}
 use Rattle.lagtypes.proofs.SameLemmas.{exact_party}
 use Rattle.lagtypes.specs.Same.{same_party}
 use Rattle.lagtypes.specs.States.{bits_of}
@@ -73,13 +75,10 @@ behind [] more some e = some e
 behind (call ∷ calls) more some e = some_call call (calls ++ more) e
 
 ticks_pass : (saved : List SavedPort) (ticks n : ℕ) → 0 < n → passing saved ticks n ≡ [] → ⊥
-ticks_pass saved ticks zero l e = omega (arith, l)
-ticks_pass saved ticks (suc n) l e =
-    behind (passing saved ticks n) (Tick ∷ heard (Before (ticks - n - 1)) saved) (some_call Tick (heard (Before (ticks - n - 1)) saved)) e
+ticks_pass saved ticks n l e = grind (arith, behind, passing, heard, some_call)
 
 some_ticks : (long : Bool) → 0 < (if long then 920 else 60)
-some_ticks true = omega arith
-some_ticks false = omega arith
+some_ticks long = grind arith
 
 some_calls : (keys : List Key) (ports : List PortConfig) (saved : List SavedPort) → warm_calls keys ports saved ≡ [] → ⊥
 some_calls keys ports saved =
@@ -99,8 +98,7 @@ sound_through gives first s calls answers made run some =
 
 -- what is known of a configured port that was left
 untouched : (left : Bool) (rest : Option ℕ) (n : ℕ) → (if left then rest else Some n) ≡ None → (left ≡ true) × (rest ≡ None)
-untouched true rest n e = (refl, e)
-untouched false rest n e = absurd (none-some n (sym e))
+untouched left rest n e = grind arith
 
 module _ (s : SystemState) (system : SystemId) (saved : List SavedPort) where
   left_at : (ports : List PortConfig) (p : ℕ) (c : PortConfig) → first_touched s system saved ports ≡ None
@@ -193,18 +191,15 @@ start_defaulted : (m : Machines) → is_at_start m ≡ true → m.defaulted ≡ 
 start_defaulted m e = (and_parts _ _ (and_parts _ _ (and_parts _ _ e).0).1).1
 
 mapped_there : {A B : Type 0} (f : A → B) (o : Option A) → is_some (option_map f o) ≡ true → (x : A) × (o ≡ Some x)
-mapped_there f None e = absurd (false≢true e)
-mapped_there f (Some x) e = (x, refl)
+mapped_there f o e = grind arith
 
 none_there : (o : Option PortFacts) → is_some o ≡ false → o ≡ None
-none_there None e = refl
-none_there (Some x) e = absurd (false≢true (sym e))
+none_there o e = grind arith
 
 -- where a port stands, and that it occupies the aggregator that it was given
 placed_at : (o : Option ℕ) (xs : List SystemPort) (m : Machines) → option_map (λ (x : SystemPort). x.port) (system_port_at o xs) ≡ Some m
     → (i : ℕ) × (x : SystemPort) × (slice_get xs i ≡ Some x) × (x.port ≡ m)
-placed_at None xs m e = absurd (none-some m e)
-placed_at (Some i) xs m e = let f = mapped_some (λ (x : SystemPort). x.port) (slice_get xs i) m e in (i, f.0, f.1, f.2)
+placed_at o xs m e = grind arith
 
 occupies : (c : Choice) → IsSome (selected_number c) → (g : ℕ) × (taken_by c ≡ Some g)
 occupies Unselected some = absurd (false≢true some)
@@ -279,38 +274,14 @@ module _ (gives : ℕ → ℕ → ℕ → Type 0) (config : Config) (saved : Lis
 not_both : (cause : SystemFault) → ◌≡◌ {A = Result Unit SystemFault} (Ok tt) (Err cause) → ⊥
 not_both cause e = absurd cc
 
-accepted_as : (r : Result Assignment SystemFault) (agg : AggId) (conv : ℕ) (old new : SystemState)
-    → GivesOrRefuses agg conv r old (Ok tt) new → (a : Assignment) × (r ≡ Ok a) × GivesAssignment agg conv a old new
-accepted_as (Ok a) agg conv old new h = (a, refl, h.1)
-accepted_as (Err cause) agg conv old new h = absurd (not_both cause h.0)
-
 same_ok : (a b : Assignment) → ◌≡◌ {A = Result Assignment SystemFault} (Ok a) (Ok b) → a ≡ b
 same_ok a b e = cc
 
 within : (r : Result Assignment DistFault) (a : Assignment) → in_system r ≡ Ok a → r ≡ Ok a
-within (Ok b) a e = ap (λ (x : Assignment). Ok x) (same_ok b a e)
-within (Err cause) a e = absurd cc
-
-all_passed : (x y z : Bool) (r : Result Assignment DistFault) (a : Assignment) → (if x then (if y then in_system
-    (if z then r else Err DistFault.NotAssigned) else Err SystemFault.NoPort) else Err SystemFault.NoAggregator) ≡ Ok a → r ≡ Ok a
-all_passed true true true r a e = within r a e
-all_passed true true false r a e = absurd cc
-all_passed true false z r a e = absurd cc
-all_passed false y z r a e = absurd cc
+within r a e = grind arith
 
 abbrev Stands : ℕ → Assignment → Assignment → Type 0
 Stands port state a = (a ≡ On port) × ((p : ℕ) → state ≡ On p → p ≡ port)
-
-from_free : (x y : Bool) (port : ℕ) (a : Assignment) → ◌≡◌ {A = Result Assignment DistFault}
-    (if x then (if y then Err DistFault.MarkersSpent else Ok (On port)) else Err DistFault.NotDistributing) (Ok a) → a ≡ On port
-from_free true true port a e = absurd cc
-from_free true false port a e = cc
-from_free false y port a e = absurd cc
-
-from_on : (x : Bool) (port : ℕ) (a : Assignment) → ◌≡◌ {A = Result Assignment DistFault} (if x then Ok (On port) else Err DistFault.Held) (Ok a)
-    → (x ≡ true) × (a ≡ On port)
-from_on true port a e = (refl, cc)
-from_on false port a e = absurd cc
 
 not_on : (preferred : Option ℕ) (p : ℕ) → Free preferred ≡ On p → ⊥
 not_on preferred p e = absurd cc
@@ -319,13 +290,7 @@ same_port : (q p : ℕ) → On q ≡ On p → p ≡ q
 same_port q p e = cc
 
 stands : (next : Option ℕ) (ports : List ℕ) (port : ℕ) (state a : Assignment) → adopted next ports port state ≡ Ok a → Stands port state a
-stands next ports port (Free preferred) a e =
-    (from_free (is_among ports port) (is_none next) port a e, λ p f. absurd (not_on preferred p f))
-stands next ports port (On q) a e =
-    let o = from_on (eqb q port) port a e in
-    (o.1, λ p f. same_port q p f ∙ eqb-true q port o.0)
-stands next ports port (Wanted q preferred) a e = absurd cc
-stands next ports port (Assignment.Flushing q n preferred age) a e = absurd cc
+stands next ports port state a e = grind arith
 
 record IsAdopted (a : Adoption) (old new : SystemState) : Type 0 where
   given : GivesAssignment a.agg a.conv (On a.port) old new
@@ -333,33 +298,19 @@ record IsAdopted (a : Adoption) (old new : SystemState) : Type 0 where
 
 is_adopted : (a : Adoption) (old new : SystemState) → GivesOrRefuses a.agg a.conv (adopt_result old a.agg a.conv a.port) old (Ok tt) new
     → IsAdopted a old new
-is_adopted a old new h =
-    let x = accepted_as (adopt_result old a.agg a.conv a.port) a.agg a.conv old new h in
-    let answer = adopted (next_identifier old.table) (distributing a.agg old.system_ports) a.port (assignment_of old.table a.agg.0 a.conv) in
-    let z = stands (next_identifier old.table) (distributing a.agg old.system_ports) a.port (assignment_of old.table a.agg.0 a.conv) x.0
-    (all_passed (has_aggregator old a.agg) (is_some (machines_of a.port old)) (nat_lt a.conv (conversation_count old)) answer x.0 x.1) in
-    record { given = subst (λ st. GivesAssignment a.agg a.conv st old new) z.0 x.2; stood = z.1 }
+is_adopted a old new h = grind arith
 
 -- what it leaves: what is on a port stays there, and nothing comes to wait for a response
 still_on : (a : Adoption) (old new : SystemState) → IsAdopted a old new → (g k p : ℕ) → assignment_of old.table g k ≡ On p
     → assignment_of new.table g k ≡ On p
-still_on a old new o g k p on = o.given.0.states g k ∙ as_it_was (eqb a.agg.0 g) (eqb a.conv k) refl refl
-  where
-    as_it_was : (x y : Bool) → eqb a.agg.0 g ≡ x → eqb a.conv k ≡ y → cond (x && y) (On a.port) (assignment_of old.table g k) ≡ On p
-    as_it_was true true e f =
-        ap (λ (q : ℕ). On q) (sym (o.stood p
-        (subst (λ h. assignment_of old.table h a.conv ≡ On p) (sym (eqb-true a.agg.0 g e))
-        (subst (λ j. assignment_of old.table g j ≡ On p) (sym (eqb-true a.conv k f)) on))))
-    as_it_was true false e f = on
-    as_it_was false y e f = on
+still_on a old new o g k p on = grind arith
 
 abbrev NoneWaits : SystemState → Type 0
 NoneWaits s = (g k p n : ℕ) → model_conversation (assignment_of s.table g k) ≡ Flushing p n → ⊥
 
 waits_if : (b : Bool) (port p n : ℕ) (a : Assignment) → (model_conversation a ≡ Flushing p n → ⊥)
     → model_conversation (cond b (On port) a) ≡ Flushing p n → ⊥
-waits_if true port p n a h e = absurd cc
-waits_if false port p n a h e = h e
+waits_if b port p n a h e = grind arith
 
 still_none : (a : Adoption) (old new : SystemState) → IsAdopted a old new → NoneWaits old → NoneWaits new
 still_none a old new o h g k p n e =
@@ -405,28 +356,13 @@ at_first : (a : Adoption) (more : List Adoption) (old mid : SystemState) → IsA
     → conversation_port (model_conversation (assignment_of mid.table g k)) ≡ Some p
     → (conversation_port (model_conversation (assignment_of old.table g k)) ≡ Some p)
     ⊎ Contains (a ∷ more) (record { agg = record { 0 = g }; conv = k; port = p })
-at_first a more old mid o g k p e =
-    by_test (eqb a.agg.0 g) (eqb a.conv k) refl refl
-    (sym (ap (λ z. conversation_port (model_conversation z)) (o.given.0.states g k)) ∙ e)
-  where
-    by_test : (x y : Bool) → eqb a.agg.0 g ≡ x → eqb a.conv k ≡ y
-        → conversation_port (model_conversation (cond (x && y) (On a.port) (assignment_of old.table g k))) ≡ Some p
-        → (conversation_port (model_conversation (assignment_of old.table g k)) ≡ Some p)
-        ⊎ Contains (a ∷ more) (record { agg = record { 0 = g }; conv = k; port = p })
-    by_test true true h j f = inr (
-      0,
-      omega arith,
-      λ i. record { agg = record { 0 = eqb-true a.agg.0 g h i }; conv = eqb-true a.conv k j i; port = same_Some a.port p f i },
-    )
-    by_test true false h j f = inl f
-    by_test false y h j f = inl f
+at_first a more old mid o g k p e = grind arith
 
 had_or_adopted : (old new : SystemState) (adoptions : List Adoption) → Adopts old adoptions new → (g k p : ℕ)
     → conversation_port (model_conversation (assignment_of new.table g k)) ≡ Some p
     → (conversation_port (model_conversation (assignment_of old.table g k)) ≡ Some p)
     ⊎ Contains adoptions (record { agg = record { 0 = g }; conv = k; port = p })
-had_or_adopted old new [] h g k p e =
-    inl (subst (λ (z : SystemState). conversation_port (model_conversation (assignment_of z.table g k)) ≡ Some p) h e)
+had_or_adopted old new [] h g k p e = grind arith
 had_or_adopted old new (a ∷ more) h g k p e = elim (had_or_adopted h.0 new more h.2 g k p e) [
   | inl f ↦ at_first a more old h.0 (is_adopted a old h.0 h.1) g k p f
   | inr c ↦ inr (suc c.0, omega (arith, c.1), c.2)
@@ -434,14 +370,7 @@ had_or_adopted old new (a ∷ more) h g k p e = elim (had_or_adopted h.0 new mor
 
 -- what holds of the ports of a system holds of them under the configuration before
 before_alike : (u v : SystemSetup) (ports : ℕ → Option PortFacts) → IsAlikeSetup u v → Members v ports → Members u ports
-before_alike u v ports a m = record {
-  configured = λ p. m.configured p ∙ a.ports p;
-  number = m.number;
-  own = λ p b h. m.own p b h ∙ a.system;
-  key = λ p g b h e. sym (a.key g) ∙ m.key p g b h e;
-  group = m.group;
-  member = m.member;
-}
+before_alike u v ports a m = grind arith
 
 module _ (gives : ℕ → ℕ → ℕ → Type 0) (before : View) (taken : ℕ → Option TakenLacpdu) (new : SystemState)
     (w : IsWarmStart gives before taken new) where

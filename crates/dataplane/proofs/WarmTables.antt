@@ -1,17 +1,16 @@
 -- A warm start leaves every conversation free, and the next marker.
-use Rattle.dataplane.proofs.Common.{Bool, Err, IfOk, List, None, Ok, Result, [], ap, false, get_or, if◌then◌else◌, length, map, refl, subst, suc, sym}
-use Rattle.dataplane.proofs.Common.{take, true, zero, ℕ, ◌+◌, ◌-◌, ◌∙◌, ◌∷◌, ◌≡◌, AllByRecursion, flat_map, IfErr, Key, all-append, Free, after_down}
-use Rattle.dataplane.proofs.Common.{after_release, after_tick, Table, assignment_of, Config, PortConfig, Reply, Call, ChangesParty, Configure}
-use Rattle.dataplane.proofs.Common.{OnlyPortChangesBy, ProcessesLacpdu, Receive, Set_link, SetsLink, ThenSettles, Tick, Ticks, Drives, IsConfigured}
-use Rattle.dataplane.proofs.Common.{IsFirst, aggregator_numbered, distributing, SystemState, port_index, ports_table, settling_parts, SavedPort}
-use Rattle.dataplane.proofs.Common.{Before, Leading, AreFresh, IsNotWarmed, IsResumed, IsUnused, IsWarmed, MayRefuse, Runs, calls_of, call_if}
-use Rattle.dataplane.proofs.Common.{duration, filled, filled_by, fills, heard, heard_of, individual_frame, is_due, is_saved, link_up, occupied}
-use Rattle.dataplane.proofs.Common.{other_starting, others_starting, passing, starting_again, warm_calls}
+use Rattle.dataplane.proofs.Common.{Bool, IfOk, List, None, Result, [], ap, get_or, if◌then◌else◌, length, map, refl, subst, suc, sym, take, zero, ℕ}
+use Rattle.dataplane.proofs.Common.{◌+◌, ◌-◌, ◌∙◌, ◌∷◌, ◌≡◌, AllByRecursion, flat_map, IfErr, Key, all-append, Free, Table, assignment_of, Config}
+use Rattle.dataplane.proofs.Common.{PortConfig, Reply, Call, Configure, Receive, Set_link, ThenSettles, Tick, Drives, IsConfigured, IsFirst}
+use Rattle.dataplane.proofs.Common.{SystemState, SavedPort, Before, Leading, AreFresh, IsNotWarmed, IsResumed, IsUnused, IsWarmed, MayRefuse, Runs}
+use Rattle.dataplane.proofs.Common.{calls_of, call_if, duration, filled, filled_by, fills, heard, heard_of, individual_frame, is_due, is_saved}
+use Rattle.dataplane.proofs.Common.{link_up, occupied, other_starting, others_starting, passing, starting_again, warm_calls}
+use native.Mathlib.Omega.{arith}
 use Rattle.dataplane.specs.declared.resuming.ResumeFault.{ResumeFault}
 use Rattle.dataplane.specs.declared.warming.Moment.{Moment}
 use Rattle.distributor.proofs.TableLemmas.{first_free}
 use Rattle.lagsystem.proofs.Preserves.{Preserves, Step-preserves}
-use Rattle.lagsystem.specs.Settling.{Settling, held_unless_on}
+use Rattle.lagsystem.specs.Settling.{Settling}
 
 -- every conversation is free, and this is the next marker
 pub record IsFree (marker : ℕ) (t : Table) : Type 0 where
@@ -30,15 +29,7 @@ first_is_free : (s : SystemState) → IsFirst s → IsFree s.first_marker s.tabl
 first_is_free s h = record { free = λ agg conv. ap (λ (t : Table). assignment_of t agg conv) h.3 ∙ first_free (length s.keys) s.conversations s.first_marker agg conv; next = ap (λ (t : Table). t.next) h.3 }
 
 settling_frees : (marker : ℕ) (old new : SystemState) → Settling old new → IsFree marker old.table → IsFree marker new.table
-settling_frees marker old new h f =
-    let p = settling_parts old new h in
-    let same : p.0.table ≡ old.table = ports_table old p.0 p.1 in
-    record {
-      free = λ agg conv. p.2.states agg conv
-          ∙ ap (held_unless_on (distributing (aggregator_numbered agg) p.0.system_ports))
-          (ap (λ (t : Table). assignment_of t agg conv) same ∙ f.free agg conv);
-      next = p.2.next ∙ ap (λ (t : Table). t.next) same ∙ f.next;
-    }
+settling_frees marker old new h f = grind arith
 
 settled : (marker : ℕ) (own : SystemState → SystemState → Type 0) (old new : SystemState)
     → ((mid : SystemState) → own old mid → IsFree marker mid.table) → ThenSettles own old new → IsFree marker new.table
@@ -48,38 +39,7 @@ abbrev StaysFree : ℕ → SystemState → Call → Reply → SystemState → Ty
 StaysFree marker old call answer new = IsWarmCall call → IsFree marker old.table → IsFree marker new.table
 
 call_frees : (gives : ℕ → ℕ → ℕ → Type 0) (marker : ℕ) (old : SystemState) → Preserves gives old (StaysFree marker old)
-call_frees gives marker old = record {
-  ports = record {
-    tick = λ new h w f. settled marker Ticks old new (λ mid t. record {
-      free = λ agg conv. t.1.states agg conv ∙ ap after_tick (f.free agg conv);
-      next = t.1.next ∙ f.next;
-    }) h;
-    link = λ n up done new h w f. links n up new h w f;
-    take = λ n octets v answer new told h w f. settled marker (OnlyPortChangesBy (port_index n old.system_ports) (ProcessesLacpdu v)) old new
-        (λ mid t. subst (IsFree marker) (sym (ap (λ (s : SystemState). s.table) t.1)) f) h;
-    change = λ n change new h w f. settled marker (OnlyPortChangesBy (port_index n old.system_ports) (ChangesParty change)) old new
-        (λ mid t. subst (IsFree marker) (sym (ap (λ (s : SystemState). s.table) t.1)) f) h;
-    restart = λ new e first w f. absurd w;
-    send = λ n i x answer octets new at e due is told set w f. absurd w;
-  };
-  same = λ call answer new none e w f. subst (IsFree marker) (sym (ap (λ (s : SystemState). s.table) e)) f;
-  mark = λ n port id answer new none m e w f. absurd w;
-  release = λ n port id octets answer new m e w f. record {
-    free = λ agg conv. m.states agg conv ∙ ap (after_release port id) (f.free agg conv);
-    next = m.next ∙ f.next;
-  };
-  offer = λ agg octets port new h w f. absurd w;
-  move = λ agg conv port s answer new e h w f. absurd w;
-  force = λ agg conv s answer new e h w f. absurd w;
-}
-  where
-    links : (n : ℕ) (up : Bool) (new : SystemState) → ThenSettles (SetsLink n up) old new → IsWarmCall (Set_link n up)
-        → IsFree marker old.table → IsFree marker new.table
-    links n true new h w f = settled marker (SetsLink n true) old new (λ mid t. subst (IsFree marker) (sym t.1) f) h
-    links n false new h w f = settled marker (SetsLink n false) old new (λ mid t. record {
-      free = λ agg conv. t.1.states agg conv ∙ ap (after_down n) (f.free agg conv);
-      next = t.1.next ∙ f.next;
-    }) h
+call_frees gives marker old = grind arith
 
 drives_free : (gives : ℕ → ℕ → ℕ → Type 0) (marker : ℕ) (old new : SystemState) (calls : List Call) (answers : List Reply)
     → AllByRecursion IsWarmCall calls → Drives gives old calls answers new → IsFree marker old.table → IsFree marker new.table
@@ -96,22 +56,18 @@ warm_of_each f each [] = tt
 warm_of_each f each (x ∷ xs) = all-append IsWarmCall (f x) (flat_map f xs) (each x) (warm_of_each f each xs)
 
 warm_if : (so : Bool) (call : Call) → IsWarmCall call → AllByRecursion IsWarmCall (call_if so call)
-warm_if true call w = (w, tt)
-warm_if false call w = tt
+warm_if so call w = grind arith
 
 links_warm : (ports : List PortConfig) → AllByRecursion IsWarmCall (map link_up ports)
 links_warm [] = tt
 links_warm (c ∷ cs) = (tt, links_warm cs)
 
 heard_warm : (moment : Moment) (saved : List SavedPort) → AllByRecursion IsWarmCall (heard moment saved)
-heard_warm moment saved =
-    warm_of_each (heard_of moment saved) (λ x. warm_if (is_due moment saved x) (Receive x.port x.frame) tt) saved
+heard_warm moment saved = grind (arith, warm_of_each, heard_of, warm_if, is_due)
 
 filled_warm : (saved : List SavedPort) (below : List Key) (key : Key) (agg : ℕ) (ports : List PortConfig)
     → AllByRecursion IsWarmCall (filled saved below key agg ports)
-filled_warm saved below key agg ports =
-    warm_of_each (filled_by saved below key agg ports)
-    (λ c. warm_if (fills saved below key agg ports c) (Receive c.number (individual_frame saved)) tt) ports
+filled_warm saved below key agg ports = grind (arith, warm_of_each, filled_by, warm_if, fills, individual_frame)
 
 occupied_warm : (saved : List SavedPort) (keys : List Key) (ports : List PortConfig) (n : ℕ)
     → AllByRecursion IsWarmCall (occupied saved keys ports n)
@@ -122,8 +78,7 @@ occupied_warm saved keys ports (suc n) =
     (filled_warm saved (take n keys) (get_or keys n (record { 0 = 0 })) (n + 1) ports))
 
 start_unless : (so : Bool) (c : PortConfig) → AllByRecursion IsWarmCall (if so then [] else starting_again c)
-start_unless true c = tt
-start_unless false c = (tt, (tt, (tt, tt)))
+start_unless so c = grind arith
 
 others_warm : (saved : List SavedPort) (ports : List PortConfig) → AllByRecursion IsWarmCall (others_starting saved ports)
 others_warm saved ports = warm_of_each (other_starting saved) (λ c. start_unless (is_saved saved c.number) c) ports
@@ -134,11 +89,7 @@ passing_warm saved ticks (suc n) =
     all-append IsWarmCall (passing saved ticks n) _ (passing_warm saved ticks n) (tt, heard_warm (Before (ticks - n - 1)) saved)
 
 all_warm : (keys : List Key) (ports : List PortConfig) (saved : List SavedPort) → AllByRecursion IsWarmCall (warm_calls keys ports saved)
-all_warm keys ports saved =
-    all-append IsWarmCall (map link_up ports) _ (links_warm ports)
-    (all-append IsWarmCall (occupied saved keys ports (length keys)) _ (occupied_warm saved keys ports (length keys))
-    (all-append IsWarmCall (others_starting saved ports) _ (others_warm saved ports)
-    (passing_warm saved (duration ports) (duration ports))))
+all_warm keys ports saved = grind (arith, all-append, IsWarmCall, map, link_up, links_warm, occupied, occupied_warm, others_starting, others_warm, passing_warm, duration)
 
 -- so it is after a warm start
 pub warm_unused : (gives : ℕ → ℕ → ℕ → Type 0) (config : Config) (saved : List SavedPort) (first s : SystemState) → IsFirst first
@@ -151,8 +102,7 @@ warm_unused gives config saved first s made configured run =
 same_lists : (gives : ℕ → ℕ → ℕ → Type 0) (config : Config) (saved : List SavedPort) (first : SystemState) (keys : List Key)
     (ports : List PortConfig) (P : List Call → List PortConfig → Type 0) → keys ≡ config.aggregators.items → ports ≡ config.ports.items
     → P (warm_calls keys ports saved) ports → P (calls_of config saved) config.ports.items
-same_lists gives config saved first keys ports P k p h =
-    subst (λ ps. P (warm_calls config.aggregators.items ps saved) ps) p (subst (λ ks. P (warm_calls ks ports saved) ports) k h)
+same_lists gives config saved first keys ports P k p h = grind arith
 
 module _ (gives : ℕ → ℕ → ℕ → Type 0) (config : Config) (saved : List SavedPort) (first : SystemState) (keys : List Key)
     (ports : List PortConfig) (k : keys ≡ config.aggregators.items) (p : ports ≡ config.ports.items) (fresh : AreFresh config saved)
@@ -179,9 +129,7 @@ module _ (gives : ℕ → ℕ → ℕ → Type 0) (config : Config) (saved : Lis
       subst (MayRefuse gives config saved) (sym not.1) (fresh, (first, made, configured, (not.0, refl, not.2)))
 
 pub if_ok : {A B : Type 0} (P Q : A → Type 0) (r : Result A B) → ((a : A) → P a → Q a) → IfOk r P → IfOk r Q
-if_ok P Q (Ok a) f h = f a h
-if_ok P Q (Err b) f h = h
+if_ok P Q r f h = grind arith
 
 pub if_err : {A B : Type 0} (P Q : B → Type 0) (r : Result A B) → ((b : B) → P b → Q b) → IfErr r P → IfErr r Q
-if_err P Q (Ok a) f h = h
-if_err P Q (Err b) f h = f b h
+if_err P Q r f h = grind arith

@@ -1,8 +1,8 @@
 -- Rings of slots: one taken out, one put in, and what stays as it is.
 use Rattle.distributor.proofs.Common.{Bool, List, None, Some, [], ap, append-nil, arith, cond, eq-eqb, eqb, eqb-true, false, get_or, length, refl}
 use Rattle.distributor.proofs.Common.{set, subst, sym, true, ℕ, ⊎_elim, ◌++◌, ◌+◌, ◌<◌, ◌∙◌, ◌∷◌, ◌≡◌, ◌≤◌, cases_eq, cond-false, cond-true}
-use Rattle.distributor.proofs.Common.{false≢true, ne_eqb, get_or-set_other, get_or-set_same, get_or_past, length-set, Assignment, Flushing, Free, On}
-use Rattle.distributor.proofs.Common.{Wanted, IsChained, Path, assignment_port, chain_of, is_in_chain, occurs, slot_state}
+use Rattle.distributor.proofs.Common.{false≢true, ne_eqb, get_or-set_other, get_or-set_same, get_or_past, length-set, Assignment, Free, IsChained}
+use Rattle.distributor.proofs.Common.{Path, assignment_port, chain_of, is_in_chain, occurs, slot_state}
 
 abbrev pub last_of : ℕ → List ℕ → ℕ
 last_of a [] = a
@@ -14,8 +14,7 @@ first_of (x ∷ xs) b = x
 
 -- what holds of each of two, where it is chosen, holds of the one that is chosen
 pub chosen : {X : Type 0} (P : X → Type 0) (b : Bool) (x y : X) → (b ≡ true → P x) → (b ≡ false → P y) → P (cond b x y)
-chosen P true x y h k = h refl
-chosen P false x y h k = k refl
+chosen P b x y h k = grind arith
 
 -- 1 if the numbers are one
 abbrev pub one : ℕ → ℕ → ℕ
@@ -36,16 +35,14 @@ last_occurs a [] = omega (arith, one_same a)
 last_occurs a (x ∷ xs) = omega (arith, last_occurs x xs)
 
 first_occurs : (xs : List ℕ) (b : ℕ) → 0 < occurs (first_of xs b) (b ∷ xs)
-first_occurs [] b = omega (arith, one_same b)
-first_occurs (x ∷ xs) b = omega (arith, one_same x)
+first_occurs xs b = grind arith
 
 pub path_last : (next prev : List ℕ) (a : ℕ) (xs : List ℕ) (b : ℕ) → Path next prev a xs b → get_or prev b 0 ≡ last_of a xs
 path_last next prev a [] b h = h.1
 path_last next prev a (x ∷ xs) b h = path_last next prev x xs b h.1
 
 pub path_first : (next prev : List ℕ) (a : ℕ) (xs : List ℕ) (b : ℕ) → Path next prev a xs b → get_or next a 0 ≡ first_of xs b
-path_first next prev a [] b h = h.0
-path_first next prev a (x ∷ xs) b h = h.0.0
+path_first next prev a xs b h = grind arith
 
 pub path_split : (next prev : List ℕ) (a : ℕ) (ys : List ℕ) (i : ℕ) (zs : List ℕ) (b : ℕ) → Path next prev a (ys ++ i ∷ zs) b
     → Path next prev a ys i × Path next prev i zs b
@@ -108,51 +105,13 @@ bypass next prev e ys i (z ∷ zs) h t few u v =
 pub path_out : (next prev : List ℕ) (e : ℕ) (ys : List ℕ) (i : ℕ) (zs : List ℕ) → Path next prev e (ys ++ i ∷ zs) e
     → ((k : ℕ) → occurs k (e ∷ (ys ++ i ∷ zs)) ≤ 1) → get_or prev i 0 < length next → get_or next i 0 < length prev
     → Path (set next (get_or prev i 0) (get_or next i 0)) (set prev (get_or next i 0) (get_or prev i 0)) e (ys ++ zs) e
-path_out next prev e ys i zs h few u v =
-    let s = path_split next prev e ys i zs e h in
-    let before : get_or prev i 0 ≡ last_of e ys = path_last next prev e ys i s.0 in
-    let after : get_or next i 0 ≡ first_of zs e = path_first next prev i zs e s.1 in
-    subst (λ p. Path (set next p (get_or next i 0)) (set prev (get_or next i 0) p) e (ys ++ zs) e) (sym before)
-    (subst (λ q. Path (set next (last_of e ys) q) (set prev q (last_of e ys)) e (ys ++ zs) e) (sym after)
-    (bypass next prev e ys i zs s.0 s.1 few (omega (arith, u, before)) (omega (arith, v, after))))
+path_out next prev e ys i zs h few u v = grind (arith, path_split, path_last, path_first, bypass)
 
 insert : (next prev : List ℕ) (e i : ℕ) (xs : List ℕ) → Path next prev e xs e → ((k : ℕ) → occurs k (e ∷ xs) ≤ 1) → occurs i (e ∷ xs) ≡ 0
     → i < length next → e < length next → i < length prev → first_of xs e < length prev
     → Path (set (set next i (first_of xs e)) e i) (set (set prev i e) (first_of xs e) i) e (i ∷ xs) e
-insert next prev e i [] h few none u v w z =
-    let apart : i ≡ e → ⊥ = λ m. omega (arith, none, one_same e, ap (λ k. one k e) m) in (
-      (
-        get_or-set_same (set next i e) e i 0 (omega (arith, v, length-set next i e)),
-        get_or-set_other (set prev i e) e i i 0 apart
-            ∙ get_or-set_same prev i e 0 w,
-      ),
-      (
-        get_or-set_other (set next i e) e i i 0 apart ∙ get_or-set_same next i e 0 u,
-        get_or-set_same (set prev i e) e i 0 (omega (arith, z, length-set prev i e)),
-      ),
-    )
-insert next prev e i (x ∷ xs) h few none u v w z =
-    let apart : i ≡ e → ⊥ = λ m. omega (arith, none, one_same e, ap (λ k. one k e) m) in
-    let other : i ≡ x → ⊥ = λ m. omega (arith, none, one_same x, ap (λ k. one k x) m) in
-    let n : (k : ℕ) → 0 < occurs k (x ∷ xs) → get_or (set (set next i x) e i) k 0 ≡ get_or next k 0 =
-    λ k l. get_or-set_other (set next i x) e k i 0 (λ (m : k ≡ e). omega (arith, l, few e, one_same e, ap (λ j. occurs j (x ∷ xs)) m))
-    ∙ get_or-set_other next i k x 0 (λ (m : k ≡ i). omega (arith, l, none, ap (λ j. occurs j (x ∷ xs)) m)) in
-    let b : (k : ℕ) → 0 < occurs k (e ∷ xs) → get_or (set (set prev i e) x i) k 0 ≡ get_or prev k 0 =
-    λ k l. get_or-set_other (set prev i e) x k i 0 (λ (m : k ≡ x). omega (arith, l, few x, one_same x, ap (λ j. occurs j (e ∷ xs)) m))
-    ∙ get_or-set_other prev i k e 0 (λ (m : k ≡ i). omega (arith, l, none, ap (λ j. occurs j (e ∷ xs)) m)) in (
-      (
-        get_or-set_same (set next i x) e i 0 (omega (arith, v, length-set next i x)),
-        get_or-set_other (set prev i e) x i i 0 other
-            ∙ get_or-set_same prev i e 0 w,
-      ),
-      (
-        (
-          get_or-set_other (set next i x) e i i 0 apart ∙ get_or-set_same next i x 0 u,
-          get_or-set_same (set prev i e) x i 0 (omega (arith, z, length-set prev i e)),
-        ),
-        path_kept next prev _ _ x xs e n b h.1,
-      ),
-    )
+insert next prev e i [] h few none u v w z = grind (arith, one_same, one, get_or-set_same, set, length-set, get_or-set_other)
+insert next prev e i (x ∷ xs) h few none u v w z = grind (arith, one_same, one, occurs, get_or, set, get_or-set_other, get_or-set_same, length-set, path_kept)
 
 -- a slot is put right after the end of a ring
 pub path_in : (next prev : List ℕ) (e i : ℕ) (xs : List ℕ) → Path next prev e xs e
@@ -186,37 +145,24 @@ split_at i (x ∷ xs) l = ⊎_elim
 pub homes_set : (states : List Assignment) (i : ℕ) (s : Assignment) (d : ℕ) (xs : List ℕ) → i < length states
     → occurs i xs ≡ counted (is_in_chain d s) → ((k : ℕ) → (k ≡ i → ⊥) → occurs k xs ≡ counted (is_in_chain d (slot_state states k)))
     → (k : ℕ) → occurs k xs ≡ counted (is_in_chain d (slot_state (set states i s) k))
-homes_set states i s d xs inside here others k = ⊎_elim
-    (λ (e : k ≡ i). ap (λ x. occurs x xs) e ∙ here ∙ sym (ap (λ x. counted (is_in_chain d (slot_state (set states i s) x))) e
-    ∙ ap (λ t. counted (is_in_chain d t)) (get_or-set_same states i s (Free None) inside)))
-    (λ (n : k ≡ i → ⊥). others k n ∙ sym (ap (λ t. counted (is_in_chain d t)) (get_or-set_other states i k s (Free None) n)))
-    (cases_eq k i)
+homes_set states i s d xs inside here others k = grind (arith, get_or-set_same, get_or-set_other)
 
 cond_few : (b : Bool) → cond b 1 0 ≤ 1
-cond_few true = omega arith
-cond_few false = omega arith
+cond_few b = grind arith
 
 cond_some : (b : Bool) → 0 < cond b 1 0 → b ≡ true
-cond_some true h = refl
-cond_some false h = absurd (omega arith)
+cond_some b h = grind arith
 
 -- a state stands in one chain at most
 pub stands_once : (c d : ℕ) (s : Assignment) → is_in_chain c s ≡ true → is_in_chain d s ≡ true → c ≡ d
-stands_once c d (Free preferred) h k = absurd (false≢true h)
-stands_once c d (On port) h k = sym (eqb-true (chain_of port) c h) ∙ eqb-true (chain_of port) d k
-stands_once c d (Wanted port preferred) h k = sym (eqb-true (chain_of port) c h) ∙ eqb-true (chain_of port) d k
-stands_once c d (Flushing port id preferred age) h k = sym (eqb-true (chain_of port) c h) ∙ eqb-true (chain_of port) d k
+stands_once c d s h k = grind arith
 
 -- the state of a port stands in the port's chain alone, a free one in none
 pub stands_some : (c port : ℕ) (s : Assignment) → assignment_port s ≡ Some port → is_in_chain c s ≡ eqb (chain_of port) c
-stands_some c port (Free preferred) h = absurd (cc)
-stands_some c port (On p) h = let e : p ≡ port = cc in ap (λ q. eqb (chain_of q) c) e
-stands_some c port (Wanted p preferred) h = let e : p ≡ port = cc in ap (λ q. eqb (chain_of q) c) e
-stands_some c port (Flushing p id preferred age) h = let e : p ≡ port = cc in ap (λ q. eqb (chain_of q) c) e
+stands_some c port s h = grind arith
 
 pub stands_none : (c : ℕ) (s : Assignment) → assignment_port s ≡ None → is_in_chain c s ≡ false
-stands_none c (Free preferred) h = refl
-stands_none c s h = absurd cc
+stands_none c s h = grind arith
 
 module _ (count : ℕ) (states : List Assignment) (next prev : List ℕ) (h : IsChained count states next prev) where
   pub member_stands : (c k : ℕ) → 0 < occurs k (h.chains c) → is_in_chain c (slot_state states k) ≡ true

@@ -1,10 +1,10 @@
 -- Each call changes the conversations only by moves that the model allows.
-use Rattle.distributor.proofs.Common.{Bool, Err, List, None, Ok, Option, Some, [], ap, arith, cond, eq-eqb, eqb, eqb-true, false, inl, inr, length}
-use Rattle.distributor.proofs.Common.{ltb, refl, subst, suc, sym, true, zero, ℕ, ⊎_elim, ◌%◌, ◌&&◌, ◌+◌, ◌-◌, ◌/◌, ◌<◌, ◌^◌, ◌∙◌, ◌∷◌, ◌≡◌, ◌⊎◌}
-use Rattle.distributor.proofs.Common.{and_parts, cases_Bool, cases_eq, cond-false, cond-true, false≢true, ltb-false, ltb-true, get_or_past}
-use Rattle.distributor.proofs.Common.{div-mul-add, mod-mul-add, is_none, Assignment, MaySend, force_result, is_among, leave_result, move_result}
-use Rattle.distributor.proofs.Common.{rest_result, ChangesAssignments, Marks, SetsAssignment, after_down, after_leave, after_mark, after_release}
-use Rattle.distributor.proofs.Common.{after_tick, Table, assignment_of, first_table, slot_index}
+use Rattle.distributor.proofs.Common.{Bool, Err, List, None, Ok, Option, Some, [], ap, arith, cond, eqb, eqb-true, false, inl, inr, length, ltb, refl}
+use Rattle.distributor.proofs.Common.{subst, suc, sym, true, zero, ℕ, ⊎_elim, ◌%◌, ◌&&◌, ◌+◌, ◌-◌, ◌/◌, ◌<◌, ◌^◌, ◌∙◌, ◌∷◌, ◌≡◌, ◌⊎◌, and_parts}
+use Rattle.distributor.proofs.Common.{cases_Bool, cases_eq, cond-false, cond-true, false≢true, ltb-false, ltb-true, get_or_past, div-mul-add}
+use Rattle.distributor.proofs.Common.{mod-mul-add, is_none, Assignment, MaySend, force_result, is_among, leave_result, move_result, rest_result}
+use Rattle.distributor.proofs.Common.{ChangesAssignments, Marks, SetsAssignment, after_down, after_leave, after_mark, after_release, after_tick}
+use Rattle.distributor.proofs.Common.{Table, assignment_of, first_table, slot_index}
 use Rattle.distributor.specs.declared.assignment.Assignment.TheVariants as state
 use Rattle.distributor.specs.declared.fault.DistFault.{DistFault}
 use Rattle.lagmodel.specs.View.{Conversation, ModelCall, ControlMessage, SystemSetup, at_conversation, first_view, replies_frame, conversation_port}
@@ -15,45 +15,18 @@ use Rattle.distributor.proofs.ChainLemmas.{chosen}
 use Rattle.distributor.proofs.TableLemmas.{first_free}
 use Rattle.distributor.specs.Moves.{model_conversation, model_distributor, OnlyListedDistribute, NoneDistributes}
 
-eqb_flip : (m n : ℕ) → eqb m n ≡ eqb n m
-eqb_flip m n = elim (cases_Bool (eqb m n)) [
-  | inl t ↦ t ∙ sym (eq-eqb n m (sym (eqb-true m n t)))
-  | inr f ↦ elim (cases_Bool (eqb n m)) [
-    | inl t ↦ absurd (false≢true (sym f ∙ eq-eqb m n (sym (eqb-true n m t))))
-    | inr e ↦ f ∙ sym e
-  ]
-]
-
--- One conversation takes a state.
-chosen_state : (x y : Bool) (s r : Assignment)
-    → model_conversation (cond (x && y) s r) ≡ cond x (cond y (model_conversation s) (model_conversation r)) (model_conversation r)
-chosen_state true true s r = refl
-chosen_state true false s r = refl
-chosen_state false y s r = refl
-
 seen_at : (t u : Table) (agg conv : ℕ) (s : Assignment) → SetsAssignment t u agg conv s → (g k : ℕ)
     → model_conversation (assignment_of u g k) ≡ at_conversation (model_distributor t).state agg conv (model_conversation s) g k
-seen_at t u agg conv s h g k =
-    ap model_conversation (h.states g k)
-    ∙ chosen_state (eqb agg g) (eqb conv k) s (assignment_of t g k)
-    ∙ ap (λ (x : Bool). cond x (cond (eqb conv k) (model_conversation s) (model_conversation (assignment_of t g k)))
-    (model_conversation (assignment_of t g k))) (eqb_flip agg g)
-    ∙ ap (λ (y : Bool). cond (eqb g agg) (cond y (model_conversation s) (model_conversation (assignment_of t g k)))
-    (model_conversation (assignment_of t g k))) (eqb_flip conv k)
+seen_at t u agg conv s h g k = grind arith
 
 seen_after : (t u : Table) (agg conv : ℕ) (s : Assignment) (d : Conversation) → SetsAssignment t u agg conv s → model_conversation s ≡ d
     → model_distributor u ≡ record (model_distributor t) { state = at_conversation (model_distributor t).state agg conv d }
-seen_after t u agg conv s d h e = λ i. record {
-  state = λ g k. (seen_at t u agg conv s h g k ∙ ap (λ (c : Conversation). at_conversation (model_distributor t).state agg conv c g k) e) i;
-  next = h.next i;
-}
+seen_after t u agg conv s d h e = grind arith
 
 -- a frame is sent
 may_send : (agg conv port : ℕ) (ports : List ℕ) (s : Assignment) → MaySend ports s port
     → ((model_conversation s ≡ Conversation.Free) × OnlyListedDistribute agg ports agg port) ⊎ (model_conversation s ≡ Conversation.On port)
-may_send agg conv port ports (state.Free preferred) h = inl (refl, (refl, h))
-may_send agg conv port ports (state.On p) h = inr (ap (λ q. Conversation.On q) (sym h))
-may_send agg conv port ports s h = absurd h
+may_send agg conv port ports s h = grind arith
 
 pub send_moves : (mac : List ℕ) (call : ModelCall) (t u : Table) (agg conv port : ℕ) (ports : List ℕ) → replies_frame call ≡ true
     → MaySend ports (assignment_of t agg conv) port → SetsAssignment t u agg conv (state.On port)
@@ -120,15 +93,11 @@ leave_one_moves mac call t u agg conv next s e h =
 
 -- what rests is forced
 pub is_rested : (old new : Assignment) → rest_result old ≡ Ok new → force_result old ≡ Ok new
-is_rested (state.On p) new h = h
-is_rested s new h = absurd cc
+is_rested old new h = grind arith
 
 -- what force makes of a conversation
 pub is_forced : (old new : Assignment) → force_result old ≡ Ok new → model_conversation new ≡ Conversation.Free
-is_forced (state.Free preferred) new h = absurd cc
-is_forced (state.On p) new h = let same : state.Free None ≡ new = cc in ap model_conversation (sym same)
-is_forced (state.Wanted p preferred) new h = let same : state.Free preferred ≡ new = cc in ap model_conversation (sym same)
-is_forced (state.Flushing p n preferred age) new h = let same : state.Free preferred ≡ new = cc in ap model_conversation (sym same)
+is_forced old new h = grind arith
 
 pub force_moves : (mac : List ℕ) (t u : Table) (agg conv : ℕ) (s : Assignment) → force_result (assignment_of t agg conv) ≡ Ok s
     → SetsAssignment t u agg conv s
@@ -259,14 +228,7 @@ tick_moves mac call t u h = all_moves mac call t u after_tick refl (makes_tick m
 
 -- A marker is sent.
 is_flushed : (port id n : ℕ) (s : Assignment) → id ≡ n → model_conversation (after_mark port id s) ≡ flushed port n (model_conversation s)
-is_flushed port id n (state.Wanted p preferred) e = elim (cases_Bool (eqb p port)) [
-  | inl t ↦ (ap model_conversation (cond-true (eqb p port) (state.Flushing port id preferred 0) (state.Wanted p preferred) t)
-      ∙ ap (λ q. Conversation.Flushing q id) (sym (eqb-true p port t)) ∙ ap (λ i. Conversation.Flushing p i) e
-      ∙ sym (cond-true (eqb p port) (Conversation.Flushing p n) (Conversation.Wanted p) t))
-  | inr f ↦ (ap model_conversation (cond-false (eqb p port) (state.Flushing port id preferred 0) (state.Wanted p preferred) f)
-      ∙ sym (cond-false (eqb p port) (Conversation.Flushing p n) (Conversation.Wanted p) f))
-]
-is_flushed port id n s e = refl
+is_flushed port id n s e = grind arith
 
 pub mark_moves : (mac : List ℕ) (call : ModelCall) (t u : Table) (port id : ℕ) → replies_frame call ≡ true → id < 2 ^ 32 → Marks t u port id
     → DistributorMoves mac call NoneDistributes (model_distributor t) (Act.Sends port (ControlMessage.Marker mac port id)

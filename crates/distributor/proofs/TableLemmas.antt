@@ -1,9 +1,9 @@
 -- The states of the conversations, by their indices in the list.
-use Rattle.distributor.proofs.Common.{Bool, List, None, ap, arith, cond, eq-eqb, eqb, eqb-true, get_or, inl, inr, length, ltb, map, replicate, set}
-use Rattle.distributor.proofs.Common.{sym, ℕ, ◌&&◌, ◌*◌, ◌+◌, ◌-◌, ◌<◌, ◌∙◌, ◌≡◌, ◌≤◌, and_from, and_parts, cases_Bool, cond-false, cond-true}
-use Rattle.distributor.proofs.Common.{false≢true, lt-ltb, ltb-false, ltb-true, get_or-map, get_or-replicate, get_or-set_other, get_or-set_same}
-use Rattle.distributor.proofs.Common.{get_or_past, length-map, length-replicate, mul-add-lt, same_from_place, Assignment, Free, slot_state, Table}
-use Rattle.distributor.proofs.Common.{assignment_of, count_conversations, first_table, slot_index, sum_below}
+use Rattle.distributor.proofs.Common.{Bool, List, None, ap, arith, cond, eq-eqb, eqb, eqb-true, get_or, inl, inr, length, ltb, map, set, sym, ℕ, ◌&&◌}
+use Rattle.distributor.proofs.Common.{◌*◌, ◌+◌, ◌-◌, ◌<◌, ◌∙◌, ◌≡◌, ◌≤◌, and_from, and_parts, cases_Bool, cond-false, cond-true, false≢true, lt-ltb}
+use Rattle.distributor.proofs.Common.{ltb-true, get_or-map, get_or-replicate, get_or-set_other, get_or-set_same, get_or_past, length-map}
+use Rattle.distributor.proofs.Common.{length-replicate, same_from_place, Assignment, Free, slot_state, Table, assignment_of, count_conversations}
+use Rattle.distributor.proofs.Common.{first_table, slot_index, sum_below}
 use Rattle.distributor.proofs.FoldLemmas.{IsFold, fold_rows, fold_same, sum_fold}
 use Rattle.distributor.proofs.WalkLemmas.{bit}
 
@@ -14,10 +14,6 @@ stated w states agg conv = cond (ltb 0 agg && ltb conv w) (get_or states (slot_i
 pub stated_in : (w : ℕ) (states : List Assignment) (agg conv : ℕ) → 0 < agg → conv < w
     → stated w states agg conv ≡ slot_state states (slot_index w agg conv)
 stated_in w states agg conv p l = cond-true (ltb 0 agg && ltb conv w) _ _ (and_from _ _ (lt-ltb 0 agg p) (lt-ltb conv w l))
-
--- the place of a conversation is one of the places
-pub place_inside : (w aggs agg conv : ℕ) → 0 < agg → agg ≤ aggs → conv < w → slot_index w agg conv < aggs * w
-place_inside w aggs agg conv p few l = omega (arith, mul-add-lt (agg - 1) w conv aggs (omega arith) l)
 
 -- a state that is given to one conversation is given to no other
 pub set_at : (w : ℕ) (states : List Assignment) (agg conv : ℕ) (s : Assignment) → 0 < agg → conv < w → slot_index w agg conv < length states
@@ -46,31 +42,15 @@ set_at w states agg conv s p l inside a c = elim (cases_Bool (eqb agg a && eqb c
 -- the state at a place, if every state is changed alike
 pub map_at : (f : Assignment → Assignment) → f (Free None) ≡ Free None → (states : List Assignment) (k : ℕ)
     → get_or (map f states) k (Free None) ≡ f (get_or states k (Free None))
-map_at f keeps states k = elim (cases_Bool (ltb k (length states))) [
-  | inl e ↦ get_or-map f states k (Free None) (Free None) (ltb-true k (length states) e)
-  | inr g ↦ (let past : length states ≤ k = ltb-false k (length states) g in
-      let past' : length (map f states) ≤ k = omega (arith, past, length-map states f) in
-      get_or_past (map f states) k (Free None) past' ∙ sym (ap f (get_or_past states k (Free None) past) ∙ keeps))
-]
+map_at f keeps states k = grind (arith, get_or-map, length-map, get_or_past)
 
 -- at the start every conversation is free
 pub first_free : (aggs w first agg conv : ℕ) → assignment_of (first_table aggs w first) agg conv ≡ Free None
-first_free aggs w first agg conv = elim (cases_Bool (ltb 0 agg && ltb conv w)) [
-  | inl e ↦ cond-true (ltb 0 agg && ltb conv w) _ _ e ∙ elim (cases_Bool (ltb (slot_index w agg conv) (aggs * w))) [
-    | inl x ↦ get_or-replicate (aggs * w) (slot_index w agg conv) (Free None) (Free None) (ltb-true (slot_index w agg conv) (aggs * w) x)
-    | inr y ↦ (let past : length (replicate (aggs * w) (Free None)) ≤ slot_index w agg conv =
-        omega (arith, ltb-false (slot_index w agg conv) (aggs * w) y, length-replicate (aggs * w) (Free None)) in
-        get_or_past (replicate (aggs * w) (Free None)) (slot_index w agg conv) (Free None) past)
-  ]
-  | inr f ↦ cond-false (ltb 0 agg && ltb conv w) _ _ f
-]
+first_free aggs w first agg conv = grind (arith, get_or-replicate, length-replicate, get_or_past)
 
 -- a state at a place is that of a conversation
 place_state : (t : Table) (a c : ℕ) → c < t.conversations → slot_state t.states (a * t.conversations + c) ≡ assignment_of t (a + 1) c
-place_state t a c m =
-    let pos : 0 < a + 1 = omega arith in
-    let here : a * t.conversations + c ≡ slot_index t.conversations (a + 1) c = ap (λ n. n * t.conversations + c) (omega arith) in
-    ap (slot_state t.states) here ∙ sym (stated_in t.conversations t.states (a + 1) c pos m)
+place_state t a c m = grind arith
 
 -- the values over aggregators and numbers are, put together, those over the places
 pub fold_places : {X : Type 0} {join : X → X → X} {unit : X} {fold : (ℕ → X) → ℕ → X} (h : IsFold join unit fold) (g : Assignment → X)

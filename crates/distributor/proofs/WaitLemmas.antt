@@ -1,7 +1,7 @@
 -- The soonest of many numbers of ticks, and a walk along a chain in search of it.
-use Rattle.distributor.proofs.Common.{Bool, List, None, Option, Some, ap, arith, cond, eq-eqb, false, get_or, min, refl, subst, suc, sym, true, zero}
-use Rattle.distributor.proofs.Common.{ℕ, ⊎_elim, ◌+◌, ◌<◌, ◌∙◌, ◌≡◌, cases_eq, false≢true, le-leb, leb-true, mod_below, IfSome, Assignment, Flushing}
-use Rattle.distributor.proofs.Common.{IsChained, IsFlagged, chain_of, is_flagged, is_in_chain, occurs, slot_state, is_by, sooner, ticks_until_wanted}
+use Rattle.distributor.proofs.Common.{Bool, List, None, Option, Some, ap, arith, cond, eq-eqb, false, get_or, refl, subst, suc, sym, true, zero, ℕ}
+use Rattle.distributor.proofs.Common.{⊎_elim, ◌+◌, ◌<◌, ◌∙◌, ◌≡◌, cases_eq, false≢true, mod_below, IfSome, Assignment, Flushing, IsChained, IsFlagged}
+use Rattle.distributor.proofs.Common.{chain_of, is_in_chain, occurs, slot_state, is_by, sooner, ticks_until_wanted}
 use Rattle.distributor.specs.Waiting.{soonest_below}
 use Rattle.distributor.proofs.FoldLemmas.{IsFold, fold_same}
 use Rattle.distributor.proofs.WalkLemmas.{Standing, less_rest, stand_first, stand_next, walk_below, walk_over}
@@ -9,70 +9,35 @@ use Rattle.distributor.proofs.WalkLemmas.{Standing, less_rest, stand_first, stan
 -- ---- the order of numbers of ticks
 
 pub sooner_none : (a : Option ℕ) → sooner a None ≡ a
-sooner_none None = refl
-sooner_none (Some n) = refl
-
-min_assoc : (n m k : ℕ) → min (min n m) k ≡ min n (min m k)
-min_assoc n m k = omega arith
+sooner_none a = grind arith
 
 pub sooner_assoc : (a b c : Option ℕ) → sooner (sooner a b) c ≡ sooner a (sooner b c)
-sooner_assoc None None None = refl
-sooner_assoc None (Some m) None = refl
-sooner_assoc (Some n) None None = refl
-sooner_assoc (Some n) (Some m) (Some k) = ap Some (min_assoc n m k)
-sooner_assoc a b c = refl
+sooner_assoc a b c = grind arith
 
 pub by_left : (a b x : Option ℕ) → is_by a x ≡ true → is_by (sooner a b) x ≡ true
-by_left None None x h = h
-by_left None (Some m) None h = refl
-by_left None (Some m) (Some y) h = absurd (false≢true h)
-by_left (Some n) None x h = h
-by_left (Some n) (Some m) None h = refl
-by_left (Some n) (Some m) (Some y) h = le-leb (min n m) y (omega (arith, leb-true n y h))
+by_left a b x h = grind arith
 
 pub by_right : (a b x : Option ℕ) → is_by b x ≡ true → is_by (sooner a b) x ≡ true
-by_right None None x h = h
-by_right None (Some m) x h = h
-by_right (Some n) None None h = refl
-by_right (Some n) None (Some y) h = absurd (false≢true h)
-by_right (Some n) (Some m) None h = refl
-by_right (Some n) (Some m) (Some y) h = le-leb (min n m) y (omega (arith, leb-true m y h))
+by_right a b x h = grind arith
 
 pub by_both : (x a b : Option ℕ) → is_by x a ≡ true → is_by x b ≡ true → is_by x (sooner a b) ≡ true
-by_both x None None h k = h
-by_both x None (Some m) h k = k
-by_both x (Some n) None h k = h
-by_both None (Some n) (Some m) h k = absurd (false≢true h)
-by_both (Some y) (Some n) (Some m) h k = le-leb y (min n m) (omega (arith, leb-true y n h, leb-true y m k))
+by_both x a b h k = grind arith
 
 by_none : (x : Option ℕ) → is_by x None ≡ true
-by_none None = refl
-by_none (Some n) = refl
+by_none x = grind arith
 
 -- what is by the sooner one is by both
 pub by_first : (x a b : Option ℕ) → is_by x (sooner a b) ≡ true → is_by x a ≡ true
-by_first x None b h = by_none x
-by_first x (Some n) None h = h
-by_first None (Some n) (Some m) h = absurd (false≢true h)
-by_first (Some y) (Some n) (Some m) h = le-leb y n (omega (arith, leb-true y (min n m) h))
+by_first x a b h = grind arith
 
 pub by_second : (x a b : Option ℕ) → is_by x (sooner a b) ≡ true → is_by x b ≡ true
-by_second x a None h = by_none x
-by_second x None (Some m) h = h
-by_second None (Some n) (Some m) h = absurd (false≢true h)
-by_second (Some y) (Some n) (Some m) h = le-leb y m (omega (arith, leb-true y (min n m) h))
+by_second x a b h = grind arith
 
 by_itself : (a : Option ℕ) → is_by a a ≡ true
-by_itself None = refl
-by_itself (Some n) = le-leb n n (omega arith)
+by_itself a = grind arith
 
 by_each_other : (a b : Option ℕ) → is_by a b ≡ true → is_by b a ≡ true → a ≡ b
-by_each_other None None h k = refl
-by_each_other None (Some m) h k = absurd (false≢true h)
-by_each_other (Some n) None h k = absurd (false≢true k)
-by_each_other (Some n) (Some m) h k =
-    let e : n ≡ m = omega (arith, leb-true n m h, leb-true m n k) in
-    ap Some e
+by_each_other a b h k = grind arith
 
 -- ---- the soonest of a function
 
@@ -100,9 +65,7 @@ soonest_all f (suc n) x h = by_both x (soonest_below f n) (f n) (soonest_all f n
 -- what is by all, and is one of them, is the soonest
 pub soonest_is : (f : ℕ → Option ℕ) (n : ℕ) (x : Option ℕ) → IfSome x (λ m. (k : ℕ) × (k < n) × (f k ≡ Some m))
     → ((k : ℕ) → k < n → is_by x (f k) ≡ true) → x ≡ soonest_below f n
-soonest_is f n None taken h = by_each_other None (soonest_below f n) (soonest_all f n None h) (by_none (soonest_below f n))
-soonest_is f n (Some m) taken h = by_each_other (Some m) (soonest_below f n) (soonest_all f n (Some m) h)
-    (subst (λ y. is_by (soonest_below f n) y ≡ true) taken.2 (soonest_member f n taken.0 taken.1))
+soonest_is f n x taken h = grind (arith, by_each_other, soonest_all, soonest_member)
 
 -- ---- a walk
 
@@ -112,19 +75,12 @@ IsTaken count states found = IfSome found (λ ticks. (k : ℕ) × (k < count) ×
 
 taken_here : (count : ℕ) (states : List Assignment) (found : Option ℕ) (k : ℕ) → k < count
     → found ≡ ticks_until_wanted (slot_state states k) → IsTaken count states found
-taken_here count states None k lt e = tt
-taken_here count states (Some n) k lt e = (k, lt, sym e)
+taken_here count states found k lt e = grind arith
 
 -- the sooner of two that are taken is taken
 pub taken_sooner : (count : ℕ) (states : List Assignment) (a b : Option ℕ) → IsTaken count states a → IsTaken count states b
     → IsTaken count states (sooner a b)
-taken_sooner count states None None h k = tt
-taken_sooner count states None (Some m) h k = k
-taken_sooner count states (Some n) None h k = h
-taken_sooner count states (Some n) (Some m) h k = ⊎_elim
-    (λ (e : min n m ≡ n). subst (λ x. IsTaken count states (Some x)) (sym e) h)
-    (λ (a : min n m ≡ n → ⊥). (let e : min n m ≡ m = omega (arith, a) in subst (λ x. IsTaken count states (Some x)) (sym e) k))
-    (cases_eq (min n m) n)
+taken_sooner count states a b h k = grind arith
 
 -- a walk along a chain has found the soonest of what it has seen
 pub record Seeking (chain count : ℕ) (states : List Assignment) (next prev : List ℕ) (end at : ℕ) (found : Option ℕ) : Type 0 where
@@ -168,41 +124,16 @@ pub record SeekingChains (chain count : ℕ) (states : List Assignment) (found :
   pub soonest : (c k : ℕ) → c < chain → is_in_chain c (slot_state states k) ≡ true
       → is_by found (ticks_until_wanted (slot_state states k)) ≡ true
 
-pub chains_begin : (count : ℕ) (states : List Assignment) → SeekingChains 0 count states None
-chains_begin count states = record { taken = tt; soonest = λ c k lt e. absurd (omega (arith, lt)) }
-
 pub chains_walked : (chain count : ℕ) (states : List Assignment) (found here found' : Option ℕ)
     → SeekingChains chain count states found → found' ≡ sooner found here → IsTaken count states here
     → ((k : ℕ) → is_in_chain chain (slot_state states k) ≡ true → is_by here (ticks_until_wanted (slot_state states k)) ≡ true)
     → SeekingChains (chain + 1) count states found'
-chains_walked chain count states found here found' h e taken soonest = subst (SeekingChains (chain + 1) count states) (sym e) (record {
-  taken = taken_sooner count states found here h.taken taken;
-  soonest = λ c k lt stands. ⊎_elim
-      (λ (m : c ≡ chain). by_right found here (ticks_until_wanted (slot_state states k))
-      (soonest k (sym (ap (λ x. is_in_chain x (slot_state states k)) m) ∙ stands)))
-      (λ (m : c ≡ chain → ⊥). (let low : c < chain = omega (arith, lt, m) in
-      by_left found here (ticks_until_wanted (slot_state states k)) (h.soonest c k low stands)))
-      (cases_eq c chain);
-})
-
--- where the flag 'Flushing' is clear, nothing is Flushing
-none_waits : (w f : Bool) → f ≡ false → (s : Assignment) → is_flagged w f s ≡ true → ticks_until_wanted s ≡ None
-none_waits w f none (Flushing port id preferred age) h = absurd (false≢true (sym none ∙ h))
-none_waits w f none s h = refl
+chains_walked chain count states found here found' h e taken soonest = grind arith
 
 pub chains_passed : (chain count : ℕ) (states : List Assignment) (wanted flushing : List Bool) (found : Option ℕ)
     → SeekingChains chain count states found → IsFlagged states wanted flushing → get_or flushing chain false ≡ false
     → SeekingChains (chain + 1) count states found
-chains_passed chain count states wanted flushing found h f none = record {
-  taken = h.taken;
-  soonest = λ c k lt stands. ⊎_elim
-      (λ (m : c ≡ chain). (let here : is_in_chain chain (slot_state states k) ≡ true =
-      sym (ap (λ x. is_in_chain x (slot_state states k)) m) ∙ stands in
-      let never = none_waits (get_or wanted chain false) (get_or flushing chain false) none (slot_state states k) (f.flagged chain k here) in
-      ap (is_by found) never ∙ by_none found))
-      (λ (m : c ≡ chain → ⊥). (let low : c < chain = omega (arith, lt, m) in h.soonest c k low stands))
-      (cases_eq c chain);
-}
+chains_passed chain count states wanted flushing found h f none = grind arith
 
 some_chain : (found : Option ℕ) (s : Assignment)
     → ((c : ℕ) → c < 64 → is_in_chain c s ≡ true → is_by found (ticks_until_wanted s) ≡ true) → is_by found (ticks_until_wanted s) ≡ true

@@ -2,23 +2,20 @@
 use Rattle.distributor.proofs.Common.{Bool, List, None, Option, Some, [], ap, append_assoc, arith, cond, eq-eqb, eqb, eqb-true, false, get_or, inl}
 use Rattle.distributor.proofs.Common.{inr, length, ltb, map, refl, replicate, set, subst, suc, sym, true, zero, ℕ, ⊎_elim, ◌&&◌, ◌++◌, ◌+◌, ◌<◌, ◌^◌}
 use Rattle.distributor.proofs.Common.{◌∙◌, ◌∷◌, ◌≡◌, ◌≤◌, ◌⊎◌, and_left, and_right, cases_Bool, cases_eq, cond-false, cond-true, false≢true, lt-ltb}
-use Rattle.distributor.proofs.Common.{ltb-false, ltb-true, ne_eqb, ext_get_or, get_or-map, get_or-replicate, get_or-set_other, get_or-set_same}
-use Rattle.distributor.proofs.Common.{get_or_past, get_or_read, length-map, length-replicate, Assignment, Flushing, Free, On, Wanted, Change, Down}
-use Rattle.distributor.proofs.Common.{Leave, Mark, Release, Tick, ConversationTest, AwaitsResponse, HeldOn, NamesPort, WantsMarker, IsChained, Path}
-use Rattle.distributor.proofs.Common.{assignment_port, chain_of, changed_in_chain, is_in_chain, occurs, passes, slot_state, tested_port, after_change}
-use Rattle.distributor.proofs.Common.{after_tick}
+use Rattle.distributor.proofs.Common.{ne_eqb, ext_get_or, get_or-map, get_or-replicate, get_or-set_other, get_or-set_same, get_or_past, get_or_read}
+use Rattle.distributor.proofs.Common.{length-map, length-replicate, Assignment, Free, Change, IsChained, Path, assignment_port, changed_in_chain}
+use Rattle.distributor.proofs.Common.{is_in_chain, occurs, passes, slot_state, after_change}
 use Rattle.distributor.specs.Conversations.{sum_below}
 use Rattle.distributor.proofs.FoldLemmas.{fold_same, sum_fold}
-use Rattle.distributor.proofs.ChainLemmas.{last_of, first_of, one, one_same, one_other, occurs_append, path_first, path_split, stands_some, chosen}
-use Rattle.distributor.proofs.ChainLemmas.{stands_none, member_stands, member_below, few_on, on_below, before_on, after_on, taken_out, stayed}
+use Rattle.distributor.proofs.ChainLemmas.{last_of, first_of, one, one_same, one_other, occurs_append, path_first, path_split, stands_none}
+use Rattle.distributor.proofs.ChainLemmas.{member_stands, member_below, few_on, on_below, before_on, after_on, taken_out, stayed}
 
 abbrev pub after_first : List ℕ → List ℕ
 after_first [] = []
 after_first (x ∷ xs) = xs
 
 pub split_first : (rest : List ℕ) (at e : ℕ) → at ≡ first_of rest e → (at ≡ e → ⊥) → rest ≡ at ∷ after_first rest
-split_first [] at e m n = absurd (n m)
-split_first (x ∷ xs) at e m n = ap (λ y. y ∷ xs) (sym m)
+split_first rest at e m n = grind arith
 
 -- how many steps the links lead from a place to the end, at most so many
 abbrev pub steps : List ℕ → ℕ → ℕ → ℕ → ℕ
@@ -84,8 +81,7 @@ few_long xs n once below = omega (arith, length_sum xs n below, small_sum (λ k.
 
 pub stands_alike : (d : ℕ) (s t : Assignment) (o : Option ℕ) → assignment_port s ≡ o → assignment_port t ≡ o
     → is_in_chain d s ≡ is_in_chain d t
-stands_alike d s t None h k = stands_none d s h ∙ sym (stands_none d t k)
-stands_alike d s t (Some port) h k = stands_some d port s h ∙ sym (stands_some d port t k)
+stands_alike d s t o h k = grind arith
 
 path_drop : (next prev : List ℕ) (a : ℕ) (ys rest : List ℕ) (b : ℕ) → Path next prev a (ys ++ rest) b → Path next prev (last_of a ys) rest b
 path_drop next prev a [] rest b h = h
@@ -314,31 +310,13 @@ module _ {chain : ℕ} {f : Assignment → Assignment} {count : ℕ} {olds state
       old_here = w.changed at ∙ ap (λ m. cond (ltb 0 m) (slot_state olds at) (changed_in_chain chain f (slot_state olds at)))
           (comes w.standing n)
 
--- a tick leaves a conversation at its port
-pub tick_port : (s : Assignment) → assignment_port (after_tick s) ≡ assignment_port s
-tick_port (Flushing p id preferred age) = chosen (λ s. assignment_port s ≡ Some p) (ltb (age + 1) 30) _ _ (λ e. refl) (λ e. refl)
-tick_port s = refl
-
 abbrev Stays : Assignment → Assignment → Type 0
 Stays s t = (assignment_port t ≡ None) ⊎ (assignment_port t ≡ assignment_port s)
 
 -- a change leaves a conversation at its port, or makes it free
 pub after_port : (change : Change) (s : Assignment) → (assignment_port (after_change change s) ≡ None)
     ⊎ (assignment_port (after_change change s) ≡ assignment_port s)
-after_port (Leave port) (On p) = chosen (Stays (On p)) (eqb p port) _ _ (λ e. inr (sym (ap Some (eqb-true p port e)))) (λ e. inr refl)
-after_port (Leave port) s = inr refl
-after_port (Mark port n) (Wanted p preferred) =
-    chosen (Stays (Wanted p preferred)) (eqb p port) _ _ (λ e. inr (sym (ap Some (eqb-true p port e)))) (λ e. inr refl)
-after_port (Mark port n) s = inr refl
-after_port (Release port n) (Flushing p id preferred age) =
-    chosen (Stays (Flushing p id preferred age)) (eqb p port && eqb id n) _ _ (λ e. inl refl) (λ e. inr refl)
-after_port (Release port n) s = inr refl
-after_port (Down port) (Free preferred) = inr refl
-after_port (Down port) (On p) = chosen (Stays (On p)) (eqb p port) _ _ (λ e. inl refl) (λ e. inr refl)
-after_port (Down port) (Wanted p preferred) = chosen (Stays (Wanted p preferred)) (eqb p port) _ _ (λ e. inl refl) (λ e. inr refl)
-after_port (Down port) (Flushing p id preferred age) =
-    chosen (Stays (Flushing p id preferred age)) (eqb p port) _ _ (λ e. inl refl) (λ e. inr refl)
-after_port Tick s = inr (tick_port s)
+after_port change s = grind arith
 
 -- if it does not become free, it stays at its port
 pub port_kept : (change : Change) (s : Assignment) (port : ℕ) → assignment_port (after_change change s) ≡ Some port
@@ -361,20 +339,11 @@ pub record Counting (chain : ℕ) (p : Assignment → Bool) (count : ℕ) (state
   pub standing : Standing chain count states next prev end at
   pub counted : n ≡ sum_below (seen p states standing.rest) count
 
-pub cond_same : {X : Type 0} (b : Bool) (x : X) → cond b x x ≡ x
-cond_same true x = refl
-cond_same false x = refl
-
 seen_few : (p : Assignment → Bool) (states : List Assignment) (rest : List ℕ) (k : ℕ) → seen p states rest k ≤ 1
-seen_few p states rest k = few (p (slot_state states k) && eqb (occurs k rest) 0)
-  where
-    few : (b : Bool) → bit b ≤ 1
-    few true = omega arith
-    few false = omega arith
+seen_few p states rest k = grind arith
 
 and_true : (b c : Bool) → c ≡ true → (b && c) ≡ b
-and_true true c h = h
-and_true false c h = refl
+and_true b c h = grind arith
 
 -- what passes stands in the chain
 pub counting_begins : {count : ℕ} {states : List Assignment} {next prev : List ℕ} (h : IsChained count states next prev)
@@ -427,30 +396,10 @@ module _ {chain : ℕ} {p : Assignment → Bool} {count : ℕ} {states : List As
           ∙ sym (more ∙ ap (λ x. bit x + sum_below (seen p states h.standing.rest) count) e);
     }
 
-other_port : (p port : ℕ) → eqb (chain_of p) (chain_of port) ≡ false → eqb p port ≡ false
-other_port p port h = ne_eqb p port (λ e. false≢true (sym h ∙ eq-eqb (chain_of p) (chain_of port) (ap chain_of e)))
-
--- what passes stands in the chain of the port that it is tested for
-pub passes_stands : (test : ConversationTest) (s : Assignment) → is_in_chain (chain_of (tested_port test)) s ≡ false → passes test s ≡ false
-passes_stands (WantsMarker port) (Wanted p preferred) h = other_port p port h
-passes_stands (WantsMarker port) s h = refl
-passes_stands (AwaitsResponse port n) (Flushing p id preferred age) h = and_left (eqb p port) (eqb id n) (other_port p port h)
-passes_stands (AwaitsResponse port n) s h = refl
-passes_stands (NamesPort port) (Free preferred) h = refl
-passes_stands (NamesPort port) (On p) h = other_port p port h
-passes_stands (NamesPort port) (Wanted p preferred) h = other_port p port h
-passes_stands (NamesPort port) (Flushing p id preferred age) h = other_port p port h
-passes_stands (HeldOn port) (Wanted p preferred) h = other_port p port h
-passes_stands (HeldOn port) (Flushing p id preferred age) h = other_port p port h
-passes_stands (HeldOn port) s h = refl
-
 -- past the last slot a state reads as free
 pub free_past : (count : ℕ) (states : List Assignment) → length states ≡ count → ((k : ℕ) → k < count → slot_state states k ≡ Free None)
     → (k : ℕ) → slot_state states k ≡ Free None
-free_past count states long free k = elim (cases_Bool (ltb k count)) [
-  | inl e ↦ free k (ltb-true k count e)
-  | inr g ↦ (let past : length states ≤ k = omega (arith, long, ltb-false k count g) in get_or_past states k (Free None) past)
-]
+free_past count states long free k = grind (arith, get_or_past)
 
 -- if the end of every chain is a ring of its own and every slot is free, the slots are chained
 pub all_free : (count : ℕ) (states : List Assignment) (next prev : List ℕ) → count + 64 < 2 ^ 32 → length states ≡ count

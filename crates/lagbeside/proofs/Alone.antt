@@ -1,18 +1,14 @@
 -- A port that is the only one of its key waits for no other.
-use Rattle.lagbeside.proofs.Common.{Bool, List, Some, [], ap, false, refl, slice_get, suc, sym, true, zero, ℕ, ◌&&◌, ◌==◌, ◌∙◌, ◌∷◌, ◌≡◌, ◌≢◌}
-use Rattle.lagbeside.proofs.Common.{and_parts, same_Some, AllByRecursion, AggId, Key, Party, Waiting, same_mux_state, occupies, Reply, SystemPort}
-use Rattle.lagbeside.proofs.Common.{Call, Tick, key_of, occupied, Setting, IsSound, SystemState, Asides, LeavesPort, OnceTicked, Runs, ComesUpAlone}
-use Rattle.lagbeside.proofs.Common.{IsOnlyOfKey, NoneBegins, begins_in}
+use Rattle.lagbeside.proofs.Common.{Bool, List, Some, [], ap, false, refl, slice_get, suc, true, zero, ℕ, ◌&&◌, ◌==◌, ◌∙◌, ◌∷◌, ◌≡◌, ◌≢◌}
+use Rattle.lagbeside.proofs.Common.{AllByRecursion, AggId, Key, Party, Reply, SystemPort, Call, Tick, key_of, occupied, Setting, IsSound, SystemState}
+use Rattle.lagbeside.proofs.Common.{Asides, LeavesPort, OnceTicked, Runs, ComesUpAlone, IsOnlyOfKey, NoneBegins, begins_in}
+use native.Mathlib.Omega.{arith}
 use Rattle.lagbeside.proofs.Beside.{comes_up}
 use Rattle.lagbeside.proofs.EachSetting.{asides_sound, kept_key, key_after}
-use Rattle.lagbeside.proofs.Selecting.{occupies_is}
 
 pub begins_not : (agg : AggId) (key : Key) (keys : List Key) (y : SystemPort) (b : Bool) → begins_in agg y ≡ b → key_of keys agg.0 ≡ Some key
     → (occupied y.port.choice ≡ Some agg.0 → key_of keys agg.0 ≡ Some y.port.party.key) → y.port.party.key ≢ key → b ≡ false
-begins_not agg key keys y false e k agree other = refl
-begins_not agg key keys y true e k agree other =
-    let o = (and_parts (occupies agg y.port.choice) (same_mux_state Waiting y.port.mux && (y.port.wait_while == 20)) e).0 in
-    absurd (other (same_Some y.port.party.key key (sym (agree (occupies_is agg y.port.choice o).0) ∙ k)))
+begins_not agg key keys y b e k agree other = grind arith
 
 none_begin : (n : ℕ) (agg : AggId) (key : Key) (keys : List Key) (ports : List SystemPort) → key_of keys agg.0 ≡ Some key
     → ((j : ℕ) (y : SystemPort) → slice_get ports j ≡ Some y → occupied y.port.choice ≡ Some agg.0 → key_of keys agg.0 ≡ Some y.port.party.key)

@@ -24,9 +24,7 @@ distributing_now m sel sync h e f g = grind (arith, nat_tests)
 
 pub same_number : (old new : SystemState) (i : ℕ) (x y : SystemPort) → IsSound old → IsSound new → new.ports ≡ old.ports
     → slice_get old.system_ports i ≡ Some x → slice_get new.system_ports i ≡ Some y → y.number ≡ x.number
-same_number old new i x y s t e at there =
-    let numbers : port_numbers new.system_ports ≡ port_numbers old.system_ports = t.ports.same ∙ (ap configured_numbers e ∙ sym s.ports.same) in
-    same_place old.system_ports new.system_ports i x y numbers at there
+same_number old new i x y s t e at there = grind (arith, nat_tests, port_numbers, configured_numbers, same_place)
 
 pub runs_ports : (Sets : Setting → Type 0) (gives : ℕ → ℕ → ℕ → Type 0) (old new : SystemState) (calls : List Call) (replies : List Reply)
     (states : List SystemState) → Runs Sets gives old calls replies states new → new.ports ≡ old.ports

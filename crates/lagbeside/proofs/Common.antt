@@ -1,8 +1,8 @@
 -- The names that proofs of this crate import, passed on from one place. Declares nothing; tools/maintain/proof-imports writes it.
 pub use Rattle.std.proofs.Common.{Bool, Err, IsTrue, List, None, Ok, Option, Result, Some, [], ap, arith, cond, eqb-true, false, filter, find}
-pub use Rattle.std.proofs.Common.{if◌then◌else◌, inl, inr, length, ltb, nat_le, nat_lt, not, option_map, refl, slice_get, slice_set, subst, suc, sym}
-pub use Rattle.std.proofs.Common.{true, zero, ℕ, ◌&&◌, ◌++◌, ◌+◌, ◌-◌, ◌<◌, ◌==◌, ◌||◌, ◌∙◌, ◌∷◌, ◌≡◌, ◌≢◌, ◌≤◌, ◌⊎◌}
-pub use Rattle.std.proofs.lemmas.Bool.{and_parts, cases_Bool, false≢true, ltb-true}
+pub use Rattle.std.proofs.Common.{if◌then◌else◌, inl, inr, length, nat_le, nat_lt, not, option_map, refl, slice_get, slice_set, subst, suc, sym, true}
+pub use Rattle.std.proofs.Common.{zero, ℕ, ◌&&◌, ◌++◌, ◌+◌, ◌-◌, ◌<◌, ◌==◌, ◌||◌, ◌∙◌, ◌∷◌, ◌≡◌, ◌≢◌, ◌≤◌, ◌⊎◌}
+pub use Rattle.std.proofs.lemmas.Bool.{and_parts, cases_Bool, false≢true}
 pub use Rattle.std.proofs.lemmas.Bool.Decides.{nat_tests}
 pub use Rattle.std.proofs.lemmas.Option.{none-some, same_Some, slice_get-map}
 pub use Rattle.std.specs.List.{AllByRecursion, enumerate_from, list_all, list_any}
@@ -41,9 +41,8 @@ pub use Rattle.selection.specs.Choice.{occupants, occupants_share_group, or_else
 pub use Rattle.selection.specs.Limits.{AggregatorsValue, has_room, is_below}
 pub use Rattle.selection.specs.Views.{has_chosen, has_waited, is_detached, is_detached_or_waiting, is_eligible, occupies, stands_by}
 pub use Rattle.distributor.specs.declared.assignment.Assignment.{Assignment}
-pub use Rattle.distributor.specs.declared.assignment.Assignment.TheVariants.{Flushing, On, Wanted}
 pub use Rattle.distributor.specs.Calls.{force_result, leave_result, move_result}
-pub use Rattle.distributor.specs.Changes.{SetsAssignment, after_down, after_mark, after_release, after_tick, marker_due}
+pub use Rattle.distributor.specs.Changes.{SetsAssignment, after_down, after_mark, after_release, after_tick}
 pub use Rattle.distributor.specs.Conversations.{Table, assignment_of, next_identifier}
 pub use Rattle.lagsystem.specs.declared.drive.Reply.{Reply as Answer, Reply}
 pub use Rattle.lagsystem.specs.declared.fault.SystemFault.{SystemFault}
@@ -66,10 +65,9 @@ pub use Rattle.lagsystem.specs.Settling.{ChoosesIn, PortsChangeBy, PromotesNext,
 pub use Rattle.lagsystem.specs.Sound.{IsSound}
 pub use Rattle.lagsystem.specs.State.{SystemState, aggregators_value, port_index, port_numbers, with_system_ports, with_table}
 pub use Rattle.lagsystem.specs.Views.{may_choose, selection_view, stage_of, views}
-pub use Rattle.lagsystem.specs.Windows.{reply_has_lacpdu, subtype}
 pub use Rattle.lagsystem.proofs.Effects.{named}
-pub use Rattle.lagsystem.proofs.Keeps.{Step-frame, keeps_place, keeps_settled, ports_table, settling_keeps, settling_parts}
-pub use Rattle.lagsystem.proofs.Rest.{becomes_slots, can_receive_at_rest, last_slots, marker_slots, offers_slots, rests, same_slots, zip_all}
+pub use Rattle.lagsystem.proofs.Keeps.{Step-frame, keeps_place, keeps_settled, ports_table, settling_parts}
+pub use Rattle.lagsystem.proofs.Rest.{can_receive_at_rest, last_slots, same_slots, zip_all}
 pub use Rattle.lagsystem.proofs.Rising.{Rises, all-get, all-set, found_place, ports_rise}
 pub use Rattle.lagsystem.proofs.Sound.{Step-sound}
 pub use Rattle.lagbeside.specs.Hearing.{IsNoticed, LeavesUnheard, processed_on}

@@ -21,10 +21,7 @@ bit_more : (a b : Bool) (m n : ℕ) → a ≡ false → b ≡ true → m ≤ n �
 bit_more a b m n h k l = grind (arith, nat_tests)
 
 later_more : (a b : Bool) (m n : ℕ) → (a ≡ true → b ≡ true) → m + 1 ≤ n → cond a (suc m) m + 1 ≤ cond b (suc n) n
-later_more true true m n h l = omega (arith, l)
-later_more true false m n h l = absurd (false≢true (h refl))
-later_more false true m n h l = omega (arith, l)
-later_more false false m n h l = l
+later_more a b m n h l = grind (arith, nat_tests)
 
 -- a test that is met more often, by the elements of the list, counts at least as many
 pub count_less_of : {A : Type 0} (one other : A → Bool) (xs : List A)

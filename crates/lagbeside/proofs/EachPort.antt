@@ -4,14 +4,14 @@ use Rattle.lagbeside.proofs.Common.{slice_set, subst, sym, true, ℕ, ◌&&◌, 
 use Rattle.lagbeside.proofs.Common.{AllByRecursion, AggId, Choice, Selected, Standby, is_selected, is_unselected, Lacpdu, MuxState, Attached}
 use Rattle.lagbeside.proofs.Common.{CollectingDistributing, Detached, Waiting, Setup, Machines, is_synchronized, mux_rows, partner_synchronized}
 use Rattle.lagbeside.proofs.Common.{same_mux_state, RunsPeriodic, receive_rows, RunsToRest, Starts, before_start, after_sending, count_down, is_due}
-use Rattle.lagbeside.proofs.Common.{PortView, AggregatorsValue, is_eligible, marker_due, Reply, SystemFault, Received, TookLacpdu, SystemPort}
-use Rattle.lagbeside.proofs.Common.{AnswersMarker, Call, Carries, ChangesParty, Configure, Data_frame, Faulty, Force, GivesEffect, IsFrame}
-use Rattle.lagbeside.proofs.Common.{Move_conversation, Offer, OnlyPortChangesBy, ParsesWhere, Performs, PortAtChangesBy, ProcessesLacpdu, Receive}
-use Rattle.lagbeside.proofs.Common.{ReceivedFrame, ReceivesAt, Releases, Restart, Runt, Set_link, SetsPortEnabled, Step, ThenSettles, Tick, Transmit}
-use Rattle.lagbeside.proofs.Common.{up_or_dropped, HasJustStarted, IsFirst, setup_of, system_force_result, system_move_result, collecting}
-use Rattle.lagbeside.proofs.Common.{TransmitsAt, TransmitsIf, ChoosesIn, PortsChangeBy, PromotesNext, Settling, choice_for, ready_of, with_choice}
-use Rattle.lagbeside.proofs.Common.{SystemState, aggregators_value, port_index, with_system_ports, views, reply_has_lacpdu, subtype, becomes_slots}
-use Rattle.lagbeside.proofs.Common.{last_slots, marker_slots, offers_slots, same_slots, zip_all, all-get, all-set, found_place}
+use Rattle.lagbeside.proofs.Common.{PortView, AggregatorsValue, is_eligible, Reply, SystemFault, Received, TookLacpdu, SystemPort, AnswersMarker}
+use Rattle.lagbeside.proofs.Common.{Call, Carries, ChangesParty, Configure, Data_frame, Faulty, Force, GivesEffect, IsFrame, Move_conversation, Offer}
+use Rattle.lagbeside.proofs.Common.{OnlyPortChangesBy, ParsesWhere, Performs, PortAtChangesBy, ProcessesLacpdu, Receive, ReceivedFrame, ReceivesAt}
+use Rattle.lagbeside.proofs.Common.{Releases, Restart, Runt, Set_link, SetsPortEnabled, Step, ThenSettles, Tick, Transmit, up_or_dropped}
+use Rattle.lagbeside.proofs.Common.{HasJustStarted, IsFirst, setup_of, collecting, TransmitsAt, TransmitsIf, ChoosesIn, PortsChangeBy, PromotesNext}
+use Rattle.lagbeside.proofs.Common.{Settling, choice_for, ready_of, with_choice, SystemState, aggregators_value, port_index, with_system_ports, views}
+use Rattle.lagbeside.proofs.Common.{last_slots, same_slots, zip_all, all-get, all-set, found_place}
+use Rattle.lagsystem.specs.Windows.{reply_has_lacpdu, subtype}
 use Rattle.lagsystem.proofs.Limiting.{next_stands}
 use Rattle.lagsystem.proofs.Preserves.{lacpdu_subtype}
 use Rattle.lagsystem.proofs.PromotionLemmas.{choices_keep, promotions_keep}
@@ -98,19 +98,9 @@ mux_rested P k n p q h a = (
   λ e. detached_there q.mux q.choice (not (partner_synchronized q)) e h.2.1.0 h.2.1.1.1.0 h.2.1.1.1.1.1.0,
 )
 
-selected_now : (c : Choice) (agg : AggId) → c ≡ Selected agg → is_unselected c ≡ true → ⊥
-selected_now c agg e h = grind (arith, nat_tests)
-
 rest_selects : (P : ℕ → Machines → Type 0) → KeptBySettling P → (n : ℕ) (choice : Choice) (p : Machines) → is_selected p.choice ≡ false
     → MayBeGiven choice p → AtRestAnd P n p → AtRestAnd P n (record p { choice = choice })
-rest_selects P k n choice p none may a = (
-  k.select n choice p none may a.0,
-  λ e. may.1,
-  elim may.0 [
-    | inl u ↦ λ e. u.1
-    | inr s ↦ λ e. absurd (selected_now choice s.0 s.2 e)
-  ],
-)
+rest_selects P k n choice p none may a = grind (arith, nat_tests)
 
 firsts : (P : ℕ → Machines → Type 0) (xs : List SystemPort) → OfEach (AtRestAnd P) xs → OfEach P xs
 firsts P [] a = tt
@@ -119,16 +109,13 @@ firsts P (x ∷ xs) a = (a.0.0, firsts P xs a.1)
 given : (P : ℕ → Machines → Type 0) → Selects P → (s : SystemPort) (o : Option Choice)
     → ((choice : Choice) → o ≡ Some choice → (is_selected s.port.choice ≡ false) × MayBeGiven choice s.port) → P s.number s.port
     → P (with_choice s o).number (with_choice s o).port
-given P k s None h a = a
-given P k s (Some choice) h a = let m = h choice refl in k s.number choice s.port m.0 m.1 a
+given P k s o h a = grind (arith, nat_tests)
 
 gives_one : (P : ℕ → Machines → Type 0) → Selects P → (l : List SystemPort) (i : ℕ) (s : SystemPort) (o : Option Choice)
     → ((choice : Choice) → o ≡ Some choice → (is_selected s.port.choice ≡ false) × MayBeGiven choice s.port) → slice_get l i ≡ Some s
     → OfEach P l
     → OfEach P (slice_set l i (with_choice s o))
-gives_one P k l i s o h e a =
-    let Q : SystemPort → Type 0 = λ x. P x.number x.port in
-    all-set Q l i (with_choice s o) a (given P k s o h (all-get Q l i s e a))
+gives_one P k l i s o h e a = grind (arith, nat_tests, all-set, with_choice, given, all-get)
 
 -- the port at the place is so
 rest_at : (P : ℕ → Machines → Type 0) (l : List SystemPort) (i : ℕ) (s : SystemPort) → slice_get l i ≡ Some s → OfEach (AtRestAnd P) l
@@ -189,13 +176,7 @@ settling_each P k old new h a =
 
 pub place_each : (P : ℕ → Machines → Type 0) (R : Machines → Machines → Type 0) (n : ℕ) → ((p q : Machines) → R p q → P n p → P n q)
     → (o : Option ℕ) (old new : List SystemPort) → port_index n old ≡ o → PortAtChangesBy R o old new → OfEach P old → OfEach P new
-place_each P R n k None old new e h a = absurd h
-place_each P R n k (Some i) old new e h a =
-    let Q : SystemPort → Type 0 = λ x. P x.number x.port in
-    let numbered : h.0.number ≡ n = found_place n old i h.0 e h.2 in
-    let was : P n h.0.port = subst (λ m. P m h.0.port) numbered (all-get Q old i h.0 h.2 a) in
-    subst (OfEach P) (sym h.4) (all-set Q old i (record h.0 { port = h.1 }) a (subst (λ m. P m h.1) (sym numbered) (k h.0.port
-    h.1 h.3 was)))
+place_each P R n k o old new e h a = grind (arith, nat_tests, found_place, all-get, OfEach, all-set)
 
 same_each : (P : ℕ → Machines → Type 0) (s t : SystemState) → t.system_ports ≡ s.system_ports → OfEach P s.system_ports
     → OfEach P t.system_ports
@@ -219,8 +200,7 @@ sends_each P n true true i x old answer new k at e h a =
     subst (OfEach P) (sym (ap (λ (s : SystemState). s.system_ports) h.3))
     (all-set Q old.system_ports i (record x { port = after_sending x.port }) a
     (subst (λ m. P m (after_sending x.port)) (sym numbered) (k x.port told was)))
-sends_each P n true false i x old answer new k at e h a =
-    same_each P old new (marker_slots (marker_due old.table x.number) x.number x.mac old answer new h) a
+sends_each P n true false i x old answer new k at e h a = grind (arith, nat_tests)
 
 transmits_each : (P : ℕ → Machines → Type 0) (n : ℕ) (o : Option ℕ) (old : SystemState) (answer : Option (List ℕ)) (new :
     SystemState)
@@ -239,8 +219,7 @@ asked_each P k gives n (Ok o) old new h b = transmits_each P n (port_index n old
 
 released_same : (b : Bool) (port : ℕ) (m : Marker) (old : SystemState) (answer : Received) (new : SystemState) → Releases b port m old answer new
     → new.system_ports ≡ old.system_ports
-released_same false port m old answer new h = ap (λ (s : SystemState). s.system_ports) h.1
-released_same true port m old answer new h = ap (λ (s : SystemState). s.system_ports) h.2
+released_same b port m old answer new h = grind (arith, nat_tests)
 
 -- what receive does, by the frame that came
 module _ (P : ℕ → Machines → Type 0) (s : KeptBySettling P) (n : ℕ) (octets : List ℕ) (old : SystemState) (answer : Received) (new : SystemState)
@@ -277,12 +256,10 @@ module _ (P : ℕ → Machines → Type 0) (s : KeptBySettling P) (n : ℕ) (oct
 
 -- an LACPDU that was taken came in these octets
 no_lacpdu : (o : Option AggId) → TookLacpdu ≡ up_or_dropped o → ⊥
-no_lacpdu None e = cc
-no_lacpdu (Some agg) e = cc
+no_lacpdu o e = grind (arith, nat_tests)
 
 no_release : (b : Bool) (port : ℕ) (m : Marker) (old new : SystemState) → Releases b port m old TookLacpdu new → ⊥
-no_release false port m old new h = let e = h.0 in cc
-no_release true port m old new h = let e = h.0 in cc
+no_release b port m old new h = grind (arith, nat_tests)
 
 module _ (index : Option ℕ) (octets : List ℕ) (old : SystemState) (new : SystemState) (h : ReceivesAt index octets old TookLacpdu new) where
   abbrev Took : Type 0
@@ -344,16 +321,12 @@ Step-each P s gives old (Configure n change) (reply.Configure (Ok true)) new k h
     settling_each P s h.0 new h.2 (place_each P (ChangesParty change) n k (port_index n old.system_ports) old.system_ports
     h.0.system_ports refl h.1.0 a)
 Step-each P s gives old (Configure n change) (reply.Configure (Ok false)) new k h a = same_each P old new (same_slots old new h.1) a
-Step-each P s gives old (Configure n change) (reply.Configure (Err fault)) new k h a = same_each P old new (same_slots old new
-    h.same) a
+Step-each P s gives old (Configure n change) (reply.Configure (Err fault)) new k h a = grind (arith, nat_tests)
 Step-each P s gives old Restart reply.Restart new k h a = first_each P s k new h.1
 Step-each P s gives old (Transmit n) (reply.Transmit (Ok answer)) new k h a =
     transmits_each P n (port_index n old.system_ports) old answer new k refl h a
 Step-each P s gives old (Transmit n) (reply.Transmit (Err fault)) new k h a = same_each P old new (same_slots old new h.same) a
-Step-each P s gives old (Offer agg octets) (reply.Offer answer) new k h a =
-    same_each P old new (offers_slots gives agg octets old answer new h) a
-Step-each P s gives old (Move_conversation agg conv port) (reply.MoveConversation answer) new k h a =
-    same_each P old new (becomes_slots agg conv (system_move_result old agg conv port) old answer new h) a
-Step-each P s gives old (Force agg conv) (reply.Force answer) new k h a =
-    same_each P old new (becomes_slots agg conv (system_force_result old agg conv) old answer new h) a
+Step-each P s gives old (Offer agg octets) (reply.Offer answer) new k h a = grind (arith, nat_tests)
+Step-each P s gives old (Move_conversation agg conv port) (reply.MoveConversation answer) new k h a = grind (arith, nat_tests)
+Step-each P s gives old (Force agg conv) (reply.Force answer) new k h a = grind (arith, nat_tests)
 Step-each P s gives old call answer new k h a = absurd h

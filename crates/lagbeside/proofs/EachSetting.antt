@@ -1,9 +1,10 @@
 -- What the machines of a port keep, every setting keeps of each port, and so does what stands between two calls.
-use Rattle.lagbeside.proofs.Common.{Bool, Err, List, None, Ok, Option, Result, Some, [], ap, false, inl, inr, refl, subst, suc, sym, true, zero, ℕ}
-use Rattle.lagbeside.proofs.Common.{◌∙◌, ◌∷◌, ◌≡◌, AggId, Key, Unselected, with_mode, Machines, Reply, SystemFault, SystemPort, Call, Step}
+use Rattle.lagbeside.proofs.Common.{Bool, Err, List, None, Ok, Option, Result, Some, [], ap, false, inl, inr, refl, subst, suc, sym, zero, ℕ, ◌∙◌}
+use Rattle.lagbeside.proofs.Common.{◌∷◌, ◌≡◌, AggId, Key, Unselected, with_mode, Machines, Reply, SystemFault, SystemPort, Call, Step}
 use Rattle.lagbeside.proofs.Common.{choice_with_link, key_of, SetsPort, Setting, SettingStep, in_mode, is_held_so, is_in_mode, with_held, Settling}
-use Rattle.lagbeside.proofs.Common.{IsSound, SystemState, port_index, with_table, Step-frame, settling_keeps, all-get, all-set, found_place}
-use Rattle.lagbeside.proofs.Common.{AsideTimes, Asides, IsAside, Runs}
+use Rattle.lagbeside.proofs.Common.{IsSound, SystemState, port_index, with_table, Step-frame, all-get, all-set, found_place, AsideTimes, Asides}
+use Rattle.lagbeside.proofs.Common.{IsAside, Runs}
+use native.Mathlib.Omega.{arith}
 use Rattle.lagbeside.proofs.EachPort.{KeptBySettling, OfEach, settling_each, zip_kept}
 
 -- what a setting itself does keeps P
@@ -28,14 +29,11 @@ set_each P k n already change c (Some i) old new e h a = elim h [
 
 held_kept : (P : ℕ → Machines → Type 0) (n : ℕ) (held : Bool) → ((p : Machines) → P n p → P n (record p { choice = Unselected }))
     → (x : SystemPort) → x.number ≡ n → P x.number x.port → P (with_held held x).number (with_held held x).port
-held_kept P n true c x e a = subst (λ m. P m (record x.port { choice = Unselected })) (sym e) (c x.port (subst (λ m. P m x.port) e a))
-held_kept P n false c x e a = a
+held_kept P n held c x e a = grind arith
 
 link_kept : (P : Machines → Type 0) (max_links : Option ℕ) (up : Bool) (p : Machines) → (up ≡ false → P p → P (record p { choice = Unselected }))
     → P p → P (record p { choice = choice_with_link max_links up p.choice })
-link_kept P None up p c a = a
-link_kept P (Some most) true p c a = a
-link_kept P (Some most) false p c a = c refl a
+link_kept P max_links up p c a = grind arith
 
 pub Setting-each : (P : ℕ → Machines → Type 0) → KeptBySettling P → (old new : SystemState) (setting : Setting)
     (answer : Result Unit SystemFault) → KeptBySetting P setting → SettingStep old setting answer new → OfEach P old.system_ports
@@ -43,54 +41,26 @@ pub Setting-each : (P : ℕ → Machines → Type 0) → KeptBySettling P → (o
 Setting-each P k old new (Setting.Hold_port n held) (Ok done) c h t = set_each P k n (is_held_so held) (with_held held)
     (held_kept P n held c) (port_index n old.system_ports) old new refl h t
 Setting-each P k old new (Setting.Hold_port n held) (Err fault) c h t = subst (λ (s : SystemState). OfEach P s.system_ports) (sym h.same) t
-Setting-each P k old new (Setting.Set_mode n active short) (Ok done) c h t = set_each P k n (is_in_mode active short)
-    (in_mode active short)
-    (λ x e a. subst (λ m. P m (with_mode active short x.port)) (sym e) (c x.port (subst (λ m. P m x.port) e a)))
-    (port_index n old.system_ports) old new refl h t
-Setting-each P k old new (Setting.Set_mode n active short) (Err fault) c h t =
-    subst (λ (s : SystemState). OfEach P s.system_ports) (sym h.same) t
+Setting-each P k old new (Setting.Set_mode n active short) (Ok done) c h t = grind (arith, set_each, is_in_mode, in_mode, with_mode, port_index)
+Setting-each P k old new (Setting.Set_mode n active short) (Err fault) c h t = grind arith
 Setting-each P k old new (Setting.Set_max_delay max_delay) (Ok done) c h t = subst (λ (s : SystemState). OfEach P s.system_ports) (sym h) t
 Setting-each P k old new (Setting.Set_max_delay max_delay) (Err fault) c h t = absurd h
 Setting-each P k old new (Setting.Set_max_links max_links) (Ok done) c h t = settling_each P k h.1.0 new h.1.2
     (zip_kept (λ p q. q ≡ record p { choice = choice_with_link max_links p.enabled p.choice }) P P
     (λ n p q e a. subst (P n) (sym e) (link_kept (P n) max_links p.enabled p (c n p) a)) old.system_ports h.1.0.system_ports h.1.1.0 t)
-Setting-each P k old new (Setting.Set_max_links max_links) (Err fault) c h t =
-    subst (λ (s : SystemState). OfEach P s.system_ports) (sym h.1) t
+Setting-each P k old new (Setting.Set_max_links max_links) (Err fault) c h t = grind arith
 
 -- the aggregators and the configured ports stay
 
 abbrev pub Stands : SystemState → SystemState → Type 0
 Stands old new = (new.keys ≡ old.keys) × (new.ports ≡ old.ports)
 
-stands_as : (old new : SystemState) → new ≡ old → Stands old new
-stands_as old new e = (ap (λ (s : SystemState). s.keys) e, ap (λ (s : SystemState). s.ports) e)
-
 stands_settled : (old mid new : SystemState) → Stands old mid → Settling mid new → Stands old new
-stands_settled old mid new a h =
-    let k = settling_keeps mid new h in (ap (λ (s : SystemState). s.keys) k.frame ∙ a.0, ap (λ (s : SystemState). s.ports) k.frame ∙ a.1)
-
-set_stands : (already : SystemPort → Bool) (change : SystemPort → SystemPort) (o : Option ℕ) (old new : SystemState)
-    → SetsPort already change o old new → Stands old new
-set_stands already change None old new h = absurd h
-set_stands already change (Some i) old new h = elim h [
-  | inl same ↦ stands_as old new same.1
-  | inr settled ↦ stands_settled old settled.0 new
-      (ap (λ (s : SystemState). s.keys) settled.1.1, ap (λ (s : SystemState). s.ports) settled.1.1) settled.2
-]
+stands_settled old mid new a h = grind arith
 
 setting_stands : (old new : SystemState) (setting : Setting) (answer : Result Unit SystemFault) → SettingStep old setting answer new
     → Stands old new
-setting_stands old new (Setting.Hold_port n held) (Ok done) h =
-    set_stands (is_held_so held) (with_held held) (port_index n old.system_ports) old new h
-setting_stands old new (Setting.Hold_port n held) (Err fault) h = stands_as old new h.same
-setting_stands old new (Setting.Set_mode n active short) (Ok done) h =
-    set_stands (is_in_mode active short) (in_mode active short) (port_index n old.system_ports) old new h
-setting_stands old new (Setting.Set_mode n active short) (Err fault) h = stands_as old new h.same
-setting_stands old new (Setting.Set_max_delay max_delay) (Ok done) h = (ap (λ (s : SystemState). s.keys) h, ap (λ (s : SystemState). s.ports) h)
-setting_stands old new (Setting.Set_max_delay max_delay) (Err fault) h = absurd h
-setting_stands old new (Setting.Set_max_links max_links) (Ok done) h = stands_settled old h.1.0 new
-    (ap (λ (s : SystemState). s.keys) h.1.1.1, ap (λ (s : SystemState). s.ports) h.1.1.1) h.1.2
-setting_stands old new (Setting.Set_max_links max_links) (Err fault) h = stands_as old new h.1
+setting_stands old new setting answer h = grind arith
 
 -- what stands between two calls
 

@@ -1,8 +1,8 @@
 -- From the first LACPDU on.
 use Rattle.lagbeside.proofs.Common.{Bool, Ok, ap, arith, false, inl, inr, refl, subst, sym, true, ℕ, ◌∙◌, ◌≡◌, ◌≤◌, ◌⊎◌, AggId, Choice, Selected}
-use Rattle.lagbeside.proofs.Common.{Standby, Unselected, Party, is_selected, Machines, TookLacpdu, SystemPort, Receive, SystemState, port_index}
-use Rattle.lagbeside.proofs.Common.{Step-frame, all-get, ports_rise, Step-sound, EachCall, LeavesPort, OnceTicked, Runs, StandsByFull}
-use Rattle.lagbeside.proofs.Common.{WantsAggregator, CarriesBeside, Fed, IsServed, LeavesServed, NoneBegins, Service, WaitsAreBounded, timeout_time}
+use Rattle.lagbeside.proofs.Common.{Party, is_selected, Machines, TookLacpdu, SystemPort, Receive, SystemState, port_index, Step-frame, all-get}
+use Rattle.lagbeside.proofs.Common.{ports_rise, Step-sound, EachCall, LeavesPort, OnceTicked, Runs, StandsByFull, WantsAggregator, CarriesBeside, Fed}
+use Rattle.lagbeside.proofs.Common.{IsServed, LeavesServed, NoneBegins, Service, WaitsAreBounded, timeout_time}
 use Rattle.lagsystem.specs.declared.drive.Reply.TheVariants as reply
 use Rattle.lagbeside.proofs.Beside.{comes_up, same_number}
 use Rattle.lagbeside.proofs.EachPort.{Step-each, took}
@@ -12,9 +12,7 @@ use Rattle.lagbeside.proofs.Serving.{served_first, takes_at}
 use Rattle.lagbeside.proofs.Others.{bounded_settles, bounded_takes}
 
 place_of : (c : Choice) → is_selected c ≡ true → (agg : AggId) × (c ≡ Selected agg)
-place_of Unselected h = absurd cc
-place_of (Standby agg) h = absurd cc
-place_of (Selected agg) h = (agg, refl)
+place_of c h = grind arith
 
 abbrev Ready-for : Service → Machines → Type 0
 Ready-for u p = (p.enabled ≡ true) × (p.party ≡ u.own) × (p.active ≡ u.active) × (p.short ≡ u.short)

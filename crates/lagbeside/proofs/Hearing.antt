@@ -1,10 +1,10 @@
 -- A port that processes no LACPDU comes nearer to EXPIRED and DEFAULTED with each tick.
-use Rattle.lagbeside.proofs.Common.{Bool, IsTrue, List, [], ap, arith, false, if◌then◌else◌, inl, inr, not, refl, subst, suc, sym, true, zero, ℕ}
-use Rattle.lagbeside.proofs.Common.{◌&&◌, ◌+◌, ◌-◌, ◌==◌, ◌∙◌, ◌∷◌, ◌≡◌, ◌≤◌, nat_tests, ReceiveState, Current, Defaulted, Expired, Initialize}
+use Rattle.lagbeside.proofs.Common.{Bool, IsTrue, List, [], arith, false, if◌then◌else◌, inl, inr, not, refl, subst, suc, sym, true, zero, ℕ, ◌&&◌}
+use Rattle.lagbeside.proofs.Common.{◌+◌, ◌-◌, ◌==◌, ◌∙◌, ◌∷◌, ◌≡◌, ◌≤◌, nat_tests, ReceiveState, Current, Defaulted, Expired, Initialize}
 use Rattle.lagbeside.proofs.Common.{PortDisabled, Machines, periodic_rows, receive_rows, same_receive_state, AtRest, Fires, FiresTimes, Row}
 use Rattle.lagbeside.proofs.Common.{RunsToRest, count_down, Reply, SystemPort, Call, Configure, Receive, Restart, Set_link, Tick, Transmit}
 use Rattle.lagbeside.proofs.Common.{choice_with_link, can_receive_in, none_enabled, can_receive_at_rest, all-get, IsNoticed, LeavesUnheard}
-use Rattle.lagbeside.proofs.Common.{processed_on, tick_count, IsTimed, most_current_while, timeout_time}
+use Rattle.lagbeside.proofs.Common.{tick_count, IsTimed, most_current_while, timeout_time}
 use Rattle.lagbeside.proofs.EachPort.{KeptByCall, KeptBySettling}
 use Rattle.lagbeside.proofs.OnePort.{AtPort, GoesOn, goes_on, settling_leaves}
 
@@ -70,9 +70,7 @@ unheard_settles n most k = settling_leaves (AtPort n (UnheardFor most k))
 -- a tick
 
 pub counts : (most n : ℕ) (r : ReceiveState) → Within 1 most r n → Within 0 (most - 1) r (n - 1)
-counts most n Expired w = (omega (arith, w.0), omega arith)
-counts most n Current w = (omega (arith, w.0, w.1), omega (arith, w.1))
-counts most n r w = w
+counts most n r w = grind (arith, nat_tests)
 
 pub rested : (most n : ℕ) (r : ReceiveState) → (same_receive_state Expired r && (n == 0)) ≡ false
     → (same_receive_state Current r && (n == 0)) ≡ false
@@ -103,8 +101,7 @@ calls_unheard n most k Tick answer u t = absurd (t refl)
 calls_unheard n most k (Set_link m up) answer u t = λ max_links p q h a e.
     receives 1 most (record p { enabled = up; choice = choice_with_link max_links up p.choice }) q h
     (stays_up (m == n) up u.0 (is_number m n e), (a e).1)
-calls_unheard n most k (Receive m octets) answer u t = λ v p q took f h a e.
-    both (m == n) (is_number m n e) (sym (ap (λ (r : Reply). processed_on n (Receive m octets) r) took) ∙ u.1)
+calls_unheard n most k (Receive m octets) answer u t = grind (arith, nat_tests)
 calls_unheard n most k (Configure m change) answer u t = λ p q h a e. both (m == n) (is_number m n e) u.0
 calls_unheard n most k Restart answer u t = absurd (no (sym u.0))
 calls_unheard n most k (Transmit m) answer u t = λ p told a e. a e
@@ -117,17 +114,10 @@ unheard_goes_on n = record { settles = unheard_settles n; ticks = tick_unheard; 
 
 pub begins : (r : ReceiveState) (short : Bool) (n : ℕ) → can_receive_in r ≡ true → n ≤ most_current_while r → n ≤ timeout_time short
     → Within 1 (timeout_time short + 30) r n
-begins Initialize short n c l t = absurd (no c)
-begins PortDisabled short n c l t = absurd (no c)
-begins Defaulted short n c l t = tt
-begins Expired true n c l t = (omega (arith, l), omega arith)
-begins Expired false n c l t = (omega (arith, l), omega arith)
-begins Current true n c l t = (omega (arith, t), omega arith)
-begins Current false n c l t = (omega (arith, t), omega arith)
+begins r short n c l t = grind (arith, nat_tests)
 
 pub when_up : (up : Bool) (b : Bool) → up ≡ true → (if up then b else true) ≡ true → b ≡ true
-when_up true b e h = h
-when_up false b e h = absurd (no e)
+when_up up b e h = grind (arith, nat_tests)
 
 not_current : (most n : ℕ) (r : ReceiveState) → most ≤ 30 → Within 1 most r n → r ≡ Current → ⊥
 not_current most n r l w e = grind (arith, nat_tests)
@@ -148,7 +138,4 @@ is_noticed gives old new calls replies i x y s t at within up h u there =
     ) in
     let end = goes_on (LeavesUnheard x.number) UnheardFor gives most old new calls replies i x y (unheard_goes_on x.number) s at
     first h u there in
-    let ticks = tick_count calls in (
-      λ l. not_current (most - ticks) y.port.current_while y.port.receive (omega (arith, l)) end.1.1,
-      λ l. is_defaulted (most - ticks) y.port.current_while y.port.receive (omega (arith, l)) end.1.1,
-    )
+    grind (arith, nat_tests, tick_count, not_current, is_defaulted)

@@ -1,8 +1,8 @@
 -- A port that is active, whose link stays up and that sends nothing comes nearer to its next LACPDU with each tick.
-use Rattle.lagbeside.proofs.Common.{Bool, ap, arith, false, if◌then◌else◌, inl, refl, subst, sym, true, ℕ, ◌+◌, ◌-◌, ◌==◌, ◌∙◌, ◌≡◌, ◌≤◌, ◌⊎◌}
-use Rattle.lagbeside.proofs.Common.{Machines, mux_rows, periodic_rows, receive_rows, start_receive, AtRest, RunsToRest, count_down, Reply, SystemPort}
-use Rattle.lagbeside.proofs.Common.{Call, Configure, Receive, Restart, Set_link, Tick, Transmit, changed_party, choice_with_link, PeriodicIsSettled}
-use Rattle.lagbeside.proofs.Common.{reply_has_lacpdu, all-get, IsHeard, IsSilentShortly, LeavesUpAndSilent, tick_count, IsLoud, IsTimed}
+use Rattle.lagbeside.proofs.Common.{Bool, arith, false, if◌then◌else◌, inl, refl, subst, sym, true, ℕ, ◌+◌, ◌-◌, ◌==◌, ◌∙◌, ◌≡◌, ◌≤◌, ◌⊎◌, Machines}
+use Rattle.lagbeside.proofs.Common.{mux_rows, periodic_rows, receive_rows, start_receive, AtRest, RunsToRest, count_down, Reply, SystemPort, Call}
+use Rattle.lagbeside.proofs.Common.{Configure, Receive, Restart, Set_link, Tick, Transmit, changed_party, choice_with_link, PeriodicIsSettled}
+use Rattle.lagbeside.proofs.Common.{all-get, IsHeard, IsSilentShortly, LeavesUpAndSilent, tick_count, IsLoud, IsTimed}
 use Rattle.lagbeside.proofs.EachPort.{KeptByCall, KeptBySettling}
 use Rattle.lagbeside.proofs.OnePort.{AtPort, GoesOn, goes_on, mux_leaves, periodic_leaves}
 use Rattle.lagbeside.proofs.Silence.{loud}
@@ -36,8 +36,7 @@ receive_silent : (most k : ℕ) → RowsKeep (Silent most k) receive_rows
 receive_silent most k = (λ p a. a, (λ p a. a, (λ p a. a, (λ p a. a, (λ p a. a, tt)))))
 
 pub raised : (b ntt : Bool) (S : Type 0) → (ntt ≡ true) ⊎ S → ((if b then ntt else true) ≡ true) ⊎ S
-raised true ntt S h = h
-raised false ntt S h = inl refl
+raised b ntt S h = grind arith
 
 calls_silent : (n most k : ℕ) (call : Call) (answer : Reply) → LeavesUpAndSilent n call answer → (call ≡ Tick → ⊥)
     → KeptByCall (SilentAt n most k) call answer
@@ -53,8 +52,7 @@ calls_silent n most k (Configure m change) answer u t = λ p q c b e.
     c.1.0 c.1.1 (b e) in
     subst (Silent most k) (sym c.1.2) (mid.0, (inl refl, mid.1.1))
 calls_silent n most k Restart answer u t = absurd (no (sym u.0))
-calls_silent n most k (Transmit m) answer u t = λ p told a e.
-    absurd (no (sym u.1 ∙ (ap (λ j. reply_has_lacpdu j (Transmit m) answer) (sym e) ∙ told)))
+calls_silent n most k (Transmit m) answer u t = grind arith
 calls_silent n most k call answer u t = tt
 
 -- a tick
@@ -77,6 +75,4 @@ is_heard gives old new calls replies i x y s t at l h u many there =
     now_due false y.port rest.rows (loud y.port end.1.0).0 (subst (λ m. Sounds false m y.port) (omega (arith, many)) end.1.1)
 
 pub is_silent_shortly : (gives : ℕ → ℕ → ℕ → Type 0) → IsSilentShortly gives
-is_silent_shortly gives old new calls replies i x y s t at l h u there none =
-    let few : 309 ≤ tick_count calls → ⊥ = λ many. no (sym none ∙ is_heard gives old new calls replies i x y s t at l h u many there) in
-    omega (arith, few)
+is_silent_shortly gives old new calls replies i x y s t at l h u there none = grind (arith, tick_count, no, is_heard)

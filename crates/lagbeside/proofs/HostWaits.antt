@@ -1,16 +1,14 @@
 -- No call of a host leaves a conversation waiting for a response for 30 ticks, or a timer above its bound.
-use Rattle.lagbeside.proofs.Common.{Bool, Err, List, None, Ok, Option, Result, Some, arith, false, if◌then◌else◌, subst, suc, sym, true, zero, ℕ, ◌≡◌}
-use Rattle.lagbeside.proofs.Common.{nat_tests, AggId, Machines, Assignment, On, leave_result, after_mark, assignment_of, next_identifier, Answer}
-use Rattle.lagbeside.proofs.Common.{SystemFault, SystemPort, Call, Force, Step, GivesOrRefuses, in_system, aggregator_numbered, SendsMarkerOf}
-use Rattle.lagbeside.proofs.Common.{SystemState, port_index, EachCallKeepsTimed, EachHostCallKeepsTimed, IsTimed, KeepsTimeout}
-use Rattle.lagbeside.proofs.Common.{EachHostCallKeepsWaits, IsAwaited, WaitsAreShort}
+use Rattle.lagbeside.proofs.Common.{Bool, Err, List, Ok, Option, Result, arith, false, if◌then◌else◌, subst, suc, sym, true, zero, ℕ, ◌≡◌, nat_tests}
+use Rattle.lagbeside.proofs.Common.{AggId, Machines, Assignment, leave_result, after_mark, assignment_of, next_identifier, Answer, SystemFault}
+use Rattle.lagbeside.proofs.Common.{SystemPort, Call, Force, Step, in_system, aggregator_numbered, SendsMarkerOf, SystemState, port_index}
+use Rattle.lagbeside.proofs.Common.{EachCallKeepsTimed, EachHostCallKeepsTimed, EachHostCallKeepsWaits, IsAwaited, WaitsAreShort}
 use Rattle.distributor.specs.declared.fault.DistFault.{DistFault}
 use Rattle.lagsystem.specs.declared.drive.HostCall.{HostCall}
 use Rattle.lagsystem.specs.declared.drive.HostReply.{HostReply}
 use Rattle.lagsystem.specs.Drives.{call_of}
 use Rattle.lagsystem.specs.HostCalls.{HostPromise}
 use Rattle.lagsystem.specs.Probing.{Probes, ProbesAt, ProbesIf}
-use Rattle.lagsystem.proofs.HostCallLemmas.{TableAlone, host_alone}
 use Rattle.distributor.specs.declared.fault.DistFault.TheVariants as dist
 use Rattle.lagsystem.specs.declared.drive.HostCall.TheVariants as host
 use Rattle.lagsystem.specs.declared.drive.HostReply.TheVariants as told
@@ -18,9 +16,9 @@ use Rattle.lagsystem.specs.declared.drive.Reply.TheVariants as reply
 use Rattle.lagsystem.specs.declared.fault.SystemFault.TheVariants.{NoAggregator}
 use Rattle.lagsystem.specs.Assigning.{OffersIf}
 use Rattle.lagsystem.specs.Forcing.{ForcesFirst, ForcesIfHeld, ForcesIn, ForcesPort}
-use Rattle.lagsystem.specs.Leaving.{system_leave_result, system_rest_result}
+use Rattle.lagsystem.specs.Leaving.{system_leave_result}
 use Rattle.lagbeside.proofs.EachPort.{OfEach}
-use Rattle.lagbeside.proofs.TableSteps.{Turns, gives_turn, sets_turn, turns_by}
+use Rattle.lagbeside.proofs.TableSteps.{Turns, gives_turn, turns_by}
 use Rattle.lagbeside.proofs.Waits.{Stays, Step-waits, marked, stays}
 
 stay_same : (old new : SystemState) → new ≡ old → WaitsAreShort old → WaitsAreShort new
@@ -31,11 +29,7 @@ turned old new h w g k = h g k (w g k)
 
 offers : (there known : Bool) (gives : ℕ → ℕ → ℕ → Type 0) (agg : AggId) (conv : ℕ) (old : SystemState) (answer : Result ℕ SystemFault)
     (new : SystemState) → OffersIf there known gives agg conv old answer new → WaitsAreShort old → WaitsAreShort new
-offers false known gives agg conv old answer new h w = stay_same old new h.1 w
-offers true false gives agg conv old answer new h w = stay_same old new h.1 w
-offers true true gives agg conv old (Ok port) new h w =
-    turned old new (sets_turn Stays stays agg.0 conv (On port) old.table new.table h.1.0 (λ w. tt)) w
-offers true true gives agg conv old (Err fault) new h w = stay_same old new h.1 w
+offers there known gives agg conv old answer new h w = grind (arith, nat_tests)
 
 left_to : (b c : Bool) (r : Result Assignment DistFault) (s : Assignment)
     → (if b then in_system (if c then r else Err dist.NotAssigned) else Err NoAggregator) ≡ Ok s → r ≡ Ok s
@@ -46,9 +40,7 @@ left next a s h = grind (arith, nat_tests)
 
 marks : (o : Option ℕ) (port : ℕ) (mac : List ℕ) (old : SystemState) (answer : Option (List ℕ)) (new : SystemState)
     → SendsMarkerOf o port mac old answer new → WaitsAreShort old → WaitsAreShort new
-marks None port mac old answer new h w = stay_same old new h.1 w
-marks (Some id) port mac old answer new h w =
-    turned old new (turns_by Stays stays (after_mark port id) old.table new.table h.4.states (marked port id)) w
+marks o port mac old answer new h w = grind (arith, nat_tests, stay_same, turned, turns_by, stays, after_mark, marked)
 
 probes_if : (up : Bool) (system_port : SystemPort) (old : SystemState) (answer : Option (List ℕ)) (new : SystemState)
     → ProbesIf up system_port old answer new → WaitsAreShort old → WaitsAreShort new
@@ -57,8 +49,7 @@ probes_if true system_port old answer new h w = marks (next_identifier old.table
 
 probes_at : (o : Option ℕ) (old : SystemState) (answer : Option (List ℕ)) (new : SystemState) → ProbesAt o old answer new
     → WaitsAreShort old → WaitsAreShort new
-probes_at None old answer new h w = absurd h
-probes_at (Some i) old answer new h w = probes_if h.0.port.enabled h.0 old answer new h.2 w
+probes_at o old answer new h w = grind (arith, nat_tests, probes_if)
 
 probes : (port : ℕ) (old : SystemState) (answer : Result (Option (List ℕ)) SystemFault) (new : SystemState) → Probes port old answer new
     → WaitsAreShort old → WaitsAreShort new
@@ -97,39 +88,15 @@ Host-waits gives old new (host.LeaveConversation agg conv) (told.LeaveConversati
 Host-waits gives old new (host.Probe port) (told.Probe answer) h w = probes port old answer new h.0 w
 Host-waits gives old new (host.Rest agg conv) (told.Rest (Ok done)) h w =
     Step-waits gives old new (Force agg conv) (reply.Force (Ok tt)) h.1.step w
-Host-waits gives old new (host.Rest agg conv) (told.Rest (Err fault)) h w = refused (system_rest_result old agg conv) h.0 w
-  where
-    refused : (what : Result Assignment SystemFault) → GivesOrRefuses agg conv what old (Err fault) new → WaitsAreShort old → WaitsAreShort new
-    refused (Ok state) h w = absurd (let e = h.0 in cc)
-    refused (Err other) h w = stay_same old new h.1 w
-Host-waits gives old new (host.ForcePort port) (told.ForcePort answer) h w =
-    forces_port gives WaitsAreShort (λ i j call a step x. Step-waits gives i j call a step x) port old answer new h.1 w
+Host-waits gives old new (host.Rest agg conv) (told.Rest (Err fault)) h w = grind (arith, nat_tests)
+Host-waits gives old new (host.ForcePort port) (told.ForcePort answer) h w = grind (arith, nat_tests)
 Host-waits gives old new call answer h w = absurd h
-
--- no port is another, but in a call of `drive`
-beside_each : (P : Machines → Type 0) (old new : SystemState) → TableAlone old new → OfEach (λ n p. P p) old.system_ports
-    → OfEach (λ n p. P p) new.system_ports
-beside_each P old new e t = subst (λ (s : SystemState). OfEach (λ n p. P p) s.system_ports) (sym e) t
 
 pub host_keeps : (gives : ℕ → ℕ → ℕ → Type 0) (P : Machines → Type 0) → ((old new : SystemState) (call : Call) (a : Answer)
     → Step gives old call a new → OfEach (λ n p. P p) old.system_ports → OfEach (λ n p. P p) new.system_ports)
     → (old new : SystemState) (call : HostCall) (answer : HostReply) → HostPromise gives old call answer new
     → OfEach (λ n p. P p) old.system_ports → OfEach (λ n p. P p) new.system_ports
-host_keeps gives P k old new (host.Call call) (told.Call answer) h t = k old new (call_of call) answer h.step t
-host_keeps gives P k old new (host.Call call) answer h t = absurd h
-host_keeps gives P k old new (host.OfferConversation agg conv) answer h t =
-    beside_each P old new (host_alone gives old (host.OfferConversation agg conv) answer new h tt) t
-host_keeps gives P k old new (host.LeaveConversation agg conv) answer h t =
-    beside_each P old new (host_alone gives old (host.LeaveConversation agg conv) answer new h tt) t
-host_keeps gives P k old new (host.Probe port) answer h t =
-    beside_each P old new (host_alone gives old (host.Probe port) answer new h tt) t
-host_keeps gives P k old new (host.Rest agg conv) answer h t =
-    beside_each P old new (host_alone gives old (host.Rest agg conv) answer new h tt) t
-host_keeps gives P k old new (host.ForcePort port) answer h t =
-    beside_each P old new (host_alone gives old (host.ForcePort port) answer new h tt) t
+host_keeps gives P k old new call answer h t = grind (arith, nat_tests)
 
 pub Host-timed : (gives : ℕ → ℕ → ℕ → Type 0) → EachCallKeepsTimed gives → EachHostCallKeepsTimed gives
-Host-timed gives kept old new call answer h = (
-  host_keeps gives IsTimed (λ i j c a s. (kept i j c a s).0) old new call answer h,
-  host_keeps gives KeepsTimeout (λ i j c a s. (kept i j c a s).1) old new call answer h,
-)
+Host-timed gives kept old new call answer h = grind (arith, nat_tests)

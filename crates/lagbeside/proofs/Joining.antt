@@ -1,25 +1,22 @@
 -- Ports that have joined, or whose link is down, do not begin to wait.
 use Rattle.lagbeside.proofs.Common.{Bool, List, None, Option, Some, [], ap, arith, false, if◌then◌else◌, inl, inr, not, refl, slice_get, subst, suc}
-use Rattle.lagbeside.proofs.Common.{sym, true, zero, ℕ, ◌&&◌, ◌+◌, ◌-◌, ◌<◌, ◌==◌, ◌∙◌, ◌∷◌, ◌≡◌, ◌≢◌, ◌≤◌, ◌⊎◌, and_parts, cases_Bool, nat_tests}
-use Rattle.lagbeside.proofs.Common.{AllByRecursion, AggId, Key, Choice, Selected, Standby, Unselected, Party, is_selected, is_unselected, same_party}
-use Rattle.lagbeside.proofs.Common.{party_itself, Lacpdu, party_of, MuxState, Attached, CollectingDistributing, Detached, Waiting, ReceiveState}
-use Rattle.lagbeside.proofs.Common.{Current, Defaulted, Expired, Initialize, PortDisabled, with_mode, Machines, is_synchronized, mux_rows}
-use Rattle.lagbeside.proofs.Common.{partner_synchronized, same_mux_state, RunsPeriodic, default_partner, receive_rows, recorded_synchronization}
+use Rattle.lagbeside.proofs.Common.{sym, true, zero, ℕ, ◌&&◌, ◌+◌, ◌-◌, ◌<◌, ◌==◌, ◌∙◌, ◌∷◌, ◌≡◌, ◌≢◌, ◌≤◌, ◌⊎◌, nat_tests, AllByRecursion, AggId}
+use Rattle.lagbeside.proofs.Common.{Key, Choice, Unselected, Party, is_selected, is_unselected, same_party, party_itself, Lacpdu, party_of, MuxState}
+use Rattle.lagbeside.proofs.Common.{Detached, Waiting, ReceiveState, Current, Defaulted, Expired, Initialize, PortDisabled, with_mode, Machines}
+use Rattle.lagbeside.proofs.Common.{is_synchronized, mux_rows, same_mux_state, RunsPeriodic, default_partner, receive_rows, recorded_synchronization}
 use Rattle.lagbeside.proofs.Common.{same_receive_state, AtRest, RunsToRest, after_sending, count_down, occupies, Reply, SystemPort, Call, Configure}
 use Rattle.lagbeside.proofs.Common.{ProcessesLacpdu, Receive, Restart, Set_link, Step, Tick, Transmit, choice_with_link, key_of, none_enabled}
-use Rattle.lagbeside.proofs.Common.{MuxIsSettled, occupied, Setting, IsSound, SystemState, named, rests, EachCall, tick_count, Asides, LeavesPort}
+use Rattle.lagbeside.proofs.Common.{MuxIsSettled, occupied, Setting, IsSound, SystemState, named, EachCall, tick_count, Asides, LeavesPort}
 use Rattle.lagbeside.proofs.Common.{OnceTicked, Runs, NoneBegins, WaitsAreBounded, begins_in}
 use Rattle.lagbeside.specs.Joining.{LetsNoneJoin, NoneBeginsToWait, OthersStandApart, SetsNoneFree, StandsApart}
 use Rattle.lagbeside.proofs.Alone.{begins_not}
-use Rattle.lagbeside.proofs.EachPort.{unsynchronized, KeptByCall, KeptBySettling, MayBeGiven, OfEach, Step-each, Tick-each}
+use Rattle.lagbeside.proofs.EachPort.{KeptByCall, KeptBySettling, MayBeGiven, OfEach, Step-each, Tick-each}
 use Rattle.lagbeside.proofs.EachSetting.{KeptBySetting, asides_each, asides_sound, kept_key, key_after, runs_weaken}
 use Rattle.lagbeside.proofs.Hearing.{EnabledKeep, both, is_number, no, times_keep}
 use Rattle.lagbeside.proofs.Knowing.{decoded}
 use Rattle.lagbeside.proofs.Never.{timed_bits}
 use Rattle.lagbeside.proofs.OnePort.{mux_leaves, periodic_leaves}
-use Rattle.lagbeside.proofs.Others.{attached_waits, distributing_waits}
 use Rattle.lagbeside.proofs.Serving.{and_right}
-use Rattle.lagbeside.proofs.Sounding.{not_gone}
 use Rattle.lagbeside.proofs.Timers.{RowsKeep, runs_keep, takes_keep}
 
 -- what the mux machine of a port is like that is not UNSELECTED
@@ -44,66 +41,11 @@ Joined who t w p = Clear w p.choice p.mux p.wait_while × Holds who t p
 
 -- settling
 
-left_detached : (m : MuxState) (un : Bool) → (same_mux_state Detached m && not un) ≡ true → (un ≡ false) × (same_mux_state Detached m ≡ true)
-left_detached m un h = grind (arith, nat_tests)
-
 not_so : (b : Bool) → not b ≡ true → b ≡ false
 not_so b h = grind (arith, nat_tests)
 
-left_attached : (m : MuxState) (sel : Bool) → (same_mux_state Attached m && not sel) ≡ true → (sel ≡ false) × (is_synchronized m ≡ true)
-left_attached m sel h = grind (arith, nat_tests)
-
-left_distributing : (m : MuxState) (g : Bool) → (same_mux_state CollectingDistributing m && g) ≡ true → is_synchronized m ≡ true
-left_distributing m g h = grind (arith, nat_tests)
-
 joined_rows : (who : Party) (t w : ℕ) (ready : Bool) → EnabledKeep (Joined who t w) (mux_rows ready)
-joined_rows who t w ready = (
-  λ p h a. (let d = left_detached p.mux (is_unselected p.choice) h in absurd (both _ d.1 (a.0 d.0).0)),
-  (
-    λ p h a. (λ f. both (is_unselected p.choice) (and_right _ (is_unselected p.choice) h) f, a.1),
-    (
-      λ p h a. (λ f. (refl, λ s. both (is_selected p.choice) (and_parts (is_selected p.choice) ready (and_right _ _ h)).0 s, λ e. attached_waits e), a.1),
-      (
-        λ p h a. (λ f. (let d = left_attached p.mux (is_selected p.choice) h in absurd (both _ d.1 ((a.0 f).1 d.0))), a.1),
-        (
-          λ p h a. (
-            λ f. (
-              refl,
-              λ s. both (is_selected p.choice)
-                  (and_parts (is_selected p.choice) (partner_synchronized p) (and_right _ _ h)).0 s,
-              λ e. distributing_waits e,
-            ),
-            a.1,
-          ),
-          (λ p h a. (λ f. (refl, λ s. absurd (both _ (left_distributing p.mux _ h) ((a.0 f).1 s)), λ e. attached_waits e), a.1), tt),
-        ),
-      ),
-    ),
-  ),
-)
-
-standby_is : (c : Choice) (agg : AggId) → c ≡ Standby agg → is_unselected c ≡ false
-standby_is c agg e = rw e refl
-
-selected_is : (c : Choice) (agg : AggId) → c ≡ Selected agg → (is_unselected c ≡ false) × (is_selected c ≡ true)
-selected_is c agg e = rw e (refl, refl)
-
-detached_is : (m : MuxState) → m ≡ Detached → same_mux_state Detached m ≡ true
-detached_is m e = rw e refl
-
-joined_given : (who : Party) (t w : ℕ) (choice : Choice) (p : Machines) → MayBeGiven choice p → Joined who t w p
-    → Joined who t w (record p { choice = choice })
-joined_given who t w choice p may a = elim may.0 [
-  | inl d ↦ elim a.1 [
-    | inl down ↦ absurd (both p.enabled d.0 down)
-    | inr h ↦ absurd (both _ (detached_is p.mux d.1) (a.0 h.0).0)
-  ]
-  | inr s ↦ (let was = a.0 (standby_is p.choice s.0 s.1) in
-      let now = selected_is choice s.0 s.2 in (
-        λ f. (was.0, λ g. absurd (both _ now.1 g), was.2),
-        elim a.1 [ inl down ↦ inl down | inr h ↦ inr (now.0, h.1, h.2) ],
-      ))
-]
+joined_rows who t w ready = grind (arith, nat_tests)
 
 -- the receive machine
 
@@ -111,8 +53,7 @@ abbrev one_of : Bool → Choice → Choice
 one_of b c = if b then c else Unselected
 
 clear_one : (b : Bool) (w : ℕ) (c : Choice) (m : MuxState) (n : ℕ) → Clear w c m n → Clear w (one_of b c) m n
-clear_one true w c m n a = a
-clear_one false w c m n a = λ f. absurd (no (sym f))
+clear_one b w c m n a = grind (arith, nat_tests)
 
 not_initial : (t n : ℕ) (r : ReceiveState) (g : Bool) → (same_receive_state Initialize r && g) ≡ true → Lasts t r n → ⊥
 not_initial t n r g h l = grind (arith, nat_tests)
@@ -167,9 +108,7 @@ pub joined_receives : (who : Party) (t w : ℕ) (p q : Machines) → RunsToRest 
 joined_receives who t w p q h a = times_keep (Joined who t w) receive_rows (receive_joined who t w) h.0 p q h.1 a
 
 counts : (t n : ℕ) (r : ReceiveState) → 1 ≤ t → Lasts t r n → Lasts (t - 1) r (n - 1)
-counts t n Current l a = omega (arith, l, a)
-counts t n Expired l a = omega (arith, l, a)
-counts t n r l a = a
+counts t n r l a = grind (arith, nat_tests)
 
 ticked : (who : Party) (t w v : ℕ) (p q : Machines) → 1 ≤ t → w ≤ v + 1 → RunsToRest receive_rows (count_down p) q → Joined who t w p
     → Joined who (t - 1) v q
@@ -179,18 +118,15 @@ ticked who t w v p q l m h a = joined_receives who (t - 1) v (count_down p) q h 
 )
 
 link_clear : (o : Option ℕ) (w : ℕ) (c : Choice) (m : MuxState) (n : ℕ) → Clear w c m n → Clear w (choice_with_link o false c) m n
-link_clear None w c m n a = a
-link_clear (Some most) w c m n a = λ f. absurd (no (sym f))
+link_clear o w c m n a = grind (arith, nat_tests)
 
 -- an LACPDU of the party that is recorded
 
 takes_long : (t : ℕ) (short : Bool) → t ≤ 30 → t ≤ (if short then 30 else 900) + 29
-takes_long t true l = omega (arith, l)
-takes_long t false l = omega (arith, l)
+takes_long t short l = grind (arith, nat_tests)
 
 one_true : (b : Bool) (c : Choice) → b ≡ true → one_of b c ≡ c
-one_true true c e = refl
-one_true false c e = absurd (no e)
+one_true b c e = grind (arith, nat_tests)
 
 joined_takes : (who : Party) (t w : ℕ) → t ≤ 30 → (v : Lacpdu) (p q : Machines) → party_of v.actor ≡ who → ProcessesLacpdu v p q
     → Joined who t w p → Joined who t w q
@@ -234,8 +170,7 @@ kind_periodic key t w (Some who) p q h a = periodic_leaves (Joined who t w) p q 
 
 kind_given : (key : Key) (t w : ℕ) (o : Option Party) (choice : Choice) (p : Machines) → MayBeGiven choice p → Kind key t w o p
     → Kind key t w o (record p { choice = choice })
-kind_given key t w None choice p may a = a
-kind_given key t w (Some who) choice p may a = joined_given who t w choice p may a
+kind_given key t w o choice p may a = grind (arith, nat_tests)
 
 key_rows : (key : Key) → RowsKeep (OtherKey key) receive_rows
 key_rows key = (λ p a. a, (λ p a. a, (λ p a. a, (λ p a. a, (λ p a. a, tt)))))
@@ -266,33 +201,9 @@ kind_takes key t w l (Some who) v p q same h a = joined_takes who t w l v p q (s
 stays_there : (m : MuxState) (un : Bool) → (same_mux_state Detached m && not un) ≡ false → un ≡ false → same_mux_state Detached m ≡ false
 stays_there m un d e = grind (arith, nat_tests)
 
-first_lasts : (t : ℕ) (r : ReceiveState) (up : Bool) (n : ℕ) → up ≡ true → t ≤ 30 → (same_receive_state Initialize r && true) ≡ false
-    → (same_receive_state PortDisabled r && up) ≡ false → (same_receive_state Current r && (n == 0)) ≡ false → (r ≡ Expired → t < n)
-    → Lasts t r n
-first_lasts t Initialize up n e l i d c x = absurd (no (sym i))
-first_lasts t PortDisabled up n e l i d c x = absurd (no (sym d ∙ e))
-first_lasts t Expired up n e l i d c x = (let f = x refl in omega (arith, f))
-first_lasts t Current up n e l i d c x = (let f = not_gone n c in omega (arith, l, f))
-first_lasts t Defaulted up n e l i d c x = tt
-
 first_kind : (key : Key) (t : ℕ) → t ≤ 30 → (o : Option Party) (p : Machines) → AtRest (mux_rows false) p
     → none_enabled receive_rows p ≡ true → p.wait_while ≤ 20 → StandsApart t key o p → Kind key t 20 o p
-first_kind key t l None p m r w a = a
-first_kind key t l (Some who) p m r w a = (
-  λ un. (
-    stays_there p.mux (is_unselected p.choice) m.0 un,
-    λ s. unsynchronized p.mux (is_selected p.choice) (not (partner_synchronized p)) s m.1.1.1.0 m.1.1.1.1.1.0,
-    λ e. w,
-  ),
-  elim a [
-    | inl down ↦ inl down
-    | inr s ↦ elim (cases_Bool p.enabled) [
-      | inl up ↦ (let x = rests receive_rows p r in
-          inr (s.0, first_lasts t p.receive p.enabled p.current_while up l x.0 x.1.1.0 x.1.1.1.1.0 s.2, s.1))
-      | inr down ↦ inl down
-    ]
-  ],
-)
+first_kind key t l o p m r w a = grind (arith, nat_tests)
 
 -- the ports but n
 

@@ -1,15 +1,14 @@
 -- A port keeps what it recorded of an LACPDU while current_while has ticks left.
 use Rattle.lagbeside.proofs.Common.{Bool, List, Some, [], ap, arith, false, if◌then◌else◌, inl, inr, refl, slice_get, slice_set, subst, suc, sym}
 use Rattle.lagbeside.proofs.Common.{true, zero, ℕ, ◌&&◌, ◌+◌, ◌-◌, ◌==◌, ◌∙◌, ◌∷◌, ◌≡◌, ◌≤◌, nat_tests, none-some, same_Some, StateBits, bits_of}
-use Rattle.lagbeside.proofs.Common.{with_synchronization, encode_then_decode, Info, Lacpdu, ReceiveState, Current, Expired, Initialize, PortDisabled}
-use Rattle.lagbeside.proofs.Common.{Machines, periodic_rows, receive_rows, recorded_synchronization, same_receive_state, AtRest, Fires, FiresTimes}
-use Rattle.lagbeside.proofs.Common.{Row, RunsToRest, count_down, Reply, SystemPort, Call, Configure, OnlyPortChangesBy, ProcessesLacpdu, Receive}
-use Rattle.lagbeside.proofs.Common.{Restart, Set_link, ThenSettles, Tick, Transmit, choice_with_link, can_receive, can_receive_in, none_enabled}
-use Rattle.lagbeside.proofs.Common.{IsSound, SystemState, port_numbers, named, keeps_place, keeps_settled, can_receive_at_rest, Rises, all-get}
-use Rattle.lagbeside.proofs.Common.{ports_rise, LeavesUnheard, processed_on, timeout_time}
+use Rattle.lagbeside.proofs.Common.{with_synchronization, encode_then_decode, Info, Lacpdu, Machines, periodic_rows, receive_rows}
+use Rattle.lagbeside.proofs.Common.{recorded_synchronization, AtRest, Fires, FiresTimes, Row, RunsToRest, count_down, Reply, SystemPort, Call}
+use Rattle.lagbeside.proofs.Common.{Configure, OnlyPortChangesBy, ProcessesLacpdu, Receive, Restart, Set_link, ThenSettles, Tick, Transmit}
+use Rattle.lagbeside.proofs.Common.{choice_with_link, can_receive, can_receive_in, none_enabled, IsSound, SystemState, port_numbers, named}
+use Rattle.lagbeside.proofs.Common.{keeps_place, keeps_settled, can_receive_at_rest, Rises, all-get, ports_rise, LeavesUnheard, timeout_time}
 use Rattle.lagbeside.specs.Knowing.{HasRecorded, IsKnown}
 use Rattle.lagbeside.proofs.EachPort.{KeptByCall, KeptBySettling, OfEach, settling_each}
-use Rattle.lagbeside.proofs.Hearing.{EnabledKeep, both, is_number, no, not_down, stays_up, times_keep}
+use Rattle.lagbeside.proofs.Hearing.{EnabledKeep, both, is_number, no, stays_up, times_keep}
 use Rattle.lagbeside.proofs.OnePort.{AtPort, GoesOn, at_number, goes_on, same_place, settling_leaves}
 
 -- the actor is recorded for so many ticks more
@@ -33,26 +32,11 @@ rests_still rows (suc n) p q r run =
 
 -- no row of the receive machine is enabled while there are ticks left
 
-other_state : (r s : ReceiveState) (g : Bool) → r ≡ Current → same_receive_state s Current ≡ false → (same_receive_state s r && g) ≡ true → ⊥
-other_state r s g e k h = no (sym (ap (λ c. c && g) k) ∙ subst (λ t. (same_receive_state s t && g) ≡ true) e h)
-
 not_run_out : (b : Bool) (most n : ℕ) → (b && (n == 0)) ≡ true → 1 ≤ most → most ≤ n → ⊥
 not_run_out b most n h l m = grind (arith, nat_tests)
 
 pub receive_known : (v : Lacpdu) (most k : ℕ) → EnabledKeep (Known v most k) receive_rows
-receive_known v most k = (
-  λ p e a. (a.0, λ l. absurd (other_state p.receive Initialize true (a.1 l).0.current refl e)),
-  (
-    λ p e a. absurd (not_down _ p.enabled e a.0),
-    (
-      λ p e a. (a.0, λ l. absurd (other_state p.receive PortDisabled p.enabled (a.1 l).0.current refl e)),
-      (
-        λ p e a. (a.0, λ l. absurd (other_state p.receive Expired (p.current_while == 0) (a.1 l).0.current refl e)),
-        (λ p e a. (a.0, λ l. absurd (not_run_out _ most p.current_while e l (a.1 l).1)), tt),
-      ),
-    ),
-  ),
-)
+receive_known v most k = grind (arith, nat_tests)
 
 pub receives : (v : Lacpdu) (most k : ℕ) (p q : Machines) → RunsToRest receive_rows p q → Known v most k p → Known v most k q
 receives v most k p q h a = times_keep (Known v most k) receive_rows (receive_known v most k) h.0 p q h.1 a
@@ -77,8 +61,7 @@ calls_known v n most k Tick answer u t = absurd (t refl)
 calls_known v n most k (Set_link m up) answer u t = λ max_links p q h a e.
     receives v most k (record p { enabled = up; choice = choice_with_link max_links up p.choice }) q h
     (stays_up (m == n) up u.0 (is_number m n e), (a e).1)
-calls_known v n most k (Receive m octets) answer u t = λ w p q took f h a e.
-    both (m == n) (is_number m n e) (sym (ap (λ (r : Reply). processed_on n (Receive m octets) r) took) ∙ u.1)
+calls_known v n most k (Receive m octets) answer u t = grind (arith, nat_tests)
 calls_known v n most k (Configure m change) answer u t = λ p q h a e. both (m == n) (is_number m n e) u.0
 calls_known v n most k Restart answer u t = absurd (no (sym u.0))
 calls_known v n most k (Transmit m) answer u t = λ p told a e. a e
@@ -90,13 +73,10 @@ known_goes_on v n = record { settles = known_settles v n; ticks = tick_known v; 
 -- what the LACPDU leaves
 
 pub starts_with : (short : Bool) → timeout_time short ≤ (if short then 30 else 900)
-starts_with true = omega arith
-starts_with false = omega arith
+starts_with short = grind (arith, nat_tests)
 
 pub asleep : (c b : Bool) → b ≡ true → (if b then c else true) ≡ true → (c && b) ≡ false → ⊥
-asleep true true e a k = no (sym k)
-asleep false true e a k = no a
-asleep c false e a k = no e
+asleep c b e a k = grind (arith, nat_tests)
 
 pub decoded : (t : Bool) (info : Info) → bits_of (with_synchronization t info.state) ≡ record (bits_of info.state) {
   synchronization

@@ -2,10 +2,9 @@
 use Rattle.lagbeside.proofs.Common.{Bool, List, [], ap, arith, false, inl, inr, not, refl, subst, sym, true, ℕ, ◌&&◌, ◌||◌, ◌∙◌, ◌∷◌, ◌≡◌, cases_Bool}
 use Rattle.lagbeside.proofs.Common.{nat_tests, Party, StateBits, is_selected, same_party, bits_of, with_synchronization, with_timeout}
 use Rattle.lagbeside.proofs.Common.{encode_then_decode, Info, Lacpdu, party_of, MuxState, CollectingDistributing, Machines, partner_synchronized}
-use Rattle.lagbeside.proofs.Common.{same_mux_state, receive_rows, recorded_synchronization, count_down, Reply, SystemPort, Call, Configure}
-use Rattle.lagbeside.proofs.Common.{ProcessesLacpdu, Receive, Restart, Set_link, Tick, Transmit, choice_with_link, MuxIsSettled, Setting, IsSound}
-use Rattle.lagbeside.proofs.Common.{SystemState, all-get, ports_rise, EachCall, ActiveOnlyIf, Asides, Runs, Brings, IsUnanswered, LeavesUnanswered}
-use Rattle.lagbeside.proofs.Common.{NeverAlone, in_sync}
+use Rattle.lagbeside.proofs.Common.{same_mux_state, receive_rows, recorded_synchronization, count_down, Reply, Call, Configure, ProcessesLacpdu}
+use Rattle.lagbeside.proofs.Common.{Receive, Restart, Set_link, Tick, Transmit, choice_with_link, Setting, IsSound, SystemState, all-get, ports_rise}
+use Rattle.lagbeside.proofs.Common.{EachCall, ActiveOnlyIf, Asides, Runs, Brings, IsUnanswered, LeavesUnanswered, NeverAlone, in_sync}
 use Rattle.lagbeside.proofs.EachPort.{KeptByCall, KeptBySettling, OfEach, Step-each, Tick-each}
 use Rattle.lagbeside.proofs.EachSetting.{KeptBySetting, asides_each, asides_sound}
 use Rattle.lagbeside.proofs.Beside.{runs_ports, same_number}
@@ -39,8 +38,7 @@ lonely_rows own may = (
 -- an LACPDU that is in sync with a passive port is so with an active one
 less_sync : (active may sync actor partner named : Bool) → (active ≡ true → may ≡ true)
     → (sync && (actor || (may && partner)) && named) ≡ false → (sync && (actor || (active && partner)) && named) ≡ false
-less_sync true may sync actor partner named e h = subst (λ b. (sync && (actor || (b && partner)) && named) ≡ false) (e refl) h
-less_sync false may sync actor partner named e h = grind (arith, nat_tests)
+less_sync active may sync actor partner named e h = grind (arith, nat_tests)
 
 lonely_takes : (own : Party) (may : Bool) (v : Lacpdu) (p q : Machines) → in_sync own may v ≡ false → ProcessesLacpdu v p q
     → Lonely own may p → Lonely own may q
@@ -75,10 +73,7 @@ lonely_settles own may n = settling_leaves (AtPort n (Lonely own may))
 
 lonely_sets : (own : Party) (may : Bool) (n : ℕ) (setting : Setting) → ActiveOnlyIf may n setting
     → KeptBySetting (AtPort n (Lonely own may)) setting
-lonely_sets own may n (Setting.Hold_port m held) v = λ p a e. a e
-lonely_sets own may n (Setting.Set_mode m now short) v = λ p a e. let b = a e in (b.0, v e, b.2)
-lonely_sets own may n (Setting.Set_max_delay max_delay) v = tt
-lonely_sets own may n (Setting.Set_max_links max_links) v = λ m p down a e. a e
+lonely_sets own may n setting v = grind (arith, nat_tests)
 
 aside_lonely : (own : Party) (may : Bool) (n : ℕ) (old new : SystemState) → Asides (ActiveOnlyIf may n) old new
     → OfEach (AtPort n (Lonely own may)) old.system_ports → OfEach (AtPort n (Lonely own may)) new.system_ports
@@ -110,11 +105,4 @@ never_alone gives may old new calls replies states i x y s at active first run e
     let own = x.port.party in
     let end = lonely_run own may x.number gives old new calls replies states
     (at_number (Lonely own may) 0 old.system_ports i x (ports_rise old s.ports) at (refl, active, first)) run each in
-    let number = same_number old new i x y s end.0 (runs_ports (ActiveOnlyIf may x.number) gives old new calls replies states run) at there in
-    let last = all-get (λ (z : SystemPort). AtPort x.number (Lonely own may) z.number z.port) new.system_ports i y there end.1 number in
-    let rest = (all-get (MuxIsSettled new.keys new.system_ports) new.system_ports i y there end.0.quiet.0).mux in
-    let sync = in_sync_there y.port.mux (is_selected y.port.choice) (partner_synchronized y.port) m rest.1.1.1.1.1.0 in
-    elim (cases_Bool y.port.defaulted) [
-      | inl d ↦ d
-      | inr f ↦ absurd (no (sym (last.2 f) ∙ sync))
-    ]
+    grind (arith, nat_tests, same_number, runs_ports, all-get, Lonely, in_sync_there, is_selected, partner_synchronized, cases_Bool, no)

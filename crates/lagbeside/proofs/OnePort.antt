@@ -63,8 +63,7 @@ none_passed P n most k ports a = grind (arith, nat_tests)
 one_more : (P : ℕ → ℕ → Machines → Type 0) (n most k ticks : ℕ) (ports : List SystemPort)
     → OfEach (AtPort n (P (most - 1 - ticks) (k + 1 + ticks))) ports → OfEach (AtPort n (P (most - (ticks + 1)) (k + (ticks +
     1)))) ports
-one_more P n most k ticks ports a = subst (λ m. OfEach (AtPort n (P m (k + (ticks + 1)))) ports) (omega arith)
-    (subst (λ j. OfEach (AtPort n (P (most - 1 - ticks) j)) ports) (omega arith) a)
+one_more P n most k ticks ports a = grind (arith, nat_tests)
 
 module _ (Is : Call → Reply → Type 0) (P : ℕ → ℕ → Machines → Type 0) (n : ℕ) (g : GoesOn Is P n) (gives : ℕ → ℕ → ℕ → Type 0) where
   ends : (most k : ℕ) (old new : SystemState) (calls : List Call) (replies : List Reply) → IsSound old
@@ -144,11 +143,4 @@ pub goes_on : (Is : Call → Reply → Type 0) (P : ℕ → ℕ → Machines →
 goes_on Is P gives most old new calls replies i x y g s at p h u there =
     let first = at_number (P most 0) 0 old.system_ports i x (ports_rise old s.ports) at p in
     let end = ends Is P x.number g gives most 0 old new calls replies s first h u in
-    let numbers : port_numbers new.system_ports ≡ port_numbers old.system_ports =
-    end.0.ports.same ∙ (ap configured_numbers (same_ports gives old new calls replies h) ∙ sym s.ports.same) in
-    let number = same_place old.system_ports new.system_ports i x y numbers at there in
-    let ticks = tick_count calls in (
-      end.0,
-      all-get (λ (z : SystemPort). AtPort x.number (P (most - ticks) (0 + ticks)) z.number z.port) new.system_ports i y
-          there end.1 number,
-    )
+    grind (arith, nat_tests, port_numbers, configured_numbers, same_ports, same_place, tick_count, all-get, AtPort)

@@ -1,12 +1,11 @@
 -- The other ports of an aggregator wait no longer, if none begins to.
 use Rattle.lagbeside.proofs.Common.{Bool, List, Option, Some, [], ap, arith, eqb-true, false, if◌then◌else◌, inl, inr, not, refl, slice_get, subst}
 use Rattle.lagbeside.proofs.Common.{sym, true, ℕ, ◌&&◌, ◌+◌, ◌-◌, ◌==◌, ◌∙◌, ◌∷◌, ◌≡◌, ◌≤◌, ◌⊎◌, cases_Bool, nat_tests, AllByRecursion, AggId, Key}
-use Rattle.lagbeside.proofs.Common.{Choice, Selected, Standby, Unselected, is_unselected, same_party, Lacpdu, party_of, MuxState, Attached}
-use Rattle.lagbeside.proofs.Common.{CollectingDistributing, Detached, Waiting, Machines, mux_rows, same_mux_state, default_partner, lacpdu_rows}
-use Rattle.lagbeside.proofs.Common.{receive_rows, RunsToRest, Starts, before_start, count_down, has_chosen, has_waited, is_detached_or_waiting}
-use Rattle.lagbeside.proofs.Common.{occupies, Reply, SystemPort, Call, Configure, ProcessesLacpdu, Receive, Restart, Set_link, Tick, Transmit}
-use Rattle.lagbeside.proofs.Common.{changed_party, choice_with_link, MuxIsSettled, Setting, IsSound, SystemState, stage_of, tick_count, Asides}
-use Rattle.lagbeside.proofs.Common.{OnceTicked, Runs, NoneBegins, Service, begins_in}
+use Rattle.lagbeside.proofs.Common.{Choice, Selected, Standby, Unselected, is_unselected, same_party, Lacpdu, party_of, MuxState, Detached, Waiting}
+use Rattle.lagbeside.proofs.Common.{Machines, mux_rows, same_mux_state, default_partner, lacpdu_rows, receive_rows, RunsToRest, Starts, before_start}
+use Rattle.lagbeside.proofs.Common.{count_down, has_chosen, has_waited, is_detached_or_waiting, occupies, Reply, SystemPort, Call, Configure}
+use Rattle.lagbeside.proofs.Common.{ProcessesLacpdu, Receive, Restart, Set_link, Tick, Transmit, changed_party, choice_with_link, MuxIsSettled}
+use Rattle.lagbeside.proofs.Common.{Setting, IsSound, SystemState, stage_of, tick_count, Asides, OnceTicked, Runs, NoneBegins, Service, begins_in}
 use Rattle.lagbeside.proofs.EachPort.{KeptByCall, KeptBySettling, OfEach, Step-each, Tick-each}
 use Rattle.lagbeside.proofs.Hearing.{no}
 use Rattle.lagbeside.proofs.OnePort.{AtPort, periodic_leaves}
@@ -28,20 +27,8 @@ Beside n P m p = (m == n) ≡ false → P p
 detached_waits : {A : Type 0} → Detached ≡ Waiting → A
 detached_waits e = absurd cc
 
-pub attached_waits : {A : Type 0} → Attached ≡ Waiting → A
-attached_waits e = absurd cc
-
-pub distributing_waits : {A : Type 0} → CollectingDistributing ≡ Waiting → A
-distributing_waits e = absurd cc
-
 soft_rows : (agg : AggId) (t : ℕ) (ready : Bool) → RowsKeep (Soft agg t) (mux_rows ready)
-soft_rows agg t ready = (
-  λ p a o w. inr refl,
-  (
-    λ p a o w. detached_waits w,
-    (λ p a o w. attached_waits w, (λ p a o w. detached_waits w, (λ p a o w. distributing_waits w, (λ p a o w. attached_waits w, tt)))),
-  ),
-)
+soft_rows agg t ready = grind (arith, nat_tests)
 
 promoted : (agg given : AggId) (c d : Choice) → c ≡ Standby given → d ≡ Selected given → occupies agg d ≡ true → occupies agg c ≡ true
 promoted agg given c d e f h = rw e (subst (λ x. occupies agg x ≡ true) f h)
@@ -57,26 +44,13 @@ soft_settles n agg t = record {
 }
 
 if_occupies : (agg : AggId) (b : Bool) (c : Choice) → occupies agg (if b then c else Unselected) ≡ true → occupies agg c ≡ true
-if_occupies agg true c h = h
-if_occupies agg false c h = absurd (no h)
+if_occupies agg b c h = grind (arith, nat_tests)
 
 link_occupies : (agg : AggId) (o : Option ℕ) (up : Bool) (c : Choice) → occupies agg (choice_with_link o up c) ≡ true → occupies agg c ≡ true
 link_occupies agg o up c h = grind (arith, nat_tests)
 
 receive_soft : (agg : AggId) (t : ℕ) → RowsKeep (Soft agg t) receive_rows
-receive_soft agg t = (
-  λ p a. a,
-  (
-    λ p a. a,
-    (
-      λ p a. a,
-      (
-        λ p a o w. a (if_occupies agg (same_party (party_of default_partner) (party_of p.partner)) p.choice o) w,
-        (λ p a. a, tt),
-      ),
-    ),
-  ),
-)
+receive_soft agg t = grind (arith, nat_tests, if_occupies, same_party, party_of, default_partner)
 
 take_soft : (agg : AggId) (t : ℕ) (v : Lacpdu) → RowsKeep (Soft agg t) (lacpdu_rows v)
 take_soft agg t v = (λ p a o w. a (if_occupies agg (same_party (party_of v.actor) (party_of p.partner)) p.choice o) w, tt)
@@ -99,10 +73,7 @@ soft_calls n agg t (Transmit m) answer none = λ p told a e. a e
 soft_calls n agg t call answer none = tt
 
 soft_sets : (n : ℕ) (agg : AggId) (t : ℕ) (setting : Setting) → KeptBySetting (Beside n (Soft agg t)) setting
-soft_sets n agg t (Setting.Hold_port m held) = λ p a e o w. absurd (no o)
-soft_sets n agg t (Setting.Set_mode m active short) = λ p a. a
-soft_sets n agg t (Setting.Set_max_delay max_delay) = tt
-soft_sets n agg t (Setting.Set_max_links max_links) = λ m p down a e o w. absurd (no o)
+soft_sets n agg t setting = grind (arith, nat_tests)
 
 -- where none begins
 
@@ -121,10 +92,6 @@ harden n agg t (x ∷ xs) k a = (
   ],
   harden n agg t xs k.1 a.1,
 )
-
-soften : (n : ℕ) (agg : AggId) (t : ℕ) (ports : List SystemPort) → OfEach (Beside n (Hard agg t)) ports → OfEach (Beside n (Soft agg t)) ports
-soften n agg t [] a = tt
-soften n agg t (x ∷ xs) a = (λ e o w. inl (a.0 e o w), soften n agg t xs a.1)
 
 pub timed_soft : (n : ℕ) (agg : AggId) (ports : List SystemPort) → AllByRecursion (λ (y : SystemPort). y.port.wait_while ≤ 20) ports
     → OfEach (Beside n (Soft agg 20)) ports
@@ -192,16 +159,7 @@ chosen_occupies agg c h = grind (arith, nat_tests)
 
 lag_waits : (m : MuxState) (n : ℕ) (un : Bool) → un ≡ false → (same_mux_state Detached m && not un) ≡ false → (m ≡ Waiting → n ≤ 0)
     → is_detached_or_waiting (stage_of m n) ≡ true → has_waited (stage_of m n) ≡ true
-lag_waits Detached n un e h w l = absurd (no (sym h ∙ ap not e))
-lag_waits Waiting n un e h w l = is_zero n (w refl)
-  where
-    is_zero : (n : ℕ) → n ≤ 0 → (n == 0) ≡ true
-    is_zero n l = grind (arith, nat_tests)
-lag_waits Attached n un e h w l = absurd (no l)
-lag_waits CollectingDistributing n un e h w l = absurd (no l)
-
-waits_no_more : (b : Bool) (t : ℕ) (m : MuxState) (n : ℕ) → t ≡ 0 → m ≡ Waiting → ((m ≡ Waiting) × (n ≤ t)) → n ≤ 0
-waits_no_more b t m n e w h = omega (arith, e, h.1)
+lag_waits m n un e h w l = grind (arith, nat_tests)
 
 fine_ports : (u : Service) (c : Choice) (n : ℕ) (agg : AggId) (keys : List Key) (all : List SystemPort) (t r : ℕ) → t ≡ 0 → r ≡ 0
     → (ports : List SystemPort) → AllByRecursion (MuxIsSettled keys all) ports

@@ -1,8 +1,8 @@
 -- When an aggregator is Ready: each of its members that is not attached has waited (6.4.14.1).
-use Rattle.lagbeside.proofs.Common.{Bool, List, Some, [], ap, arith, cond, false, filter, refl, slice_get, suc, sym, true, zero, ℕ, ◌&&◌, ◌||◌, ◌∙◌}
-use Rattle.lagbeside.proofs.Common.{◌∷◌, ◌≡◌, ◌⊎◌, nat_tests, none-some, AllByRecursion, list_all, list_any, AggId, Key, Selected, itself, Waiting}
-use Rattle.lagbeside.proofs.Common.{PortView, is_aggregator, ports_that_chose, has_chosen, has_waited, is_detached_or_waiting, SystemPort}
-use Rattle.lagbeside.proofs.Common.{MuxIsSettled, occupied, ready_of, IsSound, SystemState, selection_view, stage_of, views, all-get}
+use Rattle.lagbeside.proofs.Common.{Bool, List, Some, [], ap, arith, cond, filter, refl, slice_get, suc, true, zero, ℕ, ◌&&◌, ◌||◌, ◌∙◌, ◌∷◌, ◌≡◌}
+use Rattle.lagbeside.proofs.Common.{◌⊎◌, nat_tests, none-some, AllByRecursion, list_all, list_any, AggId, Key, Selected, itself, Waiting, PortView}
+use Rattle.lagbeside.proofs.Common.{is_aggregator, ports_that_chose, has_chosen, has_waited, is_detached_or_waiting, SystemPort, occupied, ready_of}
+use Rattle.lagbeside.proofs.Common.{IsSound, SystemState, selection_view, stage_of, views, all-get}
 use Rattle.selection.specs.Ready.{is_ready}
 use Rattle.lagbeside.proofs.Hearing.{no}
 use Rattle.lagbeside.proofs.Selecting.{known_number}
@@ -49,10 +49,4 @@ pub no_member_waits : (s : SystemState) (i : ℕ) (x : SystemPort) (agg : AggId)
     → x.port.choice ≡ Selected agg → AllByRecursion (Fine agg) s.system_ports → x.port.mux ≡ Waiting → ⊥
 no_member_waits s i x agg h at e fine m =
     let key = h.occupants.key i agg.0 x at (ap occupied e) in
-    let known : is_aggregator s.keys agg ≡ true = known_number s.keys agg.0 x.port.party.key key in
-    let settled = all-get (MuxIsSettled s.keys s.system_ports) s.system_ports i x at h.quiet.0 in
-    let unready : is_ready s.keys (views s.system_ports) agg ≡ false =
-    sym (ap (ready_of s.keys (views s.system_ports)) e) ∙ settled.unready in
-    let lags : Lags (selection_view x) ≡ true = ap (λ n. is_detached_or_waiting (stage_of n x.port.wait_while)) m in
-    no (sym unready ∙ all_ready s.keys s.system_ports agg known
-    (some_lags agg s.system_ports i x at (ap (has_chosen agg) e ∙ itself agg.0) lags) (all_waited agg s.system_ports fine))
+    grind (arith, nat_tests, is_aggregator, known_number, all-get, is_ready, views, ready_of, Lags, selection_view, is_detached_or_waiting, stage_of, no, all_ready, some_lags, has_chosen, itself, all_waited)

@@ -85,9 +85,7 @@ pub passed : (b : Bool) (x : ℕ × Key) (o : Option (ℕ × Key)) → cond b (S
 passed b x o h = grind (arith, nat_tests)
 
 has_one : (a b : Bool) → a ≡ true → (a && not b) ≡ false → b ≡ true
-has_one a true e h = refl
-has_one true false e h = absurd cc
-has_one false false e h = absurd cc
+has_one a b e h = grind (arith, nat_tests)
 
 -- each aggregator of the key has an occupant with the key, if none is found without one
 all_occupied : (keys : List Key) (ports : List SystemPort) (k first : ℕ) (rest : List Key) → OccupantsAgree keys ports
@@ -134,13 +132,7 @@ all_five a b c d e f g h i j = rw (f, g, h, i, j) refl
 
 pub eligible : (s : SystemState) (i : ℕ) (x : SystemPort) → IsSound s → slice_get s.system_ports i ≡ Some x → WantsAggregator x.port
     → is_unselected x.port.choice ≡ true → is_eligible (selection_view x) ≡ true
-eligible s i x h e w u =
-    let settled = all-get (MuxIsSettled s.keys s.system_ports) s.system_ports i x e h.quiet.0 in
-    let same = same_system x.port.partner.system x.port.party.system in
-    all_five x.port.enabled (same_receive_state Current x.port.receive || same_receive_state Defaulted x.port.receive)
-    (is_detached (stage_of x.port.mux x.port.wait_while)) (is_unselected x.port.choice) same w.up (is_known x.port.receive w.known)
-    (is_detached_at x.port.mux x.port.wait_while x.port.choice _ u settled.mux.1.0 settled.mux.1.1.1.0 settled.mux.1.1.1.1.1.0) u
-    (elim (cases_Bool same) [ inl t ↦ absurd (w.apart (exact_system x.port.partner.system x.port.party.system t)) | inr f ↦ f ])
+eligible s i x h e w u = grind (arith, nat_tests, all-get, same_system, all_five, same_receive_state, is_detached, stage_of, is_unselected, is_known, is_detached_at, cases_Bool, exact_system)
 
 -- what it finds
 
@@ -229,8 +221,7 @@ within (k ∷ ks) zero key e = omega arith
 within (k ∷ ks) (suc i) key e = omega (arith, within ks i key e)
 
 pub known_number : (keys : List Key) (n : ℕ) (key : Key) → key_of keys n ≡ Some key → (nat_le 1 n && nat_le n (length keys)) ≡ true
-known_number keys zero key e = absurd (none-some key e)
-known_number keys (suc n) key e = let l = within keys n key e in grind (arith, nat_tests)
+known_number keys n key e = grind (arith, nat_tests, none-some, within)
 
 full_of : (max_links : Option ℕ) (known : Bool) (n : ℕ) → known ≡ true → (known && is_below max_links n) ≡ false
     → ((most : ℕ) → max_links ≡ Some most → n ≤ most) → (most : ℕ) × (max_links ≡ Some most) × (n ≡ most)
@@ -250,8 +241,7 @@ waits_for_room s i x agg h e c =
       | inl r ↦ r
       | inr n ↦ clash (stands_by agg x.port.choice) (stands agg x.port.choice c) (seen_stands agg s.system_ports i x e n)
     ] in
-    full_of s.max_links (is_aggregator s.keys agg) (length (ports_that_chose agg (views s.system_ports))) known room
-    (at_most s.max_links agg s.system_ports h.limited)
+    grind (arith, nat_tests, full_of, is_aggregator, ports_that_chose, views, at_most)
 
 selected_or_stands : (s : SystemState) (i : ℕ) (x : SystemPort) (c : Choice) → x.port.choice ≡ c → IsSound s
     → slice_get s.system_ports i ≡ Some x → (is_unselected c ≡ true → ⊥) → (is_selected c ≡ true) ⊎ StandsByFull s x.port
@@ -273,10 +263,7 @@ existing k (key ∷ keys) h = elim (cases_Bool (key.0 == k)) [
 none_at : (test : ℕ × Key → Bool) (first : ℕ) (keys : List Key) → find test (enumerate_from first keys) ≡ None → (j : ℕ) (key : Key)
     → slice_get keys j ≡ Some key → test (first + j, key) ≡ false
 none_at test first [] h j key e = absurd (none-some key e)
-none_at test first (y ∷ ys) h zero key e =
-    let both = passed (test (first, y)) (first, y) (find test (enumerate_from (first + 1) ys)) h in
-    let here : first ≡ first + 0 = omega arith in
-    subst (λ (z : Key). test (first + 0, z) ≡ false) (same_Some y key e) (subst (λ n. test (n, y) ≡ false) here both.0)
+none_at test first (y ∷ ys) h zero key e = grind (arith, nat_tests)
 none_at test first (y ∷ ys) h (suc j) key e =
     let both = passed (test (first, y)) (first, y) (find test (enumerate_from (first + 1) ys)) h in
     let there : first + 1 + j ≡ first + suc j = omega arith in
@@ -284,8 +271,7 @@ none_at test first (y ∷ ys) h (suc j) key e =
 
 kept_all : (test : PortView → Bool) (b : Bool) (w : PortView) (rest : List PortView) → (b ≡ true → test w ≡ true)
     → list_all test rest ≡ true → list_all test (cond b (w ∷ rest) rest) ≡ true
-kept_all test true w rest h k = rw (h refl) k
-kept_all test false w rest h k = k
+kept_all test b w rest h k = grind (arith, nat_tests)
 
 share_all : (v : PortView) (agg : AggId) (ports : List SystemPort)
     → ((j : ℕ) (y : SystemPort) → slice_get ports j ≡ Some y → occupies agg y.port.choice ≡ true → has_group_of v (selection_view y) ≡ true)

@@ -1,16 +1,16 @@
 -- A port that is served stays so, and climbs.
 use Rattle.lagbeside.proofs.Common.{Bool, List, None, Ok, Option, Some, [], ap, arith, eqb-true, false, if◌then◌else◌, inl, inr, refl, subst, sym}
 use Rattle.lagbeside.proofs.Common.{true, ℕ, ◌&&◌, ◌+◌, ◌-◌, ◌==◌, ◌∙◌, ◌∷◌, ◌≡◌, ◌≤◌, ◌⊎◌, cases_Bool, nat_tests, Choice, Unselected, StateBits}
-use Rattle.lagbeside.proofs.Common.{is_selected, is_unselected, same_party, party_itself, Lacpdu, party_of, MuxState, Detached, Waiting, Current}
-use Rattle.lagbeside.proofs.Common.{Machines, is_synchronized, mux_rows, same_mux_state, receive_rows, recorded_synchronization, AtRest, RunsToRest}
-use Rattle.lagbeside.proofs.Common.{count_down, Reply, TookLacpdu, SystemPort, Call, Configure, OnlyPortChangesBy, ProcessesLacpdu, Receive, Restart}
-use Rattle.lagbeside.proofs.Common.{Set_link, Step, ThenSettles, Tick, Transmit, choice_with_link, can_receive, can_receive_in, Setting, IsSound}
-use Rattle.lagbeside.proofs.Common.{SystemState, port_index, named, all-get, found_place, processed_on, EachCall, tick_count, Asides, LeavesPort}
-use Rattle.lagbeside.proofs.Common.{Runs, Fed, IsServed, LeavesServed, Serves, Service, in_sync, timeout_time}
+use Rattle.lagbeside.proofs.Common.{is_selected, is_unselected, same_party, party_itself, Lacpdu, party_of, MuxState, Waiting, Current, Machines}
+use Rattle.lagbeside.proofs.Common.{is_synchronized, mux_rows, same_mux_state, receive_rows, recorded_synchronization, AtRest, RunsToRest, count_down}
+use Rattle.lagbeside.proofs.Common.{Reply, TookLacpdu, SystemPort, Call, Configure, OnlyPortChangesBy, ProcessesLacpdu, Receive, Restart, Set_link}
+use Rattle.lagbeside.proofs.Common.{Step, ThenSettles, Tick, Transmit, choice_with_link, can_receive, can_receive_in, Setting, IsSound, SystemState}
+use Rattle.lagbeside.proofs.Common.{port_index, named, all-get, found_place, processed_on, EachCall, tick_count, Asides, LeavesPort, Runs, Fed}
+use Rattle.lagbeside.proofs.Common.{IsServed, LeavesServed, Serves, Service, in_sync, timeout_time}
 use Rattle.lagsystem.specs.declared.drive.Reply.TheVariants as reply
 use Rattle.lagbeside.proofs.EachSetting.{KeptBySetting, asides_each, asides_sound}
 use Rattle.lagbeside.proofs.EachPort.{KeptByCall, KeptBySettling, OfEach, Step-each, Tick-each, took}
-use Rattle.lagbeside.proofs.Hearing.{EnabledKeep, both, is_number, no, not_down, stays_up, times_keep}
+use Rattle.lagbeside.proofs.Hearing.{EnabledKeep, both, is_number, no, stays_up, times_keep}
 use Rattle.lagbeside.proofs.Knowing.{asleep, decoded, rests_still, starts_with, takes_each}
 use Rattle.lagbeside.proofs.OnePort.{AtPort, mux_leaves, periodic_leaves}
 
@@ -44,22 +44,7 @@ pub and_right : (a b : Bool) → (a && b) ≡ true → b ≡ true
 and_right a b h = grind (arith, nat_tests)
 
 rises_rows : (may : Bool) (t : ℕ) (ready : Bool) → EnabledKeep (Rises-so may t) (mux_rows ready)
-rises_rows may t ready = (
-  λ p h a. absurd (elim a.1 [
-    | inl s ↦ not_attached p.mux _ Detached refl h s
-    | inr w ↦ not_waiting p.mux _ Detached refl h w.1
-  ]),
-  (
-    λ p h a. absurd (both_not p.choice a.0 (and_right _ _ h)),
-    (
-      λ p h a. (a.0, inl refl),
-      (
-        λ p h a. absurd (not_down _ (is_selected p.choice) h a.0),
-        (λ p h a. (a.0, inl refl), (λ p h a. (a.0, inl refl), tt)),
-      ),
-    ),
-  ),
-)
+rises_rows may t ready = grind (arith, nat_tests)
 
 pub climbs_settles : (n : ℕ) (u : Service) (c : Choice) (may : Bool) (left t : ℕ) → is_selected c ≡ true → KeptBySettling (AtPort n (Climbs u c may left t))
 climbs_settles n u c may left t sel = record {
@@ -84,12 +69,7 @@ come_nearer may t n m h = elim h [ inl s ↦ inl s | inr w ↦ inr (w.0, w.1, om
 
 pub climbs_ticks : (u : Service) (c : Choice) (may : Bool) (left t : ℕ) (p q : Machines) → 2 ≤ left → RunsToRest receive_rows (count_down p) q
     → Climbs u c may left t p → Climbs u c may (left - 1) (t - 1) q
-climbs_ticks u c may left t p q l h a =
-    let s = a.0.0 in
-    let fewer : left - 1 ≤ p.current_while - 1 = omega (arith, s.7) in
-    let rest = served_rests (count_down p) s.0 s.4 (some_left (p.current_while - 1) (left - 1) (omega (arith, l)) fewer) in
-    subst (Climbs u c may (left - 1) (t - 1)) (sym (rests_still receive_rows h.0 (count_down p) q rest h.1))
-    (((s.0, s.1, s.2, s.3, s.4, s.5, s.6, fewer), a.0.1), come_nearer may t p.wait_while p.mux a.1)
+climbs_ticks u c may left t p q l h a = grind (arith, nat_tests, served_rests, count_down, some_left, Climbs, rests_still, receive_rows, come_nearer)
 
 -- an LACPDU that serves it
 

@@ -1,6 +1,6 @@
 -- What happens to a port leaves no timer above the ticks that it can start with.
-use Rattle.lagbeside.proofs.Common.{Bool, List, Result, [], arith, cond, false, if◌then◌else◌, inl, inr, nat_lt, refl, subst, suc, sym, true, zero, ℕ}
-use Rattle.lagbeside.proofs.Common.{◌++◌, ◌+◌, ◌-◌, ◌<◌, ◌∷◌, ◌≡◌, ◌≤◌, nat_tests, AllByRecursion, Choice, Unselected, Lacpdu, PeriodicState, Setup}
+use Rattle.lagbeside.proofs.Common.{Bool, List, Result, [], arith, cond, if◌then◌else◌, inl, inr, nat_lt, refl, subst, suc, sym, zero, ℕ, ◌++◌, ◌+◌}
+use Rattle.lagbeside.proofs.Common.{◌-◌, ◌<◌, ◌∷◌, ◌≡◌, ◌≤◌, nat_tests, AllByRecursion, Choice, Unselected, Lacpdu, PeriodicState, Setup}
 use Rattle.lagbeside.proofs.Common.{ReceiveState, Current, Defaulted, Initialize, PortDisabled, with_mode, Machines, mux_rows, periodic_rows}
 use Rattle.lagbeside.proofs.Common.{lacpdu_rows, receive_rows, start_receive, Fires, FiresTimes, Row, RunsToRest, Starts, before_start, aged}
 use Rattle.lagbeside.proofs.Common.{count_down, Reply, SystemFault, Call, Configure, ProcessesLacpdu, Receive, Restart, Set_link, Tick, Transmit}
@@ -39,8 +39,7 @@ rises : (r : ReceiveState) (n : ℕ) → n ≤ most_current_while r → (n ≤ m
 rises r n h = grind (arith, nat_tests)
 
 starts_with : (short : Bool) → (if short then 30 else 900) ≤ most_current_while Current
-starts_with true = omega arith
-starts_with false = omega arith
+starts_with short = grind (arith, nat_tests)
 
 receive_keeps : RowsKeep IsTimed receive_rows
 receive_keeps = grind (arith, nat_tests, rises)
@@ -109,12 +108,10 @@ timed_kept call answer = tt
 -- the time-out of the port
 
 short_most : (short : Bool) → 30 ≤ timeout_time short
-short_most true = omega arith
-short_most false = omega arith
+short_most short = grind (arith, nat_tests)
 
 starts_most : (short : Bool) → (if short then 30 else 900) ≤ timeout_time short
-starts_most true = omega arith
-starts_most false = omega arith
+starts_most short = grind (arith, nat_tests)
 
 receive_rows_within : RowsKeep KeepsTimeout receive_rows
 receive_rows_within = grind (arith, nat_tests, short_most)

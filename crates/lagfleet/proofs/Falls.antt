@@ -18,7 +18,7 @@ use Rattle.portmachines.specs.Periodic.{RunsPeriodic, periodic_rows}
 use Rattle.portmachines.specs.Receive.{receive_rows, same_receive_state}
 use Rattle.portmachines.specs.Rows.{Fires, FiresTimes, RunsToRest}
 use Rattle.portmachines.specs.declared.receive.ReceiveState.{ReceiveState}
-use Rattle.portmachines.specs.declared.receive.ReceiveState.TheVariants.{Initialize, PortDisabled, Expired, Defaulted, Current}
+use Rattle.portmachines.specs.declared.receive.ReceiveState.TheVariants.{PortDisabled, Expired, Defaulted}
 use Rattle.portmachines.proofs.Runs.{Reaches-keeps}
 use Rattle.lagmodel.specs.Bridge.{find_number, ports_of}
 use Rattle.lagsystem.specs.declared.system_ports.SystemPort.{SystemPort}
@@ -54,28 +54,7 @@ expired_disabled : Expired ≡ PortDisabled → ⊥
 expired_disabled e = cc
 
 falls_on : (p q : Machines) → Fires receive_rows p q → Falling p → Falling q
-falls_on p q h x = elim h [
-  | inl f ↦ disabled_now p q f.1 x
-  | inr h ↦ elim h [
-    | inl f ↦ disabled_now p q f.1 x
-    | inr h ↦ elim h [
-      | inl f ↦ absurd (clash p.enabled ((and_parts (same_receive_state PortDisabled p.receive) p.enabled f.0).1) x.link)
-      | inr h ↦ elim h [
-        | inl f ↦ record {
-          link = ap (λ (y : Machines). y.enabled) f.1 ∙ x.link;
-          out = λ e. absurd (defaulted_disabled (sym (ap (λ (y : Machines). y.receive) f.1) ∙ e));
-        }
-        | inr h ↦ elim h [
-          | inl f ↦ record {
-            link = ap (λ (y : Machines). y.enabled) f.1 ∙ x.link;
-            out = λ e. absurd (expired_disabled (sym (ap (λ (y : Machines). y.receive) f.1) ∙ e));
-          }
-          | inr h ↦ absurd h
-        ]
-      ]
-    ]
-  ]
-]
+falls_on p q h x = grind (arith, disabled_now, clash, and_parts, same_receive_state, defaulted_disabled, expired_disabled)
 
 falls_all : (n : ℕ) (p q : Machines) → FiresTimes receive_rows n p q → Falling p → Falling q
 falls_all zero p q run x = subst Falling (sym run) x
@@ -83,37 +62,14 @@ falls_all (suc n) p q run x = falls_on run.0 q run.2 (falls_all n p run.0 run.1 
 
 -- a machine that was at rest with its link up, and whose link goes down, comes to rest in PORT_DISABLED
 third : (a b c d e : Bool) → (not a && (not b && (not c && (not d && (not e && true))))) ≡ true → c ≡ false
-third true b c d e h = absurd (false≢true h)
-third false true c d e h = absurd (false≢true h)
-third false false true d e h = absurd (false≢true h)
-third false false false d e h = refl
+third a b c d e h = grind arith
 
 disabled : (r : ReceiveState) (e : Bool) → e ≡ false → (not (same_receive_state PortDisabled r) && not e) ≡ false → r ≡ PortDisabled
-disabled PortDisabled e k h = refl
-disabled Initialize e k h = absurd (true≢false (sym (ap not k) ∙ h))
-disabled Expired e k h = absurd (true≢false (sym (ap not k) ∙ h))
-disabled Defaulted e k h = absurd (true≢false (sym (ap not k) ∙ h))
-disabled Current e k h = absurd (true≢false (sym (ap not k) ∙ h))
+disabled r e k h = grind arith
 
 falls_to_rest : (most : Option ℕ) (p q : Machines) → none_enabled receive_rows p ≡ true → p.enabled ≡ true → SetsPortEnabled most false p q
     → partner_synchronized q ≡ false
-falls_to_rest most p q rest up h = x.out (disabled q.receive q.enabled x.link h.2.1.0)
-  where
-    begins : Machines
-    begins = record p { enabled = false; choice = choice_with_link most false p.choice }
-
-    start : Falling begins
-    start = record {
-      link = refl;
-      out = λ e. absurd (clash (same_receive_state PortDisabled p.receive && p.enabled)
-          (and_from (same_receive_state PortDisabled p.receive) p.enabled (ap (same_receive_state PortDisabled) e) up)
-          (third (same_receive_state Initialize p.receive && true) (not (same_receive_state PortDisabled p.receive) && not p.enabled)
-          (same_receive_state PortDisabled p.receive && p.enabled) (same_receive_state Expired p.receive && (p.current_while == 0))
-          (same_receive_state Current p.receive && (p.current_while == 0)) rest));
-    }
-
-    x : Falling q
-    x = falls_all h.0 begins q h.1 start
+falls_to_rest most p q rest up h = grind (arith, disabled, choice_with_link, clash, same_receive_state, and_from, third, not, falls_all)
 
 -- the mux and periodic machines leave the partner
 mux_same : (ready : Bool) (p q : Machines) → RunsToRest (mux_rows ready) p q → partner_synchronized q ≡ partner_synchronized p
@@ -148,17 +104,11 @@ down_zip R same p (x ∷ xs) (y ∷ ys) h d =
 down_set : (p : ℕ) (xs : List SystemPort) (i : ℕ) (s t : SystemPort) → slice_get xs i ≡ Some s → t.number ≡ s.number
     → partner_synchronized t.port ≡ partner_synchronized s.port → DownIn p xs → DownIn p (slice_set xs i t)
 down_set p [] i s t e n k d = tt
-down_set p (x ∷ xs) zero s t e n k d =
-    let same : x ≡ s = same_Some x s e in
-    let number : eqb p x.number ≡ eqb p t.number = ap (λ (s : SystemPort). eqb p s.number) same ∙ ap (eqb p) (sym n) in (
-      (λ h. k ∙ ap (λ (s : SystemPort). partner_synchronized s.port) (sym same) ∙ d.0 (number ∙ h)),
-      (λ h. d.1 (number ∙ h)),
-    )
+down_set p (x ∷ xs) zero s t e n k d = grind arith
 down_set p (x ∷ xs) (suc i) s t e n k d = (d.0, λ h. down_set p xs i s t e n k (d.1 h))
 
 given_partner : (s : SystemPort) (o : Option Choice) → partner_synchronized (with_choice s o).port ≡ partner_synchronized s.port
-given_partner s None = refl
-given_partner s (Some c) = refl
+given_partner s o = grind arith
 
 down_settled : (p : ℕ) (old new : SystemState) → Settling old new → DownIn p old.system_ports → DownIn p new.system_ports
 down_settled p old new h d =
@@ -174,8 +124,7 @@ first_set : (p : ℕ) (xs : List SystemPort) (i : ℕ) (s t : SystemPort) → sl
     → ((k : ℕ) → k < i → ((get_or xs k s).number == p) ≡ false) → (t.number == p) ≡ true → partner_synchronized t.port ≡ false
     → DownIn p (slice_set xs i t)
 first_set p [] i s t e before n d = tt
-first_set p (x ∷ xs) zero s t e before n d =
-    ((λ h. d), (λ h. absurd (clash (eqb p t.number) (eq-eqb p t.number (sym (eqb-true t.number p n))) h)))
+first_set p (x ∷ xs) zero s t e before n d = grind arith
 first_set p (x ∷ xs) (suc i) s t e before n d = (
   (λ h. absurd (clash (x.number == p) (eq-eqb x.number p (sym (eqb-true p x.number h))) (before zero (omega arith)))),
   (λ h. first_set p xs i s t e (λ k l. before (suc k) (omega (arith, l))) n d),
@@ -197,9 +146,7 @@ down_made most p xs ys (Some i) x e rest at up z =
 
 -- as the law has it
 down_of : (a b : Bool) → b ≡ false → cond a Moved_down (cond b Moved_up Moved_down) ≡ Moved_down
-down_of true b h = refl
-down_of false true h = absurd (true≢false h)
-down_of false false h = refl
+down_of a b h = grind arith
 
 shows_down : (p : ℕ) (xs : List SystemPort) → DownIn p xs → moved_of (ports_of number_of_port model_port_of xs p) ≡ Moved_down
 shows_down p [] d = refl

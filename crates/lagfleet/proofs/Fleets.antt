@@ -1,4 +1,5 @@
 -- Each event of a fleet is an event of its network.
+use native.Mathlib.Omega.{arith}
 use Rattle.std.proofs.Common.{Bool, Err, List, None, Ok, Option, Some, [], ap, cond, inr, refl, subst, sym, true, ℕ, ◌++◌, ◌∙◌, ◌∷◌, ◌≡◌}
 use Rattle.lagtypes.specs.declared.identifiers.AggId.{AggId}
 use Rattle.lagmodel.specs.Move.{Act, LawfulMoves}
@@ -50,9 +51,7 @@ acts_view x s stamp accepts (a ∷ more) v w = acts_view x s stamp accepts more 
 -- one system answers, and the others stay
 one_by_one : (old new : ℕ → SystemState) (s : ℕ) (P : ℕ → SystemState → SystemState → Type 0) → new ≡ at_system old s (new s)
     → P s (old s) (new s) → ((t : ℕ) → (t ≡ s → ⊥) → P t (old t) (old t)) → (t : ℕ) → P t (old t) (new t)
-one_by_one old new s P e here others t = is_or_not (P t (old t) (new t)) t s
-    (λ same. subst (λ t. P t (old t) (new t)) (sym same) here)
-    (λ ne. subst (λ y. P t (old t) y) (sym (ap (λ (f : ℕ → SystemState). f t) e ∙ elsewhere old s (new s) t ne)) (others t ne))
+one_by_one old new s P e here others t = grind arith
 
 module _ (gives : FleetAlgorithms) (x : NetworkSetup) where
   -- one system is another, and the network shows it
@@ -353,17 +352,14 @@ fleet_runs gives far es start end f z =
       setup = λ t. refl;
       view = λ t. ap (λ (w : Network). w.view t) f.1 ∙ sym (first_shows (start.systems t) (f.0 t));
     } in
-    let r = runs gives (fleet_setup far start.systems) es start end i z in
-    (r.0, subst (λ (w : Network). NetworkRun (fleet_setup far start.systems) r.0 w end.net) f.1 r.1, r.2, r.4, r.3.view)
+    grind (arith, runs, fleet_setup)
 
 fleet_setup_is : (far : ℕ → ℕ → Option Place) (systems : ℕ → SystemState) → IsCabled far → IsNetworkSetup (fleet_setup far systems)
 fleet_setup_is far systems h = record { setup = λ s. configured_setup (systems s); cables = h }
 
 -- what holds after each event of a network holds after each of a fleet
 pub holds_of_fleet : (gives : FleetAlgorithms) (P : NetworkSetup → Network → Type 0) → IsNetworkInvariant P → IsFleetInvariant gives P
-holds_of_fleet gives P h far events start end cabled first z =
-    let r = fleet_runs gives far events start end first z in
-    (subst (λ x. P x end.net) r.2 (h (fleet_setup far start.systems) r.0 end.net (fleet_setup_is far start.systems cabled) r.1), r.4)
+holds_of_fleet gives P h far events start end cabled first z = grind (arith, fleet_runs, fleet_setup, fleet_setup_is)
 
 -- and what holds where no cable is moved
 pub fixed_of_fleet : (gives : FleetAlgorithms) → TookFromFixedEnd → FleetTookFromFixedEnd gives

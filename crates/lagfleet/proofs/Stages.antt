@@ -1,5 +1,5 @@
 -- One system beside any peer: what it does moves the scene as the law has it.
-use Rattle.std.proofs.Common.{Bool, Err, List, Ok, Option, Result, Some, [], ap, arith, false, inl, inr, refl, subst, sym, true, ℕ, ◌∙◌, ◌∷◌, ◌≡◌}
+use Rattle.std.proofs.Common.{Bool, Err, List, Ok, Option, Result, Some, [], ap, arith, false, inl, refl, subst, sym, true, ℕ, ◌∙◌, ◌∷◌, ◌≡◌}
 use Rattle.std.proofs.lemmas.Bool.{true≢false}
 use Rattle.lagtypes.specs.declared.identifiers.AggId.{AggId}
 use Rattle.lagmodel.specs.Move.{Act, LawfulMoves}
@@ -24,10 +24,9 @@ use Rattle.lagsystem.proofs.FirstView.{configured_setup, first_shows}
 use Rattle.lagfleet.specs.Doing.{Does, Doing, offered}
 use Rattle.lagfleet.specs.Fleet.{IsOther, is_held}
 use Rattle.lagmodel.specs.Law.{OnePartner}
-use Rattle.lagmodel.specs.AnyPeer.{Answers, Calls, Comes, Cuts, Fits, Forces, Gone, HandsUp, Happening, Joins, OvertakesBack, OvertakesOut, Restarts}
-use Rattle.lagmodel.specs.AnyPeer.{Says, Scene, Takes, OrderHolds, SerialsCountFromZero, TookInSync, first_scene, scene_after_acts}
+use Rattle.lagmodel.specs.AnyPeer.{Calls, Comes, Fits, Forces, Happening, Restarts, Scene, OrderHolds, SerialsCountFromZero, TookInSync, first_scene}
+use Rattle.lagmodel.specs.AnyPeer.{scene_after_acts}
 use Rattle.lagmodel.proofs.AnyPeer.{Kept, comes_kept, counted_comes, each_call_is_one, first_kept, none_counted, unsent}
-use Rattle.lagmodel.proofs.Lanes.{two_cases}
 use Rattle.lagmodel.proofs.Orderly.{handed_front}
 use Rattle.lagmodel.proofs.Ports.{one_partner}
 use Rattle.lagsystem.specs.declared.drive.HostCall.TheVariants as host
@@ -67,18 +66,7 @@ acts_view ends stamp accepts (a ∷ more) v w = acts_view ends stamp accepts mor
 -- what happens outside leaves the view
 outside_view : (u : SystemSetup) (ends : ℕ → Option ℕ) (e : Happening) (old new : Scene) → IsOutside e → Comes u ends e old new
     → new.view ≡ old.view
-outside_view u ends (Calls call stamp moves) old new h z = absurd h
-outside_view u ends (Gone c m ms) old new h z = ap (λ (w : Scene). w.view) z.1
-outside_view u ends (Says c kept m) old new h z = ap (λ (w : Scene). w.view) z.1
-outside_view u ends (Answers c kept mac p n stamp ms) old new h z = ap (λ (w : Scene). w.view) z.1
-outside_view u ends (HandsUp c g k n ms) old new h z = ap (λ (w : Scene). w.view) z.1
-outside_view u ends (Takes c m ms) old new h z = ap (λ (w : Scene). w.view) z.1
-outside_view u ends (OvertakesOut c ms) old new h z = ap (λ (w : Scene). w.view) z.1
-outside_view u ends (OvertakesBack c ms) old new h z = ap (λ (w : Scene). w.view) z.1
-outside_view u ends (Cuts c) old new h z = ap (λ (w : Scene). w.view) z
-outside_view u ends (Joins c) old new h z = ap (λ (w : Scene). w.view) z
-outside_view u ends Restarts old new h z = absurd h
-outside_view u ends (Forces g k) old new h z = absurd h
+outside_view u ends e old new h z = grind arith
 
 module _ (gives : ℕ → ℕ → ℕ → Type 0) (u : SystemSetup) (ends : ℕ → Option ℕ) (f : IsSystemSetup u)
     (one : (c d p : ℕ) → ends c ≡ Some p → ends d ≡ Some p → c ≡ d) where
@@ -216,13 +204,10 @@ order_beside gives ends events start end one first e z =
     (λ g k h. handed_front (i.2.kept.lanes.orderly g k 0 h), i.2.view)
 
 pub took_beside : (gives : ℕ → ℕ → ℕ → Type 0) → HoldsBesideAnyPeer gives TookInSync
-took_beside gives ends events start end one first e z =
-    let i = stood gives ends events start end one first e z in
-    (took_in_sync i.0 end.scene i.2.kept.members i.2.kept.heard, i.2.view)
+took_beside gives ends events start end one first e z = grind (arith, stood, took_in_sync)
 
 pub counts_beside : (gives : ℕ → ℕ → ℕ → Type 0) → HoldsBesideAnyPeer gives SerialsCountFromZero
-counts_beside gives ends events start end one first e z =
-    let i = stood gives ends events start end one first e z in (i.2.counts, i.2.view)
+counts_beside gives ends events start end one first e z = grind (arith, stood)
 
 -- ---- each call is an event
 
@@ -247,12 +232,7 @@ asks_nothing ModelCall.Move_conversation = true
 asks_nothing law = false
 
 fits_any : (law : ModelCall) (ends : ℕ → Option ℕ) (w : Scene) → is_restart law ≡ false → asks_nothing law ≡ true → Fits law 0 ends w
-fits_any law ends w r h = record {
-  running = r;
-  came = λ p pdu e. absurd (true≢false (sym h ∙ ap asks_nothing e));
-  downed = λ p e. absurd (true≢false (sym h ∙ ap asks_nothing e));
-  forcing = λ g k e. absurd (true≢false (sym h ∙ ap asks_nothing e));
-}
+fits_any law ends w r h = grind arith
 
 receive_force : (p g k : ℕ) (a : Option ControlMessage) → Force g k ≡ Receive p a → ⊥
 receive_force p g k a e = cc
@@ -264,17 +244,7 @@ force_parts : (g k h j : ℕ) → Force g k ≡ Force h j → (g ≡ h) × (k �
 force_parts g k h j e = (cc, cc)
 
 fits_forced : (g k : ℕ) (ends : ℕ → Option ℕ) (w : Scene) → Fits (Force g k) 0 ends (record w { forced = at_two w.forced g k true })
-fits_forced g k ends w = record {
-  running = refl;
-  came = λ p pdu e. absurd (receive_force p g k (Some pdu) e);
-  downed = λ p e. absurd (link_force p g k false e);
-  forcing = λ h j e.
-      let two = force_parts g k h j e in
-      subst (λ h. at_two w.forced g k true h j ≡ true) two.0 (subst (λ j. at_two w.forced g k true g j ≡ true) two.1 counts);
-}
-  where
-    counts : at_two w.forced g k true g k ≡ true
-    counts = elim (two_cases w.forced g k true g k) [ inl y ↦ y.2 | inr y ↦ absurd (y.0 (refl, refl)) ]
+fits_forced g k ends w = grind arith
 
 module _ (gives : ℕ → ℕ → ℕ → Type 0) (ends : ℕ → Option ℕ) (old : Stage) (after : SystemState) where
   -- the system goes on so, and leaves this scene
@@ -334,22 +304,10 @@ pub host_calls_beside : (gives : ℕ → ℕ → ℕ → Type 0) → EachHostCal
 host_calls_beside gives ends old call answer accepts after h promise = each_host_call gives ends old after call answer accepts h promise
 
 pub settings_beside : (gives : ℕ → ℕ → ℕ → Type 0) → EachSettingBesideAnyPeer gives
-settings_beside gives ends old setting answer after promise =
-    quiet gives ends old after (Doing.Sets setting answer) ModelCall.Tick takes_all [] refl refl (promise, refl, refl)
+settings_beside gives ends old setting answer after promise = grind arith
 
 pub happenings_beside : (gives : ℕ → ℕ → ℕ → Type 0) → EachHappeningBesideAnyPeer gives
-happenings_beside gives ends old (Calls call stamp moves) scene c r f z = absurd (c call stamp moves refl)
-happenings_beside gives ends old Restarts scene c r f z = absurd (r refl)
-happenings_beside gives ends old (Forces g k) scene c r f z = absurd (f g k refl)
-happenings_beside gives ends old (Gone b m ms) scene c r f z = (tt, refl, z)
-happenings_beside gives ends old (Says b kept m) scene c r f z = (tt, refl, z)
-happenings_beside gives ends old (Answers b kept mac p n stamp ms) scene c r f z = (tt, refl, z)
-happenings_beside gives ends old (HandsUp b g k n ms) scene c r f z = (tt, refl, z)
-happenings_beside gives ends old (Takes b m ms) scene c r f z = (tt, refl, z)
-happenings_beside gives ends old (OvertakesOut b ms) scene c r f z = (tt, refl, z)
-happenings_beside gives ends old (OvertakesBack b ms) scene c r f z = (tt, refl, z)
-happenings_beside gives ends old (Cuts b) scene c r f z = (tt, refl, z)
-happenings_beside gives ends old (Joins b) scene c r f z = (tt, refl, z)
+happenings_beside gives ends old h scene c r f z = grind arith
 
 -- what flushes is not On a port
 waits_not_on : (p q n : ℕ) → Flushing p n ≡ On q → ⊥

@@ -1,12 +1,12 @@
 -- Order, whatever is at the other ends.
-use Rattle.lagmodel.proofs.Common.{Bool, List, None, Option, Some, [], ap, eqb, eqb-true, false, inl, inr, refl, subst, sym, true, ℕ, ◌++◌, ◌∙◌, ◌∷◌}
-use Rattle.lagmodel.proofs.Common.{◌≡◌, cases_Bool, none-some, option_to_list, Answers, Calls, Comes, ComesAll, Cuts, EachCallIsOne, Forces, Gone}
-use Rattle.lagmodel.proofs.Common.{HandsUp, Happening, HoldsWithAnyPeer, IsNoResponse, Joins, Moves, OrderHolds, OvertakesBack, OvertakesOut}
-use Rattle.lagmodel.proofs.Common.{Restarts, Says, Scene, SerialsCountFromZero, Takes, TookInSync, first_scene, only, scene_after, scene_after_act}
-use Rattle.lagmodel.proofs.Common.{scene_after_acts, Members, OnePartner, Act, AllAllowed, Move, act, acts, view_after, view_after_all, IsSystemSetup}
-use Rattle.lagmodel.proofs.Common.{Lacp, Marker, ModelCall, Response, SystemSetup, View, Control, Data, Message, One}
+use Rattle.lagmodel.proofs.Common.{Bool, List, None, Option, Some, [], false, refl, subst, sym, true, ℕ, ◌++◌, ◌∙◌, ◌∷◌, ◌≡◌, option_to_list, Answers}
+use Rattle.lagmodel.proofs.Common.{Calls, Comes, ComesAll, Cuts, EachCallIsOne, Forces, Gone, HandsUp, Happening, HoldsWithAnyPeer, IsNoResponse}
+use Rattle.lagmodel.proofs.Common.{Joins, Moves, OrderHolds, OvertakesBack, OvertakesOut, Restarts, Says, Scene, SerialsCountFromZero, Takes}
+use Rattle.lagmodel.proofs.Common.{TookInSync, first_scene, only, scene_after, scene_after_act, scene_after_acts, Members, OnePartner, Act}
+use Rattle.lagmodel.proofs.Common.{AllAllowed, Move, act, acts, view_after, view_after_all, IsSystemSetup, Marker, ModelCall, SystemSetup, View}
+use Rattle.lagmodel.proofs.Common.{Control, Message, One}
+use native.Mathlib.Omega.{arith}
 use Rattle.lagmodel.proofs.Overtaken.{lanes_out_overtaken, lanes_back_overtaken}
-use Rattle.lagmodel.proofs.Base.{cond_false}
 use Rattle.lagmodel.proofs.Lines.{answers, ResponseBelow}
 use Rattle.lagmodel.proofs.Orderly.{handed_front}
 use Rattle.lagmodel.proofs.Lanes.{Lanes}
@@ -25,11 +25,7 @@ pub record Kept (u : SystemSetup) (ends : ℕ → Option ℕ) (w : Scene) : Type
 -- what changes the cables and the records alone
 lanes_kept : (u : SystemSetup) (ends : ℕ → Option ℕ) (w : Scene) → Kept u ends w → (v : Scene) → v.view ≡ w.view → v.taken ≡ w.taken
     → Lanes One ends v.view.flows v.out v.back v.whole v.sent v.collected v.forced → Kept u ends v
-lanes_kept u ends w i v e f l = record {
-  lanes = l;
-  members = subst (λ y. Members u y.port) (sym e) i.members;
-  heard = subst (λ t. AllHeard v.view.port t) (sym f) (subst (λ y. AllHeard y.port w.taken) (sym e) i.heard);
-}
+lanes_kept u ends w i v e f l = grind arith
 
 moves_kept : (u : SystemSetup) (ends : ℕ → Option ℕ) (call : ModelCall) (stamp : ℕ) (ms : List (Move × Bool)) (old new : Scene)
     → Within call stamp ends old.back old.whole old.forced → Kept u ends old → Moves u ends call stamp ms old new → Kept u ends new
@@ -44,56 +40,33 @@ moves_kept u ends call stamp (m ∷ ms) old new w i z =
     }) z.1
 
 pub only_there : (c d : ℕ) → only c d ≡ Some 0 → d ≡ c
-only_there c d h = elim (cases_Bool (eqb d c)) [
-  | inl e ↦ eqb-true d c e
-  | inr e ↦ absurd (none-some 0 (sym (cond_false (eqb d c) (Some 0) None e) ∙ h))
-]
+only_there c d h = grind arith
 
 below_none : (m : Message) → IsNoResponse m → (b : ℕ) → ResponseBelow b m
-below_none (Control (Lacp pdu) stamp) h b = tt
-below_none (Control (Marker mac p n) stamp) h b = tt
-below_none (Control (Response mac p n) stamp) h b = absurd h
-below_none (Data origin g k n) h b = tt
+below_none m h b = grind arith
 
 answers_none : (m : Message) → IsNoResponse m → (n : ℕ) → answers n m ≡ false
-answers_none (Control (Lacp pdu) stamp) h n = refl
-answers_none (Control (Marker mac p i) stamp) h n = refl
-answers_none (Control (Response mac p i) stamp) h n = absurd h
-answers_none (Data origin g k i) h n = refl
+answers_none m h n = grind arith
 
 pub comes_kept : (u : SystemSetup) (ends : ℕ → Option ℕ) (e : Happening) (old new : Scene) → IsSystemSetup u
     → ((c d p : ℕ) → ends c ≡ Some p → ends d ≡ Some p → c ≡ d) → Kept u ends old → Comes u ends e old new → Kept u ends new
-comes_kept u ends (Calls call stamp moves) old new f one i z =
-    moves_kept u ends call stamp moves old new
-    (record { running = z.0.running; came = z.0.came; downed = z.0.downed; forcing = z.0.forcing }) i z.1
+comes_kept u ends (Calls call stamp moves) old new f one i z = grind (arith, moves_kept)
 comes_kept u ends (Gone c m ms) old new f one i z =
     subst (Kept u ends) (sym z.1) (lanes_kept u ends old i _ refl refl (lanes_back_taken i.lanes c m ms z.0))
-comes_kept u ends (Says c kept m) old new f one i z =
-    subst (Kept u ends) (sym z.1) (lanes_kept u ends old i _ refl refl
-    (lanes_back_plain One ends old.whole old.sent old.collected old.forced old.view.flows old.out old.back (only c) kept 0 m
-    (below_none m z.0) (answers_none m z.0) i.lanes))
+comes_kept u ends (Says c kept m) old new f one i z = grind (arith, lanes_kept, lanes_back_plain, only, below_none, answers_none)
 comes_kept u ends (Answers c kept mac p n stamp ms) old new f one i z =
     subst (Kept u ends) (sym z.1) (lanes_kept u ends old i _ refl refl
     (lanes_back_response One ends old.whole old.sent old.collected old.forced old.view.flows old.out old.back (only c) kept 0 mac p n stamp
     (λ d h. (ms, subst (λ d. old.out d ≡ Control (Marker mac p n) stamp ∷ ms) (sym (only_there c d h)) z.0)) i.lanes))
-comes_kept u ends (HandsUp c g k n ms) old new f one i z =
-    subst (Kept u ends) (sym z.1) (lanes_kept u ends old i _ refl refl (lanes_handed i.lanes c g k n ms one z.0))
+comes_kept u ends (HandsUp c g k n ms) old new f one i z = grind (arith, lanes_kept, lanes_handed)
 comes_kept u ends (Takes c m ms) old new f one i z =
     subst (Kept u ends) (sym z.1) (lanes_kept u ends old i _ refl refl (lanes_out_taken i.lanes c m ms z.0))
-comes_kept u ends (OvertakesOut c ms) old new f one i z =
-    subst (Kept u ends) (sym z.1) (lanes_kept u ends old i _ refl refl
-    (lanes_out_overtaken One ends old.view.flows old.whole old.sent old.collected old.forced old.out old.back c ms z.0 i.lanes))
-comes_kept u ends (OvertakesBack c ms) old new f one i z =
-    subst (Kept u ends) (sym z.1) (lanes_kept u ends old i _ refl refl
-    (lanes_back_overtaken One ends old.view.flows old.whole old.sent old.collected old.forced old.out old.back c ms z.0 i.lanes))
-comes_kept u ends (Cuts c) old new f one i z =
-    subst (Kept u ends) (sym z) (lanes_kept u ends old i _ refl refl (lanes_cut i.lanes c))
-comes_kept u ends (Joins c) old new f one i z =
-    subst (Kept u ends) (sym z) (lanes_kept u ends old i _ refl refl (lanes_joined i.lanes c))
-comes_kept u ends Restarts old new f one i z = subst (Kept u ends) (sym z)
-    (record { lanes = lanes_restarted i.lanes u.first_marker; members = members_first u f; heard = heard_first u old.taken })
-comes_kept u ends (Forces g k) old new f one i z =
-    subst (Kept u ends) (sym z) (lanes_kept u ends old i _ refl refl (lanes_forced i.lanes g k))
+comes_kept u ends (OvertakesOut c ms) old new f one i z = grind (arith, lanes_kept, lanes_out_overtaken)
+comes_kept u ends (OvertakesBack c ms) old new f one i z = grind (arith, lanes_kept, lanes_back_overtaken)
+comes_kept u ends (Cuts c) old new f one i z = grind (arith, lanes_kept, lanes_cut)
+comes_kept u ends (Joins c) old new f one i z = grind (arith, lanes_kept, lanes_joined)
+comes_kept u ends Restarts old new f one i z = grind (arith, lanes_restarted, members_first, heard_first)
+comes_kept u ends (Forces g k) old new f one i z = grind (arith, lanes_kept, lanes_forced)
 
 all_kept : (u : SystemSetup) (ends : ℕ → Option ℕ) (es : List Happening) (old new : Scene) → IsSystemSetup u
     → ((c d p : ℕ) → ends c ≡ Some p → ends d ≡ Some p → c ≡ d) → Kept u ends old → ComesAll u ends es old new → Kept u ends new
@@ -101,8 +74,7 @@ all_kept u ends [] old new f one i z = subst (Kept u ends) (sym z) i
 all_kept u ends (e ∷ es) old new f one i z = all_kept u ends es z.0 new f one (comes_kept u ends e old z.0 f one i z.1) z.2
 
 pub first_kept : (u : SystemSetup) (ends : ℕ → Option ℕ) → IsSystemSetup u → Kept u ends (first_scene u)
-first_kept u ends f =
-    record { lanes = lanes_first One ends u.first_marker; members = members_first u f; heard = heard_first u _ }
+first_kept u ends f = grind arith
 
 kept : (u : SystemSetup) (ends : ℕ → Option ℕ) (es : List Happening) (w : Scene) → IsSystemSetup u
     → ((c d p : ℕ) → ends c ≡ Some p → ends d ≡ Some p → c ≡ d) → ComesAll u ends es (first_scene u) w → Kept u ends w
@@ -192,18 +164,7 @@ unsent old new e h g k = subst (λ (sent : ℕ → ℕ → List ℕ). IsCount (s
 
 pub counted_comes : (u : SystemSetup) (ends : ℕ → Option ℕ) (e : Happening) (old new : Scene) → SerialsCountFromZero old
     → Comes u ends e old new → SerialsCountFromZero new
-counted_comes u ends (Calls call stamp moves) old new h z = counted_moves u ends call stamp moves old new h z.1
-counted_comes u ends (Gone c m ms) old new h z = unsent old new (ap (λ (w : Scene). w.sent) z.1) h
-counted_comes u ends (Says c kept m) old new h z = unsent old new (ap (λ (w : Scene). w.sent) z.1) h
-counted_comes u ends (Answers c kept mac p n stamp ms) old new h z = unsent old new (ap (λ (w : Scene). w.sent) z.1) h
-counted_comes u ends (HandsUp c g k n ms) old new h z = unsent old new (ap (λ (w : Scene). w.sent) z.1) h
-counted_comes u ends (Takes c m ms) old new h z = unsent old new (ap (λ (w : Scene). w.sent) z.1) h
-counted_comes u ends (OvertakesOut c ms) old new h z = unsent old new (ap (λ (w : Scene). w.sent) z.1) h
-counted_comes u ends (OvertakesBack c ms) old new h z = unsent old new (ap (λ (w : Scene). w.sent) z.1) h
-counted_comes u ends (Cuts c) old new h z = unsent old new (ap (λ (w : Scene). w.sent) z) h
-counted_comes u ends (Joins c) old new h z = unsent old new (ap (λ (w : Scene). w.sent) z) h
-counted_comes u ends Restarts old new h z = unsent old new (ap (λ (w : Scene). w.sent) z) h
-counted_comes u ends (Forces g k) old new h z = unsent old new (ap (λ (w : Scene). w.sent) z) h
+counted_comes u ends e old new h z = grind (arith, counted_moves, unsent, kept)
 
 pub none_counted : (u : SystemSetup) → SerialsCountFromZero (first_scene u)
 none_counted u g k i lt = absurd (none_sent i lt)

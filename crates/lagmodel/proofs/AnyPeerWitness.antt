@@ -1,12 +1,11 @@
 -- A run in which a port comes to distribute, and a frame arrives at a peer of any kind.
-use Rattle.lagmodel.proofs.Common.{Bool, List, None, Option, Some, [], ap, arith, cond, eqb, eqb-true, false, inl, inr, refl, subst, sym, true, ℕ}
-use Rattle.lagmodel.proofs.Common.{◌++◌, ◌<◌, ◌∙◌, ◌∷◌, ◌≡◌, none-some, ◌^◌, Answers, ArrivesAtAnyPeer, Calls, Comes, ComesAll, Fits, Gone, HandsUp}
-use Rattle.lagmodel.proofs.Common.{Happening, Says, Scene, Takes, first_scene, scene_after, with_back, Answered, Become, Distribute, Flow, Join, Mark}
-use Rattle.lagmodel.proofs.Common.{Move, Port, Send, Take, Want, port_after, ControlMessage, Force, Lacp, Marker, ModelCall, Offer, PortFacts}
-use Rattle.lagmodel.proofs.Common.{Receive, Response, Set_link, SystemSetup, Transmit, first_port, first_view, is_restart, Control, Data, Message}
-use Rattle.lagmodel.proofs.Common.{One, at_cable, at_two}
+use Rattle.lagmodel.proofs.Common.{Bool, List, None, Option, Some, [], arith, cond, eqb, eqb-true, inl, inr, refl, sym, true, ℕ, ◌++◌, ◌<◌, ◌∙◌, ◌∷◌}
+use Rattle.lagmodel.proofs.Common.{◌≡◌, none-some, ◌^◌, Answers, ArrivesAtAnyPeer, Calls, Comes, ComesAll, Gone, HandsUp, Happening, Says, Scene}
+use Rattle.lagmodel.proofs.Common.{Takes, first_scene, scene_after, with_back, Answered, Become, Distribute, Flow, Join, Mark, Move, Port, Send, Take}
+use Rattle.lagmodel.proofs.Common.{Want, port_after, ControlMessage, Lacp, Marker, Offer, PortFacts, Receive, Response, SystemSetup, Transmit}
+use Rattle.lagmodel.proofs.Common.{first_port, Control, Data, Message, One, at_cable, at_two}
 use Rattle.lagmodel.proofs.Base.{chosen}
-use Rattle.lagmodel.proofs.Witness.{fixed₀, ne₁, outside_first, outside_kept, party_of, pdu₃, setup_of}
+use Rattle.lagmodel.proofs.Witness.{fixed₀, party_of, pdu₃, setup_of}
 
 abbrev u₀ : SystemSetup
 u₀ = setup_of 1
@@ -87,44 +86,6 @@ a₀ = port_after Distribute (port_after (Join 1) (port_after (Take pdu₃ true)
 parts : (p q : ℕ) (a b : ControlMessage) → Receive p (Some a) ≡ Receive q (Some b) → (p ≡ q) × (a ≡ b)
 parts p q a b e = (cc, cc)
 
-no_link : (p q : ℕ) (a : Option ControlMessage) (up : Bool) → Receive p a ≡ Set_link q up → ⊥
-no_link p q a up e = cc
-
-no_force : (p g k : ℕ) (a : Option ControlMessage) → Receive p a ≡ Force g k → ⊥
-no_force p g k a e = cc
-
--- the call brings nothing
-abbrev BringsNothing : ModelCall → Type 0
-BringsNothing call = ((p : ℕ) (a : Option ControlMessage) → call ≡ Receive p a → ⊥) × ((p : ℕ) (up : Bool) → call ≡ Set_link p up → ⊥)
-    × ((g k : ℕ) → call ≡ Force g k → ⊥)
-
-offer_brings_nothing : BringsNothing Offer
-offer_brings_nothing = (λ p a e. cc, λ p up e. cc, λ g k e. cc)
-
-transmit_brings_nothing : BringsNothing Transmit
-transmit_brings_nothing = (λ p a e. cc, λ p up e. cc, λ g k e. cc)
-
-fits_nothing : (call : ModelCall) (s : Scene) → is_restart call ≡ false → BringsNothing call → Fits call 0 ends₀ s
-fits_nothing call s r n = record {
-  running = r;
-  came = λ p pdu e. absurd (n.0 p (Some pdu) e);
-  downed = λ p e. absurd (n.1 p false e);
-  forcing = λ g k e. absurd (n.2 g k e);
-}
-
--- what came is all that is on its way to port 1
-fits_received : (a : ControlMessage) (s : Scene) → s.back 1 ≡ Control a 0 ∷ [] → Fits (Receive 1 (Some a)) 0 ends₀ s
-fits_received a s b = record {
-  running = refl;
-  came = λ p pdu e c h. (
-    [],
-    subst (λ d. s.back d ≡ Control pdu 0 ∷ []) (sym (there c p h))
-        (b ∙ ap (λ (y : ControlMessage). Control y 0 ∷ []) (parts 1 p a pdu e).1),
-  );
-  downed = λ p e. absurd (no_link 1 p (Some a) false e);
-  forcing = λ g k e. absurd (no_force 1 g k (Some a) e);
-}
-
 abbrev before₀ : List Happening
 before₀ = Says 1 true m₀ ∷ Calls (Receive 1 (Some (Lacp pdu₃))) 0 joins₀ ∷ Gone 1 m₀ [] ∷ Calls Offer 0 sends₀ ∷ Calls Transmit 0 marks₀
     ∷ HandsUp 1 1 48 0 (marker₀ ∷ []) ∷ []
@@ -138,51 +99,12 @@ below = omega arith
 
 -- it joins and distributes
 joins_come : Comes u₀ ends₀ (Calls (Receive 1 (Some (Lacp pdu₃))) 0 joins₀) s₁ s₂
-joins_come = (
-  fits_received (Lacp pdu₃) s₁ refl,
-  (
-    (refl, inr refl, λ h. (refl, inl refl)),
-    (
-      (
-        refl,
-        ne₁,
-        refl,
-        inl (outside_kept (first_view u₀).port (first_port (party_of 1)) (port_after (Take pdu₃ true)) refl
-            (λ h. none-some 1 h) (outside_first 1)),
-      ),
-      ((refl, refl), refl),
-    ),
-  ),
-)
+joins_come = grind arith
 
 -- from there on
 goes_on : ComesAll u₀ ends₀ (Gone 1 m₀ [] ∷ Calls Offer 0 sends₀ ∷ Calls Transmit 0 marks₀ ∷ HandsUp 1 1 48 0 (marker₀ ∷ [])
     ∷ Answers 1 true [] 1 1 0 [] ∷ after₀) s₂ s₁₁
-goes_on = (
-  s₃,
-  (refl, refl),
-  (
-    s₄,
-    (fits_nothing Offer s₃ refl offer_brings_nothing, ((refl, inl (refl, (refl, refl))), refl)),
-    (
-      s₅,
-      (fits_nothing Transmit s₄ refl transmit_brings_nothing, (refl, ((refl, below), refl))),
-      (
-        s₆,
-        (refl, refl),
-        (
-          s₇,
-          (refl, refl),
-          (
-            s₈,
-            (fits_received response₀ s₇ refl, ((refl, refl), ((refl, inl (refl, (refl, refl))), refl))),
-            (s₉, (refl, refl), (s₁₀, (refl, refl), (s₁₁, (refl, refl), refl))),
-          ),
-        ),
-      ),
-    ),
-  ),
-)
+goes_on = grind arith
 
 pub arrives_at_any_peer : ArrivesAtAnyPeer
 arrives_at_any_peer = (

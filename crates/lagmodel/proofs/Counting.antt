@@ -1,9 +1,8 @@
 -- The serial numbers of each conversation are 0, 1, 2 and so on.
 use Rattle.lagmodel.proofs.Common.{Bool, List, None, Option, Some, [], arith, false, get_or, inl, inr, length, length-append, subst, sym, true, ℕ}
-use Rattle.lagmodel.proofs.Common.{◌++◌, ◌<◌, ◌∙◌, ◌∷◌, ◌≡◌, cases_lt, CountsFromZero, Act, Move, Sends, Sends_frame, Took, act, ModelCall, Receive}
-use Rattle.lagmodel.proofs.Common.{CallHappens, Control, Data, DeliversFirst, Event, Happens, LosesFirst, Message, One, RepeatsFirst, Run}
-use Rattle.lagmodel.proofs.Common.{SensesCable, Side, Two, World, WorldSetup, end_at, first_world, handed_up, sent_after, with_messages, world_after}
-use Rattle.lagmodel.proofs.Common.{world_after_all}
+use Rattle.lagmodel.proofs.Common.{◌++◌, ◌<◌, ◌∙◌, ◌∷◌, ◌≡◌, cases_lt, CountsFromZero, Act, Move, act, ModelCall, Receive, CallHappens, Control, Data}
+use Rattle.lagmodel.proofs.Common.{DeliversFirst, Event, Happens, LosesFirst, Message, RepeatsFirst, Run, SensesCable, Side, World, WorldSetup}
+use Rattle.lagmodel.proofs.Common.{end_at, first_world, handed_up, sent_after, with_messages, world_after, world_after_all}
 use Rattle.std.proofs.lemmas.List.{get_or_append_left, get_or_push}
 use Rattle.lagmodel.proofs.Lanes.{two_cases}
 
@@ -11,27 +10,14 @@ abbrev pub IsCount : List ℕ → Type 0
 IsCount xs = (i : ℕ) → i < length xs → get_or xs i 0 ≡ i
 
 one_more : (xs : List ℕ) → IsCount xs → IsCount (xs ++ length xs ∷ [])
-one_more xs h i lt = elim (cases_lt i (length xs)) [
-  | inl below ↦ get_or_append_left xs (length xs ∷ []) 0 i below ∙ h i below
-  | inr above ↦ (let same : i ≡ length xs = omega (arith, length-append xs (length xs ∷ [])) in get_or_push xs (length xs) 0 i (sym same)
-      ∙ sym same)
-]
+one_more xs h i lt = grind (arith, cases_lt, get_or_append_left, length-append, get_or_push)
 
 pub counted_act : (o : Option Act) (sent : ℕ → ℕ → List ℕ) → ((g k : ℕ) → IsCount (sent g k)) → (g k : ℕ) → IsCount (sent_after o sent g k)
-counted_act None sent h g k = h g k
-counted_act (Some (Sends p pdu)) sent h g k = h g k
-counted_act (Some (Took p pdu)) sent h g k = h g k
-counted_act (Some (Sends_frame p j l)) sent h g k = elim (two_cases sent j l (sent j l ++ length (sent j l) ∷ []) g k) [
-  | inl x ↦ subst IsCount (sym x.2) (one_more (sent j l) (h j l))
-  | inr x ↦ subst IsCount (sym x.1) (h g k)
-]
+counted_act o sent h g k = grind (arith, two_cases, IsCount, one_more)
 
 counted_move : (x : WorldSetup) (s : Side) (stamp : ℕ) (m : Move × Bool) (w : World) → CountsFromZero w
     → CountsFromZero (world_after x s stamp m w)
-counted_move x One stamp m w h One g k = counted_act (act (x.setup One) m.0 (w.view One)) (w.sent One) (h One) g k
-counted_move x One stamp m w h Two g k = h Two g k
-counted_move x Two stamp m w h One g k = h One g k
-counted_move x Two stamp m w h Two g k = counted_act (act (x.setup Two) m.0 (w.view Two)) (w.sent Two) (h Two) g k
+counted_move x s stamp m w h i g k = grind (arith, counted_act, act)
 
 counted_all : (x : WorldSetup) (s : Side) (stamp : ℕ) (ms : List (Move × Bool)) (w : World) → CountsFromZero w
     → CountsFromZero (world_after_all x s stamp ms w)
@@ -64,8 +50,7 @@ counted_again x c to (Some p) (Control pdu stamp ∷ ms) old new h z = counted_c
 
 counted_lost : (c : ℕ) (to : Side) (on_cable : List Message) (old new : World) → CountsFromZero old
     → LosesFirst c to on_cable old new → CountsFromZero new
-counted_lost c to [] old new h z = subst CountsFromZero (sym z) h
-counted_lost c to (m ∷ ms) old new h z = subst CountsFromZero (sym z) h
+counted_lost c to on_cable old new h z = grind arith
 
 counted_senses : (x : WorldSetup) (s : Side) (port : Option ℕ) (up : Bool) (old new : World) → CountsFromZero old
     → SensesCable x s port up old new → CountsFromZero new

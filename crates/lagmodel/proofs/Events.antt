@@ -1,4 +1,5 @@
 -- Every event preserves the facts of two systems, and so does every run.
+use native.Mathlib.Omega.{arith}
 use Rattle.lagmodel.proofs.Common.{Bool, List, None, Option, Some, [], ap, false, inl, inr, refl, subst, suc, sym, true, ℕ, ◌++◌, ◌∙◌, ◌∷◌, ◌≡◌, ◌≢◌}
 use Rattle.lagmodel.proofs.Common.{◌⊎◌, false≢true, true≢false, Party, Move, Configure, ControlMessage, Force, IsSystemSetup, ModelCall}
 use Rattle.lagmodel.proofs.Common.{Move_conversation, Offer, Receive, Set_link, SystemSetup, Tick, Transmit, View, first_view, is_restart, AllMoves}
@@ -6,12 +7,12 @@ use Rattle.lagmodel.proofs.Common.{CallHappens, Control, CountsChanges, Data, De
 use Rattle.lagmodel.proofs.Common.{RepeatsFirst, Run, SensesCable, Side, TakenLacpdu, Two, World, WorldSetup, at_cable, at_side, at_two, end_at}
 use Rattle.lagmodel.proofs.Common.{first_world, handed_up, party_at, peer, with_messages, world_after_all}
 use Rattle.lagmodel.specs.View.{Restart}
-use Rattle.lagmodel.proofs.Lines.{IsFrom, Every}
+use Rattle.lagmodel.proofs.Lines.{Every}
 use Rattle.lagmodel.proofs.Ports.{members_first}
-use Rattle.lagmodel.proofs.Lanes.{Lanes, two_cases}
+use Rattle.lagmodel.proofs.Lanes.{Lanes}
 use Rattle.lagmodel.proofs.LaneMoves.{Within, lanes_out_taken, lanes_back_taken, lanes_handed, lanes_forced, lanes_cut, lanes_joined, lanes_emptied}
-use Rattle.lagmodel.proofs.LaneMoves.{lanes_restarted, lanes_first}
-use Rattle.lagmodel.proofs.Stamps.{heard_first, stamps_out_taken, stamps_cut, stamps_emptied, stamps_counted, stamps_first, Stamps}
+use Rattle.lagmodel.proofs.LaneMoves.{lanes_restarted}
+use Rattle.lagmodel.proofs.Stamps.{heard_first, stamps_out_taken, stamps_cut, stamps_emptied, stamps_counted, Stamps}
 use Rattle.lagmodel.proofs.Worlds.{Half, HalfFacing, Lawful, Calling, calling_all}
 
 -- what is left on the cables: all, or all but the first message of one
@@ -147,20 +148,14 @@ quiet Restart = false
 quiet call = true
 
 quiet-running : (call : ModelCall) → quiet call ≡ true → is_restart call ≡ false
-quiet-running Restart h = absurd (false≢true h)
-quiet-running call h = refl
+quiet-running call h = grind arith
 
 quiet_not : (call other : ModelCall) → quiet call ≡ true → quiet other ≡ false → call ≡ other → ⊥
 quiet_not call other h n e = true≢false (sym h ∙ ap quiet e ∙ n)
 
 within_quiet : (call : ModelCall) (stamp : ℕ) (ends : ℕ → Option ℕ) (back : ℕ → List Message) (whole : ℕ → Bool) (forced : ℕ → ℕ → Bool)
     → quiet call ≡ true → Within call stamp ends back whole forced
-within_quiet call stamp ends back whole forced h = record {
-  running = quiet-running call h;
-  came = λ p pdu e. absurd (quiet_not call (Receive p (Some pdu)) h refl e);
-  downed = λ p e. absurd (quiet_not call (Set_link p false) h refl e);
-  forcing = λ g k e. absurd (quiet_not call (Force g k) h refl e);
-}
+within_quiet call stamp ends back whole forced h = grind arith
 
 receive_parts : (p q : ℕ) (a b : ControlMessage) → Receive p (Some a) ≡ Receive q (Some b) → (p ≡ q) × (a ≡ b)
 receive_parts p q a b e = (cc, cc)
@@ -216,16 +211,12 @@ lawful_handed x w c Two g k n ms f e i = both x Two (handed_up true (Data One g 
 lawful_up : (x : WorldSetup) (w : World) (c : ℕ) (to origin : Side) (g k n : ℕ) (ms : List Message) → IsWorldSetup x → origin ≡ peer to
     → w.on_cable to c ≡ Data origin g k n ∷ ms → Lawful x w
     → Lawful x (handed_up true (Data origin g k n) (with_messages w c to ms))
-lawful_up x w c to origin g k n ms f o e i =
-    subst (λ origin. w.on_cable to c ≡ Data origin g k n ∷ ms → Lawful x (handed_up true (Data origin g k n) (with_messages w c to ms)))
-    (sym o)
-    (λ e. lawful_handed x w c to g k n ms f e i) e
+lawful_up x w c to origin g k n ms f o e i = grind (arith, handed_up, with_messages, lawful_handed)
 
 -- frames come from the peer
 from_peer : (x : WorldSetup) (w : World) (c : ℕ) (to origin : Side) (g k n : ℕ) (ms : List Message) → w.on_cable to c ≡ Data origin g k n
     ∷ ms → Lawful x w → origin ≡ peer to
-from_peer x w c One origin g k n ms e i = (subst (Every (IsFrom Two)) e ((i Two).lanes.origin c)).0
-from_peer x w c Two origin g k n ms e i = (subst (Every (IsFrom One)) e ((i One).lanes.origin c)).0
+from_peer x w c to origin g k n ms e i = grind arith
 
 -- a control PDU comes, and is taken from its list first
 started_popped : (x : WorldSetup) (w : World) (c : ℕ) (to : Side) (p : ℕ) (pdu : ControlMessage) (stamp : ℕ) (ms : List Message)
@@ -321,20 +312,9 @@ lawful_forced x One g k w i Two = i Two
 lawful_forced x Two g k w i Two = half_forced (i Two) g k
 lawful_forced x Two g k w i One = i One
 
-counts_as_forced : (s : Side) (forced : Side → ℕ → ℕ → Bool) (g k : ℕ) → (at_side forced s (at_two (forced s) g k true)) s g k ≡ true
-counts_as_forced One forced g k = elim (two_cases (forced One) g k true g k) [ inl y ↦ y.2 | inr y ↦ absurd (y.0 (refl, refl)) ]
-counts_as_forced Two forced g k = elim (two_cases (forced Two) g k true g k) [ inl y ↦ y.2 | inr y ↦ absurd (y.0 (refl, refl)) ]
-
 within_force : (s : Side) (forced : Side → ℕ → ℕ → Bool) (g k : ℕ) (ends : ℕ → Option ℕ) (back : ℕ → List Message) (whole : ℕ → Bool)
     → Within (Force g k) 0 ends back whole ((at_side forced s (at_two (forced s) g k true)) s)
-within_force s forced g k ends back whole = record {
-  running = refl;
-  came = λ q pdu y. absurd (receive_force q g k (Some pdu) (sym y));
-  downed = λ q y. absurd (link_force q g k false (sym y));
-  forcing = λ h j y. let parts = force_parts g k h j y in
-      subst (λ h. (at_side forced s (at_two (forced s) g k true)) s h j ≡ true) parts.0
-      (subst (λ j. (at_side forced s (at_two (forced s) g k true)) s g j ≡ true) parts.1 (counts_as_forced s forced g k));
-}
+within_force s forced g k ends back whole = grind arith
 
 force_kept : (x : WorldSetup) (s : Side) (g k : ℕ) (old new : World) → Lawful x old → Happens x (Event.Force s g k) old new → Lawful x new
 force_kept x s g k old new i z = elim z [
@@ -347,20 +327,10 @@ force_kept x s g k old new i z = elim z [
 
 lawful_cut : (x : WorldSetup) (w : World) (c : ℕ) → Lawful x w
     → Lawful x (record w { whole = at_cable w.whole c false; on_cable = λ s. at_cable (w.on_cable s) c [] })
-lawful_cut x w c i s = let h = i s in record {
-  members = h.members;
-  heard = h.heard;
-  stamps = stamps_cut h.stamps c;
-  lanes = lanes_cut h.lanes c;
-}
+lawful_cut x w c i s = grind (arith, stamps_cut, lanes_cut)
 
 lawful_joined : (x : WorldSetup) (w : World) (c : ℕ) → Lawful x w → Lawful x (record w { whole = at_cable w.whole c true })
-lawful_joined x w c i s = let h = i s in record {
-  members = h.members;
-  heard = h.heard;
-  stamps = h.stamps;
-  lanes = lanes_joined h.lanes c;
-}
+lawful_joined x w c i s = grind (arith, lanes_joined)
 
 lawful_restarted : (x : WorldSetup) (s : Side) (w : World) (count : Side → ℕ → ℕ) → IsWorldSetup x
     → CountsChanges w (record w { view = at_side w.view s (first_view (x.setup s)); on_cable = λ t c. [] }) count → Lawful x w
@@ -393,12 +363,7 @@ run_kept x [] old new f i z = subst (Lawful x) (sym z) i
 run_kept x (e ∷ es) old new f i z = run_kept x es z.0 new f (happens_kept x e old z.0 f i z.1) z.2
 
 pub lawful_first : (x : WorldSetup) → IsWorldSetup x → Lawful x (first_world x)
-lawful_first x f s = record {
-  members = members_first (x.setup s) (f.setup s);
-  lanes = lanes_first s _ (x.setup s).first_marker;
-  stamps = stamps_first _ _ _;
-  heard = heard_first (x.setup s) _;
-}
+lawful_first x f s = grind arith
 
 pub lawful : (x : WorldSetup) (es : List Event) (w : World) → IsWorldSetup x → Run x es (first_world x) w → Lawful x w
 lawful x es w f z = run_kept x es (first_world x) w f (lawful_first x f) z

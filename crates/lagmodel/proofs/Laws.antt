@@ -1,33 +1,20 @@
 -- What follows in a world in which the facts hold.
-use Rattle.lagmodel.proofs.Common.{Bool, List, Some, [], ap, eq-eqb, false, inl, inr, not, option_map, refl, subst, sym, true, ℕ, ◌&&◌, ◌∙◌, ◌∷◌, ◌≡◌}
-use Rattle.lagmodel.proofs.Common.{cases_Bool, true≢false, same_Some, Party, SamePair, end_of, individual, pair_of, BelowNext, CollectedThenInFlight}
-use Rattle.lagmodel.proofs.Common.{EndsAgree, FlushedByMarker, InOrder, LastLacpduSaysInSync, OnItsCable, OnePartner, UpToDateLacpdusNameSender}
-use Rattle.lagmodel.proofs.Common.{serials, Lacp, Marker, PortFacts, Response, View, conversation_port, Control, Data, IsWorldSetup, Message, One}
-use Rattle.lagmodel.proofs.Common.{Side, TakenLacpdu, Two, World, WorldSetup, end_at, party_at, peer}
-use Rattle.lagmodel.proofs.Base.{same_value, cond_false}
+use Rattle.lagmodel.proofs.Common.{List, Some, [], ap, eq-eqb, false, inl, inr, not, option_map, refl, subst, sym, true, ℕ, ◌&&◌, ◌∙◌, ◌∷◌, ◌≡◌}
+use Rattle.lagmodel.proofs.Common.{cases_Bool, true≢false, same_Some, Party, SamePair, pair_of, BelowNext, CollectedThenInFlight, EndsAgree}
+use Rattle.lagmodel.proofs.Common.{FlushedByMarker, InOrder, LastLacpduSaysInSync, OnItsCable, OnePartner, UpToDateLacpdusNameSender, serials, Lacp}
+use Rattle.lagmodel.proofs.Common.{Marker, PortFacts, Response, View, conversation_port, Control, Data, IsWorldSetup, Message, One, Side, TakenLacpdu}
+use Rattle.lagmodel.proofs.Common.{Two, World, WorldSetup, end_at, party_at, peer}
+use native.Mathlib.Omega.{arith}
+use Rattle.lagmodel.proofs.Base.{cond_false}
 use Rattle.lagmodel.proofs.Ports.{one_partner}
 use Rattle.lagmodel.proofs.Lines.{IsFrom, Every, every_contains, MarkerBelow, ResponseBelow, answers, NoneBehind, behind_split, is_of, is_of-true}
 use Rattle.lagmodel.proofs.Orderly.{handed_front}
 use Rattle.lagmodel.proofs.Stamps.{Fresh, FreshPdu}
 use Rattle.lagmodel.proofs.Worlds.{Lawful}
 
-individual_sym : (a b : Party) → individual a b ≡ individual b a
-individual_sym a b = ap not (go a.aggregatable b.aggregatable)
-  where
-    go : (x y : Bool) → (x && y) ≡ (y && x)
-    go true true = refl
-    go true false = refl
-    go false true = refl
-    go false false = refl
-
--- a group is the same whichever party is named first
-pub group_swapped : (a b : Party) → SamePair (pair_of a b) (pair_of b a)
-group_swapped a b = inr (ap (λ i. end_of i a) (individual_sym a b), ap (λ i. end_of i b) (individual_sym a b))
-
 -- the group of parties that name each other
 pub crossed : (a b c d : Party) → a ≡ d → b ≡ c → SamePair (pair_of a b) (pair_of c d)
-crossed a b c d e h = subst (λ d. SamePair (pair_of a b) (pair_of c d)) e
-    (subst (λ c. SamePair (pair_of a b) (pair_of c a)) h (group_swapped a b))
+crossed a b c d e h = grind arith
 
 party_there : (v : View) (p : ℕ) (a : PortFacts) (y : Party) → v.port p ≡ Some a → party_at v p ≡ Some y → a.party ≡ y
 party_there v p a y h e = same_Some a.party y (sym (ap (option_map (λ (a : PortFacts). a.party)) h) ∙ e)
@@ -40,18 +27,10 @@ named : (x : WorldSetup) (w : World) → Lawful x w → (s : Side) (c p q : ℕ)
     → end_at x.cables s c ≡ Some p → end_at x.cables (peer s) c ≡ Some q → (w.view s).port p ≡ Some a → (w.view (peer s)).port q ≡ Some b
     → a.defaulted ≡ false → w.taken s p ≡ Some m → m.stamp ≡ w.count (peer s) q
     → FreshPdu (w.count (peer s) q) (party_at (w.view (peer s)) q) m.pdu m.stamp → a.partner ≡ b.party
-named x w i s c p q a b m ep eq ha hb d t e f =
-    let r = (i s).heard p a ha d in
-    r.2 ∙ ap (λ (m : TakenLacpdu). m.pdu.actor) (same_value (w.taken s p) r.0 m r.1 t)
-    ∙ sym (party_there (w.view (peer s)) q b m.pdu.actor hb (f.1 e))
+named x w i s c p q a b m ep eq ha hb d t e f = grind arith
 
 pub agree_holds : (x : WorldSetup) (w : World) → Lawful x w → EndsAgree x w
-agree_holds x w i c p q a b ep eq h k =
-    let m = h.taken in
-    let n = k.taken in
-    crossed a.party a.partner b.party b.partner
-    (sym (named x w i Two c q p b a n.0 eq ep k.is h.is k.defaulted n.1 n.2 ((i One).stamps.last c p q n.0 ep eq n.1)))
-    (named x w i One c p q a b m.0 ep eq h.is k.is h.defaulted m.1 m.2 ((i Two).stamps.last c q p m.0 eq ep m.1))
+agree_holds x w i c p q a b ep eq h k = grind arith
 
 pub in_order_holds : (x : WorldSetup) (w : World) → Lawful x w → InOrder w
 in_order_holds x w i s g k u = handed_front ((i s).lanes.orderly g k 0 u)
@@ -77,8 +56,7 @@ names_present_holds x w i s c p e = (
 )
 
 side_not_peer : (s : Side) → peer s ≡ s → ⊥
-side_not_peer One h = cc
-side_not_peer Two h = cc
+side_not_peer s h = grind arith
 
 none_from : (s t : Side) (g k : ℕ) (ms : List Message) → (t ≡ s → ⊥) → Every (IsFrom t) ms → serials s g k ms ≡ []
 none_from s t g k [] n h = refl

@@ -1,11 +1,12 @@
 -- What an LACPDU that overtakes leaves as it is: the order of data, and of markers among them.
-use Rattle.lagmodel.proofs.Common.{Bool, List, Option, Some, [], ap, cond, eqb, false, refl, subst, sym, true, ℕ, ◌&&◌, ◌++◌, ◌∙◌, ◌∷◌, ◌≡◌, ◌⊎◌}
-use Rattle.lagmodel.proofs.Common.{false≢true, IsSubsequence, same_side, serials, Conversation, DistributorFacts, Lacp, Marker, Response}
-use Rattle.lagmodel.proofs.Common.{conversation_port, Control, Data, Message, Side, at_cable}
+use Rattle.lagmodel.proofs.Common.{Bool, List, Option, Some, [], ap, cond, eqb, false, subst, sym, true, ℕ, ◌&&◌, ◌++◌, ◌∙◌, ◌∷◌, ◌≡◌, ◌⊎◌}
+use Rattle.lagmodel.proofs.Common.{false≢true, IsSubsequence, same_side, serials, Conversation, DistributorFacts, conversation_port, Control, Data}
+use Rattle.lagmodel.proofs.Common.{Message, Side, at_cable}
+use native.Mathlib.Omega.{arith}
 use Rattle.lagmodel.specs.Overtaking.{IsLacpdu, Overtakes}
 use Rattle.lagmodel.proofs.LaneMoves.{at_cable_each}
 use Rattle.lagmodel.proofs.Lanes.{Lanes}
-use Rattle.lagmodel.proofs.Lines.{Every, IsFrom, MarkerBelow, NoneBehind, ResponseBelow, answers, marks}
+use Rattle.lagmodel.proofs.Lines.{Every, IsFrom, MarkerBelow, NoneBehind, ResponseBelow, answers}
 use Rattle.lagmodel.proofs.Orderly.{Orderly}
 
 every_swapped : (P : Message → Type 0) (front : List Message) (a b : Message) (back : List Message) → Every P (front ++ a ∷ b ∷ back)
@@ -16,11 +17,7 @@ every_swapped P (m ∷ front) a b back h = (h.0, every_swapped P front a b back 
 -- an LACPDU is no frame
 serials_by : (s : Side) (g k : ℕ) (a b : Message) (back : List Message) → IsLacpdu b
     → serials s g k (b ∷ a ∷ back) ≡ serials s g k (a ∷ b ∷ back)
-serials_by s g k (Control pdu stamp) (Control (Lacp other) with_stamp) back is = refl
-serials_by s g k (Data origin h j n) (Control (Lacp other) with_stamp) back is = refl
-serials_by s g k a (Control (Marker mac p n) with_stamp) back is = absurd is
-serials_by s g k a (Control (Response mac p n) with_stamp) back is = absurd is
-serials_by s g k a (Data origin h j n) back is = absurd is
+serials_by s g k a b back is = grind arith
 
 serials_swapped : (s : Side) (g k : ℕ) (front : List Message) (a b : Message) (back : List Message) → IsLacpdu b
     → serials s g k (front ++ b ∷ a ∷ back) ≡ serials s g k (front ++ a ∷ b ∷ back)
@@ -29,25 +26,9 @@ serials_swapped s g k (Control pdu stamp ∷ front) a b back is = serials_swappe
 serials_swapped s g k (Data origin h j n ∷ front) a b back is =
     ap (λ (l : List ℕ). cond (same_side origin s && (eqb h g && eqb j k)) (n ∷ l) l) (serials_swapped s g k front a b back is)
 
--- nor a marker
-marks_none : (n : ℕ) (b : Message) → IsLacpdu b → marks n b ≡ false
-marks_none n (Control (Lacp pdu) stamp) is = refl
-marks_none n (Control (Marker mac p m) stamp) is = absurd is
-marks_none n (Control (Response mac p m) stamp) is = absurd is
-marks_none n (Data origin h j m) is = absurd is
-
-serials_without : (s : Side) (g k : ℕ) (b : Message) (back : List Message) → IsLacpdu b → serials s g k (b ∷ back) ≡ serials s g k back
-serials_without s g k (Control (Lacp pdu) stamp) back is = refl
-serials_without s g k (Control (Marker mac p m) stamp) back is = absurd is
-serials_without s g k (Control (Response mac p m) stamp) back is = absurd is
-serials_without s g k (Data origin h j m) back is = absurd is
-
 behind_swapped : (s : Side) (g k n : ℕ) (front : List Message) (a b : Message) (back : List Message) → IsLacpdu b
     → NoneBehind s g k n (front ++ a ∷ b ∷ back) → NoneBehind s g k n (front ++ b ∷ a ∷ back)
-behind_swapped s g k n [] a b back is h = (
-  λ e. absurd (false≢true (sym (marks_none n b is) ∙ e)),
-  (λ e. sym (serials_without s g k b back is) ∙ h.0 e, h.1.1),
-)
+behind_swapped s g k n [] a b back is h = grind arith
 behind_swapped s g k n (m ∷ front) a b back is h =
     (λ e. serials_swapped s g k front a b back is ∙ h.0 e, behind_swapped s g k n front a b back is h.1)
 

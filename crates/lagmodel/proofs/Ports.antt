@@ -1,49 +1,27 @@
 -- The ports of one system: the members of an aggregator have its key and one group.
-use Rattle.lagmodel.proofs.Common.{Bool, IsSome, IsSomeAnd, None, Option, Some, ap, cond, eqb, eqb-true, false, inl, inr, is_some, option_map, refl}
-use Rattle.lagmodel.proofs.Common.{subst, sym, true, ℕ, ◌∙◌, ◌≡◌, ◌⊎◌, and_parts, cases_eq, eqb-false, false≢true, none-some, same_Some, Party, Pair}
-use Rattle.lagmodel.proofs.Common.{SamePair, individual, pair_of, Members, OnePartner, Announce, Default, Desynchronize, Distribute, Join, Leave}
-use Rattle.lagmodel.proofs.Common.{PortAllowed, PortMove, Reconfigure, Respond, Stop, Take, pair_at, port_after, IsSystemSetup, ModelCall, PortFacts}
-use Rattle.lagmodel.proofs.Common.{SystemSetup, View, at_port, first_port, first_view}
-use Rattle.lagtypes.specs.declared.identifiers.PortId.{PortId}
+use Rattle.lagmodel.proofs.Common.{IsSome, IsSomeAnd, None, Option, Some, ap, false, inl, inr, is_some, refl, subst, sym, true, ℕ, ◌∙◌, ◌≡◌, ◌⊎◌}
+use Rattle.lagmodel.proofs.Common.{and_parts, cases_eq, false≢true, same_Some, Party, Pair, SamePair, individual, pair_of, Members, OnePartner}
+use Rattle.lagmodel.proofs.Common.{Announce, Default, Desynchronize, Distribute, Join, Leave, PortAllowed, PortMove, Reconfigure, Respond, Stop, Take}
+use Rattle.lagmodel.proofs.Common.{pair_at, port_after, IsSystemSetup, ModelCall, PortFacts, SystemSetup, View, at_port, first_view}
+use native.Mathlib.Omega.{arith}
 use Rattle.lagtypes.specs.declared.group.End.{End}
-use Rattle.lagmodel.proofs.Base.{no_value, none-is_some, same_value, value_of, mapped_some, chosen}
+use Rattle.lagmodel.proofs.Base.{none-is_some, same_value, value_of}
 
 pub group_sym : (g h : Pair) → SamePair g h → SamePair h g
 group_sym g h e = elim e [ inl x ↦ inl (sym x.0, sym x.1) | inr x ↦ inr (sym x.1, sym x.0) ]
 
--- an end that names no port is that of a group that is not individual
-individual_from_end : (i j : Bool) (a b : Party) → ◌≡◌ {A = Option PortId} (cond i (Some a.port) None) (cond j (Some b.port) None)
-    → i ≡ false → j ≡ false
-individual_from_end i true a b e h =
-    absurd (none-some b.port (subst (λ i. ◌≡◌ {A = Option PortId} (cond i (Some a.port) None) (Some b.port)) h e))
-individual_from_end i false a b e h = refl
-
 pub individual_along : (a b c d : Party) → SamePair (pair_of a b) (pair_of c d) → individual a b ≡ false → individual c d ≡ false
-individual_along a b c d e h = elim e [
-  | inl x ↦ individual_from_end (individual a b) (individual c d) a c (ap (λ (y : End). y.port) x.0) h
-  | inr x ↦ individual_from_end (individual a b) (individual c d) a d (ap (λ (y : End). y.port) x.0) h
-]
+individual_along a b c d e h = grind arith
 
 -- a port after a change of port p is the changed one, or was there before
 pub changed_port : (ports : ℕ → Option PortFacts) (p q : ℕ) (f : PortFacts → PortFacts) (a b : PortFacts) → ports p ≡ Some a
     → at_port ports p f q ≡ Some b
     → ((q ≡ p) × (f a ≡ b)) ⊎ ((q ≡ p → ⊥) × (ports q ≡ Some b))
-changed_port ports p q f a b h e = elim (chosen (eqb q p) (option_map f (ports q)) (ports q) (Some b) e) [
-  | inl x ↦ (let same : q ≡ p = eqb-true q p x.0 in
-      let there : option_map f (ports p) ≡ Some b = subst (λ r. option_map f (ports r) ≡ Some b) same x.1 in
-      let m = mapped_some f (ports p) b there in
-      inl (same, subst (λ a. f a ≡ b) (same_value (ports p) m.0 a m.1 h) m.2))
-  | inr x ↦ inr (eqb-false q p x.0, x.1)
-]
+changed_port ports p q f a b h e = grind arith
 
 -- a change of one port leaves which ports are there
 same_ports : (ports : ℕ → Option PortFacts) (p : ℕ) (f : PortFacts → PortFacts) (q : ℕ) → is_some (at_port ports p f q) ≡ is_some (ports q)
-same_ports ports p f q = go (eqb q p) (ports q)
-  where
-    go : (b : Bool) (o : Option PortFacts) → is_some (cond b (option_map f o) o) ≡ is_some o
-    go true None = refl
-    go true (Some a) = refl
-    go false o = refl
+same_ports ports p f q = grind arith
 
 -- One port changed from a to b, and the facts that its new state owes.
 pub record Owes (u : SystemSetup) (ports : ℕ → Option PortFacts) (p : ℕ) (a b : PortFacts) : Type 0 where
@@ -108,13 +86,7 @@ steady u ports p a b h i e1 e2 e3 m = record {
 -- a port outside every aggregator that does not distribute
 outside : (u : SystemSetup) (ports : ℕ → Option PortFacts) (p : ℕ) (a b : PortFacts) → b.party.port.number ≡ a.party.port.number
     → b.party.system ≡ a.party.system → b.aggregator ≡ None → (b.distributes ≡ true → ⊥) → Owes u ports p a b
-outside u ports p a b l e n d = record {
-  number = l;
-  own = e;
-  key = λ g x. absurd (no_value b.aggregator g n x);
-  group = λ g q c ne hq x y. absurd (no_value b.aggregator g n x);
-  member = λ x. absurd (d x);
-}
+outside u ports p a b l e n d = grind arith
 
 idle : (u : SystemSetup) (ports : ℕ → Option PortFacts) (p : ℕ) (a : PortFacts) → ports p ≡ Some a → Members u ports → a.aggregator ≡ None
     → a.distributes ≡ true → ⊥
@@ -157,20 +129,7 @@ members_kept u call ports p m x i =
 
 -- they hold at first
 pub members_first : (u : SystemSetup) → IsSystemSetup u → Members u ((first_view u).port)
-members_first u i = record {
-  configured = λ p. there (u.party p);
-  number = λ p a h. let m = mapped_some first_port (u.party p) a h in ap (λ (a : PortFacts). a.party.port.number) (sym m.2)
-      ∙ i.number p m.0 m.1;
-  own = λ p a h. let m = mapped_some first_port (u.party p) a h in ap (λ (a : PortFacts). a.party.system) (sym m.2) ∙ i.system p m.0 m.1;
-  key = λ p g a h e. let m = mapped_some first_port (u.party p) a h in absurd (none-some g (ap (λ (a : PortFacts). a.aggregator) m.2 ∙ e));
-  group = λ g p q a b ne h hb e eb. let m = mapped_some first_port (u.party p) a h in absurd
-      (none-some g (ap (λ (a : PortFacts). a.aggregator) m.2 ∙ e));
-  member = λ p a h d. let m = mapped_some first_port (u.party p) a h in absurd (false≢true (ap (λ (a : PortFacts). a.distributes) m.2 ∙ d));
-}
-  where
-    there : (o : Option Party) → is_some (option_map first_port o) ≡ is_some o
-    there None = refl
-    there (Some a) = refl
+members_first u i = grind arith
 
 -- and they give that distributing ports of one aggregator name one partner
 pub one_partner : (u : SystemSetup) (v : View) → Members u v.port → OnePartner v

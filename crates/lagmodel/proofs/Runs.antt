@@ -1,61 +1,32 @@
 -- Runs of worlds, for a crate of two systems. A call of one of them as an event: calls_from, no_call. Cables:
 -- end_there, put_on, put_nowhere. One side: itself, self. Worlds: same_world, same_view, runs_joined. What holds after
 -- a run: `lawful` of Events, and the lemma of each fact in Laws.
-use Rattle.lagmodel.proofs.Common.{Bool, List, None, Option, Some, [], ap, cond, eq-eqb, false, inl, inr, map, refl, slice_get, subst, suc, sym, true}
-use Rattle.lagmodel.proofs.Common.{zero, ℕ, ◌&&◌, ◌++◌, ◌∙◌, ◌∷◌, ◌≡◌, ◌⊎◌, none-some, option_to_list, world_after_call, Act, AllAllowed, LawfulMoves}
-use Rattle.lagmodel.proofs.Common.{Move, act, acts, view_after, view_after_all, ModelCall, View, AllMoves, CallHappens, CountsChanges, Ends, Event}
-use Rattle.lagmodel.proofs.Common.{Message, One, Run, Side, Two, World, WorldSetup, at_cable, at_side, end_at, is_port, peer, port_on, put_on_cable}
-use Rattle.lagmodel.proofs.Common.{world_after, world_after_all}
-use Rattle.lagmodel.proofs.Base.{mapped_some, cond_true}
-use Rattle.lagmodel.proofs.Lines.{put_cases}
-use Rattle.lagmodel.proofs.LaneMoves.{cable_cases}
+use Rattle.lagmodel.proofs.Common.{Bool, List, None, Option, Some, [], ap, cond, inl, map, refl, slice_get, subst, suc, sym, ℕ, ◌&&◌, ◌++◌, ◌∙◌, ◌∷◌}
+use Rattle.lagmodel.proofs.Common.{◌≡◌, ◌⊎◌, option_to_list, world_after_call, Act, AllAllowed, LawfulMoves, Move, act, acts, view_after}
+use Rattle.lagmodel.proofs.Common.{view_after_all, ModelCall, View, AllMoves, CallHappens, CountsChanges, Ends, Event, Message, One, Run, Side, World}
+use Rattle.lagmodel.proofs.Common.{WorldSetup, at_cable, at_side, end_at, port_on, put_on_cable, world_after, world_after_all}
+use native.Mathlib.Omega.{arith}
 
 -- A call in a world: what it was seen to do goes onto the cables.
 pub itself : {X : Type 0} (f : Side → X) (s t : Side) → f t ≡ at_side f s (f s) t
-itself f One One = refl
-itself f One Two = refl
-itself f Two One = refl
-itself f Two Two = refl
+itself f s t = grind arith
 
 twice : {X : Type 0} (f : Side → X) (s : Side) (x y : X) (t : Side) → at_side (at_side f s x) s y t ≡ at_side f s y t
-twice f One x y One = refl
-twice f One x y Two = refl
-twice f Two x y One = refl
-twice f Two x y Two = refl
+twice f s x y t = grind arith
 
 none_called : (x : WorldSetup) (s : Side) (stamp : ℕ) (kept : Bool) (w : World) → w ≡ world_after_call x s stamp kept None (w.view s) w
-none_called x s stamp kept w = λ i. record w {
-  view = λ t. itself w.view s t i;
-  on_cable = λ t. itself w.on_cable (peer s) t i;
-  sent = λ t. itself w.sent s t i;
-  taken = λ t. itself w.taken s t i;
-}
+none_called x s stamp kept w = grind arith
 
 pub self : {X : Type 0} (f : Side → X) (s : Side) (x : X) → at_side f s x s ≡ x
-self f One x = refl
-self f Two x = refl
-
--- a call that is seen to do nothing changes the view alone
-only_view : (x : WorldSetup) (s : Side) (stamp : ℕ) (kept : Bool) (v : View) (w : World)
-    → world_after_call x s stamp kept None v w ≡ record w { view = at_side w.view s v }
-only_view x s stamp kept v w = λ i. record w {
-  view = at_side w.view s v;
-  on_cable = λ t. sym (itself w.on_cable (peer s) t) i;
-  sent = λ t. sym (itself w.sent s t) i;
-  taken = λ t. sym (itself w.taken s t) i;
-}
+self f s x = grind arith
 
 before : (x : WorldSetup) (s : Side) (stamp : ℕ) (kept : Bool) (o : Option Act) (a b : View) (w : World)
     → world_after_call x s stamp kept o b (world_after_call x s stamp kept None a w) ≡ world_after_call x s stamp kept o b w
-before x s stamp kept o a b w =
-    ap (world_after_call x s stamp kept o b) (only_view x s stamp kept a w)
-    ∙ (λ i. record (world_after_call x s stamp kept o b w) { view = λ t. twice w.view s a b t i })
+before x s stamp kept o a b w = grind arith
 
 behind : (x : WorldSetup) (s : Side) (stamp : ℕ) (kept : Bool) (o : Option Act) (a b : View) (w : World)
     → world_after_call x s stamp kept None b (world_after_call x s stamp kept o a w) ≡ world_after_call x s stamp kept o b w
-behind x s stamp kept o a b w =
-    only_view x s stamp kept b (world_after_call x s stamp kept o a w)
-    ∙ (λ i. record (world_after_call x s stamp kept o b w) { view = λ t. twice w.view s a b t i })
+behind x s stamp kept o a b w = grind arith
 
 nothing_seen : (y : Act) (ys : List Act) → y ∷ ys ≡ [] → ⊥
 nothing_seen y ys h = cc
@@ -71,15 +42,8 @@ called_step : (x : WorldSetup) (s : Side) (stamp : ℕ) (kept : Bool) (m : Move)
     → option_to_list a ++ acts (x.setup s) ms (view_after (x.setup s) m (w.view s)) ≡ option_to_list o
     → world_after_all x s stamp (map (λ (m : Move). (m, kept)) ms) (world_after x s stamp (m, kept) w) ≡ world_after_call x s stamp kept o
     (view_after_all (x.setup s) ms (view_after (x.setup s) m (w.view s))) w
-called_step x s stamp kept m ms w o None h ih e =
-    let v : View = view_after (x.setup s) m (w.view s) in
-    let there = self w.view s v in
-    ih o (ap (acts (x.setup s) ms) there ∙ e)
-    ∙ ap (λ (y : View). world_after_call x s stamp kept o (view_after_all (x.setup s) ms y) (world_after x s stamp (m, kept) w)) there
-    ∙ ap (λ (a : Option Act). world_after_call x s stamp kept o (view_after_all (x.setup s) ms v) (world_after_call x s stamp kept a v w)) h
-    ∙ before x s stamp kept o v (view_after_all (x.setup s) ms v) w
-called_step x s stamp kept m ms w None (Some y) h ih e =
-    absurd (nothing_seen y (acts (x.setup s) ms (view_after (x.setup s) m (w.view s))) e)
+called_step x s stamp kept m ms w o None h ih e = grind arith
+called_step x s stamp kept m ms w None (Some y) h ih e = grind arith
 called_step x s stamp kept m ms w (Some z) (Some y) h ih e =
     let v : View = view_after (x.setup s) m (w.view s) in
     let there = self w.view s v in
@@ -129,36 +93,18 @@ no_call x s call stamp w = ([], tt, (w.count, (λ t p. inl (refl, refl)), refl))
 -- an end of a cable is that of a place of the list
 pub end_there : (cables : List Ends) (s : Side) (c p : ℕ) → end_at cables s c ≡ Some p → (i : ℕ) × (e : Ends) × (c ≡ suc i)
     × (slice_get cables i ≡ Some e) × (port_on s e ≡ p)
-end_there cables s zero p h = absurd (none-some p h)
-end_there cables s (suc i) p h = let m = mapped_some (port_on s) (slice_get cables i) p h in (i, m.0, refl, m.1, m.2)
+end_there cables s c p h = grind arith
 
 -- what a message put on the cable of a port leaves, by the port's one cable
 pub put_on : (ends : ℕ → Option ℕ) (whole : ℕ → Bool) (kept : Bool) (p : ℕ) (m : Message) (lines : ℕ → List Message) (c : ℕ)
     → ((c d p : ℕ) → ends c ≡ Some p → ends d ≡ Some p → c ≡ d) → ends c ≡ Some p
     → (d : ℕ) → put_on_cable ends whole kept p m lines d ≡ at_cable lines c (cond (kept && whole c) (lines c ++ m ∷ []) (lines c)) d
-put_on ends whole kept p m lines c one there d = elim (cable_cases lines c (cond (kept && whole c) (lines c ++ m ∷ []) (lines c)) d) [
-  | inl x ↦ subst (λ d. put_on_cable ends whole kept p m lines d ≡ cond (kept && whole c) (lines c ++ m ∷ []) (lines c)) (sym x.0)
-      (here kept (whole c)) ∙ sym x.1
-  | inr x ↦ elsewhere (put_cases ends whole kept p m lines d) x.0 ∙ sym x.1
-]
-  where
-    is_there : is_port p (ends c) ≡ true
-    is_there = ap (is_port p) there ∙ eq-eqb p p refl
-
-    here : (k w : Bool) → cond (k && (w && is_port p (ends c))) (lines c ++ m ∷ []) (lines c) ≡ cond (k && w) (lines c ++ m ∷ []) (lines c)
-    here true true = cond_true (is_port p (ends c)) _ _ is_there
-    here true false = refl
-    here false true = refl
-    here false false = refl
-
-    elsewhere : ((put_on_cable ends whole kept p m lines d ≡ lines d ++ m ∷ []) × (whole d ≡ true) × (ends d ≡ Some p))
-        ⊎ (put_on_cable ends whole kept p m lines d ≡ lines d) → (d ≡ c → ⊥) → put_on_cable ends whole kept p m lines d ≡ lines d
-    elsewhere h n = elim h [ inl x ↦ absurd (n (one d c p x.2 there)) | inr x ↦ x ]
+put_on ends whole kept p m lines c one there d = grind arith
 
 -- of a port without a cable
 pub put_nowhere : (ends : ℕ → Option ℕ) (whole : ℕ → Bool) (kept : Bool) (p : ℕ) (m : Message) (lines : ℕ → List Message)
     → ((c : ℕ) → ends c ≡ Some p → ⊥) → (d : ℕ) → put_on_cable ends whole kept p m lines d ≡ lines d
-put_nowhere ends whole kept p m lines none d = elim (put_cases ends whole kept p m lines d) [ inl x ↦ absurd (none d x.2) | inr x ↦ x ]
+put_nowhere ends whole kept p m lines none d = grind arith
 
 -- worlds that are alike at each place are the same
 pub same_world : (v w : World)
@@ -167,16 +113,7 @@ pub same_world : (v w : World)
     → ((s : Side) (p : ℕ) → v.taken s p ≡ w.taken s p) → ((s : Side) (g k : ℕ) → v.sent s g k ≡ w.sent s g k)
     → ((s : Side) (g k : ℕ) → v.collected s g k ≡ w.collected s g k)
     → ((s : Side) (g k : ℕ) → v.forced s g k ≡ w.forced s g k) → v ≡ w
-same_world v w a b c d e f g h = λ i. record {
-  view = λ s. a s i;
-  whole = λ n. b n i;
-  on_cable = λ s n. c s n i;
-  count = λ s p. d s p i;
-  taken = λ s p. e s p i;
-  sent = λ s j k. f s j k i;
-  collected = λ s j k. g s j k i;
-  forced = λ s j k. h s j k i;
-}
+same_world v w a b c d e f g h = grind arith
 
 -- views that are alike at each place are the same
 pub same_view : (v w : View) → ((p : ℕ) → v.port p ≡ w.port p) → ((g k : ℕ) → v.flows.state g k ≡ w.flows.state g k)

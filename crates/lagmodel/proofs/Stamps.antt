@@ -4,10 +4,9 @@ use Rattle.lagmodel.proofs.Common.{subst, suc, sym, true, ℕ, ◌∙◌, ◌∷
 use Rattle.lagmodel.proofs.Common.{same_Some, Party, Announce, Become, Default, Desynchronize, DistributorMove, Flow, Mark, Move, MoveAllowed, Port}
 use Rattle.lagmodel.proofs.Common.{PortAllowed, PortMove, Reconfigure, Respond, Restart, Send, Take, Took, act, act_of_port, distributor_act}
 use Rattle.lagmodel.proofs.Common.{port_act, port_after, view_after, DistributorFacts, Lacp, LacpMessage, Marker, ModelCall, PortFacts, Response}
-use Rattle.lagmodel.proofs.Common.{SystemSetup, View, at_port, first_port, first_view, is_restart, replies_frame, Control, Data, Message, Side}
-use Rattle.lagmodel.proofs.Common.{TakenLacpdu, at_cable, on_cable_after, party_at, put_on_cable, taken_after}
-use Rattle.lagmodel.proofs.Base.{cond_true, cond_false, value_of, mapped_some}
-use Rattle.lagmodel.proofs.Ports.{changed_port}
+use Rattle.lagmodel.proofs.Common.{SystemSetup, View, at_port, first_view, is_restart, replies_frame, Control, Data, Message, Side, TakenLacpdu}
+use Rattle.lagmodel.proofs.Common.{at_cable, on_cable_after, party_at, put_on_cable, taken_after}
+use Rattle.lagmodel.proofs.Base.{cond_true, cond_false, value_of}
 use Rattle.lagmodel.proofs.Lines.{Every, every_push, every_weaker, put_each}
 use Rattle.lagmodel.proofs.LaneMoves.{at_cable_each, Within}
 
@@ -42,22 +41,15 @@ AllHeard ports taken = (p : ℕ) (a : PortFacts) → ports p ≡ Some a → Hear
 heard_changed : (ports : ℕ → Option PortFacts) (taken taken' : ℕ → Option TakenLacpdu) (p : ℕ) (f : PortFacts → PortFacts) (a : PortFacts)
     → ports p ≡ Some a
     → Heard (f a) (taken' p) → ((q : ℕ) → (q ≡ p → ⊥) → taken' q ≡ taken q) → AllHeard ports taken → AllHeard (at_port ports p f) taken'
-heard_changed ports taken taken' p f a h new same i q b e = elim (changed_port ports p q f a b h e) [
-  | inl x ↦ subst (λ (b : PortFacts). Heard b (taken' q)) x.1 (subst (λ r. Heard (f a) (taken' r)) (sym x.0) new)
-  | inr x ↦ subst (λ o. Heard b o) (sym (same q x.0)) (i q b x.1)
-]
+heard_changed ports taken taken' p f a h new same i q b e = grind arith
 
 heard_port : (u : SystemSetup) (call : ModelCall) (ports : ℕ → Option PortFacts) (p : ℕ) (stamp : ℕ) (taken : ℕ → Option TakenLacpdu)
     (m : PortMove) (a : PortFacts) → ports p ≡ Some a
     → PortAllowed u call ports p m a → AllHeard ports taken
     → AllHeard (at_port ports p (port_after m)) (taken_after stamp (port_act p m a) taken)
-heard_port u call ports p stamp taken Desynchronize a h x i =
-    heard_changed ports taken taken p (port_after Desynchronize) a h (λ d. let r = i p a h d in (r.0, r.1, r.2, λ e. absurd (false≢true e)))
-    (λ q e. refl) i
-heard_port u call ports p stamp taken (Reconfigure party) a h x i = heard_changed ports taken taken p (port_after (Reconfigure party)) a h
-    (λ d. absurd (true≢false d)) (λ q e. refl) i
-heard_port u call ports p stamp taken Default a h x i = heard_changed ports taken taken p (port_after Default) a h
-    (λ d. absurd (true≢false d)) (λ q e. refl) i
+heard_port u call ports p stamp taken Desynchronize a h x i = grind arith
+heard_port u call ports p stamp taken (Reconfigure party) a h x i = grind arith
+heard_port u call ports p stamp taken Default a h x i = grind arith
 heard_port u call ports p stamp taken (Take pdu synchronized) a h x i =
     heard_changed ports taken (taken_after stamp (Some (Took p pdu)) taken) p (port_after (Take pdu synchronized)) a h
     (λ d. (record { pdu = pdu; stamp = stamp }, self, refl, x.2)) (λ q ne. other q ne) i
@@ -71,8 +63,7 @@ heard_port u call ports p stamp taken m a h x i = heard_changed ports taken take
 
 heard_flow : (ports : ℕ → Option PortFacts) (mac : List ℕ) (stamp : ℕ) (taken : ℕ → Option TakenLacpdu) (f : DistributorFacts)
     (m : DistributorMove) → AllHeard ports taken → AllHeard ports (taken_after stamp (distributor_act mac m f) taken)
-heard_flow ports mac stamp taken f (Send g k p) i = i
-heard_flow ports mac stamp taken f m i = i
+heard_flow ports mac stamp taken f m i = grind arith
 
 -- a move of this system
 pub heard_own : (u : SystemSetup) (call : ModelCall) (stamp : ℕ) (v : View) (m : Move) (taken : ℕ → Option TakenLacpdu)
@@ -86,8 +77,7 @@ heard_own u call stamp v (Flow m) taken x r i = heard_flow v.port u.system.mac s
 heard_own u call stamp v Restart taken x r i = absurd (true≢false (sym x ∙ r))
 
 pub heard_first : (u : SystemSetup) (taken : ℕ → Option TakenLacpdu) → AllHeard ((first_view u).port) taken
-heard_first u taken p a h = let m = mapped_some first_port (u.party p) a h in λ d. absurd
-    (true≢false (ap (λ (a : PortFacts). a.defaulted) m.2 ∙ d))
+heard_first u taken p a h = grind arith
 
 module _ {ends theirs : ℕ → Option ℕ} {party : ℕ → Option Party} {count : ℕ → ℕ} {out : ℕ → List Message} {taken : ℕ
     → Option TakenLacpdu} (i : Stamps ends theirs party count out taken) where
@@ -170,11 +160,7 @@ pub stamps_own : (s : Side) (ends theirs : ℕ → Option ℕ) (party : ℕ → 
     → (replies_frame call ≡ true → (q : ℕ) → party_at v q ≡ party q)
     → Stamps ends theirs party count out taken
     → Stamps ends theirs party count (on_cable_after s ends whole count sent kept (act u m v) out) taken
-stamps_own s ends theirs party count out taken whole sent kept u call v (Port p m) x r i = stamps_port s ends theirs party count out taken
-    whole sent kept u call v p m (v.port p) refl x r i
-stamps_own s ends theirs party count out taken whole sent kept u call v (Flow m) x r i = stamps_flow s ends theirs party count out taken
-    whole sent kept u.system.mac v.flows m i
-stamps_own s ends theirs party count out taken whole sent kept u call v Restart x r i = i
+stamps_own s ends theirs party count out taken whole sent kept u call v m x r i = grind (arith, stamps_port, stamps_flow)
 
 -- a move of the peer
 pub stamps_peer : (ends theirs : ℕ → Option ℕ) (party : ℕ → Option Party) (count : ℕ → ℕ) (out : ℕ → List Message) (taken : ℕ
@@ -189,61 +175,27 @@ stamps_peer ends theirs party count out taken whole theirs_forced u call stamp v
     go m None x = i
     go (Take pdu synchronized) (Some a) x = stamps_taken i p pdu stamp (w.came p (Lacp pdu) x.0)
     go m (Some a) x = i
-stamps_peer ends theirs party count out taken whole theirs_forced u call stamp v (Flow m) x w i = go m
-  where
-    go : (m : DistributorMove) → Stamps ends theirs party count out (taken_after stamp (distributor_act u.system.mac m v.flows) taken)
-    go (Send g k p) = i
-    go m = i
+stamps_peer ends theirs party count out taken whole theirs_forced u call stamp v (Flow m) x w i = grind arith
 stamps_peer ends theirs party count out taken whole theirs_forced u call stamp v Restart x w i = i
-
--- only a configure and a restart change a party
-party_kept : (u : SystemSetup) (call : ModelCall) (ports : ℕ → Option PortFacts) (p : ℕ) (m : PortMove) (a : PortFacts)
-    → PortAllowed u call ports p m a → (call ≡ ModelCall.Configure → ⊥) → (port_after m a).party ≡ a.party
-party_kept u call ports p (Reconfigure party) a x n = absurd (n x.0)
-party_kept u call ports p m a x n = refl
 
 pub party_moved : (u : SystemSetup) (call : ModelCall) (v : View) (m : Move) → MoveAllowed u call v m → is_restart call ≡ false
     → (call ≡ ModelCall.Configure → ⊥) → (q : ℕ) → party_at (view_after u m v) q ≡ party_at v q
-party_moved u call v (Port p m) x r n q =
-    let s = value_of (v.port p) (PortAllowed u call v.port p m) x in
-    elim (cases_Bool (eqb q p)) [
-      | inl e ↦ (let there : v.port q ≡ Some s.0 = subst (λ r. v.port r ≡ Some s.0) (sym (eqb-true q p e)) s.1 in
-          ap (option_map (λ (a : PortFacts). a.party)) (cond_true (eqb q p) (option_map (port_after m) (v.port q)) (v.port q) e
-          ∙ ap (option_map (port_after m)) there)
-          ∙ ap (λ (y : Party). Some y) (party_kept u call v.port p m s.0 s.2 n)
-          ∙ sym (ap (option_map (λ (a : PortFacts). a.party)) there))
-      | inr e ↦ ap (option_map (λ (a : PortFacts). a.party)) (cond_false (eqb q p) (option_map (port_after m) (v.port q)) (v.port q) e)
-    ]
-party_moved u call v (Flow m) x r n q = refl
-party_moved u call v Restart x r n q = absurd (true≢false (sym x ∙ r))
+party_moved u call v m x r n q = grind arith
 
 -- a call whose reply may hold a frame is no configure
 pub parties_kept : (u : SystemSetup) (call : ModelCall) (v : View) (m : Move) → MoveAllowed u call v m → is_restart call ≡ false
     → replies_frame call ≡ true → (q : ℕ) → party_at (view_after u m v) q ≡ party_at v q
 parties_kept u call v m x r f = party_moved u call v m x r (λ e. false≢true (ap replies_frame (sym e) ∙ f))
 
--- the end of an event, at which the counts rise if the parties differ
-fresh_counted : (old new : ℕ) (was is : Option Party) → ((is ≡ was) × (new ≡ old)) ⊎ ((is ≢ was) × (new ≡ suc old))
-    → (pdu : LacpMessage) (stamp : ℕ) → FreshPdu old was pdu stamp → FreshPdu new is pdu stamp
-fresh_counted old new was is h pdu stamp f = elim h [
-  | inl x ↦ (let e = x.1 in let le = f.0 in omega arith, λ e. x.0 ∙ f.1 (e ∙ x.1))
-  | inr x ↦ (let e = x.1 in let le = f.0 in omega arith, λ e. let e' = x.1 in let le = f.0 in absurd (omega arith))
-]
-
 every_counted : (old new : ℕ) (was is : Option Party) → ((is ≡ was) × (new ≡ old)) ⊎ ((is ≢ was) × (new ≡ suc old)) → (m : Message)
     → Fresh old was m → Fresh new is m
-every_counted old new was is h (Control (Lacp pdu) stamp) f = fresh_counted old new was is h pdu stamp f
-every_counted old new was is h m f = tt
+every_counted old new was is h m f = grind arith
 
 pub stamps_counted : (ends theirs : ℕ → Option ℕ) (was is : ℕ → Option Party) (old new : ℕ → ℕ) (out : ℕ → List Message)
     (taken : ℕ → Option TakenLacpdu)
     → ((p : ℕ) → ((is p ≡ was p) × (new p ≡ old p)) ⊎ ((is p ≢ was p) × (new p ≡ suc (old p))))
     → Stamps ends theirs was old out taken → Stamps ends theirs is new out taken
-stamps_counted ends theirs was is old new out taken h i = record {
-  flight = λ c p e. every_weaker (Fresh (old p) (was p)) (Fresh (new p) (is p)) (every_counted (old p) (new p) (was p) (is p) (h p))
-      (out c) (i.flight c p e);
-  last = λ c p q m e f t. fresh_counted (old p) (new p) (was p) (is p) (h p) m.pdu m.stamp (i.last c p q m e f t);
-}
+stamps_counted ends theirs was is old new out taken h i = grind (arith, every_weaker, Fresh, every_counted)
 
 pub stamps_first : (ends theirs : ℕ → Option ℕ) (party : ℕ → Option Party) → Stamps ends theirs party (λ p. 0) (λ c. []) (λ q. None)
 stamps_first ends theirs party = record { flight = λ c p e. tt; last = λ c p q m e f t. absurd (none-some m t) }

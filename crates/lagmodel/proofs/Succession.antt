@@ -1,10 +1,11 @@
 -- A system that takes the place of one keeps the facts of two systems.
-use Rattle.lagmodel.proofs.Common.{Bool, List, None, Option, Some, [], inl, inr, refl, subst, sym, ℕ, ◌∷◌, ◌≡◌, ◌≤◌, Party, CountsFromZero}
-use Rattle.lagmodel.proofs.Common.{DistributorFacts, Flushing, On, View, conversation_port, Event, IsWorldSetup, Message, One, Side, TakenLacpdu, Two}
-use Rattle.lagmodel.proofs.Common.{World, WorldSetup, first_world, party_at}
+use Rattle.lagmodel.proofs.Common.{Bool, List, None, Option, Some, [], subst, sym, ℕ, ◌∷◌, ◌≡◌, ◌≤◌, Party, CountsFromZero, DistributorFacts}
+use Rattle.lagmodel.proofs.Common.{Flushing, On, View, conversation_port, Event, IsWorldSetup, Message, One, Side, TakenLacpdu, Two, World}
+use Rattle.lagmodel.proofs.Common.{WorldSetup, first_world, party_at}
+use native.Mathlib.Omega.{arith}
 use Rattle.lagmodel.specs.Succession.{IsSuccessor, KeepsParties, SuccessionRun, with_successor}
 use Rattle.lagmodel.proofs.Counting.{counted_happens, none_sent}
-use Rattle.lagmodel.proofs.Lines.{MarkerBelow, ResponseBelow, every_weaker, marker_higher, response_higher}
+use Rattle.lagmodel.proofs.Lines.{every_weaker, marker_higher, response_higher}
 use Rattle.lagmodel.proofs.Lanes.{Lanes}
 use Rattle.lagmodel.proofs.Stamps.{Stamps}
 use Rattle.lagmodel.proofs.Worlds.{Half, Lawful}
@@ -15,22 +16,7 @@ lanes_succeeded : (me : Side) (ends : ℕ → Option ℕ) (f g : DistributorFact
     → ((h k p : ℕ) → conversation_port (f.state h k) ≡ Some p → g.state h k ≡ On p)
     → ((h k p n : ℕ) → g.state h k ≡ Flushing p n → ⊥) → f.next ≤ g.next
     → Lanes me ends f out back whole sent collected forced → Lanes me ends g out back whole sent collected forced
-lanes_succeeded me ends f g out back whole sent collected forced on waits next i = record {
-  waits = λ h k p n e. absurd (waits h k p n e);
-  markers = λ c. every_weaker (MarkerBelow f.next) (MarkerBelow g.next) (marker_higher f.next g.next next) (out c) (i.markers c);
-  responses = λ c. every_weaker (ResponseBelow f.next) (ResponseBelow g.next) (response_higher f.next g.next next) (back c) (i.responses c);
-  origin = i.origin;
-  cut = i.cut;
-  orderly = λ h k c u. let o = i.orderly h k c u in record {
-    place = elim o.place [
-      | inl e ↦ inl e
-      | inr y ↦ inr (y.0, y.1, subst (λ d. conversation_port d ≡ Some y.0) (sym (on h k y.0 y.2)) refl)
-    ];
-    behind = λ p n e. absurd (waits h k p n e);
-    answered = λ p n e. absurd (waits h k p n e);
-    in_order = o.in_order;
-  };
-}
+lanes_succeeded me ends f g out back whole sent collected forced on waits next i = grind (arith, every_weaker, marker_higher, response_higher, conversation_port)
 
 half_succeeded : (x : WorldSetup) (w : World) (s : Side) (after : View) (ends theirs : ℕ → Option ℕ) (out back : ℕ → List Message)
     (their_taken : ℕ → Option TakenLacpdu) → IsSuccessor (x.setup s) (w.view s) (w.taken s) after → KeepsParties (w.view s) after

@@ -1,9 +1,8 @@
 -- A truthful peer is named as it is.
-use Rattle.lagmodel.proofs.Common.{Bool, List, None, Option, Some, [], ap, arith, cond, false, inl, inr, subst, suc, sym, true, ℕ, ◌∙◌, ◌∷◌, ◌≡◌, ◌≢◌}
-use Rattle.lagmodel.proofs.Common.{◌⊎◌, cases_Bool, false≢true, none-some, same_Some, Party, Answers, Calls, Comes, Cuts, Forces, Gone, HandsUp}
-use Rattle.lagmodel.proofs.Common.{Happening, Joins, Moves, OvertakesBack, OvertakesOut, Restarts, Says, Scene, Takes, first_scene, only, scene_after}
-use Rattle.lagmodel.proofs.Common.{Move, IsSystemSetup, Lacp, Marker, ModelCall, Response, SystemSetup, Control, Data, Message, TakenLacpdu, at_cable}
-use Rattle.lagmodel.proofs.Common.{put_on_cable}
+use Rattle.lagmodel.proofs.Common.{Bool, List, None, Option, Some, [], arith, cond, subst, sym, true, ℕ, ◌∙◌, ◌∷◌, ◌≡◌, ◌≢◌, ◌⊎◌, false≢true}
+use Rattle.lagmodel.proofs.Common.{same_Some, Party, Answers, Calls, Comes, Cuts, Forces, Gone, HandsUp, Happening, Joins, Moves, OvertakesBack}
+use Rattle.lagmodel.proofs.Common.{OvertakesOut, Restarts, Says, Scene, Takes, first_scene, only, scene_after, Move, IsSystemSetup, ModelCall}
+use Rattle.lagmodel.proofs.Common.{SystemSetup, Message, at_cable, put_on_cable}
 use Rattle.lagmodel.specs.TruthfulPeer.{FarEnds, NamesItself, IsTruthful, NamesTruthfulPeer, Telling, So, Changes, TellingRun, changed, first_ends}
 use Rattle.lagmodel.proofs.Base.{cond_true, same_value}
 use Rattle.lagmodel.proofs.Lines.{Every, every_push, put_each}
@@ -19,12 +18,6 @@ told truthful c = cond (truthful c) (Some c) None
 abbrev pub Told : (ℕ → Bool) → (ℕ → Option ℕ) → FarEnds → Scene → Type 0
 Told truthful ends f w = Stamps (told truthful) ends (λ c. Some (f.party c)) f.count w.back w.taken
 
-told_itself : (truthful : ℕ → Bool) (c p : ℕ) → told truthful c ≡ Some p → (truthful c ≡ true) × (c ≡ p)
-told_itself truthful c p h = elim (cases_Bool (truthful c)) [
-  | inl e ↦ (e, same_Some c p (sym (cond_true (truthful c) (Some c) None e) ∙ h))
-  | inr e ↦ absurd (none-some p (subst (λ b. cond b (Some c) None ≡ Some p) e h))
-]
-
 moves_told : (truthful : ℕ → Bool) (u : SystemSetup) (ends : ℕ → Option ℕ) (f : FarEnds) (call : ModelCall) (stamp : ℕ)
     (ms : List (Move × Bool)) (old new : Scene) → Within call stamp ends old.back old.whole old.forced → Told truthful ends f old
     → Moves u ends call stamp ms old new → Told truthful ends f new
@@ -38,36 +31,17 @@ moves_told truthful u ends f call stamp (m ∷ ms) old new w i z =
 told_put : (truthful : ℕ → Bool) (ends : ℕ → Option ℕ) (f : FarEnds) (w : Scene) (c : ℕ) (kept : Bool) (m : Message)
     → (truthful c ≡ true → Fresh (f.count c) (Some (f.party c)) m) → Told truthful ends f w
     → Told truthful ends f (record w { back = put_on_cable (only c) w.whole kept 0 m w.back })
-told_put truthful ends f w c kept m fresh i = record {
-  flight = put_each (λ d l. (p : ℕ) → told truthful d ≡ Some p → Every (Fresh (f.count p) (Some (f.party p))) l) (only c) w.whole kept 0 m
-      w.back
-      (λ d y there p e.
-      let t = told_itself truthful d p e in
-      let same : d ≡ c = only_there c d there in
-      every_push (Fresh (f.count p) (Some (f.party p))) (w.back d) m (i.flight d p e)
-      (subst (λ q. Fresh (f.count q) (Some (f.party q)) m) (sym same ∙ t.1)
-      (fresh (subst (λ q. truthful q ≡ true) same t.0)))) i.flight;
-  last = i.last;
-}
+told_put truthful ends f w c kept m fresh i = grind (arith, put_each, told, only, only_there, every_push)
 
 fresh_named : (b : Bool) (party : Party) (count : ℕ) (m : Message) → NamesItself b party count m → b ≡ true → Fresh count (Some party) m
-fresh_named true party count (Control (Lacp pdu) stamp) h e =
-    (let same = h.1 in omega arith, λ y. ap (λ (q : Party). Some q) (sym h.0))
-fresh_named true party count (Control (Marker mac p n) stamp) h e = tt
-fresh_named true party count (Control (Response mac p n) stamp) h e = tt
-fresh_named true party count (Data origin g k n) h e = tt
-fresh_named false party count m h e = absurd (false≢true e)
+fresh_named b party count m h e = grind arith
 
 comes_told : (truthful : ℕ → Bool) (u : SystemSetup) (ends : ℕ → Option ℕ) (f : FarEnds) (e : Happening) (old new : Scene)
     → Told truthful ends f old → IsTruthful truthful f e → Comes u ends e old new → Told truthful ends f new
-comes_told truthful u ends f (Calls call stamp moves) old new i t z =
-    moves_told truthful u ends f call stamp moves old new
-    (record { running = z.0.running; came = z.0.came; downed = z.0.downed; forcing = z.0.forcing }) i z.1
+comes_told truthful u ends f (Calls call stamp moves) old new i t z = grind (arith, moves_told)
 comes_told truthful u ends f (Gone c m ms) old new i t z = subst (Told truthful ends f) (sym z.1) (stamps_out_taken i c m ms z.0)
-comes_told truthful u ends f (Says c kept m) old new i t z =
-    subst (Told truthful ends f) (sym z.1) (told_put truthful ends f old c kept m (fresh_named (truthful c) (f.party c) (f.count c) m t) i)
-comes_told truthful u ends f (Answers c kept mac p n stamp ms) old new i t z =
-    subst (Told truthful ends f) (sym z.1) (told_put truthful ends f old c kept (Control (Response mac p n) 0) (λ e. tt) i)
+comes_told truthful u ends f (Says c kept m) old new i t z = grind (arith, Told, told_put, fresh_named)
+comes_told truthful u ends f (Answers c kept mac p n stamp ms) old new i t z = grind (arith, Told, told_put)
 comes_told truthful u ends f (HandsUp c g k n ms) old new i t z = subst (Told truthful ends f) (sym z.1) i
 comes_told truthful u ends f (Takes c m ms) old new i t z = subst (Told truthful ends f) (sym z.1) i
 comes_told truthful u ends f (OvertakesOut c ms) old new i t z = subst (Told truthful ends f) (sym z.1) i
@@ -84,32 +58,13 @@ comes_told truthful u ends f (Forces g k) old new i t z = subst (Told truthful e
 -- the other end of a cable gets other parameters
 changes_told : (truthful : ℕ → Bool) (ends : ℕ → Option ℕ) (f : FarEnds) (c : ℕ) (party : Party) (w : Scene) → party ≢ f.party c
     → Told truthful ends f w → Told truthful ends (changed f c party) w
-changes_told truthful ends f c party w ne i =
-    stamps_counted (told truthful) ends (λ d. Some (f.party d)) (λ d. Some (at_cable f.party c party d)) f.count
-    (at_cable f.count c (suc (f.count c))) w.back w.taken rises i
-  where
-    rises : (d : ℕ) → ((Some (at_cable f.party c party d) ≡ Some (f.party d)) × (at_cable f.count c (suc (f.count c)) d ≡ f.count d))
-        ⊎ ((Some (at_cable f.party c party d) ≢ Some (f.party d)) × (at_cable f.count c (suc (f.count c)) d ≡ suc (f.count d)))
-    rises d = elim (cable_cases f.party c party d) [
-      | inl x ↦ elim (cable_cases f.count c (suc (f.count c)) d) [
-        | inl y ↦ inr (
-          λ e. ne (sym x.1 ∙ same_Some (at_cable f.party c party d) (f.party d) e ∙ ap f.party x.0),
-          y.1 ∙ ap (λ (n : ℕ). suc (f.count n)) (sym x.0),
-        )
-        | inr y ↦ absurd (y.0 x.0)
-      ]
-      | inr x ↦ elim (cable_cases f.count c (suc (f.count c)) d) [
-        | inl y ↦ absurd (x.0 y.0)
-        | inr y ↦ inl (ap (λ (q : Party). Some q) x.1, y.1)
-      ]
-    ]
+changes_told truthful ends f c party w ne i = grind (arith, stamps_counted, told, at_cable, cable_cases, same_Some)
 
 -- both hold after a run
 all_told : (truthful : ℕ → Bool) (u : SystemSetup) (ends : ℕ → Option ℕ) (es : List Telling) (old new : Scene) (f g : FarEnds)
     → IsSystemSetup u → ((c d p : ℕ) → ends c ≡ Some p → ends d ≡ Some p → c ≡ d) → Kept u ends old → Told truthful ends f old
     → TellingRun truthful u ends es old f new g → Kept u ends new × Told truthful ends g new
-all_told truthful u ends [] old new f g s one i t z =
-    (subst (Kept u ends) (sym z.0) i, subst (λ g. Told truthful ends g new) (sym z.1) (subst (Told truthful ends f) (sym z.0) t))
+all_told truthful u ends [] old new f g s one i t z = grind arith
 all_told truthful u ends (So e ∷ es) old new f g s one i t z =
     all_told truthful u ends es z.0 new f g s one (comes_kept u ends e old z.0 s one i z.1)
     (comes_told truthful u ends f e old z.0 t z.2 z.1) z.3
@@ -122,5 +77,4 @@ names_truthful_peer truthful u ends party es w f s one z c p a m b e h d k stamp
     (stamps_first (told truthful) ends (λ c. Some (party c))) z in
     let r = both.0.heard p a h d in
     let fresh = both.1.last c c p m (cond_true (truthful c) (Some c) None b) e k in
-    r.2 ∙ ap (λ (m : TakenLacpdu). m.pdu.actor) (same_value (w.taken p) r.0 m r.1 k)
-    ∙ sym (same_Some (f.party c) m.pdu.actor (fresh.1 stamp))
+    grind (arith, same_value, same_Some)

@@ -1,13 +1,10 @@
 -- A run in which two systems agree and a frame arrives: the headline is not empty.
-use Rattle.lagmodel.proofs.Common.{Bool, List, None, Option, Some, [], ap, arith, cond, eqb, eqb-true, false, inl, inr, refl, suc, sym, true, zero, ℕ}
-use Rattle.lagmodel.proofs.Common.{◌∙◌, ◌∷◌, ◌≡◌, ◌≢◌, false≢true, none-some, same_Some, Party, SomethingArrives, Announce, Distribute, Flow, Join}
-use Rattle.lagmodel.proofs.Common.{Move, Port, Send, Take, port_after, Lacp, LacpMessage, ModelCall, PortFacts, Receive, SystemSetup, at_port}
-use Rattle.lagmodel.proofs.Common.{first_port, first_view, is_restart, replies_frame, zero_party, AllMoves, CallHappens, Data, Event, Happens}
-use Rattle.lagmodel.proofs.Common.{IsCabling, IsWorldSetup, One, Side, Two, World, WorldSetup, first_world, handed_up, party_at, with_messages}
-use Rattle.lagmodel.proofs.Common.{world_after, world_after_all}
+use Rattle.lagmodel.proofs.Common.{Bool, List, None, Option, Some, [], ap, arith, cond, eqb, false, inl, inr, refl, sym, true, ℕ, ◌∙◌, ◌∷◌, ◌≡◌, ◌≢◌}
+use Rattle.lagmodel.proofs.Common.{false≢true, none-some, Party, SomethingArrives, Announce, Distribute, Flow, Join, Move, Port, Send, Take}
+use Rattle.lagmodel.proofs.Common.{port_after, Lacp, LacpMessage, ModelCall, PortFacts, Receive, SystemSetup, at_port, first_port, first_view}
+use Rattle.lagmodel.proofs.Common.{is_restart, replies_frame, zero_party, AllMoves, CallHappens, Data, Event, Happens, IsWorldSetup, One, Side, Two}
+use Rattle.lagmodel.proofs.Common.{World, WorldSetup, first_world, handed_up, party_at, with_messages, world_after, world_after_all}
 use Rattle.lagtypes.specs.declared.identifiers.SystemId.{SystemId}
-use Rattle.lagmodel.proofs.Base.{chosen, mapped_some}
-use Rattle.lagmodel.proofs.Ports.{changed_port}
 use Rattle.lagmodel.proofs.Stamps.{parties_kept}
 
 -- a call whose reply may hold a frame leaves the parties, and so the change counts
@@ -26,8 +23,7 @@ made : (x : WorldSetup) (s : Side) (call : ModelCall) (stamp : ℕ) (ms : List (
     → ((t : Side) (p : ℕ) → party_at (mid.view t) p ≡ party_at (old.view t) p) → mid.count ≡ old.count → is_restart call ≡ false
     → replies_frame call ≡ true → AllMoves x s call stamp ms mid
     → CallHappens x s call stamp old mid (record (world_after_all x s stamp ms mid) { count = mid.count })
-made x s call stamp ms old mid h c r f a =
-    (ms, a, (mid.count, (λ t p. inl (same_parties x s call stamp ms mid r f a t p ∙ h t p, ap (λ (n : Side → ℕ → ℕ). n t p) c)), refl))
+made x s call stamp ms old mid h c r f a = grind (arith, same_parties)
 
 abbrev pub party_of : ℕ → Party
 party_of n = record {
@@ -116,15 +112,11 @@ abbrev pub Outside : (ℕ → Option PortFacts) → Type 0
 Outside ports = (q : ℕ) (b : PortFacts) → ports q ≡ Some b → b.aggregator ≢ Some 1
 
 pub outside_first : (n : ℕ) → Outside (first_view (setup_of n)).port
-outside_first n q b h e = let m = mapped_some first_port (cond (eqb q 1) (Some (party_of n)) None) b h in none-some 1
-    (ap (λ (a : PortFacts). a.aggregator) m.2 ∙ e)
+outside_first n q b h e = grind arith
 
 pub outside_kept : (ports : ℕ → Option PortFacts) (a : PortFacts) (f : PortFacts → PortFacts) → ports 1 ≡ Some a
     → ((f a).aggregator ≡ Some 1 → ⊥) → Outside ports → Outside (at_port ports 1 f)
-outside_kept ports a f h n i q b hb e = elim (changed_port ports 1 q f a b h hb) [
-  | inl x ↦ n (ap (λ (b : PortFacts). b.aggregator) x.1 ∙ e)
-  | inr x ↦ i q b x.1 e
-]
+outside_kept ports a f h n i q b hb e = grind arith
 
 pub ne₁ : (party_of 2).system ≢ (party_of 1).system
 ne₁ e = let h : ◌≡◌ {A = ℕ} 2 1 = ap (λ (s : SystemId). s.priority) e in absurd (omega (arith, h))
@@ -189,33 +181,7 @@ e₈ = (
 )
 
 pub fixed₀ : IsWorldSetup x₀
-fixed₀ = record {
-  setup = λ s. record {
-    system = λ p a h. party_system s p a h;
-    number = λ p a h. party_number s p a h;
-  };
-  cables = cabling;
-}
-  where
-    party_system : (s : Side) (p : ℕ) (a : Party) → (setup_of (priority_of s)).party p ≡ Some a
-        → a.system ≡ (setup_of (priority_of s)).system
-    party_system s p a h = elim (chosen (eqb p 1) (Some (party_of (priority_of s))) None (Some a) h) [
-      | inl y ↦ ap (λ (a : Party). a.system) (sym (same_Some (party_of (priority_of s)) a y.1))
-      | inr y ↦ absurd (none-some a y.1)
-    ]
-
-    party_number : (s : Side) (p : ℕ) (a : Party) → (setup_of (priority_of s)).party p ≡ Some a → a.port.number ≡ p
-    party_number s p a h = elim (chosen (eqb p 1) (Some (party_of (priority_of s))) None (Some a) h) [
-      | inl y ↦ ap (λ (a : Party). a.port.number) (sym (same_Some (party_of (priority_of s)) a y.1)) ∙ sym (eqb-true p 1 y.0)
-      | inr y ↦ absurd (none-some a y.1)
-    ]
-
-    cabling : IsCabling x₀.cables
-    cabling s zero d p h i = absurd (none-some p h)
-    cabling s (suc c) zero p h i = absurd (none-some p i)
-    cabling s (suc zero) (suc zero) p h i = refl
-    cabling s (suc zero) (suc (suc d)) p h i = absurd (none-some p i)
-    cabling s (suc (suc c)) d p h i = absurd (none-some p h)
+fixed₀ = grind arith
 
 -- Two systems came to distribute on a cable, each on what it took last from the other, and a frame arrived.
 pub something_arrives : SomethingArrives

@@ -1,8 +1,9 @@
 -- What every event of two systems preserves.
-use Rattle.lagmodel.proofs.Common.{Bool, List, Option, [], false, sym, true, ℕ, ◌∙◌, ◌∷◌, ◌≡◌, true≢false, Party, Members, Flow, Move, MoveAllowed}
-use Rattle.lagmodel.proofs.Common.{Port, Restart, act, view_after, ModelCall, SystemSetup, View, is_restart, replies_frame, AllMoves, Message, One}
-use Rattle.lagmodel.proofs.Common.{Side, TakenLacpdu, Two, World, WorldSetup, end_at, on_cable_after, party_at, peer, sent_after, taken_after}
-use Rattle.lagmodel.proofs.Common.{world_after, world_after_all}
+use Rattle.lagmodel.proofs.Common.{Bool, List, Option, [], false, true, ℕ, ◌∙◌, ◌∷◌, ◌≡◌, true≢false, Party, Members, Move, MoveAllowed, act}
+use Rattle.lagmodel.proofs.Common.{view_after, ModelCall, SystemSetup, View, is_restart, replies_frame, AllMoves, Message, One, Side, TakenLacpdu}
+use Rattle.lagmodel.proofs.Common.{Two, World, WorldSetup, end_at, on_cable_after, party_at, peer, sent_after, taken_after, world_after}
+use Rattle.lagmodel.proofs.Common.{world_after_all}
+use native.Mathlib.Omega.{arith}
 use Rattle.lagmodel.proofs.Ports.{members_kept}
 use Rattle.lagmodel.proofs.Lanes.{Lanes}
 use Rattle.lagmodel.proofs.LaneMoves.{Within, lanes_own, lanes_peer}
@@ -41,9 +42,7 @@ pub record Calling (x : WorldSetup) (s : Side) (call : ModelCall) (stamp : ℕ) 
 
 pub members_own : (u : SystemSetup) (call : ModelCall) (v : View) (m : Move) → MoveAllowed u call v m → is_restart call ≡ false
     → Members u v.port → Members u (view_after u m v).port
-members_own u call v (Port p m) x r i = members_kept u call v.port p m x i
-members_own u call v (Flow m) x r i = i
-members_own u call v Restart x r i = absurd (true≢false (sym x ∙ r))
+members_own u call v m x r i = grind (arith, members_kept)
 
 module _ {u : SystemSetup} {me : Side} {ends theirs : ℕ → Option ℕ} {v : View} {party : ℕ → Option Party} {count : ℕ → ℕ}
     {out back : ℕ → List Message} {whole : ℕ → Bool} {sent collected : ℕ → ℕ → List ℕ} {forced : ℕ → ℕ → Bool}

@@ -1,9 +1,10 @@
 -- What one collector got is a part of what all got.
-use Rattle.lagnetwork.proofs.Common.{Bool, List, None, Option, Some, [], ap, eqb, eqb-true, inl, inr, subst, sym, ℕ, ◌&&◌, ◌++◌, ◌∙◌, ◌∷◌, ◌≡◌, ◌⊎◌}
-use Rattle.lagnetwork.proofs.Common.{and_parts, cases_Bool, eqb-false, IsSubsequence, Move, ModelCall, Control, Data, Message, at_two, cond_false}
-use Rattle.lagnetwork.proofs.Common.{cond_true, two_cases, DeliversFirstAt, Network, NetworkCall, NetworkEvent, NetworkHappens, NetworkRun}
-use Rattle.lagnetwork.proofs.Common.{NetworkSetup, Place, RepeatsFirstAt, at_place, at_system, first_network, handed_up_from, network_after}
-use Rattle.lagnetwork.proofs.Common.{network_after_all, recabled, without_first}
+use Rattle.lagnetwork.proofs.Common.{Bool, List, None, Option, Some, [], eqb, inl, inr, subst, sym, ℕ, ◌&&◌, ◌++◌, ◌∙◌, ◌∷◌, ◌≡◌, ◌⊎◌, and_parts}
+use Rattle.lagnetwork.proofs.Common.{cases_Bool, IsSubsequence, Move, ModelCall, Control, Data, Message, at_two, cond_false, cond_true}
+use Rattle.lagnetwork.proofs.Common.{DeliversFirstAt, Network, NetworkCall, NetworkEvent, NetworkHappens, NetworkRun, NetworkSetup, Place}
+use Rattle.lagnetwork.proofs.Common.{RepeatsFirstAt, at_place, at_system, first_network, handed_up_from, network_after, network_after_all, recabled}
+use Rattle.lagnetwork.proofs.Common.{without_first}
+use native.Mathlib.Omega.{arith}
 use Rattle.lagmodel.proofs.Subsequence.{both_grow, grows}
 
 -- subsequences
@@ -45,53 +46,10 @@ with_one f a g k n = at_system f a (at_two (f a) g k (f a g k ++ n ∷ []))
 grew : (f : ℕ → ℕ → ℕ → List ℕ) (a g k n s j l : ℕ)
     → (((s ≡ a) × (j ≡ g) × (l ≡ k)) × (with_one f a g k n s j l ≡ f s j l ++ n ∷ []))
     ⊎ (((s ≡ a) × (j ≡ g) × (l ≡ k) → ⊥) × (with_one f a g k n s j l ≡ f s j l))
-grew f a g k n s j l = elim (cases_Bool (eqb s a)) [
-  | inl e ↦ (let same : s ≡ a = eqb-true s a e in
-      let here : with_one f a g k n s j l ≡ at_two (f a) g k (f a g k ++ n ∷ []) j l =
-      ap (λ (h : ℕ → ℕ → List ℕ). h j l) (cond_true (eqb s a) (at_two (f a) g k (f a g k ++ n ∷ [])) (f s) e) in
-      elim (two_cases (f a) g k (f a g k ++ n ∷ []) j l) [
-        | inl y ↦ inl (
-          (same, y.0, y.1),
-          here ∙ y.2 ∙ ap (λ (xs : List ℕ). xs ++ n ∷ [])
-              (sym (ap (λ z. f z j l) same ∙ ap (λ z. f a z l) y.0 ∙ ap (λ z. f a g z) y.1)),
-        )
-        | inr y ↦ inr (λ z. y.0 (z.1, z.2), here ∙ y.1 ∙ sym (ap (λ z. f z j l) same))
-      ])
-  | inr e ↦ inr (
-    λ z. eqb-false s a e z.0,
-    ap (λ (h : ℕ → ℕ → List ℕ). h j l) (cond_false (eqb s a) (at_two (f a) g k (f a g k ++ n ∷ [])) (f s) e),
-  )
-]
+grew f a g k n s j l = grind arith
 
 handed : (t : ℕ) (o : Option Place) (up : Option ℕ) (g k n : ℕ) (w : Network) → Parts w → Parts (handed_up_from t o up g k n w)
-handed t None up g k n w i = i
-handed t (Some a) None g k n w i = i
-handed t (Some a) (Some h) g k n w i = λ u r s j l. elim (cases_Bool (eqb u t && eqb r h)) [
-  | inl e ↦ (let b = and_parts (eqb u t) (eqb r h) e in
-      let part : at_place w.arrived t h (with_one (w.arrived t h) a.system g k n) u r s j l ≡ with_one (w.arrived t h) a.system g k n s j l =
-      ap (λ (f : ℕ → ℕ → ℕ → List ℕ). f s j l)
-      (cond_true (eqb u t && eqb r h) (with_one (w.arrived t h) a.system g k n) (w.arrived u r) e) in
-      elim (grew (w.arrived t h) a.system g k n s j l) [
-        | inl x ↦ elim (grew w.collected a.system g k n s j l) [
-          | inl y ↦ moved (sym (part ∙ x.1)) (sym y.1) (both_grow (w.arrived t h s j l) (w.collected s j l) n (i t h s j l))
-          | inr y ↦ absurd (y.0 x.0)
-        ]
-        | inr x ↦ elim (grew w.collected a.system g k n s j l) [
-          | inl y ↦ absurd (x.0 y.0)
-          | inr y ↦ moved (sym (part ∙ x.1)) (sym y.1) (i t h s j l)
-        ]
-      ])
-  | inr e ↦ (let part : at_place w.arrived t h (with_one (w.arrived t h) a.system g k n) u r s j l ≡ w.arrived u r s j l =
-      ap (λ (f : ℕ → ℕ → ℕ → List ℕ). f s j l)
-      (cond_false (eqb u t && eqb r h) (with_one (w.arrived t h) a.system g k n) (w.arrived u r) e) in
-      elim (grew w.collected a.system g k n s j l) [
-        | inl y ↦ moved (sym part) (sym y.1) (grows (w.arrived u r s j l) (w.collected s j l) n (i u r s j l))
-        | inr y ↦ moved (sym part) (sym y.1) (i u r s j l)
-      ])
-]
-  where
-    moved : {xs xs' ys ys' : List ℕ} → xs ≡ xs' → ys ≡ ys' → IsSubsequence xs ys → IsSubsequence xs' ys'
-    moved {xs} {xs'} {ys} {ys'} e f h = subst (λ l. IsSubsequence l ys') e (subst (λ l. IsSubsequence xs l) f h)
+handed t o up g k n w i = grind (arith, cases_Bool, eqb, and_parts, at_place, with_one, cond_true, grew, both_grow, cond_false, grows)
 
 comes : (x : NetworkSetup) (s p : ℕ) (line : List Message) (old new : Network) → Parts old → DeliversFirstAt x s p line old new → Parts new
 comes x s p [] old new h z = subst Parts (sym z) h

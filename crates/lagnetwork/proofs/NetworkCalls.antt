@@ -1,21 +1,16 @@
 -- A call of one system, by lawful moves with visible acts, is a call of the network.
-use Rattle.lagnetwork.proofs.Common.{Bool, List, None, Option, Some, [], ap, cond, eqb, false, refl, subst, sym, true, ℕ, ◌++◌, ◌∙◌, ◌∷◌, ◌≡◌}
-use Rattle.lagnetwork.proofs.Common.{option_to_list, Act, AllAllowed, LawfulMoves, Move, act, acts, view_after, view_after_all, ModelCall, View}
-use Rattle.lagnetwork.proofs.Common.{AllNetworkMoves, CountsNetworkChanges, Network, NetworkCall, NetworkSetup, at_system, network_after_act}
-use Rattle.lagnetwork.proofs.Common.{network_after_acts, network_after_all}
+use Rattle.lagnetwork.proofs.Common.{Bool, List, None, Option, Some, [], ap, subst, sym, ℕ, ◌++◌, ◌∙◌, ◌∷◌, ◌≡◌, option_to_list, Act, AllAllowed}
+use Rattle.lagnetwork.proofs.Common.{LawfulMoves, Move, act, acts, view_after, view_after_all, ModelCall, View, AllNetworkMoves, CountsNetworkChanges}
+use Rattle.lagnetwork.proofs.Common.{Network, NetworkCall, NetworkSetup, at_system, network_after_act, network_after_acts, network_after_all}
+use native.Mathlib.Omega.{arith}
 use Rattle.lagmodel.proofs.AnyPeer.{accepted}
-use Rattle.lagnetwork.proofs.Networks.{there, elsewhere, is_or_not}
+use Rattle.lagnetwork.proofs.Networks.{there}
 
 pub itself : {X : Type 0} (f : ℕ → X) (s t : ℕ) → f t ≡ at_system f s (f s) t
-itself {X} f s t = is_or_not (f t ≡ at_system f s (f s) t) t s
-    (λ e. ap f e ∙ sym (ap (at_system f s (f s)) e ∙ there f s (f s))) (λ ne. sym (elsewhere f s (f s) t ne))
+itself {X} f s t = grind arith
 
 twice : {X : Type 0} (f : ℕ → X) (s : ℕ) (x y : X) (t : ℕ) → at_system (at_system f s x) s y t ≡ at_system f s y t
-twice f s x y t = go (eqb t s)
-  where
-    go : (b : Bool) → cond b y (cond b x (f t)) ≡ cond b y (f t)
-    go true = refl
-    go false = refl
+twice f s x y t = grind arith
 
 module _ (x : NetworkSetup) (s : ℕ) (call : ModelCall) (stamp : ℕ) (accepts : Act → Bool) where
   -- the network after a move that ended in the view v and showed this
@@ -63,10 +58,4 @@ pub calls_from : (x : NetworkSetup) (s : ℕ) (call : ModelCall) (stamp : ℕ) (
     → new ≡ record (network_after_acts x s stamp accepts seen v mid) { count = count } → NetworkCall x s call stamp old mid new
 calls_from x s call stamp old mid new v seen accepts count h c e =
     let r = all_moves x s call stamp accepts h.0 mid h.1 in
-    let same : network_after_all x s stamp r.0 mid ≡ network_after_acts x s stamp accepts seen v mid =
-    r.2 ∙ ap (λ (seen : List Act). network_after_acts x s stamp accepts seen (view_after_all (x.setup s) h.0 (mid.view s)) mid) h.2
-    ∙ ap (λ (v : View). network_after_acts x s stamp accepts seen v mid) (sym h.3) in (
-      r.0,
-      r.1,
-      (count, subst (λ w. CountsNetworkChanges old w count) (sym same) c, e ∙ ap (λ (w : Network). record w { count = count }) (sym same)),
-    )
+    grind (arith, network_after_all, network_after_acts, view_after_all)

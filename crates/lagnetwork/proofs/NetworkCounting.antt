@@ -1,8 +1,7 @@
 -- The serial numbers of each conversation of a network are 0, 1, 2 and so on.
-use Rattle.lagnetwork.proofs.Common.{Bool, List, None, Option, Some, [], arith, get_or, inl, inr, length, length-append, subst, sym, ℕ, ◌++◌, ◌<◌}
-use Rattle.lagnetwork.proofs.Common.{◌∙◌, ◌∷◌, ◌≡◌, cases_lt, Act, Move, Sends, Sends_frame, Took, act, ModelCall, sent_after, two_cases, Network}
-use Rattle.lagnetwork.proofs.Common.{NetworkCall, NetworkEvent, NetworkHappens, NetworkRun, NetworkSetup, at_system, first_network, network_after}
-use Rattle.lagnetwork.proofs.Common.{network_after_all, recabled, AllCountFromZero}
+use Rattle.lagnetwork.proofs.Common.{Bool, List, Option, [], arith, get_or, inl, inr, length, length-append, subst, sym, ℕ, ◌++◌, ◌<◌, ◌∙◌, ◌∷◌, ◌≡◌}
+use Rattle.lagnetwork.proofs.Common.{cases_lt, Act, Move, act, ModelCall, sent_after, two_cases, Network, NetworkCall, NetworkEvent, NetworkHappens}
+use Rattle.lagnetwork.proofs.Common.{NetworkRun, NetworkSetup, at_system, first_network, network_after, network_after_all, recabled, AllCountFromZero}
 use Rattle.std.proofs.lemmas.List.{get_or_append_left, get_or_push}
 use Rattle.lagnetwork.proofs.NetworkReceives.{again_kept, comes_kept}
 use Rattle.lagnetwork.proofs.Networks.{there, elsewhere, is_or_not}
@@ -11,20 +10,10 @@ abbrev IsCount : List ℕ → Type 0
 IsCount xs = (i : ℕ) → i < length xs → get_or xs i 0 ≡ i
 
 one_more : (xs : List ℕ) → IsCount xs → IsCount (xs ++ length xs ∷ [])
-one_more xs h i lt = elim (cases_lt i (length xs)) [
-  | inl below ↦ get_or_append_left xs (length xs ∷ []) 0 i below ∙ h i below
-  | inr above ↦ (let same : i ≡ length xs = omega (arith, length-append xs (length xs ∷ [])) in get_or_push xs (length xs) 0 i (sym same)
-      ∙ sym same)
-]
+one_more xs h i lt = grind (arith, cases_lt, get_or_append_left, length-append, get_or_push)
 
 counted_act : (o : Option Act) (sent : ℕ → ℕ → List ℕ) → ((g k : ℕ) → IsCount (sent g k)) → (g k : ℕ) → IsCount (sent_after o sent g k)
-counted_act None sent h g k = h g k
-counted_act (Some (Sends p pdu)) sent h g k = h g k
-counted_act (Some (Took p pdu)) sent h g k = h g k
-counted_act (Some (Sends_frame p j l)) sent h g k = elim (two_cases sent j l (sent j l ++ length (sent j l) ∷ []) g k) [
-  | inl x ↦ subst IsCount (sym x.2) (one_more (sent j l) (h j l))
-  | inr x ↦ subst IsCount (sym x.1) (h g k)
-]
+counted_act o sent h g k = grind (arith, two_cases, IsCount, one_more)
 
 counted_all : (x : NetworkSetup) (s : ℕ) (stamp : ℕ) (ms : List (Move × Bool)) (w : Network) → AllCountFromZero w
     → AllCountFromZero (network_after_all x s stamp ms w)

@@ -1,13 +1,14 @@
 -- Every event of a network preserves the facts, and so does every run.
 use Rattle.lagnetwork.proofs.Common.{Bool, List, None, Option, Some, [], ap, cond, eq-eqb, eqb, eqb-true, false, inl, inr, refl, subst, sym, true, ℕ}
 use Rattle.lagnetwork.proofs.Common.{◌&&◌, ◌++◌, ◌∙◌, ◌∷◌, ◌≡◌, and_from, and_parts, cases_Bool, false≢true, true≢false, none-some, drop, Party}
-use Rattle.lagnetwork.proofs.Common.{Members, Configure, ControlMessage, Force, IsSystemSetup, ModelCall, Move_conversation, Offer, PortFacts}
-use Rattle.lagnetwork.proofs.Common.{Receive, Set_link, SystemSetup, Tick, Transmit, View, first_view, is_restart, Control, Data, Message, One, Side}
-use Rattle.lagnetwork.proofs.Common.{at_cable, at_two, party_at, cond_false, cond_true, cable_cases, lanes_first, lanes_handed, lanes_restarted}
-use Rattle.lagnetwork.proofs.Common.{two_cases, Every, IsFrom, members_first, Stamps, heard_first, stamps_emptied, stamps_first, CountsNetworkChanges}
-use Rattle.lagnetwork.proofs.Common.{DeliversFirstAt, IsNetworkSetup, IsNetworkSuccessor, Network, NetworkCall, NetworkEvent, NetworkHappens}
-use Rattle.lagnetwork.proofs.Common.{NetworkRun, NetworkSetup, Place, RepeatsFirstAt, also_forced, at_place, at_system, ends_at, first_network}
-use Rattle.lagnetwork.proofs.Common.{freed_view, handed_up_from, is_at, is_end, moved_again, recabled, recabled_all, without_first}
+use Rattle.lagnetwork.proofs.Common.{Members, Configure, ControlMessage, Force, ModelCall, Move_conversation, Offer, PortFacts, Receive, Set_link}
+use Rattle.lagnetwork.proofs.Common.{SystemSetup, Tick, Transmit, View, first_view, is_restart, Control, Data, Message, One, Side, at_cable, at_two}
+use Rattle.lagnetwork.proofs.Common.{party_at, cond_false, cond_true, cable_cases, lanes_handed, lanes_restarted, Every, IsFrom, members_first}
+use Rattle.lagnetwork.proofs.Common.{Stamps, heard_first, stamps_emptied, CountsNetworkChanges, DeliversFirstAt, IsNetworkSetup, IsNetworkSuccessor}
+use Rattle.lagnetwork.proofs.Common.{Network, NetworkCall, NetworkEvent, NetworkHappens, NetworkRun, NetworkSetup, Place, RepeatsFirstAt, also_forced}
+use Rattle.lagnetwork.proofs.Common.{at_place, at_system, ends_at, first_network, freed_view, handed_up_from, is_at, is_end, moved_again, recabled}
+use Rattle.lagnetwork.proofs.Common.{recabled_all, without_first}
+use native.Mathlib.Omega.{arith}
 use Rattle.lagmodel.specs.View.{Restart}
 use Rattle.lagmodel.specs.Succession.{IsAlikeSetup}
 use Rattle.lagnetwork.proofs.NetworkLines.{IsOwn, NamesSender, lanes_succeeded, ends_of, at_far, out_of, SeenAlike, BeginsWith, Amid, IsLess}
@@ -21,17 +22,11 @@ quiet_not : (call other : ModelCall) → quiet call ≡ true → quiet other ≡
 quiet_not call other h n e = true≢false (sym h ∙ ap quiet e ∙ n)
 
 quiet-running : (call : ModelCall) → quiet call ≡ true → is_restart call ≡ false
-quiet-running Restart h = absurd (false≢true h)
-quiet-running call h = refl
+quiet-running call h = grind arith
 
 amid_quiet : (x : NetworkSetup) (call : ModelCall) (stamp s : ℕ) (towards : ℕ → ℕ → List Message) (whole : ℕ → ℕ → Bool) (forced : ℕ → ℕ → Bool)
     → quiet call ≡ true → Amid x call stamp s towards whole forced
-amid_quiet x call stamp s towards whole forced h = record {
-  running = quiet-running call h;
-  came = λ p pdu a e n. absurd (quiet_not call (Receive p (Some pdu)) h refl e);
-  downed = λ p e. absurd (quiet_not call (Set_link p false) h refl e);
-  forcing = λ g k e. absurd (quiet_not call (Force g k) h refl e);
-}
+amid_quiet x call stamp s towards whole forced h = grind arith
 
 receive_parts : (p q : ℕ) (a b : ControlMessage) → Receive p (Some a) ≡ Receive q (Some b) → (p ≡ q) × (a ≡ b)
 receive_parts p q a b e = (cc, cc)
@@ -53,14 +48,7 @@ force_parts g k h j e = (cc, cc)
 
 amid_receive : (x : NetworkSetup) (s p : ℕ) (pdu : ControlMessage) (stamp : ℕ) (towards : ℕ → ℕ → List Message) (whole : ℕ → ℕ → Bool) (forced : ℕ → ℕ → Bool)
     → BeginsWith (Control pdu stamp) (towards s p) → Amid x (Receive p (Some pdu)) stamp s towards whole forced
-amid_receive x s p pdu stamp towards whole forced h = record {
-  running = refl;
-  came = λ q other a e n. let parts = receive_parts p q pdu other e in
-      subst (λ q. BeginsWith (Control other stamp) (towards s q)) parts.0
-      (subst (λ (y : ControlMessage). BeginsWith (Control y stamp) (towards s p)) parts.1 h);
-  downed = λ q e. absurd (receive_link p q (Some pdu) false e);
-  forcing = λ g k e. absurd (receive_force p g k (Some pdu) e);
-}
+amid_receive x s p pdu stamp towards whole forced h = grind arith
 
 started : (x : NetworkSetup) (s : ℕ) (call : ModelCall) (stamp : ℕ) (w : Network) → AllFine x w
     → Amid x call stamp s w.towards w.whole (w.forced s) → Calling x s call stamp (λ t. party_at (w.view t)) w
@@ -86,19 +74,13 @@ less_nothing new h = elim h [
 
 out_less : (x : NetworkSetup) (towards towards' : ℕ → ℕ → List Message) → ((t q : ℕ) → IsLess (towards' t q) (towards t q))
     → (r c : ℕ) → IsLess (out_of x towards' r c) (out_of x towards r c)
-out_less x towards towards' h r c = go (x.far r c)
-  where
-    go : (o : Option Place) → IsLess (at_far towards' o) (at_far towards o)
-    go None = inl refl
-    go (Some a) = h a.system a.port
+out_less x towards towards' h r c = grind arith
 
 -- a cut cable holds nothing, nor does it when less is on it
 still_nothing : (x : NetworkSetup) (w : Network) → AllFine x w → (towards' : ℕ → ℕ → List Message)
     → ((t q : ℕ) → IsLess (towards' t q) (w.towards t q))
     → (r c : ℕ) → w.whole r c ≡ false → out_of x towards' r c ≡ []
-still_nothing x w i towards' h r c e =
-    less_nothing (out_of x towards' r c) (subst (IsLess (out_of x towards' r c)) ((i.each r).lanes.cut c e)
-    (out_less x w.towards towards' h r c))
+still_nothing x w i towards' h r c e = grind (arith, less_nothing, out_of, out_less)
 
 -- less is on the cables
 less_kept : (x : NetworkSetup) (w : Network) → AllFine x w → (towards' : ℕ → ℕ → List Message) (whole' : ℕ → ℕ → Bool)
@@ -110,18 +92,11 @@ less_kept x w i towards' whole' alike h cut = record {
 }
 
 first_less : (l : List Message) → IsLess (drop 1 l) l
-first_less [] = inl refl
-first_less (m ∷ ms) = inr (inr (inl (m, refl)))
+first_less l = grind arith
 
 place_less : (towards : ℕ → ℕ → List Message) (s p : ℕ) (line : List Message) → IsLess line (towards s p) → (t q : ℕ)
     → IsLess (at_place towards s p line t q) (towards t q)
-place_less towards s p line h t q = elim (cases_Bool (eqb t s && eqb q p)) [
-  | inl e ↦ (let b = and_parts (eqb t s) (eqb q p) e in
-      subst (λ l. IsLess l (towards t q)) (sym (cond_true (eqb t s && eqb q p) line (towards t q) e))
-      (subst (λ t. IsLess line (towards t q)) (sym (eqb-true t s b.0))
-      (subst (λ q. IsLess line (towards s q)) (sym (eqb-true q p b.1)) h)))
-  | inr e ↦ inl (cond_false (eqb t s && eqb q p) line (towards t q) e)
-]
+place_less towards s p line h t q = grind arith
 
 -- one line has less on it
 line_kept : (x : NetworkSetup) (w : Network) (s p : ℕ) (line : List Message) → IsLess line (w.towards s p) → AllFine x w
@@ -134,8 +109,7 @@ popped_kept : (x : NetworkSetup) (w : Network) (s p : ℕ) → AllFine x w → A
 popped_kept x w s p i = line_kept x w s p (drop 1 (w.towards s p)) (first_less (w.towards s p)) i
 
 blank_less : (b : Bool) (l : List Message) → IsLess (cond b [] l) l
-blank_less true l = inr (inl refl)
-blank_less false l = inl refl
+blank_less b l = grind arith
 
 cut_kept : (x : NetworkSetup) → IsNetworkSetup x → (w : Network) (s p : ℕ) → AllFine x w → AllFine x (record w {
   whole = λ t q. cond (is_end x s p t q) false (w.whole t q);
@@ -182,8 +156,7 @@ joined_kept x f w s p i =
 
 -- a restart
 any_true : (a b : Bool) → b ≡ true → cond a true b ≡ true
-any_true true b h = refl
-any_true false b h = h
+any_true a b h = grind arith
 
 restarted_kept : (x : NetworkSetup) → IsNetworkSetup x → (w : Network) (s : ℕ) (count : ℕ → ℕ → ℕ) → AllFine x w
     → CountsNetworkChanges w (record w {
@@ -370,14 +343,7 @@ forced_kept x s g k w i = record {
 
 amid_force : (x : NetworkSetup) (s : ℕ) (forced : ℕ → ℕ → ℕ → Bool) (g k : ℕ) (towards : ℕ → ℕ → List Message) (whole : ℕ → ℕ → Bool)
     → Amid x (Force g k) 0 s towards whole (at_system forced s (at_two (forced s) g k true) s)
-amid_force x s forced g k towards whole = record {
-  running = refl;
-  came = λ q pdu a y n. absurd (receive_force q g k (Some pdu) (sym y));
-  downed = λ q y. absurd (link_force q g k false (sym y));
-  forcing = λ h j y. let parts = force_parts g k h j y in
-      ap (λ (c : ℕ → ℕ → Bool). c h j) (there forced s (at_two (forced s) g k true))
-      ∙ elim (two_cases (forced s) g k true h j) [ inl z ↦ z.2 | inr z ↦ absurd (z.0 (sym parts.0, sym parts.1)) ];
-}
+amid_force x s forced g k towards whole = grind arith
 
 force_kept : (x : NetworkSetup) → IsNetworkSetup x → (s g k : ℕ) (old new : Network) → AllFine x old
     → NetworkHappens x (NetworkEvent.Force s g k) old new → AllFine x new
@@ -453,14 +419,7 @@ succeeded_kept x s after w y i = record {
 -- and its configuration is another
 
 pub members_alike : (u v : SystemSetup) (ports : ℕ → Option PortFacts) → IsAlikeSetup u v → Members u ports → Members v ports
-members_alike u v ports a m = record {
-  configured = λ p. m.configured p ∙ sym (a.ports p);
-  number = m.number;
-  own = λ p b h. m.own p b h ∙ sym a.system;
-  key = λ p g b h e. a.key g ∙ m.key p g b h e;
-  group = m.group;
-  member = m.member;
-}
+members_alike u v ports a m = grind arith
 
 setup_changed : (x : NetworkSetup) (s : ℕ) (setup : SystemSetup) (after : View) → IsAlikeSetup (x.setup s) setup → (w : Network)
     → AllFine x w → AllFine (recabled x (NetworkEvent.Succeed s setup after)) w
@@ -535,15 +494,7 @@ happens_kept x f (NetworkEvent.Plug s p t q) old new i z =
 -- cables join two ports, still
 pub setup_kept : (x : NetworkSetup) → IsNetworkSetup x → (e : NetworkEvent) (old new : Network) → NetworkHappens x e old new
     → IsNetworkSetup (recabled x e)
-setup_kept x f (NetworkEvent.Pull s p) old new z = pull_setup x f s p
-setup_kept x f (NetworkEvent.Plug s p t q) old new z = plug_setup x f s p t q z.0 z.1
-setup_kept x f (NetworkEvent.Succeed s setup after) old new z = record {
-  setup = λ t. is_or_not (IsSystemSetup (at_system x.setup s setup t)) t s
-      (λ e. subst (λ t. IsSystemSetup (at_system x.setup s setup t)) (sym e) (subst IsSystemSetup (sym (there x.setup s setup)) z.0.setup))
-      (λ ne. subst IsSystemSetup (sym (elsewhere x.setup s setup t ne)) (f.setup t));
-  cables = f.cables;
-}
-setup_kept x f e old new z = f
+setup_kept x f e old new z = grind (arith, pull_setup, plug_setup, is_or_not, at_system, there, elsewhere)
 
 -- every run
 pub run_kept : (x : NetworkSetup) → IsNetworkSetup x → (es : List NetworkEvent) (old new : Network) → AllFine x old
@@ -561,26 +512,7 @@ recabled_joined x [] fs = refl
 recabled_joined x (e ∷ es) fs = recabled_joined (recabled x e) es fs
 
 pub first_fine : (x : NetworkSetup) → IsNetworkSetup x → AllFine x (first_network x)
-first_fine x f = record { alike = λ s p t q h. refl; each = start }
-  where
-    nothing_out : (r c : ℕ) → [] ≡ out_of x (λ t q. []) r c
-    nothing_out r c = go (x.far r c)
-      where
-        go : (o : Option Place) → [] ≡ at_far (λ t q. []) o
-        go None = refl
-        go (Some a) = refl
-
-    start : (r : ℕ) → FineIn x (λ s. party_at (first_view (x.setup s))) (first_network x) r
-    start r = subst (λ (out : ℕ → List Message). Fine x r (first_view (x.setup r)) (party_at (first_view (x.setup r))) (λ p. 0) out
-        (λ q. []) (λ p. true) (λ g k. []) (λ g k. []) (λ g k. false) (λ p. None) (λ s p. None) (λ s p. None)) (λ j c. nothing_out r c j) (record {
-          members = members_first (x.setup r) (f.setup r);
-          lanes = lanes_first One (ends_of x r) (x.setup r).first_marker;
-          heard = heard_first (x.setup r) (λ p. None);
-          stamps = stamps_first (ends_of x r) (λ c. None) (party_at (first_view (x.setup r)));
-          names = λ c. tt;
-          apart = apart_first (x.setup r);
-          last = λ s p c m e h. absurd (none-some m h);
-        })
+first_fine x f = grind arith
 
 pub all_fine : (x : NetworkSetup) (es : List NetworkEvent) (w : Network) → IsNetworkSetup x → NetworkRun x es (first_network x) w
     → IsNetworkSetup (recabled_all x es) × AllFine (recabled_all x es) w

@@ -1,15 +1,14 @@
 -- What follows in a network in which the facts hold.
-use Rattle.lagnetwork.proofs.Common.{Option, Some, [], ap, eq-eqb, inl, inr, option_map, refl, subst, sym, true, ℕ, ◌++◌, ◌∙◌, ◌≡◌, same_Some, Party}
-use Rattle.lagnetwork.proofs.Common.{IsSubsequence, Members, serials, Marker, PortFacts, Response, SystemSetup, View, Control, One, TakenLacpdu}
-use Rattle.lagnetwork.proofs.Common.{party_at, same_value, Every, MarkerBelow, NoneBehind, ResponseBelow, answers, behind_split, every_contains}
-use Rattle.lagnetwork.proofs.Common.{handed_front, one_partner, AllHeard, FreshPdu, Moved, Moved_down, Moved_up, Network, NetworkSetup, Place}
-use Rattle.lagnetwork.proofs.Common.{Unmoved, recabled_all, AllBelowNext, CablesAgree, CollectedThenFlying, EachOnePartner, EachTookInSync}
-use Rattle.lagnetwork.proofs.Common.{FlushedBehindMarker, FlyOnItsCable, GoesByItsCable, IsUpToDate, NamesFarEnd, NetworkInOrder, NotWithItself}
-use Rattle.lagnetwork.proofs.Common.{OneDevice, TookFromFarEnd, TookFromFixedEnd, scene_of}
+use Rattle.lagnetwork.proofs.Common.{Option, Some, [], ap, eq-eqb, option_map, refl, subst, sym, true, ℕ, ◌++◌, ◌∙◌, ◌≡◌, same_Some, Party, Members}
+use Rattle.lagnetwork.proofs.Common.{serials, Marker, PortFacts, Response, SystemSetup, View, Control, One, party_at, Every, MarkerBelow, NoneBehind}
+use Rattle.lagnetwork.proofs.Common.{ResponseBelow, answers, behind_split, every_contains, handed_front, one_partner, AllHeard, Moved, Moved_down}
+use Rattle.lagnetwork.proofs.Common.{Moved_up, Network, NetworkSetup, Place, Unmoved, recabled_all, AllBelowNext, CablesAgree, CollectedThenFlying}
+use Rattle.lagnetwork.proofs.Common.{EachOnePartner, EachTookInSync, FlushedBehindMarker, FlyOnItsCable, GoesByItsCable, IsUpToDate, NamesFarEnd}
+use Rattle.lagnetwork.proofs.Common.{NetworkInOrder, NotWithItself, OneDevice, TookFromFarEnd, TookFromFixedEnd, scene_of}
+use native.Mathlib.Omega.{arith}
 use Rattle.lagnetwork.proofs.NetworkSources.{sourced, unmoved, Sourced}
 use Rattle.lagnetwork.proofs.NetworkEvents.{all_fine}
-use Rattle.lagnetwork.proofs.NetworkLines.{at_far, ends-some, ends_of, out_of}
-use Rattle.lagmodel.proofs.Laws.{crossed}
+use Rattle.lagnetwork.proofs.NetworkLines.{at_far, ends_of, out_of}
 use Rattle.lagmodel.specs.AnyPeer.{Scene, TookInSync}
 use Rattle.lagnetwork.proofs.Networks.{AllFine}
 
@@ -25,16 +24,10 @@ ends_there x t q a e = ap (option_map (λ (a : Place). q)) e
 -- the partner that a port records is the party of the port that the LACPDU came from which it took last, if that did not change
 named : (x : NetworkSetup) (w : Network) → AllFine x w → (s p t q : ℕ) (a b : PortFacts)
     → IsUpToDate w s p t q a → (w.view t).port q ≡ Some b → a.partner ≡ b.party
-named x w i s p t q a b h hb =
-    let m = h.taken in
-    let r = (i.each s).heard p a h.is h.defaulted in
-    let fresh : FreshPdu (w.count t q) (party_at (w.view t) q) m.0.pdu m.0.stamp = ((i.each t).last s p q m.0 h.source m.1).0 in
-    r.2 ∙ ap (λ (m : TakenLacpdu). m.pdu.actor) (same_value (w.taken s p) r.0 m.0 r.1 m.1)
-    ∙ sym (party_there (w.view t) q b m.0.pdu.actor hb (fresh.1 m.2))
+named x w i s p t q a b h hb = grind arith
 
 pub cables_agree : (x : NetworkSetup) (w : Network) → AllFine x w → CablesAgree w
-cables_agree x w i s p t q a b h k =
-    crossed a.party a.partner b.party b.partner (sym (named x w i t q s p b a k h.is)) (named x w i s p t q a b h k.is)
+cables_agree x w i s p t q a b h k = grind arith
 
 pub in_order_each : (x : NetworkSetup) (w : Network) → AllFine x w → NetworkInOrder w
 in_order_each x w i s g k u = handed_front ((i.each s).lanes.orderly g k 0 u)
@@ -60,8 +53,7 @@ one_device x w i s g p q t r j k a b only e h ia ib ga gb da db na nb =
     ∙ (names_far_end x w i s q r k b h ib nb).0)
 
 pub not_with_itself : (x : NetworkSetup) (w : Network) → AllFine x w → NotWithItself x w
-not_with_itself x w i s p t q a e h inside d same =
-    (i.each s).apart p a h inside ((names_far_end x w i s p t q a e h d).0 ∙ same ∙ sym ((i.each s).members.own p a h))
+not_with_itself x w i s p t q a e h inside d same = grind (arith, names_far_end)
 
 -- what is on the cable of a port, away from it
 there_out : (x : NetworkSetup) (w : Network) (s p t q : ℕ) → x.far s p ≡ Some (record { system = t; port = q })
@@ -69,10 +61,7 @@ there_out : (x : NetworkSetup) (w : Network) (s p t q : ℕ) → x.far s p ≡ S
 there_out x w s p t q e = ap (at_far w.towards) e
 
 pub fly_on_its_cable : (x : NetworkSetup) (w : Network) → AllFine x w → FlyOnItsCable x w
-fly_on_its_cable x w i s g k p t q u e = elim (((i.each s).lanes.orderly g k p u).place) [
-  | inl y ↦ inl (ap (serials One g k) (sym (there_out x w s p t q e)) ∙ y)
-  | inr y ↦ inr (y.2 ∙ ap (λ (n : ℕ). Some n) (sym (ends-some x s p y.0 y.1)))
-]
+fly_on_its_cable x w i s g k p t q u e = grind arith
 
 pub flushed_behind_marker : (x : NetworkSetup) (w : Network) → AllFine x w → FlushedBehindMarker x w
 flushed_behind_marker x w i s g k p n t q u st e =
@@ -96,9 +85,7 @@ all_below_next x w i s p t q r n stamp mac e = (
 )
 
 pub collected_then_flying : (x : NetworkSetup) (w : Network) → AllFine x w → CollectedThenFlying x w
-collected_then_flying x w i s g k p t q u e =
-    subst (λ l. IsSubsequence (w.collected s g k ++ serials One g k l) (w.sent s g k)) (there_out x w s p t q e)
-    (((i.each s).lanes.orderly g k p u).in_order)
+collected_then_flying x w i s g k p t q u e = grind arith
 
 -- what a system took last, by what holds of its ports
 pub took_in_sync : (u : SystemSetup) (w : Scene) → Members u w.view.port → AllHeard w.view.port w.taken → TookInSync w

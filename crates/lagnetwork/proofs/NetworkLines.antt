@@ -1,13 +1,14 @@
 -- What is on the cables of a network, as one system sees it: each of its ports is a cable with the number of the port.
 use Rattle.lagnetwork.proofs.Common.{Bool, List, None, Option, Some, [], ap, append-nil, cond, eq-eqb, eqb, eqb-true, false, inl, inr, length}
-use Rattle.lagnetwork.proofs.Common.{option_map, refl, subst, sym, true, ℕ, ◌&&◌, ◌++◌, ◌<◌, ◌∙◌, ◌∷◌, ◌≡◌, ◌≤◌, ◌⊎◌, and_from, and_parts, false≢true}
-use Rattle.lagnetwork.proofs.Common.{true≢false, none-some, same_Some, SystemId, Party, IsSubsequence, Act, Sends, Sends_frame, Took, ControlMessage}
+use Rattle.lagnetwork.proofs.Common.{option_map, refl, subst, sym, true, ℕ, ◌&&◌, ◌++◌, ◌<◌, ◌∙◌, ◌∷◌, ◌≡◌, ◌≤◌, ◌⊎◌, and_from, false≢true}
+use Rattle.lagnetwork.proofs.Common.{true≢false, same_Some, SystemId, Party, IsSubsequence, Act, Sends, Sends_frame, Took, ControlMessage}
 use Rattle.lagnetwork.proofs.Common.{Conversation, DistributorFacts, Flushing, Force, Free, Lacp, LacpMessage, Marker, ModelCall, On, Receive}
 use Rattle.lagnetwork.proofs.Common.{Response, Set_link, conversation_port, is_restart, Control, Data, Message, One, Side, TakenLacpdu, is_port}
-use Rattle.lagnetwork.proofs.Common.{on_cable_after, put_on_cable, stamp_of, chosen, cond_false, cond_true, mapped_some, Within, Lanes, Every, IsFrom}
+use Rattle.lagnetwork.proofs.Common.{on_cable_after, put_on_cable, stamp_of, cond_false, cond_true, mapped_some, Within, Lanes, Every, IsFrom}
 use Rattle.lagnetwork.proofs.Common.{MarkerBelow, ResponseBelow, answers, every_push, every_weaker, marker_higher, put_each, response_higher, Orderly}
-use Rattle.lagnetwork.proofs.Common.{answer_taken, handed_front, taken_away, Fresh, Stamps, IsNetworkSetup, NetworkSetup, Place, also_forced}
-use Rattle.lagnetwork.proofs.Common.{is_place, put_on_line, towards_after}
+use Rattle.lagnetwork.proofs.Common.{answer_taken, handed_front, taken_away, Stamps, IsNetworkSetup, NetworkSetup, Place, also_forced, is_place}
+use Rattle.lagnetwork.proofs.Common.{put_on_line, towards_after}
+use native.Mathlib.Omega.{arith}
 use Rattle.lagmodel.proofs.Overtaken.{every_overtaken, lanes_out_overtaken, lanes_back_overtaken}
 use Rattle.lagmodel.specs.Overtaking.{Overtakes}
 
@@ -32,70 +33,39 @@ at_far towards (Some a) = towards a.system a.port
 abbrev pub out_of : NetworkSetup → (ℕ → ℕ → List Message) → ℕ → ℕ → List Message
 out_of x towards r c = at_far towards (x.far r c)
 
--- Booleans
-drop_false : (w v : Bool) → (w && false) ≡ (v && false)
-drop_false true true = refl
-drop_false true false = refl
-drop_false false true = refl
-drop_false false false = refl
-
 pub same_and : (k w v a b : Bool) → (a ≡ true → w ≡ v) → a ≡ b → (k && (w && a)) ≡ (k && (v && b))
-same_and k w v true b h e = ap (λ (z : Bool). k && (z && true)) (h refl) ∙ ap (λ (b : Bool). k && (v && b)) e
-same_and k w v false b h e = ap (λ (z : Bool). k && z) (drop_false w v) ∙ ap (λ (b : Bool). k && (v && b)) e
+same_and k w v a b h e = grind arith
 
 pub same_bool : (a b : Bool) → (a ≡ true → b ≡ true) → (b ≡ true → a ≡ true) → a ≡ b
-same_bool true b f g = sym (f refl)
-same_bool false true f g = g refl
-same_bool false false f g = refl
+same_bool a b f g = grind arith
 
 not_true : (a : Bool) → (a ≡ true → ⊥) → a ≡ false
-not_true true h = absurd (h refl)
-not_true false h = refl
+not_true a h = grind arith
 
 never : (k w a : Bool) → a ≡ false → (k && (w && a)) ≡ false
-never true true a e = e
-never true false a e = refl
-never false w a e = refl
+never k w a e = grind arith
 
 -- places
 pub is_place-some : (o : Option Place) (t q : ℕ) → is_place o t q ≡ true → o ≡ Some (record { system = t; port = q })
-is_place-some None t q h = absurd (false≢true h)
-is_place-some (Some a) t q h =
-    let both = and_parts (eqb t a.system) (eqb q a.port) h in
-    ap (λ (a : Place). Some a) (same (sym (eqb-true t a.system both.0)) (sym (eqb-true q a.port both.1)))
-  where
-    same : a.system ≡ t → a.port ≡ q → a ≡ record { system = t; port = q }
-    same e f i = record { system = e i; port = f i }
+is_place-some o t q h = grind arith
 
 pub some-is_place : (o : Option Place) (t q : ℕ) → o ≡ Some (record { system = t; port = q }) → is_place o t q ≡ true
 some-is_place o t q h = subst (λ o. is_place o t q ≡ true) (sym h) (and_from (eqb t t) (eqb q q) (eq-eqb t t refl) (eq-eqb q q refl))
 
 pub port_in-some : (s : ℕ) (o : Option Place) (p : ℕ) → port_in s o ≡ Some p → o ≡ Some (record { system = s; port = p })
-port_in-some s None p h = absurd (none-some p h)
-port_in-some s (Some a) p h = elim (chosen (eqb a.system s) (Some a.port) None (Some p) h) [
-  | inl x ↦ ap (λ (a : Place). Some a) (same (eqb-true a.system s x.0) (same_Some a.port p x.1))
-  | inr x ↦ absurd (none-some p x.1)
-]
-  where
-    same : a.system ≡ s → a.port ≡ p → a ≡ record { system = s; port = p }
-    same e f i = record { system = e i; port = f i }
+port_in-some s o p h = grind arith
 
 pub some-port_in : (s : ℕ) (o : Option Place) (p : ℕ) → o ≡ Some (record { system = s; port = p }) → port_in s o ≡ Some p
 some-port_in s o p h = subst (λ o. port_in s o ≡ Some p) (sym h) (cond_true (eqb s s) (Some p) None (eq-eqb s s refl))
 
 is_port-some : (p : ℕ) (o : Option ℕ) → is_port p o ≡ true → o ≡ Some p
-is_port-some p None h = absurd (false≢true h)
-is_port-some p (Some q) h = ap (λ (n : ℕ). Some n) (eqb-true q p h)
+is_port-some p o h = grind arith
 
 some-is_port : (p : ℕ) (o : Option ℕ) → o ≡ Some p → is_port p o ≡ true
 some-is_port p o h = subst (λ o. is_port p o ≡ true) (sym h) (eq-eqb p p refl)
 
 pub ends-some : (x : NetworkSetup) (r c p : ℕ) → ends_of x r c ≡ Some p → c ≡ p
-ends-some x r c p h = go (x.far r c) h
-  where
-    go : (o : Option Place) → option_map (λ (a : Place). c) o ≡ Some p → c ≡ p
-    go None h = absurd (none-some p h)
-    go (Some a) h = same_Some c p h
+ends-some x r c p h = grind arith
 
 pub ends_once : (x : NetworkSetup) (r c d p : ℕ) → ends_of x r c ≡ Some p → ends_of x r d ≡ Some p → c ≡ d
 ends_once x r c d p h k = ends-some x r c p h ∙ sym (ends-some x r d p k)
@@ -187,10 +157,8 @@ pub begins_after : (x : NetworkSetup) (s : ℕ) (whole : ℕ → ℕ → Bool) (
     (towards : ℕ → ℕ → List Message) (m : Message) (t q : ℕ) → BeginsWith m (towards t q)
     → BeginsWith m (towards_after x s whole count sent kept o towards t q)
 begins_after x s whole count sent kept None towards m t q h = h
-begins_after x s whole count sent kept (Some (Sends p pdu)) towards m t q h = begins_put (kept && (whole s p && is_place (x.far s p) t q)) m
-    (Control pdu (stamp_of pdu (count p))) (towards t q) h
-begins_after x s whole count sent kept (Some (Sends_frame p g k)) towards m t q h =
-    begins_put (kept && (whole s p && is_place (x.far s p) t q)) m (Data One g k (length (sent g k))) (towards t q) h
+begins_after x s whole count sent kept (Some (Sends p pdu)) towards m t q h = grind (arith, begins_put, is_place, stamp_of)
+begins_after x s whole count sent kept (Some (Sends_frame p g k)) towards m t q h = grind (arith, begins_put, is_place)
 begins_after x s whole count sent kept (Some (Took p pdu)) towards m t q h = h
 
 -- What is known of a call of system s of a network while it runs, as Within says it of two systems.
@@ -238,8 +206,7 @@ NamesSender system p (Data origin g k serial) = Unit {0}
 pub names_put : (x : NetworkSetup) (r : ℕ) (system : SystemId) (whole : ℕ → Bool) (kept : Bool) (p : ℕ) (m : Message) (out : ℕ → List Message)
     → NamesSender system p m → ((c : ℕ) → Every (NamesSender system c) (out c))
     → (c : ℕ) → Every (NamesSender system c) (put_on_cable (ends_of x r) whole kept p m out c)
-names_put x r system whole kept p m out h i = put_each (λ c l. Every (NamesSender system c) l) (ends_of x r) whole kept p m out
-    (λ c w e. every_push (NamesSender system c) (out c) m (i c) (subst (λ c. NamesSender system c m) (sym (ends-some x r c p e)) h)) i
+names_put x r system whole kept p m out h i = grind (arith, put_each, NamesSender, ends_of, every_push, ends-some)
 
 -- a list to which nothing came: it is the same, empty, without its first message, or an LACPDU went by what was before it
 abbrev pub IsLess : List Message → List Message → Type 0
@@ -361,7 +328,4 @@ module _ {me : Side} {ends : ℕ → Option ℕ} {f : DistributorFacts} {out bac
 pub stamps_less : {ends theirs : ℕ → Option ℕ} {party : ℕ → Option Party} {count : ℕ → ℕ} {out : ℕ → List Message} {taken : ℕ
     → Option TakenLacpdu} → Stamps ends theirs party count out taken → (out' : ℕ → List Message) → ((c : ℕ) → IsLess (out' c) (out c))
     → Stamps ends theirs party count out' taken
-stamps_less {party = party} {count = count} {out = out} i out' less = record {
-  flight = λ c p e. every_less (Fresh (count p) (party p)) (out' c) (out c) (less c) (i.flight c p e);
-  last = i.last;
-}
+stamps_less {party = party} {count = count} {out = out} i out' less = grind (arith, every_less)

@@ -1,4 +1,5 @@
 -- Cables are moved: what every event preserves holds on the cables as they are then.
+use native.Mathlib.Omega.{arith}
 use Rattle.lagnetwork.proofs.Common.{Bool, List, None, Option, Some, [], ap, append-nil, cond, eq-eqb, eqb, eqb-true, false, inl, inr, option_map}
 use Rattle.lagnetwork.proofs.Common.{refl, subst, sym, true, ℕ, ◌&&◌, ◌∙◌, ◌≡◌, ◌⊎◌, and_from, and_parts, cases_Bool, false≢true, true≢false}
 use Rattle.lagnetwork.proofs.Common.{none-some, IsSubsequence, Conversation, DistributorFacts, Message, Side, party_at, cond_false, cond_true, Lanes}
@@ -11,19 +12,7 @@ use Rattle.lagnetwork.proofs.Networks.{AllFine, FineIn}
 -- the ends of a cable
 end_other : (x : NetworkSetup) → IsNetworkSetup x → (s p t q r c : ℕ) → x.far t q ≡ Some (record { system = r; port = c })
     → is_end x s p t q ≡ true → is_end x s p r c ≡ true
-end_other x f s p t q r c h e = elim (cases_Bool (eqb t s && eqb q p)) [
-  | inl here ↦ (let b = and_parts (eqb t s) (eqb q p) here in
-      any (eqb r s && eqb c p) (is_place (x.far s p) r c) (inr (some-is_place (x.far s p) r c
-      (subst (λ t. x.far t p ≡ Some (record { system = r; port = c })) (eqb-true t s b.0)
-      (subst (λ q. x.far t q ≡ Some (record { system = r; port = c })) (eqb-true q p b.1) h)))))
-  | inr off ↦ (let y : is_place (x.far s p) t q ≡ true = sym (cond_false (eqb t s && eqb q p) true (is_place (x.far s p) t q) off) ∙ e in
-      let both = same_near x f r c s p (record { system = t; port = q }) (f.cables t q r c h) (is_place-some (x.far s p) t q y) in
-      any (eqb r s && eqb c p) (is_place (x.far s p) r c) (inl (and_from (eqb r s) (eqb c p) (eq-eqb r s both.0) (eq-eqb c p both.1))))
-]
-  where
-    any : (a b : Bool) → (a ≡ true) ⊎ (b ≡ true) → cond a true b ≡ true
-    any true b h = refl
-    any false b h = elim h [ inl e ↦ absurd (false≢true e) | inr e ↦ e ]
+end_other x f s p t q r c h e = grind (arith, cases_Bool, eqb, and_parts, is_place, some-is_place, eqb-true, cond_false, same_near, is_place-some, and_from, eq-eqb)
 
 pub end_alike : (x : NetworkSetup) → IsNetworkSetup x → (s p t q r c : ℕ) → x.far t q ≡ Some (record { system = r; port = c })
     → is_end x s p t q ≡ is_end x s p r c
@@ -166,14 +155,7 @@ module _ (x : NetworkSetup) (f : IsNetworkSetup x) (s p : ℕ) where
 -- the function at this place, or elsewhere
 place_cases : {X : Type 0} (f : ℕ → ℕ → X) (s p : ℕ) (y : X) (t q : ℕ)
     → ((t ≡ s) × (q ≡ p) × (at_place f s p y t q ≡ y)) ⊎ (((t ≡ s) × (q ≡ p) → ⊥) × (at_place f s p y t q ≡ f t q))
-place_cases f s p y t q = elim (cases_Bool (eqb t s && eqb q p)) [
-  | inl e ↦ (let b = and_parts (eqb t s) (eqb q p) e in
-      inl (eqb-true t s b.0, eqb-true q p b.1, cond_true (eqb t s && eqb q p) y (f t q) e))
-  | inr e ↦ inr (
-    (λ h. true≢false (sym (and_from (eqb t s) (eqb q p) (eq-eqb t s h.0) (eq-eqb q p h.1)) ∙ e)),
-    cond_false (eqb t s && eqb q p) y (f t q) e,
-  )
-]
+place_cases f s p y t q = grind arith
 
 place_at : (s p t q : ℕ) → s ≡ t → p ≡ q → ◌≡◌ {A = Option Place} (Some (record { system = s; port = p })) (Some (record { system = t; port = q }))
 place_at s p t q e h i = Some (record { system = e i; port = h i })

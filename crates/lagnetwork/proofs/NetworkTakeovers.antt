@@ -60,21 +60,10 @@ succeeds_itself x w i s on = record {
 }
 
 pub may_succeed_itself : (x : NetworkSetup) (w : Network) → AllFine x w → MaySucceedItself x w
-may_succeed_itself x w i s setup alike on = (
-  record w {
-    view = at_system w.view s (w.view s);
-    moved = at_system w.moved s (λ p. moved_again (w.moved s p) ((w.view s).port p) ((w.view s).port p));
-  },
-  (alike, succeeds_itself x w i s on, refl),
-)
+may_succeed_itself x w i s setup alike on = grind (arith, at_system, moved_again, succeeds_itself)
 
 pub first_markers_are_alike : (x : NetworkSetup) → IsNetworkSetup x → FirstMarkersAreAlike x
-first_markers_are_alike x f s n = record {
-  setup = record { system = (f.setup s).system; number = (f.setup s).number };
-  system = refl;
-  key = λ g. refl;
-  ports = λ p. refl;
-}
+first_markers_are_alike x f s n = grind arith
 
 -- restarts
 

@@ -3,10 +3,10 @@ use Rattle.lagnetwork.proofs.Common.{Bool, List, None, Option, Some, [], ap, ari
 use Rattle.lagnetwork.proofs.Common.{◌∙◌, ◌∷◌, ◌≡◌, ◌≢◌, false≢true, none-some, same_Some, SystemId, Party, Announce, Answered, Become, Desynchronize}
 use Rattle.lagnetwork.proofs.Common.{Distribute, Flow, Join, Leave, Mark, Move, Port, Respond, Send, Take, Want, pair_at, port_after, view_after}
 use Rattle.lagnetwork.proofs.Common.{Lacp, LacpMessage, Marker, ModelCall, PortFacts, Receive, Response, SystemSetup, View, at_port, first_port}
-use Rattle.lagnetwork.proofs.Common.{first_view, is_restart, zero_party, party_at, chosen, mapped_some, changed_port, party_moved, AllNetworkMoves}
-use Rattle.lagnetwork.proofs.Common.{IsNetworkSetup, Network, NetworkCall, NetworkEvent, NetworkHappens, NetworkSetup, Place, at_system}
-use Rattle.lagnetwork.proofs.Common.{first_network, handed_up_from, network_after, network_after_all, recabled, with_cable_moved, without_first}
-use Rattle.lagnetwork.proofs.Common.{EndsMeetAfterMove, OneAggregatorReachesTwo}
+use Rattle.lagnetwork.proofs.Common.{first_view, is_restart, zero_party, party_at, chosen, party_moved, AllNetworkMoves, IsNetworkSetup, Network}
+use Rattle.lagnetwork.proofs.Common.{NetworkCall, NetworkEvent, NetworkHappens, NetworkSetup, Place, at_system, first_network, handed_up_from}
+use Rattle.lagnetwork.proofs.Common.{network_after, network_after_all, recabled, with_cable_moved, without_first, EndsMeetAfterMove}
+use Rattle.lagnetwork.proofs.Common.{OneAggregatorReachesTwo}
 use Rattle.lagtypes.specs.Group.{SamePair, Pair}
 use Rattle.lagnetwork.proofs.Networks.{there, elsewhere, is_or_not}
 
@@ -166,16 +166,11 @@ abbrev Outside : (ℕ → Option PortFacts) → Type 0
 Outside ports = (q : ℕ) (b : PortFacts) → ports q ≡ Some b → b.aggregator ≢ Some 1
 
 outside_first : (n : ℕ) → Outside (first_view (setup_of n)).port
-outside_first n q b h e =
-    let m = mapped_some first_port (cond (eqb q 1) (Some (party_of n 1)) (cond (eqb q 2) (Some (party_of n 2)) None)) b h in
-    none-some 1 (ap (λ (a : PortFacts). a.aggregator) m.2 ∙ e)
+outside_first n q b h e = grind arith
 
 outside_kept : (ports : ℕ → Option PortFacts) (p : ℕ) (a : PortFacts) (f : PortFacts → PortFacts) → ports p ≡ Some a
     → ((f a).aggregator ≡ Some 1 → ⊥) → Outside ports → Outside (at_port ports p f)
-outside_kept ports p a f h n i q b hb e = elim (changed_port ports p q f a b h hb) [
-  | inl x ↦ n (ap (λ (b : PortFacts). b.aggregator) x.1 ∙ e)
-  | inr x ↦ i q b x.1 e
-]
+outside_kept ports p a f h n i q b hb e = grind arith
 
 -- those that are in the aggregator have this group
 abbrev Alike : Pair → (ℕ → Option PortFacts) → Type 0
@@ -183,10 +178,7 @@ Alike g ports = (q : ℕ) (b : PortFacts) → ports q ≡ Some b → b.aggregato
 
 alike_kept : (g : Pair) (ports : ℕ → Option PortFacts) (p : ℕ) (a : PortFacts) (f : PortFacts → PortFacts) → ports p ≡ Some a
     → ((f a).aggregator ≡ Some 1 → SamePair (pair_at (f a)) g) → Alike g ports → Alike g (at_port ports p f)
-alike_kept g ports p a f h n i q b hb e = elim (changed_port ports p q f a b h hb) [
-  | inl x ↦ subst (λ (b : PortFacts). SamePair (pair_at b) g) x.1 (n (ap (λ (b : PortFacts). b.aggregator) x.1 ∙ e))
-  | inr x ↦ i q b x.1 e
-]
+alike_kept g ports p a f h n i q b hb e = grind arith
 
 ne₁ : (n q r : ℕ) → (party_of 2 q).system ≢ (party_of 1 r).system
 ne₁ n q r e = let h : ◌≡◌ {A = ℕ} 2 1 = ap (λ (s : SystemId). s.priority) e in absurd (omega (arith, h))
@@ -352,62 +344,7 @@ e₂₀ : NetworkHappens x₀ (NetworkEvent.Deliver 3 2) w₁₉ w₂₀
 e₂₀ = (Some 1, next 3 0 [] w₁₉, made x₀ 3 (Receive 2 None) 0 [] w₁₉ refl (not_receive 2 None) tt, refl)
 
 fixed₀ : IsNetworkSetup x₀
-fixed₀ = record {
-  setup = λ s. record { system = λ p a h. party_system (priority_of s) p a h; number = λ p a h. party_number (priority_of s) p a h };
-  cables = cabled;
-}
-  where
-    party_system : (n p : ℕ) (a : Party) → (setup_of n).party p ≡ Some a → a.system ≡ (setup_of n).system
-    party_system n p a h = elim (chosen (eqb p 1) (Some (party_of n 1)) (cond (eqb p 2) (Some (party_of n 2)) None) (Some a) h) [
-      | inl y ↦ ap (λ (a : Party). a.system) (sym (same_Some (party_of n 1) a y.1))
-      | inr y ↦ elim (chosen (eqb p 2) (Some (party_of n 2)) None (Some a) y.1) [
-        | inl z ↦ ap (λ (a : Party). a.system) (sym (same_Some (party_of n 2) a z.1))
-        | inr z ↦ absurd (none-some a z.1)
-      ]
-    ]
-
-    party_number : (n p : ℕ) (a : Party) → (setup_of n).party p ≡ Some a → a.port.number ≡ p
-    party_number n p a h = elim (chosen (eqb p 1) (Some (party_of n 1)) (cond (eqb p 2) (Some (party_of n 2)) None) (Some a) h) [
-      | inl y ↦ ap (λ (a : Party). a.port.number) (sym (same_Some (party_of n 1) a y.1)) ∙ sym (eqb-true p 1 y.0)
-      | inr y ↦ elim (chosen (eqb p 2) (Some (party_of n 2)) None (Some a) y.1) [
-        | inl z ↦ ap (λ (a : Party). a.port.number) (sym (same_Some (party_of n 2) a z.1)) ∙ sym (eqb-true p 2 z.0)
-        | inr z ↦ absurd (none-some a z.1)
-      ]
-    ]
-
-    -- the two ends that are joined, in either order
-    joined : (s p t q : ℕ) (a b c d : ℕ) → far_of c d ≡ Some (place a b) → s ≡ a → p ≡ b → Some (place c d) ≡ Some (place t q)
-        → far_of t q ≡ Some (place s p)
-    joined s p t q a b c d back es ep h =
-        let m : place c d ≡ place t q = same_Some (place c d) (place t q) h in
-        subst (λ t. far_of t q ≡ Some (place s p)) (ap (λ (y : Place). y.system) m)
-        (subst (λ q. far_of c q ≡ Some (place s p)) (ap (λ (y : Place). y.port) m)
-        (subst (λ s. far_of c d ≡ Some (place s p)) (sym es) (subst (λ p. far_of c d ≡ Some (place a p)) (sym ep) back)))
-
-    cabled : (s p t q : ℕ) → far_of s p ≡ Some (place t q) → far_of t q ≡ Some (place s p)
-    cabled s p t q h = elim (chosen (eqb s 1) _ _ (Some (place t q)) h) [
-      | inl y ↦ elim (chosen (eqb p 1) (Some (place 2 1)) (cond (eqb p 2) (Some (place 3 2)) None) (Some (place t q)) y.1) [
-        | inl z ↦ joined s p t q 1 1 2 1 refl (eqb-true s 1 y.0) (eqb-true p 1 z.0) z.1
-        | inr z ↦ elim (chosen (eqb p 2) (Some (place 3 2)) None (Some (place t q)) z.1) [
-          | inl u ↦ joined s p t q 1 2 3 2 refl (eqb-true s 1 y.0) (eqb-true p 2 u.0) u.1
-          | inr u ↦ absurd (none-some (place t q) u.1)
-        ]
-      ]
-      | inr y ↦ elim (chosen (eqb s 2) (cond (eqb p 1) (Some (place 1 1)) None)
-          (cond (eqb s 3) (cond (eqb p 2) (Some (place 1 2)) None) None) (Some (place t q)) y.1) [
-            | inl z ↦ elim (chosen (eqb p 1) (Some (place 1 1)) None (Some (place t q)) z.1) [
-              | inl u ↦ joined s p t q 2 1 1 1 refl (eqb-true s 2 z.0) (eqb-true p 1 u.0) u.1
-              | inr u ↦ absurd (none-some (place t q) u.1)
-            ]
-            | inr z ↦ elim (chosen (eqb s 3) (cond (eqb p 2) (Some (place 1 2)) None) None (Some (place t q)) z.1) [
-              | inl u ↦ elim (chosen (eqb p 2) (Some (place 1 2)) None (Some (place t q)) u.1) [
-                | inl v ↦ joined s p t q 3 2 1 2 refl (eqb-true s 3 u.0) (eqb-true p 2 v.0) v.1
-                | inr v ↦ absurd (none-some (place t q) v.1)
-              ]
-              | inr u ↦ absurd (none-some (place t q) u.1)
-            ]
-          ]
-    ]
+fixed₀ = grind (arith, priority_of, setup_of, chosen, eqb, party_of, same_Some, none-some, eqb-true, far_of, place)
 
 -- port q, which names the same port of the other system, carries
 abbrev up : ℕ → ℕ → ℕ → PortFacts
@@ -516,17 +453,11 @@ OutsideBut p ports = (q : ℕ) (b : PortFacts) → (q ≡ p → ⊥) → ports q
 
 but_kept : (ports : ℕ → Option PortFacts) (p : ℕ) (a : PortFacts) (f : PortFacts → PortFacts) → ports p ≡ Some a → OutsideBut p ports
     → OutsideBut p (at_port ports p f)
-but_kept ports p a f h i q b ne hb e = elim (changed_port ports p q f a b h hb) [
-  | inl x ↦ ne x.0
-  | inr x ↦ i q b ne x.1 e
-]
+but_kept ports p a f h i q b ne hb e = grind arith
 
 but_left : (ports : ℕ → Option PortFacts) (p : ℕ) (a : PortFacts) → ports p ≡ Some a → OutsideBut p ports
     → Outside (at_port ports p (port_after Leave))
-but_left ports p a h i q b hb e = elim (changed_port ports p q (port_after Leave) a b h hb) [
-  | inl x ↦ none-some 1 (ap (λ (b : PortFacts). b.aggregator) x.1 ∙ e)
-  | inr x ↦ i q b x.0 x.1 e
-]
+but_left ports p a h i q b hb e = grind arith
 
 -- the cable of port 1 of the first system is taken out, and then put in at the third
 abbrev x₁ : NetworkSetup

@@ -1,14 +1,14 @@
 -- What every event of any number of systems preserves.
-use Rattle.lagnetwork.proofs.Common.{Bool, IsSome, IsSomeAnd, List, None, Option, Some, [], ap, eq-eqb, eqb, eqb-true, false, inl, inr, length}
-use Rattle.lagnetwork.proofs.Common.{option_map, refl, subst, suc, sym, true, ℕ, ◌∙◌, ◌∷◌, ◌≡◌, ◌≢◌, ◌⊎◌, cases_Bool, eqb-false, true≢false}
-use Rattle.lagnetwork.proofs.Common.{same_Some, Party, Members, Announce, Become, Default, DistributorMove, Flow, Join, Leave, Mark, Move}
-use Rattle.lagnetwork.proofs.Common.{MoveAllowed, Port, PortAllowed, PortMove, Reconfigure, Respond, Restart, Send, Take, act, act_of_port}
-use Rattle.lagnetwork.proofs.Common.{distributor_act, port_after, view_after, Lacp, Marker, ModelCall, PortFacts, Response, SystemSetup, View}
-use Rattle.lagnetwork.proofs.Common.{at_port, first_port, first_view, is_restart, replies_frame, Control, Data, Message, One, TakenLacpdu, at_two}
-use Rattle.lagnetwork.proofs.Common.{on_cable_after, party_at, sent_after, taken_after, cond_false, cond_true, mapped_some, none-is_some, value_of}
-use Rattle.lagnetwork.proofs.Common.{Within, lanes_forced, lanes_own, lanes_peer, Lanes, Every, changed_port, AllHeard, Fresh, FreshPdu, Stamps}
-use Rattle.lagnetwork.proofs.Common.{heard_own, parties_kept, stamps_counted, stamps_own, AllNetworkMoves, IsNetworkSetup, Network, NetworkCall}
-use Rattle.lagnetwork.proofs.Common.{NetworkSetup, Place, also_forced, at_system, freed_view, network_after, network_after_all, source_after}
+use Rattle.lagnetwork.proofs.Common.{Bool, IsSome, IsSomeAnd, List, None, Option, Some, [], ap, eq-eqb, eqb, eqb-true, false, inl, inr, option_map}
+use Rattle.lagnetwork.proofs.Common.{refl, subst, suc, sym, true, ℕ, ◌∙◌, ◌∷◌, ◌≡◌, ◌≢◌, ◌⊎◌, cases_Bool, eqb-false, true≢false, same_Some, Party}
+use Rattle.lagnetwork.proofs.Common.{Members, DistributorMove, Flow, Move, MoveAllowed, Port, PortAllowed, PortMove, Restart, Send, Take, act}
+use Rattle.lagnetwork.proofs.Common.{act_of_port, distributor_act, port_after, view_after, Lacp, ModelCall, PortFacts, SystemSetup, View, at_port}
+use Rattle.lagnetwork.proofs.Common.{first_view, is_restart, replies_frame, Control, Message, One, TakenLacpdu, at_two, on_cable_after, party_at}
+use Rattle.lagnetwork.proofs.Common.{sent_after, taken_after, cond_false, cond_true, value_of, Within, lanes_forced, lanes_own, lanes_peer, Lanes}
+use Rattle.lagnetwork.proofs.Common.{Every, AllHeard, Fresh, FreshPdu, Stamps, heard_own, parties_kept, stamps_counted, stamps_own, AllNetworkMoves}
+use Rattle.lagnetwork.proofs.Common.{IsNetworkSetup, Network, NetworkCall, NetworkSetup, Place, also_forced, at_system, freed_view, network_after}
+use Rattle.lagnetwork.proofs.Common.{network_after_all, source_after}
+use native.Mathlib.Omega.{arith}
 use Rattle.lagnetwork.proofs.NetworkLines.{some-port_in, ends_of, theirs_of, out_of, SeenAlike, own_after, other_after, back_after, BeginsWith}
 use Rattle.lagnetwork.proofs.NetworkLines.{begins_after, Amid, within_own, within_far, IsLess, lanes_less, lanes_freed, stamps_less, every_less}
 use Rattle.lagnetwork.proofs.NetworkLines.{IsOwn, NamesSender, names_put}
@@ -18,65 +18,23 @@ use Rattle.lagmodel.proofs.Worlds.{members_own}
 abbrev pub Apart : (ℕ → Option PortFacts) → Type 0
 Apart ports = (p : ℕ) (a : PortFacts) → ports p ≡ Some a → IsSome a.aggregator → a.partner.system ≢ a.party.system
 
-apart_changed : (ports : ℕ → Option PortFacts) (p : ℕ) (f : PortFacts → PortFacts) (a : PortFacts) → ports p ≡ Some a
-    → (IsSome (f a).aggregator → (f a).partner.system ≢ (f a).party.system) → Apart ports → Apart (at_port ports p f)
-apart_changed ports p f a h n i q b hb = elim (changed_port ports p q f a b h hb) [
-  | inl x ↦ subst (λ (b : PortFacts). IsSome b.aggregator → b.partner.system ≢ b.party.system) x.1 n
-  | inr x ↦ i q b x.1
-]
-
 apart_port : (u : SystemSetup) (call : ModelCall) (ports : ℕ → Option PortFacts) (p : ℕ) (m : PortMove) (a : PortFacts) → ports p ≡ Some a
     → PortAllowed u call ports p m a → Apart ports → Apart (at_port ports p (port_after m))
-apart_port u call ports p Leave a h x i = apart_changed ports p (port_after Leave) a h (λ s. absurd (none-is_some {A = ℕ} None refl s)) i
-apart_port u call ports p (Reconfigure party) a h x i = apart_changed ports p (port_after (Reconfigure party)) a h
-    (λ s. absurd (none-is_some a.aggregator x.1 s)) i
-apart_port u call ports p Default a h x i = apart_changed ports p (port_after Default) a h
-    (λ s. elim x [
-      | inl none ↦ absurd (none-is_some a.aggregator none s)
-      | inr zero ↦ subst (λ (y : Party). y.system ≢ a.party.system) zero (i p a h s)
-    ]) i
-apart_port u call ports p (Take pdu synchronized) a h x i = apart_changed ports p (port_after (Take pdu synchronized)) a h
-    (λ s. elim x.1 [
-      | inl same ↦ subst (λ (y : Party). y.system ≢ a.party.system) (sym same) (i p a h s)
-      | inr none ↦ absurd (none-is_some a.aggregator none s)
-    ]) i
-apart_port u call ports p (Join g) a h x i = apart_changed ports p (port_after (Join g)) a h (λ s. x.1) i
-apart_port u call ports p m a h x i = apart_changed ports p (port_after m) a h (i p a h) i
+apart_port u call ports p m a h x i = grind arith
 
 apart_own : (u : SystemSetup) (call : ModelCall) (v : View) (m : Move) → MoveAllowed u call v m → is_restart call ≡ false → Apart v.port
     → Apart ((view_after u m v).port)
-apart_own u call v (Port p m) x r i = let s = value_of (v.port p) (PortAllowed u call v.port p m) x in
-    apart_port u call v.port p m s.0 s.1 s.2 i
-apart_own u call v (Flow m) x r i = i
-apart_own u call v Restart x r i = absurd (true≢false (sym x ∙ r))
+apart_own u call v m x r i = grind (arith, value_of, apart_port)
 
 pub apart_first : (u : SystemSetup) → Apart (first_view u).port
-apart_first u p a h s = let m = mapped_some first_port (u.party p) a h in
-    absurd (none-is_some a.aggregator (ap (λ (a : PortFacts). a.aggregator) (sym m.2)) s)
+apart_first u p a h s = grind arith
 
 -- what a system sends names it and the port
 names_own : (x : NetworkSetup) (r : ℕ) (call : ModelCall) (v : View) (m : Move) (out : ℕ → List Message) (whole : ℕ → Bool) (count : ℕ → ℕ)
     (sent : ℕ → ℕ → List ℕ) (kept : Bool) → MoveAllowed (x.setup r) call v m → Members (x.setup r) v.port
     → ((c : ℕ) → Every (NamesSender (x.setup r).system c) (out c)) → (c : ℕ)
     → Every (NamesSender (x.setup r).system c) (on_cable_after One (ends_of x r) whole count sent kept (act (x.setup r) m v) out c)
-names_own x r call v (Port p m) out whole count sent kept a members i = go m (v.port p) refl
-  where
-    go : (m : PortMove) (o : Option PortFacts) → v.port p ≡ o → (c : ℕ)
-        → Every (NamesSender (x.setup r).system c) (on_cable_after One (ends_of x r) whole count sent kept (act_of_port p m o) out c)
-    go m None e = i
-    go (Announce synchronized) (Some a) e = names_put x r (x.setup r).system whole kept p
-        (Control (Lacp (record { actor = a.party; partner = a.partner; synchronized = synchronized })) (count p)) out
-        (members.own p a e, members.number p a e) i
-    go (Respond mac q n) (Some a) e = names_put x r (x.setup r).system whole kept p (Control (Response mac q n) 0) out tt i
-    go m (Some a) e = i
-names_own x r call v (Flow m) out whole count sent kept a members i = go m
-  where
-    go : (m : DistributorMove) → (c : ℕ) → Every (NamesSender (x.setup r).system c)
-        (on_cable_after One (ends_of x r) whole count sent kept (distributor_act (x.setup r).system.mac m v.flows) out c)
-    go (Send g k p) = names_put x r (x.setup r).system whole kept p (Data One g k (length (sent g k))) out tt i
-    go (Mark p) = names_put x r (x.setup r).system whole kept p (Control (Marker (x.setup r).system.mac p v.flows.next) 0) out tt i
-    go (Become g k m) = i
-names_own x r call v Restart out whole count sent kept a members i = i
+names_own x r call v m out whole count sent kept a members i = grind (arith, on_cable_after, ends_of, act_of_port, names_put, distributor_act)
 
 -- What ports of a system took last from port c of system r names that, and its Actor is as that is now, if it did not change since.
 abbrev pub Last : NetworkSetup → ℕ → (ℕ → Option Party) → (ℕ → ℕ) → (ℕ → Option TakenLacpdu) → (ℕ → Option Place) → Type 0
@@ -123,12 +81,7 @@ last_counted : (x : NetworkSetup) (r : ℕ) (was is : ℕ → Option Party) (old
     → Last x r was old taken source → Last x r is new taken source
 last_counted x r was is old new taken source h i p c l e t =
     let f = i p c l e t in
-    let one : Stamps (λ d. Some c) (λ d. Some p) was old (λ d. []) taken = record {
-      flight = λ d q g. tt;
-      last = λ d q n m g k b. subst (λ q. FreshPdu (old q) (was q) m.pdu m.stamp) (same_Some c q g)
-          (subst (λ (m : TakenLacpdu). FreshPdu (old c) (was c) m.pdu m.stamp) (same_Some l m (sym t ∙ ap taken (same_Some p n k) ∙ b)) f.0);
-    } in
-    ((stamps_counted (λ d. Some c) (λ d. Some p) was is old new (λ d. []) taken h one).last c c p l refl refl t, f.1)
+    grind (arith, same_Some, stamps_counted)
 
 -- what holds of system r: out is what is on the cable of each of its ports, away from it, back what is on it towards it
 pub record Fine (x : NetworkSetup) (r : ℕ) (v : View) (party : ℕ → Option Party) (count : ℕ → ℕ) (out back : ℕ → List Message)
@@ -158,12 +111,7 @@ pub fine_along : (x : NetworkSetup) (r : ℕ) (party : ℕ → Option Party) (co
     → v ≡ v' → out ≡ out' → back ≡ back' → sent ≡ sent' → mine ≡ mine'
     → Fine x r v party count out back whole sent collected forced mine taken source
     → Fine x r v' party count out' back' whole sent' collected forced mine' taken source
-fine_along x r party count whole collected forced v v' out out' back back' sent sent' mine mine' taken source a b c d e f =
-    subst (λ (v : View). Fine x r v party count out' back' whole sent' collected forced mine' taken source) a
-    (subst (λ (out : ℕ → List Message). Fine x r v party count out back' whole sent' collected forced mine' taken source) b
-    (subst (λ (back : ℕ → List Message). Fine x r v party count out back whole sent' collected forced mine' taken source) c
-    (subst (λ (sent : ℕ → ℕ → List ℕ). Fine x r v party count out back whole sent collected forced mine' taken source) d
-    (subst (λ (mine : ℕ → Option TakenLacpdu). Fine x r v party count out back whole sent collected forced mine taken source) e f))))
+fine_along x r party count whole collected forced v v' out out' back back' sent sent' mine mine' taken source a b c d e f = grind arith
 
 module _ {x : NetworkSetup} {r : ℕ} {v : View} {party : ℕ → Option Party} {count : ℕ → ℕ} {out back : ℕ → List Message} {whole : ℕ → Bool}
     {sent collected : ℕ → ℕ → List ℕ} {forced : ℕ → ℕ → Bool} {mine : ℕ → Option TakenLacpdu} {taken : ℕ → ℕ → Option TakenLacpdu}

@@ -77,8 +77,7 @@ none_wanted p t none g k l m n =
     let row = none_below (λ a. sum_below (λ c. cond (wants_marker p (assignment_of t (a + 1) c)) 1 0) t.conversations) t.aggs (g - 1)
     (omega (arith, l, m)) none in
     let bit = none_below (λ c. cond (wants_marker p (assignment_of t (g - 1 + 1) c)) 1 0) t.conversations k n row in
-    let here : g - 1 + 1 ≡ g = omega (arith, l) in
-    subst (λ x. wants_marker p (assignment_of t x k) ≡ false) here (no_bit (wants_marker p (assignment_of t (g - 1 + 1) k)) _ refl bit)
+    grind (arith, nat_tests, wants_marker, assignment_of, no_bit)
 
 pub not_wanted : (p m : ℕ) (W : Type 0) (F : ℕ → Type 0) (a : Assignment) → wants_marker p a ≡ false → Fine p m W F a → Fine p m ⊥ F a
 not_wanted p m W F a e h = grind (arith, nat_tests)

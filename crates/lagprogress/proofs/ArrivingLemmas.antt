@@ -1,11 +1,11 @@
 -- How a data frame gets a port, and how it is handed up at the other end of its cable.
-use Rattle.lagprogress.proofs.Common.{Err, List, None, Ok, Result, Some, ap, arith, refl, slice_get, subst, sym, true, ℕ, ◌∙◌, ◌≡◌, and_parts}
-use Rattle.lagprogress.proofs.Common.{nat_tests, none-some, same_Some, AggId, One, Side, Two, value_of, Assignment, On, DistFault, Assigns, MaySend}
-use Rattle.lagprogress.proofs.Common.{is_among, SystemFault, Received, Up, SystemPort, Data_frame, IsFrame, Offer, ReceivesAt, Step, MayBeOffered}
-use Rattle.lagprogress.proofs.Common.{RefusesOffer, assignment_of_frame, collecting, distributing, number_of_conversation, IsSound, SystemState}
-use Rattle.lagprogress.proofs.Common.{port_index, effect_one, Reply, AfterOffer, AfterReceive, Algorithms, WorldReceives, offered_item}
-use Rattle.lagprogress.proofs.Common.{with_frame_counted, with_link_at, HalfState, ItemValue, LinkState, WorldState, half, port_at, with_half}
-use Rattle.lagprogress.proofs.Common.{with_towards, half_there, DeliverHandsUp, GetsPort, IsHandedUp, OfferGetsPort, TakesFrame, held_on, EndIsUp}
+use Rattle.lagprogress.proofs.Common.{Err, List, None, Ok, Result, Some, ap, arith, refl, slice_get, subst, true, ℕ, ◌∙◌, ◌≡◌, and_parts, nat_tests}
+use Rattle.lagprogress.proofs.Common.{same_Some, AggId, One, Side, Two, value_of, Assignment, On, DistFault, Assigns, MaySend, is_among, SystemFault}
+use Rattle.lagprogress.proofs.Common.{Received, Up, SystemPort, Data_frame, IsFrame, Offer, ReceivesAt, Step, MayBeOffered, RefusesOffer}
+use Rattle.lagprogress.proofs.Common.{assignment_of_frame, collecting, distributing, number_of_conversation, IsSound, SystemState, port_index}
+use Rattle.lagprogress.proofs.Common.{effect_one, Reply, AfterOffer, AfterReceive, Algorithms, WorldReceives, offered_item, with_frame_counted}
+use Rattle.lagprogress.proofs.Common.{with_link_at, HalfState, ItemValue, LinkState, WorldState, half, port_at, with_half, with_towards, half_there}
+use Rattle.lagprogress.proofs.Common.{DeliverHandsUp, GetsPort, IsHandedUp, OfferGetsPort, TakesFrame, held_on, EndIsUp}
 use Rattle.lagprogress.proofs.Passing.{first_delivered}
 use Rattle.lagsystem.specs.declared.drive.Reply.TheVariants as answer
 use Rattle.lagsystem.proofs.Conversing.{assigned_may}
@@ -42,8 +42,7 @@ offered : (gives : Algorithms) (s : Side) (agg : AggId) (octets : List ℕ) (a :
     (r : Reply) → IsSound (half s old).state → TakesFrame agg octets (half s old).state
     → Step (gives s) (half s old).state (Offer agg octets) (answer.Offer a) mid.state → AfterOffer s agg octets a (with_half s mid old) r (record new { acted = old.acted })
     → GetsPort s agg octets old r new
-offered gives s agg octets (Err fault) old new mid r sound takes h after =
-    absurd (not_refused (gives s) agg octets (half s old).state fault takes h.0)
+offered gives s agg octets (Err fault) old new mid r sound takes h after = grind (arith, nat_tests)
 offered gives s agg octets (Ok port) old new mid r sound takes h after =
     let st = (half s old).state in
     let conv = number_of_conversation st octets in
@@ -77,8 +76,7 @@ receives_data n k x octets agg old o new place there up plain collects h = grind
 handed : (gives : Algorithms) (s : Side) (i k : ℕ) (l : LinkState) (x : SystemPort) (agg : AggId) (item : ItemValue) (rest : List ItemValue)
     (r : Reply) (old new : WorldState) → EndIsUp s l k x old → IsFrame item.octets Data_frame → collecting x.port ≡ Some agg
     → WorldReceives gives s (port_at s l) item (with_link_at i (with_towards s rest l) old) r new → IsHandedUp s i l agg rest old r new
-handed gives s i k l x agg item rest r old new end plain collects (Err fault, mid, h, after) =
-    absurd (none-some k (sym h.answers.step.cause ∙ end.place))
+handed gives s i k l x agg item rest r old new end plain collects (Err fault, mid, h, after) = grind (arith, nat_tests)
 handed gives s i k l x agg item rest r old new end plain collects (Ok o, mid, h, after) =
     let took = receives_data (port_at s l) k x item.octets agg (half s old).state o mid.state end.place end.there end.up plain collects
     h.answers.step in

@@ -99,8 +99,7 @@ holds_there Holds old cabling i l h it =
     let here : end_at (map link_ends old.links) One (suc it.index) ≡ Some (port_at One l) =
     end_is One old.links it.index it.link it.healthy.there ∙ ap (λ (n : ℕ). Some n) joins in
     let place : suc it.index ≡ suc i = cabling One (suc it.index) (suc i) (port_at One l) here (end_is One old.links i l h.there) in
-    let same : it.index ≡ i = omega (arith, place) in
-    subst (λ m. Holds m old) (same_Some it.link l (sym it.healthy.there ∙ (ap (slice_get old.links) same ∙ h.there))) it.holds
+    grind (arith, nat_tests, same_Some, slice_get)
 
 pub heard_holds : (Holds : LinkState → WorldState → Type 0) (old : WorldState) → IsCabling (world_setup old).cables → AllHeard Holds old
     → (i : ℕ) (l : LinkState) → IsHealthyAt i l old → Holds l old

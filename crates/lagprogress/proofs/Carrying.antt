@@ -1,25 +1,21 @@
 -- The link of each port that carries a conversation, or on which one is held, is up.
-use Rattle.lagprogress.proofs.Common.{Bool, Err, List, None, Ok, Option, Result, Some, [], ap, arith, eqb, false, if◌then◌else◌, inl, inr, length}
-use Rattle.lagprogress.proofs.Common.{not, refl, subst, sym, true, ℕ, ◌&&◌, ◌==◌, ◌||◌, ◌∙◌, ◌∷◌, ◌≡◌, ◌⊎◌, and_parts, nat_tests, none-some}
+use Rattle.lagprogress.proofs.Common.{Bool, Err, List, None, Ok, Option, Result, Some, [], ap, arith, false, if◌then◌else◌, inl, inr, length, not}
+use Rattle.lagprogress.proofs.Common.{refl, subst, sym, true, ℕ, ◌&&◌, ◌==◌, ◌||◌, ◌∙◌, ◌∷◌, ◌≡◌, ◌⊎◌, and_parts, nat_tests, none-some}
 use Rattle.lagprogress.proofs.Common.{slice_get_cases, slice_get_within, AggId, Choice, State, StateBits, bits_of, with_synchronization}
 use Rattle.lagprogress.proofs.Common.{encode_then_decode, Side, peer, CollectingDistributing, Setup, ReceiveState, PortDisabled, Machines}
 use Rattle.lagprogress.proofs.Common.{partner_synchronized, same_mux_state, selected, lacpdu_rows, receive_rows, same_receive_state, start_receive}
-use Rattle.lagprogress.proofs.Common.{Starts, before_start, count_down, has_chosen, Assignment, Free, On, DistFault, force_result, is_among}
-use Rattle.lagprogress.proofs.Common.{leave_result, move_result, after_down, after_mark, Table, assignment_of, next_identifier, Config, HostCall}
-use Rattle.lagprogress.proofs.Common.{HostReply, Answer, SystemFault, SystemPort, OffersIf, Call, Configure, Force, FreesIfDown, Move_conversation}
-use Rattle.lagprogress.proofs.Common.{Offer, Receive, Restart, Set_link, Step, Tick, Transmit, changed_party, choice_with_link, call_of, IsFirst}
-use Rattle.lagprogress.proofs.Common.{configured_numbers, HostPromise, none_enabled, MuxIsSettled, GivesOrRefuses, in_system, system_force_result}
-use Rattle.lagprogress.proofs.Common.{system_move_result, ProbesAt, ProbesIf, aggregator_numbered, distributing, SendsMarkerOf, SetsPort, Setting}
-use Rattle.lagprogress.proofs.Common.{SettingPromise, SettingStep, Settling, IsSound, SystemState, port_index, port_numbers, TableAlone, host_alone}
-use Rattle.lagprogress.proofs.Common.{Step-frame, rests, all-get, ports_rise, setting_sound, Step-sound, first_sound, Algorithms, AreFirst, IsStart}
-use Rattle.lagprogress.proofs.Common.{WorldState, half, HostEvent, HostRuns, HostSteps, Plays, Sets, KeptByCall, KeptBySettling, OfEach, Step-each}
-use Rattle.lagprogress.proofs.Common.{first_each, no, forces_port, AtPort, at_number, calls_each, same_place, settling_leaves, Turns, asks_turn}
-use Rattle.lagprogress.proofs.Common.{comes_turn, gives_turn, same_turns, settles_turn, ticks_turn, turns_by, turns_through, RowsKeep, fires_keep}
-use Rattle.lagprogress.proofs.Common.{runs_keep, setting_each, EachHostReachedHasUnsynchronized, EachHostReachedHasCarriersUp, HasPortUp, carrier_of}
-use Rattle.lagprogress.proofs.Common.{held_on}
-use Rattle.lagsystem.specs.Offers.{Offers}
+use Rattle.lagprogress.proofs.Common.{Starts, before_start, count_down, has_chosen, Assignment, Free, On, DistFault, is_among, leave_result, Table}
+use Rattle.lagprogress.proofs.Common.{assignment_of, next_identifier, Config, HostCall, HostReply, Answer, SystemFault, SystemPort, OffersIf, Call}
+use Rattle.lagprogress.proofs.Common.{Configure, Force, Move_conversation, Offer, Receive, Restart, Set_link, Step, Tick, Transmit, changed_party}
+use Rattle.lagprogress.proofs.Common.{choice_with_link, call_of, IsFirst, configured_numbers, HostPromise, none_enabled, GivesOrRefuses, in_system}
+use Rattle.lagprogress.proofs.Common.{ProbesAt, aggregator_numbered, distributing, SetsPort, Setting, SettingPromise, SettingStep, Settling, IsSound}
+use Rattle.lagprogress.proofs.Common.{SystemState, port_index, port_numbers, TableAlone, host_alone, Step-frame, rests, all-get, ports_rise}
+use Rattle.lagprogress.proofs.Common.{setting_sound, Step-sound, first_sound, Algorithms, AreFirst, IsStart, WorldState, half, HostEvent, HostRuns}
+use Rattle.lagprogress.proofs.Common.{HostSteps, Plays, Sets, KeptByCall, KeptBySettling, OfEach, Step-each, first_each, no, forces_port, AtPort}
+use Rattle.lagprogress.proofs.Common.{at_number, calls_each, same_place, settling_leaves, Turns, asks_turn, comes_turn, gives_turn, same_turns}
+use Rattle.lagprogress.proofs.Common.{settles_turn, turns_through, RowsKeep, fires_keep, runs_keep, setting_each, EachHostReachedHasUnsynchronized}
+use Rattle.lagprogress.proofs.Common.{EachHostReachedHasCarriersUp, HasPortUp, carrier_of, held_on}
 use Rattle.distributor.proofs.TableLemmas.{first_free}
-use Rattle.lagsystem.proofs.Steps.{forced_to, moved_to}
 use Rattle.lagbeside.specs.Heartbeat.{takes_down}
 use Rattle.lagsystem.specs.declared.drive.HostCall.TheVariants as host
 use Rattle.lagsystem.specs.declared.drive.HostReply.TheVariants as told
@@ -29,7 +25,7 @@ use Rattle.lagsystem.specs.Leaving.{system_leave_result, system_rest_result}
 use Rattle.portmachines.specs.Calls.{with_mode}
 use Rattle.lagsystem.specs.declared.drive.Reply.TheVariants as reply
 use Rattle.lagprogress.proofs.Answering.{among_port}
-use Rattle.lagprogress.proofs.Freeing.{carried_before, Stays, held_carries, stays}
+use Rattle.lagprogress.proofs.Freeing.{Stays, stays}
 use Rattle.lagprogress.proofs.Halves.{both_first, each_is_calls}
 use Rattle.lagprogress.proofs.Linked.{many, each_side}
 use Rattle.lagprogress.proofs.HostSteady.{IsBeside, aside, asked_by, caller, host_sound, setting_both}
@@ -78,12 +74,7 @@ must_be_up e d sync chosen m r l i j = grind (arith, nat_tests)
 
 pub distributes_up : (s : SystemState) (agg : AggId) (p : ℕ) → IsSound s → OfEach LapsesAt s.system_ports
     → is_among (distributing agg s.system_ports) p ≡ true → HasPortUp p s
-distributes_up s agg p h lapses e =
-    let d = among_port agg s.system_ports p e in
-    let x = d.1 in
-    let mux = (all-get (MuxIsSettled s.keys s.system_ports) s.system_ports d.0 x d.2 h.quiet.0).mux in
-    let rest = rests receive_rows x.port (all-get (λ (c : SystemPort). none_enabled receive_rows c.port ≡ true) s.system_ports d.0 x d.2 h.rested.0) in
-    grind (arith, nat_tests, all-get, lapses, must_be_up, is_disabled, and_parts)
+distributes_up s agg p h lapses e = grind (arith, nat_tests, among_port, all-get, rests, receive_rows, none_enabled, must_be_up, is_disabled, and_parts)
 
 -- a call that does not take a link down leaves it up
 
@@ -142,60 +133,27 @@ HeldBefore call t u = (g k p : ℕ) → held_on (assignment_of u g k) ≡ Some p
     → (carrier_of (assignment_of t g k) ≡ Some p) × (takes_down p call ≡ false)
 
 by_stays : (call : Call) (t u : Table) → ((p : ℕ) → takes_down p call ≡ false) → Turns Stays stays t u → HeldBefore call t u
-by_stays call t u leaves h g k p e =
-    (carried_before (assignment_of t g k) (assignment_of u g k) p (h g k) (held_carries (assignment_of u g k) p e), leaves p)
-
-downed_before : (n p : ℕ) (a : Assignment) → carrier_of (after_down n a) ≡ Some p → (carrier_of a ≡ Some p) × (eqb p n ≡ false)
-downed_before n p a h = grind (arith, nat_tests)
-
-linked_before : (n : ℕ) (up : Bool) (old mid new : SystemState) → FreesIfDown up n old.table mid.table → Turns Stays stays mid.table new.table
-    → HeldBefore (Set_link n up) old.table new.table
-linked_before n up old mid new h k g c p e = grind (arith, nat_tests, carried_before, held_carries, downed_before)
-
-moved_stays : (next : Option ℕ) (ports : List ℕ) (to : ℕ) (a s : Assignment) → move_result next ports to a ≡ Ok s → Stays a s
-moved_stays next ports to a s h = grind (arith, nat_tests)
-
-forced_stays : (a s : Assignment) → force_result a ≡ Ok s → Stays a s
-forced_stays a s h = grind (arith, nat_tests)
-
-offered_before : (gives : ℕ → ℕ → ℕ → Type 0) (agg : AggId) (octets : List ℕ) (old : SystemState) (answer : Result ℕ SystemFault)
-    (new : SystemState) → Offers gives agg octets old answer new → HeldBefore (Offer agg octets) old.table new.table
-offered_before gives agg octets old answer new h = grind (arith, nat_tests)
+by_stays call t u leaves h g k p e = grind (arith, nat_tests)
 
 first_is_free : (s : SystemState) → IsFirst s → (g k : ℕ) → assignment_of s.table g k ≡ Free None
 first_is_free s h g k = ap (λ (t : Table). assignment_of t g k) h.3 ∙ first_free (length s.keys) s.conversations s.first_marker g k
 
 held_before : (gives : ℕ → ℕ → ℕ → Type 0) (old new : SystemState) (call : Call) (answer : Answer) → Step gives old call answer new
     → (new ≡ old) ⊎ HeldBefore call old.table new.table
-held_before gives old new Tick reply.Tick h = inr (
-    by_stays Tick old.table new.table (λ p. refl) (ticks_turn Stays stays gives old new h))
-held_before gives old new (Set_link n up) (reply.SetLink (Ok done)) h = inr (
-    linked_before n up old h.0 new h.1.1 (settles_turn Stays stays h.0 new h.2))
+held_before gives old new Tick reply.Tick h = grind (arith, nat_tests)
+held_before gives old new (Set_link n up) (reply.SetLink (Ok done)) h = grind (arith, nat_tests)
 held_before gives old new (Set_link n up) (reply.SetLink (Err fault)) h = inl h.same
 held_before gives old new (Receive n octets) (reply.Receive a) h = inr (
     by_stays (Receive n octets) old.table new.table (λ p. refl) (comes_turn Stays stays gives n octets a old new h))
-held_before gives old new (Configure n change) (reply.Configure (Ok true)) h = inr (
-    by_stays (Configure n change) old.table new.table (λ p. refl) (turns_through Stays stays old.table h.0.table new.table
-    (same_turns Stays stays old h.0 (ap (λ (s : SystemState). s.table) h.1.1)) (settles_turn Stays stays h.0 new h.2)))
-held_before gives old new (Configure n change) (reply.Configure (Ok false)) h = inr (
-    by_stays (Configure n change) old.table new.table (λ p. refl) (same_turns Stays stays old new (ap (λ (s : SystemState). s.table) h.1)))
-held_before gives old new (Configure n change) (reply.Configure (Err fault)) h = inr (
-    by_stays (Configure n change) old.table new.table (λ p. refl) (same_turns Stays stays old new (ap (λ (s : SystemState). s.table) h.same)))
-held_before gives old new Restart reply.Restart h = inr (
-    λ g k p e. absurd (none-some p (sym (ap held_on (first_is_free new h.1 g k)) ∙ e)))
+held_before gives old new (Configure n change) (reply.Configure (Ok true)) h = grind (arith, nat_tests)
+held_before gives old new (Configure n change) (reply.Configure (Ok false)) h = grind (arith, nat_tests)
+held_before gives old new (Configure n change) (reply.Configure (Err fault)) h = grind (arith, nat_tests)
+held_before gives old new Restart reply.Restart h = grind (arith, nat_tests, none-some, held_on, first_is_free)
 held_before gives old new (Transmit n) (reply.Transmit a) h = inr (
     by_stays (Transmit n) old.table new.table (λ p. refl) (asks_turn Stays stays gives n a old new h))
-held_before gives old new (Offer agg octets) (reply.Offer answer) h = inr (
-    offered_before gives agg octets old answer new h)
-held_before gives old new (Move_conversation agg conv port) (reply.MoveConversation answer) h = inr (
-    by_stays (Move_conversation agg conv port) old.table new.table (λ p. refl)
-    (gives_turn Stays stays agg conv (system_move_result old agg conv port) old answer new
-    (λ s x. moved_stays (next_identifier old.table) (distributing agg old.system_ports) port (assignment_of old.table agg.0 conv) s
-    (moved_to agg conv port old s x)) h))
-held_before gives old new (Force agg conv) (reply.Force answer) h = inr (
-    by_stays (Force agg conv) old.table new.table (λ p. refl)
-    (gives_turn Stays stays agg conv (system_force_result old agg conv) old answer new
-    (λ s x. forced_stays (assignment_of old.table agg.0 conv) s (forced_to agg conv old s x)) h))
+held_before gives old new (Offer agg octets) (reply.Offer answer) h = grind (arith, nat_tests)
+held_before gives old new (Move_conversation agg conv port) (reply.MoveConversation answer) h = grind (arith, nat_tests)
+held_before gives old new (Force agg conv) (reply.Force answer) h = grind (arith, nat_tests)
 held_before gives old new call answer h = absurd h
 
 -- the invariant
@@ -253,8 +211,7 @@ by_turns old new sound ports each held k = (
 
 stays_held : (old new : SystemState) → Turns Stays stays old.table new.table → (g k p : ℕ)
     → held_on (assignment_of new.table g k) ≡ Some p → carrier_of (assignment_of old.table g k) ≡ Some p
-stays_held old new h g k p e = carried_before (assignment_of old.table g k) (assignment_of new.table g k) p (h g k)
-    (held_carries (assignment_of new.table g k) p e)
+stays_held old new h g k p e = grind (arith, nat_tests)
 
 -- a setting
 
@@ -285,10 +242,7 @@ alone_keeps old new e sound held k = by_turns old new sound (ap (λ (s : SystemS
 offered_held : (there known : Bool) (gives : ℕ → ℕ → ℕ → Type 0) (agg : AggId) (conv : ℕ) (old : SystemState) (answer : Result ℕ SystemFault)
     (new : SystemState) → OffersIf there known gives agg conv old answer new → (g k p : ℕ)
     → held_on (assignment_of new.table g k) ≡ Some p → carrier_of (assignment_of old.table g k) ≡ Some p
-offered_held false known gives agg conv old answer new h = stays_held old new (same_turns Stays stays old new (ap (λ (s : SystemState). s.table) h.1))
-offered_held true false gives agg conv old answer new h = stays_held old new (same_turns Stays stays old new (ap (λ (s : SystemState). s.table) h.1))
-offered_held true true gives agg conv old (Ok port) new h = grind (arith, nat_tests)
-offered_held true true gives agg conv old (Err fault) new h = stays_held old new (same_turns Stays stays old new (ap (λ (s : SystemState). s.table) h.1))
+offered_held there known gives agg conv old answer new h = grind (arith, nat_tests)
 
 left_to : (b c : Bool) (r : Result Assignment DistFault) (s : Assignment)
     → (if b then in_system (if c then r else Err dist.NotAssigned) else Err NoAggregator) ≡ Ok s → r ≡ Ok s
@@ -297,23 +251,9 @@ left_to b c r s e = grind (arith, nat_tests)
 left_stays : (next : Option ℕ) (a s : Assignment) → leave_result next a ≡ Ok s → Stays a s
 left_stays next a s h = grind (arith, nat_tests)
 
-marked_stays : (port id : ℕ) (a : Assignment) → Stays a (after_mark port id a)
-marked_stays port id a = grind (arith, nat_tests)
-
-marks_turn : (o : Option ℕ) (port : ℕ) (mac : List ℕ) (old : SystemState) (answer : Option (List ℕ)) (new : SystemState)
-    → SendsMarkerOf o port mac old answer new → Turns Stays stays old.table new.table
-marks_turn None port mac old answer new h = same_turns Stays stays old new (ap (λ (s : SystemState). s.table) h.1)
-marks_turn (Some id) port mac old answer new h = turns_by Stays stays (after_mark port id) old.table new.table h.4.states (marked_stays port id)
-
-probes_turn : (up : Bool) (x : SystemPort) (old : SystemState) (answer : Option (List ℕ)) (new : SystemState)
-    → ProbesIf up x old answer new → Turns Stays stays old.table new.table
-probes_turn false x old answer new h = same_turns Stays stays old new (ap (λ (s : SystemState). s.table) h.1)
-probes_turn true x old answer new h = marks_turn (next_identifier old.table) x.number x.mac old answer new h
-
 probe_turn : (o : Option ℕ) (old : SystemState) (answer : Option (List ℕ)) (new : SystemState) → ProbesAt o old answer new
     → Turns Stays stays old.table new.table
-probe_turn None old answer new h = absurd h
-probe_turn (Some i) old answer new h = probes_turn h.0.port.enabled h.0 old answer new h.2
+probe_turn o old answer new h = grind (arith, nat_tests)
 
 pub host_call_keeps : (gives : ℕ → ℕ → ℕ → Type 0) (old new : SystemState) (call : HostCall) (answer : HostReply)
     → HostPromise gives old call answer new → Keeps old → Keeps new

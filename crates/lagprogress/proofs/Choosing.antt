@@ -64,9 +64,7 @@ both_so : (a b : Bool) → a ≡ true → b ≡ true → (a && b) ≡ true
 both_so a b e f = rw (e, f) refl
 
 may_before : (x z : SystemPort) → Able x → AsRead x.port z.port → z.held ≡ x.held → may_choose z ≡ true → may_choose x ≡ true
-may_before x z able a held h =
-    let both = and_parts (is_eligible (selection_view z)) (not z.held) h in
-    both_so (is_eligible (selection_view x)) (not x.held) (eligible_before x z able a both.0) (ap not (sym held) ∙ both.1)
+may_before x z able a held h = grind (arith, nat_tests, and_parts, is_eligible, selection_view, not, both_so, eligible_before)
 
 -- step 1 of a settling
 one_seen : (xs ys zs : List SystemPort) → AllByRecursion Able xs → AllAsRead xs ys → PortsChangeBy (RunsToRest (mux_rows false)) ys zs

@@ -82,8 +82,7 @@ not_unselected c h = grind (arith, nat_tests)
 
 -- a SELECTED port at rest
 pub rising_first : (p : Machines) → AtRest (mux_rows false) p → IsTimed p → is_selected p.choice ≡ true → Rising 20 p
-rising_first p rest timed h =
-    (h, climbs p.mux true (is_unselected p.choice) false p.wait_while (not_unselected p.choice h) rest.0 timed.2)
+rising_first p rest timed h = grind (arith, nat_tests)
 
 -- a port that may be SELECTED
 

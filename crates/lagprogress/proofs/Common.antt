@@ -61,8 +61,8 @@ pub use Rattle.selection.proofs.Equal.{group-test}
 pub use Rattle.distributor.specs.declared.assignment.Assignment.{Assignment}
 pub use Rattle.distributor.specs.declared.assignment.Assignment.TheVariants.{Flushing, Free, On, Wanted}
 pub use Rattle.distributor.specs.declared.fault.DistFault.{DistFault}
-pub use Rattle.distributor.specs.Calls.{Assigns, MaySend, force_result, is_among, leave_result, move_result}
-pub use Rattle.distributor.specs.Changes.{after_down, after_mark, after_release, after_tick, marker_due, wants_marker}
+pub use Rattle.distributor.specs.Calls.{Assigns, MaySend, is_among, leave_result}
+pub use Rattle.distributor.specs.Changes.{after_mark, after_release, after_tick, marker_due, wants_marker}
 pub use Rattle.distributor.specs.Conversations.{IsConversation, Table, assignment_of, count_conversations, next_identifier}
 pub use Rattle.lagsystem.specs.declared.config.Config.{Config}
 pub use Rattle.lagsystem.specs.declared.config.PortConfig.{PortConfig}
@@ -74,10 +74,10 @@ pub use Rattle.lagsystem.specs.declared.received.Received.{Received}
 pub use Rattle.lagsystem.specs.declared.received.Received.TheVariants.{TookLacpdu, Up}
 pub use Rattle.lagsystem.specs.declared.system_ports.SystemPort.{SystemPort}
 pub use Rattle.lagsystem.specs.Assigning.{OffersIf}
-pub use Rattle.lagsystem.specs.Calls.{Call, Carries, ChangesParty, Configure, Data_frame, Faulty, Force, FreesIfDown, GivesEffect, IsFrame}
-pub use Rattle.lagsystem.specs.Calls.{Move_conversation, Offer, OnlyPortChangesBy, ParsesWhere, Performs, ProcessesLacpdu, Receive, ReceivedFrame}
-pub use Rattle.lagsystem.specs.Calls.{ReceivesAt, Releases, Restart, Runt, Set_link, SetsLink, SetsPortEnabled, Step, TableRun, ThenSettles, Tick}
-pub use Rattle.lagsystem.specs.Calls.{Ticks, Transmit, changed_party, choice_with_link, is_own_response}
+pub use Rattle.lagsystem.specs.Calls.{Call, Carries, ChangesParty, Configure, Data_frame, Faulty, Force, GivesEffect, IsFrame, Move_conversation}
+pub use Rattle.lagsystem.specs.Calls.{Offer, OnlyPortChangesBy, ParsesWhere, Performs, ProcessesLacpdu, Receive, ReceivedFrame, ReceivesAt, Releases}
+pub use Rattle.lagsystem.specs.Calls.{Restart, Runt, Set_link, SetsLink, SetsPortEnabled, Step, TableRun, ThenSettles, Tick, Ticks, Transmit}
+pub use Rattle.lagsystem.specs.Calls.{changed_party, choice_with_link, is_own_response}
 pub use Rattle.lagsystem.specs.Drives.{call_of}
 pub use Rattle.lagsystem.specs.First.{IsFirst, config_value, configured_numbers, or_first}
 pub use Rattle.lagsystem.specs.HostCalls.{HostPromise, HostRun}
@@ -96,8 +96,7 @@ pub use Rattle.lagsystem.specs.Settings.{is_held_so, is_in_mode, with_held}
 pub use Rattle.lagsystem.specs.Settling.{ChoosesIn, PortsChangeBy, PromotesNext, Settling, aggregator_for, choice_for, choice_if, choice_in}
 pub use Rattle.lagsystem.specs.Settling.{held_unless_on, ready_of, with_choice}
 pub use Rattle.lagsystem.specs.Sound.{CallPromise, HasPorts, IsSound, NoneHeld, PortsAgree}
-pub use Rattle.lagsystem.specs.State.{SystemState, aggregators_value, machines_of, port_index, port_numbers, system_port_at, with_system_ports}
-pub use Rattle.lagsystem.specs.State.{with_table}
+pub use Rattle.lagsystem.specs.State.{SystemState, aggregators_value, machines_of, port_index, port_numbers, with_system_ports, with_table}
 pub use Rattle.lagsystem.specs.Views.{may_choose, selection_view, stage_of, views}
 pub use Rattle.lagsystem.proofs.Effects.{named}
 pub use Rattle.lagsystem.proofs.FirstView.{first_unselected}
@@ -156,8 +155,7 @@ pub use Rattle.lagbeside.proofs.Selecting.{Somebody, clash, eligible, finds_aggr
 pub use Rattle.lagbeside.proofs.Selecting.{somebody, stands, waits_for_room, when_is}
 pub use Rattle.lagbeside.proofs.Sounding.{Calm, Sounds, all_leave, counts_sounds, mux_sounds, not_gone, not_silent, now_due, periodic_runs}
 pub use Rattle.lagbeside.proofs.Sounding.{silence_of, sounds_first, sounds_in_slow, unclear}
-pub use Rattle.lagbeside.proofs.TableSteps.{Turning, Turns, asks_turn, comes_turn, gives_turn, same_turns, settles_turn, ticks_turn, turns_by}
-pub use Rattle.lagbeside.proofs.TableSteps.{turns_through}
+pub use Rattle.lagbeside.proofs.TableSteps.{Turning, Turns, asks_turn, comes_turn, gives_turn, same_turns, settles_turn, ticks_turn, turns_through}
 pub use Rattle.lagbeside.proofs.Timers.{RowsKeep, TimedAt, fires_keep, runs_keep, setting_each, setting_timed, takes_keep, timed_kept, timed_settles}
 pub use Rattle.lagbeside.proofs.Timers.{timed_starts}
 pub use Rattle.lagprogress.specs.Arriving.{Arrives, DeliverHandsUp, DisabledAreUnsynchronized, EachFrameArrivesByHosts}

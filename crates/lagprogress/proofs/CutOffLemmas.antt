@@ -144,8 +144,7 @@ Downs M s j = (n : ℕ) → M n → DownAt s n j
 
 says_no : (gives : ℕ → ℕ → ℕ → Type 0) (n : ℕ) (a : Result (Option (List ℕ)) SystemFault) (old new : SystemState) (frame : List ℕ)
     → a ≡ Ok (Some frame) → Step gives old (Transmit n) (answer.Transmit a) new → OfEach (AtPort n Dead) old.system_ports → ⊥
-says_no gives n a old new frame e h d = sends_none n (port_index n old.system_ports) old frame new refl
-    (subst (λ b. Step gives old (Transmit n) (answer.Transmit b) new) e h) d
+says_no gives n a old new frame e h d = grind (arith, nat_tests, sends_none, port_index)
 
 emit_cut : (gives : Algorithms) (b : ℕ) (s : Side) (p : ℕ) (M : ℕ → Type 0) (n q : ℕ) (r : Reply) (old new : WorldState)
     → WorldSteps gives old (event.Emit n q) r new → Downs M (peer s) old → CutAt b s p M old.links → CutAt b s p M new.links

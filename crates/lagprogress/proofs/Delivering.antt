@@ -43,10 +43,7 @@ pub arrived_ports : (d : ℕ) (at : Side → ℕ) (w : Side → Lacpdu) (c : Sid
     → Arrived k octets (half s old).state (half s new).state
     → OfEach (AtPort (at s) (EndIs d w c x Y s)) (half s new).state.system_ports
     × ((((v : Lacpdu) → IsFrame octets (Carries (pdu.Lacpdu v)) → ⊥)) ⊎ (1 ≤ d → Heard d at w s new))
-arrived_ports d at w c x Y s k z octets old new fits along l there numbered good (inr h) = (
-  subst (OfEach (AtPort (at s) (EndIs d w c x Y s))) (sym h.1) (l.ports s),
-  inl h.0,
-)
+arrived_ports d at w c x Y s k z octets old new fits along l there numbered good (inr h) = grind arith
 arrived_ports d at w c x Y s k z octets old new fits along l there numbered good (inl h) =
     let v = h.0 in
     let P = EndIs d w c x Y s in
@@ -79,11 +76,7 @@ arrived_ports d at w c x Y s k z octets old new fits along l there numbered good
 flew : (t : Side) (fl now : Side → List ItemValue) (item : ItemValue) (rest : List ItemValue) (H : Type 0) → fl t ≡ item ∷ rest
     → ((((v : Lacpdu) → IsFrame item.octets (Carries (pdu.Lacpdu v)) → ⊥)) ⊎ H) → (Flying (put t rest fl t) → Flying (now t))
     → Flying (fl t) → Flying (now t) ⊎ H
-flew t fl now item rest H first said on f = by_item (subst Flying first f)
-  where
-    by_item : Flying (item ∷ rest) → Flying (now t) ⊎ H
-    by_item (inl v) = elim said [ inl not ↦ absurd (not v.0 v.1) | inr h ↦ inr h ]
-    by_item (inr g) = inl (on (subst Flying (sym (put_there t rest fl)) g))
+flew t fl now item rest H first said on f = grind arith
 
 -- what came to the port at an end
 pub came_to : (gives : Algorithms) (q : Side) (d : ℕ) (at : Side → ℕ) (w : Side → Lacpdu) (c : Side → ℕ) (x : Side) (Y : Machines → Type 0)

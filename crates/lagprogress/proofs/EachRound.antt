@@ -69,9 +69,7 @@ Pick P Q true = P
 Pick P Q false = Q
 
 pub each_between : (P : ℕ → Machines → Type 0) → RoundKeeps P → (s : Side) (gives : Algorithms) → KeptBetween gives (EachAt P s)
-each_between P k s gives (Plays (event.Emit n p)) r i j b h a = asks_each P k s gives n p r i j h a
-each_between P k s gives (Plays (event.Deliver c n)) r i j b h a = delivers_each P k s gives c n r i j h a
-each_between P k s gives e r i j b h a = subst (OfEach P) (sym (quiet_ports gives e r i j b h s)) a
+each_between P k s gives l r i j b h a = grind (arith, nat_tests, asks_each, delivers_each, quiet_ports)
 
 -- a tick of system t makes Q of P at that system, and leaves the other's ports
 pub tick_makes : (P Q : ℕ → Machines → Type 0) → KeptBySettling Q
@@ -81,14 +79,12 @@ tick_makes P Q k ticked t gives n r i j named step a =
     Tick-each P Q k ticked (gives t) (half t i).state answer.Tick (half t j).state (ticks gives n t r i j named step).step a
 
 pub tick_leaves : (P : ℕ → Machines → Type 0) (t : Side) (gives : Algorithms) → MadeByTick gives t (EachAt P (peer t)) (EachAt P (peer t))
-tick_leaves P t gives n r i j named step a =
-    subst (λ (z : SystemState). OfEach P z.system_ports) (sym (ticks gives n t r i j named step).peers) a
+tick_leaves P t gives n r i j named step a = grind (arith, nat_tests)
 
 pub tick_keeps : (P : ℕ → Machines → Type 0) → KeptBySettling P
     → ((n : ℕ) (p q : Machines) → RunsToRest receive_rows (count_down p) q → P n p → P n q)
     → (s t : Side) (gives : Algorithms) → MadeByTick gives t (EachAt P s) (EachAt P s)
-tick_keeps P k ticked s t gives n r i j named step a = each_side (λ u. EachAt P u i → EachAt P u j) t
-    (tick_makes P P k ticked t gives n r i j named step) (tick_leaves P t gives n r i j named step) s a
+tick_keeps P k ticked s t gives n r i j named step a = grind (arith, nat_tests, ticked, each_side, EachAt, tick_makes, tick_leaves)
 
 -- a round makes Q of P, if the tick does, and the rest keeps both
 pub host_each : {E : Clearing} (P Q : ℕ → Machines → Type 0) → RoundKeeps P → RoundKeeps Q

@@ -4,11 +4,11 @@ use Rattle.lagprogress.proofs.Common.{refl, subst, suc, sym, true, zero, ℕ, �
 use Rattle.lagprogress.proofs.Common.{none-some, AggId, Choice, is_selected, Lacpdu, IsCabling, One, Side, peer, Machines, is_due, Assignment}
 use Rattle.lagprogress.proofs.Common.{after_tick, marker_due, IsConversation, Table, assignment_of, next_identifier, HostReply, SystemFault, OffersIf}
 use Rattle.lagprogress.proofs.Common.{Offer, Receive, Step, Tick, Transmit, HostPromise, GivesOrRefuses, system_force_result, system_move_result}
-use Rattle.lagprogress.proofs.Common.{number_of_conversation, TransmitsAt, Set_max_delay, Settling, CallPromise, SystemState, machines_of, port_index}
-use Rattle.lagprogress.proofs.Common.{ports_table, settling_parts, found_place, Event, Reply, Algorithms, WorldSteps, side_of, world_setup, ItemValue}
-use Rattle.lagprogress.proofs.Common.{WorldState, half, port_at, ForcesPort, HostEvent, HostSteps, Leaves, Offers, Plays, Probes, Sets}
-use Rattle.lagprogress.proofs.Common.{DrainingRounds, IsDrainingRound, IsNoMoveOf, AfterTick, AtSomeWorld, IsBetweenTicks, IsHostRound, IsQuiet}
-use Rattle.lagprogress.proofs.Common.{NoneIsLeft, RunReplies, StepReplies, TickOnce, OldArrive, NothingInFlight, OfPort}
+use Rattle.lagprogress.proofs.Common.{number_of_conversation, TransmitsAt, Set_max_delay, CallPromise, SystemState, machines_of, port_index}
+use Rattle.lagprogress.proofs.Common.{found_place, Event, Reply, Algorithms, WorldSteps, side_of, world_setup, ItemValue, WorldState, half, port_at}
+use Rattle.lagprogress.proofs.Common.{ForcesPort, HostEvent, HostSteps, Leaves, Offers, Plays, Probes, Sets, DrainingRounds, IsDrainingRound}
+use Rattle.lagprogress.proofs.Common.{IsNoMoveOf, AfterTick, AtSomeWorld, IsBetweenTicks, IsHostRound, IsQuiet, NoneIsLeft, RunReplies, StepReplies}
+use Rattle.lagprogress.proofs.Common.{TickOnce, OldArrive, NothingInFlight, OfPort}
 use Rattle.lagprogress.proofs.Quieting.{as_beside, IsCalm, calm_quiet, calm_timely, calm_keeps, leaves_link, leaves_quiet, quiet_cable, offered_half}
 use Rattle.lagprogress.proofs.Quieting.{moved_half, forced_half, Grown}
 use Rattle.lagprogress.proofs.Linked.{each_side, Fits, Link, asked_which, emit_any, peer_twice, EndPort, end_here, other_side}
@@ -43,9 +43,6 @@ below_top top m n l h = grind (arith, nat_tests)
 left_before : (t u : Table) → t.next ≤ u.next → IsSome (next_identifier u) → IsSome (next_identifier t)
 left_before t u l h = below_top (2 ^ 32) t.next u.next l h
 
-settles_next : (old new : SystemState) → Settling old new → new.table.next ≡ old.table.next
-settles_next old new h = let q = settling_parts old new h in q.2.next ∙ ap (λ (t : Table). t.next) (ports_table old q.0 q.1)
-
 calls_next : (gives : ℕ → ℕ → ℕ → Type 0) (n : ℕ) (octets : List ℕ) (a : _) (old new : SystemState) → Step gives old (Receive n octets) (answer.Receive a) new
     → new.table.next ≡ old.table.next
 calls_next gives n octets a old new h = grind (arith, nat_tests)
@@ -60,22 +57,13 @@ Rising s old new = (half s old).state.table.next ≤ (half s new).state.table.ne
 same_next : (s : Side) (old new : WorldState) → (half s new).state ≡ (half s old).state → Rising s old new
 same_next s old new e = subst (λ (t : SystemState). (half s old).state.table.next ≤ t.table.next) (sym e) (omega arith)
 
-same_table : (s : Side) (old new : WorldState) → (half s new).state.table ≡ (half s old).state.table → Rising s old new
-same_table s old new e = subst (λ (t : Table). (half s old).state.table.next ≤ t.next) (sym e) (omega arith)
-
 offers_next : (gives : ℕ → ℕ → ℕ → Type 0) (agg : AggId) (octets : List ℕ) (a : Result ℕ SystemFault) (old new : SystemState)
     → Step gives old (Offer agg octets) (answer.Offer a) new → old.table.next ≤ new.table.next
 offers_next gives agg octets a old new h = grind (arith, nat_tests)
 
-ticked_next : (gives : ℕ → ℕ → ℕ → Type 0) (old new : SystemState) → Step gives old Tick answer.Tick new → new.table.next ≡ old.table.next
-ticked_next gives old new h = settles_next h.0 new h.2 ∙ h.1.1.next
-
 tick_next : (s t : Side) (gives : Algorithms) (n : ℕ) (r : Reply) (old new : WorldState) → side_of n ≡ Some t
     → WorldSteps gives old (event.Tick n 1) r new → Rising s old new
-tick_next s t gives n r old new named h =
-    let k = ticks gives n t r old new named h in
-    each_side (λ u. Rising u old new) t
-    (let same = ticked_next (gives t) (half t old).state (half t new).state k.step in omega (arith, same)) (same_next (peer t) old new k.peers) s
+tick_next s t gives n r old new named h = grind (arith, nat_tests)
 
 -- the events of a round
 between_next : (s : Side) (gives : Algorithms) (e : HostEvent) (r : Reply) (old new : WorldState) → IsBetweenTicks e → StepReplies gives old e r new
@@ -93,24 +81,17 @@ between_next s gives (Plays (event.Offer n agg octets)) r old new b h = grind (a
 between_next s gives (Plays (event.Move n agg conv p)) r old new b h = grind (arith, nat_tests, moved_half, h, same_next, gives_next)
 between_next s gives (Plays (event.Force n agg conv)) r old new b h = grind (arith, nat_tests, forced_half, h, same_next, gives_next)
 between_next s gives (Plays e) r old new b h = absurd b
-between_next s gives (Sets t (Set_max_delay delay)) r old new b h =
-    same_table s old new (delay_keeps Table (λ z. z.table) (λ z d. refl) gives t delay old new h s)
+between_next s gives (Sets t (Set_max_delay delay)) r old new b h = grind (arith, nat_tests)
 between_next s gives (Sets t setting) r old new b h = absurd b
 between_next s gives e r old new b h =
     let x = aside gives e old new tt h in each_side (λ t. Rising t old new) (caller e) (beside_next x) (same_next (peer (caller e)) old new x.peers) s
 
 one_next : (s t : Side) (gives : Algorithms) (a b : Bool) (e : HostEvent) (es : List HostEvent) (r : Reply) (old new : WorldState)
     → TickOnce t a b (e ∷ es) → StepReplies gives old e r new → Rising s old new
-one_next s t gives a b e es r old new (inl (k, due, more)) h =
-    tick_next s t gives k.0 r old new k.1 (subst (λ f. StepReplies gives old f r new) k.2 h)
-one_next s t gives a b e es r old new (inr (inl (k, due, more))) h =
-    tick_next s (peer t) gives k.0 r old new k.1 (subst (λ f. StepReplies gives old f r new) k.2 h)
-one_next s t gives a b e es r old new (inr (inr k)) h = between_next s gives e r old new k.0 h
+one_next s t gives a b e es r old new i h = grind (arith, nat_tests, tick_next, peer, between_next)
 
 rest_ticks : (t : Side) (a b : Bool) (e : HostEvent) (es : List HostEvent) → TickOnce t a b (e ∷ es) → (c : Bool) × (d : Bool) × TickOnce t c d es
-rest_ticks t a b e es (inl h) = (false, b, h.2)
-rest_ticks t a b e es (inr (inl h)) = (a, false, h.2)
-rest_ticks t a b e es (inr (inr h)) = (a, b, h.1)
+rest_ticks t a b e es h = grind (arith, nat_tests)
 
 run_next : (s t : Side) (gives : Algorithms) (a b : Bool) (es : List HostEvent) (rs : List Reply) (old new : WorldState) → TickOnce t a b es
     → RunReplies gives old es rs new → Rising s old new
@@ -143,8 +124,7 @@ after_left : (s t : Side) (P : WorldState → Type 0) (gives : Algorithms) (a b 
     → AfterTick s (λ j. P j × HasLeft s j) gives es rs old new run
 after_left s t P gives a b [] rs old new h run left y = y
 after_left s t P gives a b (e ∷ es) [] old new h run left y = y
-after_left s t P gives a b (e ∷ es) (r ∷ rs) old new h run left (inl y) =
-    let o = rest_ticks t a b e es h in inl (y.0, some_left s t P gives o.0 o.1 es rs run.0 new o.2 run.2 left y.1)
+after_left s t P gives a b (e ∷ es) (r ∷ rs) old new h run left (inl y) = grind (arith, nat_tests, rest_ticks, some_left, left)
 after_left s t P gives a b (e ∷ es) (r ∷ rs) old new h run left (inr y) =
     let o = rest_ticks t a b e es h in inr (after_left s t P gives o.0 o.1 es rs run.0 new o.2 run.2 left y)
 
@@ -161,9 +141,7 @@ apart a b c d h = grind (arith, nat_tests)
 moved_elsewhere : (group : AggId) (moved agg conv : ℕ) (what : Result Assignment SystemFault) (a : Result Unit SystemFault) (old new : SystemState)
     → (group.0 ≡ agg → moved ≡ conv → ⊥) → GivesOrRefuses group moved what old a new
     → assignment_of new.table agg conv ≡ assignment_of old.table agg conv
-moved_elsewhere group moved agg conv (Ok state) a old new other h = h.1.0.states agg conv
-    ∙ ap (λ b. cond b state (assignment_of old.table agg conv)) (apart group.0 moved agg conv other)
-moved_elsewhere group moved agg conv (Err fault) a old new other h = ap (λ (t : SystemState). assignment_of t.table agg conv) h.1
+moved_elsewhere group moved agg conv what a old new other h = grind (arith, nat_tests)
 
 module _ (at : Side → ℕ) (w : Side → Lacpdu) (named : (t : Side) → IsNamed (w t)) (awake : (s : Side) → (activity (w s) ≡ true) ⊎ (activity (w (peer s)) ≡ true)) (s : Side)
     (mac : List ℕ) (agg conv : ℕ) (c : Choice) (chosen : is_selected c ≡ true) (gives : Algorithms) (counts : Side → ℕ) (kept : Side → Bool) where

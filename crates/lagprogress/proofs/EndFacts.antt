@@ -117,8 +117,7 @@ pub takes_known : (v u x : Lacpdu) (p q : Machines) → SameActor x u → can_re
     → p.enabled ≡ true → Known u (wait_of v) 0 q
 takes_known v u x p q e awake h a up =
     let r = recorded x p q up awake h in
-    let says = says_kept v x p q h a in
-    (r.0, λ _. (same_recorded x u q e r.1.0, subst (λ b. timeout_time b ≤ q.current_while) says.2 r.1.1))
+    grind (arith, nat_tests, says_kept, same_recorded, timeout_time)
 
 -- an LACPDU of the partner that is recorded leaves Selected
 pub keeps_synced : (u x : Lacpdu) (p q : Machines) → SameActor x u → HasRecorded u p → ProcessesLacpdu x p q → Synced p → Synced q

@@ -39,8 +39,7 @@ until : (gives : Algorithms) (t : Side) (P : WorldState → Event → Reply → 
     → ((b : Bool) → MadeByTick gives t (I true b) (I false b)) → ((a : Bool) → MadeByTick gives (peer t) (I a true) (I a false))
     → (es : List HostEvent) (rs : List Reply) (i j : WorldState) (a b : Bool) → TickOnce t a b es → (run : RunReplies gives i es rs j) → I a b i
     → SometimePlayed P gives es rs i j run ⊎ I false false j
-until gives t P I between own other [] [] i j a b h run m =
-    inr (subst (λ x. I false false x) (sym run) (subst (λ x. I false x i) h.1 (subst (λ x. I x b i) h.0 m)))
+until gives t P I between own other [] [] i j a b h run m = grind (arith, nat_tests)
 until gives t P I between own other (e ∷ es) (r ∷ rs) i j a b (inl (k, due, h)) run m =
     elim (until gives t P I between own other es rs run.0 j false b h run.2
     (own b k.0 r i run.0 k.1 (subst (λ x. StepReplies gives i x r run.0) k.2 run.1) (subst (λ x. I x b i) due m))) [

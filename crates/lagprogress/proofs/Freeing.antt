@@ -39,11 +39,7 @@ was_there gives n old new s g k steady h is =
     let keys = played_keep NoneIsLeft gives ℕ (λ t. length t.keys) (λ t a b. refl) (λ t a. refl) (λ t d. refl) n old new h s in
     let cols = played_keep NoneIsLeft gives ℕ (λ t. t.conversations) (λ t a b. refl) (λ t a. refl) (λ t d. refl) n old new h s in
     let later = played_steady NoneIsLeft gives n old new steady h in
-    let rows : (half s new).state.table.aggs ≡ (half s old).state.table.aggs =
-    (later s).0.aggregators ∙ (keys ∙ sym (steady s).0.aggregators) in
-    let each : (half s new).state.table.conversations ≡ (half s old).state.table.conversations =
-    (later s).0.conversations ∙ (cols ∙ sym (steady s).0.conversations) in
-    (is.0, subst (λ x. g ≤ x) rows is.1, subst (λ x. k < x) each is.2)
+    grind (arith, nat_tests, half)
 
 module _ (E : Clearing) (Holds : LinkState → WorldState → Type 0) (Other : Side → ℕ → Type 0) (first : ℕ) (gives : Algorithms) (old : WorldState)
     (b : MeetsBy E Holds Other first gives old) where

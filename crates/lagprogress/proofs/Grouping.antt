@@ -45,14 +45,10 @@ same_individual x s e f = λ i. individual (e i) (f i)
 
 by_place : (old new : List SystemPort) → ((j : ℕ) (t : SystemPort) → slice_get new j ≡ Some t
     → (s : SystemPort) × (slice_get old j ≡ Some s) × OccupiesAsBefore s.port t.port) → InOne old → InOne new
-by_place old new each a g h i j x y at bt o p key pair together =
-    let s = each i x at in
-    let t = each j y bt in
-    grind (arith, nat_tests, none-some, a, ends, same_ends, same_individual)
+by_place old new each a g h i j x y at bt o p key pair together = grind (arith, nat_tests)
 
 as_before : (p q : Machines) → LeavesOrStays p q → OccupiesAsBefore p q
-as_before p q (inl e) = inl (ap occupied e)
-as_before p q (inr e) = inr (ap occupied e.0, e.1, e.2)
+as_before p q h = grind (arith, nat_tests)
 
 stay_in_one : (old new : List SystemPort) → EachStays old new → InOne old → InOne new
 stay_in_one old new h a = by_place old new (λ j t g. let s = h j t g in (s.0, s.1, as_before s.0.port t.port s.2)) a
@@ -69,18 +65,14 @@ find_passes test (y ∷ ys) x e = by_test (test y) refl (λ f. find_passes test 
 
 of_entry : (o : Option (ℕ × Key)) (agg : AggId) → option_map aggregator_of_entry o ≡ Some agg
     → (row : ℕ × Key) × (o ≡ Some row) × (aggregator_of_entry row ≡ agg)
-of_entry None agg e = absurd (none-some agg e)
-of_entry (Some row) agg e = (row, refl, same_Some (aggregator_of_entry row) agg e)
+of_entry o agg e = grind (arith, nat_tests)
 
 second : (a b : Bool) → (a && b) ≡ true → b ≡ true
 second a b h = grind (arith, nat_tests)
 
 -- the lowest one that passes does
 lowest_passes : (keys : List Key) (key : Key) (test : AggId → Bool) (agg : AggId) → lowest keys key test ≡ Some agg → test agg ≡ true
-lowest_passes keys key test agg e =
-    let r = of_entry (find (λ (row : ℕ × Key). (row.1.0 == key.0) && test (aggregator_of_entry row)) (enumerate_from 1 keys)) agg e in
-    subst (λ a. test a ≡ true) r.2 (second (r.0.1.0 == key.0) (test (aggregator_of_entry r.0))
-    (find_passes (λ (row : ℕ × Key). (row.1.0 == key.0) && test (aggregator_of_entry row)) (enumerate_from 1 keys) r.0 r.1))
+lowest_passes keys key test agg e = grind (arith, nat_tests, of_entry, find, aggregator_of_entry, enumerate_from, second, find_passes)
 
 fails : (a b : Bool) → a ≡ true → (a && b) ≡ false → b ≡ false
 fails a b e h = grind (arith, nat_tests)
@@ -90,13 +82,7 @@ none_passes : (first : ℕ) (keys : List Key) (key k : Key) (test : AggId → Bo
     → find (λ (row : ℕ × Key). (row.1.0 == key.0) && test (aggregator_of_entry row)) (enumerate_from first keys) ≡ None
     → slice_get keys n ≡ Some k → k ≡ key → test (aggregator_numbered (first + n)) ≡ false
 none_passes first [] key k test n h e same = absurd (none-some k e)
-none_passes first (x ∷ xs) key k test zero h e same =
-    let here = passed ((x.0 == key.0) && test (aggregator_of_entry (first, x))) (first, x)
-    (find (λ (row : ℕ × Key). (row.1.0 == key.0) && test (aggregator_of_entry row)) (enumerate_from (first + 1) xs)) h in
-    let is : x ≡ key = same_Some x k e ∙ same in
-    let at : first ≡ first + 0 = omega arith in
-    subst (λ m. test (aggregator_numbered m) ≡ false) at (fails (x.0 == key.0) (test (aggregator_of_entry (first, x)))
-    (subst (λ (y : Key). (x.0 == y.0) ≡ true) is (itself x.0)) here.0)
+none_passes first (x ∷ xs) key k test zero h e same = grind (arith, nat_tests)
 none_passes first (x ∷ xs) key k test (suc n) h e same =
     let here = passed ((x.0 == key.0) && test (aggregator_of_entry (first, x))) (first, x)
     (find (λ (row : ℕ × Key). (row.1.0 == key.0) && test (aggregator_of_entry row)) (enumerate_from (first + 1) xs)) h in
@@ -111,17 +97,13 @@ occupies_at h c e = grind (arith, nat_tests, itself)
 both_true : (a b : Bool) → a ≡ true → b ≡ true → (a && b) ≡ true
 both_true a b e f = grind (arith, nat_tests)
 
-left_true : (a b : Bool) → a ≡ true → (a || b) ≡ true
-left_true a b e = grind (arith, nat_tests)
-
 right_true : (a b : Bool) → b ≡ true → (a || b) ≡ true
 right_true a b e = grind (arith, nat_tests)
 
 any_there : (agg : AggId) (l : List SystemPort) (j : ℕ) (y : SystemPort) → slice_get l j ≡ Some y → occupies agg y.port.choice ≡ true
     → has_occupant (views l) agg ≡ true
 any_there agg [] j y e o = absurd (none-some y e)
-any_there agg (x ∷ xs) zero y e o =
-    left_true (occupies agg x.port.choice) _ (subst (λ (z : SystemPort). occupies agg z.port.choice ≡ true) (sym (same_Some x y e)) o)
+any_there agg (x ∷ xs) zero y e o = grind (arith, nat_tests)
 any_there agg (x ∷ xs) (suc j) y e o = right_true (occupies agg x.port.choice) _ (any_there agg xs j y e o)
 
 all_there : (test : PortView → Bool) (agg : AggId) (l : List SystemPort)
@@ -144,9 +126,7 @@ is_one_of None = inl refl
 is_one_of (Some c) = inr (c, refl)
 
 when_some : (b c : Bool) (o : Option AggId) (agg : AggId) → (if b then (if c then o else None) else None) ≡ Some agg → o ≡ Some agg
-when_some true true o agg h = h
-when_some true false o agg h = absurd (none-some agg h)
-when_some false c o agg h = absurd (none-some agg h)
+when_some b c o agg h = grind (arith, nat_tests)
 
 not_shared : (a b c : Bool) → a ≡ false → b ≡ true → c ≡ true → ((not a && b) && c) ≡ false → ⊥
 not_shared a b c e f g h = grind (arith, nat_tests)
@@ -324,8 +304,7 @@ settled_in_one own old new r keeps each h a =
     (stay_agrees old.keys old.system_ports h.0.system_ports e a.0, stay_in_one old.system_ports h.0.system_ports e a.1))).1
 
 none_in_one : (l : List SystemPort) → AllByRecursion (λ x. x.port.choice ≡ Unselected) l → InOne l
-none_in_one l h g k i j x y at bt o p key pair together =
-    absurd (none-some g (sym (ap occupied (all-get (λ (z : SystemPort). z.port.choice ≡ Unselected) l i x at h)) ∙ o))
+none_in_one l h g k i j x y at bt o p key pair together = grind (arith, nat_tests, none-some, occupied, all-get)
 
 pub first_in_one : (s : SystemState) → IsFirst s → InOne s.system_ports
 first_in_one s h = none_in_one s.system_ports (first_unselected s h)

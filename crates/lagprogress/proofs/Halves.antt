@@ -6,12 +6,13 @@ use Rattle.lagprogress.proofs.Common.{AfterReceive, AfterTransmit, Algorithms, I
 use Rattle.lagprogress.proofs.Common.{with_stamp_collected, HalfAnswers, HalfTicks, forced_if_accepted, AreFirst, IsStart, HalfState, ItemValue}
 use Rattle.lagprogress.proofs.Common.{LinkState, WorldState, emptied, half, port_at, with_half, with_links, PortsAreTimed, Step-each, first_each}
 use Rattle.lagprogress.proofs.Common.{calls_each, TimedAt, timed_kept, timed_settles, timed_starts, GoesByCalls, IsSteady, IsSteadySystem}
+use native.Mathlib.Omega.{arith}
 use Rattle.cables.specs.declared.item.Stamp.TheVariants as stamp
 use Rattle.lagsystem.specs.declared.drive.Reply.TheVariants as answer
 use Rattle.lagsystem.proofs.HeldPorts.{Step-free, first_free}
 use Rattle.lagsystem.specs.declared.received.Received.TheVariants as received
-use Rattle.lagworld.proofs.Effects.{DoesEffect, Effect, HalfAsked, Recording, answer_to_force, asks, changes_counted, delivers, does_effect, emits}
-use Rattle.lagworld.proofs.Effects.{if_forced, offers, receives, recorded, restarts, nothing, shrinks, ticks}
+use Rattle.lagworld.proofs.Effects.{DoesEffect, Effect, HalfAsked, Recording, asks, changes_counted, delivers, does_effect, emits, offers, receives}
+use Rattle.lagworld.proofs.Effects.{recorded, restarts, nothing, shrinks, ticks}
 
 -- lists of calls
 
@@ -97,12 +98,10 @@ offered gives s agg octets (Ok port) j new r x =
 
 -- what is recorded changes no state
 pub forced_state : (a : Result Unit SystemFault) (agg : AggId) (conv : ℕ) (h : HalfState) → (forced_if_accepted a agg conv h).state ≡ h.state
-forced_state (Ok done) agg conv h = refl
-forced_state (Err fault) agg conv h = refl
+forced_state a agg conv h = grind arith
 
 noted : (kept : Recording) (a : Answer) (h : HalfState) → (recorded kept a h).state ≡ h.state
-noted (if_forced agg conv) a h = forced_state (answer_to_force a) agg conv h
-noted kept a h = refl
+noted kept a h = grind arith
 
 changes : (gives : Algorithms) (s : Side) (h : HalfState) (j new : WorldState)
     → GoesByCalls (gives s) (half s j).state (half s new).state

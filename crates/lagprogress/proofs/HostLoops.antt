@@ -90,12 +90,10 @@ MayCome (Sets s setting) = Unit {0}
 MayCome e = IsBetweenTicks e
 
 pub come_between : (e : HostEvent) → IsBetweenTicks e → MayCome e
-come_between (Sets s setting) b = tt
-come_between e b = b
+come_between e b = grind (arith, nat_tests)
 
 pub come_beside : (at : Side → ℕ) (e : HostEvent) → LeavesPorts at e → MayCome e
-come_beside at (Sets s setting) b = tt
-come_beside at e b = b
+come_beside at e b = grind (arith, nat_tests)
 
 -- two of the events in turn ask this port of system s
 abbrev AsksTwice : Side → ℕ → List HostEvent → Type 0
@@ -324,8 +322,7 @@ between_all (e ∷ es) fs a d = absurd a.0
 
 pub round_ticks : (links : List LinkState) (delivers : List Event) → AllByRecursion IsDeliver delivers
     → TickOnce One true true (map Plays (ticks_of_both ++ (asks_all links ++ delivers)))
-round_ticks links delivers arrives =
-    inl ((1, refl, refl), refl, inr (inl ((2, refl, refl), refl, between_all (asks_all links) delivers (all_ask links) arrives)))
+round_ticks links delivers arrives = grind (arith, nat_tests, between_all, asks_all, all_ask)
 
 of_side_after : (s : Side) (es : List HostEvent) → TickOnce One false false es → TickOnce s false false es
 of_side_after One es h = h
@@ -334,17 +331,12 @@ of_side_after Two es h = turned IsBetweenTicks es false false h
 -- and each end has nothing due once it is asked twice
 
 twice_later : (s : Side) (p : ℕ) (e : HostEvent) (es : List HostEvent) → AsksTwice s p es → AsksTwice s p (e ∷ es)
-twice_later s p e [] h = absurd h
-twice_later s p e (f ∷ es) h = inr h
+twice_later s p e es h = grind (arith, nat_tests)
 
 asks_twice : (s : Side) (i : ℕ) (links : List LinkState) (more : List Event) (l : LinkState) → slice_get links i ≡ Some l
     → AsksTwice s (port_at s l) (map Plays (asks_all links ++ more))
 asks_twice s i [] more l e = absurd (none-some l e)
-asks_twice s zero (m ∷ links) more l e = subst (λ k. AsksTwice s (port_at s k) (map Plays (asks_all (m ∷ links) ++ more))) (same_Some m l e) (first s)
-  where
-    first : (s : Side) → AsksTwice s (port_at s m) (map Plays (asks_all (m ∷ links) ++ more))
-    first One = inl ((1, refl, refl), (1, refl, refl))
-    first Two = inr (inr (inl ((2, refl, refl), (2, refl, refl))))
+asks_twice s zero (m ∷ links) more l e = grind (arith, nat_tests)
 asks_twice s (suc i) (m ∷ links) more l e = inr (inr (inr (twice_later s (port_at s l) (Plays (event.Emit 2 m.two))
     (map Plays (asks_all links ++ more)) (asks_twice s i links more l e))))
 

@@ -1,7 +1,7 @@
 -- What a round of hosts leaves of a cable, by its stages.
-use Rattle.lagprogress.proofs.Common.{Bool, List, None, Some, [], ap, arith, false, inl, inr, refl, subst, sym, true, ℕ, ◌-◌, ◌∙◌, ◌∷◌, ◌≡◌, ◌≤◌, ◌⊎◌}
-use Rattle.lagprogress.proofs.Common.{nat_tests, same_Some, AllByRecursion, Lacpdu, One, Side, Two, peer, Machines, periodic_rows, receive_rows}
-use Rattle.lagprogress.proofs.Common.{AtRest, RunsToRest, after_sending, count_down, SystemState, machines_of, Reply, Algorithms, WorldSteps, side_of}
+use Rattle.lagprogress.proofs.Common.{Bool, List, None, Some, [], arith, false, inl, inr, refl, subst, sym, true, ℕ, ◌-◌, ◌∙◌, ◌∷◌, ◌≡◌, ◌≤◌, ◌⊎◌}
+use Rattle.lagprogress.proofs.Common.{nat_tests, AllByRecursion, Lacpdu, One, Side, Two, peer, Machines, periodic_rows, receive_rows, AtRest}
+use Rattle.lagprogress.proofs.Common.{RunsToRest, after_sending, count_down, SystemState, machines_of, Reply, Algorithms, WorldSteps, side_of}
 use Rattle.lagprogress.proofs.Common.{WorldState, half, limit_towards, HostEvent, Plays, OfEach, Tick-each, no, counts, AtPort, with_rest}
 use Rattle.lagprogress.proofs.Common.{LeavesPorts, AfterTick, AtSomeWorld, Clearing, IsBetweenTicks, IsTickOf, RunReplies, StepReplies, TickOnce}
 use Rattle.lagprogress.proofs.Common.{TickOnceAmong, IsHealthyAt, OfPort}
@@ -54,10 +54,7 @@ side_beside at s es h = side_among (LeavesPorts at) s es h
 
 -- a tick of one system is none of the other
 one_of : (s : Side) (e : HostEvent) → IsTickOf s e → IsTickOf (peer s) e → ⊥
-one_of s e (n, named, is) (m, other, also) = other_side s (same_Some (peer s) s (sym other ∙ (ap side_of (number n m (sym also ∙ is)) ∙ named)))
-  where
-    number : (n m : ℕ) → Plays (event.Tick m 1) ≡ Plays (event.Tick n 1) → m ≡ n
-    number n m e = cc
+one_of s e h i = grind (arith, nat_tests)
 
 -- no tick is among the events that may come between
 abbrev pub IsTickless : (HostEvent → Type 0) → Type 0
@@ -266,32 +263,21 @@ known_in c s own other = two s (left own (c s)) (left other (c (peer s)))
 
 pub own_counts : (d : ℕ) (w : Side → Lacpdu) (c : Side → ℕ) (s : Side) → Fits d w (ticked c) → (b : Bool)
     → Counts d s (known_in c s true b) (known_in c s false b)
-own_counts d w c s then b = record {
-  own = two_there s (c s - 1) (left b (c (peer s))) ∙ ap (λ n. n - 1) (sym (two_there s (c s) (left b (c (peer s)))));
-  other = two_other s (c s - 1) (left b (c (peer s))) ∙ sym (two_other s (c s) (left b (c (peer s))));
-  some = λ e. subst (λ n. 1 ≤ n - 1) (sym (two_there s (c s) (left b (c (peer s))))) ((then s).2 e);
-}
+own_counts d w c s then b = grind (arith, nat_tests, two_there, left, peer, two_other)
 
 pub peer_counts : (d : ℕ) (w : Side → Lacpdu) (c : Side → ℕ) (s : Side) → Fits d w (ticked c) → (a : Bool)
     → Counts d (peer s) (known_in c s a true) (known_in c s a false)
-peer_counts d w c s then a = record {
-  own = two_other s (left a (c s)) (c (peer s) - 1) ∙ ap (λ n. n - 1) (sym (two_other s (left a (c s)) (c (peer s))));
-  other = subst (λ t. known_in c s a false t ≡ known_in c s a true t) (sym (peer_twice s))
-      (two_there s (left a (c s)) (c (peer s) - 1) ∙ sym (two_there s (left a (c s)) (c (peer s))));
-  some = λ e. subst (λ n. 1 ≤ n - 1) (sym (two_other s (left a (c s)) (c (peer s)))) ((then (peer s)).2 e);
-}
+peer_counts d w c s then a = grind (arith, nat_tests, two_other, left, peer, known_in, peer_twice, two_there)
 
 pub fits_in : (d : ℕ) (w : Side → Lacpdu) (c : Side → ℕ) (s : Side) → Fits d w c → Fits d w (ticked c) → (a b : Bool) → Fits d w (known_in c s a b)
 fits_in d w c s hyp1 hyp2 a b = grind (arith, nat_tests, each_side, two_there, two_other, true, false)
 
 pub same_in : (c : Side → ℕ) (s t : Side) → known_in c s false false t ≡ ticked c t
-same_in c s t = each_side (λ u. known_in c s false false u ≡ ticked c u) s (two_there s (c s - 1) (c (peer s) - 1))
-    (two_other s (c s - 1) (c (peer s) - 1)) t
+same_in c s t = grind (arith, nat_tests)
 
 pub all_ticked : (d : ℕ) (at : Side → ℕ) (w : Side → Lacpdu) (c : Side → ℕ) (s x : Side) (Y : Machines → Type 0) (j : WorldState)
     → Link d at w (known_in c s false false) x Y j → Link d at w (ticked c) x Y j
-all_ticked d at w c s x Y j l =
-    other_ports l (λ t p rest timed a. (subst (λ n. IsEnd d (w t) (w (peer t)) n p) (same_in c s t) a.0, a.1))
+all_ticked d at w c s x Y j l = grind (arith, nat_tests, other_ports, peer, same_in)
 
 pub none_ticked : (d : ℕ) (at : Side → ℕ) (w : Side → Lacpdu) (c : Side → ℕ) (s x : Side) (Y : Machines → Type 0) (j : WorldState)
     → Link d at w c x Y j → Link d at w (known_in c s true true) x Y j

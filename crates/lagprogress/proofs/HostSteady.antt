@@ -118,7 +118,6 @@ built : (gives : ℕ → ℕ → ℕ → Type 0) (s : Side) (call : HostCall) (a
     → Puts s ls old → new ≡ after_call s h ls old → IsBeside gives s call old new
 built gives s call a mid h ls old new x is state logs puts y =
     let own : (half s new).state ≡ mid.state = ap (λ (j : WorldState). (half s j).state) y ∙ (state_there s h ls old ∙ state) in
-    let links : new.links ≡ ls = ap (λ (j : WorldState). j.links) y in
     grind (arith, nat_tests, peer_there, logs_there)
 
 offer_beside : (gives : ℕ → ℕ → ℕ → Type 0) (s : Side) (agg : AggId) (conv : ℕ) (octets : List ℕ) (a : Result ℕ SystemFault) (mid : HalfState)
@@ -255,21 +254,13 @@ pub beside_quietly : (gives : ℕ → ℕ → ℕ → Type 0) (s : Side) (call :
     → Quietly s old new
 beside_quietly gives s call old new hyp1 = grind (arith, nat_tests, each_side, beside_alone)
 
--- so does CollectorMaxDelay, when it is set
-delay_beside : (s : Side) (mid : HalfState) (old new : WorldState) → mid.state.system_ports ≡ (half s old).state.system_ports
-    → mid.histories ≡ (half s old).histories → new ≡ with_half s mid old → Quietly s old new
-delay_beside s mid old new hyp1 hyp2 hyp3 = grind (arith, nat_tests, same_links, each_side, state_there, peer_there, logs_there)
-
 delayed : (s : Side) (delay : ℕ) (a : Result Unit SystemFault) (old : SystemState) (new : SystemState)
     → SettingPromise old (Set_max_delay delay) a new → new ≡ record old { max_delay = delay }
-delayed s delay (Ok done) old new x = x.step
-delayed s delay (Err fault) old new x = absurd x.step
+delayed s delay a old new x = grind (arith, nat_tests)
 
 pub delay_quietly : (gives : Algorithms) (s : Side) (delay : ℕ) (old new : WorldState) → HostSteps gives old (Sets s (Set_max_delay delay)) new
     → Quietly s old new
-delay_quietly gives s delay old new x = delay_beside s x.1 old new
-    (ap (λ (y : SystemState). y.system_ports) (delayed s delay x.0 (half s old).state x.1.state x.2.answers))
-    (ap (λ (k : HalfState). k.histories) x.2.same) x.3
+delay_quietly gives s delay old new x = grind (arith, nat_tests)
 
 -- a setting of another port, or one that what holds of the port withstands
 
@@ -313,22 +304,18 @@ setting_beside : (p : ℕ) (P : Machines → Type 0) → KeptBySettling (AtPort 
     → OfEach (AtPort p IsUp) old.system_ports → OfEach (AtPort p P) old.system_ports → OfEach (AtPort p P) new.system_ports
 setting_beside p P k (Hold_port n held) stands (Ok done) old new h up y = set_beside p n P k (is_held_so held) (with_held held) stands
     (λ x. refl) (port_index n old.system_ports) old new refl h y
-setting_beside p P k (Hold_port n held) stands (Err fault) old new h up y =
-    subst (λ (t : SystemState). OfEach (AtPort p P) t.system_ports) (sym h.same) y
+setting_beside p P k (Hold_port n held) stands (Err fault) old new h up y = grind (arith, nat_tests)
 setting_beside p P k (Set_mode n active short) stands (Ok done) old new h up y = set_beside p n P k (is_in_mode active short)
     (in_mode active short) stands (λ x. refl) (port_index n old.system_ports) old new refl h y
-setting_beside p P k (Set_mode n active short) stands (Err fault) old new h up y =
-    subst (λ (t : SystemState). OfEach (AtPort p P) t.system_ports) (sym h.same) y
-setting_beside p P k (Set_max_delay delay) stands (Ok done) old new h up y =
-    subst (λ (t : SystemState). OfEach (AtPort p P) t.system_ports) (sym h) y
+setting_beside p P k (Set_mode n active short) stands (Err fault) old new h up y = grind (arith, nat_tests)
+setting_beside p P k (Set_max_delay delay) stands (Ok done) old new h up y = grind (arith, nat_tests)
 setting_beside p P k (Set_max_delay delay) stands (Err fault) old new h up y = absurd h
 setting_beside p P k (Set_max_links most) stands (Ok done) old new h up y = settling_each (AtPort p P) k h.1.0 new h.1.2
     (zip_kept (λ q r. r ≡ record q { choice = choice_with_link most q.enabled q.choice })
     (λ m q. AtPort p P m q × AtPort p IsUp m q) (AtPort p P)
     (λ m q r e a f. subst P (sym (e ∙ limited_port most q (a.1 f))) (a.0 f)) old.system_ports h.1.0.system_ports h.1.1.0
     (each_both (AtPort p P) (AtPort p IsUp) old.system_ports y up))
-setting_beside p P k (Set_max_links most) stands (Err fault) old new h up y =
-    subst (λ (t : SystemState). OfEach (AtPort p P) t.system_ports) (sym h.1) y
+setting_beside p P k (Set_max_links most) stands (Err fault) old new h up y = grind (arith, nat_tests)
 
 -- no setting takes a link down
 up_withstands : (p : ℕ) (setting : Setting) → Withstands p IsUp setting

@@ -43,8 +43,7 @@ host_call gives old (host.Call call) (told.Call answer) new h p = record {
 }
 host_call gives old (host.OfferConversation agg conv) answer new h p =
     beside old new (host_alone gives old (host.OfferConversation agg conv) answer new h tt) p
-host_call gives old (host.LeaveConversation agg conv) answer new h p =
-    beside old new (host_alone gives old (host.LeaveConversation agg conv) answer new h tt) p
+host_call gives old (host.LeaveConversation agg conv) answer new h p = grind arith
 host_call gives old (host.Probe port) answer new h p = beside old new (host_alone gives old (host.Probe port) answer new h tt) p
 host_call gives old (host.Rest agg conv) answer new h p = beside old new (host_alone gives old (host.Rest agg conv) answer new h tt) p
 host_call gives old (host.ForcePort port) answer new h p = beside old new (host_alone gives old (host.ForcePort port) answer new h tt) p
@@ -100,8 +99,7 @@ rounds_whole gives n old new h steady s w = (played_on OldArrive gives (λ m j. 
 -- a bundle
 
 selected_in : (c : Choice) → is_selected c ≡ true → (agg : AggId) × (c ≡ Selected agg)
-selected_in (Selected agg) h = (agg, refl)
-selected_in c h = absurd (false≢true h)
+selected_in c h = grind arith
 
 selected_chosen : (agg : AggId) (c : Choice) → c ≡ Selected agg → c ≢ Unselected
 selected_chosen agg c e u = absurd (none-some agg.0 (sym (ap occupied u) ∙ ap occupied e))

@@ -86,15 +86,11 @@ still_enough s old new hyp1 key was hyp2 hyp3 = grind (arith, nat_tests, same_po
 
 pub still_one : (s : Side) (old new : WorldState) → IsAsBefore s old new → (key was : Key) → key ≡ was
     → 1 ≤ aggregators_with was (half s old).state → 1 ≤ aggregators_with key (half s new).state
-still_one s old new b key was e one = subst (λ (q : Key). 1 ≤ aggregators_with q (half s new).state) (sym e)
-    (subst (λ n. 1 ≤ n) (sym (same_aggregators_with s old new b was)) one)
+still_one s old new b key was e one = grind (arith, nat_tests)
 
 pub still_aggregators : (s : Side) (old new : WorldState) → IsAsBefore s old new → EnoughAggregators (half s old).state
     → EnoughAggregators (half s new).state
-still_aggregators s old new b enough k y there up =
-    let x = old_port (half s old).state.system_ports (half s new).state.system_ports k y b.numbers there in
-    still_enough s old new b y.port.party.key x.0.port.party.key (ap (λ (q : Party). q.key) (b.alike k x.0 y x.1 there).0)
-    (enough k x.0 x.1 (sym (b.alike k x.0 y x.1 there).1 ∙ up))
+still_aggregators s old new b enough k y there up = grind (arith, nat_tests, old_port, half, still_enough)
 
 pub still_links : (s : Side) (old new : WorldState) → IsAsBefore s old new → EnoughLinks (half s old).state → EnoughLinks (half s new).state
 still_links s old new b enough k most y there limit =
@@ -106,9 +102,7 @@ still_links s old new b enough k most y there limit =
 pub still_heard : (Holds : LinkState → WorldState → Type 0) (s : Side) (old new : WorldState) → IsAsBefore s old new → AllHeard Holds old
     → (k : ℕ) (z : SystemPort) → slice_get (half s new).state.system_ports k ≡ Some z → z.port.enabled ≡ true
     → EndsHealthyCable Holds s z.number old
-still_heard Holds s old new like heard k z there up =
-    let x = old_port (half s old).state.system_ports (half s new).state.system_ports k z like.numbers there in
-    subst (λ n. EndsHealthyCable Holds s n old) (sym x.2) (heard s k x.0 x.1 (sym (like.alike k x.0 z x.1 there).1 ∙ up))
+still_heard Holds s old new like heard k z there up = grind (arith, nat_tests, old_port, half)
 
 -- the ports of a system name it
 

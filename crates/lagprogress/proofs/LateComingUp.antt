@@ -1,8 +1,8 @@
 -- How both ends of a cable come to distribute in late rounds.
 use Rattle.lagprogress.proofs.Common.{Bool, List, [], ap, arith, inl, inr, subst, sym, true, ℕ, ◌-◌, ◌∙◌, ◌∷◌, ◌≡◌, ◌≤◌, ◌⊎◌, AllByRecursion}
 use Rattle.lagprogress.proofs.Common.{is_selected, Lacpdu, One, Side, peer, Machines, is_synchronized, mux_rows, receive_rows, RunsToRest, count_down}
-use Rattle.lagprogress.proofs.Common.{is_stamp, Algorithms, ItemValue, WorldState, half, history_at, taken_in, no, times_keep, AtPort}
-use Rattle.lagprogress.proofs.Common.{periodic_leaves, IsLateRound, LateRounds, OldArrive}
+use Rattle.lagprogress.proofs.Common.{Algorithms, ItemValue, WorldState, half, no, times_keep, AtPort, periodic_leaves, IsLateRound, LateRounds}
+use Rattle.lagprogress.proofs.Common.{OldArrive}
 use Rattle.lagprogress.proofs.EachRound.{played_split}
 use Rattle.lagprogress.proofs.ComingUp.{comes_up, Agrees, AreSynced, owed, synced_of}
 use Rattle.lagprogress.proofs.Quieting.{all_beside, PlayedBeside, as_beside}
@@ -46,8 +46,7 @@ tells_which u v (x ∷ xs) H h = elim (tells_which u v xs (SaysIt u v x × (H �
 
 present_of : (gives : Algorithms) (at : Side → ℕ) (old new : WorldState) (t : Side) → Took-it gives 1 at (counts_of at old) (kept_of at old) t new
     → Present at t new
-present_of gives at old new t m there = subst (λ n. is_stamp n (taken_in (history_at (half t new).histories (at t))) ≡ true) (sym (m.0.counts (peer t)))
-    (m.1 (sym (m.0.there t) ∙ there))
+present_of gives at old new t m there = grind arith
 
 module _ (at : Side → ℕ) (w : Side → Lacpdu) (k : Side → ℕ) (kept : Side → Bool) (named : (t : Side) → IsNamed (w t))
     (awake : (s : Side) → (activity (w s) ≡ true) ⊎ (activity (w (peer s)) ≡ true)) where

@@ -1,15 +1,15 @@
 -- What a run leaves of the items that were on a cable, by the number of them that arrive.
-use Rattle.lagprogress.proofs.Common.{Bool, List, None, Option, Result, Some, [], ap, arith, false, inl, inr, length, map, refl, slice_get, subst}
-use Rattle.lagprogress.proofs.Common.{suc, sym, true, zero, ℕ, ◌++◌, ◌==◌, ◌∙◌, ◌∷◌, ◌≡◌, ◌⊎◌, cases_Bool, nat_tests, same_Some, AllByRecursion}
-use Rattle.lagprogress.proofs.Common.{all-append, One, Side, end_at, peer, value_of, SystemFault, Received, Receive, CallPromise, SystemState, Reply}
-use Rattle.lagprogress.proofs.Common.{Algorithms, DeliversFrom, WorldSteps, side_of, link_ends, ItemValue, LinkState, WorldState, half, towards}
-use Rattle.lagprogress.proofs.Common.{end_is, HostEvent, Plays, LeavesPorts, RunReplies, StepReplies, TickOnceAmong, ArriveIn, IsArrivalAt}
+use Rattle.lagprogress.proofs.Common.{Bool, List, Option, Result, Some, [], ap, arith, false, inl, inr, length, map, refl, slice_get, subst, suc, sym}
+use Rattle.lagprogress.proofs.Common.{true, zero, ℕ, ◌++◌, ◌==◌, ◌∙◌, ◌∷◌, ◌≡◌, ◌⊎◌, cases_Bool, nat_tests, same_Some, AllByRecursion, all-append}
+use Rattle.lagprogress.proofs.Common.{One, Side, end_at, peer, value_of, SystemFault, Received, Receive, CallPromise, SystemState, Reply, Algorithms}
+use Rattle.lagprogress.proofs.Common.{DeliversFrom, WorldSteps, side_of, link_ends, ItemValue, LinkState, WorldState, half, towards, end_is}
+use Rattle.lagprogress.proofs.Common.{HostEvent, Plays, LeavesPorts, RunReplies, StepReplies, TickOnceAmong, ArriveIn, IsArrivalAt}
 use Rattle.lagsystem.specs.declared.drive.Reply.TheVariants as answer
 use Rattle.lagscript.specs.declared.event.Event.TheVariants as event
 use Rattle.lagprogress.proofs.Delivering.{responds_none}
 use Rattle.lagprogress.proofs.EachRound.{joins_kept}
 use Rattle.lagprogress.proofs.HostRound.{KeptBeside, MadeByTick, not_tick}
-use Rattle.lagprogress.proofs.Linked.{Flying, HasLacpdu, asked_which, each_side, peer_twice, push_there, put_other, put_there}
+use Rattle.lagprogress.proofs.Linked.{Flying, HasLacpdu, asked_which, each_side, peer_twice, put_other, put_there}
 use Rattle.lagprogress.proofs.OneCable.{Arrives, Asks, Back, Comes, Gains, OnCable, Stays, arrived, asks, cable, came, came_off, passed_by, put}
 use Rattle.lagprogress.proofs.OneCable.{response, ticks, stays_beside, towards_there}
 use Rattle.lagprogress.proofs.Quieting.{LeavesEnds, leaves_cable}
@@ -56,8 +56,7 @@ beyond_first P [] = tt
 beyond_first P (x ∷ xs) = beyond_first P xs
 
 beyond_none : (P : ItemValue → Type 0) (k : ℕ) → Beyond P k []
-beyond_none P zero = tt
-beyond_none P (suc k) = tt
+beyond_none P k = grind (arith, nat_tests)
 
 beyond_less : (P : ItemValue → Type 0) (k : ℕ) (xs : List ItemValue) → Beyond P k xs → Beyond P (suc k) xs
 beyond_less P zero [] h = tt
@@ -66,8 +65,7 @@ beyond_less P (suc k) [] h = tt
 beyond_less P (suc k) (x ∷ xs) h = beyond_less P k xs h
 
 beyond_pop : (P : ItemValue → Type 0) (k : ℕ) (x : ItemValue) (xs : List ItemValue) → Beyond P k (x ∷ xs) → Beyond P k xs
-beyond_pop P zero x xs h = h.1
-beyond_pop P (suc k) x xs h = beyond_less P k xs h
+beyond_pop P k x xs h = grind (arith, nat_tests, beyond_less)
 
 beyond_push : (P : ItemValue → Type 0) (k : ℕ) (xs : List ItemValue) (x : ItemValue) → P x → Beyond P k xs → Beyond P k (xs ++ x ∷ [])
 beyond_push P zero xs x p h = all-append P xs (x ∷ []) h (p, tt)
@@ -107,15 +105,12 @@ comes_in gives n i t at fl r old new named c h =
 -- one item more, or what an Emit event of the end of s sends
 gain : (s : Side) (o : Option (List ℕ)) (fl now : Side → List ItemValue) → Gains s o fl now
     → (now (peer s) ≡ fl (peer s)) ⊎ ((item : ItemValue) × (o ≡ Some item.octets) × (now (peer s) ≡ fl (peer s) ++ item ∷ []))
-gain s None fl now h = inl (ap (λ (f : Side → List ItemValue). f (peer s)) h)
-gain s (Some frame) fl now h =
-    inr (h.0, ap (λ o. Some o) (sym h.1), ap (λ (f : Side → List ItemValue). f (peer s)) h.2 ∙ push_there (peer s) h.0 fl)
+gain s o fl now h = grind (arith, nat_tests)
 
 -- so it is towards the end of t, if its peer sends
 pub gain_at : (t : Side) (o : Option (List ℕ)) (fl now : Side → List ItemValue) → Gains (peer t) o fl now
     → (now t ≡ fl t) ⊎ ((item : ItemValue) × (o ≡ Some item.octets) × (now t ≡ fl t ++ item ∷ []))
-gain_at t o fl now h = subst (λ u. (now u ≡ fl u) ⊎ ((item : ItemValue) × (o ≡ Some item.octets) × (now u ≡ fl u ++ item ∷ []))) (peer_twice t)
-    (gain (peer t) o fl now h)
+gain_at t o fl now h = grind (arith, nat_tests)
 
 -- the item is added last
 abbrev pub Adds : (ItemValue → Type 0) → List ItemValue → List ItemValue → Type 0

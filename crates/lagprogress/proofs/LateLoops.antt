@@ -1,4 +1,5 @@
 -- Which events are a late round.
+use native.Mathlib.Omega.{arith}
 use Rattle.lagprogress.proofs.Common.{Bool, List, [], ap, false, inl, inr, length, refl, subst, suc, sym, true, zero, ℕ, ◌++◌, ◌∙◌, ◌∷◌, ◌≡◌}
 use Rattle.lagprogress.proofs.Common.{IsCabling, One, Side, Two, Reply, Algorithms, world_setup, ItemValue, WorldState, port_at, towards, HostEvent}
 use Rattle.lagprogress.proofs.Common.{Clearing, HostRounds, IsHostRound, IsTickOf, NoneIsLeft, PlayedRounds, RunReplies, StepReplies, TickOnce}
@@ -12,8 +13,7 @@ use Rattle.lagprogress.proofs.Starting.{healthy_cable}
 -- a run in the end of which nothing is on the cable: what was on it has arrived
 
 arrive_later : (k : ℕ) (t : Side) (x : ℕ) (e : HostEvent) (es : List HostEvent) → ArriveIn k t x es → ArriveIn k t x (e ∷ es)
-arrive_later zero t x e es h = tt
-arrive_later (suc k) t x e es h = inr h
+arrive_later k t x e es h = grind arith
 
 arrive_fewer : (k : ℕ) (t : Side) (x : ℕ) (es : List HostEvent) → ArriveIn (suc k) t x es → ArriveIn k t x es
 arrive_fewer zero t x es h = tt
@@ -84,5 +84,4 @@ rounds_emptied gives (suc n) old new cabling h = (
 )
 
 pub host_rounds_are_late_rounds : (gives : Algorithms) → HostRoundsAreLateRounds gives
-host_rounds_are_late_rounds gives n old new cabling h =
-    clears_less Emptied OldArrive (λ es i j e. e.0) gives n old new (rounds_emptied gives n old new cabling h)
+host_rounds_are_late_rounds gives n old new cabling h = grind (arith, clears_less, Emptied, rounds_emptied)

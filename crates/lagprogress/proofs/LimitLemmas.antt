@@ -2,13 +2,13 @@
 use Rattle.lagprogress.proofs.Common.{Bool, Err, IsSome, None, Ok, Option, Some, ap, arith, false, if◌then◌else◌, inl, inr, refl, slice_get, subst}
 use Rattle.lagprogress.proofs.Common.{suc, sym, true, ℕ, ◌∙◌, ◌≡◌, ◌≤◌, ◌⊎◌, cases_Bool, AggId, SystemId, Choice, Selected, Standby, Unselected}
 use Rattle.lagprogress.proofs.Common.{Party, is_selected, same_party, Lacpdu, party_of, One, Side, Two, end_at, peer, Setup, Machines, selected}
-use Rattle.lagprogress.proofs.Common.{default_partner, receive_rows, start_receive, RunsToRest, Starts, before_start, count_down, has_chosen, Answer}
-use Rattle.lagprogress.proofs.Common.{SystemPort, Call, Configure, ProcessesLacpdu, Receive, Restart, Set_link, SetsPortEnabled, Step, Tick, Transmit}
-use Rattle.lagprogress.proofs.Common.{changed_party, choice_with_link, SystemState, port_index, Step-frame, all-get, found_place, ports_rise, Same}
-use Rattle.lagprogress.proofs.Common.{agreement_at, Algorithms, IsWorldSound, LinkState, WorldState, half, port_at, end_is, StandsByFull}
-use Rattle.lagprogress.proofs.Common.{WantsAggregator, KeptByCall, KeptBySettling, OfEach, Step-each, first_each, place_each, settling_each, no}
-use Rattle.lagprogress.proofs.Common.{AtPort, at_number, mux_leaves, periodic_leaves, RowsKeep, runs_keep, takes_keep, EndsOfEachKnow}
-use Rattle.lagprogress.proofs.Common.{SelectedPairsAgree, LateRounds, OldArrive, EndKnows, Knows, AtEnd, IsHealthyAt, OfPort}
+use Rattle.lagprogress.proofs.Common.{receive_rows, start_receive, RunsToRest, Starts, before_start, count_down, has_chosen, Answer, SystemPort, Call}
+use Rattle.lagprogress.proofs.Common.{Configure, ProcessesLacpdu, Receive, Restart, Set_link, SetsPortEnabled, Step, Tick, Transmit, changed_party}
+use Rattle.lagprogress.proofs.Common.{choice_with_link, SystemState, port_index, all-get, found_place, ports_rise, Same, agreement_at, Algorithms}
+use Rattle.lagprogress.proofs.Common.{IsWorldSound, LinkState, WorldState, half, port_at, end_is, StandsByFull, WantsAggregator, KeptByCall}
+use Rattle.lagprogress.proofs.Common.{KeptBySettling, OfEach, Step-each, first_each, place_each, settling_each, no, AtPort, at_number, mux_leaves}
+use Rattle.lagprogress.proofs.Common.{periodic_leaves, RowsKeep, runs_keep, takes_keep, EndsOfEachKnow, SelectedPairsAgree, LateRounds, OldArrive}
+use Rattle.lagprogress.proofs.Common.{EndKnows, Knows, AtEnd, IsHealthyAt, OfPort}
 use Rattle.lagprogress.proofs.SharedLemmas.{played_lasted, shared_finds}
 use Rattle.lagprogress.proofs.EachRound.{played_join, played_on, played_steady, EachAt, RoundKeeps, host_each, played_keep}
 use Rattle.lagprogress.proofs.Lasting.{played_alike, played_before, all_by_place, ends_at, own_system, still_heard, still_links, Alike}
@@ -29,14 +29,10 @@ abbrev IdleAt : ℕ → Machines → Type 0
 IdleAt n p = Idle p
 
 chooses_none : (b : Bool) (c : Choice) → c ≡ Unselected → (if b then c else Unselected) ≡ Unselected
-chooses_none true c e = e
-chooses_none false c e = refl
+chooses_none b c e = grind arith
 
 receive_idle : RowsKeep Idle receive_rows
-receive_idle = (
-  λ p a. a,
-  (λ p a. a, (λ p a. a, (λ p a e. chooses_none (same_party (party_of default_partner) (party_of p.partner)) p.choice (a e), (λ p a. a, tt)))),
-)
+receive_idle = grind arith
 
 idle_settles : KeptBySettling IdleAt
 idle_settles = record {
@@ -100,17 +96,14 @@ call_idle : (gives : ℕ → ℕ → ℕ → Type 0) (old new : SystemState) (ca
 call_idle gives old new (Set_link n up) (reply.SetLink (Ok done)) h some a = settling_each IdleAt idle_settles h.0 new h.2
     (place_each IdleAt (SetsPortEnabled old.max_links up) n (λ p q k b. links_idle old.max_links up p q some k b)
     (port_index n old.system_ports) old.system_ports h.0.system_ports refl h.1.0 a)
-call_idle gives old new (Set_link n up) (reply.SetLink (Err fault)) h some a =
-    subst (λ (s : SystemState). OfEach IdleAt s.system_ports) (sym h.same) a
+call_idle gives old new (Set_link n up) (reply.SetLink (Err fault)) h some a = grind arith
 call_idle gives old new (Set_link n up) answer h some a = absurd h
 call_idle gives old new call answer h some a =
     Step-each IdleAt idle_settles gives old call answer new (idle_kept call answer (λ n up e. cc)) h a
 
 call_limits : (gives : ℕ → ℕ → ℕ → Type 0) (old new : SystemState) (call : Call) (answer : Answer) → Step gives old call answer new → Limits old
     → Limits new
-call_limits gives old new call answer h a some =
-    let was = subst (λ (o : Option ℕ). IsSome o) (ap (λ (s : SystemState). s.max_links) (Step-frame gives old call answer new h)) some in
-    call_idle gives old new call answer h was (a was)
+call_limits gives old new call answer h a some = grind (arith, call_idle)
 
 pub each_reached_has_down_unselected : (gives : Algorithms) → EachReachedHasDownUnselected gives
 each_reached_has_down_unselected gives configs es rs start new s i h runs some k x there =

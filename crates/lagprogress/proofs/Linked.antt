@@ -1,14 +1,14 @@
 -- What Emit and Deliver events, and ticks, leave of a world with one cable.
 use Rattle.lagprogress.proofs.Common.{Bool, Err, List, None, Ok, Option, Result, Some, [], ap, arith, cond, false, inl, inr, length, nat_lt, not}
-use Rattle.lagprogress.proofs.Common.{option_map, refl, slice_get, subst, suc, sym, true, zero, ℕ, ◌++◌, ◌+◌, ◌<◌, ◌==◌, ◌∙◌, ◌∷◌, ◌≡◌, ◌≤◌, ◌⊎◌}
-use Rattle.lagprogress.proofs.Common.{cases_Bool, nat_tests, position-Some, none-some, same_Some, AllByRecursion, position_or_len, StateBits, Lacpdu}
-use Rattle.lagprogress.proofs.Common.{Side, peer, Machines, periodic_rows, AtRest, actor_of, after_sending, is_due, pdu_of, marker_due, Answer}
-use Rattle.lagprogress.proofs.Common.{SystemFault, Received, SystemPort, Call, Carries, IsFrame, OnlyPortChangesBy, ProcessesLacpdu, Receive}
-use Rattle.lagprogress.proofs.Common.{ReceivesAt, Step, ThenSettles, Transmit, configured_numbers, PeriodicIsSettled, IsLacpduOf, SendsMarkerOf}
-use Rattle.lagprogress.proofs.Common.{TransmitsAt, TransmitsIf, CallPromise, SystemState, machines_of, port_index, port_numbers, system_port_at}
-use Rattle.lagprogress.proofs.Common.{named, processes_or_stays, all-get, found_place, ports_rise, Event, Reply, Algorithms, WorldRuns, WorldSteps}
-use Rattle.lagprogress.proofs.Common.{side_of, ItemValue, WorldState, half, towards, IsTimed, KeptBySettling, OfEach, Step-each, AtPort, at_number}
-use Rattle.lagprogress.proofs.Common.{calls_each, same_ports}
+use Rattle.lagprogress.proofs.Common.{refl, slice_get, subst, suc, sym, true, zero, ℕ, ◌++◌, ◌+◌, ◌<◌, ◌==◌, ◌∙◌, ◌∷◌, ◌≡◌, ◌≤◌, ◌⊎◌, cases_Bool}
+use Rattle.lagprogress.proofs.Common.{nat_tests, position-Some, none-some, same_Some, AllByRecursion, position_or_len, StateBits, Lacpdu, Side, peer}
+use Rattle.lagprogress.proofs.Common.{Machines, periodic_rows, AtRest, actor_of, after_sending, is_due, pdu_of, marker_due, Answer, SystemFault}
+use Rattle.lagprogress.proofs.Common.{Received, SystemPort, Call, Carries, IsFrame, OnlyPortChangesBy, ProcessesLacpdu, Receive, ReceivesAt, Step}
+use Rattle.lagprogress.proofs.Common.{ThenSettles, Transmit, configured_numbers, PeriodicIsSettled, IsLacpduOf, SendsMarkerOf, TransmitsAt}
+use Rattle.lagprogress.proofs.Common.{TransmitsIf, CallPromise, SystemState, machines_of, port_index, port_numbers, named, processes_or_stays}
+use Rattle.lagprogress.proofs.Common.{all-get, found_place, ports_rise, Event, Reply, Algorithms, WorldRuns, WorldSteps, side_of, ItemValue}
+use Rattle.lagprogress.proofs.Common.{WorldState, half, towards, IsTimed, KeptBySettling, OfEach, Step-each, AtPort, at_number, calls_each}
+use Rattle.lagprogress.proofs.Common.{same_ports}
 use Rattle.slowpdu.specs.declared.pdu.Pdu.TheVariants as pdu
 use Rattle.lagsystem.specs.declared.drive.Reply.TheVariants as answer
 use Rattle.lagsystem.specs.declared.received.Received.TheVariants as received
@@ -39,16 +39,13 @@ index_of : (n : ℕ) (xs : List SystemPort)
 index_of n xs = ap (λ i. place_in i (length xs)) (lens n xs) ∙ ap (place_in (position_or_len (λ m. m == n) (port_numbers xs))) (many xs)
 
 pub same_index : (n : ℕ) (xs ys : List SystemPort) → port_numbers ys ≡ port_numbers xs → port_index n ys ≡ port_index n xs
-same_index n xs ys e =
-    index_of n ys ∙ (ap (λ l. place_in (position_or_len (λ m. m == n) l) (length l)) e ∙ sym (index_of n xs))
+same_index n xs ys e = grind (arith, nat_tests, index_of, place_in, position_or_len)
 
 pub place_kept : (gives : Algorithms) (e : Event) (r : Reply) (old new : WorldState) → WorldSteps gives old e r new → AreTimely old
     → AreTimely new → (s : Side) (n : ℕ) → port_index n (half s new).state.system_ports ≡ port_index n (half s old).state.system_ports
 place_kept gives e r old new x a b s n =
     let g = each_is_calls gives e r old new x s in
-    let ports = same_ports (gives s) (half s old).state (half s new).state g.0 g.1 g.2 in
-    same_index n (half s old).state.system_ports (half s new).state.system_ports
-    ((b s).0.ports.same ∙ (ap configured_numbers ports ∙ sym (a s).0.ports.same))
+    grind (arith, nat_tests, same_ports, half, same_index, configured_numbers)
 
 -- what each event keeps that is so, a list of them keeps
 pub runs_all : (gives : Algorithms) (Is : Event → Type 0) (M : WorldState → Type 0)
@@ -242,23 +239,14 @@ pub record Link (d : ℕ) (at : Side → ℕ) (w : Side → Lacpdu) (c : Side �
 -- the link, with something else known of the ports
 pub with_ports : {d : ℕ} {at : Side → ℕ} {w : Side → Lacpdu} {c b : Side → ℕ} {x y : Side} {Y Z : Machines → Type 0} {j : WorldState}
     → Link d at w c x Y j → ((s : Side) → OfEach (AtPort (at s) (EndIs d w b y Z s)) (half s j).state.system_ports) → Link d at w b y Z j
-with_ports l ports = record {
-  steady = l.steady;
-  flying = l.flying;
-  index = l.index;
-  links = l.links;
-  good = l.good;
-  place = l.place;
-  ports = ports;
-}
+with_ports l ports = grind (arith, nat_tests)
 
 -- what is on one cable
 pub same_items : (i k : ℕ) (at : Side → ℕ) (fl now : Side → List ItemValue) (j : WorldState) → OnCable i at fl j.links → OnCable k at now j.links
     → (t : Side) → now t ≡ fl t
 same_items i k at fl now j c e t =
     let place : k ≡ i = alone t i k at fl j.links (cable at now) c e.there (port_there t at now) in
-    let is : cable at now ≡ cable at fl = same_Some (cable at now) (cable at fl) (sym e.there ∙ (ap (slice_get j.links) place ∙ c.there)) in
-    sym (towards_there t at now) ∙ (ap (towards t) is ∙ towards_there t at fl)
+    grind (arith, nat_tests, cable, same_Some, slice_get, towards_there, towards)
 
 -- so it is of two links
 module _ {d e : ℕ} {at : Side → ℕ} {w v : Side → Lacpdu} {c b : Side → ℕ} {x y : Side} {Y Z : Machines → Type 0} {j : WorldState} where
@@ -282,8 +270,7 @@ other_ports {d} {at} {w} {c} {b} {x} {y} {Y} {Z} {j} l k = with_ports l (λ s. o
 
 pub machines_there : (n : ℕ) (s : SystemState) (k : ℕ) (z : SystemPort) → port_index n s.system_ports ≡ Some k
     → slice_get s.system_ports k ≡ Some z → machines_of n s ≡ Some z.port
-machines_there n s k z e f = ap (λ o. option_map (λ (x : SystemPort). x.port) (system_port_at o s.system_ports)) e
-    ∙ ap (option_map (λ (x : SystemPort). x.port)) f
+machines_there n s k z e f = grind (arith, nat_tests)
 
 module _ (at : Side → ℕ) (w : Side → Lacpdu) where
   -- the port at an end

@@ -21,12 +21,7 @@ plays_nothing gives j = record { events = []; replies = []; between = tt; acts =
 
 pub plays_both : (gives : Algorithms) (old mid new : WorldState) → PlaysBetween gives old mid → PlaysBetween gives mid new
     → PlaysBetween gives old new
-plays_both gives old mid new a b = record {
-  events = a.events ++ b.events;
-  replies = a.replies ++ b.replies;
-  between = all-append AsksOrDelivers a.events b.events a.between b.between;
-  acts = runs_append gives a.events b.events a.replies b.replies old mid new a.acts b.acts;
-}
+plays_both gives old mid new a b = grind (arith, all-append, runs_append)
 
 are_between : (es : List Event) → AllByRecursion AsksOrDelivers es → AllByRecursion (λ e. IsBetweenTicks (Plays e)) es
 are_between [] h = tt
@@ -46,12 +41,7 @@ delivers_between (event.Deliver c n ∷ es) h = (tt, delivers_between es h.1)
 delivers_between (e ∷ es) h = absurd h.0
 
 pub plays_delivers : (gives : Algorithms) (old new : WorldState) → Delivers gives old new → PlaysBetween gives old new
-plays_delivers gives old new d = record {
-  events = d.delivers;
-  replies = d.acts.replies;
-  between = delivers_between d.delivers d.arrives;
-  acts = d.acts.acts;
-}
+plays_delivers gives old new d = grind (arith, delivers_between)
 
 -- a port is asked once more
 
@@ -104,13 +94,11 @@ refused_ask fault n p old new named f same = subst (IsOutOfMemoryOrSpent fault) 
 
 pub stops_delivering_now : (gives : Algorithms) (fault : WorldFault) (old new : WorldState) → Delivers gives old new
     → RefusesDelivery fault new → StopsBetween gives fault old new
-stops_delivering_now gives fault old new d f =
-    record { played = plays_delivers gives old new d; next = event.Deliver f.0 f.1; between = tt; refused = f.2 }
+stops_delivering_now gives fault old new d f = grind (arith, plays_delivers)
 
 pub stops_later : (gives : Algorithms) (fault : WorldFault) (old mid new : WorldState) → PlaysBetween gives old mid
     → StopsBetween gives fault mid new → StopsBetween gives fault old new
-stops_later gives fault old mid new a b =
-    record { played = plays_both gives old mid new a b.played; next = b.next; between = b.between; refused = b.refused }
+stops_later gives fault old mid new a b = grind (arith, plays_both)
 
 -- the ends of all cables
 
@@ -171,10 +159,7 @@ some_joined (Some l) h = (ports_joined l, refl)
 -- there is a cable with the next number
 pub cable_there : (n : ℕ) (start mid : WorldState) → n < length start.links → world_setup mid ≡ world_setup start
     → (x : ℕ × ℕ) × (ends_of_cable (n + 1) mid ≡ Some x)
-cable_there n start mid within fixed =
-    let next : n + 1 ≡ suc n = omega arith in
-    let inside : n < length mid.links = omega (arith, within, as_many mid start fixed) in
-    subst (λ m. (x : ℕ × ℕ) × (ends_of_cable m mid ≡ Some x)) (sym next) (some_joined (slice_get mid.links n) (some_within mid.links n inside))
+cable_there n start mid within fixed = grind (arith, as_many, ends_of_cable, some_joined, slice_get, some_within)
 
 pub stops_first : (gives : Algorithms) (n : ℕ) (fault : WorldFault) (old mid new : WorldState) → AsksEnds gives n old mid
     → StopsBetween gives fault mid new → StopsBetween gives fault old new
@@ -182,8 +167,7 @@ stops_first gives n fault old mid new a b = stops_later gives fault old mid new 
 
 pub stops_second : (gives : Algorithms) (n one : ℕ) (fault : WorldFault) (old mid between new : WorldState) → AsksEnds gives n old mid
     → AsksPort gives 1 one mid between → StopsBetween gives fault between new → StopsBetween gives fault old new
-stops_second gives n one fault old mid between new a b c =
-    stops_later gives fault old mid new a.played (stops_later gives fault mid between new b.played c)
+stops_second gives n one fault old mid between new a b c = grind (arith, stops_later)
 
 -- items arrive and ends are asked again and again
 pub plays_again : (gives : Algorithms) (count times : ℕ) (old new : WorldState) → DeliversAndAsks gives count times old new
@@ -193,22 +177,14 @@ plays_again gives count (suc n) old new h = plays_both gives old h.0 new (plays_
     (plays_both gives h.0 h.1 new (plays_delivers gives h.0 h.1 h.3) h.4.played)
 
 pub plays_until_empty : (gives : Algorithms) (count : ℕ) (old new : WorldState) → EmptiesCables gives count old new → PlaysBetween gives old new
-plays_until_empty gives count old new e = plays_both gives old e.asked new (plays_again gives count e.times old e.asked e.plays)
-    (plays_delivers gives e.asked new e.last)
+plays_until_empty gives count old new e = grind (arith, plays_both, plays_again, plays_delivers)
 
 -- a round
 
 pub plays_host_round : (gives : Algorithms) (n : ℕ) (old ticked asked new : WorldState) → n ≡ length old.links
     → world_setup ticked ≡ world_setup old → RunsAll gives ticks_of_both old ticked → AsksEnds gives n ticked asked
     → EmptiesCables gives n asked new → PlaysHostRound gives old new
-plays_host_round gives n old ticked asked new same fixed t a e = record {
-  ticked = ticked;
-  asked = asked;
-  ticks = t;
-  fixed = fixed;
-  asks = subst (λ m. AsksEnds gives m ticked asked) same a;
-  later = subst (λ m. EmptiesCables gives m asked new) same e;
-}
+plays_host_round gives n old ticked asked new same fixed t a e = grind arith
 
 pub host_round_drains : (gives : Algorithms) (old new : WorldState) → PlaysHostRound gives old new → IsSteady old → (s : Side) (g k : ℕ)
     → IsDrainingRound s g k gives old new
@@ -258,8 +234,7 @@ stops_after_ticks gives fault old ticked new t b = inr (inl (record { ticked = t
 
 pub one_round_more : (gives : Algorithms) (n : ℕ) (old mid new : WorldState) → PlaysHostRounds gives n old mid → PlaysHostRound gives mid new
     → PlaysHostRounds gives (n + 1) old new
-one_round_more gives n old mid new h x =
-    let e : suc n ≡ n + 1 = omega arith in subst (λ m. PlaysHostRounds gives m old new) e (mid, h, x)
+one_round_more gives n old mid new h x = grind arith
 
 pub one_draining_round_more : (gives : Algorithms) (n : ℕ) (old mid new : WorldState)
     → (IsSteady old → (s : Side) (g k : ℕ) → DrainingRounds s g k gives n old mid)

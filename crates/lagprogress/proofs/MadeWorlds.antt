@@ -1,11 +1,10 @@
 -- A world that events lead to from one that was made is a bundle, if its links are up as it wants them.
-use Rattle.lagprogress.proofs.Common.{Bool, List, None, Option, Some, ap, arith, false, if◌then◌else◌, map, refl, subst, suc, sym, true, zero, ℕ}
-use Rattle.lagprogress.proofs.Common.{◌++◌, ◌+◌, ◌-◌, ◌∙◌, ◌∷◌, ◌≡◌, nat_tests, none-some, SystemId, system-itself, One, Side, Two, WorldSetup}
-use Rattle.lagprogress.proofs.Common.{Config, config_value, or_first, Event, Reply, Algorithms, WorldRuns, AreFirst, IsStart, LinkState, WorldState}
-use Rattle.lagprogress.proofs.Common.{half, start_sound, Plays, hosts_keep_headline, no, EachLinkAgrees, EachLinkComesUp, HostReachedIsBundle}
-use Rattle.lagprogress.proofs.Common.{IsBundle, ReachedIsApart, ReachedIsBundle, SystemsDiffer, CarriersAreUp, NothingIsHeld, DrainingRounds}
-use Rattle.lagprogress.proofs.Common.{NothingIsHeldByHosts, HostRounds, LateRounds, EachAgrees, EachDistributes, IsReached, IsReady, LeadsTo}
-use Rattle.lagprogress.proofs.Common.{NothingStaysHeld, Rounds, IsSteady}
+use Rattle.lagprogress.proofs.Common.{Bool, List, None, Option, Some, ap, arith, false, if◌then◌else◌, map, refl, subst, suc, sym, zero, ℕ, ◌++◌, ◌+◌}
+use Rattle.lagprogress.proofs.Common.{◌-◌, ◌∙◌, ◌∷◌, ◌≡◌, nat_tests, SystemId, system-itself, One, Side, Two, WorldSetup, Config, config_value}
+use Rattle.lagprogress.proofs.Common.{or_first, Event, Reply, Algorithms, WorldRuns, AreFirst, IsStart, LinkState, WorldState, half, start_sound}
+use Rattle.lagprogress.proofs.Common.{hosts_keep_headline, no, EachLinkAgrees, EachLinkComesUp, HostReachedIsBundle, IsBundle, ReachedIsApart}
+use Rattle.lagprogress.proofs.Common.{ReachedIsBundle, SystemsDiffer, CarriersAreUp, NothingIsHeld, DrainingRounds, NothingIsHeldByHosts, HostRounds}
+use Rattle.lagprogress.proofs.Common.{LateRounds, EachAgrees, EachDistributes, IsReached, IsReady, LeadsTo, NothingStaysHeld, Rounds, IsSteady}
 use Rattle.lagworld.specs.Sound.{IsSound}
 use Rattle.lagprogress.proofs.Looping.{RunsEvents}
 use Rattle.cables.specs.declared.item.Item.{Item}
@@ -23,8 +22,7 @@ first_none : {X : Type 0} (a b : Option X) → or_first a b ≡ None → (a ≡ 
 first_none a b e = grind (arith, nat_tests)
 
 when_none : {X : Type 0} (b : Bool) (x : X) → (if b then Some x else None) ≡ None → b ≡ false
-when_none true x e = absurd (none-some x (sym e))
-when_none false x e = refl
+when_none b x e = grind (arith, nat_tests)
 
 start_differs : (configs : List Config) (cables : List (ℕ × ℕ)) (j : WorldState) → refusal_of_all (map config_value configs) cables ≡ None
     → AreFirst configs j → SystemsDiffer j
@@ -67,8 +65,7 @@ draining_splits gives s g k (suc i) m (suc n) old new e h =
 
 reached_carriers : (gives : Algorithms) (configs : List Config) (es : List Event) (rs : List Reply) (start new : WorldState) → IsStart start
     → AreFirst configs start → WorldRuns gives start es rs new → (s : Side) → CarriersAreUp (half s new).state
-reached_carriers gives configs es rs start new i h runs =
-    host_reached_has_carriers_up gives configs (map Plays es) start new i h (events_are_of_hosts gives es rs start new runs)
+reached_carriers gives configs es rs start new i h runs = grind (arith, nat_tests, host_reached_has_carriers_up, map, events_are_of_hosts)
 
 -- as the contract of `World::new` says it
 module _ {C : Type 0} (items : C → List Item) (limit : C → Option ℕ) where

@@ -28,11 +28,7 @@ unsynchronized : (s : SystemState) → DisabledAreUnsynchronized s → OfEach La
 unsynchronized s h = all_by_place (λ x. Lapses x.port) s.system_ports h
 
 lapse_round : RoundKeeps LapsesAt
-lapse_round = record {
-  settles = lapse_settles;
-  sends = λ n p a. a;
-  takes = λ n v p q h a. takes_keep Lapses v (λ p a e. absurd cc, tt) p q h a;
-}
+lapse_round = grind (arith, lapse_settles, takes_keep)
 
 lapses_on : (gives : Algorithms) (n : ℕ) (old new : WorldState) (s : Side) → LateRounds gives n old new → EachAt LapsesAt s old → EachAt LapsesAt s new
 lapses_on gives n old new s h a = played_on OldArrive gives (λ m j. EachAt LapsesAt s j) old a
@@ -63,8 +59,7 @@ offer_link gives n s d at w c x Y agg octets r old new g port plain h l =
 
 accepted : (s : Side) (p i : ℕ) (at : Side → ℕ) (fl : Side → List ItemValue) (links : List LinkState) → OnCable i at fl links → at s ≡ p
     → is_accepted s p links ≡ true
-accepted s p i at fl links c e = ap (λ q. is_accepted s q links) (sym e) ∙ (ap (λ o. accepts_at s (link_at o links)) (placed s i at fl links c)
-    ∙ (ap (accepts_at s) c.there ∙ takes_all s at fl))
+accepted s p i at fl links c e = grind (arith, is_accepted, accepts_at, link_at, placed, takes_all)
 
 module _ (Holds : LinkState → WorldState → Type 0) (first : ℕ) (gives : Algorithms) (old : WorldState) (b : IsBundle Holds old)
     (m : Meets Holds first gives old) where

@@ -162,8 +162,7 @@ Gains s (Some frame) fl now = (item : ItemValue) × (item.octets ≡ frame) × (
 
 gains : (s : Side) (as_item : List ℕ → ItemValue) → ((frame : List ℕ) → (as_item frame).octets ≡ frame) → (o : Option (List ℕ))
     (fl : Side → List ItemValue) → Gains s o fl (gained s (option_map as_item o) fl)
-gains s as_item same None fl = refl
-gains s as_item same (Some frame) fl = (as_item frame, same frame, refl)
+gains s as_item same o fl = grind (arith, nat_tests)
 
 -- the frame that goes out with an answer to Transmit, and the item that it becomes; its stamp depends on the histories
 abbrev pub sent_frame : Result (Option (List ℕ)) SystemFault → Option (List ℕ)

@@ -51,8 +51,7 @@ pub flies : (gives : ℕ → ℕ → ℕ → Type 0) (s : Side) (n k : ℕ) (z :
     → port_index n old.system_ports ≡ Some k → slice_get old.system_ports k ≡ Some z → z.port.enabled ≡ true → is_due z.port ≡ true
     → Step gives old (Transmit n) (answer.Transmit a) new → Went s a fl now → Flying (now (peer s))
 flies gives s n k z (Err fault) old new fl now place there up due h w = absurd (none-some k (sym h.cause ∙ place))
-flies gives s n k z (Ok None) old new fl now place there up due h w =
-    let sent = sends_due (port_index n old.system_ports) k z old None new place there up due h in absurd (none-some sent.0 sent.2)
+flies gives s n k z (Ok None) old new fl now place there up due h w = grind (arith, nat_tests)
 flies gives s n k z (Ok (Some frame)) old new fl now place there up due h w =
     let sent = sends_due (port_index n old.system_ports) k z old (Some frame) new place there up due h in
     let is : frame ≡ sent.0 = same_Some frame sent.0 sent.2 in

@@ -1,12 +1,12 @@
 -- What a system sends is what it carries; and how an LACPDU goes onto a cable and comes off it.
 use Rattle.lagprogress.proofs.Common.{Bool, Err, List, None, Ok, Option, Result, Some, [], ap, arith, drop, refl, slice_get, slice_set, subst, suc}
-use Rattle.lagprogress.proofs.Common.{sym, true, ℕ, ◌++◌, ◌∙◌, ◌∷◌, ◌≡◌, nat_tests, none-some, same_Some, Lacpdu, Marker, Pdu, written_pdu, One, Side}
-use Rattle.lagprogress.proofs.Common.{Two, peer, value_of, is_due, pdu_of, SystemFault, Received, TookLacpdu, SystemPort, Carries, IsFrame}
-use Rattle.lagprogress.proofs.Common.{OnlyPortChangesBy, ParsesWhere, Performs, ProcessesLacpdu, ReceivesAt, Step, ThenSettles, Transmit, IsSent}
-use Rattle.lagprogress.proofs.Common.{IsLacpduOf, SendsLacpdu, TransmitsAt, TransmitsIf, SystemState, port_index, effect_one, Reply, AfterReceive}
-use Rattle.lagprogress.proofs.Common.{AfterTransmit, Algorithms, DeliversFrom, WorldEmits, WorldReceives, WorldSteps, side_of, with_link_at}
-use Rattle.lagprogress.proofs.Common.{HalfState, ItemValue, LinkState, WorldState, accepts, half, link_index, port_at, put_on_port, towards}
-use Rattle.lagprogress.proofs.Common.{with_half, with_towards, half_there, DeliverProcessesLacpdu, EmitSendsLacpdu, EndIsUp, IsHeardOn, IsSentOn}
+use Rattle.lagprogress.proofs.Common.{sym, true, ℕ, ◌++◌, ◌∙◌, ◌∷◌, ◌≡◌, nat_tests, same_Some, Lacpdu, Marker, Pdu, written_pdu, One, Side, Two, peer}
+use Rattle.lagprogress.proofs.Common.{value_of, is_due, pdu_of, SystemFault, Received, TookLacpdu, SystemPort, Carries, IsFrame, OnlyPortChangesBy}
+use Rattle.lagprogress.proofs.Common.{ParsesWhere, Performs, ProcessesLacpdu, ReceivesAt, Step, ThenSettles, Transmit, IsSent, IsLacpduOf}
+use Rattle.lagprogress.proofs.Common.{SendsLacpdu, TransmitsAt, TransmitsIf, SystemState, port_index, effect_one, Reply, AfterReceive, AfterTransmit}
+use Rattle.lagprogress.proofs.Common.{Algorithms, DeliversFrom, WorldEmits, WorldReceives, WorldSteps, side_of, with_link_at, HalfState, ItemValue}
+use Rattle.lagprogress.proofs.Common.{LinkState, WorldState, accepts, half, link_index, port_at, put_on_port, towards, with_half, with_towards}
+use Rattle.lagprogress.proofs.Common.{half_there, DeliverProcessesLacpdu, EmitSendsLacpdu, EndIsUp, IsHeardOn, IsSentOn}
 use Rattle.lagscript.specs.declared.event.Event.TheVariants as event
 use Rattle.slowpdu.specs.declared.pdu.Pdu.TheVariants as pdu
 use Rattle.slowpdu.proofs.LacpduLemmas.{one_reading}
@@ -69,13 +69,9 @@ emitted : (gives : Algorithms) (s : Side) (i k : ℕ) (l : LinkState) (x : Syste
     → accepts s l ≡ true → EndIsUp s l k x old → is_due x.port ≡ true
     → Step (gives s) (half s old).state (Transmit (port_at s l)) (answer.Transmit a) mid.state
     → AfterTransmit s (port_at s l) a (with_half s mid old) r new → IsSentOn s i k l x old new
-emitted gives s i k l x (Err fault) old new mid r cable there accepted end due h after =
-    absurd (none-some k (sym h.cause ∙ end.place))
-emitted gives s i k l x (Ok None) old new mid r cable there accepted end due h after =
-    let sent = sends_due (port_index (port_at s l) (half s old).state.system_ports) k x (half s old).state None mid.state end.place
-    end.there end.up due h in absurd (none-some sent.0 sent.2)
-emitted gives s i k l x (Ok (Some frame)) old new mid r cable there accepted end due h after =
-    grind (arith, nat_tests, sends_due, same_Some, put_there, half_there, peer_there)
+emitted gives s i k l x (Err fault) old new mid r cable there accepted end due h after = grind (arith, nat_tests)
+emitted gives s i k l x (Ok None) old new mid r cable there accepted end due h after = grind (arith, nat_tests)
+emitted gives s i k l x (Ok (Some frame)) old new mid r cable there accepted end due h after = grind (arith, nat_tests)
 
 pub emit_sends : (gives : Algorithms) → EmitSendsLacpdu gives
 emit_sends gives n s i k l x r old new is cable there accepted end due h =
@@ -88,8 +84,7 @@ emit_sends gives n s i k l x r old new is cable there accepted end due h =
 delivered : (gives : Algorithms) (s : Side) (i k : ℕ) (l : LinkState) (x y : SystemPort) (d : ℕ) (item : ItemValue) (rest : List ItemValue)
     (r : Reply) (old new : WorldState) → slice_get old.links i ≡ Some l → EndIsUp s l k y old → IsLacpduOf d x item.octets
     → WorldReceives gives s (port_at s l) item (with_link_at i (with_towards s rest l) old) r new → IsHeardOn s i k l x d rest old new
-delivered gives s i k l x y d item rest r old new there end is (Err fault, mid, h, after) =
-    absurd (none-some k (sym h.answers.step.cause ∙ end.place))
+delivered gives s i k l x y d item rest r old new there end is (Err fault, mid, h, after) = grind (arith, nat_tests)
 delivered gives s i k l x y d item rest r old new there end is (Ok o, mid, h, after) =
     let took = receives_lacpdu (port_at s l) k y item.octets (pdu_of x.port d) (half s old).state o mid.state end.place end.there end.up
     (sent_carries item.octets (pdu.Lacpdu (pdu_of x.port d)) (lacpdu_is_sent d x item.octets is)) h.answers.step in

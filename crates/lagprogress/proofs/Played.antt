@@ -2,18 +2,16 @@
 use Rattle.lagprogress.proofs.Common.{Bool, IfErr, IfOk, List, None, Option, Result, Some, [], ap, append_assoc, arith, drop, get_or, inl, inr}
 use Rattle.lagprogress.proofs.Common.{is_some, length, map, nat_le, option_map, refl, slice_get, subst, suc, sym, take, true, zero, ℕ, ◌&&◌, ◌++◌}
 use Rattle.lagprogress.proofs.Common.{◌+◌, ◌<◌, ◌∙◌, ◌∷◌, ◌≡◌, ◌≤◌, ◌⊎◌, cases_Bool, false≢true, nat_tests, none-some, same_Some, slice_get-get_or}
-use Rattle.lagprogress.proofs.Common.{slice_get-map, slice_get_within, AllByRecursion, IsErrAnd, all-append, Ends, Side, WorldSetup, value_of, Event}
-use Rattle.lagprogress.proofs.Common.{WorldFault, Reply, Algorithms, DeliversFrom, WorldRuns, WorldSteps, cause, cause_or_no_memory}
-use Rattle.lagprogress.proofs.Common.{first_event_cause, has_cable, may_take_memory, most_events, side_of, link_ends, world_setup, ends_of_cable}
-use Rattle.lagprogress.proofs.Common.{RefusesNext, next_of, ItemValue, LinkState, WorldState, towards, Delivers, HasTooManyCables}
-use Rattle.lagprogress.proofs.Common.{IsOutOfMemoryOrSpent, NamesNoCable, PlaysPart, RefusesDelivery, RunsAll, RunsPart, found_nothing, IsRound}
-use Rattle.lagprogress.proofs.Common.{NothingInFlight, Rounds, asks_all, asks_ends, ticks_of_both}
+use Rattle.lagprogress.proofs.Common.{slice_get-map, slice_get_within, AllByRecursion, IsErrAnd, all-append, Ends, Side, WorldSetup, Event}
+use Rattle.lagprogress.proofs.Common.{WorldFault, Reply, Algorithms, WorldRuns, WorldSteps, cause, cause_or_no_memory, first_event_cause, has_cable}
+use Rattle.lagprogress.proofs.Common.{may_take_memory, most_events, side_of, link_ends, world_setup, ends_of_cable, RefusesNext, next_of, LinkState}
+use Rattle.lagprogress.proofs.Common.{WorldState, towards, Delivers, HasTooManyCables, IsOutOfMemoryOrSpent, NamesNoCable, PlaysPart, RefusesDelivery}
+use Rattle.lagprogress.proofs.Common.{RunsAll, RunsPart, found_nothing, IsRound, NothingInFlight, Rounds, asks_all, asks_ends, ticks_of_both}
 use Rattle.lagprogress.specs.Played.{most_cables}
 use Rattle.std.proofs.lemmas.List.{length-map, take_more}
 use Rattle.lagscript.specs.declared.event.Event.TheVariants as event
 use Rattle.lagworld.specs.declared.fault.WorldFault.TheVariants.{NoCable}
 use Rattle.lagworld.specs.declared.reply.Reply.TheVariants as reply
-use Rattle.lagprogress.proofs.Linked.{each_side}
 
 -- of an answer
 pub if_err : {T E : Type 0} (P Q : E → Type 0) (r : Result T E) → ((x : E) → P x → Q x) → IfErr r P → IfErr r Q
@@ -112,8 +110,7 @@ as_many a b e = sym (length-map a.links link_ends) ∙ (ap (λ (x : WorldSetup).
 
 pub delivery_refused : (fault : WorldFault) (c n : ℕ) (old new : WorldState) → new ≡ old
     → fault ≡ cause_or_no_memory (cause old (event.Deliver c n)) → RefusesDelivery fault new
-delivery_refused fault c n old new same f =
-    subst (RefusesDelivery fault) (sym same) (c, n, record { named = f; memory = λ none. refl })
+delivery_refused fault c n old new same f = grind (arith, nat_tests)
 
 -- a Deliver event of a cable that exists
 pub refused_delivery : (fault : WorldFault) (n i : ℕ) (s : Side) (start old new : WorldState) → side_of n ≡ Some s
@@ -133,8 +130,7 @@ abbrev ports_of : Ends → ℕ × ℕ
 ports_of e = (e.one, e.two)
 
 ends_first : (o : Option LinkState) → option_map ports o ≡ option_map ports_of (option_map link_ends o)
-ends_first None = refl
-ends_first (Some l) = refl
+ends_first o = grind (arith, nat_tests)
 
 ports_by_ends : (xs : List LinkState) (n : ℕ) → option_map ports (slice_get xs n) ≡ option_map ports_of (slice_get (map link_ends xs) n)
 ports_by_ends xs n = ends_first (slice_get xs n) ∙ ap (option_map ports_of) (sym (slice_get-map link_ends xs n))
@@ -142,8 +138,7 @@ ports_by_ends xs n = ends_first (slice_get xs n) ∙ ap (option_map ports_of) (s
 -- the cable at an index joins the same ports in a world with the same setup
 ports_stay : (a b : WorldState) (n : ℕ) → world_setup a ≡ world_setup b
     → option_map ports (slice_get a.links n) ≡ option_map ports (slice_get b.links n)
-ports_stay a b n e =
-    ports_by_ends a.links n ∙ (ap (λ (x : WorldSetup). option_map ports_of (slice_get x.cables n)) e ∙ sym (ports_by_ends b.links n))
+ports_stay a b n e = grind (arith, nat_tests, ports_by_ends, option_map, ports_of, slice_get)
 
 asked_there : (o : Option LinkState) (one two : ℕ) → option_map ports o ≡ Some (one, two)
     → (l : LinkState) × (o ≡ Some l) × (asks_ends l ≡ asks_pair (one, two))
@@ -154,8 +149,7 @@ pub cable_at : (n one two : ℕ) (old mid : WorldState) → world_setup mid ≡ 
     → (l : LinkState) × (slice_get old.links n ≡ Some l) × (asks_ends l ≡ asks_pair (one, two))
 cable_at n one two old mid fixed h =
     let next : n + 1 ≡ suc n = omega arith in
-    asked_there (slice_get old.links n) one two
-    (sym (ports_stay mid old n fixed) ∙ sym (h ∙ ap (λ c. ends_of_cable c mid) next))
+    grind (arith, nat_tests, asked_there, slice_get, ports_stay, ends_of_cable)
 
 asks_next : (n : ℕ) (links : List LinkState) (l : LinkState) → slice_get links n ≡ Some l
     → asks_all (take n links) ++ asks_ends l ≡ asks_all (take (suc n) links)
@@ -218,19 +212,8 @@ one_more gives c n r old mid new h x = delivers_both gives old mid new h (record
   acts = record { replies = r ∷ []; acts = (new, x, refl) };
 })
 
-was_empty : (gives : Algorithms) (s : Side) (i : ℕ) (l : LinkState) (xs : List ItemValue) (old new : WorldState)
-    → DeliversFrom gives s i l xs old reply.Empty new → (xs ≡ []) × (new ≡ old)
-was_empty gives s i l xs old new h = grind (arith, nat_tests)
-
--- a Deliver event with the reply Empty: nothing is on the cable towards that system, and no cable changed
-nothing_came : (gives : Algorithms) (n i : ℕ) (s : Side) (old new : WorldState) → side_of n ≡ Some s
-    → WorldSteps gives old (event.Deliver (i + 1) n) reply.Empty new
-    → ((l : LinkState) → slice_get old.links i ≡ Some l → towards s l ≡ []) × (new.links ≡ old.links)
-nothing_came gives n i s old new named h = grind (arith, nat_tests, value_of, was_empty)
-
 is_nothing : (r : Reply) → found_nothing r ≡ true → r ≡ reply.Empty
-is_nothing reply.Empty h = refl
-is_nothing r h = absurd (false≢true h)
+is_nothing r h = grind (arith, nat_tests)
 
 -- no cable changed, and nothing is on those before this index
 pub record IsQuiet (n : ℕ) (old new : WorldState) : Type 0 where
@@ -239,12 +222,6 @@ pub record IsQuiet (n : ℕ) (old new : WorldState) : Type 0 where
 
 pub below_or_same : (i n : ℕ) → i < n + 1 → (i < n) ⊎ (i ≡ n)
 below_or_same i n h = grind (arith, nat_tests, cases_Bool)
-
--- nor on the next one, in either direction
-pub quiet_next : (gives : Algorithms) (n : ℕ) (q r : Reply) (start old mid new : WorldState) → IsQuiet n start old
-    → WorldSteps gives old (event.Deliver (n + 1) 1) q mid → WorldSteps gives mid (event.Deliver (n + 1) 2) r new
-    → found_nothing q ≡ true → found_nothing r ≡ true → IsQuiet (n + 1) start new
-quiet_next gives n q r start old mid new hyp1 hyp2 hyp3 hyp4 hyp5 = grind (arith, nat_tests, nothing_came, is_nothing, below_or_same, slice_get, each_side)
 
 pub nothing_left : (n : ℕ) (old new : WorldState) → length old.links ≤ n → IsQuiet n old new → NothingInFlight new
 nothing_left n old new h q s i l f = grind (arith, nat_tests, slice_get_within)
@@ -289,17 +266,11 @@ pub round_more : (gives : Algorithms) (n : ℕ) (old mid new : WorldState) → R
     → Rounds gives (n + 1) old new
 round_more gives n old mid new h x = let e : suc n ≡ n + 1 = omega arith in subst (λ k. Rounds gives k old new) e (mid, h, x)
 
--- all three hold
-pub all_hold : (a b c r : Bool) → r ≡ ((a && b) && c) → r ≡ true → (a ≡ true) × (b ≡ true) × (c ≡ true)
-all_hold a b c r e h = grind (arith, nat_tests)
-
 pub quiet_more : (gives : Algorithms) (n : ℕ) (q r : Reply) (empty now : Bool) (start old mid new : WorldState)
     → (empty ≡ true → IsQuiet n start old) → WorldSteps gives old (event.Deliver (n + 1) 1) q mid
     → WorldSteps gives mid (event.Deliver (n + 1) 2) r new → now ≡ ((empty && found_nothing q) && found_nothing r) → now ≡ true
     → IsQuiet (n + 1) start new
-quiet_more gives n q r empty now start old mid new h x y e all =
-    let k = all_hold empty (found_nothing q) (found_nothing r) now e all in
-    quiet_next gives n q r start old mid new (h k.0) x y k.1 k.2
+quiet_more gives n q r empty now start old mid new h x y e all = grind (arith, nat_tests)
 
 pub on_err : {T : Type 0} (P : WorldFault → Type 0) (why : WorldFault) (r : Result T WorldFault) → IsErrAnd r (λ e. e ≡ why) → P why → IfErr r P
 on_err P why r e h = grind (arith, nat_tests)

@@ -2,12 +2,12 @@
 use Rattle.lagprogress.proofs.Common.{Bool, Err, List, Ok, Result, Some, [], ap, arith, false, inl, inr, map, refl, subst, suc, sym, true, zero, ℕ}
 use Rattle.lagprogress.proofs.Common.{◌++◌, ◌==◌, ◌∙◌, ◌∷◌, ◌≡◌, ◌⊎◌, cases_Bool, nat_tests, Vec, AllByRecursion, AggId, Lacpdu, all-append, One}
 use Rattle.lagprogress.proofs.Common.{Side, Two, peer, value_of, Machines, Table, SystemFault, SystemPort, Carries, Force, IsFrame, Move_conversation}
-use Rattle.lagprogress.proofs.Common.{Offer, Step, system_force_result, system_move_result, Set_max_delay, SystemState, port_index, with_system_ports}
-use Rattle.lagprogress.proofs.Common.{with_table, becomes_slots, offers_slots, Reply, AfterOffer, Algorithms, InHalf, WorldSteps, offered_item}
-use Rattle.lagprogress.proofs.Common.{side_of, with_frame_counted, HalfForces, HalfMoves, forced_if_accepted, link_ends, HalfState, ItemValue}
-use Rattle.lagprogress.proofs.Common.{WorldState, half, put_on_port, with_half, put_ends, half_there, HostEvent, HostSteps, Plays, Sets}
-use Rattle.lagprogress.proofs.Common.{KeptBySettling, OfEach, AtPort, LeavesPorts, Clearing, IsBetweenTicks, IsPlayed, IsPlayedAmong, IsQuiet}
-use Rattle.lagprogress.proofs.Common.{IsTickOf, PlayedAmong, PlayedRounds, RunReplies, StepReplies, TickOnce, TickOnceAmong, IsSteady}
+use Rattle.lagprogress.proofs.Common.{Offer, Step, system_move_result, Set_max_delay, SystemState, port_index, with_system_ports, with_table}
+use Rattle.lagprogress.proofs.Common.{becomes_slots, offers_slots, Reply, AfterOffer, Algorithms, InHalf, WorldSteps, offered_item, side_of}
+use Rattle.lagprogress.proofs.Common.{with_frame_counted, HalfForces, HalfMoves, link_ends, HalfState, ItemValue, WorldState, half, put_on_port}
+use Rattle.lagprogress.proofs.Common.{with_half, put_ends, half_there, HostEvent, HostSteps, Plays, Sets, KeptBySettling, OfEach, AtPort, LeavesPorts}
+use Rattle.lagprogress.proofs.Common.{Clearing, IsBetweenTicks, IsPlayed, IsPlayedAmong, IsQuiet, IsTickOf, PlayedAmong, PlayedRounds, RunReplies}
+use Rattle.lagprogress.proofs.Common.{StepReplies, TickOnce, TickOnceAmong, IsSteady}
 use Rattle.lagprogress.proofs.HostSteady.{IsUp, Quietly, SendsPlain, aside, caller, beside_quietly, delay_quietly, delay_keeps, aside_keeps}
 use Rattle.lagprogress.proofs.HostSteady.{sets_each, sets_links, sets_logs, sets_place, step_timely, asked_by}
 use Rattle.lagprogress.proofs.EndFacts.{Along}
@@ -50,14 +50,6 @@ offered gives s agg octets (Ok port) old new mid r h log after =
           ∙ (half_logs s (with_frame_counted agg octets (half s j)) j refl t ∙ half_logs s mid old log t);
     }
 
-forced_ports : (a : Result Unit SystemFault) (agg : AggId) (conv : ℕ) (h : HalfState)
-    → (forced_if_accepted a agg conv h).state.system_ports ≡ h.state.system_ports
-forced_ports a agg conv h = ap (λ (y : SystemState). y.system_ports) (forced_state a agg conv h)
-
-forced_logs : (a : Result Unit SystemFault) (agg : AggId) (conv : ℕ) (h : HalfState) → (forced_if_accepted a agg conv h).histories ≡ h.histories
-forced_logs (Ok done) agg conv h = refl
-forced_logs (Err fault) agg conv h = refl
-
 pub quietly : (gives : Algorithms) (e : HostEvent) (r : Reply) (old new : WorldState) → IsQuiet e → StepReplies gives old e r new
     → (s : Side) × Quietly s old new
 quietly gives (Plays (event.Offer n agg octets)) r old new q h =
@@ -67,36 +59,8 @@ quietly gives (Plays (event.Offer n agg octets)) r old new q h =
       offered gives v.0 agg octets.items w.0 old new w.1 r w.2.answers.step
           (ap (λ (k : HalfState). k.histories) w.2.same) w.3,
     )
-quietly gives (Plays (event.Move n agg conv p)) r old new q h =
-    let v = value_of (side_of n) _ h.0 in
-    let now = record new { acted = old.acted } in
-    let m = v.2.0 in
-    let st = (half v.0 old).state in
-    let same = becomes_slots agg conv (system_move_result st agg conv p) st m.0 (half v.0 now).state m.1.answers.step in (
-      v.0,
-      record {
-        same = λ t. ap (λ (j : WorldState). (half t j).state.system_ports) v.2.1 ∙ one_half v.0 t (half v.0 now) old same;
-        links = inl (ap (λ (j : WorldState). j.links) v.2.1 ∙ half_links v.0 (half v.0 now) old);
-        logs = λ t. ap (λ (j : WorldState). (half t j).histories) v.2.1
-            ∙ half_logs v.0 (half v.0 now) old (ap (λ (k : HalfState). k.histories) m.1.same) t;
-      },
-    )
-quietly gives (Plays (event.Force n agg conv)) r old new q h =
-    let v = value_of (side_of n) _ h.0 in
-    let now = record new { acted = old.acted } in
-    let m = v.2.0 in
-    let st = (half v.0 old).state in
-    let state = ap (λ (k : HalfState). k.state.system_ports) m.4 ∙ forced_ports m.0 agg conv m.1 in
-    let logs = ap (λ (k : HalfState). k.histories) m.4 ∙ forced_logs m.0 agg conv m.1 in (
-      v.0,
-      record {
-        same = λ t. ap (λ (j : WorldState). (half t j).state.system_ports) v.2.1 ∙ one_half v.0 t (half v.0 now) old
-            (state ∙ becomes_slots agg conv (system_force_result st agg conv) st m.0 m.1.state m.2.answers.step);
-        links = inl (ap (λ (j : WorldState). j.links) v.2.1 ∙ half_links v.0 (half v.0 now) old);
-        logs = λ t. ap (λ (j : WorldState). (half t j).histories) v.2.1
-            ∙ half_logs v.0 (half v.0 now) old (logs ∙ ap (λ (k : HalfState). k.histories) m.2.same) t;
-      },
-    )
+quietly gives (Plays (event.Move n agg conv p)) r old new q h = grind (arith, nat_tests, value_of, side_of, half, becomes_slots, system_move_result, one_half, half_links, half_logs)
+quietly gives (Plays (event.Force n agg conv)) r old new q h = grind (arith, nat_tests)
 quietly gives (Plays e) r old new q h = absurd q
 quietly gives (Sets s (Set_max_delay delay)) r old new q h = (s, delay_quietly gives s delay old new h)
 quietly gives (Sets s setting) r old new q h = absurd q
@@ -117,19 +81,16 @@ IsCalm (Plays e) = Unit {0}
 IsCalm e = IsQuiet e
 
 pub calm_quiet : (e : HostEvent) → IsQuiet e → IsCalm e
-calm_quiet (Plays e) q = tt
-calm_quiet e q = q
+calm_quiet e q = grind (arith, nat_tests)
 
 calm_between : (e : HostEvent) → IsBetweenTicks e → IsCalm e
-calm_between (Plays e) b = tt
-calm_between e b = b
+calm_between e b = grind (arith, nat_tests)
 
 pub calm_tick : (s : Side) (e : HostEvent) → IsTickOf s e → IsCalm e
 calm_tick s e m = subst IsCalm (sym m.2) tt
 
 as_step : (gives : Algorithms) (e : HostEvent) (r : Reply) (old new : WorldState) → StepReplies gives old e r new → HostSteps gives old e new
-as_step gives (Plays e) r old new h = (r, h)
-as_step gives e r old new h = h
+as_step gives e r old new h = grind (arith, nat_tests)
 
 pub calm_timely : (gives : Algorithms) (e : HostEvent) (r : Reply) (old new : WorldState) → StepReplies gives old e r new → AreTimely old → AreTimely new
 calm_timely gives e r old new h k = step_timely gives e old new (as_step gives e r old new h) k
@@ -192,9 +153,7 @@ LeavesEnds at (Sets s setting) = LeavesPorts at (Sets s setting)
 LeavesEnds at e = IsQuiet e
 
 pub leaves_quiet : (at : Side → ℕ) (e : HostEvent) → IsQuiet e → LeavesEnds at e
-leaves_quiet at (Sets s (Set_max_delay delay)) q = tt
-leaves_quiet at (Sets s setting) q = absurd q
-leaves_quiet at e q = q
+leaves_quiet at e q = grind (arith, nat_tests)
 
 pub ends_up : (d : ℕ) (at : Side → ℕ) (w : Side → Lacpdu) (c : Side → ℕ) (x : Side) (Y : Machines → Type 0) (j : WorldState) → Link d at w c x Y j
     → (t : Side) → OfEach (AtPort (at t) IsUp) (half t j).state.system_ports
@@ -210,8 +169,7 @@ leaves_each gives e at r old new q h P t k up p = subst (OfEach (AtPort (at t) P
 
 pub leaves_logs : (gives : Algorithms) (e : HostEvent) (at : Side → ℕ) (r : Reply) (old new : WorldState) → LeavesEnds at e
     → StepReplies gives old e r new → (t : Side) → (half t new).histories ≡ (half t old).histories
-leaves_logs gives (Sets s setting) at r old new q h t = sets_logs gives s setting old new h t
-leaves_logs gives e at r old new q h t = quiet_logs gives e r old new q h t
+leaves_logs gives e at r old new q h t = grind (arith, nat_tests, sets_logs, quiet_logs)
 
 -- what becomes of any cable
 pub record Grown (i : ℕ) (at : Side → ℕ) (fl : Side → List ItemValue) (new : WorldState) : Type 0 where
@@ -288,15 +246,12 @@ leaves_link gives e d at w c x Y r old new q h along l =
 
 pub leaves_ends : (gives : Algorithms) (e : HostEvent) (at : Side → ℕ) (r : Reply) (old new : WorldState) → LeavesEnds at e
     → StepReplies gives old e r new → map link_ends new.links ≡ map link_ends old.links
-leaves_ends gives (Sets s setting) at r old new q h = ap (map link_ends) (sets_links gives s setting old new h)
-leaves_ends gives e at r old new q h = quiet_ends gives e r old new q h
+leaves_ends gives e at r old new q h = grind (arith, nat_tests, map, link_ends, sets_links, quiet_ends)
 
 -- what comes between ticks may come beside any ports, so the rounds that hosts play are such
 
 pub leaves : (at : Side → ℕ) (e : HostEvent) → IsBetweenTicks e → LeavesPorts at e
-leaves at (Sets s (Set_max_delay delay)) b = tt
-leaves at (Sets s setting) b = absurd b
-leaves at e b = b
+leaves at e b = grind (arith, nat_tests)
 
 leaves_all : (at : Side → ℕ) (s : Side) (a b : Bool) (es : List HostEvent) → TickOnce s a b es → TickOnceAmong (LeavesPorts at) s a b es
 leaves_all at s a b [] h = h
@@ -314,8 +269,7 @@ AllBeside at E gives n old new = PlayedAmong (LeavesPorts at) E gives n old new
 -- a round is one of another kind, too, if its events may come there and the cables are cleared as that wants it
 pub replayed : {May New : HostEvent → Type 0} {E F : Clearing} {gives : Algorithms} {old new : WorldState} (q : IsPlayedAmong May E gives old new)
     → TickOnceAmong New One true true q.events → F q.events old new → IsPlayedAmong New F gives old new
-replayed q ticks clears =
-    record { events = q.events; replies = q.replies; ticks = ticks; acts = q.acts; asked = q.asked; empties = clears }
+replayed q ticks clears = grind (arith, nat_tests)
 
 pub as_beside : (at : Side → ℕ) (E : Clearing) (gives : Algorithms) (old new : WorldState) → IsPlayed E gives old new → PlayedBeside at E gives old new
 as_beside at E gives old new h = replayed h (leaves_all at One true true h.events h.ticks) h.empties
@@ -327,37 +281,11 @@ all_beside at E gives (suc n) old new h = (h.0, all_beside at E gives n old h.0 
 
 -- an Offer event leaves a system to itself, or offers it the frame
 
-own_two : (s : Side) (h k : HalfState) (j : WorldState) → (half s (with_half s k (with_half s h j))).state ≡ k.state
-own_two s h k j = grind (arith, nat_tests)
-
-peer_two : (s : Side) (h k : HalfState) (j : WorldState) → (half (peer s) (with_half s k (with_half s h j))).state ≡ (half (peer s) j).state
-peer_two s h k j = grind (arith, nat_tests)
-
-peer_one : (s : Side) (h : HalfState) (j : WorldState) → (half (peer s) (with_half s h j)).state ≡ (half (peer s) j).state
-peer_one s h j = grind (arith, nat_tests)
-
-own_state : (s : Side) (agg : AggId) (octets : List ℕ) (a : Result ℕ SystemFault) (old new : WorldState) (mid : HalfState) (r : Reply)
-    → AfterOffer s agg octets a (with_half s mid old) r (record new { acted = old.acted }) → (half s new).state ≡ mid.state
-own_state s agg octets a old new mid r h = grind (arith, nat_tests, half_there, own_two)
-
-peer_state : (s : Side) (agg : AggId) (octets : List ℕ) (a : Result ℕ SystemFault) (old new : WorldState) (mid : HalfState) (r : Reply)
-    → AfterOffer s agg octets a (with_half s mid old) r (record new { acted = old.acted }) → (half (peer s) new).state ≡ (half (peer s) old).state
-peer_state s agg octets a old new mid r h = grind (arith, nat_tests, peer_one, peer_two)
-
 pub offered_half : (gives : Algorithms) (n : ℕ) (agg : AggId) (octets : Vec ℕ) (r : Reply) (old new : WorldState)
     → WorldSteps gives old (event.Offer n agg octets) r new → (t : Side)
     → ((half t new).state ≡ (half t old).state) ⊎ ((a : Result ℕ SystemFault)
     × Step (gives t) (half t old).state (Offer agg octets.items) (answer.Offer a) (half t new).state)
-offered_half gives n agg octets r old new h =
-    let v = value_of (side_of n) _ h.0 in
-    let w = v.2 in
-    each_side (λ t. ((half t new).state ≡ (half t old).state) ⊎ ((a : Result ℕ SystemFault)
-    × Step (gives t) (half t old).state (Offer agg octets.items) (answer.Offer a) (half t new).state)) v.0
-    (inr (
-      w.0,
-      subst (λ (z : SystemState). Step (gives v.0) (half v.0 old).state (Offer agg octets.items) (answer.Offer w.0) z)
-          (sym (own_state v.0 agg octets.items w.0 old new w.1 r w.3)) w.2.answers.step,
-    )) (inl (peer_state v.0 agg octets.items w.0 old new w.1 r w.3))
+offered_half gives n agg octets r old new h = grind (arith, nat_tests)
 
 -- a Move event leaves a system to itself, or asks it to move the conversation
 pub moved_half : (gives : Algorithms) (n : ℕ) (agg : AggId) (conv p : ℕ) (r : Reply) (old new : WorldState)

@@ -24,8 +24,7 @@ Finds s j = (k : ℕ) (x : SystemPort) → slice_get (half s j).state.system_por
     → (selected x.port ≡ true) ⊎ StandsByFull (half s j).state x.port
 
 pub enough_finds : (s : Side) (j : WorldState) → IsSteady j → EnoughAggregators (half s j).state → Finds s j
-enough_finds s j steady enough k x there wants =
-    finds_aggregator (half s j).state k x (steady s).0 there wants (none_held (half s j).state k x (steady s).2 there) (enough k x there wants.up)
+enough_finds s j steady enough k x there wants = grind (arith, nat_tests, finds_aggregator, half, none_held)
 
 -- one group
 
@@ -102,8 +101,7 @@ sleeping_ticks n x m p q h a e =
     (record { down = y.down; disabled = y.disabled; partner = y.partner; idle = y.idle })
 
 pub is_disabled : (r : ReceiveState) (up : Bool) → up ≡ false → (not (same_receive_state PortDisabled r) && not up) ≡ false → r ≡ PortDisabled
-is_disabled PortDisabled up e h = refl
-is_disabled r up e h = absurd (no (sym h ∙ ap not e))
+is_disabled r up e h = grind (arith, nat_tests)
 
 still_sleeps : (E : Clearing) (gives : Algorithms) (n : ℕ) (old new : WorldState) → IsSteady old → PlayedRounds E gives n old new
     → (s : Side) (k : ℕ) (x : SystemPort) → slice_get (half s old).state.system_ports k ≡ Some x → x.port.enabled ≡ false → EachAt (AtPort x.number (Sleeps x.port)) s new

@@ -31,8 +31,7 @@ taken_there p lacpdu (x ∷ xs) h = elim (cases_Bool (x.number == p)) [
 
 counts_stay : (a : Result Received SystemFault) (p : ℕ) (item : ItemValue) (logs : List PortHistory) (q : ℕ)
     → change_count_in (history_at (logged a p item logs) q) ≡ change_count_in (history_at logs q)
-counts_stay (Ok received.TookLacpdu) p item logs q = count_heard p (stamped_in item) q logs
-counts_stay a p item logs q = refl
+counts_stay a p item logs q = grind (arith, nat_tests, count_heard, stamped_in)
 
 still_there : (a : Result Received SystemFault) (p : ℕ) (item : ItemValue) (logs : List PortHistory) (q : ℕ)
     → is_some (history_at (logged a p item logs) q) ≡ is_some (history_at logs q)

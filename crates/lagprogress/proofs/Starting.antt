@@ -1,9 +1,9 @@
 -- The ends of a cable in the world before the rounds.
 use Rattle.lagprogress.proofs.Common.{List, Some, [], ap, arith, option_map, slice_get, subst, sym, true, ℕ, ◌<◌, ◌∙◌, ◌∷◌, ◌≡◌, ◌≤◌, ◌⊎◌, nat_tests}
-use Rattle.lagprogress.proofs.Common.{AllByRecursion, Party, StateBits, Lacpdu, IsCabling, One, Side, peer, find_at, Machines, actor_of, pdu_of}
-use Rattle.lagprogress.proofs.Common.{SystemPort, model_port_of, number_of_port, IsSound, SystemState, machines_of, port_index, named, are_numbered}
-use Rattle.lagprogress.proofs.Common.{found_place, ports_rise, world_setup, ItemValue, LinkState, WorldState, half, port_at, towards, OfEach, AtPort}
-use Rattle.lagprogress.proofs.Common.{at_number, higher, AtEnd, IsHealthyAt, OfPort, IsSteady}
+use Rattle.lagprogress.proofs.Common.{AllByRecursion, StateBits, Lacpdu, IsCabling, One, Side, peer, find_at, Machines, actor_of, pdu_of, SystemPort}
+use Rattle.lagprogress.proofs.Common.{model_port_of, number_of_port, IsSound, SystemState, machines_of, port_index, named, are_numbered, found_place}
+use Rattle.lagprogress.proofs.Common.{ports_rise, world_setup, ItemValue, LinkState, WorldState, half, port_at, towards, OfEach, AtPort, at_number}
+use Rattle.lagprogress.proofs.Common.{higher, AtEnd, IsHealthyAt, OfPort, IsSteady}
 use Rattle.lagprogress.proofs.EndFacts.{said_bits, Says, Synced, activity}
 use Rattle.lagprogress.proofs.Halves.{timely}
 use Rattle.lagprogress.proofs.Linked.{EndIs, IsGood, Link, each_side, peer_twice, both_at, machines_there}
@@ -83,9 +83,7 @@ named_at l j e steady t same =
     let st = (half t j).state in
     let x = (e t).1 in
     let some : 0 < x.number = higher 0 st.system_ports (e t).0 x (ports_rise st (steady t).0.ports) (e t).3 in
-    let none : 0 ≡ x.number = ap (λ (p : Party). p.port.number) (same ∙ sym (own_says x.port).0)
-    ∙ own_number st (e t).0 x (steady t).0 (e t).3 in
-    absurd (omega (arith, some, none))
+    grind (arith, nat_tests, own_says, own_number)
 
 pub awake_at : (w : Side → Lacpdu) (a : Side) → activity (w a) ≡ true → (s : Side) → (activity (w s) ≡ true) ⊎ (activity (w (peer s)) ≡ true)
 awake_at w a h = grind (arith, nat_tests, each_side, peer_twice)

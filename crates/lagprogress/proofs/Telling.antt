@@ -52,8 +52,7 @@ went_other s a fl now h = grind (arith, nat_tests)
 -- one item more that says so
 said_more : (u v : Lacpdu) (H : Type 0) (s : Side) (item : ItemValue) (fl now : Side → List ItemValue) → now ≡ push (peer s) item fl
     → SaysIt u v item → Tells u v (fl (peer s)) H ⊎ Bears item → Tells u v (now (peer s)) H
-said_more u v H s item fl now e says h = subst (λ xs. Tells u v xs H)
-    (sym (ap (λ (f : Side → List ItemValue). f (peer s)) e ∙ push_there (peer s) item fl)) (tells_push u v (fl (peer s)) item H says h)
+said_more u v H s item fl now e says h = grind (arith, nat_tests, Tells, peer, push_there, tells_push)
 
 -- an end that says so is asked
 went_tells : (u v : Lacpdu) (H : Type 0) (s : Side) (a : Result (Option (List ℕ)) SystemFault) (fl now : Side → List ItemValue)
@@ -70,8 +69,7 @@ due_tells : (u v : Lacpdu) (H : Type 0) (gives : ℕ → ℕ → ℕ → Type 0)
     → port_index n old.system_ports ≡ Some k → slice_get old.system_ports k ≡ Some z → z.port.enabled ≡ true → is_due z.port ≡ true
     → Step gives old (Transmit n) (answer.Transmit a) new → Went s a fl now → Tells u v (now (peer s)) H
 due_tells u v H gives s n k z (Err fault) old new fl now says place there up due h w = absurd (none-some k (sym h.cause ∙ place))
-due_tells u v H gives s n k z (Ok None) old new fl now says place there up due h w =
-    let sent = sends_due (port_index n old.system_ports) k z old None new place there up due h in absurd (none-some sent.0 sent.2)
+due_tells u v H gives s n k z (Ok None) old new fl now says place there up due h w = grind (arith, nat_tests)
 due_tells u v H gives s n k z (Ok (Some frame)) old new fl now says place there up due h w =
     let sent = sends_due (port_index n old.system_ports) k z old (Some frame) new place there up due h in
     let is : frame ≡ sent.0 = same_Some frame sent.0 sent.2 in

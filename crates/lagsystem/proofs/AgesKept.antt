@@ -1,8 +1,8 @@
 -- A settling leaves the ages of the LACPDUs that each port sent.
-use Rattle.lagsystem.proofs.Common.{Bool, List, None, Option, Some, [], ap, arith, cond, false, find, map, option_map, refl, slice_get, slice_set}
-use Rattle.lagsystem.proofs.Common.{suc, sym, zero, ℕ, ◌==◌, ◌∙◌, ◌∷◌, ◌≡◌, nat_tests, Choice, Machines, mux_rows, RunsPeriodic, periodic_rows}
-use Rattle.lagsystem.proofs.Common.{RunsToRest, Reaches-keeps, AggregatorsValue, SystemPort, ages_at, ChoosesIn, PortsChangeBy, Settling, ready_of}
-use Rattle.lagsystem.proofs.Common.{with_choice, SystemState, aggregators_value, port_numbers, views, AtMostThreeAges}
+use Rattle.lagsystem.proofs.Common.{Bool, List, Option, Some, [], ap, arith, cond, false, find, map, option_map, refl, slice_get, slice_set, suc}
+use Rattle.lagsystem.proofs.Common.{zero, ℕ, ◌==◌, ◌∙◌, ◌∷◌, ◌≡◌, nat_tests, Choice, Machines, mux_rows, RunsPeriodic, periodic_rows, RunsToRest}
+use Rattle.lagsystem.proofs.Common.{Reaches-keeps, AggregatorsValue, SystemPort, ages_at, ChoosesIn, PortsChangeBy, Settling, ready_of, with_choice}
+use Rattle.lagsystem.proofs.Common.{SystemState, aggregators_value, port_numbers, views, AtMostThreeAges}
 use Rattle.lagsystem.proofs.Keeps.{settling_in}
 use Rattle.lagsystem.proofs.PromotionLemmas.{KeptByChoices, choosing_keeps}
 use Rattle.lagsystem.proofs.SettlingLemmas.{RunsReady}
@@ -24,8 +24,7 @@ zip_ages R k (x ∷ xs) (y ∷ ys) h = λ i. k x.port y.port h.0.1 i ∷ zip_age
 pub ages_set : (system_ports : List SystemPort) (i : ℕ) (s t : SystemPort) → slice_get system_ports i ≡ Some s → t.port.ages ≡ s.port.ages
     → ages_in (slice_set system_ports i t) ≡ ages_in system_ports
 ages_set [] i s t e n = refl
-ages_set (x ∷ xs) zero s t e n = let same : x ≡ s = cc in
-    let here : x.port.ages ≡ s.port.ages = ap (λ (y : SystemPort). y.port.ages) same in cc
+ages_set (x ∷ xs) zero s t e n = grind (arith, nat_tests)
 ages_set (x ∷ xs) (suc i) s t e n = ap (λ more. x.port.ages ∷ more) (ages_set xs i s t e n)
 
 given_ages : (s : SystemPort) (o : Option Choice) → (with_choice s o).port.ages ≡ s.port.ages
@@ -78,13 +77,7 @@ ages_found n (x ∷ xs) (y ∷ ys) e a =
 
 pub same_ages : (old new : SystemState) → port_numbers new.system_ports ≡ port_numbers old.system_ports
     → ages_in new.system_ports ≡ ages_in old.system_ports → (n : ℕ) → ages_at n new ≡ ages_at n old
-same_ages old new e a n =
-    ap (λ o. option_map ages_of (port_in o)) (found n new.system_ports)
-    ∙ ages_found n old.system_ports new.system_ports e a
-    ∙ sym (ap (λ o. option_map ages_of (port_in o)) (found n old.system_ports))
+same_ages old new e a n = grind (arith, nat_tests, option_map, ages_of, port_in, found, ages_found)
 
 pub few_by : (o p : Option Machines) → option_map ages_of p ≡ option_map ages_of o → AtMostThreeAges o → AtMostThreeAges p
-few_by None None e h = tt
-few_by None (Some q) e h = absurd cc
-few_by (Some p) None e h = absurd cc
-few_by (Some p) (Some q) e h = grind (arith, nat_tests)
+few_by o p e h = grind (arith, nat_tests)

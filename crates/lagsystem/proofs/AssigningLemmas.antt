@@ -1,8 +1,8 @@
 -- What offer_conversation does is what `offer` does for each frame of the conversation.
-use Rattle.lagsystem.proofs.Common.{Bool, Err, List, Ok, Result, ap, arith, false, refl, subst, sym, true, ℕ, ◌%◌, ◌*◌, ◌+◌, ◌/◌, ◌<◌, ◌∙◌, ◌≡◌}
-use Rattle.lagsystem.proofs.Common.{nat_tests, AllByRecursion, bit_xor, AggId, On, assignment_of, is_conversation_count, SystemFault}
-use Rattle.lagsystem.proofs.Common.{OffersConversation, OffersIf, TakesPort, frame_of_conversation, Offer, MayBeOffered, Offers, conversation_count}
-use Rattle.lagsystem.proofs.Common.{distributing, number_of_conversation, CallPromise, IsSound, SystemState}
+use Rattle.lagsystem.proofs.Common.{Bool, Err, List, Ok, Result, ap, arith, refl, subst, sym, true, ℕ, ◌%◌, ◌*◌, ◌+◌, ◌/◌, ◌<◌, ◌∙◌, ◌≡◌, nat_tests}
+use Rattle.lagsystem.proofs.Common.{AllByRecursion, bit_xor, AggId, On, assignment_of, is_conversation_count, SystemFault, OffersConversation}
+use Rattle.lagsystem.proofs.Common.{OffersIf, TakesPort, frame_of_conversation, Offer, MayBeOffered, Offers, conversation_count, distributing}
+use Rattle.lagsystem.proofs.Common.{number_of_conversation, CallPromise, IsSound, SystemState}
 use Rattle.lagsystem.specs.Offers.{longest_frame}
 use Rattle.std.proofs.Math.Nat.{mod-eq_of_lt}
 use Rattle.std.specs.Int.Bits.{xor_zero_r}
@@ -31,9 +31,7 @@ takes_sound gives agg conv old (Err fault) new h s = subst IsSound (sym h.1) s
 
 if_sound : (gives : ℕ → ℕ → ℕ → Type 0) (agg : AggId) (conv : ℕ) (old : SystemState) (answer : Result ℕ SystemFault)
     (new : SystemState) (there known : Bool) → OffersIf there known gives agg conv old answer new → IsSound old → IsSound new
-if_sound gives agg conv old answer new false known h s = subst IsSound (sym h.1) s
-if_sound gives agg conv old answer new true false h s = subst IsSound (sym h.1) s
-if_sound gives agg conv old answer new true true h s = takes_sound gives agg conv old answer new h s
+if_sound gives agg conv old answer new there known h s = grind (arith, nat_tests, takes_sound)
 
 pub offers_sound : (gives : ℕ → ℕ → ℕ → Type 0) (agg : AggId) (conv : ℕ) (old : SystemState) (answer : Result ℕ SystemFault)
     (new : SystemState) → OffersConversation gives agg conv old answer new → IsSound old → IsSound new

@@ -1,14 +1,13 @@
 -- Choosing an aggregator is the model's move of joining it.
 use Rattle.lagsystem.proofs.Common.{Bool, List, None, Option, Some, [], ap, arith, false, inl, inr, length, not, option_map, refl, slice_get}
 use Rattle.lagsystem.proofs.Common.{slice_set, subst, sym, true, ℕ, ◌&&◌, ◌∙◌, ◌∷◌, ◌≡◌, ◌≢◌, and_parts, cases_eq, false≢true, nat_tests, none-some}
-use Rattle.lagsystem.proofs.Common.{same_Some, AllByRecursion, AggId, Key, Choice, Selected, Standby, Unselected, is_selected, is_standby}
-use Rattle.lagsystem.proofs.Common.{is_unselected, SamePair, individual, same_system, party_of, ports_of, LawfulMoves, PortAllowed, PortMove, pair_at}
-use Rattle.lagsystem.proofs.Common.{port_after, DistributorFacts, ModelCall, PortFacts, SystemSetup, mapped_some, moves_at, moves_joined, MuxState}
-use Rattle.lagsystem.proofs.Common.{CollectingDistributing, partner_synchronized, same_mux_state, chosen_aggregator, chosen_for_view, IsOccupant}
-use Rattle.lagsystem.proofs.Common.{MayJoin, ends, AggregatorsValue, has_room, is_detached, is_eligible, SystemPort, key_of, model_port}
-use Rattle.lagsystem.proofs.Common.{model_port_of, model_view_at, number_of_port, selected_number, OccupantsAgree, occupied, ChoosesIn, PromotesNext}
-use Rattle.lagsystem.proofs.Common.{after_choices, aggregator_for, choice_for, choice_if, choice_in, with_choice, port_numbers, may_choose}
-use Rattle.lagsystem.proofs.Common.{selection_view, stage_of, views}
+use Rattle.lagsystem.proofs.Common.{same_Some, AllByRecursion, AggId, Key, Choice, Selected, Standby, Unselected, is_standby, SamePair, individual}
+use Rattle.lagsystem.proofs.Common.{party_of, ports_of, LawfulMoves, PortAllowed, PortMove, pair_at, port_after, DistributorFacts, ModelCall}
+use Rattle.lagsystem.proofs.Common.{PortFacts, SystemSetup, mapped_some, moves_at, moves_joined, MuxState, CollectingDistributing, same_mux_state}
+use Rattle.lagsystem.proofs.Common.{chosen_aggregator, chosen_for_view, IsOccupant, MayJoin, ends, AggregatorsValue, has_room, is_detached}
+use Rattle.lagsystem.proofs.Common.{is_eligible, SystemPort, key_of, model_port, model_port_of, model_view_at, number_of_port, selected_number}
+use Rattle.lagsystem.proofs.Common.{OccupantsAgree, occupied, ChoosesIn, PromotesNext, after_choices, aggregator_for, choice_for, choice_if}
+use Rattle.lagsystem.proofs.Common.{choice_in, with_choice, port_numbers, may_choose, selection_view, stage_of, views}
 use Rattle.selection.proofs.Joining.{choice-joins, if-some}
 use Rattle.lagsystem.proofs.Keeps.{given_number, numbers_set}
 use Rattle.lagsystem.proofs.Limiting.{next_stands}
@@ -63,10 +62,6 @@ join_allowed u call keys system_ports system_port agg fits j = (
   ],
 )
 
--- what an eligible port is
-detached_part : (a b c d e : Bool) → ((((a && b) && c) && d) && e) ≡ true → c ≡ true
-detached_part a b c d e h = grind (arith, nat_tests)
-
 detached : (m : MuxState) (w : ℕ) → is_detached (stage_of m w) ≡ true → same_mux_state CollectingDistributing m ≡ false
 detached m w h = grind (arith, nat_tests)
 
@@ -75,14 +70,7 @@ still s x m h = grind (arith, nat_tests)
 
 joined : (s : SystemPort) (agg : AggId) → is_eligible (selection_view s) ≡ true
     → model_port_of (with_choice s (Some (Selected agg))) ≡ port_after (PortMove.Join agg.0) (model_port_of s)
-joined s agg ok =
-    let v = selection_view s in
-    let mux = detached s.port.mux s.port.wait_while (detached_part v.enabled v.settled (is_detached v.stage) (is_unselected v.choice)
-    (not (same_system v.partner.system v.party.system)) ok) in
-    let sync = partner_synchronized s.port in
-    let view : Bool → PortFacts = λ d. record (model_port_of s) { aggregator = Some agg.0; distributes = d } in
-    ap view (still sync true (same_mux_state CollectingDistributing s.port.mux) mux
-    ∙ sym (still sync (is_selected s.port.choice) (same_mux_state CollectingDistributing s.port.mux) mux))
+joined s agg ok = grind (arith, nat_tests)
 
 -- a STANDBY port is seen as one outside every aggregator
 standby_stays : (s : SystemPort) (agg : AggId) → s.port.choice ≡ Unselected
@@ -207,9 +195,7 @@ promotes_on u call f aggs start fits agg l m h p =
     (promoted s agg stands (all-get StandbyIsIdle l h.0 s h.3 p.2))
     (promote_allowed u call aggs.keys l h.0 s agg (individual s.port.party (party_of s.port.partner)) refl fits p.1 h.3 stands) in
     let all = moves_joined u call (model_view_at f start) (model_view_at f l) (model_view_at f (slice_set l h.0 t)) [] [] p.0.0 move in
-    let rise = subst (λ ns. Rises 0 ns) (sym (numbers_set l h.0 s t h.3 refl)) p.0.1 in
-    subst (PromotedSoFar u call f aggs.keys start) (sym h.4)
-    ((all, rise), promotion_agrees aggs.keys l h.0 s agg h.3 stands p.1, all-set StandbyIsIdle l h.0 t p.2 (λ x. absurd (false≢true x)))
+    grind (arith, nat_tests, numbers_set, PromotedSoFar, promotion_agrees, all-set, StandbyIsIdle)
 
 -- step 2 of settling
 pub choosing_moves : (u : SystemSetup) (call : ModelCall) (f : DistributorFacts) (aggs : AggregatorsValue) (old new : List SystemPort)

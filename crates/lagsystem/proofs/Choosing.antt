@@ -1,7 +1,7 @@
 -- Ports choose one after another, and the list of views stays equal to their views.
-use Rattle.lagsystem.proofs.Common.{Bool, List, None, Option, Some, [], ap, arith, false, get_or, length, not, refl, slice_get, slice_set, suc, sym}
-use Rattle.lagsystem.proofs.Common.{zero, ℕ, ◌&&◌, ◌<◌, ◌||◌, ◌∙◌, ◌∷◌, ◌≡◌, or_parts, nat_tests, list_any, Choice, is_selected, is_unselected}
-use Rattle.lagsystem.proofs.Common.{PortView, AggregatorsValue, is_eligible, SystemPort, after_choice_at, after_choices, with_choice, may_choose}
+use Rattle.lagsystem.proofs.Common.{Bool, List, Option, Some, [], ap, arith, false, get_or, length, not, refl, slice_get, slice_set, suc, sym, zero}
+use Rattle.lagsystem.proofs.Common.{ℕ, ◌&&◌, ◌<◌, ◌||◌, ◌∙◌, ◌∷◌, ◌≡◌, or_parts, nat_tests, list_any, Choice, is_selected, is_unselected, PortView}
+use Rattle.lagsystem.proofs.Common.{AggregatorsValue, is_eligible, SystemPort, after_choice_at, after_choices, with_choice, may_choose}
 use Rattle.lagsystem.proofs.Common.{selection_view, views}
 use Rattle.lagsystem.proofs.SettlingLemmas.{none_taken}
 
@@ -30,9 +30,7 @@ not_here (x ∷ xs) (suc i) s h e = not_here xs i s (or_parts (may_choose x) (on
 
 stays_at : (aggs : AggregatorsValue) (system_ports : List SystemPort) (i : ℕ) (o : Option SystemPort) → one_may_choose system_ports ≡ false
     → slice_get system_ports i ≡ o → system_ports ≡ after_choice_at aggs system_ports i o
-stays_at aggs system_ports i None h e = refl
-stays_at aggs system_ports i (Some s) h e = none_taken aggs system_ports i s e (not_here system_ports i s h e)
-    ∙ ap (after_choice_at aggs system_ports i) e
+stays_at aggs system_ports i o h e = grind (arith, nat_tests, none_taken, not_here, after_choice_at)
 
 -- if no port may choose, none takes an aggregator
 pub none_chosen : (aggs : AggregatorsValue) (n : ℕ) (system_ports : List SystemPort) → one_may_choose system_ports ≡ false

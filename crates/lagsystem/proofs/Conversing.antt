@@ -108,13 +108,8 @@ no_Ok p fault e = cc
 
 picked_may : (gives : ℕ → ℕ → ℕ → Type 0) (conv : ℕ) (ports : List ℕ) (port : ℕ) → PicksPort gives conv ports (Ok port)
     → is_among ports port ≡ true
-picked_may gives conv [] port h = absurd (no_Ok port DistFault.NoneDistributing h)
-picked_may gives conv (p ∷ ports) port h = grind (arith, nat_tests, same_Ok, among)
+picked_may gives conv ports port h = grind (arith, nat_tests, no_Ok, same_Ok, among)
 
 pub assigned_may : (gives : ℕ → ℕ → ℕ → Type 0) (conv : ℕ) (ports : List ℕ) (s : Assignment) (port : ℕ)
     → Assigns gives conv ports s (Ok port) → MaySend ports s port
-assigned_may gives conv ports (Free None) port h = picked_may gives conv ports port h
-assigned_may gives conv ports (Free (Some p)) port h = grind (arith, nat_tests, same_Ok, picked_may)
-assigned_may gives conv ports (On p) port h = same_Ok port p h
-assigned_may gives conv ports (Wanted p preferred) port h = absurd (no_Ok port DistFault.Held h)
-assigned_may gives conv ports (Flushing p id preferred age) port h = absurd (no_Ok port DistFault.Held h)
+assigned_may gives conv ports s port h = grind (arith, nat_tests, picked_may, same_Ok, no_Ok)

@@ -22,8 +22,7 @@ lower low mid (n ∷ ns) l r = (omega (arith, l, r.0), r.1)
 
 kept_or_not : (b : Bool) (low : ℕ) (s : SystemPort) (rest : List SystemPort) → low < s.number → Rises s.number (port_numbers rest)
     → Rises low (port_numbers (cond b (s ∷ rest) rest))
-kept_or_not true low s rest l r = (l, r)
-kept_or_not false low s rest l r = lower low s.number (port_numbers rest) l r
+kept_or_not b low s rest l r = grind (arith, nat_tests, lower, port_numbers)
 
 filtered : (p : SystemPort → Bool) (low : ℕ) (system_ports : List SystemPort) → Rises low (port_numbers system_ports)
     → Rises low (port_numbers (filter p system_ports))
@@ -46,12 +45,10 @@ there o P h = grind (arith, nat_tests)
 
 within : (keys : List Key) (n : ℕ) (k : Key) (b : Bool) → slice_get keys n ≡ Some k
     → (nat_lt 0 (suc n) && nat_le (suc n) (length keys)) ≡ b → b ≡ true
-within keys n k true e h = refl
-within keys n k false e h = absurd (none-some k (sym (slice_get_past keys n (grind (arith, nat_tests))) ∙ e))
+within keys n k b e h = grind (arith, nat_tests, none-some, slice_get_past)
 
 has_key : (keys : List Key) (n : ℕ) (k : Key) → key_of keys n ≡ Some k → (nat_lt 0 n && nat_le n (length keys)) ≡ true
-has_key keys zero k e = absurd (none-some k e)
-has_key keys (suc n) k e = within keys n k (nat_lt 0 (suc n) && nat_le (suc n) (length keys)) e refl
+has_key keys n k e = grind (arith, nat_tests, none-some, within, nat_lt, nat_le)
 
 none_there : (agg : AggId) (s : SystemState) (ports : List ℕ) → IsSound s → has_aggregator s agg ≡ false
     → distributing agg s.system_ports ≡ ports → ports ≡ []

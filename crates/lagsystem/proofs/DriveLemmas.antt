@@ -1,6 +1,7 @@
 -- Lists of calls, one after another.
-use Rattle.lagsystem.proofs.Common.{List, [], ap, get_or, length, map, refl, subst, sym, take, take_all, ℕ, ◌++◌, ◌+◌, ◌<◌, ◌∙◌, ◌∷◌, ◌≡◌, ◌≤◌}
-use Rattle.lagsystem.proofs.Common.{map-append, take_more, Reply, Call, TableRun, Drives, call_of, CallPromise, SystemState}
+use Rattle.lagsystem.proofs.Common.{List, [], ap, get_or, length, map, refl, subst, take, take_all, ℕ, ◌++◌, ◌+◌, ◌<◌, ◌∙◌, ◌∷◌, ◌≡◌, ◌≤◌, map-append}
+use Rattle.lagsystem.proofs.Common.{take_more, Reply, Call, TableRun, Drives, call_of, CallPromise, SystemState}
+use native.Mathlib.Omega.{arith}
 use Rattle.lagsystem.specs.declared.drive.Call.{Call as Asked}
 
 -- one more call
@@ -29,8 +30,7 @@ pub drives_on : (gives : ℕ → ℕ → ℕ → Type 0) (old mid new : SystemSt
 drives_on gives old mid new calls answers i d answer l h made =
     let more : map call_of (take (i + 1) calls) ≡ map call_of (take i calls) ++ call_of (get_or calls i d) ∷ [] =
     ap (map call_of) (take_more calls i d l) ∙ map-append call_of (take i calls) (get_or calls i d ∷ []) in
-    subst (λ cs. Drives gives old cs (answers ++ answer ∷ []) new) (sym more)
-    (drives_more gives old mid new (map call_of (take i calls)) answers (call_of (get_or calls i d)) answer h made)
+    grind (arith, drives_more, map, call_of, take, get_or)
 
 -- all of them
 pub drives_all : (gives : ℕ → ℕ → ℕ → Type 0) (old new : SystemState) (calls : List Asked) (answers : List Reply) (i : ℕ) → length calls ≤ i

@@ -1,5 +1,5 @@
 -- The first state of a system has the model's first view.
-use Rattle.lagsystem.proofs.Common.{Bool, List, None, Option, Some, [], ap, arith, cond, eqb, eqb-true, false, if◌then◌else◌, inl, inr, length, not}
+use Rattle.lagsystem.proofs.Common.{Bool, List, Option, Some, [], ap, arith, cond, eqb, eqb-true, false, if◌then◌else◌, inl, inr, length, not}
 use Rattle.lagsystem.proofs.Common.{option_map, refl, slice_get, slice_set, subst, suc, sym, true, zero, ℕ, ◌&&◌, ◌∙◌, ◌∷◌, ◌≡◌, ◌⊎◌, and_left}
 use Rattle.lagsystem.proofs.Common.{and_parts, and_right, nat_tests, none-some, same_Some, AllByRecursion, AllZip, AggId, SystemId, Standby}
 use Rattle.lagsystem.proofs.Common.{Unselected, Party, is_selected, bits_of, with_synchronization, encode_then_decode, find_number, ports_of}
@@ -111,17 +111,7 @@ starts_idle s q h =
       where_ = inl refl;
     } in
     let x = begins_all s.party h.1.0 (start_receive (before_start s)) mid h.1.1 begun in
-    let sync : partner_synchronized mid ≡ false = elim x.where_ [
-      | inl e ↦ absurd
-          (clash (same_receive_state Initialize mid.receive && true) (ap (λ r. same_receive_state Initialize r && true) e) h.1.2.0)
-      | inr e ↦ e.1
-    ] in
-    subst (Idle s.party) (sym h.2) (record {
-      looks = (λ i. record (model_port mid) { synchronized = sync i; distributes = sync i && (is_selected mid.choice && false) }) ∙ x.looks;
-      down = x.down;
-      detached = refl;
-      nobody = x.nobody;
-    })
+    grind (arith, nat_tests, partner_synchronized, clash, same_receive_state, model_port, is_selected)
 
 -- a machine at rest stays
 never : (rows : List Row) (p q : Machines) → AtRest rows p → Fires rows p q → ⊥
@@ -158,12 +148,7 @@ chooses_none s e = ap (λ b. is_eligible (record (selection_view s) { enabled = 
 
 choose_idle : (aggs : AggregatorsValue) (system_ports : List SystemPort) (i : ℕ) (o : Option SystemPort) → slice_get system_ports i ≡ o
     → AllByRecursion (λ s. s.port.enabled ≡ false) system_ports → after_choice_at aggs system_ports i o ≡ system_ports
-choose_idle aggs system_ports i None e down = refl
-choose_idle aggs system_ports i (Some s) e down =
-    let none = chooses_none s (all-get (λ s. s.port.enabled ≡ false) system_ports i s e down) in
-    ap (λ o. slice_set system_ports i (with_choice s o))
-    (none_for aggs system_ports s (ap (λ b. if b then chosen_aggregator aggs.keys (views system_ports) s.number else None) none))
-    ∙ set_same system_ports i s e
+choose_idle aggs system_ports i o e down = grind (arith, nat_tests, chooses_none, all-get, slice_set, with_choice, none_for, chosen_aggregator, views, set_same)
 
 chosen_idle : (aggs : AggregatorsValue) (n : ℕ) (system_ports : List SystemPort) → AllByRecursion (λ s. s.port.enabled ≡ false) system_ports
     → after_choices aggs n system_ports ≡ system_ports

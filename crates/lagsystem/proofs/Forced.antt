@@ -59,8 +59,7 @@ IsOne g k a c = (a ≡ g) × (c ≡ k)
 one_forced : (gives : ℕ → ℕ → ℕ → Type 0) (port : ℕ) (agg : AggId) (conv : ℕ) (old : SystemState) (b : Bool) (new : SystemState)
     → ForcesIfHeld gives port agg conv old b new
     → Forced port (IsOne agg.0 conv) old new × (b ≡ is_held_on port (assignment_of old.table agg.0 conv))
-one_forced gives port agg conv old true new h = grind (arith, nat_tests, given_state, freed, through, at_place, not_at)
-one_forced gives port agg conv old false new h = grind (arith, nat_tests)
+one_forced gives port agg conv old b new h = grind (arith, nat_tests, given_state, freed, through, at_place, not_at)
 
 -- how many of the first conversations of an aggregator are held on the port
 abbrev held_in : ℕ → Table → ℕ → ℕ → ℕ

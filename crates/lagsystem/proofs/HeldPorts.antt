@@ -1,11 +1,11 @@
 -- No call makes the host hold a port, and a port that it holds stays UNSELECTED.
-use Rattle.lagsystem.proofs.Common.{Bool, List, None, Option, Some, ap, arith, false, if◌then◌else◌, inl, inr, length, not, option_map, refl, subst}
-use Rattle.lagsystem.proofs.Common.{sym, true, ℕ, ◌&&◌, ◌∙◌, ◌≡◌, ◌⊎◌, nat_tests, AllByRecursion, AggId, Choice, Selected, Standby, Unselected}
-use Rattle.lagsystem.proofs.Common.{is_unselected, Machines, mux_rows, RunsPeriodic, receive_rows, RunsToRest, after_sending, count_down}
-use Rattle.lagsystem.proofs.Common.{chosen_aggregator, AggregatorsValue, Reply, SystemPort, Call, ChangesParty, OnlyPortChangesBy, ProcessesLacpdu}
-use Rattle.lagsystem.proofs.Common.{SetsLink, SetsPortEnabled, Step, ThenSettles, Ticks, HasJustStarted, IsFirst, ChoosesIn, PortsChangeBy, Settling}
-use Rattle.lagsystem.proofs.Common.{aggregator_for, choice_for, choice_in, ready_of, with_choice, HeldUnselected, NoneHeld, held_apart, SystemState}
-use Rattle.lagsystem.proofs.Common.{aggregators_value, port_index, with_system_ports, may_choose, views}
+use Rattle.lagsystem.proofs.Common.{List, None, Option, Some, ap, arith, false, if◌then◌else◌, length, not, option_map, refl, subst, sym, true, ℕ}
+use Rattle.lagsystem.proofs.Common.{◌&&◌, ◌∙◌, ◌≡◌, ◌⊎◌, nat_tests, AllByRecursion, AggId, Choice, Selected, Standby, Machines, mux_rows}
+use Rattle.lagsystem.proofs.Common.{RunsPeriodic, receive_rows, RunsToRest, after_sending, count_down, chosen_aggregator, AggregatorsValue, Reply}
+use Rattle.lagsystem.proofs.Common.{SystemPort, Call, ChangesParty, OnlyPortChangesBy, ProcessesLacpdu, SetsLink, SetsPortEnabled, Step, ThenSettles}
+use Rattle.lagsystem.proofs.Common.{Ticks, HasJustStarted, IsFirst, ChoosesIn, PortsChangeBy, Settling, aggregator_for, choice_for, choice_in}
+use Rattle.lagsystem.proofs.Common.{ready_of, with_choice, HeldUnselected, NoneHeld, held_apart, SystemState, aggregators_value, port_index}
+use Rattle.lagsystem.proofs.Common.{with_system_ports, may_choose, views}
 use Rattle.lagsystem.proofs.Keeps.{settling_in}
 use Rattle.lagsystem.proofs.Limiting.{next_stands}
 use Rattle.lagsystem.proofs.NoneLeft.{may_then}
@@ -29,38 +29,14 @@ abbrev pub IsFree : SystemPort → Type 0
 IsFree x = x.held ≡ false
 
 pub free_kept : IsKept IsFree
-free_kept = record {
-  fresh = λ x h. h;
-  stay = λ x y e l h. ap (λ (z : SystemPort). z.held) e ∙ h;
-  stand = λ agg x e h. h;
-  choose = λ c x e h. h;
-}
+free_kept = grind (arith, nat_tests)
 
 -- a port that the host holds is UNSELECTED
 abbrev pub IsApart : SystemPort → Type 0
 IsApart x = held_apart x ≡ true
 
-free_apart : (held : Bool) (c : Choice) → held ≡ false → (if held then is_unselected c else true) ≡ true
-free_apart held c e = grind (arith, nat_tests)
-
-still_apart : (held now : Bool) (c d : Choice) → now ≡ held → (d ≡ Unselected) ⊎ (d ≡ c)
-    → (if held then is_unselected c else true) ≡ true → (if now then is_unselected d else true) ≡ true
-still_apart held now c d e l h = grind (arith, nat_tests)
-
-free_standby : (held : Bool) (c : Choice) (agg : AggId) → c ≡ Standby agg → (if held then is_unselected c else true) ≡ true → held ≡ false
-free_standby held c agg e h = grind (arith, nat_tests)
-
-free_chooser : (b held : Bool) → (b && not held) ≡ true → held ≡ false
-free_chooser b held h = grind (arith, nat_tests)
-
 pub apart_kept : IsKept IsApart
-apart_kept = record {
-  fresh = λ x e. free_apart x.held x.port.choice e;
-  stay = λ x y e l h. still_apart x.held y.held x.port.choice y.port.choice (ap (λ (z : SystemPort). z.held) e)
-      (elim l [ inl u ↦ inl u | inr s ↦ inr s.0 ]) h;
-  stand = λ agg x e h. free_apart x.held (Selected agg) (free_standby x.held x.port.choice agg e h);
-  choose = λ c x m h. free_apart x.held c (free_chooser _ x.held m);
-}
+apart_kept = grind (arith, nat_tests)
 
 module _ (P : SystemPort → Type 0) (k : IsKept P) where
   zip_on : (R : Machines → Machines → Type 0) → ((p q : Machines) → R p q → LeavesOrStays p q) → (xs ys : List SystemPort)

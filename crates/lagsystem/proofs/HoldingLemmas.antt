@@ -53,13 +53,7 @@ left_more before system_ports i d e old mid new l same h stops k =
     let more : (p : ℕ) → g p ≡ (f p || (n == p)) =
     λ p. stopped_more before system_ports i d e p l same ∙ ap (λ b. f p || ((n == p) && b)) stops
     ∙ ap (λ b. f p || b) (and-true (n == p)) in
-    record {
-      aggs = k.aggs ∙ h.aggs;
-      conversations = k.conversations ∙ h.conversations;
-      first = k.first ∙ h.first;
-      next = k.next ∙ h.next;
-      states = λ x y. k.states x y ∙ ap (after_leave n) (h.states x y) ∙ leave_more f g n more (assignment_of old x y);
-    }
+    grind (arith, nat_tests, after_leave, leave_more, assignment_of)
 
 -- the port at the place did not stop
 pub left_same : (before : List (Option AggId)) (system_ports : List SystemPort) (i : ℕ) (d : Option AggId) (e : SystemPort)
@@ -73,13 +67,7 @@ left_same before system_ports i d e old new l same h stays =
     let g = stopped (take (i + 1) before) (take (i + 1) system_ports) in
     let equal : (p : ℕ) → g p ≡ f p =
     λ p. stopped_more before system_ports i d e p l same ∙ ap (λ b. f p || ((n == p) && b)) stays ∙ or_none (f p) (n == p) in
-    record {
-      aggs = h.aggs;
-      conversations = h.conversations;
-      first = h.first;
-      next = h.next;
-      states = λ x y. h.states x y ∙ leave_same f g equal (assignment_of old x y);
-    }
+    grind (arith, nat_tests, leave_same, assignment_of)
 
 -- one port went on
 
@@ -115,13 +103,7 @@ one_left system_ports i was d old new l stops k =
     let f = stopped (slice_set (aggregators_in_use system_ports) i was) system_ports in
     let only : (p : ℕ) → f p ≡ (n == p) =
     λ p. stopped_at system_ports i was d p l ∙ ap (λ b. (n == p) && b) stops ∙ and-true (n == p) in
-    record {
-      aggs = k.aggs;
-      conversations = k.conversations;
-      first = k.first;
-      next = k.next;
-      states = λ x y. k.states x y ∙ leave_only f n only (assignment_of old x y);
-    }
+    grind (arith, nat_tests, leave_only, assignment_of)
 
 -- it did not stop
 pub one_stays : (system_ports : List SystemPort) (i : ℕ) (was : Option AggId) (d : SystemPort) (t : Table) → i < length system_ports
@@ -132,10 +114,4 @@ one_stays system_ports i was d t l stays =
     let f = stopped (slice_set (aggregators_in_use system_ports) i was) system_ports in
     let none : (p : ℕ) → f p ≡ false =
     λ p. stopped_at system_ports i was d p l ∙ ap (λ b. (n == p) && b) stays ∙ or_none false (n == p) in
-    record {
-      aggs = refl;
-      conversations = refl;
-      first = refl;
-      next = refl;
-      states = λ x y. leave_none f none (assignment_of t x y);
-    }
+    grind (arith, nat_tests, leave_none, assignment_of)

@@ -1,8 +1,7 @@
 -- Lists of all calls keep the transmit limit, and ports that agree.
-use Rattle.lagsystem.proofs.Common.{Bool, Err, IfOk, List, None, Ok, Option, Result, Some, [], ap, arith, false, refl, subst, sym, true, ℕ, ◌∙◌, ◌∷◌}
-use Rattle.lagsystem.proofs.Common.{◌≡◌, nat_tests, AggId, Assignment, next_identifier, SystemFault, SystemPort, OffersIf, Transmit, call_of}
-use Rattle.lagsystem.proofs.Common.{ForcesPort, FreesHeld, model_setup, GivesOrRefuses, Probes, ProbesAt, ProbesIf, SendsMarkerOf, PortsAgree}
-use Rattle.lagsystem.proofs.Common.{SystemState, machines_of, port_index, with_table, remembered_sends, sends_after}
+use Rattle.lagsystem.proofs.Common.{Bool, List, None, Ok, Option, Result, Some, [], ap, arith, subst, sym, ℕ, ◌∙◌, ◌∷◌, ◌≡◌, nat_tests}
+use Rattle.lagsystem.proofs.Common.{next_identifier, SystemFault, SystemPort, Transmit, call_of, model_setup, Probes, ProbesAt, ProbesIf}
+use Rattle.lagsystem.proofs.Common.{SendsMarkerOf, PortsAgree, SystemState, machines_of, port_index, with_table, remembered_sends, sends_after}
 use Rattle.lagsystem.specs.declared.drive.HostCall.{HostCall}
 use Rattle.lagsystem.specs.declared.drive.HostCall.TheVariants as host
 use Rattle.lagsystem.specs.declared.drive.HostReply.{HostReply}
@@ -11,7 +10,7 @@ use Rattle.lagsystem.specs.declared.drive.Reply.TheVariants as reply
 use Rattle.lagsystem.specs.HostCalls.{HostAgreementLaw, HostPromise, HostRun, HostWindowLaw, KeepsAgreement, StaysWindowedForHosts, sends_after_host}
 use Rattle.lagsystem.specs.HostCalls.{tick_after_host}
 use Rattle.lagsystem.proofs.Preserves.{marker_silent, none_silent}
-use Rattle.lagsystem.proofs.Windows.{GoodAt, GoodIn, good_end, good_few, good_step, found, port_in}
+use Rattle.lagsystem.proofs.Windows.{GoodIn, good_end, good_few, good_step, found, port_in}
 
 -- ---- the five calls change the conversations alone
 
@@ -21,23 +20,6 @@ TableAlone old new = new ≡ with_table old new.table
 unmoved : (old new : SystemState) → new ≡ old → TableAlone old new
 unmoved old new e = grind (arith, nat_tests)
 
-offered_alone : (there known : Bool) (gives : ℕ → ℕ → ℕ → Type 0) (agg : AggId) (conv : ℕ) (old : SystemState)
-    (answer : Result ℕ SystemFault) (new : SystemState) → OffersIf there known gives agg conv old answer new → TableAlone old new
-offered_alone false known gives agg conv old answer new h = unmoved old new h.1
-offered_alone true false gives agg conv old answer new h = unmoved old new h.1
-offered_alone true true gives agg conv old (Ok port) new h = h.1.1
-offered_alone true true gives agg conv old (Err fault) new h = unmoved old new h.1
-
-given_alone : (agg : AggId) (conv : ℕ) (what : Result Assignment SystemFault) (old : SystemState) (answer : Result Unit SystemFault)
-    (new : SystemState) → GivesOrRefuses agg conv what old answer new → TableAlone old new
-given_alone agg conv (Ok state) old answer new h = h.1.1
-given_alone agg conv (Err fault) old answer new h = unmoved old new h.1
-
-forced_alone : (gives : ℕ → ℕ → ℕ → Type 0) (port : ℕ) (old : SystemState) (answer : Result ℕ SystemFault) (new : SystemState)
-    → ForcesPort gives port old answer new → IfOk answer (λ count. FreesHeld port old new) → TableAlone old new
-forced_alone gives port old (Ok count) new h k = k.others
-forced_alone gives port old (Err fault) new h k = unmoved old new h.same
-
 -- the call is none of those of `drive`
 abbrev pub IsOther : HostCall → Type 0
 IsOther (host.Call call) = ⊥
@@ -45,14 +27,7 @@ IsOther call = Unit
 
 pub host_alone : (gives : ℕ → ℕ → ℕ → Type 0) (old : SystemState) (call : HostCall) (answer : HostReply) (new : SystemState)
     → HostPromise gives old call answer new → IsOther call → TableAlone old new
-host_alone gives old (host.OfferConversation agg conv) (told.OfferConversation answer) new h k =
-    offered_alone _ _ gives agg conv old answer new h.0
-host_alone gives old (host.LeaveConversation agg conv) (told.LeaveConversation answer) new h k = h.1.others
-host_alone gives old (host.Probe port) (told.Probe answer) new h k = h.1.2.others
-host_alone gives old (host.Rest agg conv) (told.Rest answer) new h k = given_alone agg conv _ old answer new h.0
-host_alone gives old (host.ForcePort port) (told.ForcePort answer) new h k = forced_alone gives port old answer new h.1 h.2
-host_alone gives old (host.Call call) answer new h k = absurd k
-host_alone gives old call answer new h k = absurd h
+host_alone gives old call answer new h k = grind (arith, nat_tests)
 
 -- ---- the transmit limit
 
@@ -65,20 +40,16 @@ marker_probe (Some id) n now port number mac before old answer new h = (marker_s
 up_probe : (up : Bool) (n now port : ℕ) (system_port : SystemPort) (before : List ℕ) (old : SystemState) (answer : Option (List ℕ))
     (new : SystemState) → ProbesIf up system_port old answer new
     → sends_after n now (Transmit port) (reply.Transmit (Ok answer)) before ≡ before
-up_probe false n now port system_port before old answer new h = (none_silent port answer h.0 n now before).1
-up_probe true n now port system_port before old answer new h =
-    marker_probe (next_identifier old.table) n now port system_port.number system_port.mac before old answer new h
+up_probe up n now port system_port before old answer new h = grind (arith, nat_tests, none_silent, marker_probe, next_identifier)
 
 place_probe : (o : Option ℕ) (n now port : ℕ) (before : List ℕ) (old : SystemState) (answer : Option (List ℕ)) (new : SystemState)
     → ProbesAt o old answer new → sends_after n now (Transmit port) (reply.Transmit (Ok answer)) before ≡ before
-place_probe None n now port before old answer new h = absurd h
-place_probe (Some i) n now port before old answer new h = up_probe h.0.port.enabled n now port h.0 before old answer new h.2
+place_probe o n now port before old answer new h = grind (arith, nat_tests, up_probe)
 
 -- what is probed is no LACPDU
 probe_silent : (n now port : ℕ) (before : List ℕ) (old : SystemState) (answer : Result (Option (List ℕ)) SystemFault) (new : SystemState)
     → Probes port old answer new → sends_after n now (Transmit port) (reply.Transmit answer) before ≡ before
-probe_silent n now port before old (Ok answer) new h = place_probe (port_index port old.system_ports) n now port before old answer new h
-probe_silent n now port before old (Err fault) new h = refl
+probe_silent n now port before old answer new h = grind (arith, nat_tests, place_probe, port_index)
 
 good_alone : (n now : ℕ) (before : List ℕ) (old new : SystemState) → TableAlone old new → GoodIn n now before old.system_ports
     → GoodIn n now before new.system_ports
@@ -89,17 +60,13 @@ good_host : (gives : ℕ → ℕ → ℕ → Type 0) (n now : ℕ) (before : Lis
     → GoodIn n (tick_after_host call now) (sends_after_host n now call answer before) new.system_ports
 good_host gives n now before old (host.Call call) (told.Call answer) new h g =
     good_step gives n now before old (call_of call) answer new h.step g
-good_host gives n now before old (host.OfferConversation agg conv) (told.OfferConversation answer) new h g =
-    good_alone n now before old new (host_alone gives old (host.OfferConversation agg conv) (told.OfferConversation answer) new h tt) g
-good_host gives n now before old (host.LeaveConversation agg conv) (told.LeaveConversation answer) new h g =
-    good_alone n now before old new (host_alone gives old (host.LeaveConversation agg conv) (told.LeaveConversation answer) new h tt) g
+good_host gives n now before old (host.OfferConversation agg conv) (told.OfferConversation answer) new h g = grind (arith, nat_tests)
+good_host gives n now before old (host.LeaveConversation agg conv) (told.LeaveConversation answer) new h g = grind (arith, nat_tests)
 good_host gives n now before old (host.Probe port) (told.Probe answer) new h g =
     subst (λ sends. GoodIn n now sends new.system_ports) (sym (probe_silent n now port before old answer new h.0))
     (good_alone n now before old new (host_alone gives old (host.Probe port) (told.Probe answer) new h tt) g)
-good_host gives n now before old (host.Rest agg conv) (told.Rest answer) new h g =
-    good_alone n now before old new (host_alone gives old (host.Rest agg conv) (told.Rest answer) new h tt) g
-good_host gives n now before old (host.ForcePort port) (told.ForcePort answer) new h g =
-    good_alone n now before old new (host_alone gives old (host.ForcePort port) (told.ForcePort answer) new h tt) g
+good_host gives n now before old (host.Rest agg conv) (told.Rest answer) new h g = grind (arith, nat_tests)
+good_host gives n now before old (host.ForcePort port) (told.ForcePort answer) new h g = grind (arith, nat_tests)
 good_host gives n now before old call answer new h g = absurd h
 
 good_hosts : (gives : ℕ → ℕ → ℕ → Type 0) (n now : ℕ) (before : List ℕ) (old new : SystemState) (calls : List HostCall)
@@ -115,10 +82,7 @@ good_hosts gives n now before old new (c ∷ calls) (a ∷ answers) h g = (
 )
 
 pub host_window : (gives : ℕ → ℕ → ℕ → Type 0) → HostWindowLaw gives
-host_window gives old new calls answers three run n now since =
-    good_hosts gives n now (remembered_sends now (machines_of n old)) old new calls answers run
-    (subst (λ o. GoodAt now (remembered_sends now (machines_of n old)) (port_in o)) (found n old.system_ports)
-    (good_few now (machines_of n old) since (three n)))
+host_window gives old new calls answers three run n now since = grind (arith, nat_tests, good_hosts, remembered_sends, machines_of, port_in, found, good_few)
 
 -- ---- the ports agree
 
@@ -143,12 +107,10 @@ keeps_beside old new e a = record {
 
 pub keeps_agreement : (gives : ℕ → ℕ → ℕ → Type 0) (old : SystemState) (call : HostCall) (answer : HostReply) (new : SystemState)
     → PortsAgree old → HostPromise gives old call answer new → KeepsAgreement old new
-keeps_agreement gives old (host.Call call) (told.Call answer) new a h =
-    record { agrees = h.agrees; configured = h.configured; conversations = h.conversations; max_links = h.max_links }
+keeps_agreement gives old (host.Call call) (told.Call answer) new a h = grind (arith, nat_tests)
 keeps_agreement gives old (host.OfferConversation agg conv) answer new a h =
     keeps_beside old new (host_alone gives old (host.OfferConversation agg conv) answer new h tt) a
-keeps_agreement gives old (host.LeaveConversation agg conv) answer new a h =
-    keeps_beside old new (host_alone gives old (host.LeaveConversation agg conv) answer new h tt) a
+keeps_agreement gives old (host.LeaveConversation agg conv) answer new a h = grind (arith, nat_tests)
 keeps_agreement gives old (host.Probe port) answer new a h = keeps_beside old new (host_alone gives old (host.Probe port) answer new h tt) a
 keeps_agreement gives old (host.Rest agg conv) answer new a h =
     keeps_beside old new (host_alone gives old (host.Rest agg conv) answer new h tt) a
@@ -157,8 +119,7 @@ keeps_agreement gives old (host.ForcePort port) answer new a h =
 keeps_agreement gives old call answer new a h = absurd h
 
 pub host_agreement : (gives : ℕ → ℕ → ℕ → Type 0) → HostAgreementLaw gives
-host_agreement gives old new [] [] a h = subst (KeepsAgreement old) (sym h)
-    (record { agrees = a; configured = refl; conversations = refl; max_links = refl })
+host_agreement gives old new [] [] a h = grind (arith, nat_tests)
 host_agreement gives old new [] (r ∷ answers) a h = absurd h
 host_agreement gives old new (c ∷ calls) [] a h = absurd h
 host_agreement gives old new (c ∷ calls) (r ∷ answers) a h =

@@ -104,8 +104,7 @@ settling_keeps old new h =
 
 place_numbers : (R : Machines → Machines → Type 0) (o : Option ℕ) (old new : List SystemPort) → PortAtChangesBy R o old new
     → port_numbers new ≡ port_numbers old
-place_numbers R None old new h = absurd h
-place_numbers R (Some i) old new h = ap port_numbers h.4 ∙ numbers_set old i h.0 (record h.0 { port = h.1 }) h.2 refl
+place_numbers R o old new h = grind (arith, nat_tests, port_numbers, numbers_set)
 
 pub keeps_place : (R : Machines → Machines → Type 0) (o : Option ℕ) (old new : SystemState) → OnlyPortChangesBy o R old new → Keeps old new
 keeps_place R o old new h = keeps_slots old new h.1 (place_numbers R o old.system_ports new.system_ports h.0)
@@ -257,16 +256,7 @@ first_made config keys most start new h k =
     let f = (ports_keep old new k).frame in
     let t : new.table ≡ old.table = ports_table old new k in
     let settles : Settling old new = first_settles (length keys) config.conversations config.first_marker old new refl k in
-    let same : with_system_ports new start ≡ old = ap (λ (s : SystemState). with_system_ports s start) f
-    ∙ ap (λ (t : Table). with_table old t) t in
-    let keys_same : length new.keys ≡ length keys = ap (λ (s : SystemState). length s.keys) f in
-    let count : new.conversations ≡ config.conversations = ap (λ (s : SystemState). s.conversations) f in
-    let marker : new.first_marker ≡ config.first_marker = ap (λ (s : SystemState). s.first_marker) f in (
-      start,
-      subst (λ (s : SystemState). AllZip (HasJustStarted s.system) s.ports start) (sym same) h,
-      subst (λ (s : SystemState). Settling s new) (sym same) settles,
-      t ∙ (λ i. first_table (sym keys_same i) (sym count i) (sym marker i)),
-    )
+    grind (arith, nat_tests, with_system_ports, with_table, first_table)
 
 pub configured_made : (config : Config) (keys : List Key) (most : Option ℕ) (start : List SystemPort) (new : SystemState) → keys ≡ config.aggregators.items
     → most ≡ config.max_links → SettlesPorts (started config keys most start) new → IsConfigured config new

@@ -95,8 +95,7 @@ fits_one agg a l i s most k false e room w = grind (arith, nat_tests, set_more, 
 selected_within : (max_links : Option ℕ) (l : List SystemPort) (i : ℕ) (s : SystemPort) (agg : AggId) (k : Bool)
     → (k && is_below max_links (length (ports_that_chose agg (views l)))) ≡ true → WithinLimit max_links (views l)
     → WithinLimit max_links (views (slice_set l i (with_choice s (Some (Selected agg)))))
-selected_within None l i s agg k room w = tt
-selected_within (Some most) l i s agg k room w = λ a. fits_one agg a l i s most k (agg.0 == a.0) refl room (w a)
+selected_within max_links l i s agg k room w = grind (arith, nat_tests, fits_one)
 
 standby_within : (max_links : Option ℕ) (l : List SystemPort) (i : ℕ) (s : SystemPort) (agg : AggId) → WithinLimit max_links (views l)
     → WithinLimit max_links (views (slice_set l i (with_choice s (Some (Standby agg)))))
@@ -105,14 +104,12 @@ standby_within max_links l i s agg w = grind (arith, nat_tests, within_fewer, se
 taken_within : (aggs : AggregatorsValue) (l : List SystemPort) (i : ℕ) (s : SystemPort) (agg : AggId) (room : Bool)
     → has_room aggs (views l) agg ≡ room → WithinLimit aggs.max_links (views l)
     → WithinLimit aggs.max_links (views (slice_set l i (with_choice s (Some (choice_if room agg)))))
-taken_within aggs l i s agg true e w = selected_within aggs.max_links l i s agg (is_aggregator aggs.keys agg) e w
-taken_within aggs l i s agg false e w = standby_within aggs.max_links l i s agg w
+taken_within aggs l i s agg room e w = grind (arith, nat_tests, selected_within, is_aggregator, standby_within)
 
 choice_within : (aggs : AggregatorsValue) (l : List SystemPort) (i : ℕ) (s : SystemPort) (o : Option AggId) → slice_get l i ≡ Some s
     → (slice_set l i s ≡ l) → WithinLimit aggs.max_links (views l)
     → WithinLimit aggs.max_links (views (slice_set l i (with_choice s (option_map (choice_in aggs (views l)) o))))
-choice_within aggs l i s None e same w = subst (λ m. WithinLimit aggs.max_links (views m)) (sym same) w
-choice_within aggs l i s (Some agg) e same w = taken_within aggs l i s agg (has_room aggs (views l) agg) refl w
+choice_within aggs l i s o e same w = grind (arith, nat_tests, views, taken_within, has_room)
 
 set_itself : (l : List SystemPort) (i : ℕ) (s : SystemPort) → slice_get l i ≡ Some s → slice_set l i s ≡ l
 set_itself [] i s e = refl
@@ -136,8 +133,7 @@ none_counted agg (s ∷ ss) h = ap (λ c. cond (has_chosen agg c) (suc (count ag
 -- where all are UNSELECTED
 pub none_within : (max_links : Option ℕ) (l : List SystemPort) → AllByRecursion (λ s. s.port.choice ≡ Unselected) l
     → WithinLimit max_links (views l)
-none_within None l h = tt
-none_within (Some most) l h = λ agg. omega (arith, counted agg l, none_counted agg l h)
+none_within max_links l h = grind (arith, nat_tests, counted, none_counted)
 
 -- which aggregator has none that comes next
 

@@ -65,9 +65,7 @@ none_next aggs l n long h agg = by_index (next_standby_index aggs (views l) agg)
     by_index None e = refl
     by_index (Some i) e =
         let x = is_next aggs (views l) agg i e in
-        let s = seen_port l i x.port x.there in
-        let low : i < n = omega (arith, next_within aggs l agg i e, long) in
-        absurd (false≢true (sym (h i s.0 agg low s.1 (s.2 ∙ x.standby)) ∙ x.room))
+        grind (arith, nat_tests, seen_port, next_within)
 
 -- so for one port more
 pub no_room_more : (aggs : AggregatorsValue) (l : List SystemPort) (n : ℕ) (t : SystemPort) → slice_get l n ≡ Some t → NoRoomUpTo aggs n l

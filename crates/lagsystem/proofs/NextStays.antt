@@ -1,4 +1,5 @@
 -- Where ports only leave, a STANDBY port comes next only if one has left.
+use native.Mathlib.Omega.{arith}
 use Rattle.lagsystem.proofs.Common.{Bool, List, None, Option, Some, [], ap, false, inl, inr, refl, slice_get, slice_set, subst, suc, sym, zero, ℕ}
 use Rattle.lagsystem.proofs.Common.{◌||◌, ◌∙◌, ◌∷◌, ◌≡◌, false≢true, or_parts, none-some, same_Some, AllZip, list_any, is_unselected, Machines}
 use Rattle.lagsystem.proofs.Common.{receive_rows, RunsToRest, count_down, AggregatorsValue, none_is_next, nothing_is_next, SystemPort}
@@ -36,9 +37,7 @@ none_before (x ∷ xs) (y ∷ ys) h e =
 
 next_kept : (aggs : AggregatorsValue) (xs ys : List SystemPort) → EachLeaves xs ys → NextOnlyIfUnselected aggs xs
     → NextOnlyIfUnselected aggs ys
-next_kept aggs xs ys h k none a =
-    let same = all_kept xs ys h none in
-    nothing_is_next aggs (views ys) a (same_none aggs xs ys same a (none_is_next aggs (views xs) a (k (none_before xs ys same none) a)))
+next_kept aggs xs ys h k none a = grind (arith, all_kept, nothing_is_next, views, same_none, none_is_next, none_before)
 
 -- each port changes
 pub zip_next : (aggs : AggregatorsValue) (R : Machines → Machines → Type 0) → ((p q : Machines) → R p q → LeavesOrStays p q)
@@ -54,8 +53,7 @@ same_each (x ∷ xs) = (stays x.port, same_each xs)
 set_each : (xs : List SystemPort) (i : ℕ) (s t : SystemPort) → slice_get xs i ≡ Some s → LeavesOrStays s.port t.port
     → EachLeaves xs (slice_set xs i t)
 set_each [] i s t e h = absurd (none-some s e)
-set_each (x ∷ xs) zero s t e h =
-    (subst (λ (y : SystemPort). LeavesOrStays y.port t.port) (sym (same_Some x s e)) h, same_each xs)
+set_each (x ∷ xs) zero s t e h = grind (arith, same_Some, same_each)
 set_each (x ∷ xs) (suc i) s t e h = (stays x.port, set_each xs i s t e h)
 
 set_next : (s : SystemState) (i : ℕ) (x y : SystemPort) (news : List SystemPort) → IsSound s → slice_get s.system_ports i ≡ Some x

@@ -35,8 +35,7 @@ length_set (s ∷ ss) (suc i) x = omega (arith, length_set ss i x)
 
 length_choose : (aggs : AggregatorsValue) (system_ports : List SystemPort) (i : ℕ) (o : Option SystemPort)
     → length (after_choice_at aggs system_ports i o) ≡ length system_ports
-length_choose aggs system_ports i None = refl
-length_choose aggs system_ports i (Some s) = length_set system_ports i (with_choice s (choice_for aggs system_ports s))
+length_choose aggs system_ports i o = grind (arith, nat_tests, length_set, with_choice, choice_for)
 
 length_chosen : (aggs : AggregatorsValue) (n : ℕ) (system_ports : List SystemPort)
     → length (after_choices aggs n system_ports) ≡ length system_ports
@@ -128,8 +127,7 @@ one_taken aggs system_ports n s (Some a) w e r k j t l g =
 one_chosen : (aggs : AggregatorsValue) (system_ports : List SystemPort) (n : ℕ) (o : Option SystemPort) → slice_get system_ports n ≡ o
     → Rises 0 (port_numbers system_ports) → Found_none aggs.keys n system_ports
     → Found_none aggs.keys (suc n) (after_choice_at aggs system_ports n o)
-one_chosen aggs system_ports n None e r k j t l g = grind (arith, nat_tests)
-one_chosen aggs system_ports n (Some s) e r k j t l g = grind (arith, nat_tests, one_taken)
+one_chosen aggs system_ports n o e r k j t l g = grind (arith, nat_tests, one_taken)
 
 all_chosen : (aggs : AggregatorsValue) (n : ℕ) (system_ports : List SystemPort) → Rises 0 (port_numbers system_ports)
     → Found_none aggs.keys n (after_choices aggs n system_ports)

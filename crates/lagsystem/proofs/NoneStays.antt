@@ -57,8 +57,7 @@ none_stays keys seen later v f g e =
     (occupants_share_group later v) f g rows
     (none_mapped (passing v.party.key (has_no_occupant seen) rows) both.1)
     (none_mapped (passing v.party.key (occupants_share_group seen v) rows) both.0) in
-    ap (λ o. or_else (option_map aggregator_of_entry o) (lowest keys v.party.key (has_no_occupant later))) h.1
-    ∙ ap (option_map aggregator_of_entry) h.0
+    grind (arith, nat_tests, or_else, option_map, aggregator_of_entry, lowest, has_no_occupant)
 
 -- one more occupant
 
@@ -110,17 +109,7 @@ pub none_after : (keys : List Key) (system_ports : List SystemPort) (i : ℕ) (s
     → slice_get system_ports i ≡ Some s → s.port.choice ≡ Unselected
     → chosen_if_eligible keys (views system_ports) v ≡ None
     → chosen_if_eligible keys (views (slice_set system_ports i (with_choice s (Some a)))) v ≡ None
-none_after keys system_ports i s a v e u h =
-    let later : List PortView = views (slice_set system_ports i (with_choice s (Some a))) in
-    none_stays keys (views system_ports) later v
-    (λ agg k. not_from_true (has_occupant later agg) (occupant_stays agg a system_ports i s e u (not-false (has_occupant (views system_ports) agg) k)))
-    (λ agg k j.
-    let has = not-false (has_occupant (views system_ports) agg) k in
-    join_stays (not (individual v.party v.partner)) (has_occupant (views system_ports) agg)
-    (list_all (has_group_of v) (occupants agg (views system_ports)))
-    (has_occupant later agg) (list_all (has_group_of v) (occupants agg later)) has (occupant_stays agg a system_ports i s e u has) j
-    (others_stay agg a v system_ports i s e u))
-    h
+none_after keys system_ports i s a v e u h = grind (arith, nat_tests, views, slice_set, with_choice, none_stays, not_from_true, has_occupant, occupant_stays, not-false, join_stays, not, individual, list_all, has_group_of, occupants, others_stay)
 
 -- the same occupants in the same groups
 pub none_alike : (keys : List Key) (seen later : List PortView) (v : PortView)

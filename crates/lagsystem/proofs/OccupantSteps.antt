@@ -36,8 +36,7 @@ zip_on R k aggs old new h p = placed_on aggs old new (zip_stay R k old new h, zi
 
 place_fewer : (R : Machines → Machines → Type 0) → ((p q : Machines) → R p q → LeavesOrStays p q) → (o : Option ℕ)
     (old new : List SystemPort) → PortAtChangesBy R o old new → Fewer old new
-place_fewer R k None old new h = absurd h
-place_fewer R k (Some i) old new h = grind (arith, nat_tests, set_fewer)
+place_fewer R k o old new h = grind (arith, nat_tests, set_fewer)
 
 place_on : (R : Machines → Machines → Type 0) → ((p q : Machines) → R p q → LeavesOrStays p q) → (o : Option ℕ) → (aggs : AggregatorsValue)
     → (old new : List SystemPort) → PortAtChangesBy R o old new → ArePlaced aggs old → ArePlaced aggs new

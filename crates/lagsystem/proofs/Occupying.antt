@@ -147,8 +147,7 @@ set_stays xs i s t e h j u g = grind (arith, nat_tests, set_cases, stays)
 
 pub place_stays : (R : Machines → Machines → Type 0) → ((p q : Machines) → R p q → LeavesOrStays p q) → (o : Option ℕ)
     (old new : List SystemPort) → PortAtChangesBy R o old new → EachStays old new
-place_stays R k None old new h = absurd h
-place_stays R k (Some i) old new h = grind (arith, nat_tests, set_stays)
+place_stays R k o old new h = grind (arith, nat_tests, set_stays)
 
 -- the occupants
 

@@ -1,8 +1,8 @@
 -- A call of a system has one answer and one state after it.
-use Rattle.lagsystem.proofs.Common.{Bool, Err, List, None, Ok, Option, Result, Some, [], ap, arith, cond, false, if◌then◌else◌, inl, inr, is_some}
-use Rattle.lagsystem.proofs.Common.{ltb, refl, slice_set, subst, sym, true, ℕ, ◌+◌, ◌^◌, ◌∙◌, ◌∷◌, ◌≡◌, ◌⊎◌, true≢false, nat_tests, none-some}
-use Rattle.lagsystem.proofs.Common.{same_Some, IsFalse, AggId, Lacpdu, Marker, frame_octets, one_written, PortCall, Machines, receive_rows}
-use Rattle.lagsystem.proofs.Common.{RunsToRest, after_sending, count_down, one_effect, Assignment, DistFault, Assigns, force_result, move_result}
+use Rattle.lagsystem.proofs.Common.{Bool, Err, List, None, Ok, Option, Result, Some, [], ap, arith, cond, false, if◌then◌else◌, is_some, ltb, refl}
+use Rattle.lagsystem.proofs.Common.{slice_set, subst, sym, true, ℕ, ◌+◌, ◌^◌, ◌∙◌, ◌∷◌, ◌≡◌, ◌⊎◌, true≢false, nat_tests, none-some, same_Some}
+use Rattle.lagsystem.proofs.Common.{IsFalse, AggId, Lacpdu, Marker, frame_octets, one_written, PortCall, Machines, receive_rows, RunsToRest}
+use Rattle.lagsystem.proofs.Common.{after_sending, count_down, one_effect, Assignment, DistFault, Assigns, force_result, move_result}
 use Rattle.lagsystem.proofs.Common.{ChangesAssignments, Marks, after_mark, after_tick, marker_due, wants_marker, Table, count_conversations}
 use Rattle.lagsystem.proofs.Common.{next_identifier, sum_below, PortChange, Reply, SystemFault, NoAggregator, NoPort, FrameEffect, Answered}
 use Rattle.lagsystem.proofs.Common.{ProcessLacpdu, Response, Received, SystemPort, AlreadyConfigured, Call, ChangesParty, Configure, Force}
@@ -120,8 +120,7 @@ place_one R one o old u new last rest same h k =
 -- a received frame
 releases_one : (b : Bool) (port : ℕ) (m : Marker) (old : SystemState) (u : Table) (x y : Received) (new last : SystemState)
     → SameConversations old.table u → Releases b port m old x new → Releases b port m (with_table old u) y last → (y ≡ x) × SameAfter new last
-releases_one false port m old u x y new last same h k = (k.0 ∙ sym h.0, stays old u new last same h.1 k.1)
-releases_one true port m old u x y new last same h k = grind (arith, nat_tests, count_one, tabled, changes_one)
+releases_one b port m old u x y new last same h k = grind (arith, nat_tests, stays, count_one, tabled, changes_one)
 
 performs_one : (effect : FrameEffect) (port : ℕ) (o : Option ℕ) (old : SystemState) (u : Table) (x y : Received) (new last : SystemState)
     → ReceivesAtRest old.system_ports → SameConversations old.table u → Performs effect port o old x new
@@ -170,8 +169,7 @@ transmits_if true false i system_port old u x y new last same h k =
 
 transmits_one : (o : Option ℕ) (old : SystemState) (u : Table) (x y : Option (List ℕ)) (new last : SystemState)
     → SameConversations old.table u → TransmitsAt o old x new → TransmitsAt o (with_table old u) y last → (y ≡ x) × SameAfter new last
-transmits_one None old u x y new last same h k = absurd h
-transmits_one (Some i) old u x y new last same h k = grind (arith, nat_tests, transmits_if)
+transmits_one o old u x y new last same h k = grind (arith, nat_tests, transmits_if)
 
 -- what the distributor answers
 assigns_one : (gives : ℕ → ℕ → ℕ → Type 0) → IsFunction gives → (conv : ℕ) (ports : List ℕ) (s : Assignment) (x y : Result ℕ DistFault)
@@ -211,15 +209,7 @@ frame_one octets f g h k = grind (arith, nat_tests)
 
 reason_one : (gives : ℕ → ℕ → ℕ → Type 0) → IsFunction gives → (s : SystemState) (agg : AggId) (octets : List ℕ) (x y : Result ℕ SystemFault)
     → Reason gives s agg octets x → Reason gives s agg octets y → y ≡ x
-reason_one gives one s agg octets x y (inl a) (inl b) = b.1 ∙ sym a.1
-reason_one gives one s agg octets x y (inl a) (inr (inl b)) = differ (has_aggregator s agg) b.1 a.0
-reason_one gives one s agg octets x y (inl a) (inr (inr b)) = differ (has_aggregator s agg) b.1.0 a.0
-reason_one gives one s agg octets x y (inr (inl a)) (inl b) = differ (has_aggregator s agg) a.1 b.0
-reason_one gives one s agg octets x y (inr (inl a)) (inr (inl b)) = b.3 ∙ ap Err (frame_one octets a.0 b.0 a.2 b.2) ∙ sym a.3
-reason_one gives one s agg octets x y (inr (inl a)) (inr (inr b)) = absurd (not_both octets a.0 b.1.1 a.2)
-reason_one gives one s agg octets x y (inr (inr a)) (inl b) = differ (has_aggregator s agg) a.1.0 b.0
-reason_one gives one s agg octets x y (inr (inr a)) (inr (inl b)) = absurd (not_both octets b.0 a.1.1 b.2)
-reason_one gives one s agg octets x y (inr (inr a)) (inr (inr b)) = grind (arith, nat_tests, assigns_one)
+reason_one gives one s agg octets x y h i = grind (arith, nat_tests, differ, has_aggregator, frame_one, not_both, assigns_one)
 
 alike : (gives : ℕ → ℕ → ℕ → Type 0) (old : SystemState) (u : Table) (agg : AggId) (octets : List ℕ) (x : Result ℕ SystemFault)
     → SameConversations old.table u → Reason gives (with_table old u) agg octets x → Reason gives old agg octets x
@@ -378,17 +368,11 @@ same_after : (gives : ℕ → ℕ → ℕ → Type 0) (old : SystemState) (u : T
 same_after gives old u call a b new last h k same = grind (arith, nat_tests, Step-frame)
 
 pub one_answer : (gives : ℕ → ℕ → ℕ → Type 0) → IsFunction gives → OneAnswer gives
-one_answer gives one old twin call a b new last agrees same h k =
-    let theirs : Step gives (with_table old twin.table) call b last = subst (λ s. Step gives s call b last) same.others k.step in
-    let t = steps_one gives one old twin.table agrees.rested same.table call a b new last h.step theirs in
-    (t.0, same_after gives old twin.table call a b new last h.step theirs t.1)
+one_answer gives one old twin call a b new last agrees same h k = grind (arith, nat_tests, with_table, steps_one, same_after)
 
 -- and of a list of calls
 pub one_run : (gives : ℕ → ℕ → ℕ → Type 0) → IsFunction gives → OneRun gives
-one_run gives one old twin [] [] [] new last agrees same h k = (
-  refl,
-  subst (λ s. SameState s last) (sym h) (subst (λ s. SameState old s) (sym k) same),
-)
+one_run gives one old twin [] [] [] new last agrees same h k = grind (arith, nat_tests)
 one_run gives one old twin [] [] (b ∷ bs) new last agrees same h k = absurd k
 one_run gives one old twin [] (a ∷ rs) others new last agrees same h k = absurd h
 one_run gives one old twin (call ∷ calls) [] others new last agrees same h k = absurd h

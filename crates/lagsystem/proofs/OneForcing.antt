@@ -1,7 +1,8 @@
 -- To force what is held on a port has one answer and one state after it.
-use Rattle.lagsystem.proofs.Common.{Bool, Err, Ok, ap, cond, false, is_some, length, refl, subst, suc, sym, true, zero, ℕ, ◌+◌, ◌∙◌, ◌≡◌, true≢false}
-use Rattle.lagsystem.proofs.Common.{AggId, is_held_on, Force, ForcesFirst, ForcesIfHeld, ForcesIn, IsFunction, OneForcing, SameState}
-use Rattle.lagsystem.proofs.Common.{aggregator_numbered, PortsAgree, SystemState, port_index}
+use Rattle.lagsystem.proofs.Common.{Bool, Err, Ok, ap, cond, false, length, refl, subst, suc, sym, true, zero, ℕ, ◌+◌, ◌∙◌, ◌≡◌, true≢false, AggId}
+use Rattle.lagsystem.proofs.Common.{Force, ForcesFirst, ForcesIfHeld, ForcesIn, IsFunction, OneForcing, SameState, aggregator_numbered, PortsAgree}
+use Rattle.lagsystem.proofs.Common.{SystemState, port_index}
+use native.Mathlib.Omega.{arith}
 use Rattle.lagsystem.specs.declared.drive.Reply.TheVariants as reply
 use Rattle.lagsystem.proofs.OneAnswer.{one_answer}
 
@@ -21,18 +22,14 @@ one_if_held gives one port agg conv old twin true true new last agrees same h k 
   (one_answer gives one old twin (Force agg conv) (reply.Force (Ok tt)) (reply.Force (Ok tt)) new last agrees same h.1 k.1).1,
   h.1.agrees,
 )
-one_if_held gives one port agg conv old twin true false new last agrees same h k =
-    absurd (true≢false (sym h.0 ∙ sym (ap (is_held_on port) (same.table.states agg.0 conv)) ∙ k.0))
-one_if_held gives one port agg conv old twin false true new last agrees same h k =
-    absurd (true≢false (sym k.0 ∙ ap (is_held_on port) (same.table.states agg.0 conv) ∙ h.0))
-one_if_held gives one port agg conv old twin false false new last agrees same h k =
-    (refl, stayed old twin new last same h.1 k.1, subst PortsAgree (sym h.1) agrees)
+one_if_held gives one port agg conv old twin true false new last agrees same h k = grind arith
+one_if_held gives one port agg conv old twin false true new last agrees same h k = grind arith
+one_if_held gives one port agg conv old twin false false new last agrees same h k = grind arith
 
 one_in : (gives : ℕ → ℕ → ℕ → Type 0) → IsFunction gives → (port : ℕ) (agg : AggId) (count : ℕ) (old twin : SystemState) (n m : ℕ)
     (new last : SystemState) → PortsAgree old → SameState old twin → ForcesIn gives port agg count old n new
     → ForcesIn gives port agg count twin m last → Same n m new last
-one_in gives one port agg zero old twin n m new last agrees same h k =
-    (k.1 ∙ sym h.1, stayed old twin new last same h.0 k.0, subst PortsAgree (sym h.0) agrees)
+one_in gives one port agg zero old twin n m new last agrees same h k = grind arith
 one_in gives one port agg (suc count) old twin n m new last agrees same h k =
     let before = one_in gives one port agg count old twin h.1 k.1 h.0 k.0 agrees same h.3 k.3 in
     let own = one_if_held gives one port agg count h.0 k.0 h.2 k.2 new last before.2 before.1 h.4 k.4 in
@@ -41,8 +38,7 @@ one_in gives one port agg (suc count) old twin n m new last agrees same h k =
 one_first : (gives : ℕ → ℕ → ℕ → Type 0) → IsFunction gives → (port count : ℕ) (old twin : SystemState) (n m : ℕ) (new last : SystemState)
     → PortsAgree old → SameState old twin → ForcesFirst gives port count old n new → ForcesFirst gives port count twin m last
     → Same n m new last
-one_first gives one port zero old twin n m new last agrees same h k =
-    (k.1 ∙ sym h.1, stayed old twin new last same h.0 k.0, subst PortsAgree (sym h.0) agrees)
+one_first gives one port zero old twin n m new last agrees same h k = grind arith
 one_first gives one port (suc count) old twin n m new last agrees same h k =
     let before = one_first gives one port count old twin h.1 k.1 h.0 k.0 agrees same h.3 k.3 in
     let agg = aggregator_numbered (suc count) in
@@ -59,9 +55,6 @@ one_forcing gives one old twin port (Ok n) (Ok m) new last agrees same h k =
     let theirs : ForcesFirst gives port (length old.keys) twin m last =
     subst (λ c. ForcesFirst gives port c twin m last) (ap (λ (s : SystemState). length s.keys) same.others) k.1 in
     let r = one_first gives one port (length old.keys) old twin n m new last agrees same h.1 theirs in (ap (λ x. Ok x) r.0, r.1)
-one_forcing gives one old twin port (Ok n) (Err g) new last agrees same h k =
-    absurd (true≢false (sym h.0 ∙ ap is_some (sym (same_index old twin port same) ∙ k.cause)))
-one_forcing gives one old twin port (Err f) (Ok m) new last agrees same h k =
-    absurd (true≢false (sym k.0 ∙ ap is_some (same_index old twin port same ∙ h.cause)))
-one_forcing gives one old twin port (Err f) (Err g) new last agrees same h k =
-    (ap (λ x. Err x) (k.named ∙ sym h.named), stayed old twin new last same h.same k.same)
+one_forcing gives one old twin port (Ok n) (Err g) new last agrees same h k = grind arith
+one_forcing gives one old twin port (Err f) (Ok m) new last agrees same h k = grind arith
+one_forcing gives one old twin port (Err f) (Err g) new last agrees same h k = grind arith

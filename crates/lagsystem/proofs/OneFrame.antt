@@ -1,8 +1,8 @@
 -- What a received frame asks for is one thing, and so is the frame that is sent.
-use Rattle.lagsystem.proofs.Common.{Bool, List, None, Option, Some, ap, arith, drop, false, length, refl, sym, true, ℕ, ◌<◌, ◌∙◌, ◌≡◌, ◌≤◌, nat_tests}
-use Rattle.lagsystem.proofs.Common.{none-some, same_Some, Marker, Pdu, fault_of, frame_octets, response_to, ReadsPdu, no_fault, one_pdu, one_written}
-use Rattle.lagsystem.proofs.Common.{pdu_of, FrameEffect, Answered, Respond, SystemPort, AnswersMarker, Carries, Data_frame, Faulty, GivesEffect}
-use Rattle.lagsystem.proofs.Common.{IsFrame, ParsesWhere, ReceivedFrame, Runt, IsLacpduOf}
+use Rattle.lagsystem.proofs.Common.{Bool, List, None, Option, Some, ap, arith, drop, length, refl, sym, ℕ, ◌<◌, ◌∙◌, ◌≡◌, ◌≤◌, nat_tests, none-some}
+use Rattle.lagsystem.proofs.Common.{same_Some, Marker, Pdu, fault_of, frame_octets, response_to, ReadsPdu, no_fault, one_pdu, one_written, pdu_of}
+use Rattle.lagsystem.proofs.Common.{FrameEffect, Answered, Respond, SystemPort, AnswersMarker, Carries, Data_frame, Faulty, GivesEffect, IsFrame}
+use Rattle.lagsystem.proofs.Common.{ParsesWhere, ReceivedFrame, Runt, IsLacpduOf}
 use Rattle.slowpdu.specs.declared.fault.WireFault.{WireFault}
 use Rattle.slowpdu.specs.declared.pdu.Pdu.TheVariants as pdu
 
@@ -38,17 +38,12 @@ marker_one mac m (Some answer) e f h k =
 
 gives_one : (system_port : SystemPort) (frame : ReceivedFrame) (e f : FrameEffect) → GivesEffect system_port frame e
     → GivesEffect system_port frame f → e ≡ f
-gives_one system_port Runt e f h k = h ∙ sym k
-gives_one system_port Data_frame e f h k = h ∙ sym k
-gives_one system_port (Faulty fault) e f h k = h ∙ sym k
-gives_one system_port (Carries (pdu.Lacpdu v)) e f h k = h ∙ sym k
-gives_one system_port (Carries (pdu.Marker m)) e f h k = marker_one system_port.mac m (response_to m) e f h k
+gives_one system_port frame e f h k = grind (arith, nat_tests, marker_one, response_to)
 
 -- what received octets ask for
 pub effect_one : (up : Bool) (system_port : SystemPort) (octets : List ℕ) (e f : FrameEffect) → ParsesWhere up system_port octets e
     → ParsesWhere up system_port octets f → e ≡ f
-effect_one false system_port octets e f h k = h ∙ sym k
-effect_one true system_port octets e f h k = grind (arith, nat_tests, frame_one, gives_one)
+effect_one up system_port octets e f h k = grind (arith, nat_tests, frame_one, gives_one)
 
 -- the frame of an LACPDU
 pub lacpdu_one : (max_delay : ℕ) (system_port : SystemPort) (a b : List ℕ) → IsLacpduOf max_delay system_port a

@@ -1,5 +1,5 @@
 -- Settling is deterministic: the ports after it, and the state of each conversation.
-use Rattle.lagsystem.proofs.Common.{List, None, Option, Some, [], ap, arith, false, refl, subst, suc, sym, zero, ℕ, ◌+◌, ◌∙◌, ◌∷◌, ◌≡◌, nat_tests}
+use Rattle.lagsystem.proofs.Common.{List, None, Option, [], ap, arith, false, refl, subst, suc, sym, zero, ℕ, ◌+◌, ◌∙◌, ◌∷◌, ◌≡◌, nat_tests}
 use Rattle.lagsystem.proofs.Common.{none-some, AllByRecursion, AggId, Machines, mux_rows, RunsPeriodic, RunsToRest, one_mux, one_periodic}
 use Rattle.lagsystem.proofs.Common.{AggregatorsValue, next_standby_index, Assignment, Table, assignment_of, SystemPort, PortAtChangesBy}
 use Rattle.lagsystem.proofs.Common.{SameConversations, aggregator_numbered, distributing, ChoosesIn, PortsChangeBy, PromotesAll, PromotesFirst}
@@ -30,8 +30,7 @@ one_of_each P R one (x ∷ xs) (y ∷ ys) (z ∷ zs) all h k = grind (arith, nat
 
 pub one_at : (P : Machines → Type 0) (R : Machines → Machines → Type 0) → LeadsToOne P R → (o : Option ℕ) (l a b : List SystemPort)
     → AllByRecursion (λ x. P x.port) l → PortAtChangesBy R o l a → PortAtChangesBy R o l b → a ≡ b
-one_at P R one None l a b all h k = absurd h
-one_at P R one (Some i) l a b all h k = grind (arith, nat_tests, all-get)
+one_at P R one o l a b all h k = grind (arith, nat_tests, all-get)
 
 -- promotions
 next_one : (aggs : AggregatorsValue) (agg : AggId) (l a b : List SystemPort) → PromotesNext aggs agg l a → PromotesNext aggs agg l b → a ≡ b

@@ -1,5 +1,6 @@
 -- A configuration has exactly one first state.
-use Rattle.lagsystem.proofs.Common.{List, [], ap, length, refl, subst, sym, ◌∙◌, ◌∷◌, ◌≡◌, AllZip, SystemId, Setup, PortDisabled, PortCall, Machines}
+use native.Mathlib.Omega.{arith}
+use Rattle.lagsystem.proofs.Common.{List, [], ap, refl, subst, sym, ◌∙◌, ◌∷◌, ◌≡◌, AllZip, SystemId, Setup, PortDisabled, PortCall, Machines}
 use Rattle.lagsystem.proofs.Common.{RunsPeriodic, receive_rows, AtRest, Starts, before_start, one_effect, first_table, PortConfig, SystemPort}
 use Rattle.lagsystem.proofs.Common.{HasJustStarted, IsFirst, setup_of, PortsChangeBy, SystemState, with_system_ports, with_table}
 use Rattle.lagsystem.proofs.FirstView.{first_periodic}
@@ -56,5 +57,4 @@ one_first s t e h k =
     start (first_periodic t k) in
     let system_ports : t.system_ports ≡ s.system_ports = one_periodic s.system s.ports h.0 t.system_ports s.system_ports h.1
     moves (first_periodic s h) in
-    let table : t.table ≡ s.table = k.3 ∙ ap (λ (x : SystemState). first_table (length x.keys) x.conversations x.first_marker) e ∙ sym h.3 in
-    e ∙ (λ i. with_table (with_system_ports s (system_ports i)) (table i))
+    grind (arith, first_table, with_table, with_system_ports)

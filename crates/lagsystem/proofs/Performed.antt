@@ -1,7 +1,7 @@
 -- What comes on a port is an LACPDU that it processes, or it changes no port; and what it changes of conversations.
 use Rattle.lagsystem.proofs.Common.{Bool, Option, ap, arith, false, inl, inr, true, ℕ, ◌≡◌, ◌⊎◌, nat_tests, Lacpdu, Marker, ChangesAssignments}
-use Rattle.lagsystem.proofs.Common.{after_release, FrameEffect, Answered, ProcessLacpdu, Response, Received, TookLacpdu, OnlyPortChangesBy, Performs}
-use Rattle.lagsystem.proofs.Common.{ProcessesLacpdu, Releases, ThenSettles, is_own_response, SystemState}
+use Rattle.lagsystem.proofs.Common.{after_release, FrameEffect, Received, TookLacpdu, OnlyPortChangesBy, Performs, ProcessesLacpdu, Releases}
+use Rattle.lagsystem.proofs.Common.{ThenSettles, is_own_response, SystemState}
 
 -- the port at the index processes an LACPDU, which a settling follows; or all ports stay
 abbrev pub ProcessesOrStays : Option ℕ → SystemState → Received → SystemState → Type 0
@@ -28,6 +28,4 @@ releases true port m old answer new h = inl (port, m.id, h.1)
 
 pub table_changes : (effect : FrameEffect) (port : ℕ) (index : Option ℕ) (old : SystemState) (answer : Received) (new : SystemState)
     → Performs effect port index old answer new → TableChanges index old new
-table_changes (ProcessLacpdu v) port index old answer new h = inl (v, h.1)
-table_changes (Response m) port index old answer new h = inr (releases (is_own_response old port m) port m old answer new h)
-table_changes (Answered effect) port index old answer new h = inr (inr (ap (λ (s : SystemState). s.table) h.1))
+table_changes effect port index old answer new h = grind (arith, nat_tests, releases, is_own_response)

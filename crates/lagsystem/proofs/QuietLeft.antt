@@ -1,8 +1,8 @@
 -- The ticks until something happens are one fewer after a tick in which nothing is soon.
-use Rattle.lagsystem.proofs.Common.{Bool, List, None, Option, Some, [], ap, arith, false, if◌then◌else◌, is_some, map, refl, suc, true, zero, ℕ, ◌&&◌}
-use Rattle.lagsystem.proofs.Common.{◌+◌, ◌-◌, ◌<◌, ◌∙◌, ◌∷◌, ◌≡◌, ◌≤◌, leb-true, lt-ltb, nat_tests, AllByRecursion, Machines, aged, Assignment}
-use Rattle.lagsystem.proofs.Common.{marker_due, Table, assignment_of, sooner, ticks_until_next_wanted, ticks_until_wanted, by_first, by_second}
-use Rattle.lagsystem.proofs.Common.{same_soonest, SystemPort, counted, fewer, waited, SystemState, soonest, ticks_in_window, ticks_until_due_on}
+use Rattle.lagsystem.proofs.Common.{Bool, List, None, Option, Some, [], ap, arith, false, if◌then◌else◌, is_some, map, refl, suc, zero, ℕ, ◌&&◌, ◌+◌}
+use Rattle.lagsystem.proofs.Common.{◌-◌, ◌<◌, ◌∙◌, ◌∷◌, ◌≡◌, ◌≤◌, leb-true, lt-ltb, nat_tests, AllByRecursion, Machines, aged, Assignment, marker_due}
+use Rattle.lagsystem.proofs.Common.{Table, assignment_of, sooner, ticks_until_next_wanted, ticks_until_wanted, by_first, by_second, same_soonest}
+use Rattle.lagsystem.proofs.Common.{SystemPort, counted, fewer, waited, SystemState, soonest, ticks_in_window, ticks_until_due_on}
 use Rattle.lagsystem.proofs.Common.{ticks_until_expired, ticks_until_frame, ticks_until_room}
 use Rattle.distributor.specs.Waiting.{soonest_below}
 use Rattle.lagsystem.proofs.QuietTicks.{Lasts, PortLasts, TableTicked, aged_on, frame_not, still_not_due, table_lasts, waits_on}
@@ -46,8 +46,7 @@ window_left j (a ∷ more) h =
 
 room_left : (j : ℕ) (p : Machines) (b : Bool) → Lasts j (if b then soonest (map ticks_in_window p.ages) else None)
     → (if b then soonest (map ticks_in_window (aged p.ages)) else None) ≡ fewer 1 (if b then soonest (map ticks_in_window p.ages) else None)
-room_left j p true h = window_left j p.ages h
-room_left j p false h = refl
+room_left j p b h = grind (arith, nat_tests, window_left)
 
 -- ports
 

@@ -1,15 +1,13 @@
 -- A tick in which nothing is soon.
 use Rattle.lagsystem.proofs.Common.{Bool, List, None, Option, Some, [], ap, arith, cond, false, if◌then◌else◌, inl, inr, is_some, length, ltb, map}
 use Rattle.lagsystem.proofs.Common.{nat_lt, not, refl, subst, suc, true, zero, ℕ, ◌&&◌, ◌+◌, ◌-◌, ◌<◌, ◌==◌, ◌^◌, ◌||◌, ◌∙◌, ◌∷◌, ◌≡◌, ◌≤◌, ◌⊎◌}
-use Rattle.lagsystem.proofs.Common.{cases_Bool, false≢true, leb-true, lt-ltb, ltb-true, nat_tests, AllByRecursion, AggId, MuxState, PortTick}
-use Rattle.lagsystem.proofs.Common.{Machines, receive_rows, AtRest, Row, RunsToRest, aged, count_down, one_effect, Assignment, On, is_among}
-use Rattle.lagsystem.proofs.Common.{after_tick, marker_due, wants_marker, Table, assignment_of, count_conversations, sum_below, is_by}
-use Rattle.lagsystem.proofs.Common.{ticks_until_next_wanted, ticks_until_wanted, by_first, by_second, same_sum, SystemPort, would_transmit}
-use Rattle.lagsystem.proofs.Common.{none_enabled, PeriodicIsSettled, counted, waited, distributing, PortsChangeBy, held_unless_on, SystemState}
-use Rattle.lagsystem.proofs.Common.{selection_view, stage_of, views, soonest, ticks_in_window, ticks_until_due_on, ticks_until_expired}
-use Rattle.lagsystem.proofs.Common.{ticks_until_frame, ticks_until_room}
+use Rattle.lagsystem.proofs.Common.{cases_Bool, false≢true, leb-true, lt-ltb, ltb-true, nat_tests, AllByRecursion, AggId, PortTick, Machines}
+use Rattle.lagsystem.proofs.Common.{receive_rows, AtRest, Row, RunsToRest, aged, count_down, one_effect, Assignment, On, is_among, after_tick}
+use Rattle.lagsystem.proofs.Common.{marker_due, wants_marker, Table, assignment_of, count_conversations, sum_below, is_by, ticks_until_next_wanted}
+use Rattle.lagsystem.proofs.Common.{ticks_until_wanted, by_first, by_second, same_sum, SystemPort, would_transmit, none_enabled, PeriodicIsSettled}
+use Rattle.lagsystem.proofs.Common.{counted, waited, distributing, PortsChangeBy, held_unless_on, SystemState, views, soonest, ticks_in_window}
+use Rattle.lagsystem.proofs.Common.{ticks_until_due_on, ticks_until_expired, ticks_until_frame, ticks_until_room}
 use Rattle.distributor.specs.Waiting.{soonest_below}
-use Rattle.selection.specs.declared.view.Stage.{Stage}
 
 -- ---- numbers of ticks
 
@@ -44,8 +42,7 @@ aged_alike j (a ∷ more) h =
 
 room_alike : (j : ℕ) (p : Machines) (b : Bool) → Lasts j (if b then soonest (map ticks_in_window p.ages) else None) → b ≡ true
     → length (aged p.ages) ≡ length p.ages
-room_alike j p true h e = aged_alike j p.ages h
-room_alike j p false h e = absurd (false≢true e)
+room_alike j p b h e = grind (arith, nat_tests, aged_alike)
 
 -- ---- one port
 
@@ -65,12 +62,6 @@ rests_on p e h = grind (arith, nat_tests)
 only_counts : (p q : Machines) → AtRest receive_rows p → AtRest receive_rows (count_down p) → RunsToRest receive_rows (count_down p) q
     → q ≡ count_down p
 only_counts p q old rest h = one_effect PortTick p q (count_down p) old h (0, refl, rest)
-
-stage_on : (m : MuxState) (w : ℕ) → (w - 1 == 0) ≡ (w == 0) → stage_of m (w - 1) ≡ stage_of m w
-stage_on m w e = grind (arith, nat_tests)
-
-view_on : (x : SystemPort) → (x.port.wait_while - 1 == 0) ≡ (x.port.wait_while == 0) → selection_view (counted x) ≡ selection_view x
-view_on x e = ap (λ (s : Stage). record (selection_view x) { stage = s }) (stage_on x.port.mux x.port.wait_while e)
 
 -- what lasts on a port
 pub record PortLasts (j : ℕ) (s : SystemState) (x : SystemPort) : Type 0 where
@@ -140,9 +131,6 @@ counted_ports j s (x ∷ xs) (y ∷ ys) l r h =
 pub counted_views : (j : ℕ) (s : SystemState) (xs : List SystemPort) → AllByRecursion (PortLasts j s) xs → views (map counted xs) ≡ views xs
 counted_views j s [] h = refl
 counted_views j s (x ∷ xs) h = grind (arith, nat_tests, counted_views j s xs h.1)
-
-pub counted_view : (j : ℕ) (s : SystemState) (x : SystemPort) → PortLasts j s x → selection_view (counted x) ≡ selection_view x
-counted_view j s x h = view_on x (timer_alike j x.port.wait_while h.wait_while)
 
 pub counted_paced : (j : ℕ) (s : SystemState) (xs : List SystemPort) → AllByRecursion (PortLasts j s) xs
     → AllByRecursion PeriodicIsSettled xs → AllByRecursion PeriodicIsSettled (map counted xs)

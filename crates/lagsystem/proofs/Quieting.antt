@@ -190,8 +190,7 @@ periodic_paced y z h = grind (arith, nat_tests)
 -- a port that looks the same to the Selection Logic, and is held as before, takes none either
 takes_alike : (keys : List Key) (seen : List PortView) (y z : SystemPort) → selection_view z ≡ selection_view y → z.held ≡ y.held
     → TakesNone keys seen (selection_view y) y.held → TakesNone keys seen (selection_view z) z.held
-takes_alike keys seen y z e h k =
-    subst (λ b. TakesNone keys seen (selection_view z) b) (sym h) (subst (λ v. TakesNone keys seen v y.held) (sym e) k)
+takes_alike keys seen y z e h k = grind (arith, nat_tests)
 
 -- after a settling
 settled_still : (aggs : AggregatorsValue) (old new : List SystemPort) → Rises 0 (port_numbers old) → SettlesIn aggs old new

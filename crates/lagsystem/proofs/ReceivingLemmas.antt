@@ -1,5 +1,6 @@
 -- What a system makes of a received frame.
-use Rattle.lagsystem.proofs.Common.{List, None, Option, Some, ap, drop, false, length, refl, slice_get, subst, sym, true, ℕ, ◌∙◌, ◌≡◌, ◌≤◌, same_Some}
+use native.Mathlib.Omega.{arith}
+use Rattle.lagsystem.proofs.Common.{List, None, Option, Some, drop, false, length, refl, slice_get, subst, sym, true, ℕ, ◌∙◌, ◌≡◌, ◌≤◌, same_Some}
 use Rattle.lagsystem.proofs.Common.{AggId, IsSlowProtocolsFrame, FrameEffect, Answered, Received, Disabled, SystemPort, GivesEffect, IsFrame}
 use Rattle.lagsystem.proofs.Common.{ParsesFrame, ParsesWhere, Performs, ReceivedFrame, ReceivesAt, received_of, up_or_dropped, SystemState}
 use Rattle.lagsystem.proofs.Common.{system_port_at}
@@ -18,27 +19,19 @@ parses_none system_port octets e = subst (λ b. ParsesWhere b system_port octets
 pub parses_one : (system_port : SystemPort) (octets : List ℕ) (frame : ReceivedFrame) (effect : FrameEffect)
     → system_port.port.enabled ≡ true → IsFrame octets frame → GivesEffect system_port frame effect
     → ParsesFrame system_port octets effect
-parses_one system_port octets frame effect e is gives =
-    subst (λ b. ParsesWhere b system_port octets effect) (sym e) (frame, is, gives)
+parses_one system_port octets frame effect e is gives = grind arith
 
 -- what the collector does with a data frame
 pub collected : (collecting : Option AggId) (octets : List ℕ) (t : Taken) → IsDataFrame octets
     → ((agg : AggId) → collecting ≡ Some agg → IsDataFrame octets → t ≡ taken.Up agg) → (collecting ≡ None → t ≡ taken.Dropped)
     → received_of t ≡ up_or_dropped collecting
-collected None octets t framed up none = ap received_of (none refl)
-collected (Some agg) octets t framed up none = ap received_of (up agg refl framed)
+collected collecting octets t framed up none = grind arith
 
 -- a frame that changes nothing
 pub answered_at : (index : Option ℕ) (i : ℕ) (octets : List ℕ) (s : SystemState) (system_port : SystemPort) (reply : Received)
     → index ≡ Some i → slice_get s.system_ports i ≡ Some system_port → ParsesFrame system_port octets (Answered reply)
     → ReceivesAt index octets s reply s
-answered_at index i octets s system_port reply e at parses = (
-  system_port,
-  Answered reply,
-  subst (λ o. system_port_at o s.system_ports ≡ Some system_port) (sym e) at,
-  parses,
-  (refl, refl),
-)
+answered_at index i octets s system_port reply e at parses = grind arith
 
 -- a control frame
 pub control_at : (index : Option ℕ) (i : ℕ) (octets payload : List ℕ) (old new : SystemState) (system_port : SystemPort) (reply : Received)

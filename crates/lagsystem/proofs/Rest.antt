@@ -1,14 +1,14 @@
 -- What holds of each port after every call: its machines are at rest.
-use Rattle.lagsystem.proofs.Common.{Bool, List, None, Option, Result, Some, [], ap, arith, false, if◌then◌else◌, not, refl, slice_get, slice_set}
-use Rattle.lagsystem.proofs.Common.{subst, sym, true, ℕ, ◌&&◌, ◌||◌, ◌∙◌, ◌∷◌, ◌≡◌, and_parts, not-true, nat_tests, AllByRecursion, AllZip, AggId}
-use Rattle.lagsystem.proofs.Common.{Choice, is_selected, Lacpdu, MuxState, Attached, CollectingDistributing, ReceiveState, Initialize, PortDisabled}
-use Rattle.lagsystem.proofs.Common.{Machines, mux_rows, partner_synchronized, same_mux_state, RunsPeriodic, periodic_rows, receive_rows}
-use Rattle.lagsystem.proofs.Common.{same_receive_state, start_receive, AtRest, Row, RunsToRest, Starts, before_start, after_sending, count_down}
-use Rattle.lagsystem.proofs.Common.{Reaches-keeps, Assignment, Reply, SystemFault, SystemPort, Call, ChangesParty, OnlyPortChangesBy, PortAtChangesBy}
+use Rattle.lagsystem.proofs.Common.{Bool, List, Option, Result, Some, [], ap, arith, false, if◌then◌else◌, not, refl, slice_get, slice_set, subst}
+use Rattle.lagsystem.proofs.Common.{sym, true, ℕ, ◌&&◌, ◌||◌, ◌∙◌, ◌∷◌, ◌≡◌, and_parts, not-true, nat_tests, AllByRecursion, AllZip, AggId, Choice}
+use Rattle.lagsystem.proofs.Common.{is_selected, Lacpdu, MuxState, Attached, CollectingDistributing, ReceiveState, Initialize, PortDisabled, Machines}
+use Rattle.lagsystem.proofs.Common.{mux_rows, partner_synchronized, same_mux_state, RunsPeriodic, periodic_rows, receive_rows, same_receive_state}
+use Rattle.lagsystem.proofs.Common.{start_receive, AtRest, Row, RunsToRest, Starts, before_start, after_sending, count_down, Reaches-keeps}
+use Rattle.lagsystem.proofs.Common.{Assignment, Reply, SystemFault, SystemPort, Call, ChangesParty, OnlyPortChangesBy, PortAtChangesBy}
 use Rattle.lagsystem.proofs.Common.{ProcessesLacpdu, SetsLink, SetsPortEnabled, Step, ThenSettles, Ticks, changed_party, choice_with_link}
 use Rattle.lagsystem.proofs.Common.{HasJustStarted, IsFirst, setup_of, PortsConsistent, ReceivesAtRest, can_receive, can_receive_in, mux_consistent}
-use Rattle.lagsystem.proofs.Common.{mux_consistent_of, none_enabled, GivesOrRefuses, Offers, SendsMarkerOf, Settling, ready_of, with_choice}
-use Rattle.lagsystem.proofs.Common.{SystemState, aggregators_value, port_index, with_system_ports, views}
+use Rattle.lagsystem.proofs.Common.{mux_consistent_of, none_enabled, GivesOrRefuses, Offers, Settling, ready_of, with_choice, SystemState}
+use Rattle.lagsystem.proofs.Common.{aggregators_value, port_index, with_system_ports, views}
 use Rattle.lagsystem.proofs.Keeps.{settling_in}
 use Rattle.lagsystem.proofs.PromotionLemmas.{KeptByChoices, choosing_keeps}
 use Rattle.lagsystem.proofs.Preserves.{Step-preserves_ports}
@@ -115,8 +115,7 @@ settling_rested old new h a =
 pub place_kept : (P : SystemPort → Type 0) (R : Machines → Machines → Type 0) (o : Option ℕ) (old new : List SystemPort)
     → ((s : SystemPort) (q : Machines) → R s.port q → P s → P (record s { port = q })) → PortAtChangesBy R o old new
     → AllByRecursion P old → AllByRecursion P new
-place_kept P R None old new k h a = absurd h
-place_kept P R (Some i) old new k h a = grind (arith, nat_tests, all-set, all-get)
+place_kept P R o old new k h a = grind (arith, nat_tests, all-set, all-get)
 
 settled_rested : (own : SystemState → SystemState → Type 0) (s t : SystemState)
     → ((mid : SystemState) → own s mid → ReceivesAtRest mid.system_ports) → ThenSettles own s t → PortsConsistent t.system_ports
@@ -128,11 +127,6 @@ takes_awake v p q h a = grind (arith, nat_tests)
 
 starts_awake : (p q : Machines) → Starts p q → none_enabled receive_rows q ≡ true
 starts_awake p q h = ap (none_enabled receive_rows) h.2 ∙ receive_awake (start_receive p) h.0 h.1
-
--- what has to do with conversations alone leaves the ports
-pub marker_slots : (o : Option ℕ) (port : ℕ) (mac : List ℕ) (old : SystemState) (answer : Option (List ℕ)) (new : SystemState)
-    → SendsMarkerOf o port mac old answer new → new.system_ports ≡ old.system_ports
-marker_slots o port mac old answer new h = grind (arith, nat_tests)
 
 pub offers_slots : (gives : ℕ → ℕ → ℕ → Type 0) (agg : AggId) (octets : List ℕ) (old : SystemState) (answer : Result ℕ SystemFault)
     (new : SystemState) → Offers gives agg octets old answer new → new.system_ports ≡ old.system_ports

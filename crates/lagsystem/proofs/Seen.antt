@@ -1,13 +1,11 @@
 -- What readers return for a port is what the model sees of it.
-use Rattle.lagsystem.proofs.Common.{Bool, List, None, Option, Some, [], ap, arith, cond, eqb, false, length, nat_lt, not, option_map, refl, slice_get}
-use Rattle.lagsystem.proofs.Common.{sym, true, ℕ, ◌+◌, ◌==◌, ◌∙◌, ◌∷◌, ◌≡◌, nat_tests, slice_get_past, position_or_len, find_number, PortFacts}
-use Rattle.lagsystem.proofs.Common.{Machines, SystemPort, model_port, model_view, number_of_port, SystemState, machines_of, port_index}
-use Rattle.lagsystem.proofs.Common.{system_port_at}
+use Rattle.lagsystem.proofs.Common.{Bool, List, None, Option, Some, [], ap, arith, cond, eqb, length, nat_lt, not, option_map, refl, slice_get, ℕ}
+use Rattle.lagsystem.proofs.Common.{◌+◌, ◌==◌, ◌∙◌, ◌∷◌, ◌≡◌, nat_tests, slice_get_past, position_or_len, find_number, PortFacts, Machines}
+use Rattle.lagsystem.proofs.Common.{SystemPort, model_port, model_view, number_of_port, SystemState, machines_of, port_index, system_port_at}
 use Rattle.lagmodel.specs.World.{party_at}
 
 at_end : (i : ℕ) (xs : List SystemPort) (b : Bool) → nat_lt i (length xs) ≡ b → system_port_at (cond b (Some i) None) xs ≡ slice_get xs i
-at_end i xs true e = refl
-at_end i xs false e = sym (slice_get_past xs i (grind (arith, nat_tests)))
+at_end i xs b e = grind (arith, nat_tests, slice_get_past)
 
 -- one step of the search, by the rest of it
 there_next : (n : ℕ) (x : SystemPort) (xs : List SystemPort) (rest : ℕ) (b : Bool)

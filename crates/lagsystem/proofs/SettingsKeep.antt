@@ -126,18 +126,14 @@ set_readies old i x y s e m =
 
 place_readies : (old mid : SystemState) (i : ℕ) (already : SystemPort → Bool) (change : SystemPort → SystemPort)
     → ((x : SystemPort) → Mild old x (change x)) → IsSound old → OnlyPortBecomes already change i old mid → Readies old mid
-place_readies old mid i already change mild s h =
-    let x = h.0.0 in
-    subst (Readies old) (sym (h.1 ∙ ap (with_system_ports old) h.0.3)) (set_readies old i x (change x) s h.0.1 (mild x))
+place_readies old mid i already change mild s h = grind (arith, nat_tests, with_system_ports, set_readies)
 
 -- a port that is held or let go
 pub held_leaves : (held : Bool) (p : Machines) → LeavesOrStays p (record p { choice = if held then Unselected else p.choice })
-held_leaves true p = inl refl
-held_leaves false p = inr (refl, refl, refl)
+held_leaves held p = grind (arith, nat_tests)
 
 held_is_apart : (held : Bool) (c : Choice) → (if held then is_unselected (if held then Unselected else c) else true) ≡ true
-held_is_apart true c = refl
-held_is_apart false c = refl
+held_is_apart held c = grind (arith, nat_tests)
 
 none_and : (b : Bool) → (b && false) ≡ false
 none_and b = grind (arith, nat_tests)
@@ -164,24 +160,12 @@ holding_mild old held x = record {
 
 -- a port with another LACP_Activity or LACP_Timeout
 mode_mild : (old : SystemState) (active short : Bool) (x : SystemPort) → Mild old x (in_mode active short x)
-mode_mild old active short x = record {
-  number = refl;
-  leaves = inr (refl, refl, refl);
-  awake = refl;
-  ages = refl;
-  apart = λ h. h;
-  moves = port_stays (model_setup old) ModelCall.Tick x.number (model_port_of x) (model_port_of x) refl;
-}
+mode_mild old active short x = grind (arith, nat_tests)
 
 -- the limit of links
 
 limit_leaves : (max_links : Option ℕ) (p : Machines) → LeavesOrStays p (record p { choice = choice_with_link max_links p.enabled p.choice })
-limit_leaves max_links p = by_link max_links p.enabled
-  where
-    by_link : (most : Option ℕ) (up : Bool) → LeavesOrStays p (record p { choice = choice_with_link most up p.choice })
-    by_link None up = inr (refl, refl, refl)
-    by_link (Some most) true = inr (refl, refl, refl)
-    by_link (Some most) false = inl refl
+limit_leaves max_links p = grind (arith, nat_tests)
 
 -- with this limit, as `set_link` leaves a port
 abbrev pub Relinks : Option ℕ → Machines → Machines → Type 0
@@ -208,8 +192,7 @@ abbrev is_member_up : AggId → SystemPort → Bool
 is_member_up agg x = x.port.enabled && has_chosen agg x.port.choice
 
 left_up : (agg : AggId) (most : ℕ) (up : Bool) (c : Choice) → has_chosen agg (choice_with_link (Some most) up c) ≡ (up && has_chosen agg c)
-left_up agg most true c = refl
-left_up agg most false c = refl
+left_up agg most up c = grind (arith, nat_tests)
 
 relinks_chosen : (agg : AggId) (most : ℕ) (x y : SystemPort) → Relinks (Some most) x.port y.port
     → has_chosen agg y.port.choice ≡ is_member_up agg x
@@ -313,21 +296,7 @@ record KeepsSetting (old : SystemState) (setting : Setting) (answer : Result Uni
 same_setting : (old : SystemState) (setting : Setting) (answer : Result Unit SystemFault) (new : SystemState)
     → max_delay_after setting old.max_delay ≡ old.max_delay → max_links_after setting answer old.max_links ≡ old.max_links
     → SettingStep old setting answer new → IsSound old → new ≡ old → KeepsSetting old setting answer new
-same_setting old setting answer new d l step s e =
-    let sound : IsSound new = subst IsSound (sym e) s in record {
-      sound = sound;
-      promise = record {
-        step = step;
-        moves = ([], tt, refl, ap model_view e);
-        window = λ n. ap (ages_at n) e;
-        agrees = agrees new sound;
-        configured = ap model_setup e;
-        ports = ap (λ (x : SystemState). x.ports) e;
-        conversations = ap (λ (x : SystemState). x.conversations) e;
-        max_delay = ap (λ (x : SystemState). x.max_delay) e ∙ sym d;
-        max_links = ap (λ (x : SystemState). x.max_links) e ∙ sym l;
-      };
-    }
+same_setting old setting answer new d l step s e = grind (arith, nat_tests, model_view, ages_at, agrees, model_setup)
 
 settled_setting : (old mid : SystemState) (setting : Setting) (answer : Result Unit SystemFault) (new : SystemState)
     → max_delay_after setting old.max_delay ≡ old.max_delay → max_links_after setting answer old.max_links ≡ mid.max_links
@@ -363,20 +332,7 @@ port_set (Some i) already change old setting done new d l mild step s h = elim h
 ]
 
 delay_sound : (old : SystemState) (max_delay : ℕ) → IsSound old → IsSound (record old { max_delay = max_delay })
-delay_sound old max_delay s = record {
-  ports = record { accepted = s.ports.accepted; same = s.ports.same };
-  aggregators = s.aggregators;
-  conversations = s.conversations;
-  carried = s.carried;
-  rested = s.rested;
-  windowed = s.windowed;
-  members = s.members;
-  quiet = s.quiet;
-  occupants = s.occupants;
-  limited = s.limited;
-  promoted = s.promoted;
-  held = s.held;
-}
+delay_sound old max_delay s = grind (arith, nat_tests)
 
 setting_keeps : (old : SystemState) (setting : Setting) (answer : Result Unit SystemFault) (new : SystemState)
     → SettingStep old setting answer new → IsSound old → KeepsSetting old setting answer new

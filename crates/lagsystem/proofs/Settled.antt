@@ -1,10 +1,9 @@
 -- The calls that settle: their own effect, from what its parts do, and the ports that distributed before it.
-use Rattle.lagsystem.proofs.Common.{Bool, List, Option, Some, ap, arith, inl, inr, refl, subst, sym, ℕ, ◌∙◌, ◌≡◌, nat_tests, AggId, Machines}
-use Rattle.lagsystem.proofs.Common.{receive_rows, RunsToRest, count_down, AggregatorsValue, Assignment, On, ChangesAssignments, after_tick, Table}
-use Rattle.lagsystem.proofs.Common.{assignment_of, SystemPort, FreesIfDown, OnlyPortChangesBy, PortAtChangesBy, SetsLink, SetsPortEnabled, Ticks}
-use Rattle.lagsystem.proofs.Common.{choice_with_link, WereInUse, aggregators_in_use, IsAlready, LimitsLinks, OnlyPortBecomes, PortBecomes, SetsPort}
-use Rattle.lagsystem.proofs.Common.{PortsChangeBy, Settling, IsSound, SystemState, aggregators_value, port_index, port_numbers, with_system_ports}
-use Rattle.lagsystem.proofs.Common.{with_table}
+use Rattle.lagsystem.proofs.Common.{Bool, List, Option, Some, ap, arith, inr, subst, sym, ℕ, ◌∙◌, ◌≡◌, nat_tests, AggId, Machines, receive_rows}
+use Rattle.lagsystem.proofs.Common.{RunsToRest, count_down, AggregatorsValue, Assignment, On, ChangesAssignments, after_tick, Table, assignment_of}
+use Rattle.lagsystem.proofs.Common.{SystemPort, FreesIfDown, OnlyPortChangesBy, PortAtChangesBy, SetsLink, SetsPortEnabled, Ticks, choice_with_link}
+use Rattle.lagsystem.proofs.Common.{WereInUse, aggregators_in_use, IsAlready, LimitsLinks, OnlyPortBecomes, PortBecomes, SetsPort, PortsChangeBy}
+use Rattle.lagsystem.proofs.Common.{Settling, IsSound, SystemState, aggregators_value, port_index, port_numbers, with_system_ports, with_table}
 use Rattle.lagsystem.proofs.Keeps.{Keeps, keeps_link, keeps_place, keeps_slots, keeps_tick, numbers_set, zip_numbers}
 
 -- a state of these fields, with other ports and conversations
@@ -64,10 +63,7 @@ becomes_numbers already change i old new k h = ap port_numbers h.3 ∙ numbers_s
 pub becomes_made : (already : SystemPort → Bool) (change : SystemPort → SystemPort) (i : ℕ) (old : SystemState)
     (olds ws news : List SystemPort) → olds ≡ old.system_ports → news ≡ ws → PortBecomes already change i olds ws
     → OnlyPortBecomes already change i old (with_system_ports old news)
-becomes_made already change i old olds ws news e w h = (
-  subst (PortBecomes already change i old.system_ports) (sym w) (subst (λ l. PortBecomes already change i l ws) e h),
-  refl,
-)
+becomes_made already change i old olds ws news e w h = grind (arith, nat_tests)
 
 pub becomes_carried : (already : SystemPort → Bool) (change : SystemPort → SystemPort) (i : ℕ) (old mid : SystemState)
     (were : List (Option AggId)) → ((x : SystemPort) → (change x).number ≡ x.number) → IsSound old
@@ -83,26 +79,15 @@ becomes_settled already change o i old mid new e own h = subst (λ o. SetsPort a
 
 pub is_so_already : (already : SystemPort → Bool) (change : SystemPort → SystemPort) (o : Option ℕ) (i : ℕ) (old new : SystemState)
     (olds : List SystemPort) → o ≡ Some i → olds ≡ old.system_ports → IsAlready already i olds → new ≡ old → SetsPort already change o old new
-is_so_already already change o i old new olds e v a same =
-    subst (λ o. SetsPort already change o old new) (sym e) (inl (subst (IsAlready already i) v a, same))
+is_so_already already change o i old new olds e v a same = grind (arith, nat_tests)
 
 -- a limit of links
 pub limits_made : (max_links : Option ℕ) (old : SystemState) (aggs : AggregatorsValue) (olds ws news : List SystemPort)
     → aggs ≡ record (aggregators_value old) { max_links = max_links } → olds ≡ old.system_ports → news ≡ ws
     → PortsChangeBy (λ p q. q ≡ record p { choice = choice_with_link max_links p.enabled p.choice }) olds ws
     → LimitsLinks max_links old (record old { keys = aggs.keys; max_links = aggs.max_links; system_ports = news })
-limits_made max_links old aggs olds ws news a e w h =
-    let R : Machines → Machines → Type 0 = λ p q. q ≡ record p { choice = choice_with_link max_links p.enabled p.choice } in (
-      subst (PortsChangeBy R old.system_ports) (sym w) (subst (λ l. PortsChangeBy R l ws) e h),
-      λ i. record old { keys = (a i).keys; max_links = (a i).max_links; system_ports = news },
-    )
+limits_made max_links old aggs olds ws news a e w h = grind (arith, nat_tests)
 
 pub limits_carried : (max_links : Option ℕ) (old mid : SystemState) (were : List (Option AggId)) → IsSound old
     → LimitsLinks max_links old mid → were ≡ aggregators_in_use old.system_ports → WereInUse were mid
-limits_carried max_links old mid were s h e = record {
-  old = old;
-  sound = s;
-  before = e;
-  same = zip_numbers (λ p q. q ≡ record p { choice = choice_with_link max_links p.enabled p.choice }) old.system_ports mid.system_ports h.0;
-  carried = λ g k p a. sym (ap (λ (x : SystemState). assignment_of x.table g k) h.1) ∙ a;
-}
+limits_carried max_links old mid were s h e = grind (arith, nat_tests, zip_numbers, choice_with_link, assignment_of)

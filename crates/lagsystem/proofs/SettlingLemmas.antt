@@ -1,11 +1,11 @@
 -- What settling does, from what its loops do.
 use Rattle.lagsystem.proofs.Common.{Bool, List, None, Option, Some, [], ap, arith, cond, false, filter, if◌then◌else◌, option_map, refl, slice_get}
 use Rattle.lagsystem.proofs.Common.{slice_set, subst, suc, sym, true, zero, ℕ, ◌&&◌, ◌||◌, ◌∙◌, ◌∷◌, ◌≡◌, or_parts, nat_tests, list_all, list_any}
-use Rattle.lagsystem.proofs.Common.{AggId, Key, Choice, Selected, Standby, Unselected, is_selected, is_unselected, Machines, mux_rows, RunsPeriodic}
-use Rattle.lagsystem.proofs.Common.{RunsToRest, PortView, chosen_aggregator, ports_that_chose, AggregatorsValue, has_chosen, has_waited}
-use Rattle.lagsystem.proofs.Common.{is_detached_or_waiting, SystemPort, ChoosesIn, PortChangesBy, PortsChangeBy, SettlesPorts, after_choice_at}
-use Rattle.lagsystem.proofs.Common.{aggregator_for, choice_for, choice_in, is_restless, ready_of, with_choice, SystemState, aggregators_value}
-use Rattle.lagsystem.proofs.Common.{with_system_ports, may_choose, selection_view, views}
+use Rattle.lagsystem.proofs.Common.{AggId, Key, Choice, is_selected, is_unselected, Machines, mux_rows, RunsPeriodic, RunsToRest, PortView}
+use Rattle.lagsystem.proofs.Common.{chosen_aggregator, ports_that_chose, AggregatorsValue, has_chosen, has_waited, is_detached_or_waiting, SystemPort}
+use Rattle.lagsystem.proofs.Common.{ChoosesIn, PortChangesBy, PortsChangeBy, SettlesPorts, after_choice_at, aggregator_for, choice_for, choice_in}
+use Rattle.lagsystem.proofs.Common.{is_restless, ready_of, with_choice, SystemState, aggregators_value, with_system_ports, may_choose, selection_view}
+use Rattle.lagsystem.proofs.Common.{views}
 use Rattle.lagsystem.proofs.Lists.{AllZip-weaker}
 
 abbrev one_expired : List PortView → Bool
@@ -49,9 +49,7 @@ none_has_waited (v ∷ vs) h =
 -- if no member has waited long enough, no aggregator is Ready
 pub no_ready : (keys : List Key) (system_ports : List SystemPort) → list_any (λ s. member_has_waited s) system_ports ≡ false
     → (c : Choice) → ready_of keys (views system_ports) c ≡ false
-no_ready keys system_ports h Unselected = refl
-no_ready keys system_ports h (Standby agg) = refl
-no_ready keys system_ports h (Selected agg) = grind (arith, nat_tests, none_has_waited, none_known, none_given)
+no_ready keys system_ports h c = grind (arith, nat_tests, none_has_waited, none_known, none_given)
 
 pub runs_unready : (keys : List Key) (olds news : List SystemPort) → list_any (λ s. member_has_waited s) olds ≡ false
     → PortsChangeBy (RunsToRest (mux_rows false)) olds news
@@ -129,16 +127,7 @@ settles_in old new h =
     let keys : aggregators_value two ≡ aggregators_value old = ap aggregators_value h.2.1.1 ∙ ap aggregators_value h.1.1 in
     let runs : PortsChangeBy (RunsReady two.keys (views two.system_ports)) two.system_ports four.system_ports =
     subst (λ (s : SystemState). PortsChangeBy (RunsReady s.keys (views s.system_ports)) s.system_ports four.system_ports) h.2.2.1 h.2.2.2.1.0 in
-    record {
-      one = h.0.system_ports;
-      two = two.system_ports;
-      four = four.system_ports;
-      stops = h.1.0;
-      chooses = subst (λ a. ChoosesIn a h.0.system_ports two.system_ports) (ap aggregators_value h.1.1) h.2.1.0;
-      runs = subst (λ (a : AggregatorsValue). PortsChangeBy (RunsReady a.keys (views two.system_ports)) two.system_ports four.system_ports)
-          keys runs;
-      paces = subst (PortsChangeBy RunsPeriodic four.system_ports) (sym (ap (λ (s : SystemState). s.system_ports) h.2.2.2.2.2)) h.2.2.2.2.1.0;
-    }
+    grind (arith, nat_tests, aggregators_value, RunsReady, views)
 
 -- and they change nothing else
 pub ports_frame : (old new : SystemState) → SettlesPorts old new → new ≡ with_system_ports old new.system_ports

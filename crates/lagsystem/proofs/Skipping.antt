@@ -48,9 +48,7 @@ ran_still : (keys : List Key) (system_ports : List SystemPort) (i : ℕ) (s u : 
     → MuxesAreSettled keys (slice_set system_ports i u)
 ran_still keys system_ports i s u e rest a held h =
     let here = all-get (MuxIsSettled keys system_ports) system_ports i s e h in
-    let seen = alike_views system_ports i s u e a in
-    all_among keys system_ports (slice_set system_ports i u) (slice_set system_ports i u) seen
-    (all-set (MuxIsSettled keys system_ports) system_ports i u h (alike_still keys system_ports s u a held rest here))
+    grind (arith, nat_tests, alike_views, all_among, slice_set, all-set, alike_still)
 
 -- every other mux machine is at rest
 set_ran : (keys : List Key) (all system_ports : List SystemPort) (i : ℕ) (t u : SystemPort) → AllByRecursion (MuxIsSettled keys all) system_ports

@@ -1,6 +1,6 @@
 -- What is told is the first of what happens.
-use Rattle.lagsystem.proofs.Common.{Bool, List, None, Option, Some, [], ap, arith, false, if◌then◌else◌, inl, inr, map, nat_lt, refl, slice_get, suc}
-use Rattle.lagsystem.proofs.Common.{sym, true, zero, ℕ, ◌&&◌, ◌+◌, ◌-◌, ◌<◌, ◌∙◌, ◌∷◌, ◌≡◌, ◌⊎◌, and_parts, false≢true, le-leb, leb-true, nat_tests}
+use Rattle.lagsystem.proofs.Common.{Bool, List, None, Option, Some, [], ap, arith, if◌then◌else◌, inl, inr, map, nat_lt, refl, slice_get, suc, sym}
+use Rattle.lagsystem.proofs.Common.{true, zero, ℕ, ◌&&◌, ◌+◌, ◌-◌, ◌<◌, ◌∙◌, ◌∷◌, ◌≡◌, ◌⊎◌, and_parts, false≢true, le-leb, leb-true, nat_tests}
 use Rattle.lagsystem.proofs.Common.{none-some, Machines, Assignment, Flushing, Table, assignment_of, is_by, sooner, ticks_until_next_wanted}
 use Rattle.lagsystem.proofs.Common.{ticks_until_wanted, by_left, by_right, soonest_member, SystemPort, would_transmit, SystemState, soonest}
 use Rattle.lagsystem.proofs.Common.{ticks_in_window, ticks_until_due, ticks_until_due_on, ticks_until_expired, ticks_until_frame, ticks_until_room}
@@ -43,8 +43,7 @@ frame s x n b e h = grind (arith, nat_tests)
 
 room : (p : Machines) (n : ℕ) (b : Bool) → (p.enabled && p.ntt) ≡ b → (if b then soonest (map ticks_in_window p.ages) else None) ≡ Some n
     → WindowHas n p
-room p n true e h = grind (arith, nat_tests, and_parts, one_of_list)
-room p n false e h = absurd (none-some n h)
+room p n b e h = grind (arith, nat_tests, and_parts, one_of_list, none-some)
 
 on_port : (s : SystemState) (x : SystemPort) (n : ℕ) → ticks_until_due_on s x ≡ Some n
     → FrameHas n s x ⊎ (TimerHas n x.port ⊎ WindowHas n x.port)

@@ -1,9 +1,8 @@
 -- What each status of a port says of the port and its system: by the cases of its definition.
-use Rattle.lagsystem.proofs.Common.{Bool, Some, arith, false, if◌then◌else◌, nat_lt, not, refl, slice_get, sym, true, ℕ, ◌&&◌, ◌≡◌, true≢false}
-use Rattle.lagsystem.proofs.Common.{nat_tests, AggId, Choice, Selected, Standby, Unselected, is_unselected, same_system, exact_system, MuxState}
-use Rattle.lagsystem.proofs.Common.{Attached, CollectingDistributing, ReceiveState, Current, Defaulted, Expired, Initialize, PortDisabled}
-use Rattle.lagsystem.proofs.Common.{is_synchronized, same_mux_state, SystemPort, can_receive_in, IsSound, held_apart, SystemState, IsDistributing}
-use Rattle.lagsystem.proofs.Common.{Says, meaning}
+use Rattle.lagsystem.proofs.Common.{Bool, Some, arith, false, if◌then◌else◌, nat_lt, not, refl, slice_get, true, ℕ, ◌&&◌, ◌≡◌, true≢false, nat_tests}
+use Rattle.lagsystem.proofs.Common.{AggId, Choice, Selected, Standby, Unselected, is_unselected, same_system, exact_system, MuxState, Attached}
+use Rattle.lagsystem.proofs.Common.{CollectingDistributing, ReceiveState, is_synchronized, same_mux_state, SystemPort, can_receive_in, IsSound}
+use Rattle.lagsystem.proofs.Common.{held_apart, SystemState, IsDistributing, Says, meaning}
 use Rattle.lagsystem.specs.declared.port_status.PortStatus.{PortStatus}
 use Rattle.lagsystem.specs.declared.port_status.PortStatus.TheVariants as status
 use Rattle.lagsystem.specs.PortStatus.{status_by_choice, status_by_receive}
@@ -39,11 +38,7 @@ by_system s i x l false e = by_choice s i x l e x.port.choice refl
 by_receive : (s : SystemState) (i : ℕ) (x : SystemPort) → IsSound s → slice_get s.system_ports i ≡ Some x
     → same_mux_state CollectingDistributing x.port.mux ≡ false → x.port.enabled ≡ true → x.held ≡ false → (r : ReceiveState) → x.port.receive ≡ r
     → can_receive_in r ≡ true → meaning (status_by_receive x.port r) s x
-by_receive s i x h at idle up free Expired e a = (up, e)
-by_receive s i x h at idle up free Defaulted e a = (up, e)
-by_receive s i x h at idle up free Current e a = grind (arith, nat_tests, by_system)
-by_receive s i x h at idle up free Initialize e a = absurd (true≢false (sym a))
-by_receive s i x h at idle up free PortDisabled e a = absurd (true≢false (sym a))
+by_receive s i x h at idle up free r e a = grind (arith, nat_tests, by_system)
 
 where_up : (e a : Bool) → e ≡ true → (if e then a else true) ≡ true → a ≡ true
 where_up e a k h = grind (arith, nat_tests)
@@ -54,18 +49,13 @@ held_chosen held c e h = grind (arith, nat_tests)
 by_held : (s : SystemState) (i : ℕ) (x : SystemPort) → IsSound s → slice_get s.system_ports i ≡ Some x
     → same_mux_state CollectingDistributing x.port.mux ≡ false → x.port.enabled ≡ true → (held : Bool) → x.held ≡ held
     → meaning (if held then status.Held else status_by_receive x.port x.port.receive) s x
-by_held s i x h at idle up true e = record {
-  up = up;
-  held = e;
-  chosen = held_chosen x.held x.port.choice e (all-get (λ x. held_apart x ≡ true) s.system_ports i x at h.held);
-}
+by_held s i x h at idle up true e = grind (arith, nat_tests, held_chosen, all-get, held_apart)
 by_held s i x h at idle up false e = grind (arith, nat_tests, all-get, by_receive, where_up, can_receive_at_rest)
 
 by_link : (s : SystemState) (i : ℕ) (x : SystemPort) → IsSound s → slice_get s.system_ports i ≡ Some x
     → same_mux_state CollectingDistributing x.port.mux ≡ false → (up : Bool) → x.port.enabled ≡ up
     → meaning (if not up then status.LinkDown else (if x.held then status.Held else status_by_receive x.port x.port.receive)) s x
-by_link s i x h at idle false e = e
-by_link s i x h at idle true e = by_held s i x h at idle e x.held refl
+by_link s i x h at idle up e = grind (arith, nat_tests, by_held)
 
 distributing_mux : (m : MuxState) (chosen synchronized : Bool) → same_mux_state CollectingDistributing m ≡ true
     → ((if is_synchronized m then chosen else true) && (if same_mux_state CollectingDistributing m then synchronized else true)) ≡ true

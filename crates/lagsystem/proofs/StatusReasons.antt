@@ -33,12 +33,7 @@ none_from : (first : ℕ) (keys : List Key) (key : Key) (test : AggId → Bool)
     → find (λ (row : ℕ × Key). (row.1.0 == key.0) && test (aggregator_of_entry row)) (enumerate_from first keys) ≡ None
     → (j : ℕ) → slice_get keys j ≡ Some key → test (aggregator_numbered (first + j)) ≡ false
 none_from first [] key test h j e = absurd (none-some key e)
-none_from first (k ∷ ks) key test h zero e =
-    let both = passed ((k.0 == key.0) && test (aggregator_numbered first)) (first, k)
-    (find (λ (row : ℕ × Key). (row.1.0 == key.0) && test (aggregator_of_entry row)) (enumerate_from (first + 1) ks)) h in
-    let same : (k.0 == key.0) ≡ true = ap (λ (y : Key). y.0 == key.0) (same_Some k key e) ∙ itself key.0 in
-    let here : first ≡ first + 0 = omega arith in
-    subst (λ n. test (aggregator_numbered n) ≡ false) here (fails (k.0 == key.0) (test (aggregator_numbered first)) same both.0)
+none_from first (k ∷ ks) key test h zero e = grind (arith, nat_tests)
 none_from first (k ∷ ks) key test h (suc j) e =
     let both = passed ((k.0 == key.0) && test (aggregator_numbered first)) (first, k)
     (find (λ (row : ℕ × Key). (row.1.0 == key.0) && test (aggregator_of_entry row)) (enumerate_from (first + 1) ks)) h in
@@ -50,8 +45,7 @@ no_entry o h = grind (arith, nat_tests)
 
 none_passes : (keys : List Key) (key : Key) (test : AggId → Bool) → lowest keys key test ≡ None → (g : ℕ) → key_of keys g ≡ Some key
     → test (aggregator_numbered g) ≡ false
-none_passes keys key test h zero e = absurd (none-some key e)
-none_passes keys key test h (suc g) e = grind (arith, nat_tests, none_from, no_entry)
+none_passes keys key test h g e = grind (arith, nat_tests, none-some, none_from, no_entry)
 
 first_none : (a b : Option AggId) → or_else a b ≡ None → (a ≡ None) × (b ≡ None)
 first_none a b h = grind (arith, nat_tests)
@@ -111,8 +105,7 @@ within (k ∷ ks) zero key e = omega arith
 within (k ∷ ks) (suc i) key e = omega (arith, within ks i key e)
 
 known_number : (keys : List Key) (n : ℕ) (key : Key) → key_of keys n ≡ Some key → (nat_le 1 n && nat_le n (length keys)) ≡ true
-known_number keys zero key e = absurd (none-some key e)
-known_number keys (suc n) key e = let l = within keys n key e in grind (arith, nat_tests)
+known_number keys n key e = grind (arith, nat_tests, none-some, within)
 
 stood_by : (agg : AggId) (ports : List SystemPort) (i : ℕ) (x : SystemPort) → slice_get ports i ≡ Some x → NoneStandsBy agg (views ports)
     → stands_by agg x.port.choice ≡ false
@@ -140,9 +133,7 @@ finds_no_room agg s i x l stands =
       | inl r ↦ r
       | inr n ↦ absurd (true≢false (sym (ap (stands_by agg) stands ∙ itself agg.0) ∙ stood_by agg s.system_ports i x at n))
     ] in
-    let full = full_of s.max_links (is_aggregator s.keys agg) (length (ports_that_chose agg (views s.system_ports))) known room
-    (at_most s.max_links agg s.system_ports h.limited) in
-    record { hears = l.hears; chosen = stands; most = full.0; limit = full.1; full = full.2 }
+    grind (arith, nat_tests, full_of, is_aggregator, ports_that_chose, views, at_most)
 
 -- a SELECTED port waits
 
@@ -167,13 +158,7 @@ pub waits_for_partner : (agg : AggId) (s : SystemState) (i : ℕ) (x : SystemPor
 waits_for_partner agg s i x l chosen there =
     let p = x.port in
     let settled = settled_at s i x l.sound l.at in
-    record {
-      hears = l.hears;
-      chosen = ap is_selected chosen;
-      mux = mux_attached p.mux there;
-      apart = third_false (same_mux_state Attached p.mux) (selected p) (partner_synchronized p) there (ap is_selected chosen)
-          settled.mux.1.1.1.1.0;
-    }
+    grind (arith, nat_tests, is_selected, mux_attached, third_false, same_mux_state, selected, partner_synchronized)
 
 waits_in : (agg : AggId) (s : SystemState) (i : ℕ) (x : SystemPort) → Heard s i x → x.port.choice ≡ Selected agg
     → same_mux_state Attached x.port.mux ≡ false → WaitsIn agg x.port.wait_while x

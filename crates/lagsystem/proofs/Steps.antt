@@ -318,8 +318,7 @@ receives_place : (old : SystemState) (n : ℕ) (octets : List ℕ) (system_port 
     → ParsesWhere system_port.port.enabled system_port octets effect → Performs effect system_port.number o old answer new
     → JoinedByLawfulMoves old (Receive n octets) (reply.Receive (Ok answer)) new
 receives_place old n octets system_port effect answer new None r rested agree e g h d = absurd (none-some system_port g)
-receives_place old n octets system_port effect answer new (Some i) r rested agree e g h d = receives old n octets system_port effect
-    answer new i r rested agree e g h d
+receives_place old n octets system_port effect answer new (Some i) r rested agree e g h d = grind (arith, nat_tests, receives)
 
 -- what is sent
 sends_lacpdu : (old : SystemState) (n i : ℕ) (system_port : SystemPort) (answer : Option (List ℕ)) (new : SystemState)
@@ -381,8 +380,7 @@ sends_where true false old n i system_port answer new r rested e g h =
 sends_place : (old : SystemState) (n : ℕ) (o : Option ℕ) (answer : Option (List ℕ)) (new : SystemState)
     → Rises 0 (port_numbers old.system_ports) → PortsConsistent old.system_ports → port_index n old.system_ports ≡ o
     → TransmitsAt o old answer new → JoinedByLawfulMoves old (Transmit n) (reply.Transmit (Ok answer)) new
-sends_place old n None answer new r rested e h = absurd h
-sends_place old n (Some i) answer new r rested e h = grind (arith, nat_tests, sends_where)
+sends_place old n o answer new r rested e h = grind (arith, nat_tests, sends_where)
 
 -- what becomes of a conversation
 offers : (gives : ℕ → ℕ → ℕ → Type 0) (agg : AggId) (octets : List ℕ) (old : SystemState) (answer : Result ℕ SystemFault)
@@ -497,10 +495,8 @@ Step-joins gives old (Set_link n up) (reply.SetLink (Ok done)) new r rested agre
           old.system_ports mid.system_ports x.0)
           (λ mid x. links u n up old mid r x) h,
     )
-Step-joins gives old (Set_link n up) (reply.SetLink (Err fault)) new r rested agree h = nothing old (Set_link n up) (reply.SetLink (Err fault))
-    new (Told.Set_link n up) refl refl h.same
-Step-joins gives old (Receive n octets) (reply.Receive (Ok answer)) new r rested agree h = receives_place old n octets h.0 h.1 answer new
-    (port_index n old.system_ports) r rested agree refl h.2 h.3 h.4
+Step-joins gives old (Set_link n up) (reply.SetLink (Err fault)) new r rested agree h = grind (arith, nat_tests)
+Step-joins gives old (Receive n octets) (reply.Receive (Ok answer)) new r rested agree h = grind (arith, nat_tests, receives_place, port_index)
 Step-joins gives old (Receive n octets) (reply.Receive (Err fault)) new r rested agree h = nothing old (Receive n octets)
     (reply.Receive (Err fault)) new (Told_receive n None) (None, tt, refl) refl h.same
 Step-joins gives old (Configure n change) (reply.Configure (Ok true)) new r rested agree h =
@@ -514,19 +510,13 @@ Step-joins gives old (Configure n change) (reply.Configure (Ok true)) new r rest
     (place_moves u Told.Configure f (ChangesParty change) n old.system_ports mid.system_ports [] r
     (λ s q i at y. configures_moves u n change s.port q y) o refl x.0)) h in
     (Told.Configure, [], refl, refl, moves)
-Step-joins gives old (Configure n change) (reply.Configure (Ok false)) new r rested agree h = nothing old (Configure n change)
-    (reply.Configure (Ok false)) new Told.Configure refl refl h.1
-Step-joins gives old (Configure n change) (reply.Configure (Err fault)) new r rested agree h = nothing old (Configure n change)
-    (reply.Configure (Err fault)) new Told.Configure refl refl h.same
+Step-joins gives old (Configure n change) (reply.Configure (Ok false)) new r rested agree h = grind (arith, nat_tests)
+Step-joins gives old (Configure n change) (reply.Configure (Err fault)) new r rested agree h = grind (arith, nat_tests)
 Step-joins gives old Restart reply.Restart new r rested agree h =
     (Told.Restart, [], refl, refl, (Move.Restart ∷ [], (refl, tt), refl, restarted_shows old new h.0 h.1))
-Step-joins gives old (Transmit n) (reply.Transmit (Ok answer)) new r rested agree h = sends_place old n (port_index n old.system_ports)
-    answer new r rested refl h
-Step-joins gives old (Transmit n) (reply.Transmit (Err fault)) new r rested agree h = nothing old (Transmit n) (reply.Transmit (Err fault)) new
-    Told.Transmit refl refl h.same
+Step-joins gives old (Transmit n) (reply.Transmit (Ok answer)) new r rested agree h = grind (arith, nat_tests, sends_place, port_index)
+Step-joins gives old (Transmit n) (reply.Transmit (Err fault)) new r rested agree h = grind (arith, nat_tests)
 Step-joins gives old (Offer agg octets) (reply.Offer answer) new r rested agree h = offers gives agg octets old answer new r rested h
-Step-joins gives old (Move_conversation agg conv port) (reply.MoveConversation answer) new r rested agree h = moves_conversation agg conv port
-    (system_move_result old agg conv port) old answer new refl h
-Step-joins gives old (Force agg conv) (reply.Force answer) new r rested agree h =
-    forces agg conv (system_force_result old agg conv) old answer new refl h
+Step-joins gives old (Move_conversation agg conv port) (reply.MoveConversation answer) new r rested agree h = grind (arith, nat_tests, moves_conversation, system_move_result)
+Step-joins gives old (Force agg conv) (reply.Force answer) new r rested agree h = grind (arith, nat_tests, forces, system_force_result)
 Step-joins gives old call answer new r rested agree h = absurd h

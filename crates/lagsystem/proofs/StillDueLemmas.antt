@@ -1,5 +1,5 @@
 -- Offers make no frame due, data changes nothing, and a row names what an offer answers.
-use Rattle.lagsystem.proofs.Common.{Bool, Err, List, Ok, Result, ap, arith, false, is_some, nat_lt, option_map, true, ℕ, ◌&&◌, ◌<◌, ◌||◌, ◌∙◌, ◌≡◌}
+use Rattle.lagsystem.proofs.Common.{Bool, Err, List, Ok, Result, ap, arith, is_some, nat_lt, option_map, true, ℕ, ◌&&◌, ◌<◌, ◌||◌, ◌∙◌, ◌≡◌}
 use Rattle.lagsystem.proofs.Common.{nat_tests, AggId, is_due, Assignment, On, DistFault, Assigns, MaySend, SetsAssignment, marker_due, wants_marker}
 use Rattle.lagsystem.proofs.Common.{Table, assignment_of, SystemFault, SystemPort, OffersIf, TakesPort, port_on, would_transmit_at, GivesAssignment}
 use Rattle.lagsystem.proofs.Common.{distributing, SystemState, port_index, system_port_at, with_table}
@@ -40,20 +40,15 @@ given_alike gives agg conv port old new a h =
     (wished_alike old.table new.table ports agg.0 conv port p h.0 may))
 
 pub offer_makes_none_due : (gives : ℕ → ℕ → ℕ → Type 0) → OfferMakesNoneDue gives
-offer_makes_none_due gives old new agg octets (reply.Offer (Ok port)) h = grind (arith, nat_tests, given_alike)
-offer_makes_none_due gives old new agg octets (reply.Offer (Err fault)) h = nothing_alike old new h.1
-offer_makes_none_due gives old new agg octets answer h = absurd h
+offer_makes_none_due gives old new agg octets i h = grind (arith, nat_tests, given_alike, nothing_alike)
 
 takes_alike : (gives : ℕ → ℕ → ℕ → Type 0) (agg : AggId) (conv : ℕ) (old : SystemState) (answer : Result ℕ SystemFault)
     (new : SystemState) → TakesPort gives agg conv old answer new → DueAsBefore old new
-takes_alike gives agg conv old (Ok port) new h = given_alike gives agg conv port old new h.0 h.1
-takes_alike gives agg conv old (Err fault) new h = nothing_alike old new h.1
+takes_alike gives agg conv old answer new h = grind (arith, nat_tests, given_alike, nothing_alike)
 
 if_alike : (there known : Bool) (gives : ℕ → ℕ → ℕ → Type 0) (agg : AggId) (conv : ℕ) (old : SystemState) (answer : Result ℕ SystemFault)
     (new : SystemState) → OffersIf there known gives agg conv old answer new → DueAsBefore old new
-if_alike false known gives agg conv old answer new h = nothing_alike old new h.1
-if_alike true false gives agg conv old answer new h = nothing_alike old new h.1
-if_alike true true gives agg conv old answer new h = takes_alike gives agg conv old answer new h
+if_alike there known gives agg conv old answer new h = grind (arith, nat_tests, nothing_alike, takes_alike)
 
 pub offer_conversation_makes_none_due : (gives : ℕ → ℕ → ℕ → Type 0) → OfferConversationMakesNoneDue gives
 offer_conversation_makes_none_due gives old new agg conv answer h = grind (arith, nat_tests, if_alike)

@@ -169,9 +169,7 @@ one_false a b c d h f g = grind (arith, nat_tests)
 unready_cases : (keys : List Key) (agg : AggId) (xs ys : List SystemPort) → PortsChangeBy (RunsReady keys (views xs)) xs ys → (r : Bool)
     → is_ready keys (views xs) agg ≡ r → (k : Bool) → is_aggregator keys agg ≡ k
     → is_ready keys (views ys) agg ≡ false
-unready_cases keys agg xs ys h true e k i = grind (arith, nat_tests, none_of, and_left, none_wait)
-unready_cases keys agg xs ys h false e false i = grind (arith, nat_tests)
-unready_cases keys agg xs ys h false e true i = grind (arith, nat_tests, none_of, one_false, any_stays, all_stay)
+unready_cases keys agg xs ys h r e k i = grind (arith, nat_tests, none_of, and_left, none_wait, one_false, any_stays, all_stay)
 
 pub none_ready : (keys : List Key) (xs ys : List SystemPort) → PortsChangeBy (RunsReady keys (views xs)) xs ys → (c : Choice)
     → ready_of keys (views ys) c ≡ false

@@ -32,8 +32,7 @@ good_ages now p kept few calls ticks run = port_window now calls p ticks kept fe
 
 joined : (b : Bool) (now : ℕ) (before ticks : List ℕ)
     → (before ++ (if b then now ∷ ticks else ticks)) ≡ ((if b then before ++ now ∷ [] else before) ++ ticks)
-joined true now before ticks = sym (append_assoc before (now ∷ []) ticks)
-joined false now before ticks = refl
+joined b now before ticks = grind (arith, nat_tests, append_assoc)
 
 good_call : (now : ℕ) (call : port.PortCall) (p q : Machines) (before : List ℕ) → port.CallEffect call p q → Good now p before
     → Good (window.tick_after_port_call call now) q (if window.returns_lacpdu call p then before ++ now ∷ [] else before)
@@ -169,8 +168,7 @@ good_settling n now before old new h g = in_settling (λ p. Good now p before) (
 -- the place of a number is that of the first port with it
 at_place : (n : ℕ) (xs : List SystemPort) (b : Bool) (k : ℕ) → nat_lt k (length xs) ≡ b
     → system_port_at (cond b (Some k) None) xs ≡ slice_get xs k
-at_place n xs true k e = refl
-at_place n xs false k e = sym (slice_get_past xs k (grind (arith, nat_tests)))
+at_place n xs b k e = grind (arith, nat_tests, slice_get_past)
 
 pub found : (n : ℕ) (xs : List SystemPort) → system_port_at (port_index n xs) xs ≡ find (is_numbered n) xs
 found n xs = let k = position_or_len (is_numbered n) xs in at_place n xs (nat_lt k (length xs)) k refl ∙ sym (find_at (is_numbered n) xs)
@@ -270,8 +268,7 @@ three_empty : (o : Option Machines) → At IsEmpty Unit o → AtMostThreeAges o
 three_empty o h = grind (arith, nat_tests)
 
 pub good_few : (now : ℕ) (o : Option Machines) → AgesSince now o → AtMostThreeAges o → GoodAt now (remembered_sends now o) o
-good_few now None h k = none_sent
-good_few now (Some p) h k = good_ages now p h k
+good_few now o h k = grind (arith, nat_tests, none_sent, good_ages)
 
 none_kept : (o : Option Machines) → At IsEmpty Unit o → remembered_sends 0 o ≡ []
 none_kept o h = grind (arith, nat_tests)
@@ -395,5 +392,4 @@ pub Step-three : (gives : ℕ → ℕ → ℕ → Type 0) (old : SystemState) (c
 Step-three gives old call answer new h three n =
     let before : FewIn n old.system_ports = subst (λ x. At IsFew Unit (port_in x)) (found n old.system_ports)
     (few_from (machines_of n old) (three n)) in
-    three_from (machines_of n new) (subst (λ x. At IsFew Unit (port_in x)) (sym (found n new.system_ports))
-    (few_step n gives old call answer new h before))
+    grind (arith, nat_tests, three_from, machines_of, At, IsFew, port_in, found, few_step)

@@ -1,10 +1,13 @@
 -- The ends of a cable never have different groups if none of the earlier variants of `Agreement` holds.
-use Rattle.lagworld.proofs.Common.{Bool, None, Option, Some, ap, eqb-true, false, not, option_map, refl, slice_get, subst, suc, sym, true, zero, ℕ}
-use Rattle.lagworld.proofs.Common.{◌&&◌, ◌||◌, ◌∙◌, ◌≡◌, ◌≢◌, and_parts, not-false, or_parts, true≢false, none-some, same_Some, unwrap_or, same_group}
-use Rattle.lagworld.proofs.Common.{group-itself, LastLacpduIsUpToDate, One, Side, TakenLacpdu, Two, peer, Machines, model_port, group_at, PortsAgree}
-use Rattle.lagworld.proofs.Common.{SystemState, machines_of, port_index, system_port_at, all-get, port_seen, StampedLacpdu, agreement_at}
-use Rattle.lagworld.proofs.Common.{agreement_of, end_facts, first_agreement, is_stamp, same_groups, model_taken, model_world, IsSound, LinkState}
-use Rattle.lagworld.proofs.Common.{WorldState, change_count_in, half, history_at, taken_in}
+use Rattle.lagworld.proofs.Common.{Bool, None, Option, Some, eqb-true, false, not, option_map, refl, slice_get, subst, suc, sym, true, ℕ, ◌&&◌, ◌||◌}
+use Rattle.lagworld.proofs.Common.{◌∙◌, ◌≡◌, ◌≢◌, and_parts, not-false, or_parts, true≢false, none-some, same_Some, unwrap_or, same_group}
+use Rattle.lagworld.proofs.Common.{group-itself, LastLacpduIsUpToDate, One, Side, TakenLacpdu, Two, peer, model_port, group_at, PortsAgree}
+use Rattle.lagworld.proofs.Common.{SystemState, machines_of, port_index, system_port_at, port_seen, StampedLacpdu, agreement_at, agreement_of}
+use Rattle.lagworld.proofs.Common.{end_facts, first_agreement, is_stamp, same_groups, model_taken, model_world, IsSound, LinkState, WorldState}
+use Rattle.lagworld.proofs.Common.{change_count_in, half, history_at, taken_in}
+use native.Mathlib.Omega.{arith}
+use Rattle.portmachines.specs.Machines.{Machines}
+use Rattle.lagsystem.proofs.Rising.{all-get}
 use Rattle.lagworld.proofs.Cables.{end_is}
 use Rattle.lagtypes.specs.declared.group.Group.{Group}
 use Rattle.lagtypes.specs.Group.{SamePair, pair_of}
@@ -18,25 +21,18 @@ use Rattle.lagworld.proofs.Running.{agree_of}
 
 -- the answer is the last one only if none of the others holds
 last_of_five : (a b c d : Bool) → first_agreement a b c d ≡ Differ → (a ≡ false) × (b ≡ false) × (c ≡ false) × (d ≡ false)
-last_of_five false false false false h = (refl, refl, refl, refl)
-last_of_five a b c d h = absurd (let e = h in cc)
+last_of_five a b c d h = grind arith
 
 -- a port that distributes is there
 port_there : (o : Option Machines) → unwrap_or (option_map (λ (x : Machines). same_mux_state CollectingDistributing x.mux) o) false ≡ true
     → unwrap_or (option_map (λ (x : Machines). x.defaulted) o) false ≡ false
     → (x : Machines) × (o ≡ Some x) × (same_mux_state CollectingDistributing x.mux ≡ true) × (x.defaulted ≡ false)
-port_there None h d = absurd (true≢false (sym h))
-port_there (Some x) h d = (x, refl, h, d)
+port_there o h d = grind arith
 
 slot_there : (s : SystemState) (o : Option ℕ) (x : Machines)
     → option_map (λ (y : SystemPort). y.port) (system_port_at o s.system_ports) ≡ Some x → (P : Machines → Type 0)
     → ((i : ℕ) (y : SystemPort) → slice_get s.system_ports i ≡ Some y → P y.port) → P x
-slot_there s None x e P w = absurd (none-some x e)
-slot_there s (Some i) x e P w = by_slot (slice_get s.system_ports i) refl e
-  where
-    by_slot : (o : Option SystemPort) → slice_get s.system_ports i ≡ o → option_map (λ (y : SystemPort). y.port) o ≡ Some x → P x
-    by_slot None h e = absurd (none-some x e)
-    by_slot (Some y) h e = subst P (same_Some y.port x e) (w i y h)
+slot_there s o x e P w = grind arith
 
 -- it distributes for the law too
 distributes_seen : (s : SystemState) (p : ℕ) (x : Machines) → PortsAgree s → machines_of p s ≡ Some x
@@ -57,17 +53,11 @@ hears : (s : Side) (p q : ℕ) (x : Machines) (j : WorldState) → PortsAgree (h
     → same_mux_state CollectingDistributing x.mux ≡ true → x.defaulted ≡ false
     → is_stamp (change_count_in (history_at (half (peer s) j).histories q)) (taken_in (history_at (half s j).histories p)) ≡ true
     → LastLacpduIsUpToDate (model_world j) s p q (model_port x)
-hears s p q x j a e m d t = record {
-  is = port_seen (half s j).state p ∙ ap (option_map model_port) e;
-  distributes = distributes_seen (half s j).state p x a e m;
-  defaulted = d;
-  taken = stamp_there (change_count_in (history_at (half (peer s) j).histories q)) (taken_in (history_at (half s j).histories p)) t;
-}
+hears s p q x j a e m d t = grind (arith, port_seen, half, option_map, model_port, distributes_seen, stamp_there, change_count_in, history_at, peer, taken_in)
 
 same_there : (o u : Option Machines) (x y : Machines) → o ≡ Some x → u ≡ Some y
     → same_groups (option_map group_at o) (option_map group_at u) ≡ same_group (group_at x) (group_at y)
-same_there o u x y e f = ap (λ o. same_groups (option_map group_at o) (option_map group_at u)) e
-    ∙ ap (λ u. same_groups (Some (group_at x)) (option_map group_at u)) f
+same_there o u x y e f = grind arith
 
 equal_test : (x y : Machines) → SamePair (pair_of x.party (party_of x.partner)) (pair_of y.party (party_of y.partner))
     → same_group (group_at x) (group_at y) ≡ true
@@ -96,10 +86,4 @@ line_agrees j i l s e h =
     ∙ sym (same_there (machines_of l.one j.one.state) (machines_of l.two j.two.state) one.0 two.0 one.1 two.1) ∙ f.3)
 
 pub never_differs : (j : WorldState) (c : ℕ) → IsSound j → agreement_at j c ≢ Some Differ
-never_differs j zero s h = none-some Differ h
-never_differs j (suc i) s h = by_line (slice_get j.links i) refl h
-  where
-    by_line : (o : Option LinkState) → slice_get j.links i ≡ o
-        → option_map (λ (l : LinkState). agreement_of (end_facts j.one l.one) (end_facts j.two l.two)) o ≡ Some Differ → ⊥
-    by_line None e h = none-some Differ h
-    by_line (Some l) e h = line_agrees j i l s e (same_Some (agreement_of (end_facts j.one l.one) (end_facts j.two l.two)) Differ h)
+never_differs j c s h = grind (arith, none-some, slice_get, option_map, agreement_of, end_facts, line_agrees, same_Some)

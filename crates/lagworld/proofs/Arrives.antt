@@ -2,9 +2,9 @@
 use Rattle.lagworld.proofs.Common.{Bool, IsSome, List, None, Ok, Option, Result, Some, [], ap, arith, cond, eqb, eqb-true, false, if◌then◌else◌, inl}
 use Rattle.lagworld.proofs.Common.{inr, map, option_map, refl, slice_get, subst, suc, sym, true, ℕ, ◌++◌, ◌==◌, ◌∙◌, ◌∷◌, ◌≡◌, ◌⊎◌, cases_Bool}
 use Rattle.lagworld.proofs.Common.{true≢false, option_to_list, AggId, Lacpdu, Pdu, IsSlowProtocolsFrame, Reads, lacpdu_in, number_at, pdu_read, Act}
-use Rattle.lagworld.proofs.Common.{LawfulMoves, Sends, Took, Message_pdu, ModelEvent, CallHappens, Control, Data, DeliversFirst, Ends, Happens}
-use Rattle.lagworld.proofs.Common.{IsCabling, LosesFirst, Message, One, Receives, RepeatsFirst, Side, Two, WorldSetup, at_side, at_two, handed_up}
-use Rattle.lagworld.proofs.Common.{peer, stamp_of, with_messages, same_world, Stamp, SystemFault, Received, Receive, EffectsSeenAs, FrameSeenAs}
+use Rattle.lagworld.proofs.Common.{LawfulMoves, Sends, Took, Message_pdu, ModelEvent, CallHappens, Control, Data, DeliversFirst, Happens, IsCabling}
+use Rattle.lagworld.proofs.Common.{LosesFirst, Message, One, Receives, RepeatsFirst, Side, Two, WorldSetup, at_side, at_two, handed_up, peer}
+use Rattle.lagworld.proofs.Common.{stamp_of, with_messages, same_world, Stamp, SystemFault, Received, Receive, EffectsSeenAs, FrameSeenAs}
 use Rattle.lagworld.proofs.Common.{JoinedByLawfulMoves, control_message, model_lacpdu, model_setup, model_view, SystemState, PortHistory}
 use Rattle.lagworld.proofs.Common.{StampedLacpdu, Reply, AfterReceive, DeliversFrom, LosesFrom, RepeatsFrom, RepeatsItem, WorldReceives}
 use Rattle.lagworld.proofs.Common.{set_last_lacpdu, stamped_in, with_collected_in, with_last_lacpdu, with_link_at, HalfAnswers, set_taken}
@@ -56,15 +56,11 @@ lacpdu_read b v h = ap (lacpdu_or v) (sym (holds_lacpdu b h.table.fields_hold.0)
 
 brought_by : (octets : List ℕ) (st : Stamp) (o : Option Message_pdu) → IsTrue_to octets st → FrameSeenAs octets o → (o ≡ None)
     ⊎ (o ≡ brought octets st)
-brought_by octets st None t b = inl refl
-brought_by octets (stamp.Control count) (Some m) t b =
-    inr (ap (λ (m : Message_pdu). Some m) (b.2 ∙ ap control_message (sym (pdu_read (payload_in octets) b.0 b.1.1))))
-brought_by octets (stamp.Data system agg conv serial) (Some m) t b = absurd (t b.1.0.1)
+brought_by octets st o t b = grind (arith, control_message, pdu_read, payload_in)
 
 seen_act : (s : SystemState) (p : ℕ) (octets : List ℕ) (a : Result Received SystemFault) (seen : List Act)
     → EffectsSeenAs s (Receive p octets) (answer.Receive a) seen → seen ≡ option_to_list (act_of p octets a)
-seen_act s p octets (Ok received.TookLacpdu) seen h = h.2
-    ∙ ap (λ v. Took p (model_lacpdu v) ∷ []) (sym (lacpdu_read (payload_in octets) h.0 h.1.1))
+seen_act s p octets (Ok received.TookLacpdu) seen h = grind (arith, model_lacpdu, lacpdu_read, payload_in)
 seen_act s p octets (Ok (received.Respond frame)) seen h = h.2
     ∙ ap (λ v. Sends p (control_message v) ∷ []) (sym (sent_read frame (pdu.Marker h.0) h.1))
 seen_act s p octets a seen h = h
@@ -76,11 +72,7 @@ pub told_receive : (p : ℕ) (octets : List ℕ) (st : Stamp) (a : Result Receiv
     (option_to_list (act_of p octets a)) (model_view new)
 told_receive p octets st a old new t h =
     let moves = told_moves old new h.2.2 (seen_act old p octets a h.1 h.3) h.4 in
-    elim (brought_by octets st h.2.0 t h.2.1) [
-      | inl e ↦ moves_bring (model_setup old) p (brought octets st) (model_view old) (model_view new) (option_to_list (act_of p octets a))
-          (told_moves old new (ap (ModelEvent.Receive p) e) refl moves)
-      | inr e ↦ told_moves old new (ap (ModelEvent.Receive p) e) refl moves
-    ]
+    grind (arith, brought_by, moves_bring, model_setup, brought, model_view, option_to_list, act_of, told_moves)
 
 -- The history of a port, after an LACPDU was recorded for one.
 heard : (p : ℕ) (lacpdu : StampedLacpdu) (q : ℕ) (histories : List PortHistory) → history_at (set_last_lacpdu p lacpdu histories) q
@@ -92,12 +84,7 @@ heard p lacpdu q (history ∷ histories) = let ih = heard p lacpdu q histories i
 pub read_log : {X : Type 0} (read : Option PortHistory → X) (p : ℕ) (lacpdu : StampedLacpdu) (q : ℕ)
     → ((history : PortHistory) → (q ≡ p → ⊥) ⊎ (read (Some (set_taken lacpdu history)) ≡ read (Some history)))
     → (histories : List PortHistory) → read (history_at (set_last_lacpdu p lacpdu histories) q) ≡ read (history_at histories q)
-read_log read p lacpdu q same histories = ap read (heard p lacpdu q histories) ∙ kept (q == p) refl (history_at histories q)
-  where
-    kept : (b : Bool) → (q == p) ≡ b → (o : Option PortHistory) → read (if b then option_map (set_taken lacpdu) o else o) ≡ read o
-    kept true e None = refl
-    kept true e (Some history) = elim (same history) [ inl n ↦ absurd (n (eqb-true q p e)) | inr h ↦ h ]
-    kept false e o = refl
+read_log read p lacpdu q same histories = grind (arith, heard, history_at, option_map, set_taken, eqb-true)
 
 pub count_heard : (p : ℕ) (lacpdu : StampedLacpdu) (q : ℕ) (histories : List PortHistory)
     → change_count_in (history_at (set_last_lacpdu p lacpdu histories) q) ≡ change_count_in (history_at histories q)
@@ -107,16 +94,7 @@ count_heard p lacpdu q histories = read_log change_count_in p lacpdu q (λ histo
 taken_heard : (p : ℕ) (lacpdu : StampedLacpdu) (histories : List PortHistory) → IsSome (history_at histories p) → (q : ℕ)
     → option_map model_taken (taken_in (history_at (set_last_lacpdu p lacpdu histories) q)) ≡ cond (eqb q p) (Some (model_taken lacpdu))
     (option_map model_taken (taken_in (history_at histories q)))
-taken_heard p lacpdu histories h q =
-    ap (λ o. option_map model_taken (taken_in o)) (heard p lacpdu q histories)
-    ∙ kept (q == p) (history_at histories q) (λ e. subst (λ q. IsSome (history_at histories q)) (sym (eqb-true q p e)) h)
-  where
-    kept : (b : Bool) (o : Option PortHistory) → (b ≡ true → IsSome o)
-        → option_map model_taken (taken_in (if b then option_map (set_taken lacpdu) o else o)) ≡ cond b (Some (model_taken lacpdu))
-        (option_map model_taken (taken_in o))
-    kept true None h = absurd (let e = h refl in cc)
-    kept true (Some history) h = refl
-    kept false o h = refl
+taken_heard p lacpdu histories h q = grind (arith, option_map, model_taken, taken_in, heard, history_at, eqb-true, set_taken)
 
 -- A call that an item made, in j, from which that item was taken away: no answer but `Up` looks at what the item is.
 abbrev ItemCame : Side → ℕ → ItemValue → WorldState → WorldState → Type 0
@@ -233,12 +211,10 @@ handed_world s agg conv serial j there =
 -- the moves of a call of s, and then a frame collected at its peer, or the other way round
 turned : (s : Side) (mid : HalfState) (agg conv serial : ℕ) (j : WorldState)
     → after_up (peer s) agg conv serial (with_half s mid j) ≡ with_half s mid (after_up (peer s) agg conv serial j)
-turned One mid agg conv serial j = refl
-turned Two mid agg conv serial j = refl
+turned s mid agg conv serial j = grind arith
 
 half_up : (s : Side) (agg conv serial : ℕ) (j : WorldState) → half s (after_up (peer s) agg conv serial j) ≡ half s j
-half_up One agg conv serial j = refl
-half_up Two agg conv serial j = refl
+half_up s agg conv serial j = grind arith
 
 up_came : (gives : ℕ → ℕ → ℕ → Type 0) (s : Side) (p : ℕ) (octets : List ℕ) (agg conv serial : ℕ) (up : AggId) (mid : HalfState)
     (j : WorldState) → IsSome (flow_at (half (peer s) j).flows agg conv) → (IsSlowProtocolsFrame octets → ⊥)
@@ -284,8 +260,7 @@ data_came gives s p octets system agg conv serial a mid r j new one history d x 
 
 popped_fixed : (s : Side) (i : ℕ) (l : LinkState) (rest : List ItemValue) (old : WorldState) → slice_get old.links i ≡ Some l
     → world_setup (with_link_at i (with_towards s rest l) old) ≡ world_setup old
-popped_fixed s i l rest old there = ap (λ (e : List Ends). record { setup = (world_setup old).setup; cables = e })
-    (mapped_set link_ends old.links i (with_towards s rest l) l there refl)
+popped_fixed s i l rest old there = grind (arith, world_setup, mapped_set, link_ends, with_towards)
 
 -- the first item of a cable comes, and is taken away
 delivered : (gives : Side → ℕ → ℕ → ℕ → Type 0) (s : Side) (i : ℕ) (l : LinkState) (octets : List ℕ) (st : Stamp) (rest : List ItemValue)
@@ -362,8 +337,7 @@ repeat_happens gives s i l xs r old new there e one history x =
 pub lose_happens : (s : Side) (i : ℕ) (l : LinkState) (xs : List ItemValue) (r : Reply) (old new : WorldState)
     → slice_get old.links i ≡ Some l → towards s l ≡ xs → LosesFrom s i l xs old r new
     → Happens (world_setup old) (Event.Lose (suc i) s) (model_world old) (model_world new)
-lose_happens s i l [] r old new there e x = subst (λ ms. LosesFirst (suc i) s ms (model_world old) (model_world new))
-    (sym (line_is s i l [] old there e)) (ap model_world x.1)
+lose_happens s i l [] r old new there e x = grind arith
 lose_happens s i l (item ∷ rest) r old new there e x =
     subst (λ ms. LosesFirst (suc i) s ms (model_world old) (model_world new)) (sym (line_is s i l (item ∷ rest) old there e))
     (ap model_world x.1 ∙ popped_world s i l rest old there)

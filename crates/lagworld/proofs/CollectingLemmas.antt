@@ -1,7 +1,7 @@
 -- Serial numbers that are collected, and the places that are reserved for them.
-use Rattle.lagworld.proofs.Common.{List, OnOk, Option, Result, Some, [], add-one, arith, get_or, length, refl, set, slice_get, subst, sym}
-use Rattle.lagworld.proofs.Common.{vec_capacity, vec_len, ℕ, ◌++◌, ◌+◌, ◌<◌, ◌∷◌, ◌≡◌, ◌≤◌, slice_get_read, Vec, Flow, CanCollect, CanCollectAt}
-use Rattle.lagworld.proofs.Common.{CanCollectIn, flow_value, with_collected}
+use Rattle.lagworld.proofs.Common.{List, OnOk, Option, Result, Some, [], add-one, arith, get_or, length, set, slice_get, vec_capacity, vec_len, ℕ}
+use Rattle.lagworld.proofs.Common.{◌++◌, ◌+◌, ◌<◌, ◌∷◌, ◌≡◌, ◌≤◌, slice_get_read, Vec, Flow, CanCollect, CanCollectAt, CanCollectIn, flow_value}
+use Rattle.lagworld.proofs.Common.{with_collected}
 use Rattle.lagworld.proofs.Putting.{ok_weaker}
 use Rattle.lagworld.proofs.Cables.{set_here}
 
@@ -19,8 +19,7 @@ more_serials x v serial e = λ i. record { sent = x.sent.items; collected = e i;
 -- what holds of what is written, if that was done
 there_if_ok : {X E U : Type 0} (P : Option X → Type 0) (Q : Type 0) (r : Result U E) (xs : List X) (i : ℕ) (x new : X) → i < length xs
     → x ≡ get_or xs i x → (Q → P (Some new)) → OnOk r Q → OnOk r (P (slice_get (set xs i new) i))
-there_if_ok P Q r xs i x new lt read f =
-    ok_weaker r (λ q. subst P (sym (set_here xs i new x (slice_get_read xs (length xs) i x refl lt read))) (f q))
+there_if_ok P Q r xs i x new lt read f = grind (arith, ok_weaker, set_here, slice_get_read)
 
 -- a place was reserved in a conversation
 pub room_there : {E U : Type 0} (r : Result U E) (row : List Flow) (i : ℕ) (x : Flow) (v : Vec ℕ) → i < length row → x ≡ get_or row i x

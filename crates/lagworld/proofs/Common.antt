@@ -29,36 +29,31 @@ pub use Rattle.lagmodel.specs.Bridge.{find_number, world_after_call}
 pub use Rattle.lagmodel.specs.Law.{EndsAgree, InOrder, LastLacpduIsUpToDate, OnePartner}
 pub use Rattle.lagmodel.specs.Move.{Act, LawfulMoves, Sends, Sends_frame, Took}
 pub use Rattle.lagmodel.specs.View.{ControlMessage as Message_pdu, ModelCall as ModelEvent, PortFacts, View, first_port, first_view, is_restart}
-pub use Rattle.lagmodel.specs.World.{CallHappens, Control, CountsChanges, Data, DeliversFirst, Ends, Happens, IsCabling, IsWorldSetup, LosesFirst}
-pub use Rattle.lagmodel.specs.World.{Message, One, Receives, RepeatsFirst, Run, Side, TakenLacpdu, SensesCable as Told_senses, Two, World, WorldSetup}
-pub use Rattle.lagmodel.specs.World.{at_cable, at_side, at_two, end_at, first_world, handed_up, on_cable_after, party_at, peer, port_on}
-pub use Rattle.lagmodel.specs.World.{put_on_cable as put_in, sent_after, stamp_of, taken_after, with_messages}
+pub use Rattle.lagmodel.specs.World.{CallHappens, Control, CountsChanges, Data, DeliversFirst, Happens, IsCabling, IsWorldSetup, LosesFirst, Message}
+pub use Rattle.lagmodel.specs.World.{One, Receives, RepeatsFirst, Run, Side, TakenLacpdu, Two, World, WorldSetup, at_cable, at_side, at_two, end_at}
+pub use Rattle.lagmodel.specs.World.{first_world, handed_up, on_cable_after, party_at, peer, port_on, put_on_cable as put_in, sent_after, stamp_of}
+pub use Rattle.lagmodel.specs.World.{taken_after, with_messages}
 pub use Rattle.lagmodel.proofs.Base.{cond_false, cond_true, mapped_some, none-is_some, value_of}
 pub use Rattle.lagmodel.proofs.Calls.{parties_same}
 pub use Rattle.lagmodel.proofs.Runs.{calls_from, put_on, runs_joined, same_world}
 pub use Rattle.cables.specs.declared.item.Item.{Item}
 pub use Rattle.cables.specs.declared.item.Stamp.{Stamp}
-pub use Rattle.portmachines.specs.Machines.{Machines}
-pub use Rattle.distributor.specs.declared.assignment.Assignment.{Assignment}
-pub use Rattle.distributor.specs.Calls.{PicksIndexes, force_result}
-pub use Rattle.distributor.specs.Conversations.{assignment_of, is_conversation_count}
+pub use Rattle.distributor.specs.Calls.{PicksIndexes}
 pub use Rattle.lagsystem.specs.declared.config.PortChange.{PortChange}
 pub use Rattle.lagsystem.specs.declared.drive.Reply.{Reply as Answer}
 pub use Rattle.lagsystem.specs.declared.fault.SystemFault.{SystemFault}
 pub use Rattle.lagsystem.specs.declared.received.Received.{Received}
 pub use Rattle.lagsystem.specs.Calls.{Call, Configure, Force, Move_conversation, Offer, Receive, Restart, Set_link, Tick, Transmit}
 pub use Rattle.lagsystem.specs.ModelView.{CallSeenAs, EffectsSeenAs, FrameSeenAs, IsSent, JoinedByLawfulMoves, configured_party, control_message}
-pub use Rattle.lagsystem.specs.ModelView.{marker_message, lacp_message as model_lacpdu, model_port, model_setup, model_view}
-pub use Rattle.lagsystem.specs.Offers.{GivesOrRefuses, has_aggregator, in_system, or_not_assigned, system_force_result}
+pub use Rattle.lagsystem.specs.ModelView.{lacp_message as model_lacpdu, model_port, model_setup, model_view}
+pub use Rattle.lagsystem.specs.Offers.{GivesOrRefuses, system_force_result}
 pub use Rattle.lagsystem.specs.Readers.{conversation_count, group_at, number_of_conversation, two_octets}
 pub use Rattle.lagsystem.specs.Sound.{CallPromise, PortsAgree}
 pub use Rattle.lagsystem.specs.State.{SystemState, machines_of, port_index, system_port_at}
 pub use Rattle.lagsystem.proofs.FirstView.{configured_setup, first_shows}
-pub use Rattle.lagsystem.proofs.Rising.{accepted_count, all-get}
 pub use Rattle.lagsystem.proofs.Seen.{party_seen, port_seen}
 pub use Rattle.lagsystem.proofs.Sent.{sent_payload}
 pub use Rattle.lagscript.specs.declared.event.Event.{Event}
-pub use Rattle.lagscript.specs.EventValues.{cable_named, system_named}
 pub use Rattle.lagworld.specs.declared.fault.WorldFault.{WorldFault}
 pub use Rattle.lagworld.specs.declared.histories.Flow.{Flow}
 pub use Rattle.lagworld.specs.declared.histories.PortHistory.{PortHistory}
@@ -68,7 +63,7 @@ pub use Rattle.lagworld.specs.declared.reply.Reply.{Reply}
 pub use Rattle.lagworld.specs.Agreement.{agreement_at, agreement_of, end_facts, first_agreement, is_stamp, same_groups}
 pub use Rattle.lagworld.specs.Arriving.{CanCollect, CanCollectAt, CanCollectIn, CarriesLacpdu, Concludes, HalfReceives, HalfReceivesFirst, IsToRecord}
 pub use Rattle.lagworld.specs.Arriving.{WorldDelivers, WorldReceivesFirst, WorldRepeats, aggregator_flow_values, first_head, head_in, history_index}
-pub use Rattle.lagworld.specs.Arriving.{is_data, last_lacpdu_recorded, with_lacpdu_recorded}
+pub use Rattle.lagworld.specs.Arriving.{is_data, last_lacpdu_recorded}
 pub use Rattle.lagworld.specs.Asking.{HalfAsksForce, WorldAsksOffer, WorldAsksTransmit, WorldLoses, lost_reply, with_sent_in}
 pub use Rattle.lagworld.specs.Events.{AfterOffer, AfterReceive, AfterTransmit, Algorithms, DeliversFrom, DoesEvent, InHalf, LosesFrom, OnLink}
 pub use Rattle.lagworld.specs.Events.{RepeatsFrom, RepeatsItem, WorldEmits, WorldOffers, WorldReceives, WorldRuns, WorldSteps, cause}

@@ -2,8 +2,8 @@
 use Rattle.lagworld.proofs.Common.{IsSome, List, None, Option, Some, [], ap, arith, eqb, eqb-true, if◌then◌else◌, inl, inr, is_some, map, option_map}
 use Rattle.lagworld.proofs.Common.{refl, subst, suc, sym, true, zero, ℕ, ◌+◌, ◌∙◌, ◌∷◌, ◌≡◌, ◌≢◌, ◌⊎◌, cases_Bool, true≢false, none-some, same_Some}
 use Rattle.lagworld.proofs.Common.{Party, same_party, exact_party, party_itself, ModelEvent, View, first_view, CallHappens, CountsChanges, Happens}
-use Rattle.lagworld.proofs.Common.{One, Side, Two, World, at_side, cond_false, cond_true, none-is_some, same_world, Machines, PortChange, Answer}
-use Rattle.lagworld.proofs.Common.{Call, Configure, Restart, model_port, model_setup, model_view, SystemState, machines_of, first_shows, party_seen}
+use Rattle.lagworld.proofs.Common.{One, Side, Two, World, at_side, cond_false, cond_true, none-is_some, same_world, PortChange, Answer, Call}
+use Rattle.lagworld.proofs.Common.{Configure, Restart, model_port, model_setup, model_view, SystemState, machines_of, first_shows, party_seen}
 use Rattle.lagworld.proofs.Common.{port_seen, PortHistory, Reply, InHalf, model_change, HalfAnswers, HalfConfigures, HalfRestarts, change_counted}
 use Rattle.lagworld.proofs.Common.{is_party, party_of_port, with_changes_counted, is_whole, messages, model_taken, model_world, world_setup}
 use Rattle.lagworld.proofs.Common.{IsHalfSound, HalfState, LinkState, WorldState, change_count_in, collected_in, element_numbered, emptied, flow_at}
@@ -23,8 +23,7 @@ log_mapped s (history ∷ histories) q = elim (cases_Bool (eqb q history.number)
 ]
 
 taken_mapped : (s : SystemState) (o : Option PortHistory) → taken_in (option_map (change_counted s) o) ≡ taken_in o
-taken_mapped s None = refl
-taken_mapped s (Some history) = refl
+taken_mapped s o = grind arith
 
 pub taken_counted : (s : SystemState) (histories : List PortHistory) (q : ℕ)
     → taken_in (history_at (map (change_counted s) histories) q) ≡ taken_in (history_at histories q)
@@ -54,8 +53,7 @@ changed_or_not a o (Some b) n e = elim (cases_Bool (same_party b a)) [
 
 -- the same of a port of a system: old and new are what the law sees
 no_party : (o : Option Party) → (IsSome o → ⊥) → o ≡ None
-no_party None n = refl
-no_party (Some a) n = absurd (n refl)
+no_party o n = grind arith
 
 -- the same of a port of a system: old and new are what the law sees
 port_counted : (old new : HalfState) → IsHalfSound old → new.histories ≡ old.histories
@@ -80,11 +78,7 @@ port_counted old new k e none p = rw (party_seen new.state p, party_seen old.sta
 
 -- the ports of a system are those of its configuration
 port_there : (s : SystemState) (p : ℕ) → is_some ((model_view s).port p) ≡ is_some (party_of_port s p)
-port_there s p = ap is_some (port_seen s p) ∙ both (machines_of p s)
-  where
-    both : (o : Option Machines) → is_some (option_map model_port o) ≡ is_some (option_map (λ (x : Machines). x.party) o)
-    both None = refl
-    both (Some p) = refl
+port_there s p = grind (arith, is_some, port_seen, machines_of, option_map, model_port)
 
 pub same_ports : (gives : ℕ → ℕ → ℕ → Type 0) (call : Call) (a : Answer) (old new : HalfState) → IsHalfSound old
     → HalfAnswers gives call a old new → (p : ℕ) → is_some (party_of_port new.state p) ≡ is_some (party_of_port old.state p)
@@ -102,8 +96,7 @@ pub counts_of : (s : Side) (mid : HalfState) (ls : List LinkState) (j : WorldSta
     → mid.histories ≡ (half s j).histories → ((p : ℕ) → party_of_port (half s j).state p ≡ None → party_of_port mid.state p ≡ None)
     → CountsChanges (model_world j) (model_world (after_call s (with_changes_counted mid) ls j))
     (model_world (after_call s (with_changes_counted mid) ls j)).count
-counts_of s mid ls j k e none = moved_at (λ x y. (p : ℕ) → CountsParty x y p) s (with_changes_counted mid) j (λ x p. inl (refl, refl))
-    (port_counted (half s j) mid k e none)
+counts_of s mid ls j k e none = grind (arith, moved_at, with_changes_counted, port_counted, half)
 
 -- A port is configured, and the count of each port whose party differs then is one more.
 pub configure_happens : (gives : ℕ → ℕ → ℕ → Type 0) (s : Side) (p : ℕ) (change : PortChange) (r : Reply) (old new : WorldState)
@@ -145,13 +138,7 @@ restarted : (s : Side) (h : HalfState) (v : View) (old : WorldState) → model_v
       count =
           (model_world (after_call s h (map emptied old.links) old)).count;
     }
-restarted s h v old e flows taken = same_world _ _
-    (λ t. half_after (λ x. model_view x.state) s h old t ∙ ap (λ u. at_side (model_world old).view s u t) e)
-    (whole_left old.links) (nothing_left old.links) (λ t p. refl)
-    (λ t p. kept_at (λ x. option_map model_taken (taken_in (history_at x.histories p))) s h old (ap (option_map model_taken) (taken p)) t)
-    (λ t g k. kept_at (λ x. sent_in (flow_at x.flows g k)) s h old (ap (λ f. sent_in (flow_at f g k)) flows) t)
-    (λ t g k. kept_at (λ x. collected_in (flow_at x.flows g k)) s h old (ap (λ f. collected_in (flow_at f g k)) flows) t)
-    (λ t g k. kept_at (λ x. forced_in (flow_at x.flows g k)) s h old (ap (λ f. forced_in (flow_at f g k)) flows) t)
+restarted s h v old e flows taken = grind (arith, same_world, half_after, model_view, at_side, model_world, whole_left, nothing_left, kept_at, option_map, model_taken, taken_in, history_at, sent_in, flow_at, collected_in, forced_in)
 
 pub restart_happens : (gives : ℕ → ℕ → ℕ → Type 0) (s : Side) (old new : WorldState) → IsHalfSound (half s old)
     → InHalf s (HalfRestarts gives) (with_links old (map emptied old.links)) new

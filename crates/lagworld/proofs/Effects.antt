@@ -1,11 +1,12 @@
 -- What an event does: nothing, one cable changes, one system is called, or both. Each law about events is proved of these.
-use Rattle.lagworld.proofs.Common.{Bool, IsSomeAnd, List, None, Ok, Option, Result, Some, [], is_some, map, option_and_then, refl, slice_get, subst}
-use Rattle.lagworld.proofs.Common.{suc, true, zero, ℕ, ◌∷◌, ◌≡◌, Vec, AggId, One, Side, Two, value_of, Stamp, PortChange, Answer, SystemFault, Call}
-use Rattle.lagworld.proofs.Common.{Configure, Force, Move_conversation, Restart, Set_link, Event, cable_named, system_named, Reply, Algorithms}
-use Rattle.lagworld.proofs.Common.{DeliversFrom, DoesEvent, InHalf, LosesFrom, OnLink, RepeatsFrom, RepeatsItem, WorldEmits, WorldOffers}
-use Rattle.lagworld.proofs.Common.{WorldReceives, has_cable, has_system, side_of, with_link_at, HalfAnswers, HalfTicks, forced_if_accepted}
-use Rattle.lagworld.proofs.Common.{or_refused, with_changes_counted, link_ends, AreItems, HalfState, ItemValue, LinkState, WorldState, cut}
-use Rattle.lagworld.proofs.Common.{element_numbered, emptied, half, joined, port_at, towards, with_links, with_towards}
+use Rattle.lagworld.proofs.Common.{Bool, IsSomeAnd, List, None, Ok, Option, Result, Some, [], is_some, map, option_and_then, refl, slice_get, suc}
+use Rattle.lagworld.proofs.Common.{true, zero, ℕ, ◌∷◌, ◌≡◌, Vec, AggId, Side, value_of, Stamp, PortChange, Answer, SystemFault, Call, Configure}
+use Rattle.lagworld.proofs.Common.{Force, Move_conversation, Restart, Set_link, Event, Reply, Algorithms, DeliversFrom, DoesEvent, InHalf, LosesFrom}
+use Rattle.lagworld.proofs.Common.{RepeatsFrom, WorldEmits, WorldOffers, WorldReceives, has_cable, has_system, side_of, with_link_at, HalfAnswers}
+use Rattle.lagworld.proofs.Common.{HalfTicks, forced_if_accepted, or_refused, with_changes_counted, link_ends, AreItems, HalfState, ItemValue}
+use Rattle.lagworld.proofs.Common.{LinkState, WorldState, cut, emptied, joined, port_at, towards, with_links, with_towards}
+use native.Mathlib.Omega.{arith}
+use Rattle.lagscript.specs.EventValues.{cable_named, system_named}
 use Rattle.cables.specs.declared.item.Stamp.TheVariants as stamp
 use Rattle.lagsystem.specs.declared.drive.Reply.TheVariants as answer
 use Rattle.lagscript.specs.declared.event.Event.TheVariants as event
@@ -123,79 +124,36 @@ effect links (event.Force n agg conv) = on_system n (λ s. Some (asks s (Force a
 
 then_some : {A : Type 0} (o : Option A) (f : A → Option Effect) (P : A → Type 0) (Q : Effect → Type 0) → IsSomeAnd o P
     → ((x : A) → o ≡ Some x → P x → IsSomeAnd (f x) Q) → IsSomeAnd (option_and_then f o) Q
-then_some None f P Q h k = absurd h
-then_some (Some x) f P Q h k = k x refl h
-
-then_cable : (c : ℕ) (links : List LinkState) (f : ℕ → LinkState → Option Effect) (P : ℕ → LinkState → Type 0) (Q : Effect → Type 0)
-    → OnLink c P links → ((i : ℕ) (l : LinkState) → slice_get links i ≡ Some l → P i l → IsSomeAnd (f i l) Q)
-    → IsSomeAnd (on_cable c links f) Q
-then_cable zero links f P Q h k = absurd h
-then_cable (suc i) links f P Q h k = then_some (slice_get links i) (f i) (P i) Q h (k i)
-
-cut_shrinks : (i : ℕ) (l : LinkState) (links : List LinkState) → slice_get links i ≡ Some l → Shrinks i l (cut l) links
-cut_shrinks i l links there = record { there = there; ends = refl; ports = λ s. refl; items = λ s j h. none s j }
-  where
-    none : (s : Side) (j : WorldState) → AreItems s (towards s (cut l)) j
-    none One j = tt
-    none Two j = tt
-
-taken_shrinks : (s : Side) (i : ℕ) (l : LinkState) (item : ItemValue) (rest : List ItemValue) (links : List LinkState)
-    → slice_get links i ≡ Some l → towards s l ≡ item ∷ rest → Shrinks i l (with_towards s rest l) links
-taken_shrinks s i l item rest links there e = record { there = there; ends = refl; ports = λ t. refl; items = λ t j h. left s t j e h }
-  where
-    left : (s t : Side) (j : WorldState) → towards s l ≡ item ∷ rest → AreItems t (towards t l) j
-        → AreItems t (towards t (with_towards s rest l)) j
-    left One One j e h = (subst (λ xs. AreItems One xs j) e h).1
-    left One Two j e h = h
-    left Two One j e h = h
-    left Two Two j e h = (subst (λ xs. AreItems Two xs j) e h).1
+then_some o f P Q h k = grind arith
 
 loses : (gives : Algorithms) (e : Event) (s : Side) (i : ℕ) (l : LinkState) (xs : List ItemValue) (old new : WorldState) (r : Reply)
     → slice_get old.links i ≡ Some l → towards s l ≡ xs → LosesFrom s i l xs old r new → DoesEffect gives e old (lost s i l xs) r new
-loses gives e s i l [] old new r there h x = x
-loses gives e s i l (item ∷ rest) old new r there h x = (taken_shrinks s i l item rest old.links there h, x.0, x.1)
+loses gives e s i l xs old new r there h x = grind arith
 
 arrives : (gives : Algorithms) (e : Event) (s : Side) (i : ℕ) (l : LinkState) (xs : List ItemValue) (old new : WorldState) (r : Reply)
     → slice_get old.links i ≡ Some l → towards s l ≡ xs → DeliversFrom gives s i l xs old r new
     → DoesEffect gives e old (delivered s i l xs) r new
-arrives gives e s i l [] old new r there h x = x
-arrives gives e s i l (item ∷ rest) old new r there h x = (taken_shrinks s i l item rest old.links there h, x)
-
-item_repeats : (gives : Algorithms) (e : Event) (s : Side) (p : ℕ) (octets : List ℕ) (st : Stamp) (old new : WorldState) (r : Reply)
-    → RepeatsItem gives s p octets st old r new → DoesEffect gives e old (repeated_item s p octets st) r new
-item_repeats gives e s p octets (stamp.Control count) old new r x = x
-item_repeats gives e s p octets (stamp.Data system agg conv serial) old new r x = x
+arrives gives e s i l xs old new r there h x = grind arith
 
 repeats : (gives : Algorithms) (e : Event) (s : Side) (l : LinkState) (xs : List ItemValue) (old new : WorldState) (r : Reply)
     → RepeatsFrom gives s l xs old r new → DoesEffect gives e old (repeated s l xs) r new
-repeats gives e s l [] old new r x = x
-repeats gives e s l (item ∷ rest) old new r x = item_repeats gives e s (port_at s l) item.octets item.stamp old new r x
+repeats gives e s l xs old new r x = grind arith
 
 pub does_some : (gives : Algorithms) (e : Event) (r : Reply) (old new : WorldState) → DoesEvent gives old e r new
     → IsSomeAnd (effect old.links e) (λ d. DoesEffect gives e old d r new)
 does_some gives (event.Tick n count) r old new x = then_some (side_of n) _ _ _ x (λ s e y. y)
 does_some gives (event.Emit n p) r old new x = then_some (side_of n) _ _ _ x (λ s e y. y)
-does_some gives (event.Deliver c n) r old new x = then_some (side_of n) _ _ _ x (λ s e y.
-    then_cable c old.links _ _ _ y (λ i l there z. arrives gives (event.Deliver c n) s i l (towards s l) old new r there refl z))
-does_some gives (event.Lose c n) r old new x = then_some (side_of n) _ _ _ x (λ s e y.
-    then_cable c old.links _ _ _ y (λ i l there z. loses gives (event.Lose c n) s i l (towards s l) old new r there refl z))
-does_some gives (event.Repeat c n) r old new x = then_some (side_of n) _ _ _ x (λ s e y.
-    then_cable c old.links _ _ _ y (λ i l there z. repeats gives (event.Repeat c n) s l (towards s l) old new r z))
-does_some gives (event.Cut c) r old new x =
-    then_cable c old.links _ _ _ x (λ i l there y. (cut_shrinks i l old.links there, y.0, y.1))
-does_some gives (event.Join c) r old new x = then_cable c old.links _ _ _ x (λ i l there y.
-    (record { there = there; ends = refl; ports = λ s. refl; items = λ s j h. h }, y.0, y.1))
-does_some gives (event.Sense c n) r old new x = then_some (side_of n) _ _ _ x (λ s e y. then_cable c old.links _ _ _ y (λ i l there z.
-    (((λ h. cc), (λ n c h. cc)), ((answer.SetLink z.0.0, half s new, z.0.1, z.0.2, refl), z.1))))
-does_some gives (event.Restart n) r old new x =
-    then_some (side_of n) _ _ _ x (λ s e y. ((answer.Restart, y.1.0.0, y.1.0.1, y.0, y.1.0.2), y.1.1))
-does_some gives (event.Configure n p change) r old new x =
-    then_some (side_of n) _ _ _ x (λ s e y. (tt, ((answer.Configure y.0.0, y.0.1, y.0.2, y.0.3, y.0.4), y.1)))
+does_some gives (event.Deliver c n) r old new x = grind arith
+does_some gives (event.Lose c n) r old new x = grind arith
+does_some gives (event.Repeat c n) r old new x = grind arith
+does_some gives (event.Cut c) r old new x = grind arith
+does_some gives (event.Join c) r old new x = grind arith
+does_some gives (event.Sense c n) r old new x = grind arith
+does_some gives (event.Restart n) r old new x = grind arith
+does_some gives (event.Configure n p change) r old new x = grind arith
 does_some gives (event.Offer n agg octets) r old new x = then_some (side_of n) _ _ _ x (λ s e y. (n, octets, e, refl, y))
-does_some gives (event.Move n agg conv p) r old new x = then_some (side_of n) _ _ _ x (λ s e y.
-    (((λ h. cc), (λ n c h. cc)), ((answer.MoveConversation y.0.0, half s new, y.0.1, y.0.2, refl), y.1)))
-does_some gives (event.Force n agg conv) r old new x = then_some (side_of n) _ _ _ x (λ s e y.
-    (((λ h. cc), (λ n c h. cc)), ((answer.Force y.0.0, y.0.1, y.0.2, y.0.3, y.0.4), y.1)))
+does_some gives (event.Move n agg conv p) r old new x = grind arith
+does_some gives (event.Force n agg conv) r old new x = grind arith
 
 pub does_effect : (gives : Algorithms) (e : Event) (r : Reply) (old new : WorldState) → DoesEvent gives old e r new
     → (d : Effect) × (effect old.links e ≡ Some d) × DoesEffect gives e old d r new
@@ -204,25 +162,8 @@ does_effect gives e r old new x = value_of (effect old.links e) _ (does_some giv
 -- ---- what an event that acts names is there
 
 pub some_there : {X : Type 0} (o : Option X) (P : X → Type 0) → IsSomeAnd o P → is_some o ≡ true
-some_there None P h = absurd h
-some_there (Some x) P h = refl
-
-link_there : (c : ℕ) (P : ℕ → LinkState → Type 0) (links : List LinkState) → OnLink c P links
-    → is_some (element_numbered links c) ≡ true
-link_there zero P links h = absurd h
-link_there (suc i) P links h = some_there (slice_get links i) (P i) h
-
-both_there : (c n : ℕ) (P : Side → ℕ → LinkState → Type 0) (links : List LinkState) → IsSomeAnd (side_of n) (λ s. OnLink c (P s) links)
-    → (is_some (element_numbered links c) ≡ true) × (is_some (side_of n) ≡ true)
-both_there c n P links h =
-    (link_there c _ links (value_of (side_of n) (λ s. OnLink c (P s) links) h).2, some_there (side_of n) (λ s. OnLink c (P s) links) h)
+some_there o P h = grind arith
 
 pub named : (gives : Algorithms) (e : Event) (r : Reply) (old new : WorldState) → DoesEvent gives old e r new
     → (has_cable old (cable_named e) ≡ true) × (has_system (system_named e) ≡ true)
-named gives (event.Deliver c n) r old new h = both_there c n _ old.links h
-named gives (event.Lose c n) r old new h = both_there c n _ old.links h
-named gives (event.Repeat c n) r old new h = both_there c n _ old.links h
-named gives (event.Sense c n) r old new h = both_there c n _ old.links h
-named gives (event.Cut c) r old new h = (link_there c _ old.links h, refl)
-named gives (event.Join c) r old new h = (link_there c _ old.links h, refl)
-named gives _ r old new h = (refl, some_there _ _ h)
+named gives e r old new h = grind arith

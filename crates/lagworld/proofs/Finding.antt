@@ -30,16 +30,7 @@ pair a b = (a, b)
 pub ends_there : {X : Type 0} (f : ℕ → ℕ → X) (links : List LinkState) (c i one two : ℕ) (whole : Bool) → c ≡ i + 1
     → IsSomeAnd (slice_get links i) (λ l. (one ≡ l.one) × (two ≡ l.two) × (whole ≡ l.whole))
     → Some (f one two) ≡ option_map (λ (l : LinkState). f l.one l.two) (element_numbered links c)
-ends_there f links c i one two whole e h =
-    let next : c ≡ suc i = omega arith in
-    subst (λ c. Some (f one two) ≡ option_map (λ (l : LinkState). f l.one l.two) (element_numbered links c)) (sym next)
-    (of_line (slice_get links i) h)
-  where
-    of_line : (o : Option LinkState) → IsSomeAnd o (λ l. (one ≡ l.one) × (two ≡ l.two) × (whole ≡ l.whole))
-        → Some (f one two) ≡ option_map (λ (l : LinkState). f l.one l.two) o
-    of_line None h = absurd h
-    of_line (Some l) h = λ k. Some (f (h.0 k) (h.1 k))
+ends_there f links c i one two whole e h = grind arith
 
 pub no_ends : {X : Type 0} (f : LinkState → X) (o : Option LinkState) → is_some o ≡ false → option_map f o ≡ None
-no_ends f None h = refl
-no_ends f (Some l) h = absurd (true≢false h)
+no_ends f o h = grind arith

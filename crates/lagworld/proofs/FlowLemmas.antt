@@ -1,8 +1,8 @@
 -- The record of a conversation changes, in code and as contracts see it.
-use Rattle.lagworld.proofs.Common.{List, None, add-one, ap, arith, get_or, inl, inr, length, map, refl, set, slice_get, subst, suc, sym, zero, ℕ, ◌+◌}
-use Rattle.lagworld.proofs.Common.{◌<◌, ◌∙◌, ◌≡◌, ◌≤◌, ◌⊎◌, length-map, map-set, slice_get-get_or, slice_get_past, slice_get_read, Vec, Flow}
-use Rattle.lagworld.proofs.Common.{flow_value, HasRoom, HasRoomAt, HasRoomIn, flow_values, FlowValue, change_flow, change_flow_in, element_numbered}
-use Rattle.lagworld.proofs.Common.{flow_at, flow_in_aggregator, sent_in}
+use Rattle.lagworld.proofs.Common.{List, None, add-one, ap, arith, get_or, length, map, refl, set, slice_get, subst, suc, sym, zero, ℕ, ◌+◌, ◌<◌, ◌∙◌}
+use Rattle.lagworld.proofs.Common.{◌≡◌, ◌≤◌, ◌⊎◌, length-map, map-set, slice_get-get_or, slice_get_past, slice_get_read, Vec, Flow, flow_value}
+use Rattle.lagworld.proofs.Common.{HasRoom, HasRoomAt, HasRoomIn, flow_values, FlowValue, change_flow, change_flow_in, element_numbered, flow_at}
+use Rattle.lagworld.proofs.Common.{flow_in_aggregator, sent_in}
 use Rattle.lagworld.proofs.LineLemmas.{mapped_there}
 use Rattle.lagworld.proofs.Cables.{set_here}
 
@@ -28,9 +28,7 @@ row_set f rows g i k conv row new is same lt read e = rw (is, add-one, ← same,
     (map-set aggregator_flow_values rows i new ∙ ap (set (flow_values rows) i) e)
 
 no_row : {X : Type 0} (rows : List X) (g n : ℕ) → ((g ≡ 0) ⊎ (n < g)) → length rows ≤ n → element_numbered rows g ≡ None
-no_row rows zero n h le = refl
-no_row rows (suc i) n (inl e) le = absurd (omega arith)
-no_row rows (suc i) n (inr lt) le = slice_get_past rows i (omega arith)
+no_row rows g n h le = grind (arith, slice_get_past)
 
 no_row_seen : (rows : List (Vec Flow)) (g n : ℕ) → ((g ≡ 0) ⊎ (n < g)) → length rows ≤ n → element_numbered (flow_values rows) g ≡ None
 no_row_seen rows g n h le = no_row (flow_values rows) g n h (rw length-map le)
@@ -50,8 +48,7 @@ no_row_read rows g k n h le = ap (λ o. flow_in_aggregator o k) (no_row_seen row
 -- there is room for one more serial
 pub room_there : (rows : List (Vec Flow)) (g i k conv : ℕ) (row : Vec Flow) → g ≡ i + 1 → k ≡ conv → i < length rows
     → row ≡ get_or rows i row → HasRoom g conv rows → HasRoomIn k row.items
-room_there rows g i k conv row is same lt read h =
-    rw same (rw (is, add-one, slice_get_read rows (length rows) i row refl lt read) at h)
+room_there rows g i k conv row is same lt read h = grind (arith, add-one, slice_get_read)
 
 pub room_made : (rows : List (Vec Flow)) (g i k conv : ℕ) (row : Vec Flow) → g ≡ i + 1 → k ≡ conv → i < length rows → HasRoomIn k row.items
     → HasRoom g conv (set rows i row)

@@ -1,11 +1,12 @@
 -- A conversation is freed by force, and counts as forced from then on.
 use Rattle.lagworld.proofs.Common.{Bool, Err, IsSome, None, Ok, Result, [], ap, inl, inr, option_map, refl, subst, sym, true, ℕ, ◌∙◌, ◌≡◌, AggId}
-use Rattle.lagworld.proofs.Common.{LawfulMoves, ModelEvent, CallHappens, Happens, One, Side, Two, at_side, at_two, same_world, Assignment}
-use Rattle.lagworld.proofs.Common.{SystemFault, Force, model_setup, model_view, GivesOrRefuses, system_force_result, SystemState, Reply, InHalf}
-use Rattle.lagworld.proofs.Common.{HalfAnswers, HalfForces, forced_if_accepted, with_state, model_taken, model_world, world_setup, HalfState}
-use Rattle.lagworld.proofs.Common.{WorldState, change_count_in, change_flow, collected_in, flow_at, forced_in, half, history_at, sent_in, taken_in}
-use Rattle.lagworld.proofs.Common.{with_forced, with_half}
+use Rattle.lagworld.proofs.Common.{LawfulMoves, ModelEvent, CallHappens, Happens, Side, at_side, at_two, same_world, SystemFault, Force, model_setup}
+use Rattle.lagworld.proofs.Common.{model_view, GivesOrRefuses, system_force_result, SystemState, Reply, InHalf, HalfAnswers, HalfForces}
+use Rattle.lagworld.proofs.Common.{forced_if_accepted, with_state, model_taken, model_world, world_setup, HalfState, WorldState, change_count_in}
+use Rattle.lagworld.proofs.Common.{change_flow, collected_in, flow_at, forced_in, half, history_at, sent_in, taken_in, with_forced, with_half}
+use native.Mathlib.Omega.{arith}
 use Rattle.lagmodel.specs.World.{Event}
+use Rattle.distributor.specs.declared.assignment.Assignment.{Assignment}
 use Rattle.lagworld.proofs.OneSystem.{told_moves, fixed_kept, quietly, histories_kept, keeping_call, flows_kept}
 use Rattle.lagsystem.specs.declared.drive.Reply.TheVariants as answer
 use Rattle.lagworld.proofs.Sides.{half_after, kept_at, half_there}
@@ -32,18 +33,15 @@ forced_world s g k j there =
     ∙ ap (λ v. at_side (model_world j).forced s v t) now))
 
 twice : (s : Side) (h i : HalfState) (j : WorldState) → with_half s h (with_half s i j) ≡ with_half s h j
-twice One h i j = refl
-twice Two h i j = refl
+twice s h i j = grind arith
 
 -- a refusal changes nothing
 pub refused_same : (agg : AggId) (conv : ℕ) (what : Result Assignment SystemFault) (fault : SystemFault) (old new : SystemState)
     → GivesOrRefuses agg conv what old (Err fault) new → new ≡ old
-refused_same agg conv (Ok state) fault old new h = absurd (let e = h.0 in cc)
-refused_same agg conv (Err other) fault old new h = h.1
+refused_same agg conv what fault old new h = grind arith
 
 pub with_itself : (s : Side) (j : WorldState) → with_half s (half s j) j ≡ j
-with_itself One j = refl
-with_itself Two j = refl
+with_itself s j = grind arith
 
 pub forced_by : (gives : ℕ → ℕ → ℕ → Type 0) (s : Side) (agg : AggId) (conv : ℕ) (a : Result Unit SystemFault) (mid : HalfState)
     (old : WorldState) → ((done : Unit) → a ≡ Ok done → IsSome (flow_at (half s old).flows agg.0 conv))

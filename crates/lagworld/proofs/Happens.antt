@@ -1,9 +1,10 @@
 -- Each event of a world is an event of the model.
-use Rattle.lagworld.proofs.Common.{Bool, List, None, Some, [], ap, map, refl, slice_get, slice_set, subst, suc, sym, true, ℕ, ◌≡◌, AggId, ModelEvent}
-use Rattle.lagworld.proofs.Common.{Happens, Message, One, Side, Told_senses, Two, at_cable, at_side, with_messages, same_world, Move_conversation}
-use Rattle.lagworld.proofs.Common.{Set_link, Reply, InHalf, with_link_at, HalfMoves, HalfSenses, HalfTicks, item_message, is_whole, messages}
-use Rattle.lagworld.proofs.Common.{model_world, world_setup, HalfState, ItemValue, LinkState, WorldState, change_count_in, cut, element_numbered}
-use Rattle.lagworld.proofs.Common.{half, history_at, joined, port_at, taken_in, with_towards}
+use Rattle.lagworld.proofs.Common.{Bool, List, None, Some, [], ap, map, refl, slice_get, slice_set, suc, true, ℕ, ◌≡◌, AggId, ModelEvent, Happens}
+use Rattle.lagworld.proofs.Common.{Message, One, Side, Two, at_cable, at_side, with_messages, Move_conversation, Set_link, Reply, InHalf}
+use Rattle.lagworld.proofs.Common.{with_link_at, HalfMoves, HalfSenses, HalfTicks, item_message, is_whole, messages, model_world, world_setup}
+use Rattle.lagworld.proofs.Common.{HalfState, ItemValue, LinkState, WorldState, change_count_in, cut, element_numbered, half, history_at, joined}
+use Rattle.lagworld.proofs.Common.{port_at, taken_in, with_towards}
+use native.Mathlib.Omega.{arith}
 use Rattle.lagmodel.specs.World.{Event}
 use Rattle.lagworld.proofs.OneSystem.{told_moves, quietly, ticks_moves, keeping_call, quiet_call}
 use Rattle.lagsystem.specs.declared.drive.Reply.TheVariants as answer
@@ -27,9 +28,7 @@ sense_happens gives s i l r old new there x =
     let m = x.0.1.answers.moves in
     let c = quiet_call gives s (Set_link (port_at s l) l.whole) (answer.SetLink x.0.0) (ModelEvent.Set_link (port_at s l) l.whole) 0
     (half s new) old new x.0.1 x.1 (λ e. cc) refl (told_moves (half s old).state (half s new).state m.2 m.3 m.4) in
-    subst (λ o. Told_senses (world_setup old) s o (is_whole (slice_get old.links i)) (model_world old) (model_world new))
-    (sym (end_is s old.links i l there))
-    (subst (λ o. Told_senses (world_setup old) s (Some (port_at s l)) (is_whole o) (model_world old) (model_world new)) (sym there) c)
+    grind (arith, world_setup, is_whole, slice_get, model_world, end_is, port_at)
 
 pub move_happens : (gives : ℕ → ℕ → ℕ → Type 0) (s : Side) (agg : AggId) (conv p : ℕ) (r : Reply) (old new : WorldState)
     → InHalf s (λ h k. HalfMoves gives agg conv p h r k) old new
@@ -44,8 +43,7 @@ other_line : (i : ℕ) (m : LinkState) (old : WorldState) (whole : ℕ → Bool)
     → ((c : ℕ) → is_whole (element_numbered (slice_set old.links i m) c) ≡ whole c)
     → ((s : Side) (c : ℕ) → messages s (element_numbered (slice_set old.links i m) c) ≡ on_cable s c)
     → model_world (with_link_at i m old) ≡ record (model_world old) { whole = whole; on_cable = on_cable }
-other_line i m old whole on_cable a b = same_world _ _ (λ s. refl) a b (λ s p. refl) (λ s p. refl) (λ s g k. refl) (λ s g k. refl)
-    (λ s g k. refl)
+other_line i m old whole on_cable a b = grind arith
 
 -- Cables that are cut, joined or lose their first item.
 pub cut_happens : (i : ℕ) (l : LinkState) (old : WorldState) → slice_get old.links i ≡ Some l

@@ -1,9 +1,7 @@
 -- Every world on the way of a run is sound, so the headline holds of each.
-use Rattle.lagworld.proofs.Common.{Bool, List, None, [], arith, false, nat_le, refl, subst, sym, true, ℕ, ◌++◌, ◌<◌, ◌∷◌, ◌≡◌, ◌≤◌, nat_tests, Event}
-use Rattle.lagworld.proofs.Common.{cable_named, system_named, Reply, Algorithms, WorldRuns, WorldSteps, cause, first_event_cause, has_cable}
-use Rattle.lagworld.proofs.Common.{has_system, most_events, IsSound, WorldState}
+use Rattle.lagworld.proofs.Common.{Bool, List, None, [], arith, false, refl, subst, sym, true, ℕ, ◌++◌, ◌<◌, ◌∷◌, ◌≡◌, ◌≤◌, nat_tests, Event, Reply}
+use Rattle.lagworld.proofs.Common.{Algorithms, WorldRuns, WorldSteps, cause, first_event_cause, most_events, IsSound, WorldState}
 use Rattle.lagworld.specs.Headline.{Headline, HoldsAllTheWay, LimitsHoldOnTheWay}
-use Rattle.lagworld.proofs.Effects.{named}
 use Rattle.lagworld.proofs.Keeping.{steps_sound}
 use Rattle.lagworld.proofs.Running.{one_partner_of, agree_of, in_order_of}
 
@@ -11,18 +9,10 @@ use Rattle.lagworld.proofs.Running.{one_partner_of, agree_of, in_order_of}
 no_cause : (a b c : Bool) → a ≡ true → b ≡ true → c ≡ false → first_event_cause a b c ≡ None
 no_cause a b c h k l = rw (h, k, l) refl
 
--- there is room for one more event
-room_of : (b : Bool) (a : ℕ) → nat_le most_events a ≡ b → a < most_events → b ≡ false
-room_of false a e l = refl
-room_of true a e l = absurd (let k = e in let m = l in grind (arith, nat_tests))
-
 -- an event that acted was accepted
 pub accepted : (gives : Algorithms) (e : Event) (r : Reply) (old new : WorldState) → WorldSteps gives old e r new
     → new.acted ≤ most_events → cause old e ≡ None
-accepted gives e r old new x few =
-    let n = named gives e r old (record new { acted = old.acted }) x.0 in
-    no_cause (has_cable old (cable_named e)) (has_system (system_named e)) (nat_le most_events old.acted) n.0 n.1
-    (room_of (nat_le most_events old.acted) old.acted refl (omega (arith, x.1, few)))
+accepted gives e r old new x few = grind (arith, nat_tests)
 
 -- events only count up
 pub rises : (gives : Algorithms) (es : List Event) (rs : List Reply) (old new : WorldState) → WorldRuns gives old es rs new

@@ -22,6 +22,4 @@ below_at n i f xs ys x l h e r = there i xs l h (r ∙ ap (λ l. get_or l i x) e
 pub view_over_more : {X Y : Type 0} (v : X → Y) (f : Y → Y) (xs ys : List X) (i : ℕ) (x y : X) → i < length xs
     → map v ys ≡ map f (take i (map v xs)) ++ drop i (map v xs) → x ≡ get_or ys i x → v y ≡ f (v x)
     → map v (set ys i y) ≡ map f (take (i + 1) (map v xs)) ++ drop (i + 1) (map v xs)
-view_over_more v f xs ys i x y l h r e =
-    map-set v ys i y ∙ ap (set (map v ys) i) e
-    ∙ map_over_more f (map v xs) (map v ys) i (v x) (rw length-map l) h (ap v r ∙ sym (get_or-map v ys i x))
+view_over_more v f xs ys i x y l h r e = grind (arith, map-set, set, map, map_over_more, length-map, get_or-map)

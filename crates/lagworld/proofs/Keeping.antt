@@ -1,13 +1,13 @@
 -- Each event preserves the invariant of a world.
 use Rattle.lagworld.proofs.Common.{Bool, Err, IsSome, List, None, Ok, Option, Result, Some, [], arith, false, map, nat_le, refl, subst, sym, true, ℕ}
-use Rattle.lagworld.proofs.Common.{◌++◌, ◌+◌, ◌∙◌, ◌∷◌, ◌≡◌, ◌≤◌, nat_tests, AggId, Pdu, IsSlowProtocolsFrame, pdu_in, Happens, IsCabling, One, Run}
-use Rattle.lagworld.proofs.Common.{Side, Two, WorldSetup, first_world, peer, runs_joined, Stamp, Answer, SystemFault, Received, Call, Configure}
-use Rattle.lagworld.proofs.Common.{Offer, Receive, Restart, Transmit, number_of_conversation, Event, Reply, AfterOffer, AfterReceive, AfterTransmit}
-use Rattle.lagworld.proofs.Common.{Algorithms, DoesEvent, InHalf, WorldReceives, WorldSteps, cause, first_event_cause, model_event, most_events}
-use Rattle.lagworld.proofs.Common.{offered_item, stamp_for, stamped_in, transmitted_item, with_frame_counted, with_item_sent, with_link_at}
-use Rattle.lagworld.proofs.Common.{with_stamp_collected, HalfAnswers, forced_if_accepted, payload_in, side_numbered, model_world, world_setup, IsItem}
-use Rattle.lagworld.proofs.Common.{IsReached, IsSound, HalfState, ItemValue, LinkState, WorldState, emptied, flow_at, half, port_at, towards}
-use Rattle.lagworld.proofs.Common.{with_collected, with_forced, with_half, with_links, with_sent}
+use Rattle.lagworld.proofs.Common.{◌++◌, ◌+◌, ◌∙◌, ◌∷◌, ◌≡◌, ◌≤◌, nat_tests, AggId, Pdu, IsSlowProtocolsFrame, pdu_in, Happens, IsCabling, Run, Side}
+use Rattle.lagworld.proofs.Common.{WorldSetup, first_world, peer, runs_joined, Stamp, Answer, SystemFault, Received, Call, Configure, Offer, Receive}
+use Rattle.lagworld.proofs.Common.{Restart, Transmit, number_of_conversation, Event, Reply, AfterOffer, AfterReceive, AfterTransmit, Algorithms}
+use Rattle.lagworld.proofs.Common.{DoesEvent, InHalf, WorldReceives, WorldSteps, cause, first_event_cause, model_event, most_events, offered_item}
+use Rattle.lagworld.proofs.Common.{stamp_for, stamped_in, transmitted_item, with_frame_counted, with_item_sent, with_link_at, with_stamp_collected}
+use Rattle.lagworld.proofs.Common.{HalfAnswers, forced_if_accepted, payload_in, side_numbered, model_world, world_setup, IsItem, IsReached, IsSound}
+use Rattle.lagworld.proofs.Common.{HalfState, ItemValue, LinkState, WorldState, emptied, flow_at, half, port_at, towards, with_collected, with_forced}
+use Rattle.lagworld.proofs.Common.{with_half, with_links, with_sent}
 use Rattle.lagmodel.specs.World.{Event as ModelEvent}
 use Rattle.lagworld.proofs.Effects.{ChangesNoParty, DoesEffect, Effect, HalfAsked, Recording, Shrinks, answer_to_force, asks, changes_counted}
 use Rattle.lagworld.proofs.Effects.{delivers, does_effect, emits, if_forced, no_record, offers, receives, recorded, restarts, nothing, shrinks, ticks}
@@ -30,8 +30,7 @@ asked : (gives : ℕ → ℕ → ℕ → Type 0) (s : Side) (call : Call) (a : _
 asked gives s call a mid j i r c x = follows_half 0 s mid j i (asked_on gives call a (half s j) mid (i.kept s) r c x)
 
 pub control_item : (s : Side) (octets : List ℕ) (v : Pdu) (n : ℕ) (j : WorldState) → IsItem s octets (stamp_for v n) j
-control_item s octets (pdu.Lacpdu v) n j = tt
-control_item s octets (pdu.Marker m) n j = tt
+control_item s octets v n j = grind (arith, nat_tests)
 
 emitted : (s : Side) (p : ℕ) (a : Result (Option (List ℕ)) SystemFault) (j new : WorldState) (r : Reply) → IsShaped j
     → AfterTransmit s p a j r new → Follows 0 j new
@@ -65,8 +64,7 @@ shrunk i l m j h k = follows_set i l m j h k.there k.ends k.ports (λ s. k.items
 
 -- a frame is offered
 pub peer_twice : (s : Side) → peer (peer s) ≡ s
-peer_twice One = refl
-peer_twice Two = refl
+peer_twice s = grind (arith, nat_tests)
 
 offered_on : (gives : ℕ → ℕ → ℕ → Type 0) (s : Side) (agg : AggId) (octets : List ℕ) (a : Result ℕ SystemFault) (j mid new : WorldState)
     (r : Reply) → IsShaped mid → ((port : ℕ) → a ≡ Ok port → IsSlowProtocolsFrame octets → ⊥)
@@ -133,8 +131,7 @@ effect_follows gives e (offers s agg octets) r old new i (n, frame, named, same,
 
 pub does_follow : (gives : Algorithms) (e : Event) (r : Reply) (old new : WorldState) → IsShaped old
     → DoesEvent gives old e r new → Follows 1 old new
-does_follow gives e r old new i x =
-    let v = does_effect gives e r old new x in effect_follows gives e v.0 r old new i v.2
+does_follow gives e r old new i x = grind (arith, nat_tests, does_effect, effect_follows)
 
 pub shaped_of : (j : WorldState) → IsSound j → IsShaped j
 shaped_of j i = record { kept = i.kept; items = i.items; ends = i.ends }
@@ -150,8 +147,7 @@ reached_more e old new f h r =
     )
 
 not_spent : (c s b : Bool) → first_event_cause c s b ≡ None → b ≡ false
-not_spent true true false h = refl
-not_spent c s b h = absurd (let e = h in cc)
+not_spent c s b h = grind (arith, nat_tests)
 
 -- Every event that acts keeps a world sound, and what it has for good.
 pub steps_fixed : (gives : Algorithms) (e : Event) (r : Reply) (old new : WorldState) → IsSound old → WorldSteps gives old e r new

@@ -1,7 +1,7 @@
 -- A world made from a configuration that is accepted is a start.
-use Rattle.lagworld.proofs.Common.{Bool, IsSome, List, None, Option, Some, [], ap, arith, eq-eqb, eqb, eqb-true, false, get_or, if◌then◌else◌, inl}
-use Rattle.lagworld.proofs.Common.{inr, is_some, length, map, not, option_map, refl, replicate, slice_get, subst, suc, sym, take, true, zero, ℕ, ◌&&◌}
-use Rattle.lagworld.proofs.Common.{◌<◌, ◌==◌, ◌||◌, ◌∙◌, ◌∷◌, ◌≡◌, ◌≤◌, and_parts, cases_Bool, not-false, not-true, or_parts, true≢false}
+use Rattle.lagworld.proofs.Common.{Bool, IsSome, List, None, Option, Some, [], ap, arith, eqb, eqb-true, false, get_or, if◌then◌else◌, inl, inr}
+use Rattle.lagworld.proofs.Common.{is_some, length, map, not, option_map, refl, replicate, slice_get, subst, suc, sym, take, true, zero, ℕ, ◌&&◌, ◌<◌}
+use Rattle.lagworld.proofs.Common.{◌==◌, ◌||◌, ◌∙◌, ◌∷◌, ◌≡◌, ◌≤◌, and_parts, cases_Bool, not-false, not-true, or_parts, true≢false}
 use Rattle.lagworld.proofs.Common.{get_or_from_slice_get, none-some, same_Some, slice_get-map, slice_get_within, list_all, Party, same_system}
 use Rattle.lagworld.proofs.Common.{find_number, PortFacts, first_port, first_view, IsCabling, One, Side, Two, end_at, party_at, port_on, mapped_some}
 use Rattle.lagworld.proofs.Common.{Item, configured_party, model_setup, model_view, conversation_count, PortsAgree, SystemState, first_shows}
@@ -15,7 +15,6 @@ use Rattle.lagtypes.specs.declared.identifiers.SystemId.{SystemId}
 use Rattle.lagsystem.specs.declared.config.Config.{Config}
 use Rattle.lagsystem.specs.declared.config.PortConfig.{PortConfig}
 use Rattle.lagsystem.specs.First.{ConfigValue, config_value, configured_number, or_first, refusal, config_refusal as refusal_of_one}
-use Rattle.lagscript.specs.declared.config.BadWorld.TheVariants.{SameSystem, CableEnd, System}
 use Rattle.lagscript.specs.declared.config.WorldConfig.{WorldConfig}
 use Rattle.lagscript.specs.Configs.{bad_end, can_join, first_below, has_bad_end, has_port, world_refusal, refusal_of_all, refusal_of_two, shares_end}
 use Rattle.lagscript.specs.Configs.{system_refusal}
@@ -27,8 +26,7 @@ log_found system [] p = refl
 log_found system (c ∷ cs) p = elim (cases_Bool (eqb p c.number)) [ inl e ↦ rw e refl | inr e ↦ rw e (log_found system cs p) ]
 
 party_back : (o : Option Party) → option_map (λ (a : PortFacts). a.party) (option_map first_port o) ≡ o
-party_back None = refl
-party_back (Some a) = refl
+party_back o = grind arith
 
 -- the party of a port in the first state
 first_party : (s : SystemState) (p : ℕ) → model_view s ≡ first_view (model_setup s)
@@ -47,17 +45,10 @@ item_there (suc n) zero x l = refl
 item_there (suc n) (suc i) x l = item_there n i x (omega arith)
 
 flow_empty : (n m g k : ℕ) (x : FlowValue) → flow_at (first_flows n m) g k ≡ Some x → x ≡ empty_flow
-flow_empty n m zero k x e = absurd (none-some x e)
-flow_empty n m (suc g) k x e = by_row (slice_get (first_flows n m) g) refl e
-  where
-    by_row : (o : Option (List FlowValue)) → slice_get (first_flows n m) g ≡ o → flow_in_aggregator o k ≡ Some x → x ≡ empty_flow
-    by_row None h e = absurd (none-some x e)
-    by_row (Some row) h e = same_item m k empty_flow x (rw (same_item n g (first_aggregator_flows m) row h) at e)
+flow_empty n m g k x e = grind (arith, none-some, slice_get, first_flows, flow_in_aggregator, empty_flow, same_item, first_aggregator_flows)
 
 flow_there : (n m g k : ℕ) → 0 < g → g ≤ n → k < m → IsSome (flow_at (first_flows n m) g k)
-flow_there n m zero k low high small = absurd (omega arith)
-flow_there n m (suc g) k low high small =
-    rw (item_there n g (first_aggregator_flows m) (omega arith), item_there m k empty_flow small) refl
+flow_there n m g k low high small = grind (arith, item_there, first_aggregator_flows, empty_flow)
 
 -- what holds of a system that is made
 logs_named : (config : Config) (h : HalfState) → IsFirstHalf config h → h.histories ≡ first_histories h.state.system h.state.ports
@@ -93,9 +84,7 @@ none_counted system (c ∷ cs) = (omega arith, none_counted system cs)
 
 log_first : (system : SystemId) (o : Option PortConfig) (history : PortHistory) → option_map (first_history system) o ≡ Some history
     → (history.count ≡ 0) × (history.taken ≡ None)
-log_first system o history e =
-    let c = mapped_some (first_history system) o history e in
-    (sym (ap (λ (l : PortHistory). l.count) c.2), sym (ap (λ (l : PortHistory). l.taken) c.2))
+log_first system o history e = grind arith
 
 -- a port of the configuration has a history
 port_found : (ports : List PortConfig) (p : ℕ) → has_port ports p ≡ true → IsSome (find_number configured_number ports p)
@@ -142,8 +131,7 @@ abbrev AreJoined : List PortConfig → List PortConfig → List (ℕ × ℕ) →
 AreJoined first second cables = (i : ℕ) → i < length cables → can_join first second (take i cables) (get_or cables i (0, 0)) ≡ true
 
 first_none : {X : Type 0} (o p : Option X) → or_first o p ≡ None → (o ≡ None) × (p ≡ None)
-first_none None p h = (refl, h)
-first_none (Some x) p h = absurd (none-some x (sym h))
+first_none o p h = grind arith
 
 none_below : (test : ℕ → Bool) (n i : ℕ) → first_below test n ≡ None → i < n → test i ≡ false
 none_below test zero i h l = absurd (omega arith)
@@ -160,8 +148,7 @@ none_below test (suc n) i h l = elim (cases_Bool (eqb i n)) [
     last false h = refl
 
 mapped_none : {X Y : Type 0} (f : X → Y) (o : Option X) → option_map f o ≡ None → o ≡ None
-mapped_none f None h = refl
-mapped_none f (Some x) h = absurd (none-some (f x) (sym h))
+mapped_none f o h = grind arith
 
 are_joined : (first second : List PortConfig) (cables : List (ℕ × ℕ)) → bad_end first second cables ≡ None → AreJoined first second cables
 are_joined first second cables h i l =
@@ -172,28 +159,19 @@ are_joined first second cables h i l =
 two_joined : (a b : ConfigValue) (cables : List (ℕ × ℕ)) → refusal_of_two a b cables ≡ None
     → (refusal a.aggregators a.ports a.max_links a.conversations ≡ None)
     × (refusal b.aggregators b.ports b.max_links b.conversations ≡ None) × AreJoined a.ports b.ports cables
-two_joined a b cables h =
-    let one = first_none (system_refusal 1 a) _ h in
-    let two = first_none (system_refusal 2 b) _ one.1 in
-    let same = first_none (if same_system a.system b.system then Some SameSystem else None) _ two.1 in (
-      mapped_none (System 1) (refusal a.aggregators a.ports a.max_links a.conversations) one.0,
-      mapped_none (System 2) (refusal b.aggregators b.ports b.max_links b.conversations) two.0,
-      are_joined a.ports b.ports cables (mapped_none CableEnd (bad_end a.ports b.ports cables) same.1),
-    )
+two_joined a b cables h = grind (arith, first_none, system_refusal, same_system, mapped_none, refusal, are_joined, bad_end)
 
 -- a cable that there is can be joined
 joined_at : (first second : List PortConfig) (cables : List (ℕ × ℕ)) (i : ℕ) (c : ℕ × ℕ) → AreJoined first second cables
     → slice_get cables i ≡ Some c → can_join first second (take i cables) c ≡ true
-joined_at first second cables i c h e = subst (λ c. can_join first second (take i cables) c ≡ true)
-    (get_or_from_slice_get cables i c (0, 0) e) (h i (slice_get_within cables i c e))
+joined_at first second cables i c h e = grind (arith, can_join, take, get_or_from_slice_get, slice_get_within)
 
 -- no earlier cable has one of its ends
 not_shared : (cables : List (ℕ × ℕ)) (i k : ℕ) (c d : ℕ × ℕ) → shares_end (take k cables) d ≡ false → i < k → slice_get cables i ≡ Some c
     → ((c.0 == d.0) || (c.1 == d.1)) ≡ false
 not_shared [] i k c d h l e = absurd (none-some c e)
 not_shared (x ∷ xs) i zero c d h l e = absurd (omega arith)
-not_shared (x ∷ xs) zero (suc k) c d h l e = subst (λ (c : ℕ × ℕ). ((c.0 == d.0) || (c.1 == d.1)) ≡ false) (same_Some x c e)
-    (or_parts ((x.0 == d.0) || (x.1 == d.1)) (shares_end (take k xs) d) h).0
+not_shared (x ∷ xs) zero (suc k) c d h l e = grind arith
 not_shared (x ∷ xs) (suc i) (suc k) c d h l e =
     not_shared xs i k c d (or_parts ((x.0 == d.0) || (x.1 == d.1)) (shares_end (take k xs) d) h).1 (omega arith) e
 
@@ -202,8 +180,7 @@ end_of_pair One c = c.0
 end_of_pair Two c = c.1
 
 apart : (s : Side) (c d : ℕ × ℕ) → ((c.0 == d.0) || (c.1 == d.1)) ≡ false → end_of_pair s c ≡ end_of_pair s d → ⊥
-apart One c d h e = true≢false (sym (eq-eqb c.0 d.0 e) ∙ (or_parts (c.0 == d.0) (c.1 == d.1) h).0)
-apart Two c d h e = true≢false (sym (eq-eqb c.1 d.1 e) ∙ (or_parts (c.0 == d.0) (c.1 == d.1) h).1)
+apart s c d h e = grind arith
 
 -- so no port has two cables
 one_cable : (first second : List PortConfig) (cables : List (ℕ × ℕ)) (s : Side) (i k : ℕ) (c d : ℕ × ℕ) → AreJoined first second cables

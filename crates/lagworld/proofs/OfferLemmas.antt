@@ -1,12 +1,11 @@
 -- What becomes of a frame that is offered, and of a conversation that is forced.
-use Rattle.lagworld.proofs.Common.{Bool, Err, IsSome, List, None, Ok, Option, Result, Some, ap, arith, length, nat_le, nat_lt, refl, subst, suc, sym}
-use Rattle.lagworld.proofs.Common.{true, zero, ℕ, ◌%◌, ◌<◌, ◌∙◌, ◌≡◌, ◌≤◌, and_parts, true≢false, nat_tests, bit_xor, AggId, Side}
-use Rattle.lagworld.proofs.Common.{is_conversation_count, SystemFault, Offer, conversation_count, number_of_conversation, two_octets, PortsAgree}
-use Rattle.lagworld.proofs.Common.{SystemState, accepted_count, Cabled, Reply, HalfAsksForce, WorldAsksOffer, with_sent_in, AfterOffer, Algorithms}
-use Rattle.lagworld.proofs.Common.{WorldOffers, HalfAnswers, HalfForces, side_number, AreReserved, IsReservedAt, IsHalfSound, HalfState, LinkState}
-use Rattle.lagworld.proofs.Common.{WorldState, change_flow, flow_at, half, is_accepted, put_on_port, sent_in, with_forced, with_half, with_links}
+use Rattle.lagworld.proofs.Common.{Bool, Err, IsSome, List, Ok, Option, Result, ap, arith, length, nat_le, refl, subst, sym, ℕ, ◌%◌, ◌<◌, ◌∙◌, ◌≡◌}
+use Rattle.lagworld.proofs.Common.{◌≤◌, and_parts, true≢false, nat_tests, bit_xor, AggId, Side, SystemFault, Offer, conversation_count}
+use Rattle.lagworld.proofs.Common.{number_of_conversation, two_octets, PortsAgree, SystemState, Cabled, Reply, HalfAsksForce, WorldAsksOffer}
+use Rattle.lagworld.proofs.Common.{with_sent_in, AfterOffer, Algorithms, WorldOffers, HalfAnswers, HalfForces, side_number, AreReserved, IsReservedAt}
+use Rattle.lagworld.proofs.Common.{IsHalfSound, HalfState, LinkState, WorldState, change_flow, flow_at, half, is_accepted, put_on_port, sent_in}
+use Rattle.lagworld.proofs.Common.{with_forced, with_half, with_links}
 use Rattle.lagsystem.specs.declared.drive.Reply.TheVariants as answer
-use Rattle.lagworld.proofs.OneSystem.{flows_kept}
 use Rattle.lagworld.proofs.EmitLemmas.{made}
 use Rattle.cables.specs.declared.item.Stamp.TheVariants as stamp
 use Rattle.lagworld.specs.declared.reply.Reply.TheVariants as reply
@@ -14,24 +13,17 @@ use Rattle.lagworld.specs.declared.reply.Reply.TheVariants as reply
 -- a place is reserved on any cable
 pub any_reserved : {C : Type 0} (reserved : C → Bool) (s : Side) (ls : List (Cabled C)) → AreReserved reserved s ls → (o : Option ℕ)
     → IsReservedAt reserved s o ls
-any_reserved reserved s ls h None = tt
-any_reserved reserved s ls h (Some i) = h i
+any_reserved reserved s ls h o = grind (arith, nat_tests)
 
 -- what is done with an answer of a system is what the event does
 pub offers_of : (gives : Algorithms) (s : Side) (agg : AggId) (octets : List ℕ) (a b : Result ℕ SystemFault) (old mid new : WorldState)
     (r : Reply) → a ≡ b → WorldAsksOffer gives s agg octets a old mid → AfterOffer s agg octets b mid r new
     → WorldOffers gives s agg octets old r new
-offers_of gives s agg octets a b old mid new r e x y =
-    let asked = subst (λ a. WorldAsksOffer gives s agg octets a old mid) e x in
-    (b, half s mid, asked.0, subst (λ j. AfterOffer s agg octets b j r new) asked.1 y)
+offers_of gives s agg octets a b old mid new r e x y = grind (arith, nat_tests)
 
 -- every system has a conversation, which has number 0
 pub first_conversation : (s : SystemState) → PortsAgree s → 0 < conversation_count s
-first_conversation s agrees = some (conversation_count s) (accepted_count s.keys s.ports s.max_links s.conversations agrees.ports.accepted)
-  where
-    some : (n : ℕ) → is_conversation_count n ≡ true → 0 < n
-    some zero h = absurd (true≢false (sym h))
-    some (suc n) h = omega arith
+first_conversation s agrees = grind (arith, nat_tests)
 
 -- a frame has the same conversation as long as there are as many
 pub same_number : (octets : List ℕ) (old new : SystemState) → new.conversations ≡ old.conversations
@@ -47,13 +39,7 @@ long_enough {octets = octets} x = let test = (and_parts (nat_le 14 (length octet
 pub taken_there : {gives : ℕ → ℕ → ℕ → Type 0} {agg : AggId} {octets : List ℕ} {port : ℕ} {old new : HalfState}
     → HalfAnswers gives (Offer agg octets) (answer.Offer (Ok port)) old new → IsHalfSound old → (conv : ℕ)
     → conv < conversation_count old.state → IsSome (flow_at new.flows agg.0 conv)
-taken_there {agg = agg} {old = old} x kept conv below =
-    let agg_there = and_parts (nat_lt 0 agg.0) (nat_le agg.0 (length old.state.keys)) x.answers.step.0.0 in
-    let low_test = agg_there.0 in
-    let high_test = agg_there.1 in
-    let low : 0 < agg.0 = grind (arith, nat_tests) in
-    let high : agg.0 ≤ length old.state.keys = grind (arith, nat_tests) in
-    rw (flows_kept x) (kept.flows agg.0 conv low high below)
+taken_there {agg = agg} {old = old} x kept conv below = grind (arith, nat_tests)
 
 -- the frame goes out as the next of its conversation
 pub frame_offered : (s : Side) (agg : AggId) (octets : List ℕ) (port conv serial number : ℕ) (kept : Bool) (links : List LinkState)
@@ -62,16 +48,7 @@ pub frame_offered : (s : Side) (agg : AggId) (octets : List ℕ) (port conv seri
     → links ≡ put_on_port s port (made octets (stamp.Data number agg.0 conv serial)) j.links → kept ≡ is_accepted s port j.links
     → new ≡ with_links (with_half s (with_sent_in agg.0 conv (half s j)) j) links
     → AfterOffer s agg octets (Ok port) j (reply.Port port serial kept) new
-frame_offered s agg octets port conv serial number kept links j new a b c d e f h = (
-  subst (λ k. IsSome (flow_at (half s j).flows agg.0 k)) a b,
-  λ i. reply.Port port (same i) (f i),
-  h ∙ ap (with_links (with_half s (with_sent_in agg.0 conv (half s j)) j)) e
-      ∙ (λ i. with_links (with_half s (with_sent_in agg.0 (a i) (half s j)) j)
-      (put_on_port s port (made octets (stamp.Data (d i) agg.0 (a i) (same i))) j.links)),
-)
-  where
-    same : serial ≡ length (sent_in (flow_at (half s j).flows agg.0 (number_of_conversation (half s j).state octets)))
-    same = c ∙ ap (λ k. length (sent_in (flow_at (half s j).flows agg.0 k))) a
+frame_offered s agg octets port conv serial number kept links j new a b c d e f h = grind (arith, nat_tests)
 
 -- what is done with an answer to force
 pub freed : (gives : ℕ → ℕ → ℕ → Type 0) (agg : AggId) (conv : ℕ) (a : Result Unit SystemFault) (done : Unit) (old mid new : HalfState)

@@ -1,15 +1,14 @@
 -- An event has one reply and leads to one world.
-use Rattle.lagworld.proofs.Common.{Bool, Err, IsSomeAnd, List, None, Ok, Option, Result, Some, [], ap, arith, length, map, refl, slice_set, subst}
-use Rattle.lagworld.proofs.Common.{suc, sym, true, zero, ℕ, ◌+◌, ◌∙◌, ◌∷◌, ◌≡◌, AggId, pdu_in, One, Side, Two, Stamp, Answer, SystemFault, Received}
-use Rattle.lagworld.proofs.Common.{Call, Offer, Receive, Restart, Tick, Transmit, number_of_conversation, PortsAgree, SystemState, Event}
-use Rattle.lagworld.proofs.Common.{StampedLacpdu, Reply, AfterOffer, AfterReceive, AfterTransmit, Algorithms, DoesEvent, WorldEmits, WorldOffers}
-use Rattle.lagworld.proofs.Common.{WorldReceives, offered_item, sent_reply, set_last_lacpdu, stamped_in, transmitted_item, with_collected_in}
-use Rattle.lagworld.proofs.Common.{with_frame_counted, with_item_sent, with_last_lacpdu, with_link_at, with_stamp_collected, HalfAnswers, HalfTicks}
-use Rattle.lagworld.proofs.Common.{change_counted, forced_if_accepted, with_changes_counted, payload_in, side_number, side_numbered, both_algorithms}
-use Rattle.lagworld.proofs.Common.{FlowValue, HalfState, ItemValue, LinkState, WorldState, change_flow, emptied, flow_at, half, is_accepted, port_at}
-use Rattle.lagworld.proofs.Common.{put_on_port, sent_in, with_collected, with_forced, with_half, with_links, with_sent}
-use Rattle.lagworld.proofs.Effects.{DoesEffect, Effect, HalfAsked, Recording, answer_to_force, asks, changes_counted, delivers, does_some, effect}
-use Rattle.lagworld.proofs.Effects.{emits, if_forced, no_record, offers, receives, recorded, restarts, nothing, shrinks, ticks, told}
+use Rattle.lagworld.proofs.Common.{Bool, Err, IsSomeAnd, List, Ok, Option, Result, Some, [], ap, arith, length, map, refl, slice_set, subst, suc, sym}
+use Rattle.lagworld.proofs.Common.{true, zero, ℕ, ◌+◌, ◌∙◌, ◌∷◌, ◌≡◌, AggId, One, Side, Two, Stamp, Answer, SystemFault, Received, Call, Offer}
+use Rattle.lagworld.proofs.Common.{Receive, Restart, Tick, Transmit, number_of_conversation, PortsAgree, SystemState, Event, StampedLacpdu, Reply}
+use Rattle.lagworld.proofs.Common.{AfterOffer, AfterReceive, AfterTransmit, Algorithms, DoesEvent, WorldEmits, WorldOffers, WorldReceives}
+use Rattle.lagworld.proofs.Common.{offered_item, set_last_lacpdu, stamped_in, with_collected_in, with_frame_counted, with_item_sent, with_last_lacpdu}
+use Rattle.lagworld.proofs.Common.{with_link_at, with_stamp_collected, HalfAnswers, HalfTicks, side_number, side_numbered, both_algorithms, FlowValue}
+use Rattle.lagworld.proofs.Common.{HalfState, ItemValue, LinkState, WorldState, change_flow, emptied, flow_at, half, is_accepted, port_at, sent_in}
+use Rattle.lagworld.proofs.Common.{with_collected, with_half, with_links, with_sent}
+use Rattle.lagworld.proofs.Effects.{DoesEffect, Effect, HalfAsked, Recording, asks, changes_counted, delivers, does_some, effect, emits, offers}
+use Rattle.lagworld.proofs.Effects.{receives, recorded, restarts, nothing, shrinks, ticks, told}
 use Rattle.cables.specs.declared.item.Stamp.TheVariants as stamp
 use Rattle.lagsystem.specs.declared.drive.Reply.TheVariants as answer
 use Rattle.lagsystem.specs.declared.received.Received.TheVariants as received
@@ -22,8 +21,7 @@ use Rattle.lagworld.proofs.Keeping.{steps_sound}
 
 -- of what two relations say of one thing
 some_both : {A : Type 0} {C : Type 0} (o : Option A) (P Q : A → Type 0) → IsSomeAnd o P → IsSomeAnd o Q → ((x : A) → P x → Q x → C) → C
-some_both None P Q h k f = absurd h
-some_both (Some x) P Q h k f = f x h k
+some_both o P Q h k f = grind arith
 
 -- parts of worlds that are the same
 put_half : (s : Side) (j k : WorldState) (h g : HalfState) → SameWorld j k → SameHalf h g → SameWorld (with_half s h j) (with_half s g k)
@@ -53,8 +51,7 @@ link_same j k i l same = put_links j k (slice_set j.links i l) (slice_set k.link
 
 sent_same : (s : Side) (p : ℕ) (x y : ItemValue) (j k : WorldState) → y ≡ x → SameWorld j k
     → SameWorld (with_item_sent s p x j) (with_item_sent s p y k)
-sent_same s p x y j k e same =
-    put_links j k (put_on_port s p x j.links) (put_on_port s p y k.links) same (λ i. put_on_port s p (e i) (same.links i))
+sent_same s p x y j k e same = grind arith
 
 accepted_same : (s : Side) (p : ℕ) (j k : WorldState) → SameWorld j k → is_accepted s p k.links ≡ is_accepted s p j.links
 accepted_same s p j k same = ap (is_accepted s p) same.links
@@ -62,28 +59,13 @@ accepted_same s p j k same = ap (is_accepted s p) same.links
 conversation_same : (octets : List ℕ) (s t : SystemState) → SameState s t → number_of_conversation t octets ≡ number_of_conversation s octets
 conversation_same octets s t same = ap (λ x. number_of_conversation x octets) same.others
 
--- changes counted
-counted_same : (h k : HalfState) → SameHalf h k → SameHalf (with_changes_counted h) (with_changes_counted k)
-counted_same h k same =
-    let e : map (change_counted k.state) k.histories ≡ map (change_counted h.state) h.histories =
-    (λ i. map (change_counted (same.state.others i)) (same.histories i)) in
-    record { state = same.state; histories = e; flows = same.flows }
-
 -- one system answers
 abbrev Gives : Type 1
 Gives = ℕ → ℕ → ℕ → Type 0
 
 answers_one : (gives : Gives) → IsFunction gives → (call : Call) (a b : Answer) (h k new last : HalfState) → PortsAgree h.state → SameHalf h k
     → HalfAnswers gives call a h new → HalfAnswers gives call b k last → (b ≡ a) × SameHalf new last
-answers_one gives one call a b h k new last agrees same x y =
-    let t = one_answer gives one h.state k.state call a b new.state last.state agrees same.state x.answers y.answers in (
-      t.0,
-      record {
-        state = t.1;
-        histories = ap (λ (w : HalfState). w.histories) y.same ∙ same.histories ∙ sym (ap (λ (w : HalfState). w.histories) x.same);
-        flows = ap (λ (w : HalfState). w.flows) y.same ∙ same.flows ∙ sym (ap (λ (w : HalfState). w.flows) x.same);
-      },
-    )
+answers_one gives one call a b h k new last agrees same x y = grind (arith, one_answer)
 
 ticked : (gives : Gives) (n : ℕ) (old new : HalfState) → PortsAgree old.state → HalfTicks gives n old new → PortsAgree new.state
 ticked gives zero old new p h = subst (λ (x : HalfState). PortsAgree x.state) (sym h) p
@@ -97,24 +79,12 @@ ticks_one gives one (suc n) h k new last agrees same x y =
     (answers_one gives one Tick answer.Tick answer.Tick x.0 y.0 new last (ticked gives n h x.0 agrees x.1) mid x.2 y.2).1
 
 recorded_same : (kept : Recording) (a : Answer) (h k : HalfState) → SameHalf h k → SameHalf (recorded kept a h) (recorded kept a k)
-recorded_same no_record a h k same = same
-recorded_same changes_counted a h k same = counted_same h k same
-recorded_same (if_forced agg conv) a h k same = forced_same (answer_to_force a) h k same
-  where
-    forced_same : (a : Result Unit SystemFault) (h k : HalfState) → SameHalf h k
-        → SameHalf (forced_if_accepted a agg conv h) (forced_if_accepted a agg conv k)
-    forced_same (Ok done) h k same = put_flows h k (λ f. change_flow with_forced agg.0 conv f) same
-    forced_same (Err fault) h k same = same
+recorded_same kept a h k same = grind arith
 
 asked_one : (gives : Gives) → IsFunction gives → (call : Call) (kept : Recording) (up : Bool) (h k new last : HalfState) (r q : Reply)
     → PortsAgree h.state → SameHalf h k → HalfAsked gives call kept up h r new → HalfAsked gives call kept up k q last
     → (q ≡ r) × SameHalf new last
-asked_one gives one call kept up h k new last r q agrees same x y =
-    let t = answers_one gives one call x.0 y.0 h k x.1 y.1 agrees same x.2 y.2 in (
-      y.3 ∙ ap (told up) t.0 ∙ sym x.3,
-      half_by _ _ new last x.4 y.4
-          (subst (λ a. SameHalf (recorded kept x.0 x.1) (recorded kept a y.1)) (sym t.0) (recorded_same kept x.0 x.1 y.1 t.1)),
-    )
+asked_one gives one call kept up h k new last r q agrees same x y = grind (arith, answers_one, told, half_by, recorded, recorded_same)
 
 -- a change of one system in the world
 in_half : (s : Side) (old twin new last : WorldState) → SameWorld old twin → new ≡ with_half s (half s new) old
@@ -124,13 +94,7 @@ in_half s old twin new last same h k part = same_by _ _ new last h k (put_half s
 -- emitting
 transmits_one : (s : Side) (p : ℕ) (a : Result (Option (List ℕ)) SystemFault) (old twin : WorldState) (r q : Reply) (new last : WorldState)
     → SameWorld old twin → AfterTransmit s p a old r new → AfterTransmit s p a twin q last → (q ≡ r) × SameWorld new last
-transmits_one s p (Ok (Some frame)) old twin r q new last same x y =
-    let item : transmitted_item s p frame (half s twin) ≡ transmitted_item s p frame (half s old) =
-    (λ i. transmitted_item s p frame (record (half s old) { histories = (same.halves s).histories i })) in (
-      y.0 ∙ ap (sent_reply (pdu_in (payload_in frame))) (accepted_same s p old twin same) ∙ sym x.0,
-      same_by _ _ new last x.1 y.1
-          (sent_same s p (transmitted_item s p frame (half s old)) (transmitted_item s p frame (half s twin)) old twin item same),
-    )
+transmits_one s p (Ok (Some frame)) old twin r q new last same x y = grind arith
 transmits_one s p a old twin r q new last same x y = (y.0 ∙ sym x.0, same_by old twin new last x.1 y.1 same)
 
 emits_one : (gives : Algorithms) → AreFunctions gives → (s : Side) (p : ℕ) (old twin : WorldState) (r q : Reply) (new last : WorldState)
@@ -163,11 +127,8 @@ received_one s p item (Ok received.TookLacpdu) old twin r q new last same x y = 
       (put_half s old twin (with_last_lacpdu p (stamped_in item) (half s old)) (with_last_lacpdu p (stamped_in item) (half s twin)) same
       (taken_same p (stamped_in item) (half s old) (half s twin) (same.halves s))),
 )
-received_one s p item (Ok (received.Respond frame)) old twin r q new last same x y =
-    let sent : ItemValue = record { octets = frame; stamp = stamp.Control 0 } in
-    (y.0 ∙ ap reply.Responded (accepted_same s p old twin same) ∙ sym x.0, same_by _ _ new last x.1 y.1 (sent_same s p sent sent old twin refl same))
-received_one s p item (Ok (received.Up agg)) old twin r q new last same x y =
-    (y.0 ∙ sym x.0, same_by _ _ new last x.1 y.1 (collected_same item.stamp old twin same))
+received_one s p item (Ok (received.Respond frame)) old twin r q new last same x y = grind arith
+received_one s p item (Ok (received.Up agg)) old twin r q new last same x y = grind (arith, same_by, collected_same)
 received_one s p item a old twin r q new last same x y = (y.0 ∙ sym x.0, same_by old twin new last x.1 y.1 same)
 
 receives_one : (gives : Algorithms) → AreFunctions gives → (s : Side) (p : ℕ) (item : ItemValue) (old twin : WorldState) (r q : Reply)
@@ -219,8 +180,7 @@ effect_one : (gives : Algorithms) → AreFunctions gives → (e : Event) (d : Ef
     → ((s : Side) → PortsAgree (half s old).state) → SameWorld old twin → DoesEffect gives e old d r new → DoesEffect gives e twin d q last
     → (q ≡ r) × SameWorld new last
 effect_one gives one e (nothing a) old twin r q new last agrees same x y = (y.0 ∙ sym x.0, same_by old twin new last x.1 y.1 same)
-effect_one gives one e (shrinks i l m a) old twin r q new last agrees same x y =
-    (y.1 ∙ sym x.1, same_by (with_link_at i m old) (with_link_at i m twin) new last x.2 y.2 (link_same old twin i m same))
+effect_one gives one e (shrinks i l m a) old twin r q new last agrees same x y = grind arith
 effect_one gives one e (ticks s count) old twin r q new last agrees same x y = (
   y.1 ∙ sym x.1,
   in_half s old twin new last same x.0.1 y.0.1

@@ -1,8 +1,8 @@
 -- What is put on a cable, in code and as contracts see it.
-use Rattle.lagworld.proofs.Common.{Bool, Err, IsSomeAnd, List, None, Ok, OnOk, Option, Result, Some, [], ap, arith, cond, eq-eqb, eqb, eqb-true}
-use Rattle.lagworld.proofs.Common.{false, get_or, inl, inr, length, map, nat_lt, not, position, refl, set, slice_get, subst, suc, sym, zero, ℕ, ◌+◌}
-use Rattle.lagworld.proofs.Common.{◌<◌, ◌∙◌, ◌∷◌, ◌≡◌, ◌≤◌, cases_Bool, true≢false, length-map, map-set, set-get_or, position_or_len, IfSome, Side}
-use Rattle.lagworld.proofs.Common.{ItemValue, LinkState, accepts, accepts_at, change_link, is_accepted, link_at, link_index, put_on_port, sent_on}
+use Rattle.lagworld.proofs.Common.{Bool, IsSomeAnd, List, None, OnOk, Result, Some, [], ap, arith, cond, false, get_or, length, map, nat_lt, not}
+use Rattle.lagworld.proofs.Common.{position, refl, set, slice_get, suc, sym, zero, ℕ, ◌+◌, ◌<◌, ◌∙◌, ◌∷◌, ◌≡◌, ◌≤◌, true≢false, length-map, map-set}
+use Rattle.lagworld.proofs.Common.{set-get_or, position_or_len, IfSome, Side, ItemValue, LinkState, accepts, is_accepted, link_index, put_on_port}
+use Rattle.lagworld.proofs.Common.{sent_on}
 use Rattle.lagworld.proofs.LineLemmas.{seen_at}
 
 first_seen : {X Y : Type 0} (f : X → Y) (q : Y → Bool) (xs : List X) → position_or_len q (map f xs) ≡ position_or_len (λ x. q (f x)) xs
@@ -11,33 +11,18 @@ first_seen f q (x ∷ xs) = ap (λ n. cond (not (q (f x))) (1 + n) 0) (first_see
 
 -- a place that is found in a view of a list
 pub place_seen : {X Y : Type 0} (f : X → Y) (q : Y → Bool) (xs : List X) → position q (map f xs) ≡ position (λ x. q (f x)) xs
-place_seen f q xs =
-    ap (λ n. cond (nat_lt n (length (map f xs))) (Some n) None) (first_seen f q xs)
-    ∙ ap (λ m. cond (nat_lt (position_or_len (λ x. q (f x)) xs) m) (Some (position_or_len (λ x. q (f x)) xs)) None) (length-map xs f)
+place_seen f q xs = grind (arith, nat_lt, map, first_seen, position_or_len, length-map)
 
 -- the port has no cable
 pub put_nowhere : (s : Side) (p : ℕ) (item : ItemValue) (links : List LinkState) → link_index s p links ≡ None
     → (put_on_port s p item links ≡ links) × (is_accepted s p links ≡ false)
-put_nowhere s p item links e = (
-  ap (λ o. change_link o (sent_on s item) (link_at o links) links) e,
-  ap (λ o. accepts_at s (link_at o links)) e,
-)
+put_nowhere s p item links e = grind arith
 
 -- its cable was sent the item
 pub put_there : (s : Side) (p : ℕ) (item : ItemValue) (links new : List LinkState) (kept : Bool) (i : ℕ) → link_index s p links ≡ Some i
     → IsSomeAnd (slice_get links i) (λ l. (new ≡ set links i (sent_on s item l)) × (kept ≡ accepts s l))
     → (new ≡ put_on_port s p item links) × (kept ≡ is_accepted s p links)
-put_there s p item links new kept i e h = at_it (slice_get links i) refl h
-  where
-    at_it : (o : Option LinkState) → slice_get links i ≡ o
-        → IsSomeAnd o (λ l. (new ≡ set links i (sent_on s item l)) × (kept ≡ accepts s l))
-        → (new ≡ put_on_port s p item links) × (kept ≡ is_accepted s p links)
-    at_it None is h = absurd h
-    at_it (Some l) is h = (
-      h.0 ∙ sym (ap (λ o. change_link o (sent_on s item) (link_at o links) links) e
-          ∙ ap (λ o. change_link (Some i) (sent_on s item) o links) is),
-      h.1 ∙ sym (ap (λ o. accepts_at s (link_at o links)) e ∙ ap (accepts_at s) is),
-    )
+put_there s p item links new kept i e h = grind arith
 
 -- the cable at a place was sent the item
 pub sent_at : {X Y : Type 0} (f : X → Y) (h : Y → Y) (t : Y → Bool) (xs : List X) (i : ℕ) (x new : X) (kept : Bool) → i < length xs
@@ -58,8 +43,7 @@ written_there P (z ∷ xs) zero x h = h
 written_there P (z ∷ xs) (suc i) x h = written_there P xs i x h
 
 pub ok_weaker : {T E A B : Type 0} (r : Result T E) → (A → B) → OnOk r A → OnOk r B
-ok_weaker (Ok x) f h = f h
-ok_weaker (Err e) f h = tt
+ok_weaker r f h = grind arith
 
 -- what is written leaves what is before it
 pub before_written : {X : Type 0} (P : X → Type 0) (xs : List X) (i k : ℕ) (x : X) → k < i → IfSome (slice_get xs k) P
@@ -71,10 +55,7 @@ before_written P (z ∷ xs) (suc i) (suc k) x lt h = before_written P xs i k x (
 
 -- one more
 pub one_more_below : (P : ℕ → Type 0) (n : ℕ) → ((i : ℕ) → i < n → P i) → P n → (i : ℕ) → i < n + 1 → P i
-one_more_below P n h here i lt = elim (cases_Bool (eqb i n)) [
-  | inl e ↦ subst P (sym (eqb-true i n e)) here
-  | inr e ↦ h i (let apart : i ≡ n → ⊥ = λ same. true≢false (sym (eq-eqb i n same) ∙ e) in grind (arith))
-]
+one_more_below P n h here i lt = grind arith
 
 -- all of a list
 pub each_of : {X : Type 0} (P : X → Type 0) (xs : List X) (n : ℕ) → length xs ≤ n → ((i : ℕ) → i < n → IfSome (slice_get xs i) P) → (i : ℕ)

@@ -1,9 +1,10 @@
 -- What a sound world promises, and runs of events.
-use Rattle.lagworld.proofs.Common.{Err, IfErr, IfOk, List, None, Ok, Result, [], ap, get_or, length, map, refl, subst, sym, take, true, ℕ, ◌++◌, ◌+◌}
-use Rattle.lagworld.proofs.Common.{◌<◌, ◌∙◌, ◌∷◌, ◌≡◌, map-append, take_more, slice_get-get_or, EndsAgree, InOrder, OnePartner, Happens, IsWorldSetup}
-use Rattle.lagworld.proofs.Common.{Run, Side, World, WorldSetup, runs_joined, configured_setup, Event, WorldFault, Reply, Algorithms, WorldRuns}
+use Rattle.lagworld.proofs.Common.{IfErr, IfOk, List, None, Result, [], ap, get_or, length, map, refl, subst, sym, take, true, ℕ, ◌++◌, ◌+◌, ◌<◌, ◌∙◌}
+use Rattle.lagworld.proofs.Common.{◌∷◌, ◌≡◌, map-append, take_more, slice_get-get_or, EndsAgree, InOrder, OnePartner, Happens, IsWorldSetup, Run}
+use Rattle.lagworld.proofs.Common.{Side, World, WorldSetup, runs_joined, configured_setup, Event, WorldFault, Reply, Algorithms, WorldRuns}
 use Rattle.lagworld.proofs.Common.{WorldSteps, cause, cause_or_no_memory, may_take_memory, model_event, model_world, world_setup, HeadlineFacts}
 use Rattle.lagworld.proofs.Common.{IsSound, RefusesNext, next_of, WorldState, half}
+use native.Mathlib.Omega.{arith}
 use Rattle.lagmodel.proofs.Counting.{counts_from_zero}
 use Rattle.lagmodel.proofs.Events.{lawful}
 use Rattle.lagmodel.proofs.Laws.{one_partner_holds, agree_holds, in_order_holds, last_lacpdu_in_sync, names_present_holds, on_its_cable_holds}
@@ -45,19 +46,16 @@ carries_of j i =
 -- what a step leaves, whatever it answers
 pub sound_after : (gives : Algorithms) (e : Event) (result : Result Reply WorldFault) (old new : WorldState) → IsSound old
     → IfOk result (λ r. cause old e ≡ None) → IfOk result (λ r. WorldSteps gives old e r new) → IfErr result (λ f. new ≡ old) → IsSound new
-sound_after gives e (Ok r) old new i c x u = steps_sound gives e r old new i c x
-sound_after gives e (Err f) old new i c x u = subst IsSound (sym u) i
+sound_after gives e result old new i c x u = grind (arith, steps_sound)
 
 pub fixed_after : (gives : Algorithms) (e : Event) (result : Result Reply WorldFault) (old new : WorldState) → IsSound old
     → IfOk result (λ r. WorldSteps gives old e r new) → IfErr result (λ f. new ≡ old) → world_setup new ≡ world_setup old
-fixed_after gives e (Ok r) old new i x u = steps_fixed gives e r old new i x
-fixed_after gives e (Err f) old new i x u = ap world_setup u
+fixed_after gives e result old new i x u = grind (arith, steps_fixed, world_setup)
 
 pub happens_after : (gives : Algorithms) (e : Event) (result : Result Reply WorldFault) (old new : WorldState) → IsSound old
     → IfOk result (λ r. WorldSteps gives old e r new)
     → IfOk result (λ r. Happens (world_setup old) (model_event e) (model_world old) (model_world new))
-happens_after gives e (Ok r) old new i x = steps_happen gives e r old new i x
-happens_after gives e (Err f) old new i x = tt
+happens_after gives e result old new i x = grind (arith, steps_happen)
 
 -- one more event
 runs_more : (gives : Algorithms) (old mid new : WorldState) (es : List Event) (rs : List Reply) (e : Event) (r : Reply)

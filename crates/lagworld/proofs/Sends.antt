@@ -2,15 +2,14 @@
 use Rattle.lagworld.proofs.Common.{Err, IsSome, List, Ok, Option, Result, Some, [], ap, length, option_map, refl, subst, sym, ℕ, ◌++◌, ◌∙◌, ◌∷◌, ◌≡◌}
 use Rattle.lagworld.proofs.Common.{AggId, Pdu, pdu_in, pdu_read, written_pdu, Sends, Sends_frame, Message_pdu, ModelEvent, CallHappens, Control, Data}
 use Rattle.lagworld.proofs.Common.{Happens, IsCabling, One, Side, Two, end_at, peer, put_in, stamp_of, Answer, SystemFault, Call, Offer, Transmit}
-use Rattle.lagworld.proofs.Common.{IsSent, control_message, marker_message, number_of_conversation, sent_payload, Reply, AfterOffer, AfterTransmit}
-use Rattle.lagworld.proofs.Common.{WorldEmits, WorldOffers, offered_item, stamp_for, transmitted_item, with_frame_counted, with_item_sent}
-use Rattle.lagworld.proofs.Common.{HalfAnswers, with_state, item_message, message_in, payload_in, model_taken, model_world, world_setup, HalfState}
-use Rattle.lagworld.proofs.Common.{ItemValue, WorldState, change_count_in, change_flow, collected_in, flow_at, forced_in, half, history_at}
-use Rattle.lagworld.proofs.Common.{is_accepted, put_on_port, sent_in, taken_in, with_half, with_sent}
+use Rattle.lagworld.proofs.Common.{IsSent, control_message, number_of_conversation, sent_payload, Reply, AfterOffer, AfterTransmit, WorldEmits}
+use Rattle.lagworld.proofs.Common.{WorldOffers, offered_item, stamp_for, transmitted_item, with_frame_counted, with_item_sent, HalfAnswers}
+use Rattle.lagworld.proofs.Common.{with_state, item_message, message_in, payload_in, model_taken, model_world, world_setup, HalfState, ItemValue}
+use Rattle.lagworld.proofs.Common.{WorldState, change_count_in, change_flow, collected_in, flow_at, forced_in, half, history_at, is_accepted}
+use Rattle.lagworld.proofs.Common.{put_on_port, sent_in, taken_in, with_half, with_sent}
+use native.Mathlib.Omega.{arith}
 use Rattle.lagmodel.specs.World.{Event}
 use Rattle.lagworld.proofs.OneSystem.{told_moves, Leaves, after_call, keeping_call, quiet_call, flows_kept, history_kept}
-use Rattle.slowpdu.specs.declared.pdu.Marker.{Marker}
-use Rattle.slowpdu.specs.declared.pdu.MarkerKind.{MarkerKind}
 use Rattle.slowpdu.specs.declared.pdu.MarkerKind.TheVariants as kind
 use Rattle.slowpdu.specs.declared.pdu.Pdu.TheVariants as pdu
 use Rattle.lagsystem.specs.declared.drive.Reply.TheVariants as answer
@@ -23,16 +22,10 @@ use Rattle.lagworld.proofs.OfferLemmas.{same_number}
 pub sent_read : (frame : List ℕ) (v : Pdu) → IsSent frame v → pdu_in (payload_in frame) ≡ v
 sent_read frame v h = pdu_read (payload_in frame) v (written_pdu (payload_in frame) v (sent_payload frame v h))
 
-no_stamp : (k : MarkerKind) (m : Marker) (n : ℕ) → stamp_of (marker_message k m) n ≡ 0
-no_stamp kind.Information m n = refl
-no_stamp kind.Response m n = refl
-
 -- the message that goes onto the cable
 pub stamped : (octets : List ℕ) (v : Pdu) (n : ℕ) → pdu_in (payload_in octets) ≡ v
     → message_in octets (stamp_for v n) ≡ Control (control_message v) (stamp_of (control_message v) n)
-stamped octets (pdu.Lacpdu v) n e = ap (λ v. Control (control_message v) n) e
-stamped octets (pdu.Marker m) n e = ap (λ v. Control (control_message v) 0) e
-    ∙ ap (Control (control_message (pdu.Marker m))) (sym (no_stamp m.kind m n))
+stamped octets v n e = grind arith
 
 -- what a PDU that is sent leaves, where the system alone changed
 pub sends_beside : (s : Side) (p : ℕ) (pdu : Message_pdu) (item : ItemValue) (count : ℕ) (h : HalfState) (j : WorldState)

@@ -12,8 +12,7 @@ mapped_more f xs ys new i d y l h e n =
 -- one more of the same kind
 pub filled : {X Y : Type 0} (f : X → Y) (xs new : List X) (x : X) (y : Y) (n : ℕ) → map f xs ≡ replicate n y → f x ≡ y → new ≡ xs ++ x ∷ []
     → map f new ≡ replicate (n + 1) y
-filled f xs new x y n h e s = ap (map f) s ∙ map-append f xs (x ∷ []) ∙ ap (λ ys. ys ++ f x ∷ []) h
-    ∙ ap (λ y'. replicate n y ++ y' ∷ []) e ∙ replicate_more n y
+filled f xs new x y n h e s = grind (arith, map, map-append, replicate, replicate_more)
 
 -- a list of two items that came off one after another
 pub two_of : {X : Type 0} (xs ys zs : List X) (a b : X) → length xs ≡ 2 → xs ≡ a ∷ ys → ys ≡ b ∷ zs → xs ≡ a ∷ b ∷ []

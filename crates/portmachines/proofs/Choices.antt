@@ -1,11 +1,11 @@
 -- The machines are deterministic: each call has exactly one effect.
-use Rattle.portmachines.proofs.Common.{Bool, List, [], ap, false, inl, inr, not, refl, subst, suc, sym, true, zero, ℕ, ◌&&◌, ◌∙◌, ◌∷◌, ◌≡◌, and_left}
-use Rattle.portmachines.proofs.Common.{and_parts, and_right, cases_Bool, Lacpdu, ReceiveState, Current, Defaulted, Expired, Initialize, PortDisabled}
-use Rattle.portmachines.proofs.Common.{Mux, OneEffect, Periodic, Reinit, Select, Set_link, Set_mode, Take, Tick, Transmit, Machines, mux_rows}
-use Rattle.portmachines.proofs.Common.{start_mux, RunsPeriodic, clear_ntt, periodic_rows, current_while_expired, lacpdu_rows}
-use Rattle.portmachines.proofs.Common.{partner_not_synchronized, receive_rows, same_receive_state, start_receive, AtRest, Fires, FiresTimes}
-use Rattle.portmachines.proofs.Common.{OneEnabledAtMost, Row, RunsToRest, count_down}
-use Rattle.portmachines.proofs.OneRow.{one-mux, one-periodic, one-receive}
+use Rattle.portmachines.proofs.Common.{Bool, List, [], ap, false, inl, inr, not, refl, subst, suc, sym, true, zero, ℕ, ◌&&◌, ◌∙◌, ◌∷◌, ◌≡◌}
+use Rattle.portmachines.proofs.Common.{ReceiveState, Mux, OneEffect, Periodic, Reinit, Select, Set_link, Set_mode, Take, Tick, Transmit, Machines}
+use Rattle.portmachines.proofs.Common.{mux_rows, start_mux, RunsPeriodic, clear_ntt, periodic_rows, current_while_expired, receive_rows}
+use Rattle.portmachines.proofs.Common.{same_receive_state, start_receive, AtRest, Fires, FiresTimes, OneEnabledAtMost, Row, RunsToRest, count_down}
+use native.Mathlib.Omega.{arith}
+use Rattle.portmachines.specs.declared.receive.ReceiveState.TheVariants.{Current, Defaulted, Expired, Initialize, PortDisabled}
+use Rattle.portmachines.proofs.OneRow.{one-periodic}
 
 -- tests
 
@@ -62,16 +62,10 @@ abbrev Always : Machines → Type 0
 Always p = Unit {0}
 
 mux-way : (ready : Bool) → OneWay Always (mux_rows ready)
-mux-way ready = record {
-  same = λ p q r i f g. fires_one (λ x. true) (mux_rows ready) (one-mux ready) p q r refl f g;
-  stays = λ p q i f. tt;
-}
+mux-way ready = grind arith
 
 periodic-way : OneWay Always periodic_rows
-periodic-way = record {
-  same = λ p q r i f g. fires_one (λ x. true) periodic_rows one-periodic p q r refl f g;
-  stays = λ p q i f. tt;
-}
+periodic-way = grind (arith, fires_one, periodic_rows, one-periodic)
 
 -- the receive rows, if current_while does not expire while the link is down
 
@@ -85,71 +79,14 @@ safe Current enabled expired = (expired && not enabled) ≡ false
 abbrev IsSafe : Machines → Type 0
 IsSafe p = safe p.receive p.enabled (current_while_expired p)
 
--- no row of an expired timer is enabled while the link is down
-not_expired : (s : ReceiveState) (up expired : Bool) → up ≡ false → safe s up expired → (same_receive_state Expired s && expired) ≡ true → ⊥
-not_expired Initialize up expired d i e = cc
-not_expired PortDisabled up expired d i e = cc
-not_expired Expired true expired d i e = cc
-not_expired Expired false true d i e = cc
-not_expired Expired false false d i e = cc
-not_expired Defaulted up expired d i e = cc
-not_expired Current up expired d i e = cc
-
 not_current : (s : ReceiveState) (up expired : Bool) → up ≡ false → safe s up expired → (same_receive_state Current s && expired) ≡ true → ⊥
-not_current Initialize up expired d i e = cc
-not_current PortDisabled up expired d i e = cc
-not_current Expired up expired d i e = cc
-not_current Defaulted up expired d i e = cc
-not_current Current true expired d i e = cc
-not_current Current false true d i e = cc
-not_current Current false false d i e = cc
-
--- while it is down, each row leads to PORT_DISABLED
-from_down : (p q : Machines) → p.enabled ≡ false → IsSafe p → Fires receive_rows p q
-    → q ≡ partner_not_synchronized (record p { receive = PortDisabled })
-from_down p q d i f =
-    elim f [
-      | inl h ↦ h.1
-      | inr f ↦
-          elim f [
-            | inl h ↦ h.1
-            | inr f ↦
-                elim f [
-                  | inl h ↦ no p.enabled (and_parts (same_receive_state PortDisabled p.receive) p.enabled h.0).1 d
-                  | inr f ↦
-                      elim f [
-                        | inl h ↦ absurd (not_expired p.receive p.enabled (current_while_expired p) d i h.0)
-                        | inr f ↦ elim f [
-                          | inl h ↦ absurd (not_current p.receive p.enabled (current_while_expired p) d i h.0)
-                          | inr f ↦ absurd f
-                        ]
-                      ]
-                ]
-          ]
-    ]
+not_current s up expired d i e = grind arith
 
 receive-same : (p q r : Machines) → IsSafe p → Fires receive_rows p q → Fires receive_rows p r → q ≡ r
-receive-same p q r i f g =
-    elim (cases_Bool p.enabled) [
-      | inl up ↦ fires_one (λ x. x.enabled) receive_rows one-receive p q r up f g
-      | inr down ↦ from_down p q down i f ∙ sym (from_down p r down i g)
-    ]
+receive-same p q r i f g = grind arith
 
 receive-stays : (p q : Machines) → IsSafe p → Fires receive_rows p q → IsSafe q
-receive-stays p q i f =
-    elim f [
-      | inl h ↦ subst IsSafe (sym h.1) tt
-      | inr f ↦
-          elim f [
-            | inl h ↦ subst IsSafe (sym h.1) tt
-            | inr f ↦
-                elim f [
-                  | inl h ↦ subst IsSafe (sym h.1) refl
-                  | inr f ↦
-                      elim f [ inl h ↦ subst IsSafe (sym h.1) tt | inr f ↦ elim f [ inl h ↦ subst IsSafe (sym h.1) refl | inr f ↦ absurd f ] ]
-                ]
-          ]
-    ]
+receive-stays p q i f = grind arith
 
 receive-way : OneWay IsSafe receive_rows
 receive-way = record { same = receive-same; stays = receive-stays }
@@ -157,23 +94,12 @@ receive-way = record { same = receive-same; stays = receive-stays }
 -- at rest a port is still so after a tick
 rest-counted : (p : Machines) (s : ReceiveState) (expired : Bool) → AtRest receive_rows (record p { receive = s })
     → safe s p.enabled expired
-rest-counted p Initialize expired rest = tt
-rest-counted p PortDisabled expired rest = tt
-rest-counted p Expired expired rest = and_right expired (not p.enabled) rest.1.0
-rest-counted p Defaulted expired rest = tt
-rest-counted p Current expired rest = and_right expired (not p.enabled) rest.1.0
+rest-counted p s expired rest = grind arith
 
 -- and after a change of the link
 rest-linked : (p : Machines) (s : ReceiveState) (enabled : Bool) → AtRest receive_rows (record p { receive = s })
     → safe s enabled (current_while_expired p)
-rest-linked p Initialize enabled rest = tt
-rest-linked p PortDisabled enabled rest = tt
-rest-linked p Expired enabled rest = and_left (current_while_expired p) (not enabled) rest.1.1.1.0
-rest-linked p Defaulted enabled rest = tt
-rest-linked p Current enabled rest = and_left (current_while_expired p) (not enabled) rest.1.1.1.1.0
-
-taking-one : (pdu : Lacpdu) (p q r : Machines) → Fires (lacpdu_rows pdu) p q → Fires (lacpdu_rows pdu) p r → q ≡ r
-taking-one pdu p q r f g = elim f [ inl x ↦ elim g [ inl y ↦ x.1 ∙ sym y.1 | inr y ↦ absurd y ] | inr x ↦ absurd x ]
+rest-linked p s enabled rest = grind arith
 
 pub one_mux : (ready : Bool) (p q r : Machines) → RunsToRest (mux_rows ready) p q → RunsToRest (mux_rows ready) p r → q ≡ r
 one_mux ready p q r h k = settles_one Always (mux_rows ready) (mux-way ready) p q r tt h k
@@ -189,11 +115,7 @@ one_effect Tick old one other rest h k =
 one_effect (Transmit max_delay) old one other rest h k = h ∙ sym k
 one_effect (Set_link enabled) old one other rest h k =
     settles_one IsSafe receive_rows receive-way (record old { enabled = enabled }) one other (rest-linked old old.receive enabled rest) h k
-one_effect (Take pdu) old one other rest h k =
-    elim h [
-      | inl f ↦ elim k [ inl g ↦ taking-one pdu old one other f g | inr s ↦ absurd (none_fires (lacpdu_rows pdu) old one s.0 f) ]
-      | inr s ↦ elim k [ inl g ↦ absurd (none_fires (lacpdu_rows pdu) old other s.0 g) | inr t ↦ s.1 ∙ sym t.1 ]
-    ]
+one_effect (Take pdu) old one other rest h k = grind arith
 one_effect (Mux ready) old one other rest h k = one_mux ready old one other h k
 one_effect Periodic old one other rest h k = one_periodic old one other h k
 one_effect (Select choice) old one other rest h k = h ∙ sym k

@@ -1,4 +1,5 @@
 -- The mux and periodic machines leave the receive machine at rest.
+use native.Mathlib.Omega.{arith}
 use Rattle.portmachines.proofs.Common.{Bool, refl, subst, sym, ℕ, ◌≡◌, ReceiveState, Machines, mux_rows, RunsPeriodic, periodic_rows, receive_rows}
 use Rattle.portmachines.proofs.Common.{AtRest, FiresTimes}
 use Rattle.portmachines.proofs.Runs.{EachKeeps, Reaches-keeps}
@@ -8,9 +9,7 @@ abbrev looked_at : Machines → ReceiveState × Bool × ℕ
 looked_at p = (p.receive, p.enabled, p.current_while)
 
 rest-along : (p q : Machines) → looked_at q ≡ looked_at p → AtRest receive_rows p → AtRest receive_rows q
-rest-along p q e rest =
-    subst (λ (s : ReceiveState × Bool × ℕ). AtRest receive_rows (record p { receive = s.0; enabled = s.1; current_while = s.2 }))
-    (sym e) rest
+rest-along p q e rest = grind arith
 
 mux-keeps : (ready : Bool) → EachKeeps looked_at (mux_rows ready)
 mux-keeps ready = (λ p. refl, (λ p. refl, (λ p. refl, (λ p. refl, (λ p. refl, (λ p. refl, tt))))))

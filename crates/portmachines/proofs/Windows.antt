@@ -1,13 +1,14 @@
 -- Any eleven consecutive ticks hold at most three LACPDUs.
-use Rattle.portmachines.proofs.Common.{Bool, List, [], ap, append-nil, append_assoc, arith, cond, false, if◌then◌else◌, inl, inr, length, nat_le}
-use Rattle.portmachines.proofs.Common.{nat_lt, refl, subst, suc, sym, true, zero, ℕ, ◌&&◌, ◌++◌, ◌+◌, ◌-◌, ◌<◌, ◌∙◌, ◌∷◌, ◌≡◌, ◌≤◌, and_parts, le-leb}
-use Rattle.portmachines.proofs.Common.{leb-true, lt-leb, ltb-false, ltb-true, Lacpdu, Mux, Periodic, PortCall, Reinit, Select, Set_link, Set_mode}
-use Rattle.portmachines.proofs.Common.{Take, Tick, Transmit, Machines, mux_rows, RunsPeriodic, periodic_rows, lacpdu_rows, receive_rows}
-use Rattle.portmachines.proofs.Common.{start_receive, FiresIfEnabled, RunsToRest, after_sending, aged, count_down, is_due}
+use Rattle.portmachines.proofs.Common.{Bool, List, [], ap, append-nil, append_assoc, arith, cond, false, if◌then◌else◌, length, nat_le, nat_lt, refl}
+use Rattle.portmachines.proofs.Common.{subst, suc, sym, true, zero, ℕ, ◌&&◌, ◌++◌, ◌+◌, ◌-◌, ◌<◌, ◌∙◌, ◌∷◌, ◌≡◌, ◌≤◌, and_parts, le-leb, leb-true}
+use Rattle.portmachines.proofs.Common.{lt-leb, ltb-true, Mux, Periodic, PortCall, Reinit, Select, Set_link, Set_mode, Take, Tick, Transmit, Machines}
+use Rattle.portmachines.proofs.Common.{mux_rows, RunsPeriodic, periodic_rows, lacpdu_rows, receive_rows, start_receive, FiresIfEnabled, RunsToRest}
+use Rattle.portmachines.proofs.Common.{after_sending, aged, count_down, is_due}
+use Rattle.slowpdu.specs.declared.pdu.Lacpdu.{Lacpdu}
 use Rattle.std.specs.List.{AllByRecursion}
 use Rattle.std.proofs.lemmas.Bool.Decides.{nat_tests}
 use Rattle.portmachines.specs.Start.{Starts}
-use Rattle.portmachines.proofs.Runs.{EachKeeps, Fires-keeps, Reaches-keeps}
+use Rattle.portmachines.proofs.Runs.{EachKeeps, Reaches-keeps}
 use Rattle.portmachines.specs.Window.{SendsAtTicks, sent_before, within_eleven, count_passing, KeepsWindow, WindowLaw}
 
 -- rows leave the ages as they are
@@ -27,9 +28,6 @@ mux-same ready = (λ p. refl, (λ p. refl, (λ p. refl, (λ p. refl, (λ p. refl
 periodic-same : EachKeeps ages_of periodic_rows
 periodic-same = (λ p. refl, (λ p. refl, (λ p. refl, (λ p. refl, (λ p. refl, (λ p. refl, (λ p. refl, tt)))))))
 
-taking-same : (pdu : Lacpdu) → EachKeeps ages_of (lacpdu_rows pdu)
-taking-same pdu = (λ p. refl, tt)
-
 -- counts
 
 count-last : (p : ℕ → Bool) (xs : List ℕ) (x : ℕ) → count_passing p (xs ++ x ∷ []) ≡ count_passing p xs + cond (p x) 1 0
@@ -40,10 +38,7 @@ abbrev bit : Bool → ℕ
 bit b = cond b 1 0
 
 bit-weaker : (b c : Bool) → (b ≡ true → c ≡ true) → cond b 1 0 ≤ cond c 1 0
-bit-weaker true true h = omega arith
-bit-weaker true false h = let e : false ≡ true = h refl in cc
-bit-weaker false true h = omega arith
-bit-weaker false false h = omega arith
+bit-weaker b c h = grind (arith, nat_tests)
 
 -- if each element that passes the one test passes the other
 count-weaker : (p q : ℕ → Bool) (xs : List ℕ) → AllByRecursion (λ x. p x ≡ true → q x ≡ true) xs → count_passing p xs ≤ count_passing q xs
@@ -54,18 +49,11 @@ count-length : (p : ℕ → Bool) (xs : List ℕ) → count_passing p xs ≤ len
 count-length p [] = omega arith
 count-length p (x ∷ xs) = omega (arith, count-length p xs, bit-weaker (p x) true (λ _. refl))
 
-le_suc : (a k : ℕ) → nat_le (a + 1) (k + 1) ≡ nat_le a k
-le_suc a k = grind (arith, nat_tests)
-
 -- the ages that are at most k + 1 after the tick were at most k before it
 aged-one : (k a : ℕ) (rest : List ℕ) (b : Bool) → k + 1 ≤ 10 → nat_lt (a + 1) 11 ≡ b
     → count_passing (λ x. nat_le x (k + 1)) (cond b ((a + 1) ∷ rest) rest) ≡ cond (nat_le a k) 1 0 + count_passing
     (λ x. nat_le x (k + 1)) rest
-aged-one k a rest true h e = ap (λ b. cond b 1 0 + count_passing (λ x. nat_le x (k + 1)) rest) (le_suc a k)
-aged-one k a rest false h e =
-    let old = ltb-false (a + 1) 11 e in
-    let no : nat_le a k ≡ false = lt-leb a k (omega (arith, old)) in
-    rw no (omega arith)
+aged-one k a rest b h e = grind (arith, nat_tests)
 
 count-aged : (k : ℕ) (ages : List ℕ) → k + 1 ≤ 10 → count_passing (λ a. nat_le a (k + 1)) (aged ages) ≡ count_passing (λ a. nat_le a k) ages
 count-aged k [] h = refl
@@ -123,32 +111,10 @@ sent-window now ages ticks few i first true e =
 sent-window now ages ticks few i first false e = omega (arith, i.window first)
 
 Inv-send : (now : ℕ) (ages ticks : List ℕ) → length ages < 3 → Inv now ages ticks → Inv now (ages ++ 0 ∷ []) (ticks ++ now ∷ [])
-Inv-send now ages ticks few i = record {
-  past = all-last (λ s. s ≤ now) ticks now i.past (omega arith);
-  recent = λ k h.
-      omega (
-        arith,
-        count-last (λ s. nat_le now (s + k)) ticks now,
-        count-last (λ a. nat_le a k) ages 0,
-        i.recent k h,
-        ap bit (le-leb now (now + k) (omega arith)),
-        ap bit (le-leb 0 k (omega arith)),
-      );
-  window = λ first.
-      omega (arith, count-last (λ s. nat_le first s && nat_lt s (first + 11)) ticks now, sent-window now ages ticks few i first _ refl);
-}
-
--- a step that keeps the ages
-Inv-same : (now : ℕ) (p q : Machines) (ticks : List ℕ) → q.ages ≡ p.ages → Inv now p.ages ticks → Inv now q.ages ticks
-Inv-same now p q ticks e i = subst (λ ages. Inv now ages ticks) (sym e) i
+Inv-send now ages ticks few i = grind (arith, nat_tests, all-last, count-last, nat_le, bit, le-leb, nat_lt, sent-window)
 
 pub taking-ages : (pdu : Lacpdu) (p q : Machines) → FiresIfEnabled (lacpdu_rows pdu) p q → q.ages ≡ p.ages
-taking-ages pdu p q h =
-    elim h [
-      | inl fired ↦ Fires-keeps ages_of (lacpdu_rows pdu) (taking-same pdu) p q fired
-      | inr rest ↦
-          ap (λ (x : Machines). x.ages) rest.1
-    ]
+taking-ages pdu p q h = grind (arith, nat_tests)
 
 pub periodic-ages : (p q : Machines) → RunsPeriodic p q → q.ages ≡ p.ages
 periodic-ages p q h =
@@ -168,14 +134,11 @@ transmit-window now calls old mid before ticks rest true due go i e run t =
     let next : Inv now mid.ages (before ++ now ∷ []) = subst (λ (p : Machines). Inv now p.ages (before ++ now ∷ [])) (sym e)
     (Inv-send now old.ages before few i) in
     subst KeepsWindow (append_assoc before (now ∷ []) rest ∙ ap (λ xs. before ++ xs) (sym t)) (go (before ++ now ∷ []) rest next run)
-transmit-window now calls old mid before ticks rest false due go i e run t =
-    subst KeepsWindow (ap (λ xs. before ++ xs) (sym t))
-    (go before rest (Inv-same now old mid before (ap (λ (x : Machines). x.ages) e) i) run)
+transmit-window now calls old mid before ticks rest false due go i e run t = grind (arith, nat_tests)
 
 quiet-window : (now : ℕ) (calls : List PortCall) (old mid : Machines) (before ticks rest : List ℕ) → Continues now calls mid
     → mid.ages ≡ old.ages → Inv now old.ages before → SendsAtTicks now calls mid rest → ticks ≡ rest → KeepsWindow (before ++ ticks)
-quiet-window now calls old mid before ticks rest go e i run t =
-    subst KeepsWindow (ap (λ xs. before ++ xs) (sym t)) (go before rest (Inv-same now old mid before e i) run)
+quiet-window now calls old mid before ticks rest go e i run t = grind (arith, nat_tests)
 
 run-window : (now : ℕ) (calls : List PortCall) (old : Machines) (before ticks : List ℕ) → Inv now old.ages before
     → SendsAtTicks now calls old ticks → KeepsWindow (before ++ ticks)
@@ -227,16 +190,4 @@ length-before now (a ∷ more) = omega (arith, length-before now more)
 
 -- any eleven consecutive ticks hold at most three sends
 pub window_law : WindowLaw
-window_law now calls old ticks kept few h =
-    run-window now calls old (sent_before now old.ages) ticks
-    (record {
-      past = past-before now old.ages;
-      recent = λ k _. recent-before now k old.ages kept;
-      window = λ first. omega (
-        arith,
-        count-length (λ s. nat_le first s && nat_lt s (first + 11)) (sent_before now old.ages),
-        length-before now old.ages,
-        few,
-      );
-    })
-    h
+window_law now calls old ticks kept few h = grind (arith, nat_tests, run-window, sent_before, past-before, recent-before, count-length, nat_le, nat_lt, length-before)

@@ -2,19 +2,18 @@
 pub use Rattle.std.proofs.Common.{All, Bool, IsSomeAnd, IsTrue, List, None, Option, Some, [], ap, arith, cond, drop, false, filter, find, get_or}
 pub use Rattle.std.proofs.Common.{if◌then◌else◌, inl, inr, length, map, nat_lt, not, option_map, refl, rules, slice_get, slice_index, subst, suc, sym}
 pub use Rattle.std.proofs.Common.{take, take_all, true, zero, ℕ, ◌&&◌, ◌+◌, ◌-◌, ◌<◌, ◌==◌, ◌||◌, ◌↔◌, ◌∙◌, ◌∷◌, ◌≡◌, ◌≢◌, ◌≤◌, ◌⊎◌}
-pub use Rattle.std.proofs.lemmas.Bool.{and_from, and_parts, not-true, or_left, or_parts, or_right}
-pub use Rattle.std.proofs.lemmas.Bool.Decides.{Decides-eqb, nat_tests}
+pub use Rattle.std.proofs.lemmas.Bool.{and_from, and_parts, not-true, or_parts}
+pub use Rattle.std.proofs.lemmas.Bool.Decides.{nat_tests}
 pub use Rattle.std.proofs.lemmas.List.{get_or-map, get_or-replicate, length-take-le}
 pub use Rattle.std.specs.List.{AllByRecursion, AllPairs, IsAllAdjacentAnswer, enumerate_from, list_all, list_any}
-pub use Rattle.std.specs.Ordering.{is_lt, ordering_then}
+pub use Rattle.std.specs.Ordering.{is_lt}
 pub use Rattle.std.specs.Prelude.{IfSome, slice_index_or}
 pub use Rattle.lagtypes.specs.declared.identifiers.AggId.{AggId}
-pub use Rattle.lagtypes.specs.declared.party.Choice.{Choice}
-pub use Rattle.lagtypes.specs.declared.party.Choice.TheVariants.{Selected, Standby, Unselected}
+pub use Rattle.lagtypes.specs.declared.party.Choice.TheVariants.{Standby, Unselected}
 pub use Rattle.lagtypes.specs.Group.{SamePair, end_of, group_of, individual}
 pub use Rattle.lagtypes.specs.Order.{end_cmp, port_cmp}
 pub use Rattle.lagtypes.specs.Same.{same_group, same_system}
-pub use Rattle.lagtypes.proofs.SameLemmas.{exact_group, exact_key, exact_system, group-itself, itself, system-itself}
+pub use Rattle.lagtypes.proofs.SameLemmas.{exact_group, exact_system, group-itself, itself, system-itself}
 pub use Rattle.selection.specs.declared.standings.Standing.TheVariants.{Empty, Joinable, Taken}
 pub use Rattle.selection.specs.declared.view.PortView.{PortView}
 pub use Rattle.selection.specs.Choice.{aggregator_of_entry, chosen_for_view, chosen_if_eligible, has_group_of, has_no_occupant, has_occupant, lowest}

@@ -1,7 +1,8 @@
 -- The Boolean tests in the definitions mean equality.
-use Rattle.selection.proofs.Common.{Bool, IsTrue, false, if◌then◌else◌, refl, subst, true, ◌||◌, ◌↔◌, ◌≡◌, and_from, or_left, or_right, is_lt}
-use Rattle.selection.proofs.Common.{SamePair, end_of, group_of, individual, end_cmp, same_group, same_system, exact_group, exact_system, group-itself}
-use Rattle.selection.proofs.Common.{itself, system-itself, PortView, has_group_of, ends, has_side}
+use Rattle.selection.proofs.Common.{Bool, IsTrue, false, if◌then◌else◌, refl, subst, true, ◌||◌, ◌↔◌, ◌≡◌, and_from, is_lt, SamePair, end_of}
+use Rattle.selection.proofs.Common.{group_of, individual, end_cmp, same_group, same_system, exact_group, exact_system, group-itself, itself}
+use Rattle.selection.proofs.Common.{system-itself, PortView, has_group_of, ends, has_side}
+use native.Mathlib.Omega.{arith}
 use Rattle.lagtypes.specs.declared.identifiers.SystemId.{SystemId}
 use Rattle.lagtypes.specs.declared.group.End.{End}
 use Rattle.lagtypes.specs.declared.group.Group.{Group}
@@ -34,8 +35,7 @@ side-itself : (alone : Bool) (p : Party) → has_side (end_of alone p) p ≡ tru
 side-itself alone p = and_from _ _ (itself p.key.0) (system-itself p.system)
 
 ordered-has : (swapped : Bool) (e f : End) (p : Party) → has_side f p ≡ true → is_side (ordered swapped e f) p ≡ true
-ordered-has true e f p h = or_left (has_side f p) (has_side e p) h
-ordered-has false e f p h = or_right (has_side e p) (has_side f p) h
+ordered-has swapped e f p h = grind arith
 
 partner-kept : (a b : Party) → is_side (group_of a b) b ≡ true
 partner-kept a b =

@@ -1,11 +1,10 @@
 -- The choice of a port leads to an aggregator that it may join.
-use Rattle.selection.proofs.Common.{All, Bool, IsSomeAnd, List, None, Option, Some, [], ap, arith, cond, false, find, if◌then◌else◌, inl, inr, not}
+use Rattle.selection.proofs.Common.{All, Bool, IsSomeAnd, List, None, Option, Some, [], arith, cond, false, find, if◌then◌else◌, inl, inr, not}
 use Rattle.selection.proofs.Common.{option_map, refl, slice_get, subst, suc, sym, true, zero, ℕ, ◌&&◌, ◌+◌, ◌-◌, ◌==◌, ◌∙◌, ◌∷◌, ◌≡◌, ◌≢◌, ◌⊎◌}
-use Rattle.selection.proofs.Common.{and_parts, not-true, or_parts, AllByRecursion, enumerate_from, list_all, IfSome, AggId, Choice, Selected, Standby}
-use Rattle.selection.proofs.Common.{Unselected, SamePair, individual, same_system, exact_key, itself, system-itself, PortView, aggregator_of_entry}
-use Rattle.selection.proofs.Common.{chosen_for_view, chosen_if_eligible, has_group_of, has_no_occupant, has_occupant, lowest_from, occupants}
-use Rattle.selection.proofs.Common.{occupants_share_group, or_else, HasNoOccupant, IsOccupant, MayJoin, OccupantsShareGroup, ends, is_detached}
-use Rattle.selection.proofs.Common.{is_eligible, occupies}
+use Rattle.selection.proofs.Common.{and_parts, not-true, or_parts, AllByRecursion, enumerate_from, list_all, IfSome, AggId, Unselected, SamePair}
+use Rattle.selection.proofs.Common.{individual, same_system, itself, system-itself, PortView, aggregator_of_entry, chosen_for_view}
+use Rattle.selection.proofs.Common.{chosen_if_eligible, has_group_of, has_no_occupant, has_occupant, lowest_from, occupants, occupants_share_group}
+use Rattle.selection.proofs.Common.{or_else, HasNoOccupant, IsOccupant, MayJoin, OccupantsShareGroup, ends, is_detached, is_eligible, occupies}
 use Rattle.lagtypes.specs.declared.identifiers.Key.{Key}
 use Rattle.selection.proofs.Equal.{group-test}
 use Rattle.lagtypes.specs.Choices.{is_unselected}
@@ -23,8 +22,7 @@ all-from_each P (w ∷ ws) h zero d within = h.0
 all-from_each P (w ∷ ws) h (suc k) d within = all-from_each P ws h.1 k d (omega arith)
 
 not_both : (b : Bool) → b ≡ true → b ≡ false → ⊥
-not_both true h k = cc
-not_both false h k = cc
+not_both b h k = grind arith
 
 none_occupies : (agg : AggId) (views : List PortView) → has_occupant views agg ≡ false → AllByRecursion (λ w. IsOccupant agg w → ⊥) views
 none_occupies agg [] h = tt
@@ -36,8 +34,7 @@ none_occupies agg (w ∷ ws) h = (
 -- what all that are kept pass, the first passes if it is kept
 kept_passes : (test : PortView → Bool) (b : Bool) (w : PortView) (rest : List PortView) → list_all test (cond b (w ∷ rest) rest) ≡ true
     → (b ≡ true → test w ≡ true) × (list_all test rest ≡ true)
-kept_passes test true w rest h = (λ _. (and_parts (test w) (list_all test rest) h).0, (and_parts (test w) (list_all test rest) h).1)
-kept_passes test false w rest h = (λ k. absurd cc, h)
+kept_passes test b w rest h = grind arith
 
 occupants_share : (agg : AggId) (v : PortView) (views : List PortView) → list_all (has_group_of v) (occupants agg views) ≡ true
     → AllByRecursion (λ w. IsOccupant agg w → SamePair (ends w) (ends v)) views
@@ -61,15 +58,7 @@ here : (first : ℕ) (k key : Key) (keys : List Key) (test : AggId → Bool) (ag
     → (option_map aggregator_of_entry rest ≡ Some agg → Found (first + 1) keys key test agg)
     → (b t : Bool) → (k.0 == key.0) ≡ b → test (aggregator_of_entry (first, k)) ≡ t
     → option_map aggregator_of_entry (cond (b && t) (Some (first, k)) rest) ≡ Some agg → Found first (k ∷ keys) key test agg
-here first k key keys test agg rest later true true same passed e =
-    let is : aggregator_of_entry (first, k) ≡ agg = cc in
-    record {
-      place = 0;
-      counted = omega (arith, ap (λ (a : AggId). a.0) is);
-      has_key = ap Some (exact_key k key same);
-      passes =
-          subst (λ a. test a ≡ true) is passed;
-    }
+here first k key keys test agg rest later true true same passed e = grind arith
 here first k key keys test agg rest later true false same passed e =
     let found = later e in record {
       place = suc found.place;
@@ -96,39 +85,18 @@ lowest-found first (k ∷ ks) key test agg e =
 
 -- eligible
 
-is-unselected : (choice : Choice) → is_unselected choice ≡ true → choice ≡ Unselected
-is-unselected Unselected h = refl
-is-unselected (Selected given) h = absurd cc
-is-unselected (Standby given) h = absurd cc
-
 eligible-apart : (v : PortView) → is_eligible v ≡ true → v.partner.system ≢ v.party.system
-eligible-apart v h e =
-    let differs = (and_parts (((v.enabled && v.settled) && is_detached v.stage) && is_unselected v.choice)
-    (not (same_system v.partner.system v.party.system)) h).1 in
-    not_both (same_system v.partner.system v.party.system)
-    (subst (λ s. same_system v.partner.system s ≡ true) e (system-itself v.partner.system))
-    (not-true (same_system v.partner.system v.party.system) differs)
+eligible-apart v h e = grind (arith, and_parts, is_detached, is_unselected, not, same_system, not_both, system-itself, not-true)
 
 eligible-outside : (v : PortView) → is_eligible v ≡ true → v.choice ≡ Unselected
-eligible-outside v h =
-    let first = (and_parts (((v.enabled && v.settled) && is_detached v.stage) && is_unselected v.choice)
-    (not (same_system v.partner.system v.party.system)) h).0 in
-    is-unselected v.choice ((and_parts ((v.enabled && v.settled) && is_detached v.stage) (is_unselected v.choice) first).1)
+eligible-outside v h = grind arith
 
 -- the choice
 
 joins-by : (keys : List Key) (views : List PortView) (v : PortView) (agg : AggId) (test : AggId → Bool) → is_eligible v ≡ true
     → Found 1 keys v.party.key test agg
     → (test agg ≡ true → HasNoOccupant views agg ⊎ OccupantsShareGroup views agg v) → MayJoin keys views agg v
-joins-by keys views v agg test ok found others =
-    let place : agg.0 - 1 ≡ found.place = omega (arith, found.counted) in
-    record {
-      outside = eligible-outside v ok;
-      apart = eligible-apart v ok;
-      numbered = omega (arith, found.counted);
-      key = subst (λ i. slice_get keys i ≡ Some v.party.key) (sym place) found.has_key;
-      occupants = others found.passes;
-    }
+joins-by keys views v agg test ok found others = grind (arith, eligible-outside, eligible-apart, slice_get, occupants)
 
 shared-occupants : (views : List PortView) (v : PortView) (agg : AggId) → occupants_share_group views v agg ≡ true
     → OccupantsShareGroup views agg v
@@ -155,8 +123,7 @@ chosen keys views v agg ok (Some a) is e =
     (λ t. inr (shared-occupants views v agg t))
 
 pub if-some : (b : Bool) (o : Option AggId) (agg : AggId) → (if b then o else None) ≡ Some agg → (b ≡ true) × (o ≡ Some agg)
-if-some true o agg e = (refl, e)
-if-some false o agg e = absurd cc
+if-some b o agg e = grind arith
 
 -- the port joins what it takes
 pub choice-joins : (keys : List Key) (views : List PortView) (v : PortView) (agg : AggId) → chosen_for_view keys views (Some v) ≡ Some agg

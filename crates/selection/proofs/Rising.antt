@@ -19,9 +19,7 @@ pairs-from_rising : {X : Type 0} (number : X → ℕ) (xs : List X) → IsStrict
     → AllPairs (λ x y. number x < number y) xs
 pairs-from_rising number xs h i j d lt within =
     let all = AllPairs-from_increasing (map number xs) h i j 0 lt (omega (arith, length-counted number xs)) in
-    let at_i = counted-at number xs i d (omega arith) in
-    let at_j = counted-at number xs j d within in
-    omega (arith, all, at_i, at_j)
+    grind (arith, nat_tests, counted-at)
 
 rising-from_pairs : {X : Type 0} (number : X → ℕ) (xs : List X) (d : X) → AllPairs (λ x y. number x < number y) xs
     → IsStrictlyIncreasing (map number xs)
@@ -58,24 +56,16 @@ sorted : (views : List PortView) (d : PortView) → IsAllAdjacentAnswer (λ v w 
 sorted views d h k within =
     let fits : k + 1 < length views = omega (arith, length-numbers views) in
     let test = h k d fits in
-    let at_k = number-at views k d (omega arith) in
-    let at_next = number-at views (k + 1) d fits in
-    grind (arith, nat_tests)
+    grind (arith, nat_tests, number-at)
 
 unsorted : (views : List PortView) (d : PortView) → IsAllAdjacentAnswer (λ v w b. b ≡ below v w) views false
     → IsStrictlyIncreasing (numbers views) → ⊥
 unsorted views d h up =
     let fits = h.1 in
     let test = h.2 d in
-    let rises = up h.0 (omega (arith, length-numbers views)) in
-    let at_k = number-at views h.0 d (omega arith) in
-    let at_next = number-at views (h.0 + 1) d fits in
-    grind (arith, nat_tests)
+    grind (arith, nat_tests, length-numbers, number-at)
 
 -- what `is_sorted_by` says of them
 pub rising-answer : (views : List PortView) (r : Bool) → IsAllAdjacentAnswer (λ v w b. b ≡ below v w) views r → IsTrue r
     ↔ IsStrictlyIncreasing (numbers views)
-rising-answer [] true h = (λ _. λ k within. absurd (omega arith), λ _. refl)
-rising-answer [] false h = absurd (omega (arith, h.1))
-rising-answer (v ∷ vs) true h = (λ _. sorted (v ∷ vs) v h, λ _. refl)
-rising-answer (v ∷ vs) false h = (λ t. cc, λ up. absurd (unsorted (v ∷ vs) v h up))
+rising-answer views r h = grind (arith, nat_tests, sorted, unsorted)

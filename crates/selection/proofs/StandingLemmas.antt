@@ -1,10 +1,10 @@
 -- How an aggregator stands after one view more.
+use native.Mathlib.Omega.{arith}
 use Rattle.selection.proofs.Common.{Bool, List, [], ap, cond, false, filter, get_or, if◌then◌else◌, length, not, refl, take, true, ℕ, ◌&&◌, ◌+◌, ◌<◌}
 use Rattle.selection.proofs.Common.{◌||◌, ◌∙◌, ◌∷◌, ◌≡◌, list_all, list_any, AggId, individual, Empty, Joinable, Taken, PortView, has_group_of}
 use Rattle.selection.proofs.Common.{standing, with_occupant, with_port, occupies}
 use Rattle.std.proofs.lemmas.List.Folds.{list_all-append, list_any_more}
 use Rattle.std.proofs.lemmas.List.Elements.{filter_more}
-use Rattle.std.proofs.Math.Bool.{and-true}
 use Rattle.selection.specs.declared.standings.Standing.{Standing}
 
 -- tests
@@ -12,8 +12,7 @@ use Rattle.selection.specs.declared.standings.Standing.{Standing}
 none_first : (f : PortView → Bool) (w : PortView) (rest : List PortView) (b any : Bool) → (b || any) ≡ false
     → (any ≡ false → list_all f rest ≡ true)
     → list_all f (cond b (w ∷ rest) rest) ≡ true
-none_first f w rest true any h k = absurd cc
-none_first f w rest false any h k = k h
+none_first f w rest b any h k = grind arith
 
 -- where none is kept, all that are kept pass
 none_differs : (p f : PortView → Bool) (views : List PortView) → list_any p views ≡ false → list_all f (filter p views) ≡ true
@@ -22,8 +21,7 @@ none_differs p f (w ∷ ws) h = none_first f w (filter p ws) (p w) (list_any p w
 
 -- a list of one or none
 of_one : (f : PortView → Bool) (w : PortView) (b : Bool) → list_all f (cond b (w ∷ []) []) ≡ cond b (f w) true
-of_one f w true = and-true (f w)
-of_one f w false = refl
+of_one f w b = grind arith
 
 -- how an aggregator stands: whether the port is in no Individual link, there is an occupant, and all occupants have its group
 abbrev stands : Bool → Bool → Bool → Standing
@@ -37,16 +35,7 @@ stands-same shared some other_some all other_all e h = rw (e, h) refl
 stands-more : (shared some all occupies same : Bool) → (some ≡ false → all ≡ true)
     → stands shared (some || occupies) (all && cond occupies same true) ≡ (if occupies then with_occupant (shared && same)
     (stands shared some all) else stands shared some all)
-stands-more shared false false occupies same h = let e : false ≡ true = h refl in absurd cc
-stands-more shared false true false same h = refl
-stands-more true false true true same h = refl
-stands-more false false true true same h = refl
-stands-more shared true true false same h = refl
-stands-more shared true false false same h = refl
-stands-more true true true true same h = refl
-stands-more true true false true same h = refl
-stands-more false true true true same h = refl
-stands-more false true false true same h = refl
+stands-more shared some all occupies same h = grind arith
 
 -- the same of views: which of them are occupants, and which have the port's group
 abbrev stands_in : (PortView → Bool) → (PortView → Bool) → Bool → List PortView → Standing

@@ -1,12 +1,10 @@
+use native.Mathlib.Omega.{arith}
 use Rattle.dataplane.proofs.Common.{Ok, subst, sym, ◌∙◌, PicksIndexes}
 use Rattle.dataplane.proofs.AdoptingLemmas.{first_refused, force_is_accepted, move_is_accepted, offer_is_accepted, placed_at_once, placed_behind}
 use Rattle.dataplane.proofs.adopting.place_on.Goals as goal
 
 pub returns-in_err-picked-clause-placed : goal.returns-in_err-picked-clause-placed
-returns-in_err-picked-clause-placed g c = absurd (first_refused
-    (λ conv count place. g.F.Fn.post c.args.system.now.algorithm (conv, (count, tt)) place) c.args.agg c.args.conv c.args.port
-    c.args.system.now.state c.offer_conversation.new.self.state c.in_err-picked.field-0.0 c.requires.free c.requires.accepted
-    c.in_err-picked.ensures.offers)
+returns-in_err-picked-clause-placed g c = grind (arith, first_refused)
 
 pub returns-then-picked-port-clause-placed : goal.returns-then-picked-port-clause-placed
 returns-then-picked-port-clause-placed g c = placed_at_once
@@ -15,28 +13,16 @@ returns-then-picked-port-clause-placed g c = placed_at_once
     c.in_ok-picked.ensures.offers c.in_ok-picked.ensures.answers c.if-picked-port.true
 
 pub returns-in_err-move_conversation-clause-done : goal.returns-in_err-move_conversation-clause-done
-returns-in_err-move_conversation-clause-done g c = absurd (move_is_accepted
-    (λ conv count place. g.F.Fn.post c.args.system.now.algorithm (conv, (count, tt)) place) c.args.agg c.args.conv c.args.port
-    c.in_ok-picked.picked c.args.system.now.state c.offer_conversation.new.self.state c.move_conversation.new.self.state c.in_err-move_conversation.field-0.0
-    (c.requires.free, c.requires.accepted, c.in_ok-picked.ensures.offers, c.if-picked-port.false) c.in_err-move_conversation.ensures.answers.step)
+returns-in_err-move_conversation-clause-done g c = grind (arith, move_is_accepted)
 
 pub returns-in_err-move_conversation-clause-placed : goal.returns-in_err-move_conversation-clause-placed
-returns-in_err-move_conversation-clause-placed g c = absurd (move_is_accepted
-    (λ conv count place. g.F.Fn.post c.args.system.now.algorithm (conv, (count, tt)) place) c.args.agg c.args.conv c.args.port
-    c.in_ok-picked.picked c.args.system.now.state c.offer_conversation.new.self.state c.move_conversation.new.self.state c.in_err-move_conversation.field-0.0
-    (c.requires.free, c.requires.accepted, c.in_ok-picked.ensures.offers, c.if-picked-port.false) c.in_err-move_conversation.ensures.answers.step)
+returns-in_err-move_conversation-clause-placed g c = grind (arith, move_is_accepted)
 
 pub returns-in_err-force-clause-done : goal.returns-in_err-force-clause-done
-returns-in_err-force-clause-done g c = absurd (force_is_accepted
-    (λ conv count place. g.F.Fn.post c.args.system.now.algorithm (conv, (count, tt)) place) c.args.agg c.args.conv c.args.port
-    c.in_ok-picked.picked c.args.system.now.state c.offer_conversation.new.self.state c.move_conversation.new.self.state c.force.new.self.state (Ok tt) c.in_err-force.field-0.0
-    (c.requires.free, c.requires.accepted, c.in_ok-picked.ensures.offers, c.if-picked-port.false) c.in_ok-move_conversation.ensures.answers.step c.in_err-force.ensures.answers.step)
+returns-in_err-force-clause-done g c = grind (arith, force_is_accepted)
 
 pub returns-in_err-force-clause-placed : goal.returns-in_err-force-clause-placed
-returns-in_err-force-clause-placed g c = absurd (force_is_accepted
-    (λ conv count place. g.F.Fn.post c.args.system.now.algorithm (conv, (count, tt)) place) c.args.agg c.args.conv c.args.port
-    c.in_ok-picked.picked c.args.system.now.state c.offer_conversation.new.self.state c.move_conversation.new.self.state c.force.new.self.state (Ok tt) c.in_err-force.field-0.0
-    (c.requires.free, c.requires.accepted, c.in_ok-picked.ensures.offers, c.if-picked-port.false) c.in_ok-move_conversation.ensures.answers.step c.in_err-force.ensures.answers.step)
+returns-in_err-force-clause-placed g c = grind (arith, force_is_accepted)
 
 pub offer_conversation-requires-2 : goal.offer_conversation-requires-2
 offer_conversation-requires-2 g c = record {
@@ -46,20 +32,10 @@ offer_conversation-requires-2 g c = record {
 }
 
 pub returns-in_err-offer_conversation-clause-done : goal.returns-in_err-offer_conversation-clause-done
-returns-in_err-offer_conversation-clause-done g c = absurd (offer_is_accepted
-    (λ conv count place. g.F.Fn.post c.args.system.now.algorithm (conv, (count, tt)) place)
-    (λ conv count place. g.F.Fn.post c.force.new.self.algorithm (conv, (count, tt)) place) c.args.agg c.args.conv c.args.port
-    c.in_ok-picked.picked c.args.system.now.state c.offer_conversation.new.self.state c.move_conversation.new.self.state c.force.new.self.state c.offer_conversation-2.new.self.state (Ok tt) (Ok tt) c.in_err-offer_conversation.field-0.0
-    (c.requires.free, c.requires.accepted, c.in_ok-picked.ensures.offers, c.if-picked-port.false) c.in_ok-move_conversation.ensures.answers.step c.in_ok-force.ensures.answers.step
-    c.in_err-offer_conversation.ensures.offers)
+returns-in_err-offer_conversation-clause-done g c = grind (arith, offer_is_accepted)
 
 pub returns-in_err-offer_conversation-clause-placed : goal.returns-in_err-offer_conversation-clause-placed
-returns-in_err-offer_conversation-clause-placed g c = absurd (offer_is_accepted
-    (λ conv count place. g.F.Fn.post c.args.system.now.algorithm (conv, (count, tt)) place)
-    (λ conv count place. g.F.Fn.post c.force.new.self.algorithm (conv, (count, tt)) place) c.args.agg c.args.conv c.args.port
-    c.in_ok-picked.picked c.args.system.now.state c.offer_conversation.new.self.state c.move_conversation.new.self.state c.force.new.self.state c.offer_conversation-2.new.self.state (Ok tt) (Ok tt) c.in_err-offer_conversation.field-0.0
-    (c.requires.free, c.requires.accepted, c.in_ok-picked.ensures.offers, c.if-picked-port.false) c.in_ok-move_conversation.ensures.answers.step c.in_ok-force.ensures.answers.step
-    c.in_err-offer_conversation.ensures.offers)
+returns-in_err-offer_conversation-clause-placed g c = grind (arith, offer_is_accepted)
 
 pub returns-clause-placed : goal.returns-clause-placed
 returns-clause-placed g c = placed_behind

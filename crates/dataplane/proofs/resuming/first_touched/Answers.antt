@@ -1,4 +1,5 @@
-use Rattle.dataplane.proofs.Common.{refl, sym, ◌∙◌}
+use native.Mathlib.Omega.{arith}
+use Rattle.dataplane.proofs.Common.{refl, ◌∙◌}
 use Rattle.dataplane.proofs.WarmPorts.{touched_next, touched_none, touched_on}
 use Rattle.dataplane.proofs.resuming.first_touched.Goals as goal
 
@@ -6,16 +7,10 @@ pub loop-config-init : goal.loop-config-init
 loop-config-init g c = refl
 
 pub loop-config-preserved : goal.loop-config-preserved
-loop-config-preserved g c =
-    touched_on c.args.system.now.state c.args.identifier c.args.saved.now c.args.ports.now c.loop-config.config-index
-    c.loop-config-test.true c.loop-config.invariant (sym c.is_left_at.ensures ∙ c.if-not-is_left_at.false)
+loop-config-preserved g c = grind (arith, touched_on)
 
 pub returns-then-not-is_left_at : goal.returns-then-not-is_left_at
-returns-then-not-is_left_at g c =
-    sym (touched_next c.args.system.now.state c.args.identifier c.args.saved.now c.args.ports.now c.loop-config.config-index
-    c.loop-config-test.true c.loop-config.invariant (sym c.is_left_at.ensures ∙ c.if-not-is_left_at.true))
+returns-then-not-is_left_at g c = grind (arith, touched_next)
 
 pub returns : goal.returns
-returns g c =
-    sym (touched_none c.args.system.now.state c.args.identifier c.args.saved.now c.args.ports.now c.loop-config.config-index
-    c.loop-config-test.false c.loop-config.invariant)
+returns g c = grind (arith, touched_none)

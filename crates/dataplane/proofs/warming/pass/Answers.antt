@@ -1,4 +1,4 @@
-use Rattle.dataplane.proofs.Common.{arith, subst, ◌-◌, ◌∙◌, ◌≡◌, Tick, CallPromise, Before, Runs, heard, passing}
+use Rattle.dataplane.proofs.Common.{arith, subst, ◌-◌, ◌∙◌, ◌≡◌, Tick, CallPromise, Before, Runs, heard}
 use Rattle.lagsystem.specs.declared.drive.Reply.TheVariants as reply
 use Rattle.dataplane.proofs.WarmRuns.{passing_on}
 use Rattle.dataplane.proofs.warming.pass.Goals as goal
@@ -27,7 +27,4 @@ loop-passed-preserved g c =
     }
 
 pub returns-clause-run : goal.returns-clause-run
-returns-clause-run g c =
-    let all : c.loop-passed.passed ≡ c.args.ticks = omega (arith, c.loop-passed-test.false, c.loop-passed.auto.passed-end) in
-    subst (λ n. Runs (λ conv count place. g.F.Fn.post c.args.system.now.algorithm (conv, (count, tt)) place) c.args.system.now.state
-    (passing c.args.saved.now c.args.ticks n) c.loop-passed.system.state) all c.loop-passed.invariant.run
+returns-clause-run g c = grind arith

@@ -1,10 +1,6 @@
 use Rattle.lagsystem.proofs.Common.{Bool, List, Option, Some, arith, is_some, option_map, ℕ, ◌&&◌, ◌||◌, ◌≡◌, nat_tests, marker_due, SystemPort}
-use Rattle.lagsystem.proofs.Common.{would_transmit, SendsMarkerOf, TransmitsAt, TransmitsIf, SystemState, system_port_at}
+use Rattle.lagsystem.proofs.Common.{would_transmit, TransmitsAt, TransmitsIf, SystemState, system_port_at}
 use Rattle.lagsystem.proofs.laws.transmit_answers_what_is_due.Goals as goal
-
-marker_sent : (o : Option ℕ) (port : ℕ) (mac : List ℕ) (old new : SystemState) (answer : Option (List ℕ))
-    → SendsMarkerOf o port mac old answer new → is_some o ≡ is_some answer
-marker_sent o port mac old new answer h = grind (arith, nat_tests)
 
 frame_sent : (up due : Bool) (i : ℕ) (system_port : SystemPort) (old new : SystemState) (answer : Option (List ℕ))
     → TransmitsIf up due i system_port old answer new

@@ -1,7 +1,6 @@
-use Rattle.dataplane.proofs.Common.{arith, refl, sym, ◌+◌, ◌∙◌, ◌≤◌, false≢true, aggregator_numbered}
-use Rattle.dataplane.proofs.Searched.{none_more}
+use Rattle.dataplane.proofs.Common.{arith, refl, ◌+◌, ◌∙◌, ◌≤◌, false≢true, aggregator_numbered}
 use Rattle.dataplane.proofs.active.offering.is_elsewhere.Goals as goal
-use Rattle.dataplane.proofs.active.offering.is_elsewhere.Goals.{else-other-agg-via-then-other-agg+else-is_busy, else-other-agg-via-else-other-agg}
+use Rattle.dataplane.proofs.active.offering.is_elsewhere.Goals.{else-other-agg-via-then-other-agg+else-is_busy}
 
 pub returns-then-is_busy : goal.returns-then-is_busy
 returns-then-is_busy g c =
@@ -17,11 +16,7 @@ returns-then-is_busy g c =
     )
 
 pub loop-number-preserved : goal.loop-number-preserved
-loop-number-preserved g c = none_more c.args.system.now.state c.args.agg c.args.conv c.loop-number.number c.loop-number.invariant
-    (λ apart busy. elim c.else-other-agg.branch [
-      | else-other-agg-via-then-other-agg+else-is_busy w ↦ absurd (false≢true (sym w.if-is_busy.false ∙ w.is_busy.ensures.1 busy))
-      | else-other-agg-via-else-other-agg w ↦ absurd (apart w.if-other-agg.false)
-    ])
+loop-number-preserved g c = grind arith
 
 pub returns : goal.returns
 returns g c = (

@@ -1,11 +1,10 @@
-use Rattle.distributor.proofs.Common.{ap, arith, false, nat_lt, refl, sym, ◌+◌, ◌∙◌, mod_below, passes, tested_port}
+use Rattle.distributor.proofs.Common.{ap, arith, false, nat_lt, refl, sym, ◌+◌, ◌∙◌, passes}
 use Rattle.distributor.proofs.FlagLemmas.{some_counted}
-use Rattle.distributor.proofs.WalkLemmas.{counting_begins, counting_ends, counting_on, passes_stands, read_state, stand_next, steps_fewer, walk_below}
+use Rattle.distributor.proofs.WalkLemmas.{counting_begins, counting_ends, counting_on, read_state, stand_next, steps_fewer, walk_below}
 use Rattle.distributor.proofs.slots.Slots.any_in_chain.Goals as goal
 
 pub loop-at-init : goal.loop-at-init
-loop-at-init c = counting_begins c.requires.chained _ _ _ (mod_below (tested_port c.args.test) 64 (omega arith))
-    (ap (λ x. c.args.self.now.count + x) c.chain.ensures.chain) c.index-at.ensures (passes c.args.test) (passes_stands c.args.test)
+loop-at-init c = grind (arith, counting_begins)
 
 pub index-requires : goal.index-requires
 index-requires c =

@@ -1,6 +1,6 @@
 use Rattle.distributor.proofs.Common.{Bool, ap, arith, refl, sym, true, ◌||◌, ◌∙◌, ◌≡◌, or_left, Assignment, assignment_port, is_flagged, is_flushing}
 use Rattle.distributor.proofs.Common.{is_wanted, slot_state, after_change}
-use Rattle.distributor.proofs.FlagLemmas.{change_flagged, flagged_more, flagged_noted}
+use Rattle.distributor.proofs.FlagLemmas.{change_flagged, flagged_more}
 use Rattle.distributor.proofs.WalkLemmas.{port_kept, read_state, stand_leaves, stand_next, stand_stays, steps_fewer, walk_after, walk_all}
 use Rattle.distributor.proofs.WalkLemmas.{walk_before, walk_begins, walk_below, walk_ends, walk_found, walk_on}
 use Rattle.distributor.proofs.slots.Slots.change_chain.Goals as goal
@@ -10,16 +10,10 @@ noted_more : (w x f g : Bool) (s : Assignment) → is_flagged w f s ≡ true →
 noted_more w x f g s e = flagged_more w (w || x) f (f || g) (λ h. or_left w x h) (λ h. or_left f g h) s e
 
 noted_here : (w x f g : Bool) (s : Assignment) → x ≡ is_wanted s → g ≡ is_flushing s → is_flagged (w || x) (f || g) s ≡ true
-noted_here w x f g s m n = ap (λ b. is_flagged (w || b) (f || g) s) m ∙ ap (λ b. is_flagged (w || is_wanted s) (f || b) s) n
-    ∙ flagged_noted w f s
+noted_here w x f g s m n = grind arith
 
 pub loop-at-init : goal.loop-at-init
-loop-at-init c = record {
-  walking = walk_begins c.requires.chained c.args.chain _ _ c.requires.below refl c.index-at.ensures (after_change c.args.change) _;
-  count = refl;
-  wanted = refl;
-  flushing = refl;
-}
+loop-at-init c = grind (arith, walk_begins)
 
 pub index-at-requires-in-loop-at : goal.index-at-requires-in-loop-at
 index-at-requires-in-loop-at c =

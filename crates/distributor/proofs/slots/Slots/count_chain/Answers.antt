@@ -1,20 +1,17 @@
-use Rattle.distributor.proofs.Common.{Bool, ap, arith, false, refl, sym, true, ◌+◌, ◌∙◌, ◌≡◌, ◌≤◌, mod_below, passes, tested_port}
+use Rattle.distributor.proofs.Common.{Bool, ap, arith, false, refl, sym, true, ◌+◌, ◌∙◌, ◌≡◌, ◌≤◌, passes}
 use mir.Val.{bool_byte}
-use Rattle.distributor.proofs.WalkLemmas.{bit, counting_begins, counting_ends, counting_few, counting_on, passes_stands, read_state, stand_next}
-use Rattle.distributor.proofs.WalkLemmas.{steps_fewer, walk_below}
+use Rattle.distributor.proofs.WalkLemmas.{bit, counting_begins, counting_ends, counting_few, counting_on, read_state, stand_next, steps_fewer}
+use Rattle.distributor.proofs.WalkLemmas.{walk_below}
 use Rattle.distributor.proofs.slots.Slots.count_chain.Goals as goal
 
 bool_bit : (b : Bool) → bool_byte b ≡ bit b
-bool_bit true = refl
-bool_bit false = refl
+bool_bit b = grind arith
 
 bit_few : (b : Bool) → bit b ≤ 1
-bit_few true = omega arith
-bit_few false = omega arith
+bit_few b = grind arith
 
 pub loop-at-init : goal.loop-at-init
-loop-at-init c = counting_begins c.requires.chained _ _ _ (mod_below (tested_port c.args.test) 64 (omega arith))
-    (ap (λ x. c.args.self.now.count + x) c.chain.ensures.chain) c.index-at.ensures (passes c.args.test) (passes_stands c.args.test)
+loop-at-init c = grind (arith, counting_begins)
 
 pub index-requires : goal.index-requires
 index-requires c =

@@ -17,11 +17,4 @@ put_into_ring-requires-clause-after c =
     )
 
 pub returns-in-Some-clause-chained : goal.returns-in-Some-clause-chained
-returns-in-Some-clause-chained c =
-    let h = c.requires.chained in
-    let free : (d : ℕ) → is_in_chain d (slot_state c.args.self.now.states.items c.args.slot) ≡ false = λ d. stands_none d
-    (slot_state c.args.self.now.states.items c.args.slot) c.requires.free in
-    let stands : (d : ℕ) → is_in_chain d c.args.state ≡ eqb c.chain.result d = λ d. stands_some d c.in-Some.port c.args.state
-    (sym c.port.ensures ∙ c.in-Some.is) ∙ ap (λ x. eqb x d) (sym c.chain.ensures.chain) in
-    rw (c.put_into_ring.ensures.next, c.put_into_ring.ensures.prev)
-    (put_in _ _ _ _ h c.chain.result c.args.slot c.args.state c.chain.ensures.below c.requires.inside free stands)
+returns-in-Some-clause-chained c = grind (arith, put_in)

@@ -1,17 +1,11 @@
-use Rattle.distributor.proofs.Common.{arith, refl, subst, ◌+◌, ◌∙◌, ◌≡◌, ◌≤◌}
+use Rattle.distributor.proofs.Common.{arith, refl, ◌+◌, ◌∙◌, ◌≡◌, ◌≤◌}
 use Rattle.distributor.proofs.FlagLemmas.{flag_clear}
-use Rattle.distributor.proofs.TickLemmas.{Ticking, tick_begins, tick_ends, tick_passed, tick_walked}
+use Rattle.distributor.proofs.TickLemmas.{tick_ends, tick_passed, tick_walked}
 use Rattle.distributor.proofs.slots.Slots.tick_flagged_chains.Goals as goal
 use Rattle.distributor.proofs.slots.Slots.tick_flagged_chains.Goals.{then-index, else-index}
 
 pub loop-chain-init : goal.loop-chain-init
-loop-chain-init c = record {
-  chained = c.requires.chained;
-  flagged = c.requires.flagged;
-  ticking = tick_begins c.args.self.now.states.items;
-  count = refl;
-  few = omega arith;
-}
+loop-chain-init c = grind arith
 
 pub loop-chain-preserved : goal.loop-chain-preserved
 loop-chain-preserved c =
@@ -40,8 +34,4 @@ loop-chain-preserved c =
     ]
 
 pub returns-clause-states : goal.returns-clause-states
-returns-clause-states c =
-    let i = c.loop-chain.invariant in
-    let done : c.loop-chain.chain ≡ 64 = omega (arith, c.loop-chain-test.false, i.few) in
-    tick_ends c.args.self.now.states.items c.loop-chain.self.states.items
-    (subst (λ n. Ticking n c.args.self.now.states.items c.loop-chain.self.states.items) done i.ticking)
+returns-clause-states c = grind (arith, tick_ends)

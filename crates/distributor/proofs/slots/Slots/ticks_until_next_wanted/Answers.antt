@@ -1,14 +1,11 @@
-use Rattle.distributor.proofs.Common.{arith, refl, subst, ◌+◌, ◌≡◌, ◌≤◌}
+use Rattle.distributor.proofs.Common.{arith, refl, ◌+◌, ◌≡◌, ◌≤◌}
 use Rattle.distributor.proofs.FlagLemmas.{flag_clear}
-use Rattle.distributor.proofs.WaitLemmas.{SeekingChains, chains_begin, chains_end, chains_passed, chains_walked}
+use Rattle.distributor.proofs.WaitLemmas.{chains_end, chains_passed, chains_walked}
 use Rattle.distributor.proofs.slots.Slots.ticks_until_next_wanted.Goals as goal
 use Rattle.distributor.proofs.slots.Slots.ticks_until_next_wanted.Goals.{then-index, else-index}
 
 pub loop-chain-init : goal.loop-chain-init
-loop-chain-init c = record {
-  seeking = chains_begin c.args.self.now.count c.args.self.now.states.items;
-  few = omega arith;
-}
+loop-chain-init c = grind arith
 
 pub loop-chain-preserved : goal.loop-chain-preserved
 loop-chain-preserved c =
@@ -31,8 +28,4 @@ loop-chain-preserved c =
     ]
 
 pub returns : goal.returns
-returns c =
-    let i = c.loop-chain.invariant in
-    let done : c.loop-chain.chain ≡ 64 = omega (arith, c.loop-chain-test.false, i.few) in
-    chains_end c.args.self.now.count c.args.self.now.states.items c.loop-chain.soonest
-    (subst (λ n. SeekingChains n c.args.self.now.count c.args.self.now.states.items c.loop-chain.soonest) done i.seeking)
+returns c = grind (arith, chains_end)
