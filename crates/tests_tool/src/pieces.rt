@@ -3,7 +3,7 @@
 use lagtypes::{decimal_u16, words_of};
 use std::alloc::{AllocError, Global};
 
-/// A text in hexadecimal, in words: digits, or the name of some of this module; `00*66` stands for 66 times 00.
+/// A text in hexadecimal, in words: digits, or a name that `digits_of` knows; `00*66` stands for 66 times 00.
 pub(crate) type Words = &'static str;
 
 /// A data frame of conversation 48.
