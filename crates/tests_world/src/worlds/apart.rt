@@ -6,7 +6,6 @@ use crate::worlds::{After, EventLines, Row, play_after, plays, tells};
 use cables::AnyCable;
 use lagworld::{Event, Reply, World, WorldFault};
 use std::alloc::Global;
-use std::process::Abort;
 
 /// The link of cable 1 is up.
 const LINK_UP: EventLines = "sense 1 1 => Sensed(true)

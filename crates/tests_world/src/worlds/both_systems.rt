@@ -1,12 +1,11 @@
 use crate::comparing::same_at;
-use crate::worlds::given::{ONE_SHORT, TWO_LONG, TWO_SHORT, modulo};
+use crate::worlds::given::{ONE_SHORT, TWO_SHORT, modulo};
 use crate::worlds::playing::{plays_lines, runs_lines, world_of};
-use crate::worlds::starts::{COMING_UP, ONE_CABLE};
+use crate::worlds::starts::ONE_CABLE;
 use crate::worlds::{After, Row, play_after, plays, runs, tells};
 use lagtypes::NoMemory;
 use lagworld::{Agreement, WorldFault};
 use std::alloc::Global;
-use std::process::Abort;
 
 /// Two cables come up between ports with Short Timeout, and each end hears the other five times (6.4.13, 6.4.15).
 const UP: &str = "sense 1 1 => Sensed(true)
