@@ -1,8 +1,7 @@
-use bitflags::Flags;
-use lagstreams::{Sink, Source};
-use lagtool_capture::{Gaps, Settings, report_capture};
-use lagtypes::{Key, PortId, State, SystemId};
-use slowpdu::{Info, Lacpdu, frame};
+use crate::given::{lacpdu, said};
+use lagtool_capture::Gaps;
+use lagtypes::Key;
+use slowpdu::Info;
 use std::alloc::{AllocError, Global};
 use std::process::Abort;
 use std::test::Fail;
@@ -54,30 +53,13 @@ fn the_median_of_an_even_number_is_the_lower_one(rt: HostRuntime) {
     }
 }
 
-/// A port of the system with this number.
+/// A port of the system with this number: active, aggregatable, synchronized, collecting, distributing.
 fn end(system: u8, port: u16) -> Info {
-    Info {
-        system: SystemId {
-            priority: 32768,
-            mac: [0x02, 0, 0, 0, 0, system],
-        },
-        key: Key(1),
-        port: PortId {
-            priority: 128,
-            number: port,
-        },
-        // active, aggregatable, synchronized, collecting, distributing
-        state: State::from_bits_retain(0x3d),
-    }
+    crate::given::end(system, 1, port, 0x3d)
 }
 
 /// An LACPDU of a capture: its interface, its Actor and its Partner.
-#[derive(Clone, Copy)]
-struct Told {
-    interface: u8,
-    actor: Info,
-    partner: Info,
-}
+type Told = (u8, Info, Info);
 
 /// A section of pcapng with two interfaces of Ethernet, the most significant octet first.
 const SECTION: [u8; 68] = [
@@ -92,16 +74,11 @@ const SECTION: [u8; 68] = [
 /// A capture of these LACPDUs, all at one time.
 fn capture(alloc: Global, told: &[Told]) -> Result<Vec<u8>, AllocError> {
     let mut file = Vec::from_slice(alloc, &SECTION)?;
-    for one in told {
-        let sent = Lacpdu {
-            actor: one.actor,
-            partner: one.partner,
-            max_delay: 0,
-        };
+    for (interface, actor, partner) in told {
         // an enhanced packet block of 156 octets, with 124 octets of 124
-        file.extend_from_slice(&[0, 0, 0, 6, 0, 0, 0, 156, 0, 0, 0, one.interface])?;
+        file.extend_from_slice(&[0, 0, 0, 6, 0, 0, 0, 156, 0, 0, 0, *interface])?;
         file.extend_from_slice(&[0, 0, 0, 0, 0, 0, 0, 1, 0, 0, 0, 124, 0, 0, 0, 124])?;
-        file.extend_from_slice(&frame(one.actor.system.mac, &sent.encode()))?;
+        file.extend_from_slice(&lacpdu(actor.system.mac, *actor, *partner))?;
         file.extend_from_slice(&[0, 0, 0, 156])?;
     }
     Ok(file)
@@ -109,20 +86,10 @@ fn capture(alloc: Global, told: &[Told]) -> Result<Vec<u8>, AllocError> {
 
 /// Whether the explanation of these LACPDUs has each of these texts.
 fn tells(alloc: Global, told: &[Told], texts: &[&str]) -> Result<bool, AllocError> {
-    let octets = capture(alloc, told)?;
-    let settings = Settings {
-        all: false,
-        frames: false,
-        json: false,
-    };
-    let mut source = Source::new(octets.as_slice());
-    let mut sink = Sink::new(Vec::new(alloc));
-    let answer = report_capture(alloc, settings, &mut source, &mut sink);
-    let written = sink.into_inner();
-    let said = str::from_utf8(&written).unwrap_or("");
+    let (answer, report) = said(alloc, &capture(alloc, told)?)?;
     let mut has_all = answer.is_ok();
     for text in texts {
-        has_all = has_all && said.contains(*text);
+        has_all = has_all && report.as_str().contains(*text);
     }
     Ok(has_all)
 }
@@ -133,26 +100,10 @@ fn an_end_is_named_on_its_own_interface(rt: HostRuntime) -> Result<(), Fail> {
     keyed.key = Key(2);
     let told = [
         // The first that names port 1 of system 1 is on another interface than the second, and has the port number of that one.
-        Told {
-            interface: 1,
-            actor: end(3, 2),
-            partner: end(1, 1),
-        },
-        Told {
-            interface: 0,
-            actor: end(1, 1),
-            partner: end(2, 2),
-        },
-        Told {
-            interface: 0,
-            actor: end(2, 2),
-            partner: end(1, 1),
-        },
-        Told {
-            interface: 1,
-            actor: end(1, 1),
-            partner: keyed,
-        },
+        (1, end(3, 2), end(1, 1)),
+        (0, end(1, 1), end(2, 2)),
+        (0, end(2, 2), end(1, 1)),
+        (1, end(1, 1), keyed),
     ];
     let texts = [
         "end 02-00-00-00-00-01 port 1 is P2 names P3 named by 02-00-00-00-00-02 port 2 lacpdus 1",
@@ -167,26 +118,10 @@ fn an_end_is_named_on_its_own_interface(rt: HostRuntime) -> Result<(), Fail> {
 #[test]
 fn an_end_is_named_by_its_port(rt: HostRuntime) -> Result<(), Fail> {
     let told = [
-        Told {
-            interface: 0,
-            actor: end(2, 4),
-            partner: end(1, 2),
-        },
-        Told {
-            interface: 0,
-            actor: end(2, 3),
-            partner: end(1, 1),
-        },
-        Told {
-            interface: 0,
-            actor: end(1, 1),
-            partner: end(2, 3),
-        },
-        Told {
-            interface: 0,
-            actor: end(1, 2),
-            partner: end(2, 4),
-        },
+        (0, end(2, 4), end(1, 2)),
+        (0, end(2, 3), end(1, 1)),
+        (0, end(1, 1), end(2, 3)),
+        (0, end(1, 2), end(2, 4)),
     ];
     let texts = [
         "end 02-00-00-00-00-02 port 4 is P1 names P2 named by 02-00-00-00-00-01 port 2 lacpdus 1",

@@ -1,12 +1,11 @@
 ghost use Rattle.std.specs.Prelude.{◌≡◌, ◌<◌, false};
 
+use crate::given::{lacpdu, mac};
 use crate::of_captures::BLOCKS;
-use bitflags::Flags;
 use captures::{Cause, LinkType, Order, Unit, put_file_header, put_packet};
 use lagstreams::{Sink, Source};
 use lagtool_capture::{CaptureFault, CaptureSummary, ReadFault, Settings, report_capture};
-use lagtypes::{Key, PortId, State, SystemId};
-use slowpdu::{Info, Lacpdu, Marker, MarkerKind, frame};
+use slowpdu::{Info, Marker, MarkerKind, frame};
 use std::alloc::{AllocError, Global};
 use std::io;
 use std::io::Read;
@@ -30,36 +29,11 @@ impl Read for Pieces<'_> {
     }
 }
 
-/// The MAC address of a system with this number.
-fn mac(number: u8) -> [u8; 6] {
-    [0x02, 0, 0, 0, 0, number]
-}
-
-/// One end: the system with this number, with priority 32768, and a port with priority 255.
+/// A port with priority 255 of the system with this number.
 fn end(number: u8, key: u16, port: u16, state: u8) -> Info {
-    let address = mac(number);
-    Info {
-        system: SystemId {
-            priority: 32768,
-            mac: address,
-        },
-        key: Key(key),
-        port: PortId {
-            priority: 255,
-            number: port,
-        },
-        state: State::from_bits_retain(state),
-    }
-}
-
-/// The frame of an LACPDU of a system.
-fn lacpdu(number: u8, actor: Info, partner: Info) -> [u8; 124] {
-    let sent = Lacpdu {
-        actor,
-        partner,
-        max_delay: 0,
-    };
-    frame(mac(number), &sent.encode())
+    let mut end = crate::given::end(number, key, port, state);
+    end.port.priority = 255;
+    end
 }
 
 /// The first 60 octets of a frame.
@@ -73,10 +47,10 @@ fn beginning(frame: &[u8; 124]) -> [u8; 60] {
 /// synchronized, and says so again; A asks by a marker, and B sends a payload of 60 octets.
 fn coming_up(alloc: Global, order: Order) -> Result<Vec<u8>, AllocError> {
     let nobody = Info::default();
-    let one = lacpdu(1, end(1, 1, 1, 0x4d), nobody);
-    let two = lacpdu(2, end(2, 7, 2, 0x05), end(1, 1, 1, 0x4d));
-    let three = lacpdu(1, end(1, 1, 1, 0x3d), end(2, 7, 2, 0x05));
-    let five = lacpdu(2, end(2, 7, 2, 0x3d), end(1, 1, 1, 0x3d));
+    let one = lacpdu(mac(1), end(1, 1, 1, 0x4d), nobody);
+    let two = lacpdu(mac(2), end(2, 7, 2, 0x05), end(1, 1, 1, 0x4d));
+    let three = lacpdu(mac(1), end(1, 1, 1, 0x3d), end(2, 7, 2, 0x05));
+    let five = lacpdu(mac(2), end(2, 7, 2, 0x3d), end(1, 1, 1, 0x3d));
     let asks = Marker {
         kind: MarkerKind::Information,
         port: 1,
@@ -138,21 +112,20 @@ const RECORDS: &str = "\
 ";
 
 /// The outcome of an explanation, and what was written.
-#[derive(Debug, Drop, PartialEq)]
-struct Outcome {
-    answer: Result<CaptureSummary, CaptureFault>,
-    text: Vec<u8>,
-}
+type Outcome = (Result<CaptureSummary, CaptureFault>, String);
 
 /// Explains octets that are read in pieces of this size.
-fn explained(alloc: Global, settings: Settings, octets: &[u8], size: usize) -> Outcome {
+fn explained(
+    alloc: Global,
+    settings: Settings,
+    octets: &[u8],
+    size: usize,
+) -> Result<Outcome, AllocError> {
     let mut source = Source::new(Pieces { rest: octets, size });
     let mut sink = Sink::new(Vec::new(alloc));
     let answer = report_capture(alloc, settings, &mut source, &mut sink);
-    Outcome {
-        answer,
-        text: sink.into_inner(),
-    }
+    let text = String::from_utf8_lossy(alloc, sink.into_inner().as_slice())?;
+    Ok((answer, text))
 }
 
 fn settings(all: bool, frames: bool, json: bool) -> Settings {
@@ -178,10 +151,9 @@ fn a_link_that_comes_up_is_explained(rt: HostRuntime) -> Result<(), Fail> {
     for order in [Order::Big, Order::Little] {
         let octets = coming_up(alloc, order)?;
         for size in [1, 7, 100, 4096] {
-            let outcome = explained(alloc, CHANGES, &octets, size);
-            assert_eq!(rt; outcome.answer, wanted);
-            let text = str::from_utf8(&outcome.text).unwrap_or("");
-            assert_eq!(rt; text, COMING_UP, "{size}");
+            let (answer, text) = explained(alloc, CHANGES, &octets, size)?;
+            assert_eq!(rt; answer, wanted);
+            assert_eq!(rt; text.as_str(), COMING_UP, "{size}");
         }
     }
     Ok(())
@@ -191,10 +163,9 @@ fn a_link_that_comes_up_is_explained(rt: HostRuntime) -> Result<(), Fail> {
 fn a_record_without_a_packet_has_a_number(rt: HostRuntime) -> Result<(), Fail> {
     // A custom block and four packets: tshark numbers them 1 to 5.
     for size in [1, 7, 4096] {
-        let outcome = explained(rt.alloc(), CHANGES, &BLOCKS, size);
-        let text = str::from_utf8(&outcome.text).unwrap_or("");
+        let (_, text) = explained(rt.alloc(), CHANGES, &BLOCKS, size)?;
         assert_eq!(rt;
-            text,
+            text.as_str(),
             "links 0 carrying 0\npackets 5 slow 0 ends 0 findings 0\n",
             "{size}"
         );
@@ -206,16 +177,11 @@ fn a_record_without_a_packet_has_a_number(rt: HostRuntime) -> Result<(), Fail> {
 fn each_line_is_a_record(rt: HostRuntime) -> Result<(), Fail> {
     let alloc = rt.alloc();
     let octets = coming_up(alloc, Order::Big)?;
-    let outcome = explained(alloc, settings(false, true, true), &octets, 100);
-    let text = str::from_utf8(&outcome.text).unwrap_or("");
-    assert_eq!(rt; text, RECORDS);
-    let outcome = explained(alloc, settings(false, false, true), &octets, 100);
-    let text = str::from_utf8(&outcome.text).unwrap_or("");
-    let behind = match RECORDS.split_once("110 octets: 46\"}\n") {
-        Some((_, behind)) => behind,
-        None => "",
-    };
-    assert_eq!(rt; text, behind);
+    let (_, text) = explained(alloc, settings(false, true, true), &octets, 100)?;
+    assert_eq!(rt; text.as_str(), RECORDS);
+    let (_, text) = explained(alloc, settings(false, false, true), &octets, 100)?;
+    let behind = RECORDS.split_once("110 octets: 46\"}\n");
+    assert_eq!(rt; text.as_str(), behind.map_or("", |(_, behind)| behind));
     Ok(())
 }
 
@@ -223,19 +189,18 @@ fn each_line_is_a_record(rt: HostRuntime) -> Result<(), Fail> {
 fn every_field_or_no_frame_is_shown(rt: HostRuntime) -> Result<(), Fail> {
     let alloc = rt.alloc();
     let octets = coming_up(alloc, Order::Big)?;
-    let outcome = explained(alloc, settings(true, true, false), &octets, 4096);
-    let text = str::from_utf8(&outcome.text).unwrap_or("");
+    let (_, text) = explained(alloc, settings(true, true, false), &octets, 4096)?;
     let line =
         "6 3.250000 02-00-00-00-00-02 lacpdu actor P3 state 3d active,aggregatable,synchronized,collecting,distributing partner P1 partner-state 3d active,aggregatable,synchronized,collecting,distributing max-delay 0\n";
-    assert!(rt; text.contains(line), "{text}");
-    let outcome = explained(alloc, settings(false, false, false), &octets, 4096);
-    let text = str::from_utf8(&outcome.text).unwrap_or("");
+    assert!(rt; text.as_str().contains(line), "{text}");
+    let (_, text) = explained(alloc, settings(false, false, false), &octets, 4096)?;
+    let text = text.as_str();
     assert!(rt; !text.contains("lacpdu actor"), "{text}");
     // The links come first, then the legend.
-    let first = match COMING_UP.split_once("links 1") {
-        Some((_, behind)) => behind.split_once("end ").map_or("", |(links, _)| links),
-        None => "",
-    };
+    let first = COMING_UP
+        .split_once("links 1")
+        .map_or("", |(_, behind)| behind);
+    let first = first.split_once("end ").map_or("", |(links, _)| links);
     let legend = "\
 P1 = 32768/02-00-00-00-00-01 key 1 port 255/1
 P2 = 0/00-00-00-00-00-00 key 0 port 0/0
@@ -255,8 +220,8 @@ fn what_is_cut_short_is_told_at_every_length(rt: HostRuntime) -> Result<(), Fail
     let alloc = rt.alloc();
     let octets = coming_up(alloc, Order::Little)?;
     for length in 0..octets.len() {
-        let outcome = explained(alloc, CHANGES, &octets[..length], 4096);
-        let cause = match outcome.answer {
+        let (answer, _) = explained(alloc, CHANGES, &octets[..length], 4096)?;
+        let cause = match answer {
             Ok(summary) => summary.fault.map(|fault| fault.cause),
             Err(_) => None,
         };
@@ -294,14 +259,14 @@ fn what_is_no_capture_is_refused(rt: HostRuntime) -> Result<(), Fail> {
         (b"", Cause::CutShort),
     ];
     for (octets, cause) in rows {
-        let outcome = explained(alloc, CHANGES, octets, 4096);
+        let (answer, _) = explained(alloc, CHANGES, octets, 4096)?;
         let wanted = Ok(CaptureSummary {
             packets: 0,
             slow: 0,
             findings: 0,
             fault: Some(ReadFault { at: 0, cause }),
         });
-        assert_eq!(rt; outcome.answer, wanted);
+        assert_eq!(rt; answer, wanted);
     }
     Ok(())
 }

@@ -1,37 +1,14 @@
-use bitflags::Flags;
+use crate::given::{end, mac, said};
 use captures::{LinkType, Order, Unit, put_file_header, put_packet};
-use lagstreams::{Sink, Source};
-use lagtool_capture::{CaptureFault, CaptureSummary, Settings, report_capture};
-use lagtypes::{Key, PortId, State, SystemId};
-use slowpdu::{Info, Lacpdu, Marker, MarkerKind, frame};
+use slowpdu::{Marker, MarkerKind, frame};
 use std::alloc::{AllocError, Global};
 use std::process::Abort;
 use std::test::Fail;
 
-/// Port 1 of the system with this number, with this state.
-fn end(number: u8, state: u8) -> Info {
-    Info {
-        system: SystemId {
-            priority: 32768,
-            mac: [0x02, 0, 0, 0, 0, number],
-        },
-        key: Key(1),
-        port: PortId {
-            priority: 128,
-            number: 1,
-        },
-        state: State::from_bits_retain(state),
-    }
-}
-
-/// The frame of an LACPDU from one system to another, with their states.
+/// The frame of an LACPDU from port 1 of one system to port 1 of another, with their states.
 fn lacpdu(actor: u8, own: u8, partner: u8, seen: u8) -> [u8; 124] {
-    let sent = Lacpdu {
-        actor: end(actor, own),
-        partner: end(partner, seen),
-        max_delay: 0,
-    };
-    frame([0x02, 0, 0, 0, 0, actor], &sent.encode())
+    let (actor, partner) = (end(actor, 1, 1, own), end(partner, 1, 1, seen));
+    crate::given::lacpdu(actor.system.mac, actor, partner)
 }
 
 /// Active, Long Timeout, aggregatable, synchronized, collecting, distributing.
@@ -53,37 +30,20 @@ fn capture(alloc: Global, frames: &[(u32, u32, [u8; 124])]) -> Result<Vec<u8>, A
     Ok(out)
 }
 
-/// What is said of a capture, without lines for its frames.
-fn said(alloc: Global, octets: &[u8]) -> (Result<CaptureSummary, CaptureFault>, Vec<u8>) {
-    let settings = Settings {
-        all: false,
-        frames: false,
-        json: false,
-    };
-    let mut source = Source::new(octets);
-    let mut sink = Sink::new(Vec::new(alloc));
-    let answer = report_capture(alloc, settings, &mut source, &mut sink);
-    (answer, sink.into_inner())
-}
-
 /// Whether a capture has just this finding, or none for the empty text.
 fn has_just(
     alloc: Global,
     frames: &[(u32, u32, [u8; 124])],
     line: &str,
 ) -> Result<bool, AllocError> {
-    let octets = capture(alloc, frames)?;
-    let (answer, text) = said(alloc, &octets);
+    let (answer, text) = said(alloc, &capture(alloc, frames)?)?;
     let count: usize = if line.is_empty() { 0 } else { 1 };
     let Ok(summary) = answer else {
         return Ok(false);
     };
-    let text = str::from_utf8(&text).unwrap_or("");
-    Ok(
-        summary.findings == count
-            && text.contains(line)
-            && text.matches("finding ").count() == count,
-    )
+    let text = text.as_str();
+    let found = text.matches("finding ").count();
+    Ok(summary.findings == count && text.contains(line) && found == count)
 }
 
 #[test]
@@ -144,21 +104,15 @@ fn a_frame_has_another_length(rt: HostRuntime) -> Result<(), Fail> {
 fn a_type_is_another_one(rt: HostRuntime) -> Result<(), Fail> {
     let line =
         "finding 24 end 02-00-00-00-00-02 port 1 packet 2 at 1.000000: a TLV type or a Terminator other than the standard's (6.4.2.3). Look for a fault of the sender: a receiver does not check these octets, and reads the rest.\n";
-    for at in [16, 36, 56, 72, 73] {
+    for at in [16, 36, 56, 71, 72, 73, 74] {
         let mut other = lacpdu(2, UP, 1, UP);
         if let Some(octet) = other.get_mut(at) {
             *octet = 9;
         }
         let frames = [(100, 124, lacpdu(1, UP, 2, UP)), (101, 124, other)];
+        let reserved = at == 71 || at == 74;
+        let line = if reserved { "finding 8 " } else { line };
         assert!(rt; has_just(rt.alloc(), &frames, line)?, "{at}");
-    }
-    for at in [71, 74] {
-        let mut other = lacpdu(2, UP, 1, UP);
-        if let Some(octet) = other.get_mut(at) {
-            *octet = 9;
-        }
-        let frames = [(100, 124, lacpdu(1, UP, 2, UP)), (101, 124, other)];
-        assert!(rt; has_just(rt.alloc(), &frames, "finding 8 ")?, "{at}");
     }
     Ok(())
 }
@@ -169,7 +123,7 @@ fn a_marker_has_another_terminator(rt: HostRuntime) -> Result<(), Fail> {
     let asks = Marker {
         kind: MarkerKind::Response,
         port: 1,
-        system: [0x02, 0, 0, 0, 0, 1],
+        system: mac(1),
         id: 7,
     };
     let rows = [
@@ -179,7 +133,7 @@ fn a_marker_has_another_terminator(rt: HostRuntime) -> Result<(), Fail> {
         (34, "finding 8 "),
     ];
     for (at, line) in rows {
-        let mut other = frame([0x02, 0, 0, 0, 0, 2], &asks.encode());
+        let mut other = frame(mac(2), &asks.encode());
         if let Some(octet) = other.get_mut(at) {
             *octet = 9;
         }
@@ -191,25 +145,20 @@ fn a_marker_has_another_terminator(rt: HostRuntime) -> Result<(), Fail> {
 // Three gaps of 1, 30 and 200 seconds; one of 200 seconds.
 #[test]
 fn the_median_is_the_gap_in_the_middle(rt: HostRuntime) -> Result<(), Fail> {
-    let sent = lacpdu(1, UP, 2, UP);
-    let frames = [
-        (100, 124, sent),
-        (101, 124, sent),
-        (131, 124, sent),
-        (331, 124, sent),
+    let rows: [(&[u32], &str); 2] = [
+        (
+            &[100, 101, 131, 331],
+            " gaps 1.000000 to 200.000000 median 30.0 ",
+        ),
+        (&[100, 300], " gaps 200.000000 to 200.000000 median 100.0 "),
     ];
-    let (_, text) = said(rt.alloc(), &capture(rt.alloc(), &frames)?);
-    let text = str::from_utf8(&text).unwrap_or("");
-    assert!(rt;
-        text.contains(" gaps 1.000000 to 200.000000 median 30.0 "),
-        "{text}"
-    );
-    let frames = [(100, 124, sent), (300, 124, sent)];
-    let (_, text) = said(rt.alloc(), &capture(rt.alloc(), &frames)?);
-    let text = str::from_utf8(&text).unwrap_or("");
-    assert!(rt;
-        text.contains(" gaps 200.000000 to 200.000000 median 100.0 "),
-        "{text}"
-    );
+    for (seconds, gaps) in rows {
+        let mut frames = Vec::new(rt.alloc());
+        for second in seconds {
+            frames.push((*second, 124, lacpdu(1, UP, 2, UP)))?;
+        }
+        let (_, text) = said(rt.alloc(), &capture(rt.alloc(), &frames)?)?;
+        assert!(rt; text.as_str().contains(gaps), "{text}");
+    }
     Ok(())
 }

@@ -1,9 +1,6 @@
-use bitflags::Flags;
+use crate::given::{end, lacpdu, mac, said};
 use captures::{LinkType, Order, Unit, put_file_header, put_packet};
-use lagstreams::{Sink, Source};
-use lagtool_capture::{Settings, report_capture};
-use lagtypes::{Key, PortId, State, SystemId};
-use slowpdu::{Info, Lacpdu, frame};
+use slowpdu::Info;
 use std::alloc::{AllocError, Global};
 use std::process::Abort;
 use std::test::Fail;
@@ -27,67 +24,40 @@ const NOBODY: End = End(0, 0, 0, 0);
 #[derive(Clone, Copy)]
 struct Sent(u32, End, End);
 
-fn info(end: End) -> Info {
-    let End(system, key, port, state) = end;
-    Info {
-        system: SystemId {
-            priority: if system & 64 == 0 { 32768 } else { 4096 },
-            mac: [0x02, 0, 0, 0, 0, system & 63],
-        },
-        key: Key(key),
-        port: PortId {
-            priority: 128,
-            number: port,
-        },
-        state: State::from_bits_retain(state),
+fn info(side: End) -> Info {
+    let End(system, key, port, state) = side;
+    let mut info = end(system & 63, key, port, state);
+    if system & 64 != 0 {
+        info.system.priority = 4096;
     }
+    info
 }
 
-/// What is said of these LACPDUs, without a line for each.
-fn said(alloc: Global, all: &[Sent]) -> Result<Vec<u8>, AllocError> {
+/// What is said of these LACPDUs.
+fn told(alloc: Global, all: &[Sent]) -> Result<String, AllocError> {
     let mut file = Vec::new(alloc);
     put_file_header(&mut file, Order::Big, Unit::Micro, LinkType::Ethernet)?;
     for Sent(second, actor, partner) in all {
-        let lacpdu = Lacpdu {
-            actor: info(*actor),
-            partner: info(*partner),
-            max_delay: 0,
-        };
-        let octets = frame([0x02, 0, 0, 0, 0, actor.0], &lacpdu.encode());
-        put_packet(
-            &mut file,
-            Order::Big,
-            second.wrapping_add(100),
-            0,
-            124,
-            &octets,
-        )?;
+        let octets = lacpdu(mac(actor.0), info(*actor), info(*partner));
+        let second = second.wrapping_add(100);
+        put_packet(&mut file, Order::Big, second, 0, 124, &octets)?;
     }
-    let settings = Settings {
-        all: false,
-        frames: false,
-        json: false,
-    };
-    let mut source = Source::new(file.as_slice());
-    let mut sink = Sink::new(Vec::new(alloc));
-    let _answer = report_capture(alloc, settings, &mut source, &mut sink);
-    Ok(sink.into_inner())
+    let (_, text) = said(alloc, &file)?;
+    Ok(text)
 }
 
 /// That it begins with these lines, and the legend follows.
 fn begins(rt: &impl Abort, alloc: Global, all: &[Sent], lines: &str) -> Result<(), Fail> {
-    let octets = said(alloc, all)?;
-    let text = str::from_utf8(&octets).unwrap_or("");
-    let behind = text.strip_prefix(lines).unwrap_or("");
+    let text = told(alloc, all)?;
+    let behind = text.as_str().strip_prefix(lines).unwrap_or("");
     assert!(rt; behind.starts_with("P1 = "), "{text}");
     Ok(())
 }
 
 /// That one link, both ends of which send at second 0, is said to be so.
 fn one_link(rt: &impl Abort, alloc: Global, one: End, other: End, is: &str) -> Result<(), Fail> {
-    let octets = said(alloc, &[Sent(0, one, other), Sent(0, other, one)])?;
-    let text = str::from_utf8(&octets).unwrap_or("");
-    let line = text.lines().nth(1).unwrap_or("");
+    let text = told(alloc, &[Sent(0, one, other), Sent(0, other, one)])?;
+    let line = text.as_str().lines().nth(1).unwrap_or("");
     assert_eq!(rt; line.split_once(": ").map_or("", |(_, state)| state), is);
     Ok(())
 }
@@ -191,45 +161,38 @@ link 02-00-00-00-00-01 port 2 - 02-00-00-00-00-02 port 2: carries, both ways
 #[test]
 fn a_state_says_why_a_link_does_not_carry(rt: HostRuntime) -> Result<(), Fail> {
     let (near, far) = (|state| End(1, 1, 1, state), |state| End(2, 1, 1, state));
-    let none = "does not carry: ";
+    for one in [UP, 0x3e] {
+        one_link(&rt, rt.alloc(), near(one), far(UP), "carries, both ways")?;
+    }
+    let unattached =
+        "02-00-00-00-00-02 has not attached it: it uses another aggregator, or has links enough";
     let rows = [
-        (UP, UP, "carries, both ways"),
         // not Active at either end
-        (0x3e, 0x3e, "does not carry: both ends are passive"),
-        (0x3e, UP, "carries, both ways"),
+        (0x3e, far(0x3e), "both ends are passive"),
         // Defaulted, Expired
-        (0x47, UP, "does not carry: 02-00-00-00-00-01 hears nobody"),
-        (UP, 0xbf, "does not carry: 02-00-00-00-00-02 hears nobody"),
+        (0x47, far(UP), "02-00-00-00-00-01 hears nobody"),
+        (UP, far(0xbf), "02-00-00-00-00-02 hears nobody"),
         // not Aggregation at one end
-        (
-            0x03,
-            FAST,
-            "does not carry: 02-00-00-00-00-01 is individual",
-        ),
-        (
-            ATTACHED,
-            FAST,
-            "does not carry: 02-00-00-00-00-02 has not attached it: it uses another aggregator, or has links enough",
-        ),
+        (0x03, far(FAST), "02-00-00-00-00-01 is individual"),
+        (ATTACHED, far(FAST), unattached),
         // Collecting at one end
         (
             ATTACHED,
-            0x1f,
-            "does not carry: its ends do not collect and distribute",
+            far(0x1f),
+            "its ends do not collect and distribute",
         ),
+        (FAST, far(FAST), "its ends do not collect and distribute"),
         (
-            FAST,
-            FAST,
-            "does not carry: its ends do not collect and distribute",
+            UP,
+            End(1, 1, 2, UP),
+            "both ends have one system address, a loop or a copied identifier",
         ),
     ];
-    for (one, other, is) in rows {
-        assert!(rt; is.starts_with("carries") || is.starts_with(none), "{is}");
-        one_link(&rt, rt.alloc(), near(one), far(other), is)?;
+    for (one, other, why) in rows {
+        let is = format!(in rt.alloc(); "does not carry: {why}")?;
+        one_link(&rt, rt.alloc(), near(one), other, is.as_str())?;
     }
-    let looped = End(1, 1, 2, UP);
-    let is = "does not carry: both ends have one system address, a loop or a copied identifier";
-    one_link(&rt, rt.alloc(), near(UP), looped, is)
+    Ok(())
 }
 
 // Three systems on a hub: each hears the last speaker (6.4.2.3, 6.4.9).
@@ -314,9 +277,8 @@ fn ends_of_one_system_make_a_link(rt: HostRuntime) -> Result<(), Fail> {
             "c1 port 1",
         ),
     ] {
-        let octets = said(rt.alloc(), &all)?;
-        let text = str::from_utf8(&octets).unwrap_or("");
-        let behind = text.strip_prefix(
+        let text = told(rt.alloc(), &all)?;
+        let behind = text.as_str().strip_prefix(
             "links 1 carrying 0\nlink 02-00-00-00-00-01 port 1 - 02-00-00-00-00-",
         );
         let state = behind.unwrap_or("").strip_prefix(ends).unwrap_or("");

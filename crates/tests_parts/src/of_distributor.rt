@@ -465,43 +465,35 @@ fn beyond<'a>(conv: u16) -> [Put<'a>; 5] {
     ]
 }
 
-/// Rows for numbers that no conversation has, and then these.
-fn behind<'a>(
+/// Conversations end below this count: the last one is there, and those with these numbers are not.
+fn end_at(
+    rt: &impl Abort,
     alloc: Global,
+    count: Count,
+    last: u16,
     numbers: [u16; 4],
-    rows: &[Put<'a>],
-) -> Result<Vec<Put<'a>>, NoMemory> {
-    let mut all = Vec::new(alloc);
+) -> Result<(), NoMemory> {
+    let mut rows: Vec<Put<'_>> = Vec::new(alloc);
     for conv in numbers {
-        all.extend_from_slice(&beyond(conv))?;
+        rows.extend_from_slice(&beyond(conv))?;
     }
-    all.extend_from_slice(rows)?;
-    Ok(all)
-}
-
-/// A conversation at or above the count does not exist.
-#[test]
-fn conversations_end_at_256(rt: HostRuntime) -> Result<(), NoMemory> {
-    const ROWS: [Put<'static>; 4] = [
-        (2, &[1], Row::Assign(255, Ok(1))),
-        (3, &[1], Row::Assign(0, Err(DistFault::NotAssigned))),
-        (1, &[], Row::Is(Fact::Conversations(256))),
-        (1, &[], Row::Is(Fact::Load(1, 1))),
-    ];
-    let rows = behind(rt.alloc(), [256, 257, 511, 65535], &ROWS)?;
-    plays_apart(&rt, rt.alloc(), 2, Count::With256, 1, &rows)
+    rows.push((2, &[1], Row::Assign(last, Ok(1))))?;
+    rows.push((3, &[1], Row::Assign(0, Err(DistFault::NotAssigned))))?;
+    rows.push((1, &[], Row::Is(Fact::Conversations(last.saturating_add(1)))))?;
+    rows.push((1, &[], Row::Is(Fact::Load(1, 1))))?;
+    plays_apart(rt, alloc, 2, count, 1, &rows)
 }
 
 #[test]
-fn conversations_end_at_4096(rt: HostRuntime) -> Result<(), NoMemory> {
-    const ROWS: [Put<'static>; 4] = [
-        (2, &[1], Row::Assign(4095, Ok(1))),
-        (3, &[1], Row::Assign(0, Err(DistFault::NotAssigned))),
-        (1, &[], Row::Is(Fact::Conversations(4096))),
-        (1, &[], Row::Is(Fact::Load(1, 1))),
-    ];
-    let rows = behind(rt.alloc(), [4096, 4097, 8191, 65535], &ROWS)?;
-    plays_apart(&rt, rt.alloc(), 2, Count::With4096, 1, &rows)
+fn conversations_end_at_their_count(rt: HostRuntime) -> Result<(), NoMemory> {
+    end_at(&rt, rt.alloc(), Count::With256, 255, [256, 257, 511, 65535])?;
+    end_at(
+        &rt,
+        rt.alloc(),
+        Count::With4096,
+        4095,
+        [4096, 4097, 8191, 65535],
+    )
 }
 
 #[test]

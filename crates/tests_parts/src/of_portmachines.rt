@@ -12,8 +12,8 @@ use portmachines::{
 use slowpdu::{Info, Lacpdu};
 use std::process::Abort;
 
-/// What a reader of a port is expected to return.
-#[derive(Clone, Copy)]
+/// What a reader of a port returns.
+#[derive(Clone, Copy, Debug, PartialEq)]
 enum Fact {
     /// Actor_State.
     State(u8),
@@ -139,45 +139,31 @@ fn asks(port: &mut Port, ready: bool) -> bool {
     port.ntt() && !before
 }
 
-/// Compares the ages in the window of a port with what a fact says.
-fn tells_ages(rt: &impl Abort, place: usize, port: &Port, fact: Fact) {
-    if let Fact::Ages(count, first, last) = fact {
-        let ages = port.ages();
-        let all = ages.as_slice();
-        same_in_row(rt, place, &all.len(), &count);
-        same_in_row(rt, place, &all.first().copied(), &first);
-        same_in_row(rt, place, &all.last().copied(), &last);
-    }
-}
-
-/// Compares a timer of a port with what a fact says.
-fn tells_timer(rt: &impl Abort, place: usize, port: &Port, fact: Fact) {
+/// What the reader that a fact names returns.
+fn read(port: &Port, fact: Fact) -> Fact {
     match fact {
-        Fact::CurrentWhile(ticks) => same_in_row(rt, place, &port.current_while(), &ticks),
-        Fact::PeriodicTimer(ticks) => same_in_row(rt, place, &port.periodic_timer(), &ticks),
-        Fact::WaitWhile(ticks) => same_in_row(rt, place, &port.wait_while(), &ticks),
-        _ => tells_ages(rt, place, port, fact),
-    }
-}
-
-/// Compares what the reader that a fact names returns with what the fact says.
-fn tells(rt: &impl Abort, place: usize, port: &Port, fact: Fact) {
-    match fact {
-        Fact::State(octet) => same_in_row(rt, place, &port.state().bits(), &octet),
-        Fact::Carries(bits) => same_in_row(rt, place, &(port.state().bits() & 0x38), &bits),
-        Fact::Receive(state) => same_in_row(rt, place, &port.receive_state(), &state),
-        Fact::PeriodicIn(state) => same_in_row(rt, place, &port.periodic_state(), &state),
-        Fact::MuxIn(state) => same_in_row(rt, place, &port.mux_state(), &state),
-        Fact::Ntt(is) => same_in_row(rt, place, &port.ntt(), &is),
-        Fact::Enabled(is) => same_in_row(rt, place, &port.is_enabled(), &is),
-        Fact::Defaulted(is) => same_in_row(rt, place, &port.is_defaulted(), &is),
-        Fact::Waited(is) => same_in_row(rt, place, &port.has_waited(), &is),
-        Fact::Distributes(is) => same_in_row(rt, place, &port.distributes(), &is),
-        Fact::Chosen(choice) => same_in_row(rt, place, &port.choice(), &choice),
-        Fact::OwnParty(party) => same_in_row(rt, place, &port.party(), &party),
-        Fact::Partner(partner) => same_in_row(rt, place, &port.partner(), &partner),
-        Fact::PartnerState(octet) => same_in_row(rt, place, &port.partner().state.bits(), &octet),
-        _ => tells_timer(rt, place, port, fact),
+        Fact::State(_) => Fact::State(port.state().bits()),
+        Fact::Carries(_) => Fact::Carries(port.state().bits() & 0x38),
+        Fact::Receive(_) => Fact::Receive(port.receive_state()),
+        Fact::PeriodicIn(_) => Fact::PeriodicIn(port.periodic_state()),
+        Fact::MuxIn(_) => Fact::MuxIn(port.mux_state()),
+        Fact::Ntt(_) => Fact::Ntt(port.ntt()),
+        Fact::Enabled(_) => Fact::Enabled(port.is_enabled()),
+        Fact::Defaulted(_) => Fact::Defaulted(port.is_defaulted()),
+        Fact::Waited(_) => Fact::Waited(port.has_waited()),
+        Fact::Distributes(_) => Fact::Distributes(port.distributes()),
+        Fact::Chosen(_) => Fact::Chosen(port.choice()),
+        Fact::OwnParty(_) => Fact::OwnParty(port.party()),
+        Fact::Partner(_) => Fact::Partner(port.partner()),
+        Fact::PartnerState(_) => Fact::PartnerState(port.partner().state.bits()),
+        Fact::CurrentWhile(_) => Fact::CurrentWhile(port.current_while()),
+        Fact::PeriodicTimer(_) => Fact::PeriodicTimer(port.periodic_timer()),
+        Fact::WaitWhile(_) => Fact::WaitWhile(port.wait_while()),
+        Fact::Ages(..) => {
+            let ages = port.ages();
+            let all = ages.as_slice();
+            Fact::Ages(all.len(), all.first().copied(), all.last().copied())
+        }
     }
 }
 
@@ -192,7 +178,7 @@ fn answers(rt: &impl Abort, place: usize, port: &mut Port, step: Step) {
             same_in_row(rt, place, &sent, &state);
         }
         Step::SendsAll(delay, pdu) => same_in_row(rt, place, &port.transmit(delay), &Some(pdu)),
-        Step::Is(fact) => tells(rt, place, port, fact),
+        Step::Is(fact) => same_in_row(rt, place, &read(port, fact), &fact),
         _ => {}
     }
 }

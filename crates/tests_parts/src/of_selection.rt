@@ -73,77 +73,21 @@ fn chosen(choices: [Choice; 3]) -> [PortView; 3] {
     views
 }
 
-/// Port 1 is a member of aggregator 1.
-fn first_selected() -> [PortView; 3] {
-    chosen([selected(1), NONE, NONE])
+/// A port of system A that is a member of an aggregator.
+fn member(number: u16, partner: u8, agg: u16) -> PortView {
+    PortView {
+        choice: selected(agg),
+        ..view(number, partner)
+    }
 }
 
-/// Port 1 is a member of aggregator 1, and the partner of port 2 is Individual.
-fn second_individual() -> [PortView; 3] {
-    let mut views = first_selected();
-    views[1].partner.aggregatable = false;
-    views
-}
-
-/// Ports 1 and 3 are members of aggregators 1 and 2, and the partner of port 2 is Individual.
-fn both_taken() -> [PortView; 3] {
-    let mut views = second_individual();
-    views[2].choice = selected(2);
-    views
-}
-
-/// The partner of port 2 is its own system.
-fn second_own() -> [PortView; 3] {
-    let mut views = first_selected();
-    views[1].partner = party(A, 2);
-    views
-}
-
-/// Port 2 has another key.
-fn second_other_key() -> [PortView; 3] {
-    let mut views = first_selected();
-    views[1].party.key = Key(2);
-    views
-}
-
-/// Port 3 has the partner of the others, and is a member of aggregator 2; aggregator 1 has no member.
-fn second_taken() -> [PortView; 3] {
-    let mut views = [view(1, B), view(2, B), view(3, B)];
-    views[2].choice = selected(2);
-    views
-}
-
-/// All ports have one partner. Port 1 is a member of aggregator 1, and port 3 of aggregator 2.
-fn two_joinable() -> [PortView; 3] {
-    let mut views = second_taken();
-    views[0].choice = selected(1);
-    views
-}
-
-/// The partner of port 2 has another key than that of port 1, which is a member of aggregator 1.
-fn second_partner_key() -> [PortView; 3] {
-    let mut views = first_selected();
-    views[1].partner.key = Key(9);
-    views
-}
-
-/// Port 1 is a member of aggregator 1 by an Individual link, and port 2 has the same two ends.
-fn same_individual() -> [PortView; 3] {
-    let mut views = first_selected();
-    views[0].partner.aggregatable = false;
-    views[1].party = views[0].party;
-    views[1].partner = views[0].partner;
-    views
-}
-
-/// Port 1 is a member of aggregator 1 by a link whose own end is Individual, and port 2 has the same two ends.
-fn same_individual_own() -> [PortView; 3] {
-    let mut views = same_individual();
-    views[0].partner.aggregatable = true;
-    views[0].party.aggregatable = false;
-    views[1].party = views[0].party;
-    views[1].partner = views[0].partner;
-    views
+/// The view of a port with the two ends that another port has.
+fn with_ends_of(other: PortView, view: PortView) -> PortView {
+    PortView {
+        party: other.party,
+        partner: other.partner,
+        ..view
+    }
 }
 
 /// Views, a port of them, and the aggregator that it chooses.
@@ -158,23 +102,44 @@ fn choose(rt: &impl Abort, aggregators: &Aggregators, rows: &[Chooses]) {
 
 #[test]
 fn chooses_by_key_and_group(rt: HostRuntime) -> Result<(), NoMemory> {
+    let (first, second, third) = (member(1, B, 1), view(2, B), view(3, C));
+    let mut other_key = second;
+    other_key.party.key = Key(2);
+    let mut to_other_key = second;
+    to_other_key.partner.key = Key(9);
+    let mut to_itself = second;
+    to_itself.partner = party(A, 2);
+    let mut to_single = second;
+    to_single.partner.aggregatable = false;
+    // Individual at either end, and a member
+    let (mut their_single, mut own_single) = (first, first);
+    their_single.partner.aggregatable = false;
+    own_single.party.aggregatable = false;
     let rows = [
         (views(), 1, Some(1)),
-        (first_selected(), 2, Some(1)),
-        (first_selected(), 3, Some(2)),
-        (second_individual(), 2, Some(2)),
-        (second_other_key(), 2, Some(3)),
-        (second_taken(), 1, Some(2)),
-        (two_joinable(), 2, Some(1)),
+        ([first, second, third], 2, Some(1)),
+        ([first, second, third], 3, Some(2)),
+        ([first, to_single, third], 2, Some(2)),
+        ([first, other_key, third], 2, Some(3)),
+        ([view(1, B), second, member(3, B, 2)], 1, Some(2)),
+        ([first, second, member(3, B, 2)], 2, Some(1)),
         // ports 1 and 3, of different partners
-        (chosen([selected(1), NONE, selected(1)]), 2, Some(2)),
-        (second_partner_key(), 2, Some(2)),
-        (same_individual(), 2, Some(2)),
-        (same_individual_own(), 2, Some(2)),
-        (both_taken(), 2, None),
-        (second_own(), 2, None),
-        (first_selected(), 1, None),
-        (first_selected(), 4, None),
+        ([first, second, member(3, C, 1)], 2, Some(2)),
+        ([first, to_other_key, third], 2, Some(2)),
+        (
+            [their_single, with_ends_of(their_single, second), third],
+            2,
+            Some(2),
+        ),
+        (
+            [own_single, with_ends_of(own_single, second), third],
+            2,
+            Some(2),
+        ),
+        ([first, to_single, member(3, C, 2)], 2, None),
+        ([first, to_itself, third], 2, None),
+        ([first, second, third], 1, None),
+        ([first, second, third], 4, None),
         (views(), 0, None),
     ];
     choose(&rt, &aggregators(rt.alloc())?, &rows);
@@ -290,56 +255,21 @@ fn standby(agg: u16) -> Choice {
     Choice::Standby(AggId(agg))
 }
 
-/// Ports 5, 7 and 9 of one partner, STANDBY with this aggregator. Port 7 has the lowest port identifier and port 5 the
-/// highest, by their priorities.
-fn all_standby(agg: u16) -> [PortView; 3] {
+/// Ports 5, 7 and 9 of one partner with these choices and priorities.
+fn ranked(choices: [Choice; 3], priorities: [u16; 3]) -> [PortView; 3] {
     let mut views = [view(5, B), view(7, B), view(9, B)];
-    for (view, priority) in views.iter_mut().zip([300, 200, 250]) {
-        view.choice = standby(agg);
+    for (view, choice) in views.iter_mut().zip(choices) {
+        view.choice = choice;
+    }
+    for (view, priority) in views.iter_mut().zip(priorities) {
         view.party.port.priority = priority;
     }
     views
 }
 
-/// Port 5 is a member of aggregator 1, and ports 7 and 9 are STANDBY with it; port 9 has the lower port identifier.
-fn two_standby() -> [PortView; 3] {
-    let mut views = all_standby(1);
-    views[0].choice = selected(1);
-    views[2].party.port.priority = 100;
-    views
-}
-
-/// Ports 5 and 9 are members of aggregator 1, and port 7 is STANDBY with it.
-fn two_members() -> [PortView; 3] {
-    let mut views = two_standby();
-    views[2].choice = selected(1);
-    views
-}
-
-/// Ports 5, 7 and 9 are STANDBY with aggregator 1 and have equal priorities.
-fn equal_priorities() -> [PortView; 3] {
-    let mut views = all_standby(1);
-    for view in views.iter_mut() {
-        view.party.port.priority = 128;
-    }
-    views
-}
-
-/// Ports of equal priority, whose numbers in their port identifiers fall.
-fn falling_identifiers() -> [PortView; 3] {
-    let mut views = equal_priorities();
-    for (view, number) in views.iter_mut().zip([40, 30, 20]) {
-        view.party.port.number = number;
-    }
-    views
-}
-
-/// Ports 5, 7 and 9 are STANDBY with aggregators 3, 1 and 2.
-fn one_standby_each() -> [PortView; 3] {
-    let mut views = all_standby(3);
-    views[1].choice = standby(1);
-    views[2].choice = standby(2);
-    views
+/// Those ports, STANDBY with this aggregator. Port 7 has the lowest port identifier and port 5 the highest, by their priorities.
+fn all_standby(agg: u16) -> [PortView; 3] {
+    ranked([standby(agg); 3], [300, 200, 250])
 }
 
 /// Views, a limit and an aggregator: whether that has room, and the STANDBY port that comes next, by its index and number.
@@ -360,6 +290,15 @@ fn tells_room(rt: &impl Abort, alloc: Global, place: usize, row: &Room) -> Resul
 
 #[test]
 fn tells_room_and_the_next_standby_port(rt: HostRuntime) -> Result<(), NoMemory> {
+    // port 9 has the lower port identifier of the two that are STANDBY
+    let one = ranked([selected(1), standby(1), standby(1)], [300, 200, 100]);
+    let two = ranked([selected(1), standby(1), selected(1)], [300, 200, 100]);
+    let equal = ranked([standby(1); 3], [128; 3]);
+    let mut falling = equal;
+    for (view, number) in falling.iter_mut().zip([40, 30, 20]) {
+        view.party.port.number = number;
+    }
+    let each = ranked([standby(3), standby(1), standby(2)], [300, 200, 250]);
     let rows: [Room; 18] = [
         (all_standby(1), Some(1), 1, true, Some((1, 7))),
         (all_standby(1), Some(0), 1, false, None),
@@ -367,17 +306,17 @@ fn tells_room_and_the_next_standby_port(rt: HostRuntime) -> Result<(), NoMemory>
         (all_standby(0), Some(1), 0, false, None),
         (all_standby(4), None, 4, false, None),
         (all_standby(3), Some(64), 3, true, Some((1, 7))),
-        (two_standby(), Some(1), 1, false, None),
-        (two_standby(), Some(2), 1, true, Some((2, 9))),
-        (two_standby(), None, 1, true, Some((2, 9))),
-        (two_members(), Some(1), 1, false, None),
-        (two_members(), Some(2), 1, false, None),
-        (two_members(), Some(3), 1, true, Some((1, 7))),
-        (equal_priorities(), Some(1), 1, true, Some((0, 5))),
-        (falling_identifiers(), Some(1), 1, true, Some((2, 9))),
-        (one_standby_each(), Some(1), 1, true, Some((1, 7))),
-        (one_standby_each(), Some(1), 2, true, Some((2, 9))),
-        (one_standby_each(), Some(1), 3, true, Some((0, 5))),
+        (one, Some(1), 1, false, None),
+        (one, Some(2), 1, true, Some((2, 9))),
+        (one, None, 1, true, Some((2, 9))),
+        (two, Some(1), 1, false, None),
+        (two, Some(2), 1, false, None),
+        (two, Some(3), 1, true, Some((1, 7))),
+        (equal, Some(1), 1, true, Some((0, 5))),
+        (falling, Some(1), 1, true, Some((2, 9))),
+        (each, Some(1), 1, true, Some((1, 7))),
+        (each, Some(1), 2, true, Some((2, 9))),
+        (each, Some(1), 3, true, Some((0, 5))),
         (views(), Some(1), 1, true, None),
     ];
     for (place, row) in rows.iter().enumerate() {
@@ -394,34 +333,25 @@ fn new_makes_aggregators_without_a_limit(rt: HostRuntime) -> Result<(), NoMemory
     Ok(())
 }
 
-/// Port 1 is STANDBY with aggregator 1.
-fn first_standby() -> [PortView; 3] {
-    chosen([standby(1), NONE, NONE])
-}
-
 /// Port 1 is a member of aggregator 1; port 3, whose partner is another one, is STANDBY with it.
 fn member_and_standby() -> [PortView; 3] {
     chosen([selected(1), NONE, standby(1)])
 }
 
-/// Port 1 is STANDBY with aggregator 1, and the partner of port 2 is Individual.
-fn individual_beside_standby() -> [PortView; 3] {
-    let mut views = first_standby();
-    views[1].partner.aggregatable = false;
-    views
-}
-
 /// What a port chooses does not depend on the limit.
 #[test]
 fn a_standby_port_occupies_its_aggregator(rt: HostRuntime) -> Result<(), NoMemory> {
+    let first = chosen([standby(1), NONE, NONE]);
+    let mut to_single = first;
+    to_single[1].partner.aggregatable = false;
     let rows = [
-        (first_standby(), 2, Some(1)),
-        (first_standby(), 3, Some(2)),
+        (first, 2, Some(1)),
+        (first, 3, Some(2)),
         // the partner of port 3 is another one
         (chosen([standby(1), NONE, standby(2)]), 2, Some(1)),
         (member_and_standby(), 2, Some(2)),
-        (individual_beside_standby(), 2, Some(2)),
-        (first_selected(), 2, Some(1)),
+        (to_single, 2, Some(2)),
+        (chosen([selected(1), NONE, NONE]), 2, Some(1)),
     ];
     for limit in [None, Some(1)] {
         let keys = [Key(1), Key(1), Key(2)];

@@ -1,7 +1,6 @@
+use crate::given::end;
 use arrayvec::ArrayVec;
-use bitflags::Flags;
 use findings::{Findings, Rule, SlowFrame, What};
-use lagtypes::{Key, PortId, State, SystemId};
 use slowpdu::{Info, Lacpdu};
 use std::process::Abort;
 
@@ -20,18 +19,7 @@ pub const FAST: u8 = 0x3f;
 
 /// Port 1 of a system, with key 1.
 pub fn info(system: u8, state: u8) -> Info {
-    Info {
-        system: SystemId {
-            priority: 32768,
-            mac: [2, 0, 0, 0, 0, system],
-        },
-        key: Key(1),
-        port: PortId {
-            priority: 128,
-            number: 1,
-        },
-        state: State::from_bits_retain(state),
-    }
+    end(system, 1, 1, state)
 }
 
 /// What an end sends in an LACPDU: the Actor and the Partner.
@@ -81,6 +69,15 @@ pub fn at(milliseconds: u64, said: Said) -> SlowFrame {
             max_delay: 0,
         }),
     }
+}
+
+/// Frames with this LACPDU, one at each of these times.
+pub fn each_at<const N: usize>(times: [u64; N], said: Said) -> [SlowFrame; N] {
+    let mut frames = [at(0, said); N];
+    for (frame, milliseconds) in frames.iter_mut().zip(times) {
+        *frame = at(milliseconds, said);
+    }
+    frames
 }
 
 /// The frame on another interface than the first.

@@ -1,4 +1,4 @@
-use crate::links::frames::{FAST, UP, a_to_b, at, observed, on, shows};
+use crate::links::frames::{FAST, UP, a_to_b, at, each_at, observed, on, shows};
 use findings::{Findings, LinkEnd, MOST_ENDS, Rule, What};
 use slowpdu::{Marker, MarkerKind, WireFault};
 use std::process::Abort;
@@ -58,15 +58,7 @@ fn a_source_is_no_individual_address(rt: HostRuntime) {
 #[test]
 fn each_rule_of_a_frame_has_its_own_first_frame(rt: HostRuntime) {
     let said = a_to_b(UP, UP);
-    let mut frames = [
-        at(0, said),
-        at(1000, said),
-        at(2000, said),
-        at(3000, said),
-        at(4000, said),
-        at(5000, said),
-        at(6000, said),
-    ];
+    let mut frames = each_at([0, 1000, 2000, 3000, 4000, 5000, 6000], said);
     frames[0].tags = 2;
     frames[1].other_types = true;
     frames[2].destination = Some([0x01, 0x80, 0xc2, 0, 0, 0x0e]);

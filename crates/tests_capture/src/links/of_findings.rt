@@ -1,4 +1,4 @@
-use crate::links::frames::{A, B, C, FAST, UP, a_to_b, at, b_to_a, info, said_by, shows};
+use crate::links::frames::{A, B, C, FAST, UP, a_to_b, at, b_to_a, each_at, info, said_by, shows};
 use slowpdu::Info;
 use std::process::Abort;
 
@@ -20,24 +20,18 @@ fn a_healthy_link_shows_nothing(rt: HostRuntime) {
 fn a_fourth_lacpdu_in_any_second_is_found_once(rt: HostRuntime) {
     let said = a_to_b(FAST, FAST);
     // within two whole seconds, two in each
-    let across = [at(600, said), at(900, said), at(1200, said), at(1500, said)];
+    let across = each_at([600, 900, 1200, 1500], said);
     shows(&rt, &across, 2000, &[(1, 4)]);
     // the fourth comes a second after the first
-    let apart = [at(0, said), at(300, said), at(600, said), at(1000, said)];
+    let apart = each_at([0, 300, 600, 1000], said);
     shows(&rt, &apart, 2000, &[]);
     // the fifth is one too many as well
-    let more = [
-        at(0, said),
-        at(300, said),
-        at(600, said),
-        at(999, said),
-        at(1100, said),
-    ];
+    let more = each_at([0, 300, 600, 999, 1100], said);
     shows(&rt, &more, 2000, &[(1, 4)]);
     // in a merged capture they stand out of order
-    let merged = [at(900, said), at(300, said), at(600, said), at(1200, said)];
+    let merged = each_at([900, 300, 600, 1200], said);
     shows(&rt, &merged, 2000, &[(1, 4)]);
-    let apart = [at(900, said), at(300, said), at(0, said), at(1000, said)];
+    let apart = each_at([900, 300, 0, 1000], said);
     shows(&rt, &apart, 2000, &[]);
 }
 
@@ -70,7 +64,7 @@ fn synchronization_is_lost(rt: HostRuntime) {
 #[test]
 fn an_end_is_attached_and_its_partner_is_not_synchronized(rt: HostRuntime) {
     let said = a_to_b(0x0d, 0x05);
-    let frames = [at(0, said), at(3000, said), at(6000, said), at(6001, said)];
+    let frames = each_at([0, 3000, 6000, 6001], said);
     shows(&rt, &frames, 7000, &[(22, 4)]);
     shows(&rt, &frames[..3], 7000, &[]);
     let between = at(3000, a_to_b(0x0d, 0x0d));
@@ -150,13 +144,7 @@ fn an_end_is_synchronized_too_soon(rt: HostRuntime) {
 #[test]
 fn frames_are_distributed_that_nobody_collects(rt: HostRuntime) {
     let said = a_to_b(UP, 0x0d);
-    let frames = [
-        at(0, said),
-        at(1000, said),
-        at(2000, said),
-        at(3000, said),
-        at(3001, said),
-    ];
+    let frames = each_at([0, 1000, 2000, 3000, 3001], said);
     shows(&rt, &frames, 4000, &[(17, 5)]);
     let frames = [
         at(0, said),
@@ -171,25 +159,14 @@ fn frames_are_distributed_that_nobody_collects(rt: HostRuntime) {
 #[test]
 fn a_clock_that_steps_back_shows_this_alone(rt: HostRuntime) {
     let said = a_to_b(FAST, FAST);
-    let fourth = [
-        at(5000, said),
-        at(6000, said),
-        at(7000, said),
-        at(1000, said),
-    ];
+    let fourth = each_at([5000, 6000, 7000, 1000], said);
     shows(&rt, &fourth, 1500, &[(28, 4)]);
     let mut rival = a_to_b(FAST, FAST);
     rival.actor = info(C, FAST);
     let frames = [at(5000, said), at(5500, rival), at(1000, said)];
     shows(&rt, &frames, 1500, &[(28, 3)]);
     // 6.4.16: the clock steps back by 3 seconds between two of four LACPDUs that are a second apart.
-    let apart = [
-        at(5000, said),
-        at(6000, said),
-        at(7000, said),
-        at(5500, said),
-        at(6500, said),
-    ];
+    let apart = each_at([5000, 6000, 7000, 5500, 6500], said);
     shows(&rt, &apart, 7000, &[(28, 4)]);
     // By a second it is in the order of what several interfaces receive; the first step is told, and no other.
     shows(&rt, &[at(5000, said), at(4000, said)], 5000, &[]);

@@ -1,21 +1,30 @@
-use crate::links::frames::{A, B, C, FAST, Said, UP, a_to_b, at, b_to_a, info, on, shows};
+use crate::links::frames::{A, B, C, FAST, Said, UP, a_to_b, at, b_to_a, info, on, said_by, shows};
 use findings::SlowFrame;
 use lagtypes::Key;
 use slowpdu::Info;
 use std::process::Abort;
 
+/// What ports with this number say on the interface with this number, and with these keys at their two ends.
+fn link(milliseconds: u64, number: u16, keys: (u16, u16)) -> SlowFrame {
+    let said = keyed(a_to_b(FAST, FAST), number, keys);
+    on(u32::from(number), at(milliseconds, said))
+}
+
+/// The same, but of ports with this number and these keys.
+fn keyed(said: Said, number: u16, keys: (u16, u16)) -> Said {
+    let mut other = said;
+    other.actor.port.number = number;
+    other.partner.port.number = number;
+    other.actor.key = Key(keys.0);
+    other.partner.key = Key(keys.1);
+    other
+}
+
 // 6.3.6: a LAG ID has the keys of both systems.
 #[test]
 fn keys_differ_within_a_pair_of_systems(rt: HostRuntime) {
     let second = |from: Info, to: Info, keys: (u16, u16)| {
-        let mut said = a_to_b(FAST, FAST);
-        said.actor = from;
-        said.partner = to;
-        said.actor.port.number = 2;
-        said.partner.port.number = 2;
-        said.actor.key = Key(keys.0);
-        said.partner.key = Key(keys.1);
-        on(1, at(400, said))
+        on(1, at(400, keyed(said_by(from, to), 2, keys)))
     };
     let first = at(0, a_to_b(FAST, FAST));
     let again = at(1000, a_to_b(FAST, FAST));
@@ -41,32 +50,20 @@ fn keys_differ_within_a_pair_of_systems(rt: HostRuntime) {
 // 6.3.6: two groups of A lead to two groups of B, one to one: the keys of their links differ at both ends.
 #[test]
 fn two_bundles_are_between_two_systems(rt: HostRuntime) {
-    let link = |milliseconds: u64, number: u16, own: u16, far: u16| {
-        let mut said = a_to_b(FAST, FAST);
-        said.actor.port.number = number;
-        said.partner.port.number = number;
-        said.actor.key = Key(own);
-        said.partner.key = Key(far);
-        on(u32::from(number), at(milliseconds, said))
-    };
     let frames = |third: (u16, u16), fourth: (u16, u16)| {
-        let first = |milliseconds: u64| link(milliseconds, 1, 10, 10);
-        let second = |milliseconds: u64| link(milliseconds, 2, 10, 10);
-        let third = |milliseconds: u64| link(milliseconds, 3, third.0, third.1);
-        let fourth = |milliseconds: u64| link(milliseconds, 4, fourth.0, fourth.1);
         [
-            first(0),
-            fourth(10),
-            second(20),
-            third(30),
-            first(1000),
-            fourth(1010),
-            second(1020),
-            third(1030),
-            first(2000),
-            fourth(2010),
-            second(2020),
-            third(2030),
+            link(0, 1, (10, 10)),
+            link(10, 4, fourth),
+            link(20, 2, (10, 10)),
+            link(30, 3, third),
+            link(1000, 1, (10, 10)),
+            link(1010, 4, fourth),
+            link(1020, 2, (10, 10)),
+            link(1030, 3, third),
+            link(2000, 1, (10, 10)),
+            link(2010, 4, fourth),
+            link(2020, 2, (10, 10)),
+            link(2030, 3, third),
         ]
     };
     shows(&rt, &frames((20, 20), (20, 20)), 3000, &[]);
@@ -82,21 +79,14 @@ fn two_bundles_are_between_two_systems(rt: HostRuntime) {
 // What an end has said before counts no more.
 #[test]
 fn a_key_that_is_set_right_is_no_fault(rt: HostRuntime) {
-    let link = |milliseconds: u64, number: u16, far: u16| {
-        let mut said = a_to_b(FAST, FAST);
-        said.actor.port.number = number;
-        said.partner.port.number = number;
-        said.partner.key = Key(far);
-        on(u32::from(number), at(milliseconds, said))
-    };
     let frames = [
-        link(0, 1, 1),
-        link(100, 2, 2),
-        link(1000, 1, 1),
-        link(1100, 2, 1),
-        link(2000, 1, 1),
-        link(2100, 2, 1),
-        link(3000, 1, 1),
+        link(0, 1, (1, 1)),
+        link(100, 2, (1, 2)),
+        link(1000, 1, (1, 1)),
+        link(1100, 2, (1, 1)),
+        link(2000, 1, (1, 1)),
+        link(2100, 2, (1, 1)),
+        link(3000, 1, (1, 1)),
     ];
     shows(&rt, &frames, 3500, &[]);
 }
@@ -105,13 +95,7 @@ fn a_key_that_is_set_right_is_no_fault(rt: HostRuntime) {
 #[test]
 fn two_links_carry_in_two_groups(rt: HostRuntime) {
     let (first, answer) = (a_to_b(FAST, FAST), b_to_a(FAST, FAST));
-    let (mut second, mut reply) = (first, answer);
-    second.actor.port.number = 2;
-    second.partner.port.number = 2;
-    second.partner.key = Key(2);
-    reply.actor.port.number = 2;
-    reply.actor.key = Key(2);
-    reply.partner.port.number = 2;
+    let (second, reply) = (keyed(first, 2, (1, 2)), keyed(answer, 2, (2, 1)));
     let other = |milliseconds: u64, said: Said| on(1, at(milliseconds, said));
     let frames = [
         at(0, first),
@@ -136,10 +120,7 @@ fn two_links_carry_in_two_groups(rt: HostRuntime) {
 #[test]
 fn keys_are_not_judged_where_one_link_stands_behind_the_other(rt: HostRuntime) {
     let said = a_to_b(UP, UP);
-    let mut other = said;
-    other.actor.key = Key(2);
-    other.actor.port.number = 2;
-    other.partner.port.number = 2;
+    let other = keyed(said, 2, (2, 1));
     let second = |milliseconds: u64| on(1, at(milliseconds, other));
     let frames = [
         at(0, said),

@@ -67,22 +67,16 @@ fn a_response_that_nobody_asked_for_is_found(rt: HostRuntime) {
     shows(&rt, &[says, to_first], 1000, &[(20, 2)]);
     shows(&rt, &[says, to_first, to_second], 1000, &[(20, 2)]);
     shows(&rt, &[says, first, to_first, to_second], 1000, &[(20, 4)]);
-    let mut other = to_first;
-    other.what = What::Marker(Marker {
-        kind: MarkerKind::Response,
-        port: 2,
-        system: [2, 0, 0, 0, 0, A],
-        id: 7,
-    });
-    shows(&rt, &[says, first, other], 1000, &[(20, 3)]);
-    let mut other = to_first;
-    other.what = What::Marker(Marker {
+    let other_port = of_port_2(to_first);
+    shows(&rt, &[says, first, other_port], 1000, &[(20, 3)]);
+    let mut other_system = to_first;
+    other_system.what = What::Marker(Marker {
         kind: MarkerKind::Response,
         port: 1,
         system: [2, 0, 0, 0, 0, B],
         id: 7,
     });
-    shows(&rt, &[says, first, other], 1000, &[(20, 3)]);
+    shows(&rt, &[says, first, other_system], 1000, &[(20, 3)]);
     // A marker on another interface asks nobody here.
     let elsewhere = on(1, first);
     shows(&rt, &[says, elsewhere, to_first], 1000, &[(20, 3)]);
@@ -119,39 +113,26 @@ fn markers_of_two_links_are_answered(rt: HostRuntime) {
     shows(&rt, &frames, 1000, &[(20, 4)]);
 }
 
+/// What B says, and then markers 1, 2 and so on.
+fn says_and_waits<const N: usize>() -> [SlowFrame; N] {
+    let mut frames = [b_says(); N];
+    for (id, frame) in (1u32..).zip(frames.iter_mut().skip(1)) {
+        *frame = asked(u64::from(id).wrapping_mul(10), id);
+    }
+    frames
+}
+
 // A marker beyond eight that wait finds no place: no response is judged from then on.
 #[test]
 fn of_more_than_eight_markers_nothing_is_said(rt: HostRuntime) {
-    let waits = |id: u32| asked(u64::from(id).wrapping_mul(10), id);
-    let (says, answer, other) = (b_says(), answered(200, 1), answered(210, 99));
-    let frames = [
-        says,
-        waits(1),
-        waits(2),
-        waits(3),
-        waits(4),
-        waits(5),
-        waits(6),
-        waits(7),
-        waits(8),
-        answer,
-        other,
-    ];
+    let (answer, other) = (answered(200, 1), answered(210, 99));
+    let mut frames = says_and_waits::<11>();
+    frames[9] = answer;
+    frames[10] = other;
     shows(&rt, &frames, 1000, &[(20, 11)]);
-    let frames = [
-        says,
-        waits(1),
-        waits(2),
-        waits(3),
-        waits(4),
-        waits(5),
-        waits(6),
-        waits(7),
-        waits(8),
-        waits(9),
-        answer,
-        other,
-    ];
+    let mut frames = says_and_waits::<12>();
+    frames[10] = answer;
+    frames[11] = other;
     shows(&rt, &frames, 1000, &[]);
 }
 

@@ -1,4 +1,4 @@
-use crate::links::frames::{A, B, C, FAST, UP, a_to_b, at, b_to_a, info, on, shows};
+use crate::links::frames::{A, B, C, FAST, UP, a_to_b, at, b_to_a, each_at, info, on, shows};
 use slowpdu::Info;
 use std::process::Abort;
 
@@ -72,13 +72,7 @@ fn what_is_over_did_not_last(rt: HostRuntime) {
 #[test]
 fn an_end_hears_nothing_for_too_long(rt: HostRuntime) {
     let said = a_to_b(0x45, 0x00);
-    let frames = [
-        at(0, said),
-        at(2000, said),
-        at(4000, said),
-        at(6000, said),
-        at(6001, said),
-    ];
+    let frames = each_at([0, 2000, 4000, 6000, 6001], said);
     shows(&rt, &frames, 7000, &[(12, 5)]);
     let expired = a_to_b(0x87, 0x3d);
     let frames = [at(0, said), at(2000, expired), at(6001, said)];
@@ -143,12 +137,7 @@ fn an_end_that_comes_to_ask_for_short_timeout_waits_anew(rt: HostRuntime) {
     ];
     shows(&rt, &frames, 24_000, &[(18, 4)]);
     shows(&rt, &frames[..3], 24_000, &[]);
-    let frames = [
-        at(0, long),
-        at(45_000, long),
-        at(90_000, long),
-        at(90_001, long),
-    ];
+    let frames = each_at([0, 45_000, 90_000, 90_001], long);
     shows(&rt, &frames, 91_000, &[(18, 4)]);
     shows(&rt, &frames[..3], 91_000, &[]);
 }
