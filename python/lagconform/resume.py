@@ -24,19 +24,20 @@ TAKEN = (PASS, FAIL, NOT_APPLICABLE)
 
 
 def conditions(given: argparse.Namespace, claimed: Mapping[str, bool]) -> dict[str, object]:
-    """What a verdict depends on: the edition of the tests, the device and its build, its links, and the settings of the bench. Nothing of it may differ
-    where verdicts are taken over."""
+    """What a verdict depends on: the edition of the tests, files of own tests, the device and its build, its links, and the settings of the bench. Nothing
+    of it may differ where verdicts are taken over."""
     links: object = given.interfaces
     if given.memory:
         links = given.links or MEMORY_LINKS
     return {
-        **edition(), "device": given.device, "links": links, "memory": stack(given.memory) if given.memory else "", "hook": given.hook or "", "set": given.set,
-        "flap": given.flap, "pics": dict(claimed), SYSTEM: str(given.system or BASE), "slack": given.slack, "seed": given.seed,
+        **edition(), "device": given.device, "links": links, "memory": with_sum(given.memory) if given.memory else "", "hook": given.hook or "",
+        "set": given.set, "flap": given.flap, "pics": dict(claimed), SYSTEM: str(given.system or BASE), "slack": given.slack, "seed": given.seed,
+        **({"own tests": [*map(with_sum, given.tests)]} if given.tests else {}),
     }  # fmt: skip
 
 
-def stack(path: str) -> str:
-    """The file of a stack in memory, and which build it is."""
+def with_sum(path: str) -> str:
+    """A file of a stack in memory, or of tests, and which build it is."""
     try:
         with open(path, "rb") as it:
             return f"{path}, SHA-256 {hashlib.sha256(it.read()).hexdigest()}"

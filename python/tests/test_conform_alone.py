@@ -164,6 +164,13 @@ def test_tests_of_ones_own_run_beside_those_of_the_bench(run, tmp_path: Path, ca
     assert run(Device, "--tests", str(tmp_path / "lab.py"), "--list") == 2 and "a name of its own" in capsys.readouterr().err
 
 
+def test_verdicts_of_a_file_of_tests_that_changed_are_not_taken_over(run, tmp_path: Path, capsys: pytest.CaptureFixture[str]) -> None:  # type: ignore[no-untyped-def]
+    (tmp_path / "lab.py").write_text(OWN)
+    assert run(Device, "--tests", "lab.py", "--only", "LAB-01", "--json", "r.json") == 0
+    (tmp_path / "lab.py").write_text(OWN.replace('"LAB"', '"LABS"'))
+    assert run(Device, "--tests", "lab.py", "--only", "LABS-01", "--resume", "r.json") == 2 and "own tests was " in capsys.readouterr().err
+
+
 def test_a_group_of_two_names_is_one_group(run, tmp_path: Path) -> None:  # type: ignore[no-untyped-def]
     (tmp_path / "lab.py").write_text(f"from lagconform.groups.receive import group as receive\n{OWN}\nlab = group\n")
     assert run(Device, "--tests", "lab.py", "--only", "LAB-*", "--json", "r.json") == 0
