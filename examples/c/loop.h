@@ -15,8 +15,8 @@ struct loop {
     struct niw_system system;
     uint32_t up;          /* the links, bit 0 that of port 1 */
     uint32_t alone;       /* the ports of no LAG: the chip forwards there as on any port */
-    uint32_t leaving;     /* the ports that will be alone, a second after they left */
-    uint32_t other_speed; /* the ports whose speed is not that of their LAG, which stay out of it; set it, then `settle` */
+    uint32_t leaving;     /* the ports that left, which are blocked until they are alone */
+    uint32_t other_speed; /* the ports whose speed is not that of their LAG, which stay out of it; set it before the link is up, or `settle` */
     uint32_t held;        /* the ports that niw_hold holds */
     uint32_t trunk[LAGS]; /* what the chip was told: bit 0 has data of port 1 taken and sent */
     uint32_t least[LAGS]; /* with fewer ports than these a LAG passes no data, and the peer goes on sending; set it behind `begin`, then `settle` */
@@ -99,11 +99,16 @@ static void take(struct loop *here, uint16_t port, const uint8_t *frame, size_t 
     if (received.what == NIW_RECEIVED_RESPOND && may_respond(here, port)) chip_send(here, port, response, received.number);
 }
 
-/* A port that left its LAG a second ago is alone from now on. */
+/* Whether the link is up and the last LACPDU of the peer says that it has the port in a trunk. */
+static bool peer_uses(struct loop *here, uint16_t port) {
+    return here->up & bit_of(port) && niw_partner(&here->system, port).state & (NIW_STATE_COLLECTING | NIW_STATE_DISTRIBUTING);
+}
+
+/* A port that left its LAG a second ago is alone once its peer let it go. */
 static void part(struct loop *here) {
     for (uint16_t port = 1; port <= PORTS; port++) {
         uint32_t bit = bit_of(port);
-        if (!(here->leaving & bit) || here->ticks - here->left[port] < SECOND) continue;
+        if (!(here->leaving & bit) || here->ticks - here->left[port] < SECOND || peer_uses(here, port)) continue;
         niw_set_link(&here->system, port, false);
         here->leaving &= ~bit;
         here->alone |= bit;
@@ -150,7 +155,7 @@ static inline void join(struct loop *here, uint16_t port, uint16_t lag) {
     settle(here);
 }
 
-/* The user takes a port out of its LAG: the peer is told, and the port is alone when it has had a second to hear it. */
+/* The user takes a port out of its LAG: the peer is told, and the port is alone a second later, if the peer let it go by then; else once it did. */
 static inline void leave(struct loop *here, uint16_t port) {
     if ((here->alone | here->leaving) & bit_of(port)) return;
     here->leaving |= bit_of(port);
@@ -160,7 +165,8 @@ static inline void leave(struct loop *here, uint16_t port) {
 
 /* Why a port passes no data, for a log, or that it distributes: that it is held niw_port_status says, too, but not why, and of `least` it knows nothing. */
 static inline const char *why_out(struct loop *here, uint16_t port) {
-    if ((here->alone | here->leaving) & bit_of(port)) return "it is in no LAG";
+    if (here->alone & bit_of(port)) return "it is in no LAG";
+    if (here->leaving & bit_of(port)) return "it leaves its LAG";
     if (!(here->up & bit_of(port))) return "its link is down";
     if (here->other_speed & bit_of(port)) return "its speed is not that of its LAG";
     if (niw_defaulted(&here->system, port).is) return "no LACPDU comes";
@@ -171,14 +177,25 @@ static inline const char *why_out(struct loop *here, uint16_t port) {
     return niw_port_status_text(status);
 }
 
-/* Makes the system of these ports, which have no key of a LAG and are alone; the chip blocks none. `here` is all zero before, or its system was freed: one
- * that has a system keeps it, and the answer is NIW_HAS_SYSTEM. */
+/* Makes the system of these ports, which have no key of a LAG and are alone. Whatever the chip had before, it has empty trunks then, and blocks no port; it
+ * should not forward until the ports joined. `here` is all zero before, or its system was freed: one that has a system keeps it, and the answer is
+ * NIW_HAS_SYSTEM. A call that is refused tells the chip nothing. */
 static inline uint32_t begin(struct loop *here, const struct niw_config *config, const struct niw_port *ports) {
+    const uint32_t all = UINT32_MAX >> (32 - PORTS);
     uint16_t keys[LAGS];
     if (here->system.live) return NIW_HAS_SYSTEM;
     for (uint16_t lag = 1; lag <= LAGS; lag++) keys[lag - 1] = lag;
-    *here = (struct loop){.system = NIW_EMPTY, .alone = UINT32_MAX, .ticks = SECOND};
-    return niw_new(&here->system, config, keys, LAGS, ports, PORTS).status;
+    *here = (struct loop){.system = NIW_EMPTY, .ticks = SECOND};
+    uint32_t status = niw_new(&here->system, config, keys, LAGS, ports, PORTS).status;
+    if (status != NIW_OK) return status;
+    chip_block(here, all, true);
+    for (uint16_t lag = 1; lag <= LAGS; lag++) {
+        chip_set_trunk(here, lag, 0);
+        chip_flush(here, lag);
+    }
+    here->alone = UINT32_MAX;
+    chip_block(here, all, false);
+    return NIW_OK;
 }
 
 #endif

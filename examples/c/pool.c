@@ -21,7 +21,7 @@ static _Alignas(16) uint8_t room[2 * NIW_MEMORY(PORTS, LAGS, ROWS)];
 
 struct trapped { uint16_t port; size_t length; uint8_t octets[NIW_FRAME]; };
 
-/* A switch: its loop, and its chip. */
+/* A switch: its loop, and its chip, which stays as it is when the loop begins anew. */
 struct box {
     struct loop loop;
     uint32_t trunk[LAGS];
@@ -89,12 +89,15 @@ static uint32_t make(struct box *box, uint8_t number, uint16_t conversations) {
     struct niw_port ports[PORTS];
     for (uint16_t i = 0; i < PORTS; i++)
         ports[i] = (struct niw_port){(uint16_t)(i + 1), 128, {2, 0, 0, 0, (uint8_t)(i + 1), number}, 0, true, true, true};
-    *box = (struct box){.first = 0};
     return begin(&box->loop, &config, ports);
 }
 
-static void join_all(struct box *box) {
-    for (uint16_t port = 1; port <= PORTS; port++) join(&box->loop, port, 1);
+static void join_all(struct box *box, uint16_t lag) {
+    for (uint16_t port = 1; port <= PORTS; port++) join(&box->loop, port, lag);
+}
+
+static void leave_from(struct box *box, uint16_t first) {
+    for (uint16_t port = first; port <= PORTS; port++) leave(&box->loop, port);
 }
 
 static void deliver(void) {
@@ -132,6 +135,13 @@ static void set_links(uint16_t from, uint16_t to, bool up) {
     for (uint16_t port = from; port <= to; port++) {
         set_link(&one.loop, port, up);
         set_link(&two.loop, port, up);
+    }
+}
+
+static void set_timeouts(bool are_short) {
+    for (uint16_t port = 1; port <= PORTS; port++) {
+        niw_set_mode(&one.loop.system, port, true, are_short);
+        niw_set_mode(&two.loop.system, port, true, are_short);
     }
 }
 
@@ -208,6 +218,18 @@ static void show_speed(void) {
     printf("; of port 1: %s\n", why_out(&one.loop, 1));
 }
 
+/* The ports beyond a limit leave before it is set, and join again: they stand by. */
+static void show_limit(void) {
+    printf("two links at most: %s", niw_status_text(niw_set_max_links(&one.loop.system, 2)));
+    leave_from(&one, 3);
+    printf("; the others leave: %s", niw_status_text(niw_set_max_links(&one.loop.system, 2)));
+    for (uint16_t port = 3; port <= PORTS; port++) join(&one.loop, port, 1);
+    printf("; they join: ports 1 and 2 alone after %u tick; of port 3: %s\n", run(100, 3), why_out(&one.loop, 3));
+    niw_set_max_links(&one.loop.system, 0);
+    settle(&one.loop);
+    printf("any number of links: all after %u ticks\n", run(100, ALL));
+}
+
 /* The user takes a port out of its LAG while its cable is in place, at one end alone, and puts it back. */
 static void show_leaving(void) {
     unsigned ticks = 0;
@@ -220,14 +242,50 @@ static void show_leaving(void) {
     printf("it joins again: all after %u ticks\n", run(400, ALL));
 }
 
+/* Both ends ask for long timeouts, and the peer misses that the port leaves: it hears so when its own LACPDU is answered. */
+static void show_lost_leave(void) {
+    unsigned ticks = 0;
+    set_timeouts(false);
+    run(50, ALL);
+    silent = 1;
+    leave(&one.loop, 1);
+    silent = 0;
+    for (ticks = 0; two.trunk[0] & 1; ticks++) run(1, 0);
+    printf("by long timeouts the peer misses that port 1 leaves: it takes the port out after %u ticks", ticks);
+    for (; one.blocked & 1; ticks++) run(1, 0);
+    printf("; port 1 passes data by itself after %u\n", ticks);
+    set_timeouts(true);
+    join(&one.loop, 1, 1);
+    printf("it joins again, by short ones: all after %u ticks\n", run(400, ALL));
+}
+
 static void show_lags(void) {
     for (uint16_t port = 3; port <= PORTS; port++) join(&one.loop, port, (uint16_t)((port + 1) / 2));
     printf("two ports to a LAG, at one end: LAG 1 alone carries after %u tick", run_both(100, 3, false));
     for (uint16_t port = 3; port <= PORTS; port++) join(&two.loop, port, (uint16_t)((port + 1) / 2));
     printf("; at both ends: all LAGs after %u\n", run_both(100, 3, true));
-    join_all(&one);
-    join_all(&two);
+    join_all(&one, 1);
+    join_all(&two, 1);
     printf("all are of LAG 1 again: all after %u ticks\n", run(100, ALL));
+}
+
+/* The second one starts again while its chip has a trunk and a blocked port, and its ports join another LAG. The next time it says so before. */
+static void show_restarts(void) {
+    unsigned ticks = 0;
+    set_link(&two.loop, 1, false);
+    niw_free(&two.loop.system);
+    make(&two, 2, ROWS);
+    printf("the second one starts again: its chip has %s", carries(&two, 0, false) && !two.blocked ? "no trunk, and no blocked port" : "what it had");
+    join_all(&two, 2);
+    for (uint16_t port = 1; port <= PORTS; port++) set_link(&two.loop, port, true);
+    printf("; its ports join LAG 2: %u LACPDUs before the first tick", one.waiting);
+    for (; one.trunk[0] != ALL || two.trunk[1] != ALL; ticks++) run(1, 0);
+    printf(", all after %u\n", ticks);
+    leave_from(&two, 1);
+    for (ticks = 0; one.trunk[0] || two.trunk[1]; ticks++) run(1, 0);
+    printf("before a restart its ports leave: both trunks are empty after %u tick", ticks);
+    run(10 - ticks, 0);
+    printf("; after 10 its ports are %s\n", two.blocked == ALL ? "blocked" : "not blocked");
 }
 
 int main(void) {
@@ -240,20 +298,23 @@ int main(void) {
     printf("two handles of one buffer: %s, %s\n", niw_status_text(make(&one, 1, ROWS)), niw_status_text(make(&two, 2, ROWS)));
     printf("a third one with 4096 conversations: %s\n", niw_status_text(begin(&third, &large, ports)));
     printf("a second begin of the first one: %s\n", niw_status_text(begin(&one.loop, &large, ports)));
-    join_all(&one);
-    join_all(&two);
+    join_all(&one, 1);
+    join_all(&two, 1);
     show_silent_ports();
     show_markers();
     show_late_ticks();
     show_links();
     show_least();
     show_speed();
+    show_limit();
     show_leaving();
+    show_lost_leave();
     show_lags();
+    show_restarts();
     set_links(1, PORTS, false);
     niw_free(&two.loop.system);
     printf("another switch in the memory of the second: %s\n", niw_status_text(make(&two, 9, ROWS)));
-    join_all(&two);
+    join_all(&two, 1);
     set_links(2, PORTS, true);
     printf("the other links lead there: all but port 1 after %u ticks\n", run(100, ALL & ~UINT32_C(1)));
     printf("%s\n", strayed ? "a port passed data outside a trunk" : "no port of a LAG passed data outside its trunk");
