@@ -18,6 +18,12 @@
 /* The most responses to markers that a port sends in a second. */
 #define LAG_RESPONSES 10
 
+/* Where the frame of an LACPDU has the state of its sender. */
+#define LAG_ACTOR_STATE 32
+
+/* How often a partner sends that is asked for long timeouts, in ticks (IEEE 802.1AX-2014, 6.4.4). */
+#define LAG_SLOW_TICKS 300
+
 /* The library of c/lag.c has this text, the native one has not. */
 extern const char niw_lag_c[] __attribute__((weak));
 
@@ -191,7 +197,13 @@ lag_end_save(struct lag_port *ports, size_t count, struct niw_saved *saved, int6
             saved[kept].port = it->port.number;
             saved[kept].aggregator = lag_aggregator_of(ports, i);
             saved[kept].age = age < UINT32_MAX ? (uint32_t) age : UINT32_MAX;
-            memcpy(saved[kept++].frame, it->heard->frame, NIW_FRAME);
+            memcpy(saved[kept].frame, it->heard->frame, NIW_FRAME);
+            /* An LACPDU was missed, and the next one may come too late. A partner that reads its timeout wrong answers at once (6.4.9), and until it
+             * has answered it is sent an LACPDU each second. */
+            if (age > LAG_SLOW_TICKS) {
+                saved[kept].frame[LAG_ACTOR_STATE] |= NIW_STATE_TIMEOUT;
+            }
+            kept++;
         }
     }
     return kept;
