@@ -16,7 +16,7 @@ struct loop {
     uint32_t up;          /* the links, bit 0 that of port 1 */
     uint32_t alone;       /* the ports of no LAG: the chip forwards there as on any port */
     uint32_t leaving;     /* the ports that left, which are blocked until they are alone */
-    uint32_t other_speed; /* the ports whose speed is not that of their LAG, which stay out of it; set it before the link is up, or `settle` */
+    uint32_t other_speed; /* the ports whose speed is not that of their LAG, which stay out of it; set it behind `begin`, before the link is up, or `settle` */
     uint32_t held;        /* the ports that niw_hold holds */
     uint32_t trunk[LAGS]; /* what the chip was told: bit 0 has data of port 1 taken and sent */
     uint32_t least[LAGS]; /* with fewer ports than these a LAG passes no data, and the peer goes on sending; set it behind `begin`, then `settle` */
