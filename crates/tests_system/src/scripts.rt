@@ -27,7 +27,7 @@ pub(crate) const SYSTEM_1: Frame = Frame {
 };
 
 const SYSTEM_2: Frame = Frame {
-    before: "system = [{mac = \"02-00-00-00-00-01\", aggregators = [1], port = [{number = 1, key = 1}]}, {",
+    before: "system = [{mac = \"02-00-00-00-00-01\", aggregators = [1], max_links = 1, conversations = 4096, port = [{number = 1, key = 1}]}, {",
     behind: "}]",
     fault: "system 2",
 };
@@ -250,13 +250,21 @@ fn later_keys_of_systems_are_refused(rt: HostRuntime) -> Result<(), AllocError> 
 const LINKS_AND_COUNTS: &str = r#"max_links = -1 => : max_links
 max_links = 65536 => : max_links
 max_links = "1" => : max_links
+max_links = 1.0 => : max_links
+conversations = true, max_links = true => : max_links
 max_links = [1], conversations = [1] => : max_links
 conversations = -1 => : conversations
 conversations = 65536 => : conversations
 conversations = "256", port = 1 => : conversations
 max_links = 0, conversations = 256.0 => : conversations
+conversations = false => : conversations
+conversations = [256] => : conversations
 max_links = 0, conversations = 257 => : port
-max_link = 1, conversations = true => : extra key"#;
+max_link = 1, conversations = true => : extra key
+Max_links = 1 => : extra key
+max-links = 1 => : extra key
+conversation = 256 => : extra key
+Conversations = 256 => : extra key"#;
 
 /// The keys between the aggregators and the ports of a system.
 #[test]
@@ -269,6 +277,7 @@ fn limits_of_links_and_counts_of_conversations_are_refused(
 /// Limits of links and counts of conversations that are numbers.
 const OTHER_LINKS_AND_COUNTS: &str = r#"max_links = 0 => : max links
 max_links = 65 => : max links
+max_links = 0, conversations = 0 => : max links
 max_links = 65535, conversations = 0 => : max links
 conversations = 0 => : conversation count
 conversations = 255 => : conversation count
@@ -404,6 +413,7 @@ join 0 => : cable
 join 2 => : cable
 join => : count
 sense 2 1 => : cable
+sense 2 3 => : cable
 sense 1 3 => : system
 sense 1 => : count"#;
 

@@ -1,5 +1,5 @@
 use crate::comparing::{same, same_at, same_octets, same_text};
-use crate::pieces::{HEAD, MARKER, Pieces, SLOW, TO_ALL, joined};
+use crate::pieces::{Words, joined};
 use crate::slow::sink_of;
 use lagstreams::Sink;
 use lagtool_jobs::{ToolFault, reply, show};
@@ -7,8 +7,8 @@ use std::alloc::Global;
 use std::process::Abort;
 use std::test::Fail;
 
-/// A payload or a frame; whether it is accepted or gets a response; and the text that is printed.
-type Row = (Pieces, bool, &'static str);
+/// A payload, whether it is accepted, and the text that is printed.
+type Row = (Words, bool, &'static str);
 
 const ACTIVE_SHORT: &str = "lacpdu
 actor 32768/02-00-00-00-00-01 key 1 port 128/1 state c7 active,short,aggregatable,defaulted,expired
@@ -16,121 +16,73 @@ partner 0/00-00-00-00-00-00 key 0 port 0/0 state 02 short
 max-delay 0
 ";
 
-const LACPDU: Pieces = &[(HEAD, 1), ("00", 66)];
+const LACPDU: Words = "HEAD 00*66";
 
-const PAYLOADS: [Row; 12] = [
-    (LACPDU, true, ACTIVE_SHORT),
-    // No two fields are equal.
-    (
-        &[
-            ("01010114101112131415161718191a1b1c1d1e000000", 1),
-            ("0214202122232425262728292a2b2c2d2e0000000310", 1),
-            ("3031", 1),
-            ("00", 64),
-        ],
-        true,
-        "lacpdu
+/// No two fields are equal.
+const EACH_FIELD: Words =
+    "01010114101112131415161718191a1b1c1d1e000000 0214202122232425262728292a2b2c2d2e0000000310 3031 00*64";
+
+const EACH_FIELD_TEXT: &str = "lacpdu
 actor 4113/12-13-14-15-16-17 key 6169 port 6683/7197 state 1e short,aggregatable,synchronized,collecting
 partner 8225/22-23-24-25-26-27 key 10281 port 10795/11309 state 2e short,aggregatable,synchronized,distributing
 max-delay 12337
-",
-    ),
-    // Version 2, other TLV types, and reserved octets that are not zero.
+";
+
+/// Other TLV types, and reserved octets that are not zero.
+const VERSION_2: Words =
+    "010209148000020000000001000100800001c7ffffff 0914 00*14 02ffffff 09100000 ff*64";
+
+/// The fault names the lower offset.
+const TWO_WRONG_LENGTHS: Words =
+    "010101148000020000000001000100800001c7000000 0213 00*14 02000000 030f 00*66";
+
+const PAYLOADS: [Row; 12] = [
+    (LACPDU, true, ACTIVE_SHORT),
+    (EACH_FIELD, true, EACH_FIELD_TEXT),
+    (VERSION_2, true, ACTIVE_SHORT),
+    ("HEAD 00*65", false, "refused 1 short have 109\n"),
+    ("HEAD 00*66 aa*40", true, ACTIVE_SHORT),
+    ("", false, "refused 1 short have 0\n"),
     (
-        &[
-            ("010209148000020000000001000100800001c7ffffff", 1),
-            ("0914", 1),
-            ("00", 14),
-            ("02ffffff", 1),
-            ("09100000", 1),
-            ("ff", 64),
-        ],
-        true,
-        ACTIVE_SHORT,
-    ),
-    // One octet too few.
-    (
-        &[(HEAD, 1), ("00", 65)],
-        false,
-        "refused 1 short have 109\n",
-    ),
-    // More octets after the payload.
-    (&[(HEAD, 1), ("00", 66), ("aa", 40)], true, ACTIVE_SHORT),
-    (&[], false, "refused 1 short have 0\n"),
-    // Two wrong lengths: the fault names the lower offset.
-    (
-        &[
-            ("010101148000020000000001000100800001c7000000", 1),
-            ("0213", 1),
-            ("00", 14),
-            ("02000000", 1),
-            ("030f", 1),
-            ("00", 66),
-        ],
+        TWO_WRONG_LENGTHS,
         false,
         "refused 3 length at 23 found 19\n",
     ),
-    (&[("03", 1), ("00", 109)], false, "refused 2 subtype 3\n"),
+    ("03 00*109", false, "refused 2 subtype 3\n"),
     (
-        &[(MARKER, 1), ("00", 92)],
+        "MARKER 00*92",
         true,
         "marker\nport 1 system 02-00-00-00-00-01 id 4294967295\n",
     ),
     (
-        &[("020102100001020000000001ffffffff", 1), ("00", 94)],
+        "RESPONSE 00*94",
         true,
         "marker-response\nport 1 system 02-00-00-00-00-01 id 4294967295\n",
     ),
     (
-        &[("020103100001020000000001ffffffffbeef", 1), ("00", 92)],
+        "020103100001020000000001ffffffffbeef 00*92",
         false,
         "refused 4 marker-tlv 3\n",
     ),
     (
-        &[("0201010f0001020000000001ffffffffbeef", 1), ("00", 92)],
+        "0201010f0001020000000001ffffffffbeef 00*92",
         false,
         "refused 3 length at 3 found 15\n",
     ),
 ];
 
-const FRAMES: [(Pieces, &str); 7] = [
+/// Frames that get no response, and the text that is printed.
+const FRAMES: [(Words, &str); 7] = [
     (
-        &[
-            (TO_ALL, 1),
-            ("020000000002", 1),
-            (SLOW, 1),
-            ("020102100001020000000001ffffffff", 1),
-            ("00", 94),
-        ],
+        "TO_ALL FROM_2 SLOW RESPONSE 00*94",
         "no answer marker-response\n",
     ),
-    (&[("0200000000200200000000100800", 1)], "no answer data\n"),
-    (&[("02000000002002000000001088", 1)], "no answer runt\n"),
-    (&[], "no answer runt\n"),
-    (
-        &[
-            (TO_ALL, 1),
-            ("020000000001", 1),
-            (SLOW, 1),
-            (HEAD, 1),
-            ("00", 66),
-        ],
-        "no answer lacpdu\n",
-    ),
-    (
-        &[(TO_ALL, 1), ("020000000001", 1), (SLOW, 1)],
-        "refused 1 short have 0\n",
-    ),
-    (
-        &[
-            (TO_ALL, 1),
-            ("020000000001", 1),
-            (SLOW, 1),
-            ("03", 1),
-            ("00", 109),
-        ],
-        "refused 2 subtype 3\n",
-    ),
+    ("DATA", "no answer data\n"),
+    ("02000000002002000000001088", "no answer runt\n"),
+    ("", "no answer runt\n"),
+    ("TO_ALL FROM_1 SLOW HEAD 00*66", "no answer lacpdu\n"),
+    ("TO_ALL FROM_1 SLOW", "refused 1 short have 0\n"),
+    ("TO_ALL FROM_1 SLOW 03 00*109", "refused 2 subtype 3\n"),
 ];
 
 fn shown(alloc: Global, hex: &str) -> Result<(bool, String), ToolFault> {
@@ -161,8 +113,8 @@ fn shows_as(
 }
 
 /// Compares what is shown for the payload in lower and in upper case.
-fn shows_both(rt: &(impl Abort + AllocGlobal), (pieces, accepted, text): Row) -> Result<(), Fail> {
-    let mut hex = joined(rt.alloc(), pieces)?;
+fn shows_both(rt: &(impl Abort + AllocGlobal), (words, accepted, text): Row) -> Result<(), Fail> {
+    let mut hex = joined(rt.alloc(), words)?;
     shows_as(rt, hex.as_str(), accepted, text)?;
     hex.make_ascii_uppercase();
     shows_as(rt, hex.as_str(), accepted, text)
@@ -189,21 +141,11 @@ fn replies_with(
     Ok(())
 }
 
-/// The destination address does not matter.
-const MARKER_FRAME: Pieces = &[("0200000000090200000000018809", 1), (MARKER, 1), ("00", 92)];
-
-/// A marker is answered from this MAC address, which is `source` in lower case.
+/// A marker is answered from this MAC address, which is `source` in lower case. The destination address does not matter.
 fn marker_answered(rt: &(impl Abort + AllocGlobal), mac: &str, source: &str) -> Result<(), Fail> {
-    let answer = [
-        (TO_ALL, 1),
-        (source, 1),
-        (SLOW, 1),
-        ("020102100001020000000001ffffffff", 1),
-        ("00", 94),
-        ("\n", 1),
-    ];
-    let frame = joined(rt.alloc(), MARKER_FRAME)?;
-    let text = joined(rt.alloc(), &answer)?;
+    let frame = joined(rt.alloc(), "020000000009 FROM_1 SLOW MARKER 00*92")?;
+    let answer = format!(in rt.alloc(); "TO_ALL {source} SLOW RESPONSE 00*94 \n")?;
+    let text = joined(rt.alloc(), answer.as_str())?;
     replies_with(rt, (mac, frame.as_str()), true, text.as_str())
 }
 
@@ -215,8 +157,8 @@ fn a_marker_is_answered(rt: HostRuntime) -> Result<(), Fail> {
 
 #[test]
 fn other_frames_are_not_answered(rt: HostRuntime) -> Result<(), Fail> {
-    for (pieces, text) in FRAMES {
-        let frame = joined(rt.alloc(), pieces)?;
+    for (words, text) in FRAMES {
+        let frame = joined(rt.alloc(), words)?;
         replies_with(&rt, ("020000000002", frame.as_str()), false, text)?;
     }
     Ok(())

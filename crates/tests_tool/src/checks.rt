@@ -1,7 +1,7 @@
 ghost use Rattle.std.specs.Prelude.{◌≡◌, false};
 
 use crate::comparing::{same, same_at};
-use crate::pieces::{HEAD, MARKER, Pieces, SLOW, TO_ALL, joined};
+use crate::pieces::{DATA, Words, joined};
 use crate::slow::sink_of;
 use lagstreams::Source;
 use lagtool_jobs::{Summary, ToolFault, check};
@@ -112,82 +112,39 @@ fn says(
     Ok(())
 }
 
-const DATA: &str = "0200000000200200000000100800";
-
-const FROM_PORT: &str = "020000000001";
-
-const RESPONSE: &str = "020102100001020000000001ffffffff";
-
 /// A line, its verdict, and whether it is a fault.
-const LINES: [(Pieces, &str, u64); 14] = [
+const LINES: [(Words, &str, u64); 13] = [
+    ("TO_ALL FROM_1 SLOW HEAD 00*66", "lacpdu", 0),
+    ("TO_ALL FROM_1 SLOW MARKER 00*92", "marker", 0),
+    ("TO_ALL FROM_1 SLOW RESPONSE 00*94", "marker-response", 0),
+    ("DATA", "data", 0),
+    ("02*12 88cc", "data", 0),
+    ("02*12 0809", "data", 0),
+    ("02*13", "runt", 1),
+    ("02*12 SLOW", "refused 1 short have 0", 1),
+    ("02*12 SLOW 03 00*109", "refused 2 subtype 3", 1),
     (
-        &[
-            (TO_ALL, 1),
-            (FROM_PORT, 1),
-            (SLOW, 1),
-            (HEAD, 1),
-            ("00", 66),
-        ],
-        "lacpdu",
-        0,
-    ),
-    (
-        &[
-            (TO_ALL, 1),
-            (FROM_PORT, 1),
-            (SLOW, 1),
-            (MARKER, 1),
-            ("00", 92),
-        ],
-        "marker",
-        0,
-    ),
-    (
-        &[
-            (TO_ALL, 1),
-            (FROM_PORT, 1),
-            (SLOW, 1),
-            (RESPONSE, 1),
-            ("00", 94),
-        ],
-        "marker-response",
-        0,
-    ),
-    (&[(DATA, 1)], "data", 0),
-    (&[("02", 12), ("88cc", 1)], "data", 0),
-    (&[("02", 12), ("0809", 1)], "data", 0),
-    (&[("02", 13)], "runt", 1),
-    (&[("02", 12), (SLOW, 1)], "refused 1 short have 0", 1),
-    (
-        &[("02", 12), (SLOW, 1), ("03", 1), ("00", 109)],
-        "refused 2 subtype 3",
-        1,
-    ),
-    (
-        &[("02", 12), (SLOW, 1), ("0201010f", 1), ("00", 106)],
+        "02*12 SLOW 0201010f 00*106",
         "refused 3 length at 3 found 15",
         1,
     ),
-    (
-        &[("02", 12), (SLOW, 1), ("02010310", 1), ("00", 106)],
-        "refused 4 marker-tlv 3",
-        1,
-    ),
-    (&[("zz", 1)], "not hex", 1),
-    (&[("0", 1)], "not hex", 1),
-    (&[("02 ", 14)], "not hex", 1),
+    ("02*12 SLOW 02010310 00*106", "refused 4 marker-tlv 3", 1),
+    ("zz", "not hex", 1),
+    ("0", "not hex", 1),
 ];
+
+/// 14 octets with a space behind each.
+const SPACED: &str = "02 02 02 02 02 02 02 02 02 02 02 02 02 02 ";
 
 /// This is said of a line, whatever its end.
 fn says_of(
     rt: &(impl Abort + AllocGlobal),
-    pieces: Pieces,
+    digits: &str,
     verdict: &str,
     faults: u64,
 ) -> Result<(), Fail> {
     for end in ["\n", "\r\n", "", "\r"] {
-        let mut line = joined(rt.alloc(), pieces)?;
-        line.push_str(end)?;
+        let line = format!(in rt.alloc(); "{digits}{end}")?;
         says(rt, line.as_bytes(), &[verdict], faults)?;
     }
     Ok(())
@@ -195,26 +152,24 @@ fn says_of(
 
 #[test]
 fn each_verdict(rt: HostRuntime) -> Result<(), Fail> {
-    for (pieces, verdict, faults) in LINES {
-        says_of(&rt, pieces, verdict, faults)?;
+    for (words, verdict, faults) in LINES {
+        says_of(&rt, joined(rt.alloc(), words)?.as_str(), verdict, faults)?;
     }
-    Ok(())
+    says_of(&rt, SPACED, "not hex", 1)
 }
 
-const FRAMES: Pieces = &[
-    (TO_ALL, 1),
-    ("020000000002", 1),
-    (SLOW, 1),
-    (RESPONSE, 1),
-    ("00", 94),
-    ("\n00\nzz\n", 1),
-    (DATA, 1),
-    ("\n", 1),
-];
+/// The response to a marker, from port 2.
+const ANSWER: Words = "TO_ALL FROM_2 SLOW RESPONSE 00*94";
+
+/// A marker response, a runt, a line that is not hexadecimal and a data frame.
+pub(crate) fn four_lines(alloc: Global) -> Result<String, AllocError> {
+    let answer = joined(alloc, ANSWER)?;
+    format!(in alloc; "{answer}\n00\nzz\n{DATA}\n")
+}
 
 #[test]
 fn a_file_of_frames(rt: HostRuntime) -> Result<(), Fail> {
-    let file = joined(rt.alloc(), FRAMES)?;
+    let file = four_lines(rt.alloc())?;
     let verdicts = ["marker-response", "runt", "not hex", "data"];
     says(&rt, file.as_bytes(), &verdicts, 2)?;
     says(&rt, b"", &[], 0)?;
@@ -225,41 +180,38 @@ fn a_file_of_frames(rt: HostRuntime) -> Result<(), Fail> {
 
 #[test]
 fn a_file_of_a_thousand_lines(rt: HostRuntime) -> Result<(), Fail> {
-    let file = joined(rt.alloc(), &[("00\n", 1_000)])?;
+    let file = joined(rt.alloc(), "00\n*1000")?;
     says(&rt, file.as_bytes(), &["runt"; 1_000], 1_000)
 }
 
-/// 64 digits.
-const ZEROS: &str = "0000000000000000000000000000000000000000000000000000000000000000";
-
-/// How many digits a line has after the first 65,472, its end, and what is said of it.
-const LENGTHS: [(usize, &str, &str); 7] = [
-    (62, "\r\n", "data"),
-    (63, "\n", "not hex"),
-    (63, "\r\n", "not hex"),
-    (64, "\n", "data"),
-    (64, "\r\n", "too long"),
-    (65, "\n", "too long"),
-    (66, "\n", "too long"),
+/// A line without its end, its end, and what is said of it.
+const LENGTHS: [(Words, &str, &str); 7] = [
+    ("0*65472 0*62", "\r\n", "data"),
+    ("0*65472 0*63", "\n", "not hex"),
+    ("0*65472 0*63", "\r\n", "not hex"),
+    ("0*65472 0*64", "\n", "data"),
+    ("0*65472 0*64", "\r\n", "too long"),
+    ("0*65472 0*65", "\n", "too long"),
+    ("0*65472 0*66", "\n", "too long"),
 ];
 
-/// This is said of a line of so many digits, and a frame behind it is read as one.
-fn says_of_digits(
+/// This is said of a line, and a frame behind it is read as one.
+fn says_of_long(
     rt: &(impl Abort + AllocGlobal),
-    digits: usize,
+    words: Words,
     end: &str,
     verdict: &str,
 ) -> Result<(), Fail> {
-    let pieces = [(ZEROS, 1_023), ("0", digits), (end, 1), (DATA, 1)];
-    let lines = joined(rt.alloc(), &pieces)?;
+    let line = joined(rt.alloc(), words)?;
+    let lines = format!(in rt.alloc(); "{line}{end}{DATA}")?;
     let faults = u64::from(verdict != "data");
     says(rt, lines.as_bytes(), &[verdict, "data"], faults)
 }
 
 #[test]
 fn a_line_of_each_length_around_the_limit(rt: HostRuntime) -> Result<(), Fail> {
-    for (digits, end, verdict) in LENGTHS {
-        says_of_digits(&rt, digits, end, verdict)?;
+    for (words, end, verdict) in LENGTHS {
+        says_of_long(&rt, words, end, verdict)?;
     }
     Ok(())
 }
@@ -274,38 +226,19 @@ fn verdict_on(alloc: Global, n: u64, kind: &str) -> Result<String, AllocError> {
     }
 }
 
-/// This is said of a line of these digits.
-fn says_of_line(
-    rt: &(impl Abort + AllocGlobal),
-    digits: &[u8],
-    verdict: &str,
-    faults: u64,
-) -> Result<(), Fail> {
-    let mut line = Vec::from_slice(rt.alloc(), digits)?;
-    line.push(b'\n')?;
-    says(rt, line.as_slice(), &[verdict], faults)
-}
-
 /// Each beginning of a frame.
-fn truncated(rt: &(impl Abort + AllocGlobal), pieces: Pieces, kind: &str) -> Result<(), Fail> {
-    let frame = joined(rt.alloc(), pieces)?;
+fn truncated(rt: &(impl Abort + AllocGlobal), words: Words, kind: &str) -> Result<(), Fail> {
+    let frame = joined(rt.alloc(), words)?;
     for n in 0u64..=124 {
         let count = (n as usize * 2).min(frame.len());
         let verdict = verdict_on(rt.alloc(), n, kind)?;
         let faults = u64::from(n < 124);
-        says_of_line(rt, &frame.as_bytes()[..count], verdict.as_str(), faults)?;
+        let mut line = Vec::from_slice(rt.alloc(), &frame.as_bytes()[..count])?;
+        line.push(b'\n')?;
+        says(rt, line.as_slice(), &[verdict.as_str()], faults)?;
     }
     Ok(())
 }
-
-/// The response to a marker, from port 2.
-const ANSWER: Pieces = &[
-    (TO_ALL, 1),
-    ("020000000002", 1),
-    (SLOW, 1),
-    (RESPONSE, 1),
-    ("00", 94),
-];
 
 #[test]
 fn truncated_frames(rt: HostRuntime) -> Result<(), Fail> {

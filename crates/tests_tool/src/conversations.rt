@@ -1,5 +1,5 @@
-use crate::refusals::{both_refused, systems_with};
-use crate::replays::{BOTH_UP, TWO_CABLES, plays};
+use crate::replays::{BOTH_UP, MOVE, TWO_CABLES, plays};
+use std::alloc::{AllocError, Global};
 use std::process::Abort;
 use std::test::Fail;
 
@@ -13,22 +13,6 @@ move 1 1 4096 2 -> refused 9 not-assigned
 cable 1 agreement same
 cable 2 agreement same
 flow 1/1/48 sent 2 collected none
-flow 1/1/304 sent 1 collected none
-";
-
-/// Two frames of one conversation where there are 256, and a move of conversation 304, which does not exist.
-const TOGETHER: &str = "offer 1 1 0200000001200200000000100800 -> port 1 serial 0 sent
-offer 1 1 0200000000200200000000100800 -> port 1 serial 1 sent
-move 1 1 304 2 -> refused 9 not-assigned
-cable 1 agreement same
-cable 2 agreement same
-flow 1/1/48 sent 2 collected none
-";
-
-/// A frame whose conversation has only the low 12 bits of its number.
-const LOW_BITS: &str = "offer 1 1 02000000f1200200000000100800 -> port 1 serial 0 sent
-cable 1 agreement same
-cable 2 agreement same
 flow 1/1/304 sent 1 collected none
 ";
 
@@ -53,9 +37,19 @@ flow 1/1/48 sent 1 collected 0
 flow 2/1/304 sent 1 collected 0
 ";
 
-const MANY: &str = "conversations = 4096\n";
+const MANY: &str = "conversations = 4096, ";
 
-const FEW: &str = "conversations = 256\n";
+/// Two ports with Long Timeout.
+const PORTS: &str =
+    "port = [{ number = 1, key = 1, short = false }, { number = 2, key = 1, short = false }]";
+
+/// Two systems with two ports each; each with more keys.
+fn systems_with(alloc: Global, one: &str, two: &str) -> Result<String, AllocError> {
+    let (mac, keys) = ("{ mac = \"02-00-00-00-00-0", "aggregators = [1], ");
+    format!(in alloc;
+        "system = [\n{mac}1\", {keys}{one}{PORTS} }},\n{mac}2\", {keys}{two}{PORTS} }},\n]\n"
+    )
+}
 
 /// The report of a script with these keys of the two systems ends in this text.
 fn ends_in(
@@ -68,14 +62,10 @@ fn ends_in(
 }
 
 /// The keys of both systems, and the end of the report.
-const REPORTS: [(&str, &str, &str); 8] = [
+const REPORTS: [(&str, &str, &str); 4] = [
     (MANY, "", FAR_APART),
     (MANY, MANY, FAR_APART),
-    ("", "", TOGETHER),
-    (FEW, FEW, TOGETHER),
-    (FEW, MANY, TOGETHER),
-    (MANY, "", LOW_BITS),
-    (MANY, FEW, LAST),
+    (MANY, "conversations = 256, ", LAST),
     ("", MANY, BY_SENDER),
 ];
 
@@ -87,28 +77,10 @@ fn flows_have_the_numbers_of_their_sender(rt: HostRuntime) -> Result<(), Fail> {
     Ok(())
 }
 
-/// A line that is refused, and for what.
-const REFUSED: [(&str, &str); 14] = [
-    ("conversations = 0\n", "conversation count"),
-    ("conversations = 255\n", "conversation count"),
-    ("conversations = 257\n", "conversation count"),
-    ("conversations = 4095\n", "conversation count"),
-    ("conversations = 4097\n", "conversation count"),
-    ("conversations = 65535\n", "conversation count"),
-    ("conversations = 65536\n", "conversations"),
-    ("conversations = -1\n", "conversations"),
-    ("conversations = \"256\"\n", "conversations"),
-    ("conversations = 256.0\n", "conversations"),
-    ("conversations = false\n", "conversations"),
-    ("conversations = [256]\n", "conversations"),
-    ("Conversations = 256\n", "extra key"),
-    ("conversation = 256\n", "extra key"),
-];
-
 #[test]
-fn counts_of_conversations_that_are_refused(rt: HostRuntime) -> Result<(), Fail> {
-    for (line, what) in REFUSED {
-        both_refused(&rt, line, MANY, what)?;
+fn a_limit_that_no_port_exceeds_changes_nothing(rt: HostRuntime) -> Result<(), Fail> {
+    for limit in ["max_links = 2, ", "max_links = 64, "] {
+        ends_in(&rt, (limit, limit), MOVE)?;
     }
     Ok(())
 }

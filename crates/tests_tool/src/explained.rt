@@ -91,18 +91,6 @@ fn files_that_fail(rt: HostRuntime) -> Result<(), Fail> {
     Ok(())
 }
 
-/// A word is explained so, which `wanted` says of its digits.
-fn digits(
-    rt: &(impl Abort + AllocGlobal),
-    (name, wanted): (&str, &str),
-    word: &str,
-    text: &str,
-) -> Result<(), Fail> {
-    let said = digits_text(rt.alloc(), name, word, wanted)?;
-    same_text(rt, word, said.as_str(), text);
-    Ok(())
-}
-
 /// Files, and why they cannot be read.
 const UNREAD: [(&str, &str); 4] = [
     ("-", "standard input: reading failed"),
@@ -141,7 +129,7 @@ fn octets_that_are_not_utf8(rt: HostRuntime) -> Result<(), Fail> {
     Ok(())
 }
 
-/// Words, and why they are not hexadecimal.
+/// Words, and why they are not an even number of hexadecimal digits.
 const NOT_HEXADECIMAL: [(&str, &str); 5] = [
     ("zz", "HEX: character 1 'z' is no hexadecimal digit"),
     ("00fFg0", "HEX: character 5 'g' is no hexadecimal digit"),
@@ -152,14 +140,6 @@ const NOT_HEXADECIMAL: [(&str, &str); 5] = [
     ),
     ("010", "HEX: 3 hexadecimal digits: wanted is an even number"),
 ];
-
-#[test]
-fn words_that_are_not_hexadecimal(rt: HostRuntime) -> Result<(), Fail> {
-    for (word, text) in NOT_HEXADECIMAL {
-        digits(&rt, ("HEX", "is an even number"), word, text)?;
-    }
-    Ok(())
-}
 
 /// Words, and why they are no MAC addresses.
 const NO_ADDRESSES: [(&str, &str); 5] = [
@@ -177,9 +157,15 @@ const NO_ADDRESSES: [(&str, &str); 5] = [
 ];
 
 #[test]
-fn words_that_are_no_address(rt: HostRuntime) -> Result<(), Fail> {
-    for (word, text) in NO_ADDRESSES {
-        digits(&rt, ("MAC", "are 12"), word, text)?;
+fn words_that_are_not_hexadecimal_or_no_address(rt: HostRuntime) -> Result<(), Fail> {
+    for (name, wanted, words) in [
+        ("HEX", "is an even number", NOT_HEXADECIMAL),
+        ("MAC", "are 12", NO_ADDRESSES),
+    ] {
+        for (word, text) in words {
+            let said = digits_text(rt.alloc(), name, word, wanted)?;
+            same_text(&rt, word, said.as_str(), text);
+        }
     }
     Ok(())
 }

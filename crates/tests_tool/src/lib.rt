@@ -18,13 +18,9 @@ mod explained;
 #[cfg(test)]
 mod faults;
 #[cfg(test)]
-mod links;
-#[cfg(test)]
 mod memory;
 #[cfg(test)]
 mod pieces;
-#[cfg(test)]
-mod refusals;
 #[cfg(test)]
 mod replays;
 #[cfg(test)]

@@ -1,21 +1,13 @@
 use crate::algorithm::by_number;
-use crate::checks::whole;
+use crate::checks::{four_lines, whole};
 use crate::comparing::{same, same_octets};
-use crate::pieces::{Pieces, joined};
 use crate::replays::{BOTH_UP, MOVE, TWO_CABLES, TWO_PORTS, script_and_report};
 use lagstreams::{Sink, Source};
 use lagtool_jobs::{ToolFault, check, replay};
 use std::alloc::Global;
 use std::process::Abort;
 
-/// A marker response, a runt, a line that is not hexadecimal and a data frame.
-const FRAMES: Pieces = &[
-    ("0180c20000020200000000028809", 1),
-    ("020102100001020000000001ffffffff", 1),
-    ("00", 94),
-    ("\n00\nzz\n0200000000200200000000100800\n", 1),
-];
-
+/// The report of `four_lines`.
 const CHECKED: &str = "1 marker-response\n2 runt\n3 not hex\n4 data\nchecked 4 faults 2\n";
 
 /// A report is whole; or it is a beginning, and memory was refused. Returns whether it is whole.
@@ -32,7 +24,7 @@ fn ends(rt: &impl Abort, answer: Result<(), ToolFault>, taken: &[u8], report: &s
 
 /// Checks a file into a sink that takes no memory; returns whether the report is whole.
 fn checks(rt: &impl Abort, alloc: Global) -> Result<bool, ToolFault> {
-    let file = joined(alloc, FRAMES)?;
+    let file = four_lines(alloc)?;
     let mut sink = Sink::new(Vec::with_capacity(alloc, 4096)?);
     let mut source = Source::new(whole(file.as_bytes()));
     let answer = match check(alloc, &mut source, &mut sink) {

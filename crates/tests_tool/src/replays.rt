@@ -3,6 +3,7 @@ use crate::comparing::{same, same_at, same_octets, same_text};
 use crate::pieces::one_text;
 use crate::slow::sink_of;
 use crate::telling::told;
+use crate::wrong_answers::report;
 use lagstreams::Sink;
 use lagtool_jobs::{
     ALONE, ALONE_TEXT, Expectation, FaultText, ONE_CABLE, Summary, ToolFault, UP, UP_TEXT, VECTORS,
@@ -21,20 +22,10 @@ system = [
 ]
 "#;
 
-pub(crate) const TWO_CABLES: &str = "[[cable]]
-ends = [1, 1]
-[[cable]]
-ends = [2, 2]
-";
+pub(crate) const TWO_CABLES: &str = "cable = [{ ends = [1, 1] }, { ends = [2, 2] }]\n";
 
 /// Two cables with room for all frames of these tests.
-const LIMIT_8: &str = "[[cable]]
-ends = [1, 1]
-limit = 8
-[[cable]]
-ends = [2, 2]
-limit = 8
-";
+const LIMIT_8: &str = "cable = [{ ends = [1, 1], limit = 8 }, { ends = [2, 2], limit = 8 }]\n";
 
 /// Both ends of both cables come to distribute.
 pub(crate) const BOTH_UP: &str = "sense 1 1 -> up
@@ -292,18 +283,8 @@ fn texts_that_are_no_script(rt: HostRuntime) -> Result<(), Fail> {
     for (events, fault, said) in NO_SCRIPTS {
         refuses(&rt, &[events, ONE_CABLE], fault, said)?;
     }
-    Ok(())
-}
-
-#[test]
-fn limits_that_are_no_limit(rt: HostRuntime) -> Result<(), Fail> {
-    let fault = ScriptFault::CableLimit(1);
-    for limit in ["limit = 0\n", "limit = 65536\n", "limit = \"8\"\n"] {
-        refuses(&rt, &[ONE_CABLE, limit], fault, "script: cable 1: limit")?;
-    }
-    let text = "cable 1 agreement not-both\n";
-    reports(&rt, &[ONE_CABLE, "limit = 1\n"], &[text])?;
-    reports(&rt, &[ONE_CABLE, "limit = 65535\n"], &[text])
+    let (fault, said) = (ScriptFault::CableLimit(1), "script: cable 1: limit");
+    refuses(&rt, &[ONE_CABLE, "limit = 0\n"], fault, said)
 }
 
 /// A report goes into a sink with room for this many octets.
@@ -330,18 +311,7 @@ fn a_report_into_a_sink_that_fails(rt: HostRuntime) {
 #[test]
 fn the_vectors_pass(rt: HostRuntime) -> Result<(), Fail> {
     let alloc = rt.alloc();
-    let text = "V1 ok
-V2 ok
-V3 ok
-V4 ok
-V5 ok
-V6 ok
-V7 ok
-V8 ok
-V9 ok
-V10 ok
-vectors 10 failed 0
-";
+    let text = report(alloc, 0, 0)?;
     let mut sink = Sink::new(Vec::new(alloc));
     let summary = vectors(alloc, &mut sink)?;
     let (checked, faults) = (10, 0);

@@ -7,7 +7,7 @@ use crate::replays::{BOTH_UP, MOVE, TWO_CABLES, TWO_PORTS, script_and_report};
 use crate::telling::told;
 use lagstreams::{Sink, Source};
 use lagtool_jobs::{FaultText, ToolFault, check, replay};
-use std::alloc::{AllocError, Global};
+use std::alloc::Global;
 use std::io;
 use std::io::Write;
 use std::process::Abort;
@@ -118,12 +118,6 @@ fn checked(rt: &impl Abort, alloc: Global, before: u32, turn: Turn) -> bool {
     ends(rt, answer, sink, report, (turn, before))
 }
 
-/// A script, and its report.
-fn script(alloc: Global) -> Result<(String, String), AllocError> {
-    let (text, report) = script_and_report(alloc, &[BOTH_UP, MOVE], &[TWO_PORTS, TWO_CABLES])?;
-    Ok((text, report))
-}
-
 #[test]
 fn one_write_of_a_check(rt: HostRuntime) {
     for turn in [Turn::Fails, Turn::TakesNone, Turn::TakesOne] {
@@ -146,7 +140,7 @@ fn one_write_of_a_check(rt: HostRuntime) {
 #[test]
 fn one_write_of_a_replay(rt: HostRuntime) -> Result<(), Fail> {
     let alloc = rt.alloc();
-    let (text, report) = script(alloc)?;
+    let (text, report) = script_and_report(alloc, &[BOTH_UP, MOVE], &[TWO_PORTS, TWO_CABLES])?;
     for turn in [Turn::Fails, Turn::TakesNone, Turn::TakesOne] {
         let mut writes = 0usize;
         for before in 0..100 {

@@ -64,9 +64,10 @@ impl Eprint for Fake {
     }
 }
 
-/// What is shown of five entries, where the clock goes on by so much from one to the next.
-fn shown(alloc: Global, step: u64, is_asked: bool) -> String {
-    let fake = fake_with(alloc, step, false);
+/// What is shown of five entries, where the clock goes on by so much from one to the next, and cannot be read between these times.
+fn shown(alloc: Global, step: u64, unread: (u64, u64), is_asked: bool) -> String {
+    let mut fake = fake_with(alloc, step, false);
+    fake.unread = unread;
     let progress = Progress::new(&fake, is_asked, "entry");
     for done in 1..6u64 {
         progress.show(done);
@@ -76,56 +77,43 @@ fn shown(alloc: Global, step: u64, is_asked: bool) -> String {
     fake.said.into_inner()
 }
 
-/// How far the clock goes on, whether signs are asked for, and what is shown.
-const SIGNS: [(u64, bool, &str); 5] = [
-    (60, false, ""),
-    (19, true, ""),
-    (60, true, "\rlagtool: entry 2\rlagtool: entry 4\r\x1b[K"),
-    (99, true, "\rlagtool: entry 2\rlagtool: entry 4\r\x1b[K"),
-    (20, true, "\rlagtool: entry 5\r\x1b[K"),
+/// How far the clock goes on, between which times it cannot be read, whether signs are asked for, and what is shown.
+const SIGNS: [(u64, (u64, u64), bool, &str); 10] = [
+    (60, (0, 0), false, ""),
+    (19, (0, 0), true, ""),
+    (
+        60,
+        (0, 0),
+        true,
+        "\rlagtool: entry 2\rlagtool: entry 4\r\x1b[K",
+    ),
+    (
+        99,
+        (0, 0),
+        true,
+        "\rlagtool: entry 2\rlagtool: entry 4\r\x1b[K",
+    ),
+    (20, (0, 0), true, "\rlagtool: entry 5\r\x1b[K"),
+    (60, (0, u64::MAX), true, ""),
+    // The time when the work began is not known.
+    (60, (0, 1), true, ""),
+    (60, (60, u64::MAX), true, ""),
+    // The clock fails where the first sign was due, or the second.
+    (
+        60,
+        (120, 121),
+        true,
+        "\rlagtool: entry 3\rlagtool: entry 5\r\x1b[K",
+    ),
+    (60, (240, u64::MAX), true, "\rlagtool: entry 2\r\x1b[K"),
 ];
 
 #[test]
 fn signs_are_apart_and_go(rt: HostRuntime) {
-    for (step, is_asked, text) in SIGNS {
-        let said = shown(rt.alloc(), step, is_asked);
-        same(&rt, "step and signs", &(step, said.as_str()), &(step, text));
-    }
-}
-
-/// What is shown of five entries, where each reading of the clock is 60 milliseconds later, and it cannot be read between these.
-fn shown_without(alloc: Global, unread: (u64, u64)) -> String {
-    let mut fake = fake_with(alloc, 60, false);
-    fake.unread = unread;
-    let progress = Progress::new(&fake, true, "entry");
-    for done in 1..6u64 {
-        progress.show(done);
-    }
-    progress.clear();
-    fake.said.into_inner()
-}
-
-/// Between which times the clock cannot be read, and what is shown.
-const FAILING: [((u64, u64), &str); 5] = [
-    ((0, u64::MAX), ""),
-    // The time when the work began is not known.
-    ((0, 1), ""),
-    ((60, u64::MAX), ""),
-    // The clock fails where the first sign was due, or the second.
-    ((120, 121), "\rlagtool: entry 3\rlagtool: entry 5\r\x1b[K"),
-    ((240, u64::MAX), "\rlagtool: entry 2\r\x1b[K"),
-];
-
-#[test]
-fn nothing_is_shown_where_the_clock_fails(rt: HostRuntime) {
-    for (unread, text) in FAILING {
-        let said = shown_without(rt.alloc(), unread);
-        same(
-            &rt,
-            "times and signs",
-            &(unread, said.as_str()),
-            &(unread, text),
-        );
+    for (step, unread, is_asked, text) in SIGNS {
+        let said = shown(rt.alloc(), step, unread, is_asked);
+        let came = (step, unread, said.as_str());
+        same(&rt, "step, times and signs", &came, &(step, unread, text));
     }
 }
 

@@ -37,14 +37,14 @@ fn replays(events: &'static str, text: &'static str) -> Expectation<'static> {
     Expectation::Replays { events, text }
 }
 
-/// The text that a run of the ten vectors writes if this one alone fails.
-fn one_failed(alloc: Global, number: usize) -> Result<String, AllocError> {
+/// The text that a run of the ten vectors writes if this one alone fails, or none with this number.
+pub(crate) fn report(alloc: Global, failing: usize, failed: u64) -> Result<String, AllocError> {
     let mut text = String::new(alloc);
     for place in 1..=10usize {
-        let result = if place == number { "failed" } else { "ok" };
+        let result = if place == failing { "failed" } else { "ok" };
         write!(text, "V{place} {result}\n")?;
     }
-    text.push_str("vectors 10 failed 1\n")?;
+    write!(text, "vectors 10 failed {failed}\n")?;
     Ok(text)
 }
 
@@ -81,7 +81,7 @@ fn is_found(
         &Summary { checked, faults },
     );
     let written = String::from_utf8_lossy(alloc, sink.into_inner().as_slice())?;
-    let wanted = one_failed(alloc, number)?;
+    let wanted = report(alloc, number, 1)?;
     let came = (number, place, written.as_str());
     let wanted = (number, place, wanted.as_str());
     same(rt, "vector, place and lines", &came, &wanted);

@@ -1,8 +1,8 @@
-use crate::hosts::playing::{come_up, config, told};
+use crate::hosts::playing::{config, plays, told};
 use crate::hosts::resuming::saved;
 use crate::systems::{Row, modulo, play};
 use dataplane::resume;
-use lagsystem::{Assignment, System, SystemFault};
+use lagsystem::{Assignment, SystemFault};
 use std::test::Fail;
 
 #[test]
@@ -61,9 +61,6 @@ fn what_is_not_adopted_stays(rt: HostRuntime) -> Result<(), Fail> {
         Row::Adopts(1, 15, 7, Err(SystemFault::MarkersSpent)),
         Row::Free(1, 15, None),
     ];
-    let alloc = rt.alloc();
-    let mut system = System::new(alloc, config(alloc, 4_294_967_295)?, modulo)?;
-    play(&rt, alloc, &mut system, &come_up())?;
-    play(&rt, alloc, &mut system, &ROWS)?;
+    plays(&rt, rt.alloc(), 4_294_967_295, &ROWS)?;
     Ok(())
 }

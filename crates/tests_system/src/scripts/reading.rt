@@ -1,6 +1,6 @@
 use crate::comparing::same;
 use crate::scripts::{ENTRY_1, Frame, MAC, SYSTEM_1, have_outcomes, outcome, parts};
-use lagscript::{ScriptFault, read_script};
+use lagscript::read_script;
 use std::alloc::{AllocError, Global};
 use std::process::Abort;
 
@@ -18,33 +18,18 @@ const EQUAL_SYSTEMS: Frame = Frame {
     fault: "",
 };
 
-const TWO_CABLES: &str = "[[system]]
-mac = \"02-00-00-00-00-01\"
-aggregators = [1]
-[[system.port]]
-number = 1
-key = 1
-[[system.port]]
-number = 2
-key = 1
-[[system]]
-mac = \"02-00-00-00-00-02\"
-aggregators = [1]
-[[system.port]]
-number = 1
-key = 1
-[[system.port]]
-number = 2
-key = 1
-[[cable]]
-ends = [1, 1]
-[[cable]]
-ends = [2, 2]
-";
+const TWO_CABLES: &str = r#"
+system = [
+    {mac = "02-00-00-00-00-01", aggregators = [1], port = [{number = 1, key = 1}, {number = 2, key = 1}]},
+    {mac = "02-00-00-00-00-02", aggregators = [1], port = [{number = 1, key = 1}, {number = 2, key = 1}]},
+]
+cable = [{ends = [1, 1]}, {ends = [2, 2]}]
+"#;
 
 const TWO_CABLES_READ: &str =
     "WorldConfig { systems: [Config { system: SystemId { priority: 32768, mac: [2, 0, 0, 0, 0, 1] }, max_delay: 0, first_marker: 1, conversations: 256, aggregators: [Key(1)], max_links: None, ports: [PortConfig { number: 1, priority: 128, mac: [2, 0, 0, 0, 0, 1], key: Key(1), aggregatable: true, active: true, short: true }, PortConfig { number: 2, priority: 128, mac: [2, 0, 0, 0, 0, 1], key: Key(1), aggregatable: true, active: true, short: true }] }, Config { system: SystemId { priority: 32768, mac: [2, 0, 0, 0, 0, 2] }, max_delay: 0, first_marker: 1, conversations: 256, aggregators: [Key(1)], max_links: None, ports: [PortConfig { number: 1, priority: 128, mac: [2, 0, 0, 0, 0, 2], key: Key(1), aggregatable: true, active: true, short: true }, PortConfig { number: 2, priority: 128, mac: [2, 0, 0, 0, 0, 2], key: Key(1), aggregatable: true, active: true, short: true }] }], cables: [(1, 1), (2, 2)] } []";
 
+/// All keys. Of each of the three ports another flag is false.
 const FULL: &str = "events = [\"restart 2\", \"cut 1\"]
 [[system]]
 priority = 0
@@ -60,21 +45,25 @@ priority = 65535
 mac = \"02-00-00-00-00-20\"
 key = 0
 aggregatable = false
-active = false
-short = false
 [[system]]
 mac = \"ab-CD-00-00-00-ff\"
 aggregators = [1]
 [[system.port]]
 number = 3
 key = 65535
+active = false
+short = true
+[[system.port]]
+number = 4
+key = 65535
+active = true
 short = false
 [[cable]]
 ends = [65535, 3]
 ";
 
 const FULL_READ: &str =
-    "WorldConfig { systems: [Config { system: SystemId { priority: 0, mac: [171, 205, 0, 0, 0, 255] }, max_delay: 65535, first_marker: 4294967295, conversations: 4096, aggregators: [Key(65535), Key(0)], max_links: Some(63), ports: [PortConfig { number: 65535, priority: 65535, mac: [2, 0, 0, 0, 0, 32], key: Key(0), aggregatable: false, active: false, short: false }] }, Config { system: SystemId { priority: 32768, mac: [171, 205, 0, 0, 0, 255] }, max_delay: 0, first_marker: 1, conversations: 256, aggregators: [Key(1)], max_links: None, ports: [PortConfig { number: 3, priority: 128, mac: [171, 205, 0, 0, 0, 255], key: Key(65535), aggregatable: true, active: true, short: false }] }], cables: [(65535, 3)] } [Restart(2), Cut(1)]";
+    "WorldConfig { systems: [Config { system: SystemId { priority: 0, mac: [171, 205, 0, 0, 0, 255] }, max_delay: 65535, first_marker: 4294967295, conversations: 4096, aggregators: [Key(65535), Key(0)], max_links: Some(63), ports: [PortConfig { number: 65535, priority: 65535, mac: [2, 0, 0, 0, 0, 32], key: Key(0), aggregatable: false, active: true, short: true }] }, Config { system: SystemId { priority: 32768, mac: [171, 205, 0, 0, 0, 255] }, max_delay: 0, first_marker: 1, conversations: 256, aggregators: [Key(1)], max_links: None, ports: [PortConfig { number: 3, priority: 128, mac: [171, 205, 0, 0, 0, 255], key: Key(65535), aggregatable: true, active: false, short: true }, PortConfig { number: 4, priority: 128, mac: [171, 205, 0, 0, 0, 255], key: Key(65535), aggregatable: true, active: true, short: false }] }], cables: [(65535, 3)] } [Restart(2), Cut(1)]";
 
 /// The plan that is read from a text, or the text of its fault.
 fn read_as(alloc: Global, text: &str) -> Result<String, AllocError> {
@@ -91,33 +80,6 @@ fn configurations_are_read(rt: HostRuntime) -> Result<(), AllocError> {
     same(&rt, "two cables", &two.as_str(), &TWO_CABLES_READ);
     let full = read_as(alloc, FULL)?;
     same(&rt, "all keys", &full.as_str(), &FULL_READ);
-    Ok(())
-}
-
-/// System 1 has three ports; of each another flag is false.
-const FLAGS: &str =
-    "system = [{mac = \"02-00-00-00-00-01\", aggregators = [1], port = [{number = 1, key = 1, aggregatable = false}, {number = 2, key = 1, active = false}, {number = 3, key = 1, short = false}]}, {mac = \"02-00-00-00-00-02\", aggregators = [1], port = [{number = 1, key = 1}]}]";
-
-/// The flags of the ports of the first system.
-fn flags(alloc: Global, text: &str) -> Result<Vec<(bool, bool, bool)>, ScriptFault> {
-    let (config, _) = read_script(alloc, text)?;
-    let [first, _] = &config.systems;
-    let mut all = Vec::new(alloc);
-    for port in &first.ports {
-        all.push((port.aggregatable, port.active, port.short))?;
-    }
-    Ok(all)
-}
-
-#[test]
-fn flags_of_ports_are_read_by_their_names(rt: HostRuntime) -> Result<(), ScriptFault> {
-    let wanted: &[(bool, bool, bool)] = &[
-        (false, true, true),
-        (true, false, true),
-        (true, true, false),
-    ];
-    let read = flags(rt.alloc(), FLAGS)?;
-    same(&rt, "the flags of three ports", &read.as_slice(), &wanted);
     Ok(())
 }
 

@@ -1,5 +1,5 @@
 use crate::systems::{
-    DATA, LAST, NEXT, Response, Row, Side, THIRD, config, joined, plays, plays_lists, plays_with,
+    DATA, LAST, NEXT, Response, Row, Side, THIRD, config, plays_lists, plays_with,
 };
 use lagsystem::{Assignment, Received, SystemFault};
 
@@ -30,7 +30,7 @@ pub(crate) fn coming_up() -> [Row<'static>; 16] {
 }
 
 /// After these rows, port 1 leaves the aggregator, and conversation 48 goes to port 2 after its Marker Response.
-pub(crate) const LEAVING: [Row<'static>; 14] = [
+const LEAVING: [Row<'static>; 14] = [
     Row::Conversation(&DATA, Some(48)),
     Row::Conversation(&NEXT, Some(49)),
     Row::Conversation(&[0; 13], None),
@@ -287,13 +287,7 @@ fn four_more_bits_count_if_there_are_4096_conversations(
     ];
     let mut given = config(rt.alloc(), &[1, 2], 2)?;
     given.conversations = 4096;
-    let rows = joined(rt.alloc(), &[&coming_up(), &ROWS])?;
-    plays(&rt, rt.alloc(), given, &rows)?;
-    let given = config(rt.alloc(), &[1, 2], 2)?;
-    plays(
-        &rt,
-        rt.alloc(),
-        given,
-        &[Row::Conversation(&WIDE, Some(48))],
-    )
+    plays_lists(&rt, rt.alloc(), given, &[&coming_up(), &ROWS])?;
+    let few = [Row::Conversation(&WIDE, Some(48))];
+    plays_with(&rt, rt.alloc(), &[1, 2], 2, &[&few])
 }

@@ -1,7 +1,6 @@
 ghost use Rattle.distributor.specs.Calls.{PicksIndexes};
 
 use crate::comparing::same;
-use crate::systems::conversations::{LEAVING, coming_up};
 use crate::systems::plan::{Plan, plan_of_all};
 use crate::systems::{DATA, PortFacts, Response, Row, Side, config, joined, look, modulo};
 use lagsystem::{AggId, Received, System, SystemFault};
@@ -76,11 +75,6 @@ fn every_kind_of_call(rt: HostRuntime) -> Result<(), SystemFault> {
         Row::Silent(1),
     ];
     is_driven(&rt, rt.alloc(), &[&ROWS])
-}
-
-#[test]
-fn a_conversation_leaves_a_port(rt: HostRuntime) -> Result<(), SystemFault> {
-    is_driven(&rt, rt.alloc(), &[&coming_up(), &LEAVING])
 }
 
 #[test]

@@ -1,4 +1,4 @@
-use crate::systems::{DATA, LAST, Row, Side, config, joined, plays, plays_lists};
+use crate::systems::{DATA, LAST, Row, Side, config, plays_lists};
 use lagsystem::{Assignment, Config, NoMemory, SystemFault};
 use std::alloc::Global;
 
@@ -142,35 +142,23 @@ const GOES_ON: [Row<'static>; 17] = [
     Row::ForcesPort(2, Ok(0)),
 ];
 
-/// The rows until conversations wait on both ports.
-fn before(alloc: Global) -> Result<Vec<Row<'static>>, NoMemory> {
-    joined(alloc, &[&ALL_UP, &HELD_IN_THE_FIRST, &HELD_IN_THE_SECOND])
-}
-
-/// What stays as it is where nothing is forced.
-fn stays(alloc: Global) -> Result<Vec<Row<'static>>, NoMemory> {
-    joined(alloc, &[&ON_PORT_1, &ELSEWHERE])
-}
-
-/// The rows of a port that is forced, and of what goes on.
-fn port_1_is_forced(alloc: Global) -> Result<Vec<Row<'static>>, NoMemory> {
-    joined(alloc, &[&FORCED, &ELSEWHERE, &GOES_ON])
-}
-
-/// All rows.
-fn every_row(alloc: Global) -> Result<Vec<Row<'static>>, NoMemory> {
-    let mut rows = before(alloc)?;
-    rows.extend_from_slice(&stays(alloc)?)?;
-    rows.extend_from_slice(&NO_SUCH_PORT)?;
-    rows.extend_from_slice(&stays(alloc)?)?;
-    rows.extend_from_slice(&port_1_is_forced(alloc)?)?;
-    Ok(rows)
-}
-
 #[test]
 fn what_waits_on_a_port_is_forced(rt: HostRuntime) -> Result<(), SystemFault> {
+    let lists: [&[Row<'_>]; 11] = [
+        &ALL_UP,
+        &HELD_IN_THE_FIRST,
+        &HELD_IN_THE_SECOND,
+        &ON_PORT_1,
+        &ELSEWHERE,
+        &NO_SUCH_PORT,
+        &ON_PORT_1,
+        &ELSEWHERE,
+        &FORCED,
+        &ELSEWHERE,
+        &GOES_ON,
+    ];
     let given = three_ports(rt.alloc())?;
-    plays(&rt, rt.alloc(), given, &every_row(rt.alloc())?)
+    plays_lists(&rt, rt.alloc(), given, &lists)
 }
 
 /// The conversation has a number above those of 256 conversations.

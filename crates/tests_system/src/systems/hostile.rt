@@ -157,7 +157,7 @@ impl Sends {
 }
 
 /// How often something happened.
-#[derive(Clone, Copy)]
+#[derive(Clone, Copy, Default)]
 struct Happened {
     took: u32,
     ignored: u32,
@@ -171,18 +171,6 @@ struct Happened {
     sent: u32,
     full: u32,
 }
-
-const NOTHING_YET: Happened = Happened {
-    took: 0,
-    ignored: 0,
-    responded: 0,
-    released: 0,
-    up: 0,
-    dropped: 0,
-    together: 0,
-    sent: 0,
-    full: 0,
-};
 
 fn counts(count: &mut u32, one_more: bool) {
     *count = count.saturating_add(u32::from(one_more));
@@ -260,19 +248,6 @@ struct Clock {
 }
 
 impl Clock {
-    fn start() -> Clock {
-        let none = Sends { last: [None; 3] };
-        Clock {
-            now: 0,
-            first: none,
-            second: none,
-        }
-    }
-
-    fn ticks(&mut self) {
-        counts(&mut self.now, true);
-    }
-
     /// A port sends an LACPDU, which the transmit limit must allow; returns whether the limit is reached after it.
     fn sends(&mut self, rt: &impl Abort, port: u16, place: u32) -> bool {
         let now = self.now;
@@ -324,7 +299,7 @@ fn ticks<F: Fn(u16, usize) -> usize + Drop>(
     place: u32,
 ) {
     system.tick();
-    clock.ticks();
+    counts(&mut clock.now, true);
     keeps(rt, system, place);
 }
 
@@ -354,8 +329,13 @@ fn hostile_frames_keep_the_laws(rt: HostRuntime) -> Result<(), SystemFault> {
         first: (2, 1),
         second: (2, 1),
     };
-    let mut clock = Clock::start();
-    let mut happened = NOTHING_YET;
+    let none = Sends { last: [None; 3] };
+    let mut clock = Clock {
+        now: 0,
+        first: none,
+        second: none,
+    };
+    let mut happened = Happened::default();
     for place in 0..FRAMES {
         hears(
             &rt,

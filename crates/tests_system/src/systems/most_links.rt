@@ -70,27 +70,24 @@ fn goes_down<F: Fn(u16, usize) -> usize + Drop>(
 }
 
 /// Ports 64, 63 and so on to 2 take the place of port 1, one after another.
-fn one_after_another(rt: &impl Abort, alloc: Global) -> Result<(), SystemFault> {
+#[test]
+fn of_64_ports_one_at_a_time_is_a_link(rt: HostRuntime) -> Result<(), SystemFault> {
+    let alloc = rt.alloc();
     let mut system = System::new(alloc, one_of_64(alloc)?, modulo)?;
     for port in 1..=64 {
-        comes_up(rt, &mut system, port);
+        comes_up(&rt, &mut system, port);
     }
     for _ in 0..20 {
         system.tick();
     }
-    has_one_member(rt, &system, 1, 65);
+    has_one_member(&rt, &system, 1, 65);
     let mut member = 1;
     for below in 1..64u16 {
         let next = 65u16.saturating_sub(below);
-        goes_down(rt, &mut system, member, next);
+        goes_down(&rt, &mut system, member, next);
         member = next;
     }
-    same(rt, "set_link", &system.set_link(2, false), &Ok(()));
-    same(rt, "none", &system.distributing(AggId(1)).len(), &0);
+    same(&rt, "set_link", &system.set_link(2, false), &Ok(()));
+    same(&rt, "none", &system.distributing(AggId(1)).len(), &0);
     Ok(())
-}
-
-#[test]
-fn of_64_ports_one_at_a_time_is_a_link(rt: HostRuntime) -> Result<(), SystemFault> {
-    one_after_another(&rt, rt.alloc())
 }

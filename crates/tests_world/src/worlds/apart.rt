@@ -6,7 +6,6 @@ use crate::worlds::{After, EventLines, Row, play_after, plays, tells};
 use cables::AnyCable;
 use lagworld::{Event, Reply, World, WorldFault};
 use std::alloc::Global;
-use std::process::Abort;
 
 /// The link of cable 1 is up.
 const LINK_UP: EventLines = "sense 1 1 => Sensed(true)
@@ -61,19 +60,16 @@ deliver 1 2 => Empty
 ";
 
 /// Plays `NOTHING`, 0 ticks, which no script has, and `FIRST_LOST`.
-fn nothing_happens(rt: &impl Abort, alloc: Global) -> Result<(), WorldFault> {
-    let mut world = world_of(rt, alloc, ONE_SHORT, None, modulo, modulo)?;
-    plays_lines(rt, alloc, &mut world, ONE_SHORT, NOTHING)?;
-    let ticked = step_of(&mut world, &Event::Tick(1, 0));
-    same(rt, "0 ticks", &ticked, &Ok(Reply::Ticked));
-    plays_lines(rt, alloc, &mut world, ONE_SHORT, FIRST_LOST)?;
-    tells(rt, alloc, &world, "cable 1 => Some(NotBoth)")?;
-    Ok(())
-}
-
 #[test]
 fn nothing_is_no_event_of_a_cable(rt: HostRuntime) -> Result<(), WorldFault> {
-    nothing_happens(&rt, rt.alloc())
+    let alloc = rt.alloc();
+    let mut world = world_of(&rt, alloc, ONE_SHORT, None, modulo, modulo)?;
+    plays_lines(&rt, alloc, &mut world, ONE_SHORT, NOTHING)?;
+    let ticked = step_of(&mut world, &Event::Tick(1, 0));
+    same(&rt, "0 ticks", &ticked, &Ok(Reply::Ticked));
+    plays_lines(&rt, alloc, &mut world, ONE_SHORT, FIRST_LOST)?;
+    tells(&rt, alloc, &world, "cable 1 => Some(NotBoth)")?;
+    Ok(())
 }
 
 /// Cable 1 joins port 1 of system 1 and port 2 of system 2.
@@ -107,18 +103,15 @@ deliver 1 1 => Took
 ";
 
 /// Plays the events of a cable between ports of unequal numbers.
-fn crosses(rt: &impl Abort, alloc: Global) -> Result<(), WorldFault> {
-    let mut world = world_of(rt, alloc, CROSSING, None, modulo, modulo)?;
-    plays_lines(rt, alloc, &mut world, CROSSING, CROSSED)?;
-    tells(rt, alloc, &world, "cable 1 => Some(NotBoth)")?;
-    plays_lines(rt, alloc, &mut world, CROSSING, CROSSED_UP)?;
-    tells(rt, alloc, &world, "cable 1 => Some(Same)")?;
-    Ok(())
-}
-
 #[test]
 fn a_cable_joins_ports_of_unequal_numbers(rt: HostRuntime) -> Result<(), WorldFault> {
-    crosses(&rt, rt.alloc())
+    let alloc = rt.alloc();
+    let mut world = world_of(&rt, alloc, CROSSING, None, modulo, modulo)?;
+    plays_lines(&rt, alloc, &mut world, CROSSING, CROSSED)?;
+    tells(&rt, alloc, &world, "cable 1 => Some(NotBoth)")?;
+    plays_lines(&rt, alloc, &mut world, CROSSING, CROSSED_UP)?;
+    tells(&rt, alloc, &world, "cable 1 => Some(Same)")?;
+    Ok(())
 }
 
 /// The direction of a cable to system 1 holds one frame, that to system 2 two.
@@ -140,16 +133,13 @@ fn unequal(alloc: Global) -> Result<Vec<(AnyCable, AnyCable)>, WorldFault> {
     Ok(lines)
 }
 
-fn fills(rt: &impl Abort, alloc: Global) -> Result<(), WorldFault> {
-    let config = world_config(rt, alloc, TWO_LONG)?;
-    let mut world = World::new(alloc, config, modulo, modulo, unequal(alloc)?)?;
-    plays_lines(rt, alloc, &mut world, TWO_LONG, COMING_UP)?;
-    plays_lines(rt, alloc, &mut world, TWO_LONG, FILLING)
-}
-
 #[test]
 fn the_first_direction_leads_to_system_1(rt: HostRuntime) -> Result<(), WorldFault> {
-    fills(&rt, rt.alloc())
+    let alloc = rt.alloc();
+    let config = world_config(&rt, alloc, TWO_LONG)?;
+    let mut world = World::new(alloc, config, modulo, modulo, unequal(alloc)?)?;
+    plays_lines(&rt, alloc, &mut world, TWO_LONG, COMING_UP)?;
+    plays_lines(&rt, alloc, &mut world, TWO_LONG, FILLING)
 }
 
 /// Two systems with an aggregator for each of their two ports, and two cables.
@@ -199,16 +189,13 @@ const AS_IT_IS: &str = "configure 1 1 5 7 individual => Configured(false)
 ";
 
 /// Gives the port the values that it has. The replies before are not looked at.
-fn keeps_its_values(rt: &impl Abort, alloc: Global) -> Result<(), WorldFault> {
-    let mut world = world_of(rt, alloc, ODD, None, modulo, modulo)?;
-    runs_lines(rt, alloc, &mut world, ODD, ONE_CABLE)?;
-    tells(rt, alloc, &world, "cable 1 => Some(Same)")?;
-    plays_lines(rt, alloc, &mut world, ODD, AS_IT_IS)?;
-    tells(rt, alloc, &world, "cable 1 => Some(Same)")?;
-    Ok(())
-}
-
 #[test]
 fn the_values_of_a_configuration_are_no_change(rt: HostRuntime) -> Result<(), WorldFault> {
-    keeps_its_values(&rt, rt.alloc())
+    let alloc = rt.alloc();
+    let mut world = world_of(&rt, alloc, ODD, None, modulo, modulo)?;
+    runs_lines(&rt, alloc, &mut world, ODD, ONE_CABLE)?;
+    tells(&rt, alloc, &world, "cable 1 => Some(Same)")?;
+    plays_lines(&rt, alloc, &mut world, ODD, AS_IT_IS)?;
+    tells(&rt, alloc, &world, "cable 1 => Some(Same)")?;
+    Ok(())
 }

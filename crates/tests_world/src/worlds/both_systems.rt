@@ -1,11 +1,11 @@
 use crate::comparing::same_at;
-use crate::worlds::given::{ONE_SHORT, TWO_LONG, TWO_SHORT, modulo};
-use crate::worlds::playing::{runs_lines, world_of};
-use crate::worlds::starts::{COMING_UP, ONE_CABLE};
-use crate::worlds::{After, Row, play_after, plays, runs};
+use crate::worlds::given::{ONE_SHORT, TWO_SHORT, modulo};
+use crate::worlds::playing::{plays_lines, runs_lines, world_of};
+use crate::worlds::starts::ONE_CABLE;
+use crate::worlds::{After, Row, play_after, plays, runs, tells};
+use lagtypes::NoMemory;
 use lagworld::{Agreement, WorldFault};
 use std::alloc::Global;
-use std::process::Abort;
 
 /// Two cables come up between ports with Short Timeout, and each end hears the other five times (6.4.13, 6.4.15).
 const UP: &str = "sense 1 1 => Sensed(true)
@@ -165,66 +165,46 @@ fn an_lacpdu_has_the_change_count_of_its_own_port(rt: HostRuntime) -> Result<(),
     plays(&rt, rt.alloc(), &STAMPED_ROW)
 }
 
-/// A port of one cable that carries gets another value, and its own again.
-const CHANGED: [After; 4] = [
-    // Equal values are not enough to agree.
-    (
-        "tick 2 10 => Ticked
-emit 2 1 => lacpdu 3f
-configure 1 1 2 128 aggregatable => Configured(true)
-configure 1 1 1 128 aggregatable => Configured(true)
-deliver 1 1 => Took
-tick 1 20 => Ticked
-",
-        "cable 1 => Some(Changed)
-",
-    ),
-    // Port 1 of system 1 gets another priority, and its own again.
-    (
-        "tick 2 10 => Ticked
-emit 2 1 => lacpdu 3f
-configure 1 1 1 129 aggregatable => Configured(true)
-configure 1 1 1 128 aggregatable => Configured(true)
-deliver 1 1 => Took
-tick 1 20 => Ticked
-",
-        "cable 1 => Some(Changed)
-",
-    ),
-    // Port 1 of system 1 gets another Aggregation bit, and its own again.
-    (
-        "tick 2 10 => Ticked
-emit 2 1 => lacpdu 3f
-configure 1 1 1 128 individual => Configured(true)
-configure 1 1 1 128 aggregatable => Configured(true)
-deliver 1 1 => Took
-tick 1 20 => Ticked
-",
-        "cable 1 => Some(Changed)
-",
-    ),
-    // Port 1 of system 2 gets another key, and its own again.
-    (
-        "tick 1 10 => Ticked
-emit 1 1 => lacpdu 3f
-configure 2 1 2 128 aggregatable => Configured(true)
-configure 2 1 1 128 aggregatable => Configured(true)
-deliver 1 2 => Took
-tick 2 20 => Ticked
-",
-        "cable 1 => Some(Changed)
-",
-    ),
+/// A port of one cable that carries gets another value, and its own again, while an LACPDU that names its own is on the cable: equal
+/// values are not enough to agree. The system of the port, the other one, and the values.
+const CHANGED: [(u8, u8, &str); 4] = [
+    (1, 2, "2 128 aggregatable"),
+    (1, 2, "1 129 aggregatable"),
+    (1, 2, "1 128 individual"),
+    (2, 1, "2 128 aggregatable"),
 ];
+
+/// The lines of such a change.
+fn changed(alloc: Global, own: u8, other: u8, values: &str) -> Result<String, NoMemory> {
+    let mut lines = String::from_str(alloc, ONE_CABLE)?;
+    write!(
+        lines,
+        "tick {other} 10 => Ticked\nemit {other} 1 => lacpdu 3f\n"
+    )?;
+    for values in [values, "1 128 aggregatable"] {
+        write!(lines, "configure {own} 1 {values} => Configured(true)\n")?;
+    }
+    write!(lines, "deliver 1 {own} => Took\ntick {own} 20 => Ticked\n")?;
+    Ok(lines)
+}
 
 #[test]
 fn each_value_of_each_system_counts_as_a_change(rt: HostRuntime) -> Result<(), WorldFault> {
-    play_after(&rt, rt.alloc(), (ONE_SHORT, ONE_CABLE), &CHANGED)
+    let alloc = rt.alloc();
+    for (own, other, values) in CHANGED {
+        let lines = changed(alloc, own, other, values)?;
+        let mut world = world_of(&rt, alloc, ONE_SHORT, None, modulo, modulo)?;
+        plays_lines(&rt, alloc, &mut world, ONE_SHORT, lines.as_str())?;
+        tells(&rt, alloc, &world, "cable 1 => Some(Changed)")?;
+    }
+    Ok(())
 }
 
 /// Port 1 of system 1 is changed and agrees again as soon as its LACPDUs were received; the same values once more are no
 /// change. The replies are not looked at.
-fn agrees_again(rt: &impl Abort, alloc: Global) -> Result<(), WorldFault> {
+#[test]
+fn a_changed_port_agrees_again(rt: HostRuntime) -> Result<(), WorldFault> {
+    let alloc = rt.alloc();
     let change = "configure 1 1 1 129 aggregatable => Configured(true)";
     let steps = [
         (UP, Agreement::Same),
@@ -232,11 +212,11 @@ fn agrees_again(rt: &impl Abort, alloc: Global) -> Result<(), WorldFault> {
         (UP, Agreement::Same),
         (change, Agreement::Same),
     ];
-    let mut world = world_of(rt, alloc, TWO_SHORT, None, modulo, modulo)?;
+    let mut world = world_of(&rt, alloc, TWO_SHORT, None, modulo, modulo)?;
     for (place, (lines, wanted)) in steps.iter().enumerate() {
-        runs_lines(rt, alloc, &mut world, TWO_SHORT, *lines)?;
+        runs_lines(&rt, alloc, &mut world, TWO_SHORT, *lines)?;
         same_at(
-            rt,
+            &rt,
             "agreement after step",
             place,
             &world.agreement(1),
@@ -244,9 +224,4 @@ fn agrees_again(rt: &impl Abort, alloc: Global) -> Result<(), WorldFault> {
         );
     }
     Ok(())
-}
-
-#[test]
-fn a_changed_port_agrees_again(rt: HostRuntime) -> Result<(), WorldFault> {
-    agrees_again(&rt, rt.alloc())
 }

@@ -1,6 +1,6 @@
 use crate::worlds::agreements::ONE_CABLE_ROW;
 use crate::worlds::conversations::{FULL_ROW, MOVES_ROW, NARROW_ROW};
-use crate::worlds::given::{Setting, add_line, empty_direction, modulo, script};
+use crate::worlds::given::{add_line, empty_direction, modulo, script};
 use crate::worlds::playing::run_of;
 use crate::worlds::{Row, compare_run, lines_of, tells};
 use cables::AnyCable;
@@ -21,10 +21,16 @@ fn limited(alloc: Global, limits: &[Option<u16>]) -> Result<Vec<(AnyCable, AnyCa
     Ok(lines)
 }
 
-/// Reads a plan of the events of a row with these tables in place of its own, and compares the replies with the expected ones.
-fn plays_plan(rt: &impl Abort, alloc: Global, setting: Setting, row: &Row) -> Result<(), Fail> {
+/// Reads a plan of the systems and events of a row with these cables in place of its own, and compares the replies with the expected
+/// ones.
+fn plays_plan(rt: &impl Abort, alloc: Global, cables: &str, row: &Row) -> Result<(), Fail> {
     let wanted = lines_of(alloc, row)?;
-    let plan = read_plan(alloc, script(alloc, setting, wanted.as_str())?.as_str())?;
+    let (systems, _) = row.setting.split_once("cable = ").unwrap_or(("", ""));
+    let tables = format!(in alloc; "{systems}cable = [{cables}]\n")?;
+    let plan = read_plan(
+        alloc,
+        script(alloc, tables.as_str(), wanted.as_str())?.as_str(),
+    )?;
     let lines = limited(alloc, &plan.limits)?;
     let mut world = World::new(alloc, plan.config, modulo, modulo, lines)?;
     compare_run(rt, alloc, wanted.as_str(), run_of(&mut world, &plan.events))?;
@@ -32,68 +38,25 @@ fn plays_plan(rt: &impl Abort, alloc: Global, setting: Setting, row: &Row) -> Re
     Ok(())
 }
 
-/// Two cables, each of which holds two frames in each direction.
-const BOTH_FOR_2: &str = r#"
-system = [
-    { mac = "02-00-00-00-00-01", aggregators = [1], port = [{ number = 1, key = 1, short = false }, { number = 2, key = 1, short = false }] },
-    { mac = "02-00-00-00-00-02", aggregators = [1], port = [{ number = 1, key = 1, short = false }, { number = 2, key = 1, short = false }] },
-]
-cable = [{ ends = [1, 1], limit = 2 }, { ends = [2, 2], limit = 2 }]
-"#;
-
+/// Each cable, or the first of two, holds fewer frames in each direction than the events put on it.
 #[test]
-fn a_plan_of_two_cables_that_fill(rt: HostRuntime) -> Result<(), Fail> {
-    plays_plan(&rt, rt.alloc(), BOTH_FOR_2, &FULL_ROW)
+fn a_plan_of_cables_that_fill(rt: HostRuntime) -> Result<(), Fail> {
+    let both_for_2 = "{ ends = [1, 1], limit = 2 }, { ends = [2, 2], limit = 2 }";
+    plays_plan(&rt, rt.alloc(), both_for_2, &FULL_ROW)?;
+    let first_for_2 = "{ ends = [1, 1], limit = 2 }, { ends = [2, 2] }";
+    plays_plan(&rt, rt.alloc(), first_for_2, &FULL_ROW)?;
+    let both_for_1 = "{ ends = [1, 1], limit = 1 }, { ends = [2, 2], limit = 1 }";
+    plays_plan(&rt, rt.alloc(), both_for_1, &NARROW_ROW)
 }
-
-/// Two cables, each of which holds one frame in each direction.
-const BOTH_FOR_1: &str = r#"
-system = [
-    { mac = "02-00-00-00-00-01", aggregators = [1], port = [{ number = 1, key = 1, short = false }, { number = 2, key = 1, short = false }] },
-    { mac = "02-00-00-00-00-02", aggregators = [1], port = [{ number = 1, key = 1, short = false }, { number = 2, key = 1, short = false }] },
-]
-cable = [{ ends = [1, 1], limit = 1 }, { ends = [2, 2], limit = 1 }]
-"#;
-
-#[test]
-fn a_plan_of_two_cables_for_one_frame(rt: HostRuntime) -> Result<(), Fail> {
-    plays_plan(&rt, rt.alloc(), BOTH_FOR_1, &NARROW_ROW)
-}
-
-/// Two cables, of which the first holds two frames in each direction.
-const FIRST_FOR_2: &str = r#"
-system = [
-    { mac = "02-00-00-00-00-01", aggregators = [1], port = [{ number = 1, key = 1, short = false }, { number = 2, key = 1, short = false }] },
-    { mac = "02-00-00-00-00-02", aggregators = [1], port = [{ number = 1, key = 1, short = false }, { number = 2, key = 1, short = false }] },
-]
-cable = [{ ends = [1, 1], limit = 2 }, { ends = [2, 2] }]
-"#;
-
-#[test]
-fn a_plan_where_one_of_two_cables_fills(rt: HostRuntime) -> Result<(), Fail> {
-    plays_plan(&rt, rt.alloc(), FIRST_FOR_2, &FULL_ROW)
-}
-
-/// Two cables, each of which holds eight frames in each direction.
-const BOTH_FOR_8: &str = r#"
-system = [
-    { mac = "02-00-00-00-00-01", aggregators = [1], port = [{ number = 1, key = 1, short = false }, { number = 2, key = 1, short = false }] },
-    { mac = "02-00-00-00-00-02", aggregators = [1], port = [{ number = 1, key = 1, short = false }, { number = 2, key = 1, short = false }] },
-]
-cable = [{ ends = [1, 1], limit = 8 }, { ends = [2, 2], limit = 8 }]
-"#;
-
-/// A cable that holds eight frames in each direction.
-const ONE_FOR_8: &str = r#"
-system = [
-    { mac = "02-00-00-00-00-01", aggregators = [1], port = [{ number = 1, key = 1, short = true }] },
-    { mac = "02-00-00-00-00-02", aggregators = [1], port = [{ number = 1, key = 1, short = true }] },
-]
-cable = [{ ends = [1, 1], limit = 8 }]
-"#;
 
 #[test]
 fn a_plan_of_cables_that_never_fill(rt: HostRuntime) -> Result<(), Fail> {
-    plays_plan(&rt, rt.alloc(), BOTH_FOR_8, &MOVES_ROW)?;
-    plays_plan(&rt, rt.alloc(), ONE_FOR_8, &ONE_CABLE_ROW)
+    let both_for_8 = "{ ends = [1, 1], limit = 8 }, { ends = [2, 2], limit = 8 }";
+    plays_plan(&rt, rt.alloc(), both_for_8, &MOVES_ROW)?;
+    plays_plan(
+        &rt,
+        rt.alloc(),
+        "{ ends = [1, 1], limit = 8 }",
+        &ONE_CABLE_ROW,
+    )
 }

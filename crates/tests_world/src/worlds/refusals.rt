@@ -162,18 +162,15 @@ fn events_not_there(alloc: Global) -> [(Event, WorldFault); 17] {
 }
 
 /// Plays each of these events by `step` in one world.
-fn not_there(rt: &impl Abort, alloc: Global) -> Result<(), WorldFault> {
-    let mut world = world_of(rt, alloc, ONE_SHORT, None, modulo, modulo)?;
-    for (place, (event, fault)) in events_not_there(alloc).iter().enumerate() {
-        let came = step_of(&mut world, event);
-        same_at(rt, "row", place, &came, &Err(*fault));
-    }
-    Ok(())
-}
-
 #[test]
 fn events_of_what_does_not_exist(rt: HostRuntime) -> Result<(), WorldFault> {
-    not_there(&rt, rt.alloc())
+    let alloc = rt.alloc();
+    let mut world = world_of(&rt, alloc, ONE_SHORT, None, modulo, modulo)?;
+    for (place, (event, fault)) in events_not_there(alloc).iter().enumerate() {
+        let came = step_of(&mut world, event);
+        same_at(&rt, "row", place, &came, &Err(*fault));
+    }
+    Ok(())
 }
 
 /// The third event names a cable that does not exist.
@@ -184,22 +181,19 @@ const STOPPING: [Event; 4] = [
     Event::Join(1),
 ];
 
-fn stops(rt: &impl Abort, alloc: Global) -> Result<(), WorldFault> {
-    let mut world = world_of(rt, alloc, ONE_SHORT, None, modulo, modulo)?;
+#[test]
+fn a_run_stops_at_the_first_fault(rt: HostRuntime) -> Result<(), WorldFault> {
+    let alloc = rt.alloc();
+    let mut world = world_of(&rt, alloc, ONE_SHORT, None, modulo, modulo)?;
     let stop = RunFault {
         done: 2,
         fault: WorldFault::NoCable,
     };
     let stopped = run_of(&mut world, &STOPPING).err();
-    same(rt, "run", &stopped, &Some(stop));
+    same(&rt, "run", &stopped, &Some(stop));
     let sensed = step_of(&mut world, &Event::Sense(1, 1));
-    same(rt, "step", &sensed, &Ok(Reply::Sensed(false)));
+    same(&rt, "step", &sensed, &Ok(Reply::Sensed(false)));
     Ok(())
-}
-
-#[test]
-fn a_run_stops_at_the_first_fault(rt: HostRuntime) -> Result<(), WorldFault> {
-    stops(&rt, rt.alloc())
 }
 
 /// Events before any port distributes. One frame has 13 octets, another one is of the slow protocols.
@@ -289,23 +283,20 @@ fn tells_systems<F: Fn(u16, usize) -> usize + Drop>(rt: &impl Abort, world: &Wor
 }
 
 /// Plays the row, and asks for what does not exist.
-fn nothing_told(rt: &impl Abort, alloc: Global) -> Result<(), WorldFault> {
-    let text = lines_of(alloc, &FORCED_ROW)?;
-    let mut world = world_of(rt, alloc, FORCED_ROW.setting, None, modulo, modulo)?;
-    plays_lines(rt, alloc, &mut world, FORCED_ROW.setting, text.as_str())?;
-    tells(rt, alloc, &world, FORCED_ROW.told)?;
-    same(rt, "cable 0", &world.agreement(0), &None);
-    same(rt, "cable 3", &world.agreement(3), &None);
-    for flow in &NO_FLOWS {
-        tells_no_flow(rt, &world, *flow);
-    }
-    tells_systems(rt, &world);
-    Ok(())
-}
-
 #[test]
 fn readers_of_what_does_not_exist(rt: HostRuntime) -> Result<(), WorldFault> {
-    nothing_told(&rt, rt.alloc())
+    let alloc = rt.alloc();
+    let text = lines_of(alloc, &FORCED_ROW)?;
+    let mut world = world_of(&rt, alloc, FORCED_ROW.setting, None, modulo, modulo)?;
+    plays_lines(&rt, alloc, &mut world, FORCED_ROW.setting, text.as_str())?;
+    tells(&rt, alloc, &world, FORCED_ROW.told)?;
+    same(&rt, "cable 0", &world.agreement(0), &None);
+    same(&rt, "cable 3", &world.agreement(3), &None);
+    for flow in &NO_FLOWS {
+        tells_no_flow(&rt, &world, *flow);
+    }
+    tells_systems(&rt, &world);
+    Ok(())
 }
 
 const NUMBERS: [(WorldFault, u8); 5] = [
