@@ -22,7 +22,7 @@ class Fake:
         self.told: list[str] = []
         self.due: set[int] = set()
 
-    def tick(self) -> None:
+    def tick(self, count: int = 1) -> None:
         self.told.append("tick")
         self.due = set(range(1, self.count + 1))
 
@@ -71,7 +71,7 @@ def test_the_most_ports_of_a_key(keys: list[int], most: int) -> None:
     assert rounds.Case.most_of_a_key([rounds.Port(key, True, True, True) for key in keys]) == most
 
 
-@pytest.mark.parametrize("kind", ["healthy", "hosts", "late"])
+@pytest.mark.parametrize("kind", rounds.ROUNDS)
 def test_in_a_round_each_system_ticks_once_and_its_ports_are_asked_behind_that(kind: str) -> None:
     made, world = case(kind, [2, 1])
     for _ in range(20):
@@ -82,7 +82,7 @@ def test_in_a_round_each_system_ticks_once_and_its_ports_are_asked_behind_that(k
         assert all("asked 1" in it and "asked 2" in it for it in behind)
 
 
-@pytest.mark.parametrize(("kind", "left"), [("healthy", 0), ("hosts", 0), ("late", 2)])
+@pytest.mark.parametrize(("kind", "left"), [("healthy", 0), ("hosts", 0), ("late", 2), ("several", 2)])
 def test_what_is_sent_in_a_late_round_may_stay_for_one_more(kind: str, left: int) -> None:
     made, world = case(kind, [1])
     most, came = 0, 0
@@ -114,7 +114,7 @@ def test_control_frames_alone_are_repeated() -> None:
         assert list(cable.towards[0]) == [frame] * times
 
 
-@pytest.mark.parametrize("kind", ["healthy", "hosts", "late"])
+@pytest.mark.parametrize("kind", rounds.ROUNDS)
 @pytest.mark.parametrize("place", range(3))
 @pytest.mark.parametrize("late_by", [-1, 0])
 def test_each_bound_is_that_of_its_rounds_and_cables(monkeypatch: pytest.MonkeyPatch, kind: str, place: int, late_by: int) -> None:
@@ -149,3 +149,25 @@ def test_ports_that_share_an_aggregator_are_aggregatable_and_have_one_key(seed: 
     for _ in range(5):
         made.configure(system, 0, 1)
     assert all(it["key"] == made.ports[0][0].key and (it["aggregatable"] or not made.shared) for it in configure)
+
+
+@pytest.mark.parametrize("most", [1, 6])
+def test_in_a_round_of_several_ticks_both_systems_have_as_many(most: int) -> None:
+    made, world = case("several", [1])
+    made.ticks = most
+    counts: list[list[int]] = [[], []]
+    for system, ticked in zip(world.systems, counts):
+        system.tick = ticked.append
+    for _ in range(200):
+        made.round(world)
+    assert counts[0] == counts[1] and set(counts[0]) == set(range(1, most + 1))
+
+
+def test_a_moment_without_agreement_within_a_round_counts(monkeypatch: pytest.MonkeyPatch) -> None:
+    made, world = case("several", [1])
+    made.kept = world.cables[0]
+    monkeypatch.setattr(rounds, "is_agreed", lambda world, cable: True)
+    assert made.round(world)
+    answers = iter([True, True, False, True, True, True, True, True])
+    monkeypatch.setattr(rounds, "is_agreed", lambda world, cable: next(answers))
+    assert not made.round(world)
