@@ -2,7 +2,9 @@
 
 from __future__ import annotations
 
+import inspect
 import json
+import re
 from pathlib import Path
 from typing import Iterator, Optional, Sequence, Type
 
@@ -290,8 +292,9 @@ def test_the_page_says_how_long_a_run_may_take() -> None:
 def test_the_page_names_what_tests_use() -> None:
     if not PAGE.exists():
         return
-    rows = [it.split("`")[1] for it in PAGE.read_text().splitlines() if it.startswith("|`b.")]
-    assert len(rows) >= 6 and all(hasattr(Bench, it[2:].partition("(")[0]) for it in rows)
+    rows = re.findall(r"^\|`b\.(\w+)\(.*\|`([^`|]+)`\|$", PAGE.read_text(), re.M)
+    assert len(rows) == PAGE.read_text().count("\n|`b.") >= 6
+    assert dict(rows) == {name: inspect.signature(getattr(Bench, name)).return_annotation for name, _ in rows}
 
 
 def test_the_test_of_the_page_runs(run, tmp_path: Path, capsys: pytest.CaptureFixture[str]) -> None:  # type: ignore[no-untyped-def]
