@@ -499,7 +499,7 @@ def test_a_fault_of_a_test_is_an_error_and_one_of_the_network_is_not(why: BaseEx
     with beside(World(Device())) as b:
         found = run_one(b, replace(BY_NAME["FM-01"], run=wrong))
         assert found.verdict == verdict and found.why.startswith(told) and found.why.endswith(__file__)
-        found = run_one(b, replace(BY_NAME["FM-01"], run=lambda: None))  # type: ignore[arg-type,misc]
+        found = run_one(b, replace(BY_NAME["FM-01"], run=lambda: None))
         assert found.verdict == ERROR and found.why.endswith("takes 0 positional arguments but 1 was given") and "Traceback" in found.notes[-1]
 
 
