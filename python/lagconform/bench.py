@@ -119,11 +119,11 @@ class Bench:
         return frame
 
     def send(self, link: int, payload: bytes) -> Frame:
-        """Sends a frame of Slow Protocols with this payload."""
+        """Sends a frame of Slow Protocols with this payload; answers it as the log has it."""
         return self.send_raw(link, slow(payload, self.wire.source(link)))
 
     def send_raw(self, link: int, octets: bytes) -> Frame:
-        """Sends a frame."""
+        """Sends a frame; answers it as the log has it."""
         frame = self.log(link, self.now(), True, octets)
         self.links[link].meter.sent(frame.time)
         self.refused += not self.wire.send(link, octets)
@@ -166,18 +166,18 @@ class Bench:
     # What was seen.
 
     def mark(self) -> int:
-        """A place in the log: what comes from now on stands behind it."""
+        """A place in the log, as a count of its frames: what comes from now on stands behind it."""
         return len(self.frames)
 
     def heard(self, link: int, mark: int, holds: Holds = lambda _: True) -> Iterator[Frame]:
-        """The LACPDUs of the device on a link since a mark."""
+        """The LACPDUs of the device on a link since a mark, as frames in their order: an iterator over what the log has, which waits for nothing."""
         for at in range(mark, len(self.frames)):
             frame = self.frames[at]
             if not frame.out and frame.link == link and frame.lacpdu and holds(frame.lacpdu):
                 yield frame
 
     def first(self, link: int, mark: int, holds: Holds, limit: float) -> Optional[Frame]:
-        """The first such LACPDU since a mark, waited for."""
+        """The first such LACPDU since a mark, as a frame, waited for; None where none came in `limit` seconds."""
         seen, found = mark, cast(Optional[Frame], None)
 
         def looks() -> bool:
@@ -190,7 +190,7 @@ class Bench:
         return found
 
     def markers(self, link: int, mark: int, kind: MarkerKind = MarkerKind.RESPONSE) -> list[Frame]:
-        """Marker PDUs of a kind of the device since a mark."""
+        """Marker PDUs of a kind of the device since a mark, as frames in their order."""
         return [it for it in self.frames[mark:] if not it.out and it.link == link and it.marker and it.marker.kind is kind]
 
     def data(self, mark: int, link: int) -> int:
@@ -214,14 +214,14 @@ class Bench:
         return self.links[link].partner
 
     def frame(self, link: int = 1) -> Frame:
-        """The last LACPDU of the device on a link, as a frame."""
+        """The last LACPDU of the device on a link, as a frame; the test is inconclusive where none came."""
         frame, spoke = self.links[link].frame, self.links[link].spoke
         if not frame:
             raise Stuck(f"what the device sends on link {link} is no LACPDU: {spoke.fault}" if spoke else f"no LACPDU of the device was heard on link {link}")
         return frame
 
     def device(self, link: int = 1) -> Lacpdu:
-        """The last LACPDU of the device on a link."""
+        """The last LACPDU of the device on a link: `actor` is its end, and `partner` ours as it tells that. The test is inconclusive where none came."""
         pdu = self.frame(link).lacpdu
         assert pdu
         return pdu
@@ -293,7 +293,7 @@ class Bench:
             self.up(link)
 
     def say(self, link: int = 1, **bits: bool) -> Frame:
-        """Forces bits of our state, by their names, and sends an LACPDU at once."""
+        """Forces bits of our state, by their names, and sends an LACPDU at once; answers its frame."""
         names = {
             "sync": State.SYNCHRONIZATION, "collecting": State.COLLECTING, "distributing": State.DISTRIBUTING,
             "expired": State.EXPIRED, "defaulted": State.DEFAULTED,
@@ -354,13 +354,14 @@ class Bench:
     # What a test claims.
 
     def claim(self, holds: object, text: str, *frames: Optional[Frame], bears: float = 0.0, late: Optional[float] = None) -> bool:
-        """Claims that something holds, as these frames show. A bench that is up to `bears` seconds late, or loses frames, makes it no less true."""
+        """Claims that something holds, as these frames show; answers whether it does. A bench that is up to `bears` seconds late, or loses frames,
+        makes it no less true."""
         assert self.result
         self.result.claims.append(Claim(bool(holds), text, tuple(it.number for it in frames if it), bears, late))
         return bool(holds)
 
     def holds(self, holds: object, statement: str, *frames: Optional[Frame], bears: float = 0.0) -> bool:
-        """Claims a statement, as these frames show; it is denied where it does not hold."""
+        """Claims a statement, as these frames show; answers whether it holds, and denies it where it does not."""
         if not holds and frames and frames[0]:
             return self.claim(False, f"not so: {statement}; packet {frames[0].number}: {told(frames[0].octets)}", *frames, bears=bears)
         return self.claim(holds, statement if holds else f"not so: {statement}", *frames, bears=bears)
@@ -370,8 +371,8 @@ class Bench:
         (self.result.notes if self.result else self.untold).append(text)
 
     def timed(self, what: str, sent: Frame, seen: Optional[Frame], least: float, most: float, timer: bool = False) -> bool:
-        """Claims that something was seen in time after a frame. `timer`: the times are those of one timer of 6.4.4, and the LACPDU that
-        tells of its expiry may come PROMPT later."""
+        """Claims that something was seen in time after a frame; answers whether it was. `timer`: the times are those of one timer of 6.4.4, and the
+        LACPDU that tells of its expiry may come PROMPT later."""
         due = most if timer else most - PROMPT
         least -= (TIMERS if timer else 0) + self.slack
         most += (TIMERS + PROMPT if timer else 0) + self.slack

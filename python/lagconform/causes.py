@@ -95,6 +95,11 @@ def grouped(results: Sequence[Result]) -> list[Cause]:
     return [*found, *(Cause(name, f"{name} {rest[name].crashed or rest[name].test.title}", tuple(more), rest[name]) for name, more in roots.items())]
 
 
+def explained(results: Sequence[Result]) -> dict[str, str]:
+    """Of each fail that another cause explains, by its test, the name of that cause."""
+    return {one.test.id: it.name for it in grouped(results) for one in it.explains}
+
+
 def told(results: Sequence[Result]) -> list[str]:
     """The causes that explain other fails, as lines."""
     return [f"{it.text}: explains {', '.join(one.test.id for one in it.explains)}" for it in grouped(results) if it.explains]

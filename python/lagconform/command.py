@@ -22,7 +22,7 @@ from .files import are_same, read_text, tell, undisturbed, written
 from .groups import GROUPS, TESTS
 from .listing import as_markdown, as_text
 from .memory import World, loaded
-from .model import CAVEAT, FAIL, INCONCLUSIVE, PASS, Result, Test
+from .model import CAVEAT, ERROR, FAIL, INCONCLUSIVE, PASS, Result, Test
 from .options import MEMORY_LINKS, SEED, check_words, reader, selected
 from .pdus import number_of
 from .refusals import MOST_LINKS, Refused, check_interfaces
@@ -233,8 +233,10 @@ def finish(given: argparse.Namespace, run: Run, status: int, ended: bool) -> int
     if not status and not any(it.verdict in (PASS, FAIL) for it in run.results):
         tell("lagconform: no test came to pass or fail", to=sys.stderr)
         status = 2
-    fails = bool(known.new_fails(run.results)) or run.strict and (bool(gone) or any(it.verdict == INCONCLUSIVE for it in run.results))
-    return status or (1 if fails and stand_there else 2 if ended or not stand_there else 0)
+    if broke := [it.test.id for it in run.results if it.verdict == ERROR]:
+        tell(f"lagconform: {', '.join(broke)} broke by a fault of the test, which says nothing of the device: mend it", to=sys.stderr)
+    fails = bool(known.new_fails(run.results)) or run.strict and (bool(gone) or any(it.verdict in (ERROR, INCONCLUSIVE) for it in run.results))
+    return status or (1 if fails and stand_there else 2 if broke or ended or not stand_there else 0)
 
 
 def interrupt(*_: object) -> None:
@@ -247,9 +249,9 @@ def planned(given: argparse.Namespace) -> Plan:
     check_words(given)
     links = given.links or MEMORY_LINKS if given.memory else max(1, len(given.interfaces))
     tests = selected(given.only, given.long or bool(given.memory), links, given.left_out)
-    claimed = pics.parsed(read_text(given.pics)) if given.pics else {}
-    reasons = known.parsed(read_text(given.known), (it.id for it in TESTS)) if given.known else {}
-    before = earlier(given.resume, read_text(given.resume, files.MOST_OF_A_RUN)) if given.resume else None
+    claimed = pics.parsed(read_text("--pics", given.pics)) if given.pics else {}
+    reasons = known.parsed(read_text("--known", given.known), (it.id for it in TESTS)) if given.known else {}
+    before = earlier(given.resume, read_text("--resume", given.resume, files.MOST_OF_A_RUN)) if given.resume else None
     if given.seed is None:
         given.seed = before.conditions.get("seed", SEED) if before else SEED  # random frames are those that the run had
     if not before:

@@ -13,19 +13,33 @@ from .refusals import Refused
 
 # No list of known fails is longer, and no JSON of a run.
 LONGEST, MOST_OF_A_RUN = 1 << 20, 1 << 28
+# What the file of an option is.
+WANTED = {
+    "--known": "a text with a line for each known fail, as `RX-08 reported to its maker`, or with none",
+    "--pics": "a text with a line for each item that the device claims to have or not, as `active yes`",
+    "--resume": "the JSON that --json of an earlier run wrote; a first run goes without --resume",
+    "--tests": "a file of Python that makes a lagconform.model.Group and its tests",
+    "--memory": "a file of Python with a class Device, or a shared library: the stack",
+}
 # The signals that end a run.
 ENDS = signal.SIGINT, signal.SIGTERM
 
 
-def read_text(path: str, longest: int = LONGEST) -> str:
-    """The text of a file of the user's."""
+def unread(option: str, path: str, why: OSError) -> Refused:
+    """That the file of an option can't be read: where it was looked for, and what it is to be."""
+    folder = "" if os.path.isabs(path) else f" in {os.getcwd()}"
+    return Refused(f"{option} {path}: {why.strerror}{folder}. It has to be {WANTED[option]}")
+
+
+def read_text(option: str, path: str, longest: int = LONGEST) -> str:
+    """The text of the file of an option."""
     try:
         with open(os.open(path, os.O_RDONLY | os.O_NONBLOCK | os.O_CLOEXEC), "rb") as it:
             if not stat.S_ISREG(os.fstat(it.fileno()).st_mode):
                 raise Refused(f"{path} is no regular file")
             octets = it.read(longest + 1)
     except OSError as why:
-        raise Refused(f"{path}: {why.strerror}") from why
+        raise unread(option, path, why) from why
     if len(octets) > longest:
         raise Refused(f"{path} has more than {longest} octets")
     try:

@@ -6,10 +6,11 @@ import json
 import re
 import time
 from html import escape
-from typing import Iterable, Sequence
+from typing import Iterable, Mapping, Sequence
 from xml.sax.saxutils import quoteattr
 
-from .model import CAVEAT, FAIL, INCONCLUSIVE, PASS, Result
+from .causes import explained
+from .model import CAVEAT, ERROR, FAIL, INCONCLUSIVE, PASS, Result
 from .pdus import told
 from .report import Run
 
@@ -22,12 +23,12 @@ UNWANTED = re.compile("[^\t\n\r\x20-\ud7ff\ue000-\ufffd\U00010000-\U0010ffff]")
 
 def tag(run: Run, it: Result) -> str:
     """What a result is to JUnit. A known fail is skipped; so is what came to no answer, unless the run is strict: then it is an error, as it makes
-    the status 1, and so is a known fail that passes."""
+    the status 1, and so is a known fail that passes. A test that broke is an error in any run."""
     if it.verdict == PASS:
         return "error" if it.obsolete and run.strict else ""
     if it.verdict == FAIL and not it.known:
         return "failure"
-    return "error" if it.verdict == INCONCLUSIVE and run.strict else "skipped"
+    return "error" if it.verdict == ERROR or it.verdict == INCONCLUSIVE and run.strict else "skipped"
 
 
 def message(it: Result) -> str:
@@ -49,10 +50,15 @@ def words(run: Run, it: Result) -> list[str]:
     return said
 
 
-def case(run: Run, it: Result) -> str:
-    """A result as a case of JUnit. Its name is the number of its test, which stays where a title gets other words."""
+def properties(told_of: Mapping[str, str]) -> str:
+    """What a test or the run was, as JUnit has it."""
+    return "".join(["<properties>", *(f"<property name={quoteattr(key)} value={quoteattr(value)}/>" for key, value in told_of.items()), "</properties>"])
+
+
+def case(run: Run, it: Result, cause: str) -> str:
+    """A result as a case of JUnit, with what explains its fail, if so. Its name is the number of its test, which stays where a title gets other words."""
     out = f'<testcase classname={quoteattr(it.test.group)} name={quoteattr(it.test.id)} time="{it.end - it.begin:.3f}">'
-    out += f'<properties><property name="title" value={quoteattr(it.test.title)}/></properties>'
+    out += properties({"title": it.test.title, "clause": it.test.clause, **({"causes": cause} if cause else {})})
     kind, text = tag(run, it), message(it)
     body = escape("\n".join(words(run, it)))
     if kind == "skipped":
@@ -73,12 +79,6 @@ def suite(run: Run, kind: str, name: str, results: Sequence[Result], more: int =
     return f'<{kind} name={quoteattr(name)} {counts}{f" timestamp={quoteattr(when)}" if kind == "testsuite" else ""}>'
 
 
-def properties(run: Run) -> str:
-    """What the run was: the device by its frames, and the options."""
-    told_of = "".join(f"<property name={quoteattr(key)} value={quoteattr(value)}/>" for key, value in run.about.items())
-    return f"<properties>{told_of}</properties>"
-
-
 BEGINS = '<?xml version="1.0" encoding="utf-8"?>'
 
 
@@ -90,11 +90,12 @@ def early(why: str) -> list[str]:
 
 def as_junit(run: Run) -> str:
     """The whole run as JUnit's XML. One that ended early has an error beside what was run."""
-    why = run.about.get("incomplete", "")
+    why, by_test = run.about.get("incomplete", ""), explained(run.results)
     out = [BEGINS, suite(run, "testsuites", run.about.get("device", "device"), run.results, 1 if why else 0)]
     for group in dict.fromkeys(it.test.group for it in run.results):
         own = [it for it in run.results if it.test.group == group]
-        out += [suite(run, "testsuite", group, own), properties(run), *(case(run, it) for it in own), "</testsuite>"]
+        cases = [case(run, it, by_test.get(it.test.id, "")) for it in own]
+        out += [suite(run, "testsuite", group, own), properties(run.about), *cases, "</testsuite>"]
     return UNWANTED.sub("\ufffd", "\n".join([*out, *(early(why) if why else []), "</testsuites>"]) + "\n")
 
 
@@ -108,8 +109,13 @@ def plain(text: str) -> str:
     return " ".join(text.replace("#", "no.").split())
 
 
-def point(run: Run, number: int, it: Result) -> Iterable[str]:
-    """A result as a test point of TAP, with what failed behind it as YAML."""
+def item(text: str) -> str:
+    """A text as an item of a list of YAML. Perl's reader of TAP takes one that begins with a word and a colon for a map, though it is quoted."""
+    return "    - " + re.sub(r'^("\S+\s*):', r"\1\\x3a", json.dumps(text))
+
+
+def point(run: Run, number: int, it: Result, cause: str) -> Iterable[str]:
+    """A result as a test point of TAP. Behind it stand as YAML its clause, what explains its fail, if so, and what failed."""
     kind = tag(run, it)
     name = f"{number} - {plain(f'{it.test.id} {it.test.title}')}"
     if it.known:
@@ -118,11 +124,12 @@ def point(run: Run, number: int, it: Result) -> Iterable[str]:
         yield f"ok {name} # SKIP {plain(f'{it.verdict}: {it.why}')}"
     else:
         yield f"{'not ok' if kind else 'ok'} {name}"
+    yield from ["  ---", f"  clause: {json.dumps(it.test.clause)}", *(["  causes:", item(cause)] if cause else [])]
     if kind in ("failure", "error"):
         told_why = message(it) if it.obsolete else it.why
-        yield from ["  ---", f"  message: {json.dumps(told_why)}", f"  severity: {it.verdict}", f"  basis: {it.basis}", "  data:"]
-        yield from (f"    - {json.dumps(line)}" for line in words(run, it))
-        yield "  ..."
+        yield from [f"  message: {json.dumps(told_why)}", f"  severity: {it.verdict}", f"  basis: {it.basis}", "  data:"]
+        yield from map(item, words(run, it))
+    yield "  ..."
 
 
 def bail_out(why: str) -> str:
@@ -132,7 +139,8 @@ def bail_out(why: str) -> str:
 
 def as_tap(run: Run) -> str:
     """The whole run as TAP, version 14."""
-    points, why = [line for number, it in enumerate(run.results, 1) for line in point(run, number, it)], run.about.get("incomplete", "")
+    why, by_test = run.about.get("incomplete", ""), explained(run.results)
+    points = [line for number, it in enumerate(run.results, 1) for line in point(run, number, it, by_test.get(it.test.id, ""))]
     return "\n".join(["TAP version 14", f"1..{len(run.results)}", *points, f"# {CAVEAT}", *([bail_out(why)] if why else [])]) + "\n"
 
 

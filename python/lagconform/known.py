@@ -1,5 +1,5 @@
 """Fails that are known: a file with the id of a test and a reason on each line. A run in which nothing else fails has status 0; with
---strict these have to fail, too: a line that is no longer true hides the next fail."""
+--strict these have to fail, too: a line that is no longer true hides the next fail. No line excuses a test that broke, or came to no answer."""
 
 from __future__ import annotations
 

@@ -5,10 +5,10 @@ from __future__ import annotations
 import re
 from typing import Iterable, Sequence
 
-from .model import CAVEAT, FAIL, INCONCLUSIVE, NOT_APPLICABLE, PASS, SKIPPED, Result, Test
+from .model import CAVEAT, ERROR, FAIL, INCONCLUSIVE, NOT_APPLICABLE, PASS, SKIPPED, Result, Test
 
 # The verdict of a clause is the first of these that a test of it has.
-WORST = (FAIL, INCONCLUSIVE, PASS, SKIPPED, NOT_APPLICABLE)
+WORST = (ERROR, FAIL, INCONCLUSIVE, PASS, SKIPPED, NOT_APPLICABLE)
 # The verdicts that are an answer.
 ANSWERS = (PASS, FAIL)
 

@@ -10,8 +10,9 @@ from niwhopera import Lacpdu, Marker, Pdu
 if TYPE_CHECKING:
     from .bench import Bench
 
-PASS, FAIL, INCONCLUSIVE, SKIPPED, NOT_APPLICABLE = "pass", "fail", "inconclusive", "skipped", "not applicable"
-VERDICTS = (PASS, FAIL, INCONCLUSIVE, SKIPPED, NOT_APPLICABLE)
+# An error is a fault of the test itself.
+PASS, FAIL, ERROR, INCONCLUSIVE, SKIPPED, NOT_APPLICABLE = "pass", "fail", "error", "inconclusive", "skipped", "not applicable"
+VERDICTS = (PASS, FAIL, ERROR, INCONCLUSIVE, SKIPPED, NOT_APPLICABLE)
 # What carries the rule of a test: docs/PROFILE.md; two devices that nobody of this project wrote, which do so; or memory of the standard.
 PROFILE, DEVICES, MEMORY = "PROFILE", "two devices", "memory"
 # What a fail of a stack that crashed or hangs goes by, which wants no rule.
@@ -178,7 +179,7 @@ class Group:
         self, number: str, clause: str, title: str, *steps: str, rule: str, tolerance: str = "", links: int = 1, takes: float = 6,
         basis: str = "", needs: Sequence[str] = (), hooks: Sequence[str] = (), causes: Sequence[str] = (), purpose: str = "",
     ) -> Callable[[Run], Run]:  # fmt: skip
-        """Puts a function among the tests. It makes claims, or raises `Stop`; its docstring is the purpose, if none is given."""
+        """Puts a function among the tests. It makes claims, or raises `Stop`, and answers nothing; its docstring is the purpose, if none is given."""
 
         def add(run: Run) -> Run:
             text = purpose or " ".join((run.__doc__ or "").split())

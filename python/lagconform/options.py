@@ -25,9 +25,10 @@ SEED = 1
 ABOUT = """Tests a device which runs LACP at the far end of one to four cables, by frames alone.
 
 It prints a line for each test, and in the end the count of each verdict. The status is 0 if nothing failed but what --known has, 1 if
-something did (with --strict also if a test came to no answer, or a known fail passes), 2 if the bench could not run to its end, a report
-could not be written, or no test came to pass or fail, 3 if the device sent no LACPDU before the first test, and 130 after
-SIGINT. It wants CAP_NET_RAW, and the interfaces for itself: in no bond, in no bridge, and with no other program that speaks LACP there.
+something did (with --strict also if a test came to no answer, or a known fail passes), 2 if the bench could not run to its end, a test
+broke by a fault of its own, a report could not be written, or no test came to pass or fail, 3 if the device sent no LACPDU before the
+first test, and 130 after SIGINT. It wants CAP_NET_RAW, and the interfaces for itself: in no bond, in no bridge, and with no other program
+that speaks LACP there.
 
 With --memory it wants none of these: the device is a stack in a file, and a run of all tests, the long ones too, takes seconds.
 

@@ -2,9 +2,11 @@
 
 from __future__ import annotations
 
+import os
 import re
 import runpy
 
+from .files import unread
 from .groups import GROUPS, TESTS
 from .model import Group
 from .refusals import MOST_LINKS, Refused
@@ -18,6 +20,8 @@ def load(path: str) -> None:
     try:
         found = list(dict.fromkeys(it for it in runpy.run_path(path).values() if isinstance(it, Group) and it not in GROUPS))
     except (Exception, SystemExit) as why:
+        if isinstance(why, OSError) and not os.path.exists(path):
+            raise unread("--tests", path, why) from why
         raise Refused(f"--tests {path}: {type(why).__name__}: {why}") from why
     if not any(it.tests for it in found):
         raise Refused(f"--tests {path}: it has no lagconform.model.Group with a test")

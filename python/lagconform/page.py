@@ -7,7 +7,7 @@ from typing import Iterable, Sequence, Union
 
 from . import causes, matrix
 from .bench import Bench
-from .model import CAVEAT, FAIL, INCONCLUSIVE, VERDICTS, Frame, Result, Test
+from .model import CAVEAT, ERROR, FAIL, INCONCLUSIVE, VERDICTS, Frame, Result, Test
 from .pdus import SLOW, end, told
 from .refusals import MOST_LINKS
 from .report import Run, summary, why
@@ -25,7 +25,7 @@ STYLE = (
     """body{font:15px/1.45 sans-serif;max-width:1340px;margin:1em auto;padding:0 1em;color:var(--ink);background:var(--paper)}a{color:var(--lacpdu)}
 table{border-collapse:collapse}td,th{border:1px solid var(--rule);padding:2px 8px;text-align:left;vertical-align:top;overflow-wrap:anywhere}
 .wide{overflow-x:auto}.v{font-weight:bold;white-space:nowrap}code,pre{font-size:12px;white-space:pre-wrap;word-break:break-all}
-.pass>.v,.pass .v{color:var(--pass)}.fail>.v,.fail .v,.no{color:var(--fail)}.inconclusive .v{color:var(--open)}.skipped .v,.not .v{color:var(--grey)}
+.pass>.v,.pass .v{color:var(--pass)}.fail>.v,.fail .v,.error .v,.no{color:var(--fail)}.inconclusive .v{color:var(--open)}.skipped .v,.not .v{color:var(--grey)}
 summary h3{display:inline;font-size:1em}details.t{border-top:1px solid var(--rule);padding:.4em 0}svg{min-width:900px;max-width:100%;height:auto}
 svg text{fill:var(--ink)}svg .grey{fill:var(--grey)}svg .line{stroke:var(--lacpdu)}
 .a{stroke:var(--ink)}.a.bad{stroke:var(--bad)}.a.lacpdu{stroke:var(--lacpdu)}.a.other{stroke:var(--other)}
@@ -170,7 +170,7 @@ def fails(results: Sequence[Result]) -> str:
 
 def unanswered(results: Sequence[Result]) -> str:
     """What came to no answer."""
-    out = [f"<li>{link_to(it)} {escape(it.test.title)}: {escape(why(it))}</li>" for it in results if it.verdict == INCONCLUSIVE]
+    out = [f"<li>{link_to(it)} {escape(it.test.title)}: {escape(why(it))}</li>" for it in results if it.verdict in (ERROR, INCONCLUSIVE)]
     return f"<h2>Without an answer</h2><ul>{''.join(out)}</ul>" if out else ""
 
 

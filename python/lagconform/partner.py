@@ -150,7 +150,7 @@ class Partner:
         return Lacpdu(with_bits(pdu.actor, self.forced), partner, pdu.max_delay)
 
     def send(self) -> Frame:
-        """Sends its LACPDU now: the one that is due, or else one more."""
+        """Sends its LACPDU now: the one that is due, or else one more; answers its frame."""
         self.system.transmit(self.me.port.number)
         self.told = self.lacpdu()
         self.last_sent, self._owes = self.bench.now(), False

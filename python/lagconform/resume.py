@@ -12,6 +12,7 @@ from niwhopera import Mac
 
 from .bench import BASE
 from .edition import edition
+from .files import unread
 from .model import FAIL, NOT_APPLICABLE, PASS, WHOLE_RUN, Claim, Result, Test
 from .options import MEMORY_LINKS
 from .refusals import Refused
@@ -30,19 +31,19 @@ def conditions(given: argparse.Namespace, claimed: Mapping[str, bool]) -> dict[s
     if given.memory:
         links = given.links or MEMORY_LINKS
     return {
-        **edition(), "device": given.device, "links": links, "memory": with_sum(given.memory) if given.memory else "", "hook": given.hook or "",
+        **edition(), "device": given.device, "links": links, "memory": with_sum("--memory", given.memory) if given.memory else "", "hook": given.hook or "",
         "set": given.set, "flap": given.flap, "pics": dict(claimed), SYSTEM: str(given.system or BASE), "slack": given.slack, "seed": given.seed,
-        **({"own tests": [*map(with_sum, given.tests)]} if given.tests else {}),
+        "repeat": given.repeat, **({"own tests": [with_sum("--tests", it) for it in given.tests]} if given.tests else {}),
     }  # fmt: skip
 
 
-def with_sum(path: str) -> str:
+def with_sum(option: str, path: str) -> str:
     """A file of a stack in memory, or of tests, and which build it is."""
     try:
         with open(path, "rb") as it:
             return f"{path}, SHA-256 {hashlib.sha256(it.read()).hexdigest()}"
     except OSError as why:
-        raise Refused(f"{path}: {why.strerror}") from why
+        raise unread(option, path, why) from why
 
 
 @dataclass(frozen=True)

@@ -11,7 +11,8 @@ from niwhopera import State
 from .bench import QUIET, SOON, Bench
 from .floods import FLOOD
 from .matrix import WORST
-from .model import FAIL, INCONCLUSIVE, NOT_APPLICABLE, PASS, SKIPPED, SURE, WHOLE_RUN, Claim, DoesNotApply, Frame, NotHere, Result, Stop, Stuck, Test
+from .model import ERROR, FAIL, INCONCLUSIVE, NOT_APPLICABLE, PASS, SKIPPED, SURE, WHOLE_RUN
+from .model import Claim, DoesNotApply, Frame, NotHere, Result, Stop, Stuck, Test
 from .pdus import number_of
 from .pics import ITEMS, lacking
 from .refusals import Refused
@@ -126,8 +127,11 @@ def run_one(b: Bench, test: Test, claimed: Optional[Mapping[str, bool]] = None) 
         result.notes += [trace] if trace else []
     except Gone as why:
         result.verdict, result.why, result.gone = INCONCLUSIVE, str(why), str(why)
-    except Exception:  # a fault of the bench
-        result.verdict, result.why = INCONCLUSIVE, f"the bench has a fault: {traceback.format_exc(limit=-2)}"
+    except (OSError, MemoryError) as why:  # of this machine, its network, or what a test asks beside the device
+        result.verdict, result.why = INCONCLUSIVE, raised(why)
+    except (Exception, SystemExit) as why:
+        result.verdict, result.why = ERROR, f"the test broke by {raised(why)}"
+        result.notes.append(traceback.format_exc())
     b.ends = math.inf
     flood = traffic.flood()
     b.flood = flood.text if flood.hides else b.flood
@@ -142,6 +146,13 @@ def run_one(b: Bench, test: Test, claimed: Optional[Mapping[str, bool]] = None) 
         b.ran.add(test.id)
     b.result = None
     return result
+
+
+def raised(why: BaseException) -> str:
+    """An exception of a test, with the line of its file that brought it."""
+    below = traceback.extract_tb(why.__traceback__)[1:]
+    lines = [f"; line {it.lineno} of {it.filename}" for it in below if it.filename == below[0].filename]
+    return f"{type(why).__name__}: {' '.join(str(why).split())}{lines[-1] if lines else ''}"
 
 
 def shape(frame: Frame) -> str:
@@ -163,11 +174,11 @@ def revive(b: Bench, test: Test, broke: Broke) -> str:
 
 
 def judge(b: Bench, result: Result, flood: Flood = Flood()) -> None:
-    """The verdict: a claim that does not hold is a fail, unless the bench itself or a flood is to blame."""
+    """The verdict: a claim that does not hold is a fail, unless the test broke, or the bench itself or a flood is to blame."""
     failed = [it for it in result.claims if not it.holds]
     if result.test.group == WHOLE_RUN:
         result.notes.append(f"it looked at the frames of {number_of(len(b.ran), 'other test')} of this run")
-    if failed:
+    if failed and result.verdict != ERROR:
         result.verdict, result.why = FAIL, failed[0].text
     elif result.verdict == PASS and not result.claims:
         result.verdict, result.why = INCONCLUSIVE, "nothing was claimed"

@@ -2,7 +2,9 @@
 
 from __future__ import annotations
 
+import inspect
 import json
+import re
 from pathlib import Path
 from typing import Iterator, Optional, Sequence, Type
 
@@ -16,7 +18,7 @@ from lagconform import causes, command, listing, options, pics
 from lagconform.bench import BASE, Bench
 from lagconform.edition import edition
 from lagconform.groups import GROUPS, TESTS
-from lagconform.model import FAIL, INCONCLUSIVE, PASS, SPARE, WHOLE_RUN, Group, Result
+from lagconform.model import ERROR, FAIL, INCONCLUSIVE, PASS, SPARE, WHOLE_RUN, Group, Result
 from lagconform.model import Test as Case
 from lagconform.runner import meet, ordered, run_all
 from niwhopera import Mac
@@ -164,6 +166,37 @@ def test_tests_of_ones_own_run_beside_those_of_the_bench(run, tmp_path: Path, ca
     assert run(Device, "--tests", str(tmp_path / "lab.py"), "--list") == 2 and "a name of its own" in capsys.readouterr().err
 
 
+# The test of OWN fails by a claim, and then breaks.
+BROKEN = OWN.replace('b.holds(b.carries(), "it carries", b.frame())', 'b.claim(False, "it failed")\n    return b.frame() + 1')
+
+
+def test_a_test_that_breaks_is_an_error_that_no_known_fail_hides(run, tmp_path: Path, capsys: pytest.CaptureFixture[str]) -> None:  # type: ignore[no-untyped-def]
+    (tmp_path / "lab.py").write_text(BROKEN)
+    (tmp_path / "known").write_text("LAB-01 of the chip\n")
+    reports = ["--json", "r.json", "--junit", "r.xml", "--tap", "r.tap", "--report", "r.html", "--matrix", "r.md"]
+    words = ["--only", "LAB-01", "--only", "FM-01", "--known", "known", *reports]
+    for strict, status in ((), 2), (("--strict",), 1):
+        assert run(Device, *([] if strict else ["--tests", "lab.py"]), *words, *strict) == status
+        said, line = capsys.readouterr(), BROKEN[: BROKEN.index("return b.frame")].count("\n") + 1
+        why = f"the test broke by TypeError: unsupported operand type(s) for +: 'Frame' and 'int'; line {line} of lab.py"
+        assert f"\nerror          LAB-01  It carries in time\n{'':23}{why}\n1 pass, 0 fail, 1 error. " in said.out
+        assert said.err == "lagconform: LAB-01 broke by a fault of the test, which says nothing of the device: mend it\n"
+        told = json.loads((tmp_path / "r.json").read_text())
+        assert told["counts"]["error"] == 1 and told["tests"][1]["verdict"] == ERROR and "return b.frame() + 1" in told["tests"][1]["notes"][-1]
+        assert f'errors="1" skipped="0"' in (tmp_path / "r.xml").read_text() and 'type="error by our lab" message="error: the test broke' in (tmp_path / "r.xml").read_text()
+        assert "\nnot ok 2 - LAB-01 It carries in time\n" in (tmp_path / "r.tap").read_text() and "\n  severity: error\n" in (tmp_path / "r.tap").read_text()
+        assert "| error | LAB-01 (error), " in (tmp_path / "r.md").read_text() and f"It carries in time: {why.partition(' type')[0]}" in (tmp_path / "r.html").read_text()
+    assert run(Device, *words, "--resume", "r.json", "--repeat", "2") == 2 and "repeat was 1 there, and is 2 now" in capsys.readouterr().err
+    assert run(Device, *words, "--resume", "r.json") == 2 and capsys.readouterr().out.startswith("1 test on 3 links\nerror          LAB-01")
+
+
+def test_a_test_that_breaks_in_one_run_of_several_is_an_error(run, tmp_path: Path, capsys: pytest.CaptureFixture[str]) -> None:  # type: ignore[no-untyped-def]
+    (tmp_path / "lab.py").write_text(BROKEN.replace("return b.frame() + 1", "return b.frame() + 1 if b.now() > 10 else None"))
+    (tmp_path / "known").write_text("LAB-01 of the chip\n")
+    assert run(Device, "--tests", "lab.py", "--only", "LAB-01", "--only", "FM-01", "--known", "known", "--repeat", "9") == 2
+    assert "of lab.py (in " in capsys.readouterr().out
+
+
 def test_verdicts_of_a_file_of_tests_that_changed_are_not_taken_over(run, tmp_path: Path, capsys: pytest.CaptureFixture[str]) -> None:  # type: ignore[no-untyped-def]
     (tmp_path / "lab.py").write_text(OWN)
     assert run(Device, "--tests", "lab.py", "--only", "LAB-01", "--json", "r.json") == 0
@@ -259,8 +292,9 @@ def test_the_page_says_how_long_a_run_may_take() -> None:
 def test_the_page_names_what_tests_use() -> None:
     if not PAGE.exists():
         return
-    rows = [it.split("`")[1] for it in PAGE.read_text().splitlines() if it.startswith("|`b.")]
-    assert len(rows) >= 6 and all(hasattr(Bench, it[2:].partition("(")[0]) for it in rows)
+    rows = re.findall(r"^\|`b\.(\w+)\(.*\|`([^`|]+)`\|$", PAGE.read_text(), re.M)
+    assert len(rows) == PAGE.read_text().count("\n|`b.") >= 6
+    assert dict(rows) == {name: inspect.signature(getattr(Bench, name)).return_annotation for name, _ in rows}
 
 
 def test_the_test_of_the_page_runs(run, tmp_path: Path, capsys: pytest.CaptureFixture[str]) -> None:  # type: ignore[no-untyped-def]

@@ -12,6 +12,7 @@ import subprocess
 import sys
 import time
 import xml.etree.ElementTree as xml
+from dataclasses import replace
 from pathlib import Path
 from typing import Any, Iterator, Sequence, Type
 
@@ -25,8 +26,7 @@ from lagconform import causes, command, files, known, listing, options, page, pi
 from lagconform.bench import Bench, most_within
 from lagconform.groups import GROUPS, TESTS
 from lagconform.memory import Done
-from lagconform.model import CAVEAT, DEVICES, FAIL, INCONCLUSIVE, LONG, MEMORY, NOT_APPLICABLE, PASS, PROFILE, SKIPPED, Claim, Result
-from lagconform.model import Test as Case
+from lagconform.model import CAVEAT, DEVICES, ERROR, FAIL, INCONCLUSIVE, LONG, MEMORY, NOT_APPLICABLE, PASS, PROFILE, SKIPPED, Claim, Result
 from lagconform.runner import NoDevice, judge, meet, run_one
 from lagconform.shadow import compare
 from lagconform.sockets import Command
@@ -261,7 +261,7 @@ def test_a_file_that_is_no_text_is_refused(tmp_path: Path) -> None:
     os.mkfifo(tmp_path / "fifo")
     for name, why in ("octets", "octet 6 is ff"), ("long", "more than"), ("fifo", "no regular file"), ("/dev/urandom", "no regular file"), (".", "Is a directory"):
         with pytest.raises(refusals.Refused, match=why):
-            files.read_text(str(tmp_path / name))
+            files.read_text("--known", str(tmp_path / name))
 
 
 def test_one_link_runs_tests_of_one_link(run, capsys: pytest.CaptureFixture[str]) -> None:  # type: ignore[no-untyped-def]
@@ -278,7 +278,11 @@ def test_one_link_runs_tests_of_one_link(run, capsys: pytest.CaptureFixture[str]
         (["none0"], "there is no interface none0"),
         (["lo"], "no Ethernet interface"),
         (["lo", "--only", "XX-*"], "there is no test XX"),
-        (["lo", "--known", "/none"], "/none: No such file"),
+        (["lo", "--known", "/none"], "--known /none: No such file or directory. It has to be a text with a line for each known fail, as `RX-08 reported"),
+        (["lo", "--pics", "none"], f"--pics none: No such file or directory in {os.getcwd()}. It has to be a text with a line for each item"),
+        (["lo", "--resume", "/none"], "--resume /none: No such file or directory. It has to be the JSON that --json of an earlier run wrote"),
+        (["lo", "--tests", "/none"], "--tests /none: No such file or directory. It has to be a file of Python that makes a lagconform.model.Group"),
+        (["--memory", "/none"], "--memory /none: No such file or directory. It has to be a file of Python with a class Device, or a shared library"),
         (["lo", "--only", "RX-14*"], "RX-14* wants --long"),
         (["lo", "--only", "SL-01", "--only", "FM-01"], "SL-01 wants 2 links"),
         (["lo", "--set", "a=b"], "--set wants --hook"),
@@ -342,7 +346,7 @@ def test_a_run_that_never_began_leaves_what_it_was_to_resume(run, tmp_path: Path
     [
         ("device", ["--device", "other build"], 2), ("links", [], 1), ("hook", ["--hook", "true"], 2), ("set", ["--hook", "./hook", "--set", "a=c"], 2),
         ("pics", ["--pics", "pics"], 2), ("system", ["--system", "06:d1:00:00:00:03"], 2), ("flap", ["--flap"], 2), ("slack", ["--slack", "0.3"], 2),
-        ("links", ["--memory"], 0),
+        ("links", ["--memory"], 0), ("repeat", ["--repeat", "2"], 2),
     ],
 )  # fmt: skip
 def test_verdicts_of_another_device_are_not_taken_over(run, name: str, words: list[str], links: int, tmp_path: Path, capsys: pytest.CaptureFixture[str]) -> None:  # type: ignore[no-untyped-def]
@@ -484,14 +488,19 @@ def test_a_test_without_its_hook_is_skipped() -> None:
         assert run_one(b, BY_NAME["RX-14"]).verdict == NOT_APPLICABLE
 
 
-def test_a_fault_of_the_bench_is_no_fail() -> None:
+@pytest.mark.parametrize("why, verdict, told", [
+    (ZeroDivisionError("of\nit"), ERROR, "the test broke by ZeroDivisionError: of it; line "), (SystemExit(0), ERROR, "the test broke by SystemExit: 0; line "),
+    (ConnectionRefusedError(111, "it sleeps"), INCONCLUSIVE, "ConnectionRefusedError: [Errno 111] it sleeps; line "), (MemoryError(), INCONCLUSIVE, "MemoryError: ; line "),
+])  # fmt: skip
+def test_a_fault_of_a_test_is_an_error_and_one_of_the_network_is_not(why: BaseException, verdict: str, told: str) -> None:
     def wrong(_: Bench) -> None:
-        raise ZeroDivisionError
+        raise why
 
     with beside(World(Device())) as b:
-        one = BY_NAME["FM-01"]
-        found = run_one(b, Case(*[wrong if name == "run" else getattr(one, name) for name in one.__dataclass_fields__]))
-        assert found.verdict == INCONCLUSIVE and "ZeroDivisionError" in found.why
+        found = run_one(b, replace(BY_NAME["FM-01"], run=wrong))
+        assert found.verdict == verdict and found.why.startswith(told) and found.why.endswith(__file__)
+        found = run_one(b, replace(BY_NAME["FM-01"], run=lambda: None))
+        assert found.verdict == ERROR and found.why.endswith("takes 0 positional arguments but 1 was given") and "Traceback" in found.notes[-1]
 
 
 def test_the_list_has_each_test(capsys: pytest.CaptureFixture[str]) -> None:
@@ -567,17 +576,15 @@ def test_the_page_has_each_group_and_its_count() -> None:
 
 def test_the_page_has_what_carries_the_tests() -> None:
     text, kinds = page_of("CONFORM.md"), {kind: [it.id for it in TESTS if it.basis == kind] for kind in (PROFILE, DEVICES, MEMORY)}
-    assert not text or f"|`PROFILE`|{len(kinds[PROFILE])} of {len(TESTS)}|" in text
+    assert not text or kinds[PROFILE] and "\n|`PROFILE`|all others|" in text
     vn, rb = ([it.id for it in TESTS if it.group == group] for group in ("VN", "RB"))
     assert kinds[DEVICES] == [*vn[: vn.index("VN-10") + 1], *rb]
     row = next((it for it in text.splitlines() if it.startswith("|`memory`|")), "")
     assert not text or set(row.split("|")[2].split(", ")) == set(kinds[MEMORY])
 
 
-def test_pages_have_the_number_of_tests() -> None:
+def test_the_page_has_the_number_of_tests() -> None:
     """What the bench has now; the counts of runs stand with their dates."""
-    readme = page_of("../README.md")
-    assert not readme or re.search(rf": \[?{len(TESTS)} tests\b", readme)
     counts = {links: [len(options.selected(None, long, links)) for long in (False, True)] for links in (1, 2, 3, 4)}
     assert counts[3] == counts[4] and counts[4][1] == len(TESTS)
     rows = [f"|{name}|{counts[links][0]}|{counts[links][1]}{more}|" for name, links, more in (("one", 1, ""), ("two", 2, ""), ("three or four", 3, ": all"))]
@@ -595,7 +602,7 @@ def test_the_page_has_the_keys_of_json_that_stay(run, tmp_path: Path) -> None:  
     of_run, of_test, of_list = (re.findall("`([a-z]+)`", re.search(rf"^\|{it}\|(.*)\|$", text, re.M)[1]) for it in ("a run", "each of `tests`", "`--list --json`"))  # type: ignore[index]
     assert run(Device, "--only", "FM-01", "--json", "r.json") == 0 and command.main(["--list", "--json", "l.json"]) == 0
     told, tests = (json.loads((tmp_path / it).read_text()) for it in ("r.json", "l.json"))
-    assert set(of_run) == {*told} and {"standard", "tests"} <= {*told["about"]} and set(of_list) == {"format", *tests, *tests["tests"][0]} - {"causes"}
+    assert set(of_run) == {*told} and {"standard", "tests"} <= {*told["about"]} and set(of_list) == {"format", *tests, *tests["tests"][0]}
     assert set(of_test) - {"holds", "text"} <= {*told["tests"][0]} and {*told["tests"][0]["claims"][0]} == {"holds", "text", "packets"}
     about, frames = (re.search(rf"^\|{it}\|(.*)\|$", text, re.M)[1] for it in ("`about` of a run", "`frames` of a test"))  # type: ignore[index]
     assert {*told["about"]} - {"link 2", "link 3", "times"} <= {*re.findall("`([^`]+)`", about.partition("Where it is so")[0])}

@@ -198,8 +198,38 @@ def test_junit_and_tap_have_what_the_device_said(run, tmp_path: Path) -> None:  
     text = next(xml.parse(tmp_path / "r.xml").getroot().iter("failure")).text or ""
     assert "FAILS: with another key of the device it stops carrying: never; has to be at most 0.65 s" in text and "bench: LACPDU 3f" in text
     tap = (tmp_path / "r.tap").read_text().splitlines()
-    assert tap[:3] == ["TAP version 14", "1..2", "ok 1 - FM-01 Destination, source and type"]
-    assert tap[3].startswith("not ok 2 - RX-07c") and tap[4:6] == ["  ---", '  message: "with another key of the device it stops carrying: never; has to be at most 0.65 s"']
+    assert tap[:6] == ["TAP version 14", "1..2", "ok 1 - FM-01 Destination, source and type", "  ---", '  clause: "6.4.2.2, 6.2.10.1"', "  ..."]
+    assert tap[6].startswith("not ok 2 - RX-07c") and tap[7:9] == ["  ---", '  clause: "6.4.9 (recordPDU)"']
+    assert any(it.startswith('    - "FAILS\\x3a with another key of the device') for it in tap)
+    assert tap[9] == '  message: "with another key of the device it stops carrying: never; has to be at most 0.65 s"'
+
+
+def test_junit_and_tap_have_the_clause_of_each_test_and_what_explains_a_fail(run, tmp_path: Path) -> None:  # type: ignore[no-untyped-def]
+    (tmp_path / "known").write_text("VN-03 of the chip\n")
+    words = [word for it in ("FM-01", "RX-14", "VN-02", "VN-03") for word in ("--only", it)]
+    assert run(VersionChecked, *words, "--known", "known", "--junit", "r.xml", "--tap", "r.tap", "--json", "r.json") == 1
+    told = json.loads((tmp_path / "r.json").read_text())
+    clauses = {it["id"]: it["clause"] for it in told["tests"]}
+    causes_of = {name: cause for cause, explains in told["causes"].items() for name in explains}
+    assert len(clauses) == 4 and causes_of == {"VN-03": "VN-02"}
+    cases = {it.get("name"): {one.get("name"): one.get("value") for one in it.iter("property")} for it in xml.parse(tmp_path / "r.xml").getroot().iter("testcase")}
+    assert {name: it["clause"] for name, it in cases.items()} == clauses
+    assert {name: it["causes"] for name, it in cases.items() if "causes" in it} == causes_of
+    points = re.findall(r"^(?:not )?ok \d+ - (\S+) .*\n  ---\n((?:  .*\n)*?)  \.\.\.\n", (tmp_path / "r.tap").read_text(), re.M)
+    assert {name: json.loads(block.splitlines()[0].removeprefix("  clause: ")) for name, block in points} == clauses
+    assert {name: re.findall(r'^  causes:\n    - "(.*)"$', block, re.M) for name, block in points if "causes" in block} == {"VN-03": ["VN-02"]}
+    assert not re.findall(r"^    - \S+\s*:\s.*", "".join(block for _, block in points), re.M)  # which readers take for a map
+
+
+def test_a_known_fail_that_comes_to_no_answer_is_no_known_fail(stack, tmp_path: Path, capsys: pytest.CaptureFixture[str]) -> None:  # type: ignore[no-untyped-def]
+    (tmp_path / "known").write_text("SL-06 of the chip\n")
+    words = ["--only", "FM-01", "--only", "SL-06", "--known", "known", "--junit", "r.xml", "--tap", "r.tap"]
+    for strict, status, tag, point in ((), 0, "skipped", "ok 2 - SL-06"), (("--strict",), 1, "error", "not ok 2 - SL-06"):
+        assert stack("def data(self, on):\n    raise NotImplementedError", *words, *strict) == status
+        said = capsys.readouterr().out
+        assert "\ninconclusive   SL-06 " in said and "known" not in said and said.endswith(f"1 pass, 0 fail, 1 inconclusive{LAST}")
+        assert [it.get("message", "")[:14] for it in xml.parse(tmp_path / "r.xml").getroot().iter(tag)] == ["inconclusive: "]
+        assert f"\n{point}" in (tmp_path / "r.tap").read_text() and "TODO" not in (tmp_path / "r.tap").read_text()
 
 
 def test_a_matrix_has_each_clause(run, tmp_path: Path) -> None:  # type: ignore[no-untyped-def]

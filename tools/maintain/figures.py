@@ -62,6 +62,8 @@ WAYS = {
     "`plane=team`": "speed counts, with all queues", "bonding": "a server is in use",
 }  # fmt: skip
 TICK = r"^\d+ tick 1 (\d+) ->"
+# How many tests lagconform has, in a table that its own tests compare.
+CONFORMS = CONFORM, r"^\|three or four\|\d+\|(\d+): all\|$"
 
 
 def rounds(what: str) -> tuple[str, str]:
@@ -114,6 +116,9 @@ COPIES: tuple[Copy, ...] = (
     Copy(CONFORM, "{} tests on 2 links, some 12 min", PEERS, r"^\|\*pass\*\|(\d+)\|.*\n\|\*fail\*\|0\|.*\n\|\*inconclusive\*\|0\|.*\n\|\*skipped\*\|0\|"),
     Copy(CONFORM, "{} pass, {} fail, {} inconclusive, {} skipped", PEERS,
          r"^\|\*pass\*\|\d+\|(\d+)\|.*\n\|\*fail\*\|\d+\|(\d+)\|.*\n\|\*inconclusive\*\|\d+\|(\d+)\|.*\n\|\*skipped\*\|\d+\|(\d+)\|"),
+    Copy(README, "[**lagconform**](docs/CONFORM.md): [{} tests](docs/CONFORM.md#how-many-tests)", *CONFORMS),
+    Copy("CHANGELOG.md", "([CONFORM](docs/CONFORM.md)): {} tests, reports as lines", *CONFORMS),
+    Copy("docs/FIRMWARE.md", "of the {} tests of [lagconform](#is-my-build-right)", *CONFORMS),
     Copy("docs/CONFORMANCE.md", "[{} tests pass and none fails](PEERS.md#conformance)", PEERS,
          r"^\|\*pass\*\|(\d+)\|.*\n\|\*fail\*\|0\|.*\n\|\*inconclusive\*\|0\|.*\n\|\*skipped\*\|0\|"),
 )
