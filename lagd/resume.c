@@ -5,8 +5,8 @@
 /* For how long LACPDUs of an end hold, in milliseconds, by its or its peer's LACP_Timeout (IEEE 802.1AX-2014, 6.4.4). */
 #define SHORT_TIMEOUT 3000
 #define LONG_TIMEOUT 90000
-/* Where an LACPDU has the state of its actor (IEEE 802.1AX-2014, 6.4.2.3). */
-#define ACTOR_STATE (ETH_HLEN + 18)
+/* How often a peer sends that is asked for long timeouts, in ticks (Slow_Periodic_Time, IEEE 802.1AX-2014, 6.4.4). */
+#define SLOW_PERIODIC 300
 
 /* What the last daemon left of a link. An interface that was made anew is another one. */
 static const struct inherited_link *inherited_of(const struct inherited *inherited, const struct link *link) {
@@ -32,11 +32,14 @@ static bool goes_on(struct protocol *protocol, const struct link *link) {
         && may_be_partner(link, was->lacpdu, &actor);
 }
 
+/* What the library goes on from. Where an LACPDU of the peer was missed, the next one may come too late: a peer that reads its LACP_Timeout wrong
+ * sends at once (update_NTT, IEEE 802.1AX-2014, 6.4.9), and until it has, an LACPDU goes to it each second. */
 static struct niw_saved saved_of(struct protocol *protocol, const struct link *link) {
     const struct inherited_link *was = inherited_of(protocol->process->inherited, link);
     struct niw_saved saved = {.port = link->settings.number, .aggregator = was->aggregator};
     saved.age = (uint32_t)((protocol->resumed_at - was->heard) / NIW_TICK_MILLISECONDS);
     memcpy(saved.frame, was->lacpdu, sizeof saved.frame);
+    if (saved.age > SLOW_PERIODIC) saved.frame[ACTOR_STATE] |= NIW_STATE_TIMEOUT;
     return saved;
 }
 

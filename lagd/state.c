@@ -230,7 +230,7 @@ static void note_copy(struct state *own, struct copied copied) {
 static uint64_t lasting_ports(const struct ports *ports) {
     uint64_t found = 0;
     EACH_LINK_AS_IS(link, ports)
-        if (link->socket >= 0 && is_carrying(link) && !link->settings.short_timeout && !(link->view.partner_state & NIW_STATE_TIMEOUT))
+        if (link->socket >= 0 && is_carrying(link) && !link->settings.short_timeout && !(link->lacpdu[ACTOR_STATE] & NIW_STATE_TIMEOUT))
             found |= (uint64_t)1 << (link->settings.number - 1);
     return found;
 }

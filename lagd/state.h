@@ -4,6 +4,11 @@
 
 #include "lagd.h"
 
+#include <net/ethernet.h>
+
+/* Where an LACPDU has the state of its actor (IEEE 802.1AX-2014, 6.4.2.3). */
+#define ACTOR_STATE (ETH_HLEN + 18)
+
 /* Of a link. Times are milliseconds of CLOCK_BOOTTIME. */
 struct inherited_link {
     int index;           /* of the interface */

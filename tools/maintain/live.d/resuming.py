@@ -21,8 +21,10 @@ from spaces import OURS, THEIRS, flap, ip, make_pair
 WENT_ON, NOT_USED = "2 of 2 links go on", "the state that the last daemon left is not used: "
 # By when a copy is written after ports came or went, and by when it is written anew, in seconds.
 COPIED, RENEWED = 4, 14
-# An end with short timeouts waits so long for an LACPDU, in seconds.
-TIMEOUT = 3
+# An end with short timeouts waits so long for an LACPDU, in seconds, and one with long timeouts.
+TIMEOUT, LONG_TIMEOUT = 3, 90
+# What a daemon that comes late has left of that, in seconds.
+REST = 5
 
 
 def state_file(daemon: Daemon) -> str:
@@ -72,6 +74,32 @@ def in_a_row(part: Part) -> None:
     for turn in range(3):
         ours = hand_over(part, ours)
         check(WENT_ON in ours.printed() and theirs.printed() == lines, f"handover {turn + 1}: the peer sees nothing", ours.printed(), theirs.printed())
+
+
+def grow_old(ours: Daemon) -> None:
+    """The last LACPDUs of the peer came so long ago that the next daemon has little left of its timeout."""
+    heard = int(1000 * (time.clock_gettime(time.CLOCK_BOOTTIME) - LONG_TIMEOUT + REST))
+    changed(state_file(ours), lambda text: re.sub(r"^(link \d+ \S+ \d+ 1) \d+ ", rf"\1 {heard} ", text, flags=re.M))
+
+
+def comes_late(part: Part) -> None:
+    """A daemon that missed LACPDUs of a peer, which sends each 30 s, has it send at once; a copy of its state stays meanwhile."""
+    kept = os.path.join(part.folder, "late")
+    os.makedirs(kept)
+    options = ["--timeout", "long", "--state-dir", kept]
+    ours, theirs = pair_up(part, "long timeouts: both links come to distribute", ours=options, theirs=["--timeout", "long"])
+    time.sleep(1.5)
+    lines = theirs.printed()
+    sent = [theirs.count(name, "lacpdus_sent") for name in ("b0", "b1")]
+    ours = hand_over(part, ours, lambda: grow_old(ours), options=options)
+    check(WENT_ON in ours.printed(), f"{REST} s before its timeout the next daemon goes on", ours.printed())
+    check(not within(0.8, lambda: not os.path.exists(f"{kept}/a0.state")), "the copy of its state stays", os.listdir(kept))
+    time.sleep(REST + 1)
+    in_time = "no LACPDU" not in ours.printed() and ours.distributes("a0", "a1")
+    check(in_time, "its peer, which would send later, sends in time", ours.printed(), ours.text())
+    check(theirs.printed() == lines, "and sees nothing", theirs.printed())
+    more = [theirs.count(name, "lacpdus_sent") - before for name, before in zip(("b0", "b1"), sent)]
+    check(all(1 <= count <= 2 for count in more), f"it was asked once on each link, and sent {more[0]} and {more[1]} LACPDUs", theirs.text())
 
 
 def keeps_limit(part: Part) -> None:
@@ -365,5 +393,5 @@ def frozen_disk(part: Part, disk: str) -> None:
 
 PARTS = {"the next daemon goes on": goes_on, "a state beyond a reboot": outlives_boot, "a state beyond a crash": outlives_crash,
          "a disk that hangs": hangs_on_disk,
-         "restarts in a row": in_a_row, "a limit of links through a restart": keeps_limit,
+         "restarts in a row": in_a_row, "a restart shortly before a timeout": comes_late, "a limit of links through a restart": keeps_limit,
          "a state of no use": begins_anew, "what changes between two daemons": things_change}
