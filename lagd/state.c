@@ -5,13 +5,11 @@
 #include "team/team.h"
 
 #include <dirent.h>
-#include <limits.h>
 #include <net/if.h>
 #include <poll.h>
 #include <signal.h>
 #include <sys/file.h>
 #include <sys/prctl.h>
-#include <sys/syscall.h>
 
 /* It rises with each change of the file, and of what programs of the kernel share with the daemon. */
 #define FORM_VERSION 3
@@ -26,11 +24,7 @@
 #define COPIED_EVERY 10000
 /* How long a daemon that ends waits for who writes a copy, for the kernel to make who writes the last one, and for that one, in milliseconds. */
 #define MOST_COPYING 500
-/* Of Linux 5.9, and not in older headers. */
-#ifndef SYS_close_range
-#define SYS_close_range 436
-#endif
-/* On older kernels the daemon has fewer files open. */
+/* The daemon has fewer files open. */
 #define MOST_OPENED 4096
 /* A fault of a copy: who writes it waits for the disk. */
 #define HANGS (-ETIME)
@@ -203,16 +197,6 @@ struct copied {
     int written, removed;
 };
 
-/* Writes the copy, where some port would go on from it; else there is none. */
-static struct copied write_copy(struct state *own, bool wanted) {
-    remove_new(own);
-    FILE *copy = wanted ? replace_file(own, own->copy_folder, own->copy_name, true) : NULL;
-    int fault = wanted && !copy ? last_fault() : 0;
-    if (!copy) return (struct copied){fault, remove_file(own->copy_folder, own->copy_name, true)};
-    fclose(copy);
-    return (struct copied){0, 0};
-}
-
 /* What is wrong with a copy has a line, of several faults in a row the first one, and so has their end. */
 static void note_copy(struct state *own, struct copied copied) {
     struct process *process = own->carry->process;
@@ -235,24 +219,20 @@ static uint64_t lasting_ports(const struct ports *ports) {
     return found;
 }
 
-/* Closes the files between two. */
-static void close_between(int first, int second) {
-    if (second - first < 2 || syscall(SYS_close_range, first + 1, second - 1, 0) == 0) return;
-    for (int fd = first + 1; fd < second && fd < MOST_OPENED; fd++) close(fd);
-}
-
-/* A process that writes the copy, or removes it. It has nothing else of the daemon, and prints nothing. It ends with the daemon: in a call that
- * hangs on the disk, once that call is over. */
+/* A process that writes the copy, or removes it where no port would go on from it. It has nothing else of the daemon, and prints nothing. It ends
+ * with the daemon: in a call that hangs on the disk, once that call is over. */
 static _Noreturn void run_copier(struct state *own, int told, pid_t daemon) {
-    int first = own->copy_folder < told ? own->copy_folder : told, second = own->copy_folder < told ? told : own->copy_folder;
+    bool wanted = own->copied_ports != 0;
+    struct copied copied = {0, 0};
     sigset_t none;
     if (prctl(PR_SET_PDEATHSIG, SIGKILL) < 0 || getppid() != daemon) _exit(REFUSED);
-    close_between(STDERR_FILENO, first);
-    close_between(first, second);
-    close_between(second, INT_MAX);
+    for (int fd = STDERR_FILENO + 1; fd < MOST_OPENED; fd++)
+        if (fd != own->copy_folder && fd != told) close(fd);
     sigemptyset(&none);
     sigprocmask(SIG_SETMASK, &none, NULL);
-    struct copied copied = write_copy(own, own->copied_ports != 0);
+    remove_new(own);
+    if (wanted && !replace_file(own, own->copy_folder, own->copy_name, true)) copied.written = last_fault();
+    if (!wanted || copied.written < 0) copied.removed = remove_file(own->copy_folder, own->copy_name, true);
     (void)!write(told, &copied, sizeof copied);
     _exit(DONE);
 }
