@@ -89,8 +89,8 @@ static bool is_same_speed(const struct speed *one, const struct speed *other) {
 
 /* Whether a port still has the speed of a key. */
 static bool is_in_use(const struct ports *ports, const struct speed_key *key) {
-    for (uint16_t i = 0; key->used && i < ports->count; i++)
-        if (ports->links[i].has_speed && ports->links[i].key == key->given && is_same_speed(&ports->links[i].speed, &key->speed)) return true;
+    EACH_LINK_AS_IS(link, ports)
+        if (key->used && link->has_speed && link->key == key->given && is_same_speed(&link->speed, &key->speed)) return true;
     return false;
 }
 
@@ -157,21 +157,19 @@ bool write_speed(int socket, int index, uint32_t megabits) {
     return ask_by(socket, index, &told);
 }
 
-static void give_key(struct protocol *protocol, struct link *link) {
-    struct niw_change change = {.key = choose_key(protocol, link), .priority = link->settings.priority, .aggregatable = link->settings.aggregatable};
-    if (!is_done(protocol->process, niw_configure(&protocol->own_system, link->settings.number, &change).status, "niw_configure")) return;
-    link->settings.key = change.key;
-}
-
 /* The link of a port comes up, or is up: with key-by-speed it has the key of the speed that it had as it came. */
 void apply_speed(struct protocol *protocol, struct link *link) {
     bool by_speed = protocol->settings->key_by_speed;
+    struct niw_change change = {.priority = link->settings.priority, .aggregatable = link->settings.aggregatable};
     if (by_speed ? link->up : protocol->settings->select != SELECT_BANDWIDTH) return;
     struct speed now = read_speed(link->socket, link->index);
     if (link->has_speed && is_same_speed(&now, &link->speed)) return;
     link->has_speed = protocol->plane->changed = true;
     link->speed = now;
-    if (by_speed) give_key(protocol, link);
+    if (!by_speed) return;
+    change.key = choose_key(protocol, link);
+    if (is_done(protocol->process, niw_configure(&protocol->own_system, link->settings.number, &change).status, "niw_configure"))
+        link->settings.key = change.key;
 }
 
 /* Whether a link that is up has come back at another speed, which with key-by-speed has another key. */

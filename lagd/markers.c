@@ -35,19 +35,16 @@ void note_odd_marker(struct link *link, const struct arrival *arrival, enum coun
     memcpy(link->markers.source, arrival->frame + ETH_ALEN, sizeof link->markers.source);
 }
 
-static void pass_slots(struct answered *answered, uint64_t slot) {
-    for (uint64_t passed = answered->slot + 1; passed <= slot && passed <= answered->slot + ANSWERED_SLOTS; passed++)
-        answered->partner[passed % ANSWERED_SLOTS] = answered->others[passed % ANSWERED_SLOTS] = 0;
-    answered->slot = slot;
-}
-
 /* Whether a marker is answered: any second has marker-responses of them at most, and a quarter at most of markers that are not the
  * partner's. */
 bool may_answer(struct protocol *protocol, struct link *link, const struct arrival *arrival) {
     struct answered *answered = &link->markers.answered;
     unsigned partner = 0, others = 0, most = protocol->settings->marker_responses * protocol->plane->queueing->markers_at_once;
     bool other = !is_from_partner(link, arrival);
-    pass_slots(answered, milliseconds() / SLOT);
+    uint64_t slot = milliseconds() / SLOT;
+    for (uint64_t passed = answered->slot + 1; passed <= slot && passed <= answered->slot + ANSWERED_SLOTS; passed++)
+        answered->partner[passed % ANSWERED_SLOTS] = answered->others[passed % ANSWERED_SLOTS] = 0;
+    answered->slot = slot;
     for (unsigned i = 0; i < ANSWERED_SLOTS; i++) {
         partner += answered->partner[i];
         others += answered->others[i];

@@ -63,13 +63,6 @@ static void ask_peer(struct carry *carry) {
     send_new_marker(carry->plane, &carry->ports->links[own->asked_on - 1], marker);
 }
 
-static void ask_again(struct tap_plane *tap) {
-    struct probe_private *own = tap->carry->probe;
-    if (tap->carry->time - own->sent_at < AGAIN) return;
-    own->sent_at = tap->carry->time;
-    if (send_marker_again(tap, own->asked_on)) tap->carry->counts[MARKERS_AGAIN]++;
-}
-
 /* It is known whether the peer answers: says so, if that is new. */
 static void judge(struct carry *carry, enum answering now) {
     struct probe_private *own = carry->probe;
@@ -94,22 +87,18 @@ void note_response(struct plane *plane, const struct link *link) {
     if (answers == NIW_ANSWERS_ANSWERED) judge(carry, ANSWERS);
 }
 
-/* No response came yet. A peer whose link went meanwhile is asked again. */
-static void go_on_asking(struct tap_plane *tap) {
-    struct probe_private *own = tap->carry->probe;
-    if (tap->ports->links[own->asked_on - 1].view.port_status != NIW_PORT_STATUS_DISTRIBUTING) {
-        own->asking = false;
-        own->peer = NOT_ASKED;
-    } else if (tap->carry->time - own->asked_at >= PATIENCE) {
-        judge(tap->carry, MUTE);
-    } else {
-        ask_again(tap);
-    }
-}
-
 void pass_probe_tick(struct tap_plane *tap) {
-    struct probe_private *own = tap->carry->probe;
-    if (own->asking) go_on_asking(tap);
-    if (own->asking || tap->carry->active_count == 0) return;
-    if (own->peer == NOT_ASKED || (own->peer == MUTE && tap->carry->time - own->asked_at >= LATER)) ask_peer(tap->carry);
+    struct carry *carry = tap->carry;
+    struct probe_private *own = carry->probe;
+    if (own->asking && carry->ports->links[own->asked_on - 1].view.port_status != NIW_PORT_STATUS_DISTRIBUTING) {
+        own->asking = false; /* its link went: the peer is asked by another one */
+        own->peer = NOT_ASKED;
+    } else if (own->asking && carry->time - own->asked_at >= PATIENCE) {
+        judge(carry, MUTE);
+    } else if (own->asking && carry->time - own->sent_at >= AGAIN) {
+        own->sent_at = carry->time;
+        if (send_marker_again(tap, own->asked_on)) carry->counts[MARKERS_AGAIN]++;
+    }
+    if (own->asking || carry->active_count == 0) return;
+    if (own->peer == NOT_ASKED || (own->peer == MUTE && carry->time - own->asked_at >= LATER)) ask_peer(carry);
 }
