@@ -158,9 +158,9 @@ static bool place_buckets(struct team_plane *team) {
     return true;
 }
 
-/* After calls that may have changed something: ports pass data before buckets go there, and until none is left on them. A bucket that
- * has no port goes by the choice of the driver, which is another one for another number of ports. */
-void settle_buckets(struct team_plane *team) {
+/* Ports pass data before buckets go there, and until none is left on them. A bucket that has no port goes by the choice of the driver, which is
+ * another one for another number of ports. */
+static void place_in_active(struct team_plane *team) {
     const struct carry *carry = team->carry;
     bool is_active[NIW_MOST_PORTS] = {false};
     if (carry->active == 0) set_carrier(team->device, false);
@@ -175,6 +175,15 @@ void settle_buckets(struct team_plane *team) {
     team->shortages = 0;
     for (uint16_t number = 0; carry->active == 0 && number < CONVERSATIONS; number++) team->buckets[number].port = 0;
     if (carry->active != 0) set_carrier(team->device, true);
+}
+
+/* After calls that may have changed something: the active aggregator, and by which ports buckets go. */
+void settle_team(struct plane *plane) {
+    struct carry *carry = plane->carry;
+    uint16_t before = carry->active;
+    choose_ports(plane);
+    place_in_active(plane->team);
+    if (carry->active != before) forget_heard(carry); /* until now frames came by the ports of the last one */
 }
 
 /* Whether a bucket is to go to the port of its number, once it is still. */
@@ -202,9 +211,13 @@ unsigned count_waiting_buckets(const struct team_plane *team) {
     return count;
 }
 
-void pass_bucket_tick(struct team_plane *team) {
+void pass_tick_of_team(struct plane *plane) {
+    struct team_plane *team = plane->team;
+    begin_carry_tick(team->carry);
     unsigned waiting = count_waiting_buckets(team);
     if (team->carry->time - team->looked_at >= (waiting > 0 ? LOOKED_WAITING : LOOKED_EVERY)) look_at_driver(team);
     if (waiting > 0) rest_still(team);
     if (ticks_passed(team->protocol->system) % SECOND == 0) give_team_addresses(team);
+    note_heard(team->carry);
+    end_carry_tick(team->carry);
 }

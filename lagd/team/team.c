@@ -235,30 +235,9 @@ void open_team(struct plane *plane) {
     start_buckets(team);
 }
 
-bool give_team_carrier(struct plane *plane, bool on) {
-    return set_device_carrier(tap_index(plane->carry->device), on);
-}
-
 void end_team_plane(struct plane *plane) {
     struct team_plane *team = plane->team;
     set_carrier(team->device, false);
     remove_all_members(team->protocol);
     end_team(team);
-}
-
-/* After calls that may have changed something: the active aggregator, and by which ports buckets go. */
-void settle_team(struct plane *plane) {
-    struct team_plane *team = plane->team;
-    uint16_t before = team->carry->active;
-    choose_ports(plane);
-    settle_buckets(team);
-    if (team->carry->active != before) forget_heard(team->carry); /* until now frames came by the ports of the last one */
-}
-
-void pass_tick_of_team(struct plane *plane) {
-    struct team_plane *team = plane->team;
-    begin_carry_tick(team->carry);
-    pass_bucket_tick(team);
-    note_heard(team->carry);
-    end_carry_tick(team->carry);
 }

@@ -55,7 +55,7 @@ bool remove_device(int index);
 bool set_interface_up(int index, bool up);
 bool set_master(int index, int master);
 bool set_address(int index, const uint8_t *mac);
-bool set_device_carrier(int index, bool on);
+bool give_team_carrier(struct plane *plane, bool on);
 bool set_option(const struct team_plane *team, int index, const char *name, enum option_type type, const void *value, size_t length);
 bool set_port_enabled(const struct team_plane *team, int port, bool enabled);
 bool set_bucket(const struct team_plane *team, uint16_t bucket, int port);
@@ -69,9 +69,6 @@ size_t make_team_hash(const struct settings *settings, struct sock_filter steps[
 bool has_team_mode(const struct team_plane *team);
 void open_team(struct plane *plane);
 void end_team_plane(struct plane *plane);
-bool give_team_carrier(struct plane *plane, bool on);
-void settle_team(struct plane *plane);
-void pass_tick_of_team(struct plane *plane);
 int open_team_port(struct plane *plane, struct link *link);
 void close_team_port(struct plane *plane, struct link *link);
 bool is_still_team_port(struct plane *plane, const struct link *link, int master);
@@ -81,8 +78,8 @@ void leave_team_port(struct team_plane *team, int index);
 
 /* buckets.c */
 void start_buckets(struct team_plane *team);
-void settle_buckets(struct team_plane *team);
-void pass_bucket_tick(struct team_plane *team);
+void settle_team(struct plane *plane);
+void pass_tick_of_team(struct plane *plane);
 void forget_port(struct team_plane *team, uint16_t port);
 int bucket_member_of(struct plane *plane, uint16_t number);
 uint64_t team_frames_received(struct plane *plane, bool looks);

@@ -62,8 +62,8 @@ bool set_address(int index, const uint8_t *mac) {
     return set_attribute(index, IFLA_ADDRESS, mac, ETH_ALEN);
 }
 
-bool set_device_carrier(int index, bool on) {
-    return set_attribute(index, IFLA_CARRIER, &(uint8_t){on}, 1);
+bool give_team_carrier(struct plane *plane, bool on) {
+    return set_attribute(tap_index(plane->device), IFLA_CARRIER, &(uint8_t){on}, 1);
 }
 
 static union message message_of_team(const struct team_plane *team, uint8_t command, unsigned flags, int index) {

@@ -137,6 +137,10 @@ ANSWERS(uint64_t milliseconds, lagd->carry.time, void)
 ANSWERS(uint64_t ticks_passed, lagd->carry.time / TICK, const struct system_private *own)
 ANSWERS(int tap_index, DEVICE, const struct device *own)
 NOTHING(give_team_addresses, struct team_plane *team)
+NOTHING(begin_carry_tick, struct carry *carry)
+NOTHING(note_heard, struct carry *carry)
+NOTHING(end_carry_tick, struct carry *carry)
+NOTHING(forget_heard, struct carry *carry)
 NOTHING(look_again, struct changes_private *own)
 void set_carrier(struct device *device, bool on) {
     carrier = on;
@@ -146,7 +150,7 @@ bool say(struct process *process, int level, const char *format, ...) {
     return true;
 }
 
-static void choose_distributing(void) {
+void choose_ports(struct plane *plane) {
     lagd->carry.active_count = 0;
     for (uint16_t port = 1; port <= PORTS; port++)
         if (distributes[port]) lagd->carry.active_ports[lagd->carry.active_count++] = port;
@@ -203,8 +207,7 @@ static void happen(void) {
 static void settle(void) {
     for (unsigned turn = 0; turn < 8; turn++) {
         lagd->plane.changed = false;
-        choose_distributing();
-        settle_buckets(&lagd->team);
+        settle_team(&lagd->plane);
         if (!lagd->plane.changed) break;
     }
     if (lagd->carry.active != 0) placed_in = aggregator;
@@ -216,8 +219,8 @@ static void pass(bool eventful) {
     if (eventful) happen();
     if (eventful) send_some();
     if (!eventful || random_below(4) > 0) count();
-    choose_distributing();
-    pass_bucket_tick(&lagd->team);
+    choose_ports(&lagd->plane);
+    pass_tick_of_team(&lagd->plane);
     settle();
 }
 
