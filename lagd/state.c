@@ -72,14 +72,6 @@ static bool is_carrying(const struct link *link) {
     return link->view.port_status == NIW_PORT_STATUS_DISTRIBUTING && !link->view.defaulted && link->lacpdu_at != 0;
 }
 
-static void write_link(FILE *file, const struct link *link) {
-    char mac[32];
-    fprintf(file, "link %d %s %" PRIu32 " %d %" PRIu64 " %" PRIu64 " ", link->index, mac_text(link->mac, mac), link->kernel_losses, is_carrying(link),
-        link->lacpdu_at, link->lacpdus_at[MOST_LACPDUS - 1]);
-    for (size_t i = 0; i < NIW_FRAME; i++) fprintf(file, "%02x", link->lacpdu[i]);
-    fprintf(file, " %u\n", link->view.aggregator);
-}
-
 /* Writes the interface of each conversation: the one that it leaves, while it is held. */
 static void write_conversations(struct state *own, FILE *file) {
     const struct carry *carry = own->carry;
@@ -98,7 +90,7 @@ static void write_state(struct state *own, FILE *file) {
     const struct carry *carry = own->carry;
     struct protocol *protocol = carry->protocol;
     struct niw_marker marker = niw_next_marker(&protocol->own_system);
-    char boot[BOOT_ROOM], room[WAY_ROOM];
+    char boot[BOOT_ROOM], room[WAY_ROOM], mac[32];
     fprintf(file, "lagd %u\nboot %s\nway %s\n", FORM_VERSION, boot_id(boot), way(carry->settings, room));
     fprintf(file, "space %" PRIu64 "\nwritten %" PRIu64 "\n", own->space, boottime());
     if (own->copy_folder >= 0) fprintf(file, "wall %" PRIu64 "\n", milliseconds_of(CLOCK_REALTIME));
@@ -110,8 +102,13 @@ static void write_state(struct state *own, FILE *file) {
             mtu_of_administrator(carry->device), peer_answering(carry->probe));
     EACH_LINK(link, carry->ports)
         if (link->used) fprintf(file, "port %u %d %s\n", link->settings.number, link->socket >= 0 ? link->index : 0, link->name);
-    EACH_LINK(link, carry->ports)
-        if (link->socket >= 0) write_link(file, link);
+    EACH_LINK(link, carry->ports) {
+        if (link->socket < 0) continue;
+        fprintf(file, "link %d %s %" PRIu32 " %d %" PRIu64 " %" PRIu64 " ", link->index, mac_text(link->mac, mac), link->kernel_losses,
+            is_carrying(link), link->lacpdu_at, link->lacpdus_at[MOST_LACPDUS - 1]);
+        for (size_t i = 0; i < NIW_FRAME; i++) fprintf(file, "%02x", link->lacpdu[i]);
+        fprintf(file, " %u\n", link->view.aggregator);
+    }
     write_conversations(own, file);
     fputs("end\n", file);
 }
@@ -257,7 +254,7 @@ static int start_copier(struct state *own) {
     return fault;
 }
 
-/* Why what was to be done last of a copy is not. */
+/* What was to be done last of a copy is not, for this reason. */
 static struct copied fault_of_copy(const struct state *own, int fault) {
     return own->copied_ports != 0 ? (struct copied){fault, 0} : (struct copied){0, fault};
 }
@@ -420,13 +417,6 @@ static void keep_interfaces(struct state *own, const char *way) {
     for (unsigned i = 0; i < inherited->link_count; i++) inherited->links[i].carried = false;
 }
 
-/* The port that an interface of the last daemon was, or NULL. */
-static const struct inherited_port *port_of_index(const struct inherited *inherited, int index) {
-    for (unsigned i = 0; index != 0 && i < inherited->port_count; i++)
-        if (inherited->ports[i].index == index) return &inherited->ports[i];
-    return NULL;
-}
-
 /* Of another boot ports have the interfaces of their names, as far as these are there, and times are as old as the clock on the wall has them,
  * and older than this boot. Nothing of the device and of conversations is left. Answers NULL, or why it counts for nothing. */
 static const char *bring_over(struct inherited *inherited) {
@@ -435,8 +425,9 @@ static const char *bring_over(struct inherited *inherited) {
     if (inherited->wall == 0 || now < inherited->wall) return "it is of another boot, and of later than now";
     inherited->ahead = inherited->written + (age > up ? age : up) - up;
     for (unsigned i = 0; i < inherited->link_count; i++) {
-        const struct inherited_port *port = port_of_index(inherited, inherited->links[i].index);
-        int index = port ? (int)if_nametoindex(port->name) : 0;
+        unsigned port = 0;
+        while (port < inherited->port_count && inherited->ports[port].index != inherited->links[i].index) port++;
+        int index = port < inherited->port_count ? (int)if_nametoindex(inherited->ports[port].name) : 0;
         if (index == 0) continue;
         inherited->links[links] = inherited->links[i];
         inherited->links[links++].index = index;
@@ -477,31 +468,27 @@ static FILE *open_state(int folder, const char *name) {
     return NULL;
 }
 
-/* Takes the copy for this bundle, as long as the program runs: one of another network namespace may have its name. Else errno tells why not. */
-static bool lock_copy(struct state *own) {
-    char name[NAME_ROOM + 40];
-    snprintf(name, sizeof name, "%s.lock", own->copy_name);
-    own->lock = openat(own->copy_folder, name, O_RDONLY | O_NOFOLLOW | O_CLOEXEC);
-    if (own->lock < 0 && errno == ENOENT) own->lock = openat(own->copy_folder, name, O_RDONLY | O_CREAT | O_NOFOLLOW | O_CLOEXEC, 0600);
-    return own->lock >= 0 && flock(own->lock, LOCK_EX | LOCK_NB) == 0;
-}
-
-/* Opens state-dir. A bundle goes on without the copy. */
+/* Opens state-dir, and takes the copy for this bundle as long as the program runs: one of another network namespace may have its name. A bundle
+ * goes on without the copy. */
 static void open_copy_folder(struct state *own) {
     const char *folder = own->carry->settings->state_dir, *fault;
+    char lock[NAME_ROOM + 40];
     if (!folder[0] || own->copy_folder >= 0) return;
     own->copy_folder = try_folder(folder, &fault);
-    if (own->copy_folder >= 0 && !lock_copy(own)) {
-        fault = errno == EWOULDBLOCK ? "another lagd has a bundle of this name there" : strerror(errno);
-        if (own->lock >= 0) close(own->lock);
-        close(own->copy_folder);
-        own->lock = own->copy_folder = -1;
+    if (own->copy_folder >= 0) {
+        snprintf(lock, sizeof lock, "%s.lock", own->copy_name);
+        own->lock = openat(own->copy_folder, lock, O_RDONLY | O_NOFOLLOW | O_CLOEXEC);
+        if (own->lock < 0 && errno == ENOENT) own->lock = openat(own->copy_folder, lock, O_RDONLY | O_CREAT | O_NOFOLLOW | O_CLOEXEC, 0600);
+        own->has_copy = own->lock >= 0 && flock(own->lock, LOCK_EX | LOCK_NB) == 0;
     }
-    own->has_copy = own->copy_folder >= 0;
     own->copied_ports = UINT64_MAX;
-    if (own->copy_folder < 0)
-        (void)say(own->carry->process, LOG_WARNING | ABOUT_HANDOVER, "no state is kept in %s, so a start after a reboot begins anew: %s", folder,
-            fault ? fault : strerror(errno));
+    if (own->has_copy) return;
+    if (own->copy_folder >= 0) fault = errno == EWOULDBLOCK ? "another lagd has a bundle of this name there" : strerror(errno);
+    (void)say(own->carry->process, LOG_WARNING | ABOUT_HANDOVER, "no state is kept in %s, so a start after a reboot begins anew: %s", folder,
+        fault ? fault : strerror(errno));
+    if (own->lock >= 0) close(own->lock);
+    if (own->copy_folder >= 0) close(own->copy_folder);
+    own->lock = own->copy_folder = -1;
 }
 
 /* Reads what the last daemon left. What counts for nothing has a line, and the daemon starts anew. */
