@@ -100,12 +100,8 @@ void keep_settings(struct process *process, const struct link *link, struct kept
     write_settings(process, link, kept);
 }
 
-void forget_settings(int folder, const struct link *link) {
-    drop_kept(folder, link, "member");
-}
-
 /* The interface is gone for good. One that went to another namespace may come back, and is what it was made then. */
 void forget_interface(int folder, const struct link *link) {
-    forget_settings(folder, link);
+    drop_kept(folder, link, "member");
     drop_kept(folder, link, "queues");
 }

@@ -87,7 +87,6 @@ static bool is_same_speed(const struct speed *one, const struct speed *other) {
     return one->megabits == other->megabits && one->duplex == other->duplex;
 }
 
-/* Whether a port still has the speed of a key. */
 static bool is_in_use(const struct ports *ports, const struct speed_key *key) {
     EACH_LINK_AS_IS(link, ports)
         if (key->used && link->has_speed && link->key == key->given && is_same_speed(&link->speed, &key->speed)) return true;
@@ -111,7 +110,6 @@ uint16_t choose_key(struct protocol *protocol, const struct link *link) {
     return unused->key;
 }
 
-/* What the driver of an interface tells of its link. */
 union link_settings {
     struct ethtool_link_settings head;
     uint32_t room[sizeof(struct ethtool_link_settings) / sizeof(uint32_t) + 3 * MOST_WORDS];

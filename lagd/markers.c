@@ -29,7 +29,6 @@ bool is_partners_response(const struct settings *settings, const struct link *li
         && memcmp(response->requester_system, settings->config.mac, sizeof settings->config.mac) == 0;
 }
 
-/* A Marker PDU is not taken, or not answered. */
 void note_odd_marker(struct link *link, const struct arrival *arrival, enum count count) {
     link->counts[count]++;
     memcpy(link->markers.source, arrival->frame + ETH_ALEN, sizeof link->markers.source);

@@ -17,27 +17,8 @@ static struct link *next_of(struct ports *ports, uint16_t aggregator) {
     return next;
 }
 
-/* The port in use that gives way first in an aggregator; NULL where one of them does not distribute: a second one may not be without data. */
-static struct link *last_of(struct ports *ports, uint16_t aggregator) {
-    struct link *last = NULL;
-    EACH_LINK(link, ports) {
-        if (link->view.aggregator != aggregator || link->view.standby) continue;
-        if (link->view.mux_state != NIW_MUX_COLLECTING_DISTRIBUTING) return NULL;
-        if (!last || identifier_of(last) < identifier_of(link)) last = link;
-    }
-    return last;
-}
-
-/* Whether a port that stands by would distribute at once: its partner speaks, and has selected it. A partner with a limit of its own may
- * have selected other links. */
-static bool is_ready(struct protocol *protocol, const struct link *link) {
-    uint64_t ticks;
-    return link->view.receive_state == NIW_RECEIVE_CURRENT && (link->view.partner_state & NIW_STATE_SYNCHRONIZATION)
-        && is_told(protocol->process, niw_wait_while(&protocol->own_system, link->settings.number), "niw_wait_while", &ticks) && ticks == 0;
-}
-
-/* Of an aggregator with more links in use than so many, the one that gives way first; else NULL. */
-static struct link *surplus_of(struct ports *ports, uint16_t aggregator, uint16_t most) {
+/* The port in use that gives way first in an aggregator with more of them than so many, or NULL. */
+static struct link *last_beyond(struct ports *ports, uint16_t aggregator, uint16_t most) {
     struct link *last = NULL;
     unsigned count = 0;
     EACH_LINK(link, ports) {
@@ -48,10 +29,26 @@ static struct link *surplus_of(struct ports *ports, uint16_t aggregator, uint16_
     return count > most ? last : NULL;
 }
 
+/* Whether each port in use distributes: where one is without data, a second one may not be. */
+static bool all_distribute(struct ports *ports, uint16_t aggregator) {
+    bool all = true;
+    EACH_LINK(link, ports)
+        if (link->view.aggregator == aggregator && !link->view.standby) all = all && link->view.mux_state == NIW_MUX_COLLECTING_DISTRIBUTING;
+    return all;
+}
+
+/* Whether a port that stands by would distribute at once: its partner speaks, and has selected it. A partner with a limit of its own may
+ * have selected other links. */
+static bool is_ready(struct protocol *protocol, const struct link *link) {
+    uint64_t ticks;
+    return link->view.receive_state == NIW_RECEIVE_CURRENT && (link->view.partner_state & NIW_STATE_SYNCHRONIZATION)
+        && is_told(protocol->process, niw_wait_while(&protocol->own_system, link->settings.number), "niw_wait_while", &ticks) && ticks == 0;
+}
+
 /* Holds the ports that are too many under a limit, which are marked; answers whether that is done. */
 static bool hold_surplus(struct protocol *protocol, uint16_t most, bool *marked) {
     for (uint16_t aggregator = 1; aggregator <= protocol->aggregator_count; aggregator++)
-        for (struct link *last = surplus_of(protocol->ports, aggregator, most); last; last = surplus_of(protocol->ports, aggregator, most)) {
+        for (struct link *last; (last = last_beyond(protocol->ports, aggregator, most));) {
             if (!is_done(protocol->process, niw_hold(&protocol->own_system, last->settings.number, true), "niw_hold")) return false;
             marked[last->settings.number - 1] = true;
             read_views(protocol);
@@ -77,8 +74,9 @@ void pass_revert_second(struct protocol *protocol) {
     if (!protocol->settings->revert || is_halted(protocol->halt)) return;
     read_views(protocol);
     for (uint16_t aggregator = 1; aggregator <= protocol->aggregator_count; aggregator++) {
-        struct link *next = next_of(protocol->ports, aggregator), *last = next ? last_of(protocol->ports, aggregator) : NULL;
-        if (!last || identifier_of(next) >= identifier_of(last) || !is_ready(protocol, next)) continue;
+        struct link *next = next_of(protocol->ports, aggregator), *last = last_beyond(protocol->ports, aggregator, 0);
+        if (!next || !last || identifier_of(next) >= identifier_of(last)) continue;
+        if (!all_distribute(protocol->ports, aggregator) || !is_ready(protocol, next)) continue;
         if (!is_done(protocol->process, niw_hold(&protocol->own_system, last->settings.number, true), "niw_hold")) return;
         if (!apply_hold(protocol, last->settings.number)) return;
         (void)say(protocol->process, LOG_NOTICE | ABOUT_PORT, "port %u %s: it makes way for port %u %s", last->settings.number, last->name,

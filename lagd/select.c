@@ -118,7 +118,6 @@ void follow_peer(struct protocol *protocol, uint16_t aggregator) {
             protocol->settings->name, aggregator, selection_text(protocol->settings->select));
 }
 
-/* Whether the active aggregator is the one in which the peer sends, and not the one that is preferred. */
 bool is_following(const struct select_private *own) {
     return own->followed != 0;
 }

@@ -234,7 +234,6 @@ static _Noreturn void run_copier(struct state *own, int told, pid_t daemon) {
     _exit(DONE);
 }
 
-/* Whoever writes a copy is listened to no more. */
 static void leave_copier(struct state *own) {
     if (own->copied >= 0) close(own->copied);
     own->copied = -1;
@@ -256,7 +255,7 @@ static int start_copier(struct state *own) {
 
 /* What was to be done last of a copy is not, for this reason. */
 static struct copied fault_of_copy(const struct state *own, int fault) {
-    return own->copied_ports != 0 ? (struct copied){fault, 0} : (struct copied){0, fault};
+    return own->copied_ports != 0 ? (struct copied){.written = fault} : (struct copied){.removed = fault};
 }
 
 /* Sees whether a copy was written. One whose process was killed is there, or is not. */
@@ -373,7 +372,6 @@ static bool read_bundle(struct inherited *inherited, FILE *file) {
     return true;
 }
 
-/* Reads what stands behind the first word of a line. */
 static bool read_line(struct inherited *inherited, const char *word, FILE *file) {
     if (strcmp(word, "space") == 0) return fscanf(file, "%" SCNu64, &inherited->space) == 1;
     if (strcmp(word, "written") == 0) return fscanf(file, "%" SCNu64, &inherited->written) == 1;

@@ -31,15 +31,12 @@ struct store_private {
 
 MAKES_ROOM(store)
 
-/* Each file that the last daemon left. */
 #define EACH_STORED(it, of) for (struct stored *it = (of)->stored; it < (of)->stored + (of)->count; it++)
 
-/* Tells the manager what the daemon does. */
 void notify(const char *what UNUSED) {
     (void)sd_notify(0, what);
 }
 
-/* And how the bundle is now. */
 void notify_bundle(const struct bundle *bundle UNUSED, const char *what UNUSED) {
     (void)sd_notifyf(0, "%sSTATUS=%s, %u of %u links carry", what, bundle_state_text(bundle->state), bundle->carrying, bundle->links);
 }

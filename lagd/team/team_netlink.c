@@ -108,7 +108,6 @@ bool set_port_enabled(const struct team_plane *team, int port, bool enabled) {
     return set_option_at(team, tap_index(team->device), &option, TYPE_FLAG, enabled ? "" : NULL, 0);
 }
 
-/* The frames of a bucket go by a port from now on. */
 bool set_bucket(const struct team_plane *team, uint16_t bucket, int port) {
     struct option option = {"lb_tx_hash_to_port_mapping", 0, bucket, NULL};
     return set_option_at(team, tap_index(team->device), &option, TYPE_U32, &port, sizeof port);
