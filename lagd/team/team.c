@@ -103,10 +103,9 @@ static void configure_driver(struct team_plane *team, const char *mode_now) {
 /* Gives a port the address of the device: frames to that would be of another host for the network stack. The driver puts back what it had. Some
  * cards take an address only while they are down; one that takes none even then is up again. Answers 0, or -errno. */
 static int give_address(int index, const uint8_t *mac) {
+    if (set_address(index, mac)) return 0;
+    if (last_fault() != -EBUSY || !set_interface_up(index, false)) return last_fault();
     int fault = set_address(index, mac) ? 0 : last_fault();
-    if (fault != -EBUSY) return fault;
-    if (!set_interface_up(index, false)) return last_fault();
-    fault = set_address(index, mac) ? 0 : last_fault();
     if (!set_interface_up(index, true) && fault == 0) fault = last_fault();
     return fault;
 }
