@@ -28,7 +28,7 @@ static void make_files(struct lagd *lagd) {
 struct lagd *make_lagd(void) {
     struct lagd *lagd = make_room(sizeof *lagd);
     lagd->device = make_device(&lagd->process, &lagd->plane);
-    lagd->state = make_state(&lagd->carry, &lagd->team);
+    lagd->state = make_state(&lagd->carry);
     join_parts(lagd);
     make_files(lagd);
     lagd->control.report = make_room(sizeof *lagd->control.report);

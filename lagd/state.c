@@ -31,7 +31,6 @@
 
 struct state {
     struct carry *carry; /* what is saved, as far as it concerns data */
-    struct team_plane *team;
     FILE *file; /* the state that was written last, or NULL */
     int copy_folder, lock; /* state-dir, or -1, and the file by which this bundle has its copy there */
     int copied; /* by which a process tells what became of the copy that it writes, or -1: none does */
@@ -46,10 +45,9 @@ struct state {
     char name[NAME_ROOM + 32], copy_name[NAME_ROOM + 32];
 };
 
-struct state *make_state(struct carry *carry, struct team_plane *team) {
+struct state *make_state(struct carry *carry) {
     struct state *made = make_room(sizeof *made);
     made->carry = carry;
-    made->team = team;
     made->copy_folder = made->lock = made->copied = -1;
     return made;
 }
@@ -406,7 +404,7 @@ static void keep_interfaces(struct state *own, const char *way) {
     struct inherited *inherited = own->carry->process->inherited, last = *inherited;
     const char *plane = strrchr(way, '/');
     if (plane && strcmp(plane, "/team") == 0)
-        leave_team(own->team, last.tap, last.persists);
+        leave_team(own->carry->plane->team, last.tap, last.persists);
     else if (last.persists)
         end_tap(last.tap);
     *inherited = (struct inherited){.others = true, .link_count = last.link_count, .space = last.space, .written = last.written, .wall = last.wall,
