@@ -130,16 +130,16 @@ void settle_carry(struct plane *plane) {
 static void wake_sleeper(struct carry *carry, uint16_t port) {
     const struct link *link = &carry->ports->links[port - 1];
     bool sleeps = link->up && link->view.receive_state == NIW_RECEIVE_DEFAULTED && (carry->active == 0 || link->view.aggregator != carry->active);
-    unsigned *after = &carry->wakes_after[port - 1];
+    unsigned *after = &carry->wakes_after[port - 1], *ticks = &carry->on_defaults[port - 1];
     uint64_t load;
     if (link->view.receive_state == NIW_RECEIVE_CURRENT || *after == 0) *after = FIRST_WAKE;
-    carry->on_defaults[port - 1] = sleeps ? carry->on_defaults[port - 1] + 1 : 0;
-    if (carry->on_defaults[port - 1] < *after || !is_told(carry->process, niw_load(&carry->protocol->own_system, port), "niw_load", &load) || load > 0)
+    *ticks = sleeps ? *ticks + 1 : 0;
+    if (*ticks < *after || !is_told(carry->process, niw_load(&carry->protocol->own_system, port), "niw_load", &load) || load > 0)
         return;
     *after = 2 * *after < LAST_WAKE ? 2 * *after : LAST_WAKE;
     if (!is_done(carry->process, niw_set_link(&carry->protocol->own_system, port, false), "niw_set_link")) return;
     if (!is_done(carry->process, niw_set_link(&carry->protocol->own_system, port, true), "niw_set_link")) return;
-    carry->on_defaults[port - 1] = 0;
+    *ticks = 0;
     carry->counts[WOKEN]++;
 }
 

@@ -17,7 +17,8 @@
 bool has_team_mode(const struct team_plane *team) {
     static const uint8_t mac[ETH_ALEN] = {2, 0, 0, 0, 0, 1};
     struct interface device;
-    return make_team_device("team0", mac, ETH_DATA_LEN) && ask_interface(0, "team0", &device) && set_option(team, device.index, "mode", TYPE_STRING, MODE, sizeof MODE);
+    return make_team_device("team0", mac, ETH_DATA_LEN) && ask_interface(0, "team0", &device)
+        && set_option(team, device.index, "mode", TYPE_STRING, MODE, sizeof MODE);
 }
 
 /* The lowest MTU of the interfaces that are there: the driver gives its ports that of the device. */
