@@ -73,81 +73,65 @@ static union message message_of_team(const struct team_plane *team, uint8_t comm
     return message;
 }
 
-/* An option of a device: what tells it from others of its name, and its value. A flag that is not set has none. */
-struct option {
-    char name[TEAM_STRING_MAX_LEN];
+/* What tells an option from others of its name. */
+struct place {
     int port;   /* the interface of a port, or 0 */
     int number; /* in a row of options, or -1 */
-    const struct nlattr *value;
 };
 
 /* Sets an option. The kernel tells who listens to changes; that nobody does is an error for it, though the option is set. */
-static bool set_option_at(const struct team_plane *team, int index, const struct option *option, enum option_type type, const void *value,
+static bool set_option_at(const struct team_plane *team, int index, const char *name, struct place place, enum option_type type, const void *value,
     size_t length) {
     union message wanted = message_of_team(team, TEAM_CMD_OPTIONS_SET, NLM_F_ACK, index);
     struct nlattr *list = mnl_attr_nest_start(&wanted.head, TEAM_ATTR_LIST_OPTION);
     struct nlattr *item = mnl_attr_nest_start(&wanted.head, TEAM_ATTR_ITEM_OPTION);
-    mnl_attr_put_strz(&wanted.head, TEAM_ATTR_OPTION_NAME, option->name);
+    mnl_attr_put_strz(&wanted.head, TEAM_ATTR_OPTION_NAME, name);
     mnl_attr_put_u8(&wanted.head, TEAM_ATTR_OPTION_TYPE, (uint8_t)type);
     if (value) mnl_attr_put(&wanted.head, TEAM_ATTR_OPTION_DATA, length, value);
-    if (option->port != 0) mnl_attr_put_u32(&wanted.head, TEAM_ATTR_OPTION_PORT_IFINDEX, (uint32_t)option->port);
-    if (option->number >= 0) mnl_attr_put_u32(&wanted.head, TEAM_ATTR_OPTION_ARRAY_INDEX, (uint32_t)option->number);
+    if (place.port != 0) mnl_attr_put_u32(&wanted.head, TEAM_ATTR_OPTION_PORT_IFINDEX, (uint32_t)place.port);
+    if (place.number >= 0) mnl_attr_put_u32(&wanted.head, TEAM_ATTR_OPTION_ARRAY_INDEX, (uint32_t)place.number);
     mnl_attr_nest_end(&wanted.head, item);
     mnl_attr_nest_end(&wanted.head, list);
     return ask_netlink(NETLINK_GENERIC, &wanted, NULL, NULL) || errno == ESRCH;
 }
 
 bool set_option(const struct team_plane *team, int index, const char *name, enum option_type type, const void *value, size_t length) {
-    struct option option = {.number = -1};
-    snprintf(option.name, sizeof option.name, "%s", name);
-    return set_option_at(team, index, &option, type, value, length);
+    return set_option_at(team, index, name, (struct place){0, -1}, type, value, length);
 }
 
 bool set_port_enabled(const struct team_plane *team, int port, bool enabled) {
-    struct option option = {"enabled", port, -1, NULL};
-    return set_option_at(team, tap_index(team->device), &option, TYPE_FLAG, enabled ? "" : NULL, 0);
+    return set_option_at(team, tap_index(team->device), "enabled", (struct place){port, -1}, TYPE_FLAG, enabled ? "" : NULL, 0);
 }
 
 bool set_bucket(const struct team_plane *team, uint16_t bucket, int port) {
-    struct option option = {"lb_tx_hash_to_port_mapping", 0, bucket, NULL};
-    return set_option_at(team, tap_index(team->device), &option, TYPE_U32, &port, sizeof port);
+    return set_option_at(team, tap_index(team->device), "lb_tx_hash_to_port_mapping", (struct place){0, bucket}, TYPE_U32, &port, sizeof port);
 }
 
-static struct option option_of(const struct nlattr *item) {
-    struct option option = {.number = -1};
-    EACH_NESTED(part, item) {
-        switch (mnl_attr_get_type(part)) {
-        case TEAM_ATTR_OPTION_NAME: copy_text(part, option.name, sizeof option.name); break;
-        case TEAM_ATTR_OPTION_DATA: option.value = part; break;
-        case TEAM_ATTR_OPTION_PORT_IFINDEX: (void)copy_value(part, &option.port, sizeof option.port); break;
-        case TEAM_ATTR_OPTION_ARRAY_INDEX: (void)copy_value(part, &option.number, sizeof option.number); break;
-        default: break;
-        }
+/* Notes an option. A flag that is not set has no value. */
+static void note_option(struct team_now *now, const struct nlattr *item) {
+    const struct nlattr *parts[TEAM_ATTR_OPTION_MAX + 1] = {NULL};
+    int port = 0, number = -1;
+    EACH_NESTED(part, item)
+        if (mnl_attr_get_type(part) <= TEAM_ATTR_OPTION_MAX) parts[mnl_attr_get_type(part)] = part;
+    const struct nlattr *name = parts[TEAM_ATTR_OPTION_NAME], *value = parts[TEAM_ATTR_OPTION_DATA];
+    (void)copy_value(parts[TEAM_ATTR_OPTION_PORT_IFINDEX], &port, sizeof port);
+    (void)copy_value(parts[TEAM_ATTR_OPTION_ARRAY_INDEX], &number, sizeof number);
+    if (is_text(name, "enabled") && port != 0 && now->port_count < MOST_TEAM_PORTS) {
+        now->ports[now->port_count] = port;
+        now->enabled[now->port_count++] = value != NULL;
     }
-    return option;
-}
-
-static void note_option(struct team_now *now, const struct option *option) {
-    int number = option->number;
-    if (strcmp(option->name, "enabled") == 0 && option->port != 0 && now->port_count < MOST_TEAM_PORTS) {
-        now->ports[now->port_count] = option->port;
-        now->enabled[now->port_count++] = option->value != NULL;
-    }
-    if (!option->value) return;
-    if (strcmp(option->name, "mode") == 0) copy_text(option->value, now->mode, sizeof now->mode);
+    if (!value) return;
+    if (is_text(name, "mode")) copy_text(value, now->mode, sizeof now->mode);
     if (number < 0 || number >= CONVERSATIONS) return;
-    if (strcmp(option->name, "lb_tx_hash_to_port_mapping") == 0)
-        (void)copy_value(option->value, &now->members[number], sizeof now->members[number]);
-    if (strcmp(option->name, "lb_hash_stats") == 0) (void)copy_value(option->value, &now->octets[number], sizeof now->octets[number]);
+    if (is_text(name, "lb_tx_hash_to_port_mapping")) (void)copy_value(value, &now->members[number], sizeof now->members[number]);
+    if (is_text(name, "lb_hash_stats")) (void)copy_value(value, &now->octets[number], sizeof now->octets[number]);
 }
 
 static void parse_team(const struct nlmsghdr *message, void *into) {
     const struct nlattr *list = attribute_of(message, sizeof(struct genlmsghdr), TEAM_ATTR_LIST_OPTION);
     if (!list) return;
-    EACH_NESTED(item, list) {
-        struct option option = option_of(item);
-        if (mnl_attr_get_type(item) == TEAM_ATTR_ITEM_OPTION) note_option(into, &option);
-    }
+    EACH_NESTED(item, list)
+        if (mnl_attr_get_type(item) == TEAM_ATTR_ITEM_OPTION) note_option(into, item);
 }
 
 bool read_team(const struct team_plane *team, int index, struct team_now *now) {
