@@ -39,12 +39,11 @@ void look_at_partner(struct carry *carry) {
     struct probe_private *own = carry->probe;
     if (carry->active == 0) return;
     const struct niw_view *view = &carry->ports->links[carry->active_ports[0] - 1].view;
-    if (view->partner_key == own->partner_key && view->partner_priority == own->partner.priority
-        && memcmp(view->partner_mac, own->partner.mac, sizeof own->partner.mac) == 0)
-        return;
+    struct system_id partner = {.priority = view->partner_priority};
+    memcpy(partner.mac, view->partner_mac, sizeof partner.mac);
+    if (view->partner_key == own->partner_key && memcmp(&partner, &own->partner, sizeof partner) == 0) return;
     own->partner_key = view->partner_key;
-    own->partner.priority = view->partner_priority;
-    memcpy(own->partner.mac, view->partner_mac, sizeof own->partner.mac);
+    own->partner = partner;
     own->peer = own->told = NOT_ASKED;
     own->asking = false;
     own->asked_on = 0;
