@@ -48,13 +48,12 @@ void show_queues(struct control *control, const struct link *link, enum form for
 
 static void write_text_of_carry(struct control *control) {
     const struct carrying *carrying = control->plane->carrying;
+    const struct settings *settings = control->settings;
+    const char *carrier = has_carrier(control->device) ? "on" : is_halted(control->protocol->halt) ? "off, the device is down" : "off";
     unsigned told = 0;
-    add(control->report, "  carry: %s, carrier %s, hash %s, flight %u ms, ", control->settings->carry,
-        has_carrier(control->device) ? "on" : is_halted(control->protocol->halt) ? "off, the device is down" : "off",
-            hash_text(control->settings->hash),
-        control->settings->flight);
+    add(control->report, "  carry: %s, carrier %s, hash %s, flight %u ms, ", settings->carry, carrier, hash_text(settings->hash), settings->flight);
     CALL(carrying->show_markers, control);
-    add(control->report, "%s%s", way_text(control->settings), control->plane->queueing->text);
+    add(control->report, "%s%s", way_text(settings), control->plane->queueing->text);
     for (unsigned i = carrying->first_count; i < carrying->end_count; i++)
         add(control->report, "%s %s %" PRIu64, told++ % 5 == 0 ? "\n  data:" : "", CARRY_COUNTERS[i].name, control->carry->counts[i]);
     CALL(carrying->show_waiting, control, AS_TEXT);
@@ -64,10 +63,9 @@ static void write_json_of_carry(struct control *control) {
     const struct carrying *carrying = control->plane->carrying;
     add(control->report, "\"carry\":{\"device\":");
     add_string(control->report, control->settings->carry);
-    add(control->report, ",\"up\":%s,\"carrier\":%s,\"aggregator\":%u,\"hash\":\"%s\",", is_halted(control->protocol->halt) ? "false" : "true",
-        has_carrier(control->device) ? "true" : "false", control->carry->active,
-        hash_text(control->settings->hash));
-    add(control->report, "\"flight\":%u,\"way\":\"%s\",", control->settings->flight, way_text(control->settings));
+    add(control->report, ",\"up\":%s,\"carrier\":%s,\"aggregator\":%u,\"hash\":\"%s\",\"flight\":%u,\"way\":\"%s\",",
+        is_halted(control->protocol->halt) ? "false" : "true", has_carrier(control->device) ? "true" : "false", control->carry->active,
+        hash_text(control->settings->hash), control->settings->flight, way_text(control->settings));
     CALL(carrying->show_waiting, control, AS_JSON);
     for (unsigned i = carrying->first_count; i < carrying->end_count; i++)
         add(control->report, ",\"%s\":%" PRIu64, CARRY_COUNTERS[i].name, control->carry->counts[i]);

@@ -65,22 +65,21 @@ static uint16_t key_for(const struct keys_private *own, uint16_t given, uint16_t
     return given;
 }
 
+static void add_key(struct keys_private *own, uint16_t given, uint16_t key) {
+    own->known[own->known_count++] = (struct speed_key){.given = given, .key = key};
+}
+
 /* Makes the keys of the aggregators: in the order of ports, of which those that are to come have the key of the bundle, one of the key of each,
  * and then as many of each further key that a speed may have. */
 void make_keys(struct protocol *protocol, uint16_t keys[static NIW_MOST_PORTS]) {
     struct keys_private *own = protocol->keys;
     for (uint16_t i = 0; i < protocol->ports->slots; i++)
-        if (!has_aggregator(protocol->keys, protocol->ports->links[i].key))
-            own->known[own->known_count++] = (struct speed_key){.given = protocol->ports->links[i].key, .key = protocol->ports->links[i].key};
-    for (uint16_t i = 0, given = own->known_count; i < given; i++) {
-        for (uint16_t speed = 1; speed < own->speeds; speed++) {
-            own->known[own->known_count] = (struct speed_key){.given = own->known[i].given, .key = free_key(protocol, own->known[i].key, NULL)};
-            own->known_count++;
-        }
-    }
+        if (!has_aggregator(own, protocol->ports->links[i].key)) add_key(own, protocol->ports->links[i].key, protocol->ports->links[i].key);
+    for (uint16_t i = 0, given = own->known_count; i < given; i++)
+        for (uint16_t speed = 1; speed < own->speeds; speed++) add_key(own, own->known[i].given, free_key(protocol, own->known[i].key, NULL));
     for (uint16_t speed = 0; speed < own->speeds; speed++)
         for (uint16_t port = 0; port < protocol->ports->slots; port++)
-            keys[protocol->aggregator_count++] = key_for(protocol->keys, protocol->ports->links[port].key, speed);
+            keys[protocol->aggregator_count++] = key_for(own, protocol->ports->links[port].key, speed);
 }
 
 static bool is_same_speed(const struct speed *one, const struct speed *other) {
