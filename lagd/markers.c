@@ -59,8 +59,7 @@ void tell_markers(struct protocol *protocol, struct link *link) {
     char source[32];
     if (foreign + unanswered == link->markers.told || ticks_passed(protocol->system) < link->markers.tell_at) return;
     if (!say(protocol->process, LOG_WARNING | ABOUT_MARKERS,
-        "port %u %s: Marker PDUs, last from %s: %" PRIu64 " responses that are not the partner's, "
-            "%" PRIu64 " markers not answered",
+            "port %u %s: Marker PDUs, last from %s: %" PRIu64 " responses that are not the partner's, %" PRIu64 " markers not answered",
             link->settings.number, link->name, mac_text(link->markers.source, source), foreign, unanswered))
         return;
     link->markers.told = foreign + unanswered;
