@@ -8,18 +8,6 @@
 #define FIRST_WAKE 10
 #define LAST_WAKE 300
 
-struct carry_private {
-    uint16_t previous; /* the aggregator that was active before nothing or another one was, or 0 */
-    uint64_t heard_at; /* the time at which frames came in the active aggregator last, or 0 */
-    uint64_t heard_before; /* how many had come in an active one then */
-    uint64_t looked_at; /* of suspect_aggregator */
-    uint64_t elsewhere; /* 100 for each tick in which a frame came in another aggregator, since one came in the active one */
-    unsigned on_defaults[NIW_MOST_PORTS]; /* ticks for which a port ran on defaults */
-    unsigned wakes_after[NIW_MOST_PORTS]; /* how many of them it may */
-};
-
-MAKES_ROOM(carry)
-
 /* Writes what a conversation of an aggregator is doing; answers whether the library told it. */
 bool ask_state(struct protocol *protocol, uint16_t aggregator, uint16_t number, struct niw_assignment *state) {
     *state = niw_conversation_state(&protocol->own_system, aggregator, number);
@@ -48,23 +36,21 @@ bool is_busy(const struct carry *carry, const struct conversation *conversation)
 
 /* Another aggregator is active: nothing has come in it yet. */
 void forget_heard(struct carry *carry) {
-    struct carry_private *own = carry->carry_private;
-    own->elsewhere = 0;
-    own->heard_before = ASK(carry->plane->carrying->frames_heard, 0, carry->plane, true);
-    own->heard_at = 0;
+    carry->elsewhere = 0;
+    carry->heard_before = ASK(carry->plane->carrying->frames_heard, 0, carry->plane, true);
+    carry->heard_at = 0;
 }
 
 /* A frame came in an aggregator that is not the active one. If no aggregator has more than that one, the peer may send there. It is looked
  * at once a tick, however many frames come, and only in a tick in which one does: few frames take long. */
 void suspect_aggregator(struct carry *carry, uint32_t aggregator) {
-    struct carry_private *own = carry->carry_private;
-    if (own->looked_at == carry->time || carry->active == 0 || aggregator == carry->active) return;
-    own->looked_at = carry->time;
+    if (carry->looked_at == carry->time || carry->active == 0 || aggregator == carry->active) return;
+    carry->looked_at = carry->time;
     uint64_t patience = patience_with(carry->protocol, carry->active, (uint16_t)aggregator);
-    own->elsewhere += NIW_TICK_MILLISECONDS;
-    if (patience != 0 && own->elsewhere > patience) follow_peer(carry->protocol, (uint16_t)aggregator);
-    else if (own->heard_at == 0 || !is_as_good_as_any(carry->protocol, (uint16_t)aggregator)) return;
-    own->heard_at = 0;
+    carry->elsewhere += NIW_TICK_MILLISECONDS;
+    if (patience != 0 && carry->elsewhere > patience) follow_peer(carry->protocol, (uint16_t)aggregator);
+    else if (carry->heard_at == 0 || !is_as_good_as_any(carry->protocol, (uint16_t)aggregator)) return;
+    carry->heard_at = 0;
     carry->plane->changed = true;
 }
 
@@ -72,8 +58,7 @@ void suspect_aggregator(struct carry *carry, uint32_t aggregator) {
  * come together, if both send or neither does: neither has frames of the other one then, and both take the one with the least group. */
 bool hears_peer(struct plane *plane) {
     struct carry *carry = plane->carry;
-    struct carry_private *own = carry->carry_private;
-    return own->heard_at != 0 && carry->time - own->heard_at < HEARD;
+    return carry->heard_at != 0 && carry->time - carry->heard_at < HEARD;
 }
 
 /* Notes the ports of the active aggregator that carry, those that are emptied or the others. */
@@ -84,10 +69,12 @@ static void note_active_ports(struct carry *carry, bool emptying) {
             carry->active_ports[carry->active_count++] = link->settings.number;
 }
 
-/* The aggregator whose ports carry the data: that of the bundle, unless that is down. */
-static void choose_active(struct carry *carry) {
+/* Chooses by what the ports are now: the aggregator that carries the data is that of the bundle, unless that is down. */
+void choose_ports(struct plane *plane) {
+    struct carry *carry = plane->carry;
     struct bundle now = {0};
     uint16_t before = carry->active;
+    read_views(carry->protocol);
     choose_aggregator(carry->protocol, &now);
     carry->active = now.carrying >= carry->settings->min_links ? now.aggregator : 0;
     note_active_ports(carry, false);
@@ -97,33 +84,24 @@ static void choose_active(struct carry *carry) {
         (void)say(carry->process, LOG_NOTICE | ABOUT_CARRIER, "carry %s: carrier %s", carry->settings->carry, carry->active ? "on" : "off");
     if (before != carry->active) forget_heard(carry);
     if (before != carry->active && carry->active != 0) announce_soon(carry->announce);
-    CALL(carry->plane->carrying->tell_host, carry->plane);
-}
-
-/* Chooses by what the ports are now. */
-void choose_ports(struct plane *plane) {
-    struct carry *carry = plane->carry;
-    read_views(carry->protocol);
-    choose_active(carry);
+    CALL(plane->carrying->tell_host, plane);
 }
 
 /* The last daemon carried in this aggregator, and the peer does, too. The team driver has each bucket where it was: it is told of none before
  * it is known where its conversation goes on. */
 void go_on_in(struct carry *carry, uint16_t aggregator) {
-    struct carry_private *own = carry->carry_private;
-    carry->time = own->heard_at = milliseconds();
-    carry->active = own->previous = aggregator;
+    carry->time = carry->heard_at = milliseconds();
+    carry->active = carry->previous = aggregator;
     CALL(carry->plane->carrying->go_on, carry->plane);
 }
 
 /* Another aggregator is active: what is on a port of the previous one leaves it, behind a marker. Its frames wait until it is free there.
  * One for which no marker is left goes on after a rest. */
 void leave_previous(struct carry *carry) {
-    struct carry_private *own = carry->carry_private;
-    uint16_t left = own->previous;
+    uint16_t left = carry->previous;
     uint16_t ports[CONVERSATIONS];
     if (carry->active == 0 || carry->active == left) return;
-    own->previous = carry->active;
+    carry->previous = carry->active;
     if (!ask_ports(carry->protocol, left, ports)) return;
     for (uint16_t number = 0; number < CONVERSATIONS; number++) {
         uint32_t status = ports[number] == 0 ? NIW_OK : niw_leave_conversation(&carry->protocol->own_system, left, number);
@@ -133,11 +111,10 @@ void leave_previous(struct carry *carry) {
 }
 
 void note_heard(struct carry *carry) {
-    struct carry_private *own = carry->carry_private;
     uint64_t heard = ASK(carry->plane->carrying->frames_heard, 0, carry->plane, false);
-    if (heard != own->heard_before && carry->active != 0) own->heard_at = carry->time;
-    if (heard != own->heard_before) own->elsewhere = 0;
-    own->heard_before = heard;
+    if (heard != carry->heard_before && carry->active != 0) carry->heard_at = carry->time;
+    if (heard != carry->heard_before) carry->elsewhere = 0;
+    carry->heard_before = heard;
 }
 
 /* After calls that may have changed something: the active aggregator, and what goes on in it. */
@@ -151,19 +128,18 @@ void settle_carry(struct plane *plane) {
  * whose link came up it sends one each second. It is done to ports that carry nothing, after a second, and then after twice as long each
  * time. */
 static void wake_sleeper(struct carry *carry, uint16_t port) {
-    struct carry_private *own = carry->carry_private;
     const struct link *link = &carry->ports->links[port - 1];
     bool sleeps = link->up && link->view.receive_state == NIW_RECEIVE_DEFAULTED && (carry->active == 0 || link->view.aggregator != carry->active);
-    unsigned *after = &own->wakes_after[port - 1];
+    unsigned *after = &carry->wakes_after[port - 1], *ticks = &carry->on_defaults[port - 1];
     uint64_t load;
     if (link->view.receive_state == NIW_RECEIVE_CURRENT || *after == 0) *after = FIRST_WAKE;
-    own->on_defaults[port - 1] = sleeps ? own->on_defaults[port - 1] + 1 : 0;
-    if (own->on_defaults[port - 1] < *after || !is_told(carry->process, niw_load(&carry->protocol->own_system, port), "niw_load", &load) || load > 0)
+    *ticks = sleeps ? *ticks + 1 : 0;
+    if (*ticks < *after || !is_told(carry->process, niw_load(&carry->protocol->own_system, port), "niw_load", &load) || load > 0)
         return;
     *after = 2 * *after < LAST_WAKE ? 2 * *after : LAST_WAKE;
     if (!is_done(carry->process, niw_set_link(&carry->protocol->own_system, port, false), "niw_set_link")) return;
     if (!is_done(carry->process, niw_set_link(&carry->protocol->own_system, port, true), "niw_set_link")) return;
-    own->on_defaults[port - 1] = 0;
+    *ticks = 0;
     carry->counts[WOKEN]++;
 }
 

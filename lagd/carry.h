@@ -36,7 +36,7 @@ struct conversation {
 
 /* Times are milliseconds of CLOCK_MONOTONIC. Ticks are made up after a stall, in which a frame may have been sent just before: they do not
  * tell for how long nothing was. */
-#define EACH_FILE_OF_CARRY(DO) DO(announce, announce) DO(carry, carry_private) DO(probe, probe)
+#define EACH_FILE_OF_CARRY(DO) DO(announce, announce) DO(probe, probe)
 struct carry {
     PARTS
     struct state *state;
@@ -50,6 +50,13 @@ struct carry {
     bool more_waits;               /* whether a socket may have more */
     struct conversation conversations[CONVERSATIONS];
     bool to_balance; /* whether a tick passed since the last look at the loads */
+    uint16_t previous; /* the aggregator that was active before nothing or another one was, or 0 */
+    uint64_t heard_at; /* the time at which frames came in the active aggregator last, or 0 */
+    uint64_t heard_before; /* how many had come in an active one then */
+    uint64_t looked_at; /* of suspect_aggregator */
+    uint64_t elsewhere; /* 100 for each tick in which a frame came in another aggregator, since one came in the active one */
+    unsigned on_defaults[NIW_MOST_PORTS]; /* ticks for which a port ran on defaults */
+    unsigned wakes_after[NIW_MOST_PORTS]; /* how many of them it may */
     uint64_t counts[CARRY_COUNTS];
     EACH_FILE_OF_CARRY(KEEPS)
 };

@@ -9,19 +9,6 @@ static const char *answering_text(const struct probe_private *own) {
     return texts[peer_answering(own)];
 }
 
-static unsigned count_busy(const struct carry *carry, uint16_t port) {
-    unsigned busy = 0;
-    for (unsigned i = 0; i < CONVERSATIONS; i++)
-        busy += is_busy(carry, &carry->conversations[i]) && carry->conversations[i].port == port;
-    return busy;
-}
-
-static unsigned count_fast(const struct carry *carry) {
-    unsigned fast = 0;
-    for (unsigned i = 0; i < CONVERSATIONS; i++) fast += carry->conversations[i].fast.port > 0;
-    return fast;
-}
-
 void show_markers(struct control *control) {
     add(control->report, "markers %s, ", answering_text(control->carry->probe));
 }
@@ -29,16 +16,18 @@ void show_markers(struct control *control) {
 /* What waits in the daemon, and what does not come there. */
 void show_frames_waiting(struct control *control, enum form form) {
     uint64_t waiting;
+    unsigned fast = 0;
     if (!count_all_held(control->tap, &waiting)) return;
+    for (unsigned i = 0; i < CONVERSATIONS; i++) fast += control->carry->conversations[i].fast.port > 0;
     switch (form) {
-    case AS_TEXT: add(control->report, "\n  waiting: %" PRIu64 ", conversations of the kernel: %u\n", waiting, count_fast(control->carry)); break;
+    case AS_TEXT: add(control->report, "\n  waiting: %" PRIu64 ", conversations of the kernel: %u\n", waiting, fast); break;
     case AS_JSON:
         add(control->report, "\"markers\":\"%s\",\"waiting\":%" PRIu64 ",\"fast_conversations\":%u", answering_text(control->carry->probe), waiting,
-            count_fast(control->carry));
+            fast);
         break;
     case AS_METRICS:
         add_bundle_value(control, "carry_waiting", "gauge", "how many frames wait", waiting);
-        add_bundle_value(control, "carry_fast_conversations", "gauge", "how many conversations the kernel passes on", count_fast(control->carry));
+        add_bundle_value(control, "carry_fast_conversations", "gauge", "how many conversations the kernel passes on", fast);
     }
 }
 
@@ -59,13 +48,12 @@ void show_queues(struct control *control, const struct link *link, enum form for
 
 static void write_text_of_carry(struct control *control) {
     const struct carrying *carrying = control->plane->carrying;
+    const struct settings *settings = control->settings;
+    const char *carrier = has_carrier(control->device) ? "on" : is_halted(control->protocol->halt) ? "off, the device is down" : "off";
     unsigned told = 0;
-    add(control->report, "  carry: %s, carrier %s, hash %s, flight %u ms, ", control->settings->carry,
-        has_carrier(control->device) ? "on" : is_halted(control->protocol->halt) ? "off, the device is down" : "off",
-            hash_text(control->settings->hash),
-        control->settings->flight);
+    add(control->report, "  carry: %s, carrier %s, hash %s, flight %u ms, ", settings->carry, carrier, hash_text(settings->hash), settings->flight);
     CALL(carrying->show_markers, control);
-    add(control->report, "%s%s", way_text(control->settings), control->plane->queueing->text);
+    add(control->report, "%s%s", way_text(settings), control->plane->queueing->text);
     for (unsigned i = carrying->first_count; i < carrying->end_count; i++)
         add(control->report, "%s %s %" PRIu64, told++ % 5 == 0 ? "\n  data:" : "", CARRY_COUNTERS[i].name, control->carry->counts[i]);
     CALL(carrying->show_waiting, control, AS_TEXT);
@@ -75,10 +63,9 @@ static void write_json_of_carry(struct control *control) {
     const struct carrying *carrying = control->plane->carrying;
     add(control->report, "\"carry\":{\"device\":");
     add_string(control->report, control->settings->carry);
-    add(control->report, ",\"up\":%s,\"carrier\":%s,\"aggregator\":%u,\"hash\":\"%s\",", is_halted(control->protocol->halt) ? "false" : "true",
-        has_carrier(control->device) ? "true" : "false", control->carry->active,
-        hash_text(control->settings->hash));
-    add(control->report, "\"flight\":%u,\"way\":\"%s\",", control->settings->flight, way_text(control->settings));
+    add(control->report, ",\"up\":%s,\"carrier\":%s,\"aggregator\":%u,\"hash\":\"%s\",\"flight\":%u,\"way\":\"%s\",",
+        is_halted(control->protocol->halt) ? "false" : "true", has_carrier(control->device) ? "true" : "false", control->carry->active,
+        hash_text(control->settings->hash), control->settings->flight, way_text(control->settings));
     CALL(carrying->show_waiting, control, AS_JSON);
     for (unsigned i = carrying->first_count; i < carrying->end_count; i++)
         add(control->report, ",\"%s\":%" PRIu64, CARRY_COUNTERS[i].name, control->carry->counts[i]);
@@ -114,8 +101,11 @@ void show_carry(struct control *control, enum form form) {
 
 /* And of a member, which has no metrics of its own. */
 void show_member(struct control *control, const struct link *link, enum form form) {
-    add(control->report, form == AS_JSON ? ",\"data\":{\"busy_conversations\":%u" : "  data: busy_conversations %u",
-        count_busy(control->carry, link->settings.number));
+    const struct carry *carry = control->carry;
+    unsigned busy = 0;
+    for (unsigned i = 0; i < CONVERSATIONS; i++)
+        busy += is_busy(carry, &carry->conversations[i]) && carry->conversations[i].port == link->settings.number;
+    add(control->report, form == AS_JSON ? ",\"data\":{\"busy_conversations\":%u" : "  data: busy_conversations %u", busy);
     for (unsigned i = 0; i < control->plane->carrying->member_counts; i++)
         add(control->report, form == AS_JSON ? ",\"%s\":%" PRIu64 : " %s %" PRIu64, MEMBER_COUNTERS[i].name,
             member_counts(control->tap->members, link->settings.number)[i]);

@@ -22,14 +22,13 @@ static void make_files(struct lagd *lagd) {
     { struct protocol *of = &lagd->protocol; EACH_FILE_OF_PROTOCOL(MAKE) }
     { struct carry *of = &lagd->carry; EACH_FILE_OF_CARRY(MAKE) }
     { struct tap_plane *of = &lagd->tap; EACH_FILE_OF_TAP(MAKE) }
-    { struct team_plane *of = &lagd->team; EACH_FILE_OF_TEAM(MAKE) }
     { struct control *of = &lagd->control; EACH_FILE_OF_CONTROL(MAKE) }
 }
 
 struct lagd *make_lagd(void) {
     struct lagd *lagd = make_room(sizeof *lagd);
     lagd->device = make_device(&lagd->process, &lagd->plane);
-    lagd->state = make_state(&lagd->carry, &lagd->team);
+    lagd->state = make_state(&lagd->carry);
     join_parts(lagd);
     make_files(lagd);
     lagd->control.report = make_room(sizeof *lagd->control.report);

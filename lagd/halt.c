@@ -7,18 +7,16 @@
 
 struct halt_private {
     bool down;      /* whether the device is down */
-    bool silent;    /* whether the links are down for the library, too */
+    bool silent;    /* whether peers were told, and the links are down for the library, too */
     unsigned ticks; /* for how long peers are told */
 };
 
 MAKES_ROOM(halt)
 
-/* Whether the device is down, so that no port may carry. */
 bool is_halted(const struct halt_private *own) {
     return own->down;
 }
 
-/* Whether the peers were told, so that no port speaks. */
 bool is_silent(const struct halt_private *own) {
     return own->silent;
 }

@@ -5,32 +5,23 @@
 #include <spawn.h>
 #include <sys/prctl.h>
 
-/* It has no signal blocked or ignored, and a session of its own. */
-static void set_attributes(posix_spawnattr_t *attributes) {
-    sigset_t none, all;
-    sigemptyset(&none);
-    sigfillset(&all);
-    posix_spawnattr_init(attributes);
-    posix_spawnattr_setsigmask(attributes, &none);
-    posix_spawnattr_setsigdefault(attributes, &all);
-    posix_spawnattr_setflags(attributes, POSIX_SPAWN_SETSIGMASK | POSIX_SPAWN_SETSIGDEF | POSIX_SPAWN_SETSID);
-}
-
-/* It reads nothing, and what it prints goes to standard error. */
-static void set_files(posix_spawn_file_actions_t *files) {
-    posix_spawn_file_actions_init(files);
-    posix_spawn_file_actions_addopen(files, STDIN_FILENO, "/dev/null", O_RDONLY, 0);
-    posix_spawn_file_actions_adddup2(files, STDERR_FILENO, STDOUT_FILENO);
-}
-
-/* Starts a program with the timer slack that the daemon was started with: a child inherits what holds at its start. Answers 0, or errno. */
+/* Starts a program in a session of its own, which has no signal blocked or ignored, reads nothing, and prints to standard error. It has the timer
+ * slack that the daemon was started with: a child inherits what holds at its start. Answers 0, or errno. */
 static int start(const char *path, char *const *environment) {
     char *words[] = {(char *)(uintptr_t)path, NULL};
     posix_spawnattr_t attributes;
     posix_spawn_file_actions_t files;
+    sigset_t none, all;
     pid_t child;
-    set_attributes(&attributes);
-    set_files(&files);
+    sigemptyset(&none);
+    sigfillset(&all);
+    posix_spawnattr_init(&attributes);
+    posix_spawnattr_setsigmask(&attributes, &none);
+    posix_spawnattr_setsigdefault(&attributes, &all);
+    posix_spawnattr_setflags(&attributes, POSIX_SPAWN_SETSIGMASK | POSIX_SPAWN_SETSIGDEF | POSIX_SPAWN_SETSID);
+    posix_spawn_file_actions_init(&files);
+    posix_spawn_file_actions_addopen(&files, STDIN_FILENO, "/dev/null", O_RDONLY, 0);
+    posix_spawn_file_actions_adddup2(&files, STDERR_FILENO, STDOUT_FILENO);
     (void)prctl(PR_SET_TIMERSLACK, 0); /* the one that it began with */
     int fault = posix_spawn(&child, path, &files, &attributes, words, environment);
     (void)prctl(PR_SET_TIMERSLACK, TIMER_SLACK);

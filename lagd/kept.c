@@ -2,12 +2,6 @@
  * killed the next one knows it. A file of another boot, or of another interface with that number, counts for nothing. */
 #include "tap/tap.h"
 
-/* What a file begins with, and what one of a member has behind it: that is whole if its last line is. */
-#define HEAD "boot=%s\nmac=%s\n"
-#define READ_HEAD "boot=%63s mac=%31s"
-#define FORM "joins=%u\nqueues=%u %u %u %u\nrps=%s\nend\n"
-#define READ_FORM " joins=%u queues=%u %u %u %u rps=%" PROCESSORS_LENGTH "s %7s"
-
 /* The name of a file, or with `.new` behind it that of the one that is to take its place. */
 static void name_file(const struct link *link, const char *kind, const char *behind, char room[static 64]) {
     snprintf(room, 64, "%lu.%d.%s%s", network_namespace(), link->index, kind, behind);
@@ -27,7 +21,7 @@ FILE *read_kept(int folder, const struct link *link, const char *kind) {
     name_file(link, kind, "", name);
     FILE *file = open_in(folder, name, O_RDONLY, "r");
     if (!file) return NULL;
-    if (fscanf(file, READ_HEAD, boot, mac) == 2 && strcmp(boot, boot_id(now)) == 0 && strcmp(mac, mac_text(link->mac, own)) == 0)
+    if (fscanf(file, "boot=%63s mac=%31s", boot, mac) == 2 && strcmp(boot, boot_id(now)) == 0 && strcmp(mac, mac_text(link->mac, own)) == 0)
         return file;
     fclose(file);
     return NULL;
@@ -38,7 +32,7 @@ FILE *begin_kept(int folder, const struct link *link, const char *kind) {
     char next[64], boot[BOOT_ROOM], mac[32];
     name_file(link, kind, ".new", next);
     FILE *file = open_in(folder, next, O_WRONLY | O_CREAT | O_TRUNC, "w");
-    if (file) fprintf(file, HEAD, boot_id(boot), mac_text(link->mac, mac));
+    if (file) fprintf(file, "boot=%s\nmac=%s\n", boot_id(boot), mac_text(link->mac, mac));
     return file;
 }
 
@@ -71,8 +65,8 @@ void recall_settings(int folder, const struct link *link, struct kept *kept) {
     FILE *file = read_kept(folder, link, "member");
     *kept = (struct kept){0};
     if (!file) return;
-    int found = fscanf(file, READ_FORM, &kept->joins, &queues->rx_count, &queues->tx_count, &queues->other_count, &queues->combined_count,
-        kept->steered, end);
+    int found = fscanf(file, " joins=%u queues=%u %u %u %u rps=%" PROCESSORS_LENGTH "s %7s", &kept->joins, &queues->rx_count, &queues->tx_count,
+        &queues->other_count, &queues->combined_count, kept->steered, end); /* the last line says that the file is whole */
     fclose(file);
     if (found != 7 || strcmp(end, "end") != 0) *kept = (struct kept){0};
     if (strcmp(kept->steered, "-") == 0) kept->steered[0] = 0;
@@ -83,8 +77,8 @@ void write_settings(struct process *process, const struct link *link, const stru
     const struct ethtool_channels *queues = &kept->queues;
     FILE *file = begin_kept(process->folder, link, "member");
     if (file)
-        fprintf(file, FORM, kept->joins, queues->rx_count, queues->tx_count, queues->other_count, queues->combined_count,
-            kept->steered[0] ? kept->steered : "-");
+        fprintf(file, "joins=%u\nqueues=%u %u %u %u\nrps=%s\nend\n", kept->joins, queues->rx_count, queues->tx_count, queues->other_count,
+            queues->combined_count, kept->steered[0] ? kept->steered : "-");
     if (!file || !end_kept(process->folder, link, "member", file, true))
         (void)say(process, LOG_WARNING | ABOUT_DATA, "port %u %s: if this daemon is killed, nobody knows what the interface had: %s",
             link->settings.number, link->name, strerror(errno));
@@ -100,12 +94,8 @@ void keep_settings(struct process *process, const struct link *link, struct kept
     write_settings(process, link, kept);
 }
 
-void forget_settings(int folder, const struct link *link) {
-    drop_kept(folder, link, "member");
-}
-
 /* The interface is gone for good. One that went to another namespace may come back, and is what it was made then. */
 void forget_interface(int folder, const struct link *link) {
-    forget_settings(folder, link);
+    drop_kept(folder, link, "member");
     drop_kept(folder, link, "queues");
 }

@@ -65,32 +65,30 @@ static uint16_t key_for(const struct keys_private *own, uint16_t given, uint16_t
     return given;
 }
 
+static void add_key(struct keys_private *own, uint16_t given, uint16_t key) {
+    own->known[own->known_count++] = (struct speed_key){.given = given, .key = key};
+}
+
 /* Makes the keys of the aggregators: in the order of ports, of which those that are to come have the key of the bundle, one of the key of each,
  * and then as many of each further key that a speed may have. */
 void make_keys(struct protocol *protocol, uint16_t keys[static NIW_MOST_PORTS]) {
     struct keys_private *own = protocol->keys;
     for (uint16_t i = 0; i < protocol->ports->slots; i++)
-        if (!has_aggregator(protocol->keys, protocol->ports->links[i].key))
-            own->known[own->known_count++] = (struct speed_key){.given = protocol->ports->links[i].key, .key = protocol->ports->links[i].key};
-    for (uint16_t i = 0, given = own->known_count; i < given; i++) {
-        for (uint16_t speed = 1; speed < own->speeds; speed++) {
-            own->known[own->known_count] = (struct speed_key){.given = own->known[i].given, .key = free_key(protocol, own->known[i].key, NULL)};
-            own->known_count++;
-        }
-    }
+        if (!has_aggregator(own, protocol->ports->links[i].key)) add_key(own, protocol->ports->links[i].key, protocol->ports->links[i].key);
+    for (uint16_t i = 0, given = own->known_count; i < given; i++)
+        for (uint16_t speed = 1; speed < own->speeds; speed++) add_key(own, own->known[i].given, free_key(protocol, own->known[i].key, NULL));
     for (uint16_t speed = 0; speed < own->speeds; speed++)
         for (uint16_t port = 0; port < protocol->ports->slots; port++)
-            keys[protocol->aggregator_count++] = key_for(protocol->keys, protocol->ports->links[port].key, speed);
+            keys[protocol->aggregator_count++] = key_for(own, protocol->ports->links[port].key, speed);
 }
 
 static bool is_same_speed(const struct speed *one, const struct speed *other) {
     return one->megabits == other->megabits && one->duplex == other->duplex;
 }
 
-/* Whether a port still has the speed of a key. */
 static bool is_in_use(const struct ports *ports, const struct speed_key *key) {
-    for (uint16_t i = 0; key->used && i < ports->count; i++)
-        if (ports->links[i].has_speed && ports->links[i].key == key->given && is_same_speed(&ports->links[i].speed, &key->speed)) return true;
+    EACH_LINK_AS_IS(link, ports)
+        if (key->used && link->has_speed && link->key == key->given && is_same_speed(&link->speed, &key->speed)) return true;
     return false;
 }
 
@@ -111,7 +109,6 @@ uint16_t choose_key(struct protocol *protocol, const struct link *link) {
     return unused->key;
 }
 
-/* What the driver of an interface tells of its link. */
 union link_settings {
     struct ethtool_link_settings head;
     uint32_t room[sizeof(struct ethtool_link_settings) / sizeof(uint32_t) + 3 * MOST_WORDS];
@@ -157,21 +154,19 @@ bool write_speed(int socket, int index, uint32_t megabits) {
     return ask_by(socket, index, &told);
 }
 
-static void give_key(struct protocol *protocol, struct link *link) {
-    struct niw_change change = {.key = choose_key(protocol, link), .priority = link->settings.priority, .aggregatable = link->settings.aggregatable};
-    if (!is_done(protocol->process, niw_configure(&protocol->own_system, link->settings.number, &change).status, "niw_configure")) return;
-    link->settings.key = change.key;
-}
-
 /* The link of a port comes up, or is up: with key-by-speed it has the key of the speed that it had as it came. */
 void apply_speed(struct protocol *protocol, struct link *link) {
     bool by_speed = protocol->settings->key_by_speed;
+    struct niw_change change = {.priority = link->settings.priority, .aggregatable = link->settings.aggregatable};
     if (by_speed ? link->up : protocol->settings->select != SELECT_BANDWIDTH) return;
     struct speed now = read_speed(link->socket, link->index);
     if (link->has_speed && is_same_speed(&now, &link->speed)) return;
     link->has_speed = protocol->plane->changed = true;
     link->speed = now;
-    if (by_speed) give_key(protocol, link);
+    if (!by_speed) return;
+    change.key = choose_key(protocol, link);
+    if (is_done(protocol->process, niw_configure(&protocol->own_system, link->settings.number, &change).status, "niw_configure"))
+        link->settings.key = change.key;
 }
 
 /* Whether a link that is up has come back at another speed, which with key-by-speed has another key. */

@@ -538,7 +538,6 @@ void return_stored(struct store_private *own, const char *kind, int number, int 
 void drop_stored(struct store_private *own, const char *kind, int number);
 void close_stored(struct store_private *own, const char *kind, int number, int fd);
 void drop_unclaimed(struct store_private *own);
-void leave_store(struct store_private *own);
 int packet_socket(struct process *process, const char *kind, int of, int index, int type);
 int attach_stored(struct store_private *own, const char *kind, int program, int index, bool egress);
 void detach_stored(struct store_private *own, const char *kind, int index, int attached);

@@ -141,7 +141,6 @@ static bool leave_state(struct lagd *lagd) {
     lagd->process.has_left = save_state(lagd->state, true);
     if (!lagd->process.has_left) CALL(lagd->plane.carrying->keep_device, &lagd->plane, false);
     if (!lagd->process.has_left) return false;
-    leave_store(lagd->process.store);
     (void)say(&lagd->process, LOG_NOTICE | ABOUT_HANDOVER, "the next daemon may go on from here; %u frames that waited are lost",
         ASK(lagd->plane.carrying->frames_waiting, 0, &lagd->plane));
     return true;

@@ -29,16 +29,9 @@ bool is_partners_response(const struct settings *settings, const struct link *li
         && memcmp(response->requester_system, settings->config.mac, sizeof settings->config.mac) == 0;
 }
 
-/* A Marker PDU is not taken, or not answered. */
 void note_odd_marker(struct link *link, const struct arrival *arrival, enum count count) {
     link->counts[count]++;
     memcpy(link->markers.source, arrival->frame + ETH_ALEN, sizeof link->markers.source);
-}
-
-static void pass_slots(struct answered *answered, uint64_t slot) {
-    for (uint64_t passed = answered->slot + 1; passed <= slot && passed <= answered->slot + ANSWERED_SLOTS; passed++)
-        answered->partner[passed % ANSWERED_SLOTS] = answered->others[passed % ANSWERED_SLOTS] = 0;
-    answered->slot = slot;
 }
 
 /* Whether a marker is answered: any second has marker-responses of them at most, and a quarter at most of markers that are not the
@@ -47,7 +40,10 @@ bool may_answer(struct protocol *protocol, struct link *link, const struct arriv
     struct answered *answered = &link->markers.answered;
     unsigned partner = 0, others = 0, most = protocol->settings->marker_responses * protocol->plane->queueing->markers_at_once;
     bool other = !is_from_partner(link, arrival);
-    pass_slots(answered, milliseconds() / SLOT);
+    uint64_t slot = milliseconds() / SLOT;
+    for (uint64_t passed = answered->slot + 1; passed <= slot && passed <= answered->slot + ANSWERED_SLOTS; passed++)
+        answered->partner[passed % ANSWERED_SLOTS] = answered->others[passed % ANSWERED_SLOTS] = 0;
+    answered->slot = slot;
     for (unsigned i = 0; i < ANSWERED_SLOTS; i++) {
         partner += answered->partner[i];
         others += answered->others[i];
@@ -63,8 +59,7 @@ void tell_markers(struct protocol *protocol, struct link *link) {
     char source[32];
     if (foreign + unanswered == link->markers.told || ticks_passed(protocol->system) < link->markers.tell_at) return;
     if (!say(protocol->process, LOG_WARNING | ABOUT_MARKERS,
-        "port %u %s: Marker PDUs, last from %s: %" PRIu64 " responses that are not the partner's, "
-            "%" PRIu64 " markers not answered",
+            "port %u %s: Marker PDUs, last from %s: %" PRIu64 " responses that are not the partner's, %" PRIu64 " markers not answered",
             link->settings.number, link->name, mac_text(link->markers.source, source), foreign, unanswered))
         return;
     link->markers.told = foreign + unanswered;

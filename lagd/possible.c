@@ -37,12 +37,12 @@ static int check_programs(struct process *process, const struct options *options
 /* Whether the kernel has the team driver, and its mode, which is another module: answers how the program ends. The mode is tried in a network
  * namespace that ends with the program, where that may be made. */
 static int check_team(struct team_plane *team, const struct options *options) {
-    bool is_apart = unshare(CLONE_NEWNET) == 0, has_driver = find_team_driver(team->team_netlink);
+    bool is_apart = unshare(CLONE_NEWNET) == 0, has_driver = find_team_driver(team);
     if (!has_driver && errno == EPERM) {
         tell(team->process, options, "plane", "not known without CAP_NET_ADMIN");
         return DONE;
     }
-    if (has_driver && (!is_apart || has_team_mode(team->team_netlink))) return DONE;
+    if (has_driver && (!is_apart || has_team_mode(team))) return DONE;
     tell(team->process, options, "plane", has_driver ? "the team driver of this kernel has no mode loadbalance" : "this kernel has no team driver");
     return REFUSED;
 }

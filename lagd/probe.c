@@ -39,12 +39,11 @@ void look_at_partner(struct carry *carry) {
     struct probe_private *own = carry->probe;
     if (carry->active == 0) return;
     const struct niw_view *view = &carry->ports->links[carry->active_ports[0] - 1].view;
-    if (view->partner_key == own->partner_key && view->partner_priority == own->partner.priority
-        && memcmp(view->partner_mac, own->partner.mac, sizeof own->partner.mac) == 0)
-        return;
+    struct system_id partner = {.priority = view->partner_priority};
+    memcpy(partner.mac, view->partner_mac, sizeof partner.mac);
+    if (view->partner_key == own->partner_key && memcmp(&partner, &own->partner, sizeof partner) == 0) return;
     own->partner_key = view->partner_key;
-    own->partner.priority = view->partner_priority;
-    memcpy(own->partner.mac, view->partner_mac, sizeof own->partner.mac);
+    own->partner = partner;
     own->peer = own->told = NOT_ASKED;
     own->asking = false;
     own->asked_on = 0;
@@ -61,13 +60,6 @@ static void ask_peer(struct carry *carry) {
     own->asked_on = carry->active_ports[0];
     own->asked_at = own->sent_at = carry->time;
     send_new_marker(carry->plane, &carry->ports->links[own->asked_on - 1], marker);
-}
-
-static void ask_again(struct tap_plane *tap) {
-    struct probe_private *own = tap->carry->probe;
-    if (tap->carry->time - own->sent_at < AGAIN) return;
-    own->sent_at = tap->carry->time;
-    if (send_marker_again(tap, own->asked_on)) tap->carry->counts[MARKERS_AGAIN]++;
 }
 
 /* It is known whether the peer answers: says so, if that is new. */
@@ -94,22 +86,18 @@ void note_response(struct plane *plane, const struct link *link) {
     if (answers == NIW_ANSWERS_ANSWERED) judge(carry, ANSWERS);
 }
 
-/* No response came yet. A peer whose link went meanwhile is asked again. */
-static void go_on_asking(struct tap_plane *tap) {
-    struct probe_private *own = tap->carry->probe;
-    if (tap->ports->links[own->asked_on - 1].view.port_status != NIW_PORT_STATUS_DISTRIBUTING) {
-        own->asking = false;
-        own->peer = NOT_ASKED;
-    } else if (tap->carry->time - own->asked_at >= PATIENCE) {
-        judge(tap->carry, MUTE);
-    } else {
-        ask_again(tap);
-    }
-}
-
 void pass_probe_tick(struct tap_plane *tap) {
-    struct probe_private *own = tap->carry->probe;
-    if (own->asking) go_on_asking(tap);
-    if (own->asking || tap->carry->active_count == 0) return;
-    if (own->peer == NOT_ASKED || (own->peer == MUTE && tap->carry->time - own->asked_at >= LATER)) ask_peer(tap->carry);
+    struct carry *carry = tap->carry;
+    struct probe_private *own = carry->probe;
+    if (own->asking && carry->ports->links[own->asked_on - 1].view.port_status != NIW_PORT_STATUS_DISTRIBUTING) {
+        own->asking = false; /* its link went: the peer is asked by another one */
+        own->peer = NOT_ASKED;
+    } else if (own->asking && carry->time - own->asked_at >= PATIENCE) {
+        judge(carry, MUTE);
+    } else if (own->asking && carry->time - own->sent_at >= AGAIN) {
+        own->sent_at = carry->time;
+        if (send_marker_again(tap, own->asked_on)) carry->counts[MARKERS_AGAIN]++;
+    }
+    if (own->asking || carry->active_count == 0) return;
+    if (own->peer == NOT_ASKED || (own->peer == MUTE && carry->time - own->asked_at >= LATER)) ask_peer(carry);
 }

@@ -11,36 +11,29 @@ static const char *restart_for(struct protocol *protocol, const struct settings 
     return NULL;
 }
 
-/* Gives a port its key, priority and Aggregation bit; answers whether anything differs. The aggregators keep the keys that they were made
- * with: a port that is given another key keeps the one that it has. */
+/* Gives a port what the library can change; answers whether anything differs. The aggregators keep the keys that they were made with: a port
+ * that is given another key keeps the one that it has. */
 static bool change_port(struct protocol *protocol, uint16_t port, const struct settings *wanted) {
     struct link *link = &protocol->ports->links[port - 1];
-    struct niw_port next = port_of(wanted, port);
+    struct niw_port *now = &link->settings, next = port_of(wanted, port);
     struct niw_change change = {.priority = next.priority, .aggregatable = next.aggregatable};
+    bool hold = wants_hold(wanted, port);
     if (has_aggregator(protocol->keys, next.key)) link->key = next.key;
     change.key = choose_key(protocol, link);
     struct niw_truth answer = niw_configure(&protocol->own_system, port, &change);
-    if (!is_done(protocol->process, answer.status, "niw_configure") || !answer.is) return false;
-    link->settings.key = change.key;
-    link->settings.priority = change.priority;
-    link->settings.aggregatable = change.aggregatable;
-    return true;
-}
-
-static bool change_mode(struct protocol *protocol, uint16_t port, const struct settings *wanted) {
-    struct link *link = &protocol->ports->links[port - 1];
-    struct niw_port next = port_of(wanted, port);
-    if (next.active == link->settings.active && next.short_timeout == link->settings.short_timeout) return false;
-    if (!is_done(protocol->process, niw_set_mode(&protocol->own_system, port, next.active, next.short_timeout), "niw_set_mode")) return false;
-    link->settings.active = next.active;
-    link->settings.short_timeout = next.short_timeout;
-    return true;
-}
-
-static bool change_all(struct protocol *protocol, uint16_t port, const struct settings *wanted) {
-    bool port_changed = change_port(protocol, port, wanted), mode_changed = change_mode(protocol, port, wanted), hold = wants_hold(wanted, port);
-    bool hold_changed = protocol->ports->links[port - 1].held != hold && hold_port(protocol, port, hold);
-    return port_changed || mode_changed || hold_changed;
+    bool changed = is_done(protocol->process, answer.status, "niw_configure") && answer.is;
+    if (changed) {
+        now->key = change.key;
+        now->priority = change.priority;
+        now->aggregatable = change.aggregatable;
+    }
+    if ((next.active != now->active || next.short_timeout != now->short_timeout)
+        && is_done(protocol->process, niw_set_mode(&protocol->own_system, port, next.active, next.short_timeout), "niw_set_mode")) {
+        now->active = next.active;
+        now->short_timeout = next.short_timeout;
+        changed = true;
+    }
+    return (link->held != hold && hold_port(protocol, port, hold)) || changed;
 }
 
 /* Who may be the partner changes for each link at once. One that is no longer pinned is so by who speaks next. */
@@ -78,7 +71,7 @@ static bool apply_port(struct protocol *protocol, uint16_t port, const struct se
     stay_port(protocol, port);
     link->followed = false;
     protocol->settings->ports[port - 1] = wanted->ports[port - 1];
-    return change_all(protocol, port, wanted) || was_leaving;
+    return change_port(protocol, port, wanted) || was_leaving;
 }
 
 /* Takes what can be changed; answers how many ports have something else now. */

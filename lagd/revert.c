@@ -3,30 +3,38 @@
  * it out of its aggregator, and let go, to stand by. */
 #include "lagd.h"
 
-/* Whether the identifier of a port, its priority and then its number, is below that of another one (6.3.4). */
-static bool is_below(const struct link *one, const struct link *other) {
-    const struct niw_port *first = &one->settings, *second = &other->settings;
-    return first->priority < second->priority || (first->priority == second->priority && first->number < second->number);
+/* The identifier of a port: its priority, and then its number (6.3.4). */
+static uint32_t identifier_of(const struct link *link) {
+    return (uint32_t)link->settings.priority << 16 | link->settings.number;
 }
 
 /* The port that stands by in an aggregator and takes the next place there, or NULL. */
 static struct link *next_of(struct ports *ports, uint16_t aggregator) {
     struct link *next = NULL;
     EACH_LINK(link, ports)
-        if (link->view.aggregator == aggregator && link->view.standby && (!next || is_below(link, next)))
+        if (link->view.aggregator == aggregator && link->view.standby && (!next || identifier_of(link) < identifier_of(next)))
             next = link;
     return next;
 }
 
-/* The port in use that gives way first in an aggregator; NULL where one of them does not distribute: a second one may not be without data. */
-static struct link *last_of(struct ports *ports, uint16_t aggregator) {
+/* The port in use that gives way first in an aggregator with more of them than so many, or NULL. */
+static struct link *last_beyond(struct ports *ports, uint16_t aggregator, uint16_t most) {
     struct link *last = NULL;
+    unsigned count = 0;
     EACH_LINK(link, ports) {
-        if (link->view.aggregator != aggregator || link->view.standby) continue;
-        if (link->view.mux_state != NIW_MUX_COLLECTING_DISTRIBUTING) return NULL;
-        if (!last || is_below(last, link)) last = link;
+        if (link->view.aggregator != aggregator || link->view.standby || !link->up) continue;
+        count++;
+        if (!last || identifier_of(last) < identifier_of(link)) last = link;
     }
-    return last;
+    return count > most ? last : NULL;
+}
+
+/* Whether each port in use distributes: where one is without data, a second one may not be. */
+static bool all_distribute(struct ports *ports, uint16_t aggregator) {
+    bool all = true;
+    EACH_LINK(link, ports)
+        if (link->view.aggregator == aggregator && !link->view.standby) all = all && link->view.mux_state == NIW_MUX_COLLECTING_DISTRIBUTING;
+    return all;
 }
 
 /* Whether a port that stands by would distribute at once: its partner speaks, and has selected it. A partner with a limit of its own may
@@ -37,33 +45,10 @@ static bool is_ready(struct protocol *protocol, const struct link *link) {
         && is_told(protocol->process, niw_wait_while(&protocol->own_system, link->settings.number), "niw_wait_while", &ticks) && ticks == 0;
 }
 
-/* A port leaves its aggregator, and comes back to stand by. What is on its way there leaves it behind a marker. */
-static void give_way(struct protocol *protocol, struct link *last, const struct link *next) {
-    if (!is_done(protocol->process, niw_hold(&protocol->own_system, last->settings.number, true), "niw_hold")) return;
-    if (!apply_hold(protocol, last->settings.number)) return;
-    (void)say(protocol->process, LOG_NOTICE | ABOUT_PORT, "port %u %s: it makes way for port %u %s", last->settings.number, last->name,
-        next->settings.number, next->name);
-    protocol->plane->changed = true;
-    send_due(protocol);
-    read_views(protocol);
-}
-
-/* Of an aggregator with more links in use than so many, the one that gives way first; else NULL. */
-static struct link *surplus_of(struct ports *ports, uint16_t aggregator, uint16_t most) {
-    struct link *last = NULL;
-    unsigned count = 0;
-    EACH_LINK(link, ports) {
-        if (link->view.aggregator != aggregator || link->view.standby || !link->up) continue;
-        count++;
-        if (!last || is_below(last, link)) last = link;
-    }
-    return count > most ? last : NULL;
-}
-
 /* Holds the ports that are too many under a limit, which are marked; answers whether that is done. */
 static bool hold_surplus(struct protocol *protocol, uint16_t most, bool *marked) {
     for (uint16_t aggregator = 1; aggregator <= protocol->aggregator_count; aggregator++)
-        for (struct link *last = surplus_of(protocol->ports, aggregator, most); last; last = surplus_of(protocol->ports, aggregator, most)) {
+        for (struct link *last; (last = last_beyond(protocol->ports, aggregator, most));) {
             if (!is_done(protocol->process, niw_hold(&protocol->own_system, last->settings.number, true), "niw_hold")) return false;
             marked[last->settings.number - 1] = true;
             read_views(protocol);
@@ -83,14 +68,22 @@ void limit_links(struct protocol *protocol, uint16_t most) {
         if (marked[i] && !apply_hold(protocol, (uint16_t)(i + 1))) return;
 }
 
-/* A second passed. One port gives way at most. */
+/* A second passed. One port gives way at most: it leaves its aggregator, and comes back to stand by. What is on its way there leaves it behind a
+ * marker. */
 void pass_revert_second(struct protocol *protocol) {
     if (!protocol->settings->revert || is_halted(protocol->halt)) return;
     read_views(protocol);
     for (uint16_t aggregator = 1; aggregator <= protocol->aggregator_count; aggregator++) {
-        struct link *next = next_of(protocol->ports, aggregator), *last = next ? last_of(protocol->ports, aggregator) : NULL;
-        if (!last || !is_below(next, last) || !is_ready(protocol, next)) continue;
-        give_way(protocol, last, next);
+        struct link *next = next_of(protocol->ports, aggregator), *last = last_beyond(protocol->ports, aggregator, 0);
+        if (!next || !last || identifier_of(next) >= identifier_of(last)) continue;
+        if (!all_distribute(protocol->ports, aggregator) || !is_ready(protocol, next)) continue;
+        if (!is_done(protocol->process, niw_hold(&protocol->own_system, last->settings.number, true), "niw_hold")) return;
+        if (!apply_hold(protocol, last->settings.number)) return;
+        (void)say(protocol->process, LOG_NOTICE | ABOUT_PORT, "port %u %s: it makes way for port %u %s", last->settings.number, last->name,
+            next->settings.number, next->name);
+        protocol->plane->changed = true;
+        send_due(protocol);
+        read_views(protocol);
         return;
     }
 }

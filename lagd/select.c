@@ -20,30 +20,26 @@ static uint64_t number_of(uint16_t priority, const uint8_t *mac) {
     return number;
 }
 
-/* Adds a port that carries in an aggregator to what that is worth. Its identifier is that of the end with the better system, so that both
- * ends put ports into the same order. */
-static void add_port_worth(struct protocol *protocol, const struct link *link, struct worth *worth) {
-    const struct niw_view *view = &link->view;
-    uint64_t own = number_of(protocol->settings->config.priority, protocol->settings->config.mac);
-    uint64_t other = number_of(view->partner_priority, view->partner_mac);
-    bool is_own = view->defaulted || own < other;
-    uint64_t system = is_own ? own : other;
-    uint32_t port = is_own ? (uint32_t)link->settings.priority << 16 | link->settings.number
-                           : (uint32_t)view->partner_port_priority << 16 | view->partner_port;
-    bool is_first = worth->links++ == 0;
-    worth->has_partner = worth->has_partner || !view->defaulted;
-    worth->partner = other;
-    if (link->has_speed && link->speed.megabits != (uint32_t)SPEED_UNKNOWN) worth->megabits += link->speed.megabits;
-    if (!is_first && (system > worth->system || (system == worth->system && port >= worth->port))) return;
-    worth->system = system;
-    worth->port = port;
-}
-
-/* What an aggregator is worth: all 0 where none of its ports carries. */
+/* What an aggregator is worth: all 0 where none of its ports carries. The identifier of a port is that of the end with the better system, so that
+ * both ends put ports into the same order. */
 struct worth worth_of(struct protocol *protocol, uint16_t aggregator) {
+    uint64_t own = number_of(protocol->settings->config.priority, protocol->settings->config.mac);
     struct worth worth = {0};
-    EACH_LINK(link, protocol->ports)
-        if (aggregator != 0 && link->view.aggregator == aggregator && carries(protocol, link)) add_port_worth(protocol, link, &worth);
+    EACH_LINK(link, protocol->ports) {
+        const struct niw_view *view = &link->view;
+        if (aggregator == 0 || view->aggregator != aggregator || !carries(protocol, link)) continue;
+        uint64_t other = number_of(view->partner_priority, view->partner_mac);
+        bool is_own = view->defaulted || own < other;
+        uint64_t system = is_own ? own : other;
+        uint32_t port = is_own ? (uint32_t)link->settings.priority << 16 | link->settings.number
+                               : (uint32_t)view->partner_port_priority << 16 | view->partner_port;
+        worth.has_partner = worth.has_partner || !view->defaulted;
+        worth.partner = other;
+        if (link->has_speed && link->speed.megabits != (uint32_t)SPEED_UNKNOWN) worth.megabits += link->speed.megabits;
+        if (worth.links++ > 0 && (system > worth.system || (system == worth.system && port >= worth.port))) continue;
+        worth.system = system;
+        worth.port = port;
+    }
     return worth;
 }
 
@@ -122,7 +118,6 @@ void follow_peer(struct protocol *protocol, uint16_t aggregator) {
             protocol->settings->name, aggregator, selection_text(protocol->settings->select));
 }
 
-/* Whether the active aggregator is the one in which the peer sends, and not the one that is preferred. */
 bool is_following(const struct select_private *own) {
     return own->followed != 0;
 }

@@ -5,13 +5,11 @@
 #include "team/team.h"
 
 #include <dirent.h>
-#include <limits.h>
 #include <net/if.h>
 #include <poll.h>
 #include <signal.h>
 #include <sys/file.h>
 #include <sys/prctl.h>
-#include <sys/syscall.h>
 
 /* It rises with each change of the file, and of what programs of the kernel share with the daemon. */
 #define FORM_VERSION 3
@@ -26,18 +24,13 @@
 #define COPIED_EVERY 10000
 /* How long a daemon that ends waits for who writes a copy, for the kernel to make who writes the last one, and for that one, in milliseconds. */
 #define MOST_COPYING 500
-/* Of Linux 5.9, and not in older headers. */
-#ifndef SYS_close_range
-#define SYS_close_range 436
-#endif
-/* On older kernels the daemon has fewer files open. */
+/* The daemon has fewer files open. */
 #define MOST_OPENED 4096
 /* A fault of a copy: who writes it waits for the disk. */
 #define HANGS (-ETIME)
 
 struct state {
     struct carry *carry; /* what is saved, as far as it concerns data */
-    struct team_plane *team;
     FILE *file; /* the state that was written last, or NULL */
     int copy_folder, lock; /* state-dir, or -1, and the file by which this bundle has its copy there */
     int copied; /* by which a process tells what became of the copy that it writes, or -1: none does */
@@ -52,10 +45,9 @@ struct state {
     char name[NAME_ROOM + 32], copy_name[NAME_ROOM + 32];
 };
 
-struct state *make_state(struct carry *carry, struct team_plane *team) {
+struct state *make_state(struct carry *carry) {
     struct state *made = make_room(sizeof *made);
     made->carry = carry;
-    made->team = team;
     made->copy_folder = made->lock = made->copied = -1;
     return made;
 }
@@ -78,14 +70,6 @@ static bool is_carrying(const struct link *link) {
     return link->view.port_status == NIW_PORT_STATUS_DISTRIBUTING && !link->view.defaulted && link->lacpdu_at != 0;
 }
 
-static void write_link(FILE *file, const struct link *link) {
-    char mac[32];
-    fprintf(file, "link %d %s %" PRIu32 " %d %" PRIu64 " %" PRIu64 " ", link->index, mac_text(link->mac, mac), link->kernel_losses, is_carrying(link),
-        link->lacpdu_at, link->lacpdus_at[MOST_LACPDUS - 1]);
-    for (size_t i = 0; i < NIW_FRAME; i++) fprintf(file, "%02x", link->lacpdu[i]);
-    fprintf(file, " %u\n", link->view.aggregator);
-}
-
 /* Writes the interface of each conversation: the one that it leaves, while it is held. */
 static void write_conversations(struct state *own, FILE *file) {
     const struct carry *carry = own->carry;
@@ -104,7 +88,7 @@ static void write_state(struct state *own, FILE *file) {
     const struct carry *carry = own->carry;
     struct protocol *protocol = carry->protocol;
     struct niw_marker marker = niw_next_marker(&protocol->own_system);
-    char boot[BOOT_ROOM], room[WAY_ROOM];
+    char boot[BOOT_ROOM], room[WAY_ROOM], mac[32];
     fprintf(file, "lagd %u\nboot %s\nway %s\n", FORM_VERSION, boot_id(boot), way(carry->settings, room));
     fprintf(file, "space %" PRIu64 "\nwritten %" PRIu64 "\n", own->space, boottime());
     if (own->copy_folder >= 0) fprintf(file, "wall %" PRIu64 "\n", milliseconds_of(CLOCK_REALTIME));
@@ -116,8 +100,13 @@ static void write_state(struct state *own, FILE *file) {
             mtu_of_administrator(carry->device), peer_answering(carry->probe));
     EACH_LINK(link, carry->ports)
         if (link->used) fprintf(file, "port %u %d %s\n", link->settings.number, link->socket >= 0 ? link->index : 0, link->name);
-    EACH_LINK(link, carry->ports)
-        if (link->socket >= 0) write_link(file, link);
+    EACH_LINK(link, carry->ports) {
+        if (link->socket < 0) continue;
+        fprintf(file, "link %d %s %" PRIu32 " %d %" PRIu64 " %" PRIu64 " ", link->index, mac_text(link->mac, mac), link->kernel_losses,
+            is_carrying(link), link->lacpdu_at, link->lacpdus_at[MOST_LACPDUS - 1]);
+        for (size_t i = 0; i < NIW_FRAME; i++) fprintf(file, "%02x", link->lacpdu[i]);
+        fprintf(file, " %u\n", link->view.aggregator);
+    }
     write_conversations(own, file);
     fputs("end\n", file);
 }
@@ -203,16 +192,6 @@ struct copied {
     int written, removed;
 };
 
-/* Writes the copy, where some port would go on from it; else there is none. */
-static struct copied write_copy(struct state *own, bool wanted) {
-    remove_new(own);
-    FILE *copy = wanted ? replace_file(own, own->copy_folder, own->copy_name, true) : NULL;
-    int fault = wanted && !copy ? last_fault() : 0;
-    if (!copy) return (struct copied){fault, remove_file(own->copy_folder, own->copy_name, true)};
-    fclose(copy);
-    return (struct copied){0, 0};
-}
-
 /* What is wrong with a copy has a line, of several faults in a row the first one, and so has their end. */
 static void note_copy(struct state *own, struct copied copied) {
     struct process *process = own->carry->process;
@@ -235,29 +214,24 @@ static uint64_t lasting_ports(const struct ports *ports) {
     return found;
 }
 
-/* Closes the files between two. */
-static void close_between(int first, int second) {
-    if (second - first < 2 || syscall(SYS_close_range, first + 1, second - 1, 0) == 0) return;
-    for (int fd = first + 1; fd < second && fd < MOST_OPENED; fd++) close(fd);
-}
-
-/* A process that writes the copy, or removes it. It has nothing else of the daemon, and prints nothing. It ends with the daemon: in a call that
- * hangs on the disk, once that call is over. */
+/* A process that writes the copy, or removes it where no port would go on from it. It has nothing else of the daemon, and prints nothing. It ends
+ * with the daemon: in a call that hangs on the disk, once that call is over. */
 static _Noreturn void run_copier(struct state *own, int told, pid_t daemon) {
-    int first = own->copy_folder < told ? own->copy_folder : told, second = own->copy_folder < told ? told : own->copy_folder;
+    bool wanted = own->copied_ports != 0;
+    struct copied copied = {0, 0};
     sigset_t none;
     if (prctl(PR_SET_PDEATHSIG, SIGKILL) < 0 || getppid() != daemon) _exit(REFUSED);
-    close_between(STDERR_FILENO, first);
-    close_between(first, second);
-    close_between(second, INT_MAX);
+    for (int fd = STDERR_FILENO + 1; fd < MOST_OPENED; fd++)
+        if (fd != own->copy_folder && fd != told) close(fd);
     sigemptyset(&none);
     sigprocmask(SIG_SETMASK, &none, NULL);
-    struct copied copied = write_copy(own, own->copied_ports != 0);
+    remove_new(own);
+    if (wanted && !replace_file(own, own->copy_folder, own->copy_name, true)) copied.written = last_fault();
+    if (!wanted || copied.written < 0) copied.removed = remove_file(own->copy_folder, own->copy_name, true);
     (void)!write(told, &copied, sizeof copied);
     _exit(DONE);
 }
 
-/* Whoever writes a copy is listened to no more. */
 static void leave_copier(struct state *own) {
     if (own->copied >= 0) close(own->copied);
     own->copied = -1;
@@ -277,9 +251,9 @@ static int start_copier(struct state *own) {
     return fault;
 }
 
-/* Why what was to be done last of a copy is not. */
+/* What was to be done last of a copy is not, for this reason. */
 static struct copied fault_of_copy(const struct state *own, int fault) {
-    return own->copied_ports != 0 ? (struct copied){fault, 0} : (struct copied){0, fault};
+    return own->copied_ports != 0 ? (struct copied){.written = fault} : (struct copied){.removed = fault};
 }
 
 /* Sees whether a copy was written. One whose process was killed is there, or is not. */
@@ -396,7 +370,6 @@ static bool read_bundle(struct inherited *inherited, FILE *file) {
     return true;
 }
 
-/* Reads what stands behind the first word of a line. */
 static bool read_line(struct inherited *inherited, const char *word, FILE *file) {
     if (strcmp(word, "space") == 0) return fscanf(file, "%" SCNu64, &inherited->space) == 1;
     if (strcmp(word, "written") == 0) return fscanf(file, "%" SCNu64, &inherited->written) == 1;
@@ -431,20 +404,13 @@ static void keep_interfaces(struct state *own, const char *way) {
     struct inherited *inherited = own->carry->process->inherited, last = *inherited;
     const char *plane = strrchr(way, '/');
     if (plane && strcmp(plane, "/team") == 0)
-        leave_team(own->team, last.tap, last.persists);
+        leave_team(own->carry->plane->team, last.tap, last.persists);
     else if (last.persists)
         end_tap(last.tap);
     *inherited = (struct inherited){.others = true, .link_count = last.link_count, .space = last.space, .written = last.written, .wall = last.wall,
         .marker = last.marker};
     memcpy(inherited->links, last.links, sizeof inherited->links);
     for (unsigned i = 0; i < inherited->link_count; i++) inherited->links[i].carried = false;
-}
-
-/* The port that an interface of the last daemon was, or NULL. */
-static const struct inherited_port *port_of_index(const struct inherited *inherited, int index) {
-    for (unsigned i = 0; index != 0 && i < inherited->port_count; i++)
-        if (inherited->ports[i].index == index) return &inherited->ports[i];
-    return NULL;
 }
 
 /* Of another boot ports have the interfaces of their names, as far as these are there, and times are as old as the clock on the wall has them,
@@ -455,8 +421,9 @@ static const char *bring_over(struct inherited *inherited) {
     if (inherited->wall == 0 || now < inherited->wall) return "it is of another boot, and of later than now";
     inherited->ahead = inherited->written + (age > up ? age : up) - up;
     for (unsigned i = 0; i < inherited->link_count; i++) {
-        const struct inherited_port *port = port_of_index(inherited, inherited->links[i].index);
-        int index = port ? (int)if_nametoindex(port->name) : 0;
+        unsigned port = 0;
+        while (port < inherited->port_count && inherited->ports[port].index != inherited->links[i].index) port++;
+        int index = port < inherited->port_count ? (int)if_nametoindex(inherited->ports[port].name) : 0;
         if (index == 0) continue;
         inherited->links[links] = inherited->links[i];
         inherited->links[links++].index = index;
@@ -497,31 +464,27 @@ static FILE *open_state(int folder, const char *name) {
     return NULL;
 }
 
-/* Takes the copy for this bundle, as long as the program runs: one of another network namespace may have its name. Else errno tells why not. */
-static bool lock_copy(struct state *own) {
-    char name[NAME_ROOM + 40];
-    snprintf(name, sizeof name, "%s.lock", own->copy_name);
-    own->lock = openat(own->copy_folder, name, O_RDONLY | O_NOFOLLOW | O_CLOEXEC);
-    if (own->lock < 0 && errno == ENOENT) own->lock = openat(own->copy_folder, name, O_RDONLY | O_CREAT | O_NOFOLLOW | O_CLOEXEC, 0600);
-    return own->lock >= 0 && flock(own->lock, LOCK_EX | LOCK_NB) == 0;
-}
-
-/* Opens state-dir. A bundle goes on without the copy. */
+/* Opens state-dir, and takes the copy for this bundle as long as the program runs: one of another network namespace may have its name. A bundle
+ * goes on without the copy. */
 static void open_copy_folder(struct state *own) {
     const char *folder = own->carry->settings->state_dir, *fault;
+    char lock[NAME_ROOM + 40];
     if (!folder[0] || own->copy_folder >= 0) return;
     own->copy_folder = try_folder(folder, &fault);
-    if (own->copy_folder >= 0 && !lock_copy(own)) {
-        fault = errno == EWOULDBLOCK ? "another lagd has a bundle of this name there" : strerror(errno);
-        if (own->lock >= 0) close(own->lock);
-        close(own->copy_folder);
-        own->lock = own->copy_folder = -1;
+    if (own->copy_folder >= 0) {
+        snprintf(lock, sizeof lock, "%s.lock", own->copy_name);
+        own->lock = openat(own->copy_folder, lock, O_RDONLY | O_NOFOLLOW | O_CLOEXEC);
+        if (own->lock < 0 && errno == ENOENT) own->lock = openat(own->copy_folder, lock, O_RDONLY | O_CREAT | O_NOFOLLOW | O_CLOEXEC, 0600);
+        own->has_copy = own->lock >= 0 && flock(own->lock, LOCK_EX | LOCK_NB) == 0;
     }
-    own->has_copy = own->copy_folder >= 0;
     own->copied_ports = UINT64_MAX;
-    if (own->copy_folder < 0)
-        (void)say(own->carry->process, LOG_WARNING | ABOUT_HANDOVER, "no state is kept in %s, so a start after a reboot begins anew: %s", folder,
-            fault ? fault : strerror(errno));
+    if (own->has_copy) return;
+    if (own->copy_folder >= 0) fault = errno == EWOULDBLOCK ? "another lagd has a bundle of this name there" : strerror(errno);
+    (void)say(own->carry->process, LOG_WARNING | ABOUT_HANDOVER, "no state is kept in %s, so a start after a reboot begins anew: %s", folder,
+        fault ? fault : strerror(errno));
+    if (own->lock >= 0) close(own->lock);
+    if (own->copy_folder >= 0) close(own->copy_folder);
+    own->lock = own->copy_folder = -1;
 }
 
 /* Reads what the last daemon left. What counts for nothing has a line, and the daemon starts anew. */

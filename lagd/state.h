@@ -50,10 +50,9 @@ struct inherited {
 
 struct carry;
 struct state;
-struct team_plane;
 
 /* state.c */
-struct state *make_state(struct carry *carry, struct team_plane *team);
+struct state *make_state(struct carry *carry);
 void recall_state(struct state *own);
 bool save_state(struct state *own, bool leaves);
 void keep_port(struct state *own, uint16_t number, uint16_t port);

@@ -27,20 +27,16 @@ struct store_private {
         int taken; /* the same, once it is taken, until the manager keeps it no more; else -1 */
     } stored[MOST_FILES];
     size_t count;
-    bool stays; /* whether the next daemon gets what is there */
 };
 
 MAKES_ROOM(store)
 
-/* Each file that the last daemon left. */
 #define EACH_STORED(it, of) for (struct stored *it = (of)->stored; it < (of)->stored + (of)->count; it++)
 
-/* Tells the manager what the daemon does. */
 void notify(const char *what UNUSED) {
     (void)sd_notify(0, what);
 }
 
-/* And how the bundle is now. */
 void notify_bundle(const struct bundle *bundle UNUSED, const char *what UNUSED) {
     (void)sd_notifyf(0, "%sSTATUS=%s, %u of %u links carry", what, bundle_state_text(bundle->state), bundle->carrying, bundle->links);
 }
@@ -78,30 +74,33 @@ void drop_stored(struct store_private *own, const char *kind, int number) {
     if (has_store()) tell_store("FDSTOREREMOVE", name, -1);
 }
 
-/* Takes a file that the last daemon left; or -1. */
-int claim_stored(struct store_private *own, const char *kind, int number) {
+/* A file that the last daemon left, and that is taken, or not; or NULL. */
+static struct stored *find_stored(struct store_private *own, const char *kind, int number, bool taken) {
     char name[NAME_OF_FILE];
     name_stored(kind, number, name);
-    EACH_STORED(it, own) {
-        if (it->fd < 0 || strcmp(it->name, name) != 0) continue;
-        it->taken = it->fd;
-        it->fd = -1;
-        return it->taken;
-    }
-    return -1;
+    EACH_STORED(it, own)
+        if ((it->fd < 0) == taken && strcmp(it->name, name) == 0) return it;
+    return NULL;
+}
+
+/* Takes a file that the last daemon left; or -1. */
+int claim_stored(struct store_private *own, const char *kind, int number) {
+    struct stored *found = find_stored(own, kind, number, false);
+    if (!found) return -1;
+    found->taken = found->fd;
+    found->fd = -1;
+    return found->taken;
 }
 
 /* Gives back what was taken, for who takes it next. The manager closes what it is to keep no more a moment later, and a lock is held until then. */
 void return_stored(struct store_private *own, const char *kind, int number, int fd) {
-    char name[NAME_OF_FILE];
-    name_stored(kind, number, name);
-    EACH_STORED(it, own) {
-        if (it->fd >= 0 || strcmp(it->name, name) != 0) continue;
-        it->fd = fd;
-        it->taken = -1;
+    struct stored *found = find_stored(own, kind, number, true);
+    if (!found) {
+        close(fd);
         return;
     }
-    close(fd);
+    found->fd = fd;
+    found->taken = -1;
 }
 
 /* Whether a file keeps a program that one in use keeps, too: the manager may hand over the same file twice. */
@@ -125,15 +124,11 @@ void drop_unclaimed(struct store_private *own) {
     }
 }
 
-void leave_store(struct store_private *own) {
-    own->stays = true;
-}
-
 /* The program ends, by whatever it is refused: nothing goes on without it, as the carrier of its device. */
 static void empty_store(void *given) {
-    struct store_private *own = given;
-    if (own->stays) return;
-    EACH_STORED(it, own) tell_store("FDSTOREREMOVE", it->name, -1);
+    const struct process *process = given;
+    if (process->has_left) return;
+    EACH_STORED(it, process->store) tell_store("FDSTOREREMOVE", it->name, -1);
 }
 
 void open_store(struct process *process) {
@@ -141,19 +136,20 @@ void open_store(struct process *process) {
     char **names = NULL;
     int found = sd_listen_fds_with_names(1, &names);
     for (int i = 0; i < found; i++) {
+        int fd = SD_LISTEN_FDS_START + i;
         struct stored *stored = &own->stored[own->count];
         if (own->count == MOST_FILES) {
-            close(SD_LISTEN_FDS_START + i);
+            close(fd);
         } else {
             own->count++;
-            stored->fd = SD_LISTEN_FDS_START + i;
+            stored->fd = fd;
             stored->taken = -1;
             snprintf(stored->name, sizeof stored->name, "%s", names[i]);
         }
         free(names[i]);
     }
     free(names);
-    call_at_exit(process, empty_store, own);
+    call_at_exit(process, empty_store, process);
 }
 
 /* Closes a file that the manager keeps, too, and leaves errno as it is. */

@@ -196,7 +196,7 @@ void close_guard(struct tap_plane *tap, const struct link *link, struct guard *g
     if (before->joins != 0) done = (before->joins & ~read_joins(link->index).wanted) == 0 && done;
     drop_fifo(link->index); /* with all its queues the kernel gives each of them what it chooses */
     if (before->steered[0]) done = steer_back(link->index, before->steered) && done;
-    if (done) forget_settings(tap->process->folder, link);
+    if (done) drop_kept(tap->process->folder, link, "member");
 }
 
 /* An interface was a member of the last daemon, and is none of this one: it gets what it had, unless somebody else has it by now. */

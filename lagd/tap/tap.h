@@ -68,7 +68,6 @@ void drop_kept(int folder, const struct link *link, const char *kind);
 void write_settings(struct process *process, const struct link *link, const struct kept *kept);
 void keep_settings(struct process *process, const struct link *link, struct kept *kept);
 void recall_settings(int folder, const struct link *link, struct kept *kept);
-void forget_settings(int folder, const struct link *link);
 
 /* host.c */
 void lose_device(struct plane *plane);

@@ -9,20 +9,16 @@
 #define MODE "loadbalance"
 /* The mode of a device that has none yet. */
 #define NO_MODE "*NOMODE*"
-/* How often the driver counts what each bucket has sent, in its unit of 100 ms. */
-#define COUNTED_EVERY 1
+#define METHOD "hash_to_port_mapping"
 /* How often a name is tried that the TAP device of the last daemon has still, each 100 ms. */
 #define MOST_TRIES 10
 
-bool is_team_port(const struct team_plane *team, uint16_t port) {
-    return team->taken[port - 1];
-}
-
 /* Whether the driver takes the mode: at a device of its own, which stays. */
-bool has_team_mode(const struct team_netlink_private *own) {
+bool has_team_mode(const struct team_plane *team) {
     static const uint8_t mac[ETH_ALEN] = {2, 0, 0, 0, 0, 1};
     struct interface device;
-    return make_team_device("team0", mac, ETH_DATA_LEN) && ask_interface(0, "team0", &device) && set_team_text(own, device.index, "mode", MODE);
+    return make_team_device("team0", mac, ETH_DATA_LEN) && ask_interface(0, "team0", &device)
+        && set_option(team, device.index, "mode", TYPE_STRING, MODE, sizeof MODE);
 }
 
 /* The lowest MTU of the interfaces that are there: the driver gives its ports that of the device. */
@@ -69,7 +65,7 @@ static void adopt_device(struct team_plane *team, const struct interface *device
     if (strcmp(device->kind, TEAM_KIND) != 0)
         stop(REFUSED, team->settings->carry, "an interface of this name is there, and is no team device");
     lock_device(team, device->index);
-    need(read_team(team->team_netlink, device->index, &now), team->settings->carry);
+    need(read_team(team, device->index, &now), team->settings->carry);
     if (strcmp(now.mode, MODE) != 0 && strcmp(now.mode, NO_MODE) != 0)
         stop(REFUSED, team->settings->carry, "a team device of another mode is there");
     if (!team->settings->follow && !has_own_ports(team->settings, &now) && !known)
@@ -95,21 +91,22 @@ static bool find_device(struct process *process, const char *name, struct interf
 
 /* Has the driver spread frames over buckets, and tell what each of them sent. */
 static void configure_driver(struct team_plane *team, const char *mode_now) {
+    const uint32_t counted_every = 1; /* what each bucket has sent, in units of 100 ms */
     struct sock_filter steps[MOST_HASH_STEPS];
     int index = tap_index(team->device);
-    need(strcmp(mode_now, MODE) == 0 || set_team_text(team->team_netlink, index, "mode", MODE), "team: mode " MODE);
-    need(set_team_hash(team->team_netlink, index, steps, make_team_hash(team->settings, steps)), "team: bpf_hash_func");
-    need(set_team_text(team->team_netlink, index, "lb_tx_method", "hash_to_port_mapping"), "team: lb_tx_method");
-    need(set_team_number(team->team_netlink, index, "lb_stats_refresh_interval", COUNTED_EVERY), "team: lb_stats_refresh_interval");
+    size_t octets = make_team_hash(team->settings, steps) * sizeof *steps;
+    need(strcmp(mode_now, MODE) == 0 || set_option(team, index, "mode", TYPE_STRING, MODE, sizeof MODE), "team: mode " MODE);
+    need(set_option(team, index, "bpf_hash_func", TYPE_BINARY, steps, octets), "team: bpf_hash_func");
+    need(set_option(team, index, "lb_tx_method", TYPE_STRING, METHOD, sizeof METHOD), "team: lb_tx_method");
+    need(set_option(team, index, "lb_stats_refresh_interval", TYPE_U32, &counted_every, sizeof counted_every), "team: lb_stats_refresh_interval");
 }
 
 /* Gives a port the address of the device: frames to that would be of another host for the network stack. The driver puts back what it had. Some
  * cards take an address only while they are down; one that takes none even then is up again. Answers 0, or -errno. */
 static int give_address(int index, const uint8_t *mac) {
+    if (set_address(index, mac)) return 0;
+    if (last_fault() != -EBUSY || !set_interface_up(index, false)) return last_fault();
     int fault = set_address(index, mac) ? 0 : last_fault();
-    if (fault != -EBUSY) return fault;
-    if (!set_interface_up(index, false)) return last_fault();
-    fault = set_address(index, mac) ? 0 : last_fault();
     if (!set_interface_up(index, true) && fault == 0) fault = last_fault();
     return fault;
 }
@@ -139,11 +136,9 @@ void leave_team_port(struct team_plane *team, int index) {
 }
 
 /* Makes an interface a new port of the device, which takes it while it is down, and passes no data on it until it is told to: the driver would
- * at once. Answers 0, or -errno. */
-static int make_port(struct team_plane *team, int index, bool up) {
-    bool done = (!up || set_interface_up(index, false)) && set_master(index, tap_index(team->device))
-        && set_port_enabled(team->team_netlink, tap_index(team->device), index, false);
-    return done ? 0 : last_fault();
+ * at once. */
+static bool make_port(struct team_plane *team, int index, bool up) {
+    return (!up || set_interface_up(index, false)) && set_master(index, tap_index(team->device)) && set_port_enabled(team, index, false);
 }
 
 /* Makes an interface a port of the device; answers 0, or -errno. One that belongs to another device stays there. */
@@ -155,7 +150,7 @@ int open_team_port(struct plane *plane, struct link *link) {
     if (!ask_interface(link->index, NULL, &port) || !read_tap_mac(team->device, mac)) return last_fault();
     bool up = (port.flags & IFF_UP) != 0;
     if (port.master != tap_index(team->device) && (port.master != 0 || !may_put_in(team->protocol, link))) return -EBUSY;
-    if (port.master == 0) fault = make_port(team, link->index, up);
+    if (port.master == 0 && !make_port(team, link->index, up)) fault = last_fault();
     if (fault == 0 && memcmp(port.mac, mac, sizeof mac) != 0) fault = give_address(link->index, mac);
     team->taken[link - team->ports->links] = fault == 0;
     forget_port(team, link->settings.number);
@@ -197,7 +192,7 @@ static void free_inherited_ports(const struct inherited *inherited, int index) {
  * all stays as it is. */
 void leave_team(struct team_plane *team, int index, bool with_device) {
     struct interface device;
-    if (!find_team_driver(team->team_netlink) || !ask_interface(index, NULL, &device) || strcmp(device.kind, TEAM_KIND) != 0) return;
+    if (!find_team_driver(team) || !ask_interface(index, NULL, &device) || strcmp(device.kind, TEAM_KIND) != 0) return;
     int held = lock_interface(team->process, index);
     if (held < 0) return;
     free_inherited_ports(team->process->inherited, index);
@@ -224,7 +219,7 @@ void open_team(struct plane *plane) {
     const uint8_t *mac = team->settings->config.mac;
     struct interface device;
     struct team_now now;
-    need(find_team_driver(team->team_netlink), "plane=team: this kernel has no team driver");
+    need(find_team_driver(team), "plane=team: this kernel has no team driver");
     call_at_exit(team->process, end_team, team);
     team->opened = true;
     if (find_device(team->process, name, &device)) {
@@ -235,13 +230,9 @@ void open_team(struct plane *plane) {
         plane->made_device = plane->is_new = true;
         use_team_device(team->device, device.index);
     }
-    need(read_team(team->team_netlink, tap_index(team->device), &now), "team");
+    need(read_team(team, tap_index(team->device), &now), "team");
     configure_driver(team, now.mode);
     start_buckets(team);
-}
-
-bool give_team_carrier(struct plane *plane, bool on) {
-    return set_device_carrier(tap_index(plane->carry->device), on);
 }
 
 void end_team_plane(struct plane *plane) {
@@ -249,21 +240,4 @@ void end_team_plane(struct plane *plane) {
     set_carrier(team->device, false);
     remove_all_members(team->protocol);
     end_team(team);
-}
-
-/* After calls that may have changed something: the active aggregator, and by which ports buckets go. */
-void settle_team(struct plane *plane) {
-    struct team_plane *team = plane->team;
-    uint16_t before = team->carry->active;
-    choose_ports(plane);
-    settle_buckets(team);
-    if (team->carry->active != before) forget_heard(team->carry); /* until now frames came by the ports of the last one */
-}
-
-void pass_tick_of_team(struct plane *plane) {
-    struct team_plane *team = plane->team;
-    begin_carry_tick(team->carry);
-    pass_bucket_tick(team);
-    note_heard(team->carry);
-    end_carry_tick(team->carry);
 }

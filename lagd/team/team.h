@@ -21,46 +21,56 @@ struct team_now {
     bool enabled[MOST_TEAM_PORTS];
 };
 
-#define EACH_FILE_OF_TEAM(DO) DO(buckets, buckets) DO(team_netlink, team_netlink)
+struct bucket {
+    uint16_t port;     /* by which its frames go, or 0: not known */
+    uint64_t octets;   /* that it has sent, as the driver told last */
+    uint64_t moved_at; /* the time at which it had sent others than before */
+};
+
 struct team_plane {
     PARTS
     struct carry *carry;
+    uint16_t family; /* the number of the driver in generic netlink, or 0 */
     bool opened;
     bool taken[NIW_MOST_PORTS]; /* whether the interface of a port is a port of the device */
     int lock, locked; /* by which no other lagd has the device, whatever members are there; and its index */
-    EACH_FILE_OF_TEAM(KEEPS)
+    struct bucket buckets[CONVERSATIONS];
+    enum { UNKNOWN, PASSES, PASSES_NOT } passes[NIW_MOST_PORTS]; /* what the driver has for a port */
+    int members_at_start[CONVERSATIONS]; /* the interface of each bucket, as the last daemon left it */
+    uint16_t previous; /* the aggregator that was active before, or 0 */
+    uint64_t frames_received; /* by the device */
+    /* The driver counts now and then: so many octets the device had sent at a time, and once the buckets have as many, all is counted up to then. */
+    uint64_t to_count, to_count_at, counted_until, looked_at;
+    uint64_t without_bucket; /* octets that went by none */
+    unsigned shortages, unseen; /* in turn */
 };
-EACH_FILE_OF_TEAM(MAKES)
+
+/* The types of options that are of use here, as include/net/netlink.h of the kernel has them; no header for programs does. */
+enum option_type { TYPE_U32 = 3, TYPE_STRING = 5, TYPE_FLAG = 6, TYPE_BINARY = 11 };
 
 /* team_netlink.c */
-bool find_team_driver(struct team_netlink_private *own);
+bool find_team_driver(struct team_plane *team);
 bool make_team_device(const char *name, const uint8_t *mac, uint32_t mtu);
 bool remove_device(int index);
 bool set_interface_up(int index, bool up);
 bool set_master(int index, int master);
 bool set_address(int index, const uint8_t *mac);
-bool set_device_carrier(int index, bool on);
-bool set_team_text(const struct team_netlink_private *own, int index, const char *name, const char *text);
-bool set_team_number(const struct team_netlink_private *own, int index, const char *name, uint32_t number);
-bool set_team_hash(const struct team_netlink_private *own, int index, const struct sock_filter *steps, size_t count);
-bool set_port_enabled(const struct team_netlink_private *own, int index, int port, bool enabled);
-bool set_bucket(const struct team_netlink_private *own, int index, uint16_t bucket, int port);
-bool read_team(struct team_netlink_private *own, int index, struct team_now *now);
+bool give_team_carrier(struct plane *plane, bool on);
+bool set_option(const struct team_plane *team, int index, const char *name, enum option_type type, const void *value, size_t length);
+bool set_port_enabled(const struct team_plane *team, int port, bool enabled);
+bool set_bucket(const struct team_plane *team, uint16_t bucket, int port);
+bool read_team(const struct team_plane *team, int index, struct team_now *now);
 
 /* team_hash.c */
 #define MOST_HASH_STEPS 256
 size_t make_team_hash(const struct settings *settings, struct sock_filter steps[static MOST_HASH_STEPS]);
 
 /* team.c */
-bool has_team_mode(const struct team_netlink_private *own);
+bool has_team_mode(const struct team_plane *team);
 void open_team(struct plane *plane);
 void end_team_plane(struct plane *plane);
-bool give_team_carrier(struct plane *plane, bool on);
-void settle_team(struct plane *plane);
-void pass_tick_of_team(struct plane *plane);
 int open_team_port(struct plane *plane, struct link *link);
 void close_team_port(struct plane *plane, struct link *link);
-bool is_team_port(const struct team_plane *own, uint16_t port);
 bool is_still_team_port(struct plane *plane, const struct link *link, int master);
 void give_team_addresses(struct team_plane *team);
 void leave_team(struct team_plane *team, int index, bool with_device);
@@ -68,11 +78,11 @@ void leave_team_port(struct team_plane *team, int index);
 
 /* buckets.c */
 void start_buckets(struct team_plane *team);
-void settle_buckets(struct team_plane *team);
-void pass_bucket_tick(struct team_plane *team);
+void settle_team(struct plane *plane);
+void pass_tick_of_team(struct plane *plane);
 void forget_port(struct team_plane *team, uint16_t port);
 int bucket_member_of(struct plane *plane, uint16_t number);
 uint64_t team_frames_received(struct plane *plane, bool looks);
-unsigned count_waiting_buckets(struct team_plane *team);
+unsigned count_waiting_buckets(const struct team_plane *team);
 
 #endif

@@ -25,7 +25,10 @@ enum { HASH, SKIPPED, PORTS, PROTOCOL, IS_IP, VLAN_FOUND };
 static const struct sock_filter BY_MACS[] = {
     LOAD(BPF_B, ETH_ALEN - 1), BPF_STMT(BPF_MISC | BPF_TAX, 0), LOAD(BPF_B, 2 * ETH_ALEN - 1), COUNT_X(BPF_XOR), BPF_STMT(BPF_RET | BPF_A, 0)};
 
-static const struct sock_filter CLEAR[] = {NUMBER(0), KEEP(SKIPPED), KEEP(PORTS), KEEP(PROTOCOL), KEEP(IS_IP), KEEP(VLAN_FOUND)};
+/* The first step has the number with which the hash begins. */
+static const struct sock_filter BEGIN[] = {
+    NUMBER(HASH_START), KEEP(HASH), NUMBER(0), KEEP(SKIPPED), KEEP(PORTS), KEEP(PROTOCOL), KEEP(IS_IP), KEEP(VLAN_FOUND)};
+static const struct sock_filter END[] = {RECALL(HASH), BPF_STMT(BPF_RET | BPF_A, 0)};
 
 /* X has the octets of the tags that stand in the frame. One that the kernel keeps beside the frame is not among them. */
 #define SKIP_TAG LOAD_BEHIND(BPF_H, ETH_HLEN - 2), IF_IS(ETH_P_8021Q, 1, 0), IF_IS(ETH_P_8021AD, 0, 3), BPF_STMT(BPF_MISC | BPF_TXA, 0), \
@@ -67,33 +70,24 @@ static const struct sock_filter ADD_VLAN_AND_SOURCE[] = {
     LOAD(BPF_H, (uint32_t)(SKF_AD_OFF + SKF_AD_VLAN_TAG)), COUNT(BPF_AND, VLAN), KEEP(VLAN_FOUND),
     LOAD(BPF_H, SOURCE), COUNT(BPF_LSH, 16), RECALL_X(VLAN_FOUND), COUNT_X(BPF_OR), ADD_WORD, LOAD(BPF_W, SOURCE + 2), ADD_WORD};
 
-/* Puts steps behind those that are there. */
-#define ADD(steps, count, part) append(steps, &(count), part, sizeof part / sizeof *part)
-static void append(struct sock_filter *steps, size_t *count, const struct sock_filter *part, size_t more) {
-    memcpy(steps + *count, part, more * sizeof *part);
-    *count += more;
-}
+/* The parts of which the program of each hash is made. No other hash goes with the team driver. */
+#define PART(steps) {steps, sizeof steps}
+static const struct part {
+    const struct sock_filter *steps;
+    size_t octets;
+} PROGRAMS[][9] = {
+    [HASH_LAYER2] = {PART(BY_MACS)},
+    [HASH_LAYER2_3] = {PART(BEGIN), PART(FIND_HEADER), PART(ADD_IPV4), PART(ADD_IPV6), PART(ADD_MACS), PART(END)},
+    [HASH_LAYER3_4] = {PART(BEGIN), PART(FIND_HEADER), PART(ADD_IPV4), PART(ADD_IPV6), PART(UNLESS_IP), PART(ADD_MACS), PART(ADD_PORTS), PART(END)},
+    [HASH_VLAN_SRCMAC] = {PART(BEGIN), PART(ADD_VLAN_AND_SOURCE), PART(END)},
+};
 
 size_t make_team_hash(const struct settings *settings, struct sock_filter steps[static MOST_HASH_STEPS]) {
-    const struct sock_filter begin[] = {NUMBER(HASH_START ^ settings->hash_seed), KEEP(HASH)};
-    static const struct sock_filter end[] = {RECALL(HASH), BPF_STMT(BPF_RET | BPF_A, 0)};
     size_t count = 0;
-    if (settings->hash == HASH_LAYER2) {
-        ADD(steps, count, BY_MACS);
-        return count;
+    for (const struct part *part = PROGRAMS[settings->hash]; part->steps; part++) {
+        memcpy(steps + count, part->steps, part->octets);
+        count += part->octets / sizeof *steps;
     }
-    ADD(steps, count, CLEAR);
-    ADD(steps, count, begin);
-    if (settings->hash == HASH_VLAN_SRCMAC) {
-        ADD(steps, count, ADD_VLAN_AND_SOURCE);
-    } else {
-        ADD(steps, count, FIND_HEADER);
-        ADD(steps, count, ADD_IPV4);
-        ADD(steps, count, ADD_IPV6);
-        if (settings->hash == HASH_LAYER3_4) ADD(steps, count, UNLESS_IP);
-        ADD(steps, count, ADD_MACS);
-        if (settings->hash == HASH_LAYER3_4) ADD(steps, count, ADD_PORTS);
-    }
-    ADD(steps, count, end);
+    if (settings->hash != HASH_LAYER2) steps[0].k ^= settings->hash_seed;
     return count;
 }

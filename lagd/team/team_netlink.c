@@ -8,31 +8,22 @@
 #include <linux/rtnetlink.h>
 #include <net/if.h>
 
-/* The types of options that are of use here, as include/net/netlink.h of the kernel has them; no header for programs does. */
-enum { TYPE_U32 = 3, TYPE_STRING = 5, TYPE_FLAG = 6, TYPE_BINARY = 11 };
-
-struct team_netlink_private {
-    uint16_t family; /* the number of the team driver in generic netlink */
-};
-
-MAKES_ROOM(team_netlink)
-
 static void read_family(const struct nlmsghdr *message, void *into) {
     (void)copy_value(attribute_of(message, sizeof(struct genlmsghdr), CTRL_ATTR_FAMILY_ID), into, sizeof(uint16_t));
 }
 
-static bool find_family(struct team_netlink_private *own) {
+static bool find_family(struct team_plane *team) {
     struct genlmsghdr about = {.cmd = CTRL_CMD_GETFAMILY, .version = 1};
     union message question = message_of(GENL_ID_CTRL, NLM_F_ACK, &about, sizeof about);
     mnl_attr_put_strz(&question.head, CTRL_ATTR_FAMILY_NAME, TEAM_GENL_NAME);
-    return ask_netlink(NETLINK_GENERIC, &question, read_family, &own->family) && own->family != 0;
+    return ask_netlink(NETLINK_GENERIC, &question, read_family, &team->family) && team->family != 0;
 }
 
 /* Finds the driver; answers whether this kernel has one, and else errno tells why not. The kernel loads it for who may ask for a device: with
  * an address that none may have there is none, and by a name that it is to complete none is taken. */
-bool find_team_driver(struct team_netlink_private *own) {
+bool find_team_driver(struct team_plane *team) {
     static const uint8_t no_address[ETH_ALEN];
-    return find_family(own) || (!make_team_device("team%d", no_address, ETH_DATA_LEN) && errno == EADDRNOTAVAIL && find_family(own));
+    return find_family(team) || (!make_team_device("team%d", no_address, ETH_DATA_LEN) && errno == EADDRNOTAVAIL && find_family(team));
 }
 
 bool make_team_device(const char *name, const uint8_t *mac, uint32_t mtu) {
@@ -71,13 +62,13 @@ bool set_address(int index, const uint8_t *mac) {
     return set_attribute(index, IFLA_ADDRESS, mac, ETH_ALEN);
 }
 
-bool set_device_carrier(int index, bool on) {
-    return set_attribute(index, IFLA_CARRIER, &(uint8_t){on}, 1);
+bool give_team_carrier(struct plane *plane, bool on) {
+    return set_attribute(tap_index(plane->device), IFLA_CARRIER, &(uint8_t){on}, 1);
 }
 
-static union message message_of_team(const struct team_netlink_private *own, uint8_t command, unsigned flags, int index) {
+static union message message_of_team(const struct team_plane *team, uint8_t command, unsigned flags, int index) {
     struct genlmsghdr about = {.cmd = command, .version = TEAM_GENL_VERSION};
-    union message message = message_of(own->family, flags, &about, sizeof about);
+    union message message = message_of(team->family, flags, &about, sizeof about);
     mnl_attr_put_u32(&message.head, TEAM_ATTR_TEAM_IFINDEX, (uint32_t)index);
     return message;
 }
@@ -89,13 +80,13 @@ struct place {
 };
 
 /* Sets an option. The kernel tells who listens to changes; that nobody does is an error for it, though the option is set. */
-static bool set_option(const struct team_netlink_private *own, int index, const char *name, struct place place, uint8_t type, const void *value,
+static bool set_option_at(const struct team_plane *team, int index, const char *name, struct place place, enum option_type type, const void *value,
     size_t length) {
-    union message wanted = message_of_team(own, TEAM_CMD_OPTIONS_SET, NLM_F_ACK, index);
+    union message wanted = message_of_team(team, TEAM_CMD_OPTIONS_SET, NLM_F_ACK, index);
     struct nlattr *list = mnl_attr_nest_start(&wanted.head, TEAM_ATTR_LIST_OPTION);
     struct nlattr *item = mnl_attr_nest_start(&wanted.head, TEAM_ATTR_ITEM_OPTION);
     mnl_attr_put_strz(&wanted.head, TEAM_ATTR_OPTION_NAME, name);
-    mnl_attr_put_u8(&wanted.head, TEAM_ATTR_OPTION_TYPE, type);
+    mnl_attr_put_u8(&wanted.head, TEAM_ATTR_OPTION_TYPE, (uint8_t)type);
     if (value) mnl_attr_put(&wanted.head, TEAM_ATTR_OPTION_DATA, length, value);
     if (place.port != 0) mnl_attr_put_u32(&wanted.head, TEAM_ATTR_OPTION_PORT_IFINDEX, (uint32_t)place.port);
     if (place.number >= 0) mnl_attr_put_u32(&wanted.head, TEAM_ATTR_OPTION_ARRAY_INDEX, (uint32_t)place.number);
@@ -104,78 +95,47 @@ static bool set_option(const struct team_netlink_private *own, int index, const 
     return ask_netlink(NETLINK_GENERIC, &wanted, NULL, NULL) || errno == ESRCH;
 }
 
-bool set_team_text(const struct team_netlink_private *own, int index, const char *name, const char *text) {
-    return set_option(own, index, name, (struct place){0, -1}, TYPE_STRING, text, strlen(text) + 1);
+bool set_option(const struct team_plane *team, int index, const char *name, enum option_type type, const void *value, size_t length) {
+    return set_option_at(team, index, name, (struct place){0, -1}, type, value, length);
 }
 
-bool set_team_number(const struct team_netlink_private *own, int index, const char *name, uint32_t number) {
-    return set_option(own, index, name, (struct place){0, -1}, TYPE_U32, &number, sizeof number);
+bool set_port_enabled(const struct team_plane *team, int port, bool enabled) {
+    return set_option_at(team, tap_index(team->device), "enabled", (struct place){port, -1}, TYPE_FLAG, enabled ? "" : NULL, 0);
 }
 
-/* The program by which the driver finds the bucket of a frame. */
-bool set_team_hash(const struct team_netlink_private *own, int index, const struct sock_filter *steps, size_t count) {
-    return set_option(own, index, "bpf_hash_func", (struct place){0, -1}, TYPE_BINARY, steps, count * sizeof *steps);
+bool set_bucket(const struct team_plane *team, uint16_t bucket, int port) {
+    return set_option_at(team, tap_index(team->device), "lb_tx_hash_to_port_mapping", (struct place){0, bucket}, TYPE_U32, &port, sizeof port);
 }
 
-bool set_port_enabled(const struct team_netlink_private *own, int index, int port, bool enabled) {
-    return set_option(own, index, "enabled", (struct place){port, -1}, TYPE_FLAG, enabled ? "" : NULL, 0);
-}
-
-/* The frames of a bucket go by a port from now on. */
-bool set_bucket(const struct team_netlink_private *own, int index, uint16_t bucket, int port) {
-    uint32_t value = (uint32_t)port;
-    return set_option(own, index, "lb_tx_hash_to_port_mapping", (struct place){0, bucket}, TYPE_U32, &value, sizeof value);
-}
-
-/* One option: a name, and what it has. A flag that is not set has no value. */
-struct option {
-    char name[TEAM_STRING_MAX_LEN];
-    const struct nlattr *value;
-    struct place place;
-};
-
-static struct option option_of(const struct nlattr *item) {
-    struct option option = {.place = {0, -1}};
-    EACH_NESTED(part, item) {
-        switch (mnl_attr_get_type(part)) {
-        case TEAM_ATTR_OPTION_NAME: copy_text(part, option.name, sizeof option.name); break;
-        case TEAM_ATTR_OPTION_DATA: option.value = part; break;
-        case TEAM_ATTR_OPTION_PORT_IFINDEX: (void)copy_value(part, &option.place.port, sizeof option.place.port); break;
-        case TEAM_ATTR_OPTION_ARRAY_INDEX: (void)copy_value(part, &option.place.number, sizeof option.place.number); break;
-        default: break;
-        }
+/* Notes an option. A flag that is not set has no value. */
+static void note_option(struct team_now *now, const struct nlattr *item) {
+    const struct nlattr *parts[TEAM_ATTR_OPTION_MAX + 1] = {NULL};
+    int port = 0, number = -1;
+    EACH_NESTED(part, item)
+        if (mnl_attr_get_type(part) <= TEAM_ATTR_OPTION_MAX) parts[mnl_attr_get_type(part)] = part;
+    const struct nlattr *name = parts[TEAM_ATTR_OPTION_NAME], *value = parts[TEAM_ATTR_OPTION_DATA];
+    (void)copy_value(parts[TEAM_ATTR_OPTION_PORT_IFINDEX], &port, sizeof port);
+    (void)copy_value(parts[TEAM_ATTR_OPTION_ARRAY_INDEX], &number, sizeof number);
+    if (is_text(name, "enabled") && port != 0 && now->port_count < MOST_TEAM_PORTS) {
+        now->ports[now->port_count] = port;
+        now->enabled[now->port_count++] = value != NULL;
     }
-    return option;
-}
-
-static void note_port(struct team_now *now, const struct option *option) {
-    if (now->port_count == MOST_TEAM_PORTS) return;
-    now->ports[now->port_count] = option->place.port;
-    now->enabled[now->port_count++] = option->value != NULL;
-}
-
-static void note_option(struct team_now *now, const struct option *option) {
-    int number = option->place.number;
-    if (strcmp(option->name, "enabled") == 0 && option->place.port != 0) note_port(now, option);
-    if (!option->value) return;
-    if (strcmp(option->name, "mode") == 0) copy_text(option->value, now->mode, sizeof now->mode);
+    if (!value) return;
+    if (is_text(name, "mode")) copy_text(value, now->mode, sizeof now->mode);
     if (number < 0 || number >= CONVERSATIONS) return;
-    if (strcmp(option->name, "lb_tx_hash_to_port_mapping") == 0)
-        (void)copy_value(option->value, &now->members[number], sizeof now->members[number]);
-    if (strcmp(option->name, "lb_hash_stats") == 0) (void)copy_value(option->value, &now->octets[number], sizeof now->octets[number]);
+    if (is_text(name, "lb_tx_hash_to_port_mapping")) (void)copy_value(value, &now->members[number], sizeof now->members[number]);
+    if (is_text(name, "lb_hash_stats")) (void)copy_value(value, &now->octets[number], sizeof now->octets[number]);
 }
 
 static void parse_team(const struct nlmsghdr *message, void *into) {
     const struct nlattr *list = attribute_of(message, sizeof(struct genlmsghdr), TEAM_ATTR_LIST_OPTION);
     if (!list) return;
-    EACH_NESTED(item, list) {
-        struct option option = option_of(item);
-        if (mnl_attr_get_type(item) == TEAM_ATTR_ITEM_OPTION) note_option(into, &option);
-    }
+    EACH_NESTED(item, list)
+        if (mnl_attr_get_type(item) == TEAM_ATTR_ITEM_OPTION) note_option(into, item);
 }
 
-bool read_team(struct team_netlink_private *own, int index, struct team_now *now) {
-    union message question = message_of_team(own, TEAM_CMD_OPTIONS_GET, 0, index);
+bool read_team(const struct team_plane *team, int index, struct team_now *now) {
+    union message question = message_of_team(team, TEAM_CMD_OPTIONS_GET, 0, index);
     *now = (struct team_now){0};
     return ask_netlink(NETLINK_GENERIC, &question, parse_team, now);
 }

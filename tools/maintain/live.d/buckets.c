@@ -37,7 +37,6 @@ static uint64_t last_sent[CONVERSATIONS], all_sent, counted_at;
 static uint16_t placed_in; /* the aggregator that was active last */
 static unsigned refusals, shortages; /* how many orders are refused from now on, and for how many the kernel has no memory */
 static unsigned unread;              /* how often what the driver has cannot be read from now on */
-static bool is_port[PORTS + 1];
 
 /* The library: which ports distribute, in which of two aggregators, and the port of each conversation in either. */
 static bool distributes[PORTS + 1];
@@ -93,9 +92,9 @@ static bool refuses(void) {
     return refusals > 0 && refusals-- > 0;
 }
 
-bool set_port_enabled(const struct team_netlink_private *own, int index, int port, bool wanted) {
+bool set_port_enabled(const struct team_plane *team, int port, bool wanted) {
     uint16_t number = (uint16_t)(port - INDEX);
-    if (index != DEVICE || !is_port[number] || refuses()) return false;
+    if (!lagd->team.taken[number - 1] || refuses()) return false;
     for (uint16_t bucket = 0; !wanted && bucket < CONVERSATIONS; bucket++) {
         if (member_of[bucket] != port) continue;
         stranded = stranded || lagd->carry.active_count > 0;
@@ -105,10 +104,10 @@ bool set_port_enabled(const struct team_netlink_private *own, int index, int por
     return true;
 }
 
-bool set_bucket(const struct team_netlink_private *own, int index, uint16_t bucket, int port) {
+bool set_bucket(const struct team_plane *team, uint16_t bucket, int port) {
     uint16_t before = member_of[bucket] == 0 ? 0 : (uint16_t)(member_of[bucket] - INDEX);
     bool leaves = before != 0 && before != port - INDEX && distributes[before] && placed_in == aggregator;
-    if (index != DEVICE || !enabled[port - INDEX] || refuses()) return false;
+    if (!enabled[port - INDEX] || refuses()) return false;
     if (leaves && last_counted[bucket] + FLIGHT > counted_at) early = true;
     member_of[bucket] = port;
     return true;
@@ -119,14 +118,14 @@ bool ask_interface(int index, const char *name, struct interface *device) {
     return true;
 }
 
-bool read_team(struct team_netlink_private *own, int index, struct team_now *now) {
+bool read_team(const struct team_plane *team, int index, struct team_now *now) {
     *now = (struct team_now){0};
     errno = ENOBUFS;
     if (unread > 0 && unread-- > 0) return false;
     memcpy(now->members, member_of, sizeof now->members);
     memcpy(now->octets, counted, sizeof now->octets);
     for (uint16_t port = 1; port <= PORTS; port++) {
-        if (!is_port[port]) continue;
+        if (!lagd->team.taken[port - 1]) continue;
         now->ports[now->port_count] = port + INDEX;
         now->enabled[now->port_count++] = enabled[port];
     }
@@ -137,8 +136,11 @@ bool read_team(struct team_netlink_private *own, int index, struct team_now *now
 ANSWERS(uint64_t milliseconds, lagd->carry.time, void)
 ANSWERS(uint64_t ticks_passed, lagd->carry.time / TICK, const struct system_private *own)
 ANSWERS(int tap_index, DEVICE, const struct device *own)
-ANSWERS(bool is_team_port, is_port[port], const struct team_plane *own, uint16_t port)
 NOTHING(give_team_addresses, struct team_plane *team)
+NOTHING(begin_carry_tick, struct carry *carry)
+NOTHING(note_heard, struct carry *carry)
+NOTHING(end_carry_tick, struct carry *carry)
+NOTHING(forget_heard, struct carry *carry)
 NOTHING(look_again, struct changes_private *own)
 void set_carrier(struct device *device, bool on) {
     carrier = on;
@@ -148,7 +150,7 @@ bool say(struct process *process, int level, const char *format, ...) {
     return true;
 }
 
-static void choose_distributing(void) {
+void choose_ports(struct plane *plane) {
     lagd->carry.active_count = 0;
     for (uint16_t port = 1; port <= PORTS; port++)
         if (distributes[port]) lagd->carry.active_ports[lagd->carry.active_count++] = port;
@@ -159,7 +161,7 @@ static void choose_distributing(void) {
 void lose_link(struct protocol *protocol, struct link *link) {
     uint16_t port = (uint16_t)(link - protocol->ports->links + 1);
     lost++;
-    distributes[port] = is_port[port] = enabled[port] = false;
+    distributes[port] = lagd->team.taken[port - 1] = enabled[port] = false;
     for (uint16_t bucket = 0; bucket < CONVERSATIONS; bucket++)
         if (member_of[bucket] == port + INDEX) member_of[bucket] = 0;
     forget_port(&lagd->team, port);
@@ -167,8 +169,8 @@ void lose_link(struct protocol *protocol, struct link *link) {
 
 /* An interface becomes a port again: the driver enables it. */
 static void take_port(uint16_t port) {
-    if (is_port[port]) return;
-    is_port[port] = enabled[port] = true;
+    if (lagd->team.taken[port - 1]) return;
+    lagd->team.taken[port - 1] = enabled[port] = true;
     forget_port(&lagd->team, port);
 }
 
@@ -194,19 +196,18 @@ static void send_some(void) {
 
 static void happen(void) {
     uint16_t port = (uint16_t)(1 + random_below(PORTS)), bucket = (uint16_t)random_below(CONVERSATIONS);
-    if (random_below(20) == 0 && is_port[port]) distributes[port] = !distributes[port];
+    if (random_below(20) == 0 && lagd->team.taken[port - 1]) distributes[port] = !distributes[port];
     if (random_below(10) == 0) take_port(port);
     if (random_below(100) == 0) aggregator = 3 - aggregator;
     if (random_below(200) == 0) refusals = 1 + random_below(2);
-    if (random_below(50) == 0 && is_port[port] && !distributes[port]) enabled[port] = true;
+    if (random_below(50) == 0 && lagd->team.taken[port - 1] && !distributes[port]) enabled[port] = true;
     if (random_below(50) == 0 && enabled[port] && lagd->carry.active_count > 0 && !distributes[port]) member_of[bucket] = port + INDEX;
 }
 
 static void settle(void) {
     for (unsigned turn = 0; turn < 8; turn++) {
         lagd->plane.changed = false;
-        choose_distributing();
-        settle_buckets(&lagd->team);
+        settle_team(&lagd->plane);
         if (!lagd->plane.changed) break;
     }
     if (lagd->carry.active != 0) placed_in = aggregator;
@@ -218,8 +219,8 @@ static void pass(bool eventful) {
     if (eventful) happen();
     if (eventful) send_some();
     if (!eventful || random_below(4) > 0) count();
-    choose_distributing();
-    pass_bucket_tick(&lagd->team);
+    choose_ports(&lagd->plane);
+    pass_tick_of_team(&lagd->plane);
     settle();
 }
 
@@ -230,7 +231,7 @@ static bool are_placed(void) {
         right = right && on[3 - aggregator][bucket] == 0;
         right = right && (lagd->carry.active_count == 0 || (port != 0 && member_of[bucket] == port + INDEX && distributes[port]));
     }
-    for (uint16_t port = 1; port <= PORTS; port++) right = right && (!is_port[port] || enabled[port] == distributes[port]);
+    for (uint16_t port = 1; port <= PORTS; port++) right = right && (!lagd->team.taken[port - 1] || enabled[port] == distributes[port]);
     return right;
 }
 
@@ -280,7 +281,6 @@ static void check_unread(void) {
 int main(void) {
     unsigned wrong = 0, unspread = 0, calms = 0;
     join_parts(lagd);
-    lagd->team.buckets = make_buckets_private();
     lagd->settings.flight = FLIGHT;
     lagd->ports.count = PORTS;
     srandom(1);
