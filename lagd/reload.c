@@ -38,8 +38,10 @@ static bool change_mode(struct protocol *protocol, uint16_t port, const struct s
 }
 
 static bool change_all(struct protocol *protocol, uint16_t port, const struct settings *wanted) {
-    bool port_changed = change_port(protocol, port, wanted), mode_changed = change_mode(protocol, port, wanted), hold = wants_hold(wanted, port);
-    bool hold_changed = protocol->ports->links[port - 1].held != hold && hold_port(protocol, port, hold);
+    struct link *link = &protocol->ports->links[port - 1];
+    bool port_changed = change_port(protocol, port, wanted), mode_changed = change_mode(protocol, port, wanted), was_held = link->held;
+    link->held = wants_hold(wanted, port);
+    bool hold_changed = link->held != was_held && begin_hold(protocol, link);
     return port_changed || mode_changed || hold_changed;
 }
 
@@ -64,7 +66,7 @@ static bool apply_port(struct protocol *protocol, uint16_t port, const struct se
     bool was_leaving = link->leaving, is_wanted = wanted->ports[port - 1].name[0] != 0;
     if (!link->used && (!is_wanted || !has_aggregator(protocol->keys, port_of(wanted, port).key))) return false;
     if (!link->used) {
-        join_port(protocol, port, &wanted->ports[port - 1]);
+        join_port(protocol, link, &wanted->ports[port - 1]);
         return true;
     }
     if (!is_wanted && wanted->follow && link->socket >= 0) {
@@ -72,10 +74,10 @@ static bool apply_port(struct protocol *protocol, uint16_t port, const struct se
         return false;
     }
     if (!is_wanted) {
-        leave_port(protocol, port);
+        leave_port(protocol, link);
         return !was_leaving;
     }
-    stay_port(protocol, port);
+    stay_port(protocol, link);
     link->followed = false;
     protocol->settings->ports[port - 1] = wanted->ports[port - 1];
     return change_all(protocol, port, wanted) || was_leaving;
