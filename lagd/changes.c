@@ -51,16 +51,15 @@ static bool is_stacked(const struct interface *interface) {
     return interface->below != 0 && interface->below != interface->index && strcmp(interface->kind, "veth") != 0;
 }
 
-/* Looks for a name among the other names of an interface, and stops there. */
-static int seek(const struct nlattr *attribute, void *into) {
-    const char *const *name = into;
-    return mnl_attr_get_type(attribute) == IFLA_ALT_IFNAME && is_text(attribute, *name) ? MNL_CB_STOP : MNL_CB_OK;
-}
-
 /* Whether an interface has a name, as its own or as one of its other names. */
 static bool is_named(const struct interface *interface, const char *name) {
     if (strcmp(interface->name, name) == 0) return true;
-    return interface->others && mnl_attr_parse_nested(interface->others, seek, &name) == MNL_CB_STOP;
+    if (!interface->others) return false;
+    EACH_NESTED(other, interface->others)
+        if (mnl_attr_get_type(other) == IFLA_ALT_IFNAME && mnl_attr_validate(other, MNL_TYPE_NUL_STRING) == 0
+            && strcmp(mnl_attr_get_str(other), name) == 0)
+            return true;
+    return false;
 }
 
 /* At the start an interface cannot be taken up. */
@@ -92,12 +91,8 @@ static bool take_up(struct protocol *protocol, struct link *link, const struct i
     return true;
 }
 
-/* How often the carrier went since the kernel told `before`. A count that is less than that one was begun anew. */
-static uint32_t losses_since(uint32_t before, uint32_t now) {
-    return now >= before ? now - before : now;
-}
-
-static void lose_member(struct protocol *protocol, struct link *link) {
+/* The interface of a port does not do what it has to: it is taken up anew. */
+void lose_member(struct protocol *protocol, struct link *link) {
     protocol->changes->ask_again = true;
     lose_link(protocol, link);
 }
@@ -119,8 +114,9 @@ static void follow_link(struct protocol *protocol, struct link *link, const stru
     if (interface->has_mac) follow_address(protocol->plane, link, interface->mac);
     if (!follow_discipline(protocol, link, interface)) return;
     if (interface->mtu != 0) CALL(protocol->plane->carrying->follow_mtu, protocol->plane, link, interface->mtu);
-    if (interface->counts_losses && interface->losses != link->kernel_losses) {
-        uint32_t losses = losses_since(link->kernel_losses, interface->losses);
+    if (interface->counts_losses) {
+        bool begun_anew = interface->losses < link->kernel_losses;
+        uint32_t losses = interface->losses - (begun_anew ? 0 : link->kernel_losses);
         link->kernel_losses = interface->losses;
         lost = losses > 0;
         link->counts[LOSSES] += losses;
@@ -158,7 +154,7 @@ static void follow_present(struct protocol *protocol, const struct interface *in
     EACH_LINK(link, protocol->ports) {
         bool named = is_named(interface, link->name), same = link->socket >= 0 && link->index == interface->index;
         named = named || (same && accept_name(protocol, link, interface));
-        if (link->socket >= 0 && (same != named || (same && !is_bound(link)))) lose_interface(protocol, link);
+        if (link->socket >= 0 && (same != named || (same && !is_bound(link->socket, link->index)))) lose_interface(protocol, link);
         if (same && link->socket >= 0 && !ASK(protocol->plane->carrying->still_has, true, protocol->plane, link, interface->master)) {
             tell_taken_out(protocol, link);
             lose_link(protocol, link);
@@ -228,42 +224,29 @@ void read_messages(struct protocol *protocol, const void *messages, size_t lengt
         parse_change(protocol, message);
 }
 
-/* Sees the queues anew whose disciplines changed, once for all that was told at a time. */
-static void follow_all_queues(struct protocol *protocol) {
-    EACH_LINK(link, protocol->ports) {
-        bool changed = link->has_new_queues;
-        link->has_new_queues = false;
-        if (changed && !ASK(protocol->plane->queueing->follow, true, protocol->plane->tap, link)) lose_member(protocol, link);
-    }
-}
-
-/* The kernel had no room for something, or the daemon had none: of queueing disciplines, too. */
-static void miss_changes(struct protocol *protocol) {
-    EACH_LINK(link, protocol->ports) link->has_new_queues = true;
-    protocol->changes->ask_again = true;
-}
-
-/* Takes what the kernel told, up to its end. Where it had no room for some, it says so, and all is asked again. Any program of the machine
- * may send to this socket, too: what does not come from the kernel is not looked at. */
-static void receive_all(struct protocol *protocol) {
+/* Takes what the kernel told, up to its end. Where it had no room for some, it says so, and all is asked again, and queues are seen anew. Any program
+ * of the machine may send to this socket, too: what does not come from the kernel is not looked at. */
+void receive_changes(struct protocol *protocol) {
     struct changes_private *own = protocol->changes;
     _Alignas(struct nlmsghdr) uint8_t room[ROOM];
     for (int turn = 0; turn < MOST_TAKEN; turn++) {
         struct sockaddr_nl from = {0};
         socklen_t length = sizeof from;
         ssize_t got = recvfrom(mnl_socket_get_fd(own->route), room, sizeof room, MSG_TRUNC, (struct sockaddr *)&from, &length);
-        if (got < 0 && errno != ENOBUFS) return;
+        if (got < 0 && errno != ENOBUFS) break;
         if (got >= 0 && from.nl_pid != 0) continue;
-        if (got < 0 || got > (ssize_t)sizeof room)
-            miss_changes(protocol);
-        else
+        if (got < 0 || got > (ssize_t)sizeof room) {
+            EACH_LINK(link, protocol->ports) link->has_new_queues = true;
+            own->ask_again = true;
+        } else {
             read_messages(protocol, room, (size_t)got);
+        }
     }
-}
-
-void receive_changes(struct protocol *protocol) {
-    receive_all(protocol);
-    follow_all_queues(protocol);
+    EACH_LINK(link, protocol->ports) { /* once for all that was told */
+        bool changed = link->has_new_queues;
+        link->has_new_queues = false;
+        if (changed && !ASK(protocol->plane->queueing->follow, true, protocol->plane->tap, link)) lose_member(protocol, link);
+    }
 }
 
 /* Asks again for what was missed, or could not be taken up; once a second. */
@@ -272,14 +255,9 @@ void watch_changes(struct protocol *protocol) {
     if (own->ask_again && !own->asking) ask(protocol);
 }
 
-/* An interface is to be taken up anew. */
-void look_again(struct changes_private *own) {
-    own->ask_again = true;
-}
-
 /* An interface is to be taken up as soon as can be. */
 void ask_now(struct protocol *protocol) {
-    look_again(protocol->changes);
+    protocol->changes->ask_again = true;
     watch_changes(protocol);
 }
 

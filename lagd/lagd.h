@@ -350,7 +350,6 @@ const char *holder_of(const struct ports *ports, int index, char room[static HOL
 /* links.c */
 bool open_link(struct protocol *protocol, struct link *link, int index);
 void close_link(struct protocol *protocol, struct link *link);
-bool is_bound(const struct link *link);
 bool has_new_carrier(struct link *link);
 void send_frame(struct protocol *protocol, struct link *link, const uint8_t *frame);
 
@@ -402,7 +401,7 @@ int open_changes(struct protocol *protocol);
 void receive_changes(struct protocol *protocol);
 void read_messages(struct protocol *protocol, const void *messages, size_t length);
 void watch_changes(struct protocol *protocol);
-void look_again(struct changes_private *own);
+void lose_member(struct protocol *protocol, struct link *link);
 void suspect_carriers(struct changes_private *own);
 void ask_links(struct protocol *protocol);
 void ask_now(struct protocol *protocol);
@@ -539,6 +538,7 @@ void drop_stored(struct store_private *own, const char *kind, int number);
 void close_stored(struct store_private *own, const char *kind, int number, int fd);
 void drop_unclaimed(struct store_private *own);
 void leave_store(struct store_private *own);
+bool is_bound(int fd, int index);
 int packet_socket(struct process *process, const char *kind, int of, int index, int type);
 int attach_stored(struct store_private *own, const char *kind, int program, int index, bool egress);
 void detach_stored(struct store_private *own, const char *kind, int index, int attached);

@@ -133,13 +133,6 @@ void close_link(struct protocol *protocol, struct link *link) {
     link->changed = true;
 }
 
-/* Whether the socket of a link still has its interface. One that was made anew with the same number is another one. */
-bool is_bound(const struct link *link) {
-    struct sockaddr_ll address;
-    socklen_t length = sizeof address;
-    return getsockname(link->socket, (struct sockaddr *)&address, &length) == 0 && address.sll_ifindex == link->index;
-}
-
 /* Whether a second has room for one more LACPDU. The library counts ticks, of which two may come at once where one was late. */
 static bool has_room(const struct link *link) {
     return link->lacpdus_at[0] == 0 || boottime() - link->lacpdus_at[0] > 1000;

@@ -160,8 +160,7 @@ static void lose_port(struct protocol *protocol, uint16_t port) {
         (void)say(protocol->process, LOG_WARNING | ABOUT_DATA, "port %u %s: the team driver refuses it: %s", port,
             protocol->ports->links[port - 1].name,
             strerror(fault));
-    lose_link(protocol, &protocol->ports->links[port - 1]);
-    look_again(protocol->changes);
+    lose_member(protocol, &protocol->ports->links[port - 1]);
 }
 
 /* The driver refused what it was told of a port. Where the kernel has no memory, the next tick tells it again. */

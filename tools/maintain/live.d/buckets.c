@@ -139,7 +139,6 @@ ANSWERS(uint64_t ticks_passed, lagd->carry.time / TICK, const struct system_priv
 ANSWERS(int tap_index, DEVICE, const struct device *own)
 ANSWERS(bool is_team_port, is_port[port], const struct team_plane *own, uint16_t port)
 NOTHING(give_team_addresses, struct team_plane *team)
-NOTHING(look_again, struct changes_private *own)
 void set_carrier(struct device *device, bool on) {
     carrier = on;
 }
@@ -156,7 +155,7 @@ static void choose_distributing(void) {
 }
 
 /* The driver refused something of a port: its link is lost, and so is its place. */
-void lose_link(struct protocol *protocol, struct link *link) {
+void lose_member(struct protocol *protocol, struct link *link) {
     uint16_t port = (uint16_t)(link - protocol->ports->links + 1);
     lost++;
     distributes[port] = is_port[port] = enabled[port] = false;
