@@ -39,7 +39,7 @@ struct announce_private {
     unsigned wait_ticks; /* until it is announced next */
 };
 
-MAKES_WITH(announce, .sender = -1)
+MAKES_ROOM(announce)
 
 /* Sends a frame by an interface, as the host does: it comes from the device with the others. One that is not taken is lost, as on a wire. */
 static void send_from(struct announce_private *own, const struct place *place, const uint8_t *frame, size_t length) {
@@ -181,7 +181,6 @@ static void announce(struct carry *carry) {
         (void)say(carry->process, LOG_WARNING | ABOUT_CARRIER, "carry %s: its addresses were not announced: %s", carry->settings->carry,
             strerror(errno));
     if (own->sender >= 0) close(own->sender);
-    own->sender = -1;
 }
 
 void announce_soon(struct announce_private *own) {
