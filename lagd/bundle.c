@@ -13,7 +13,6 @@ void allow_bundle_line(struct bundle_private *own) {
     if (own->lines < MOST_LINES) own->lines++;
 }
 
-/* Takes a new state, and runs the hook. */
 static void enter(struct protocol *protocol, const struct bundle *now) {
     enum bundle_state before = protocol->bundle.state;
     protocol->bundle = *now;

@@ -25,22 +25,23 @@ struct changes_private {
 
 MAKES_ROOM(changes)
 
-/* Asks for an interface, or with 0 for all of them; answers whether the kernel took the question. The answer comes as changes do. */
+/* Asks for an interface, or with 0 for all of them; answers whether the kernel took the question, and else it is asked again. The answer comes as
+ * changes do. */
 static bool ask_for(struct changes_private *own, int index, uint32_t number) {
     union message question = message_of_interface(RTM_GETLINK, index == 0 ? NLM_F_DUMP : 0, index);
     question.head.nlmsg_seq = number;
     mnl_attr_put_u32(&question.head, IFLA_EXT_MASK, RTEXT_FILTER_SKIP_STATS);
-    return own->route && mnl_socket_sendto(own->route, &question, question.head.nlmsg_len) == (ssize_t)question.head.nlmsg_len;
+    bool asked = own->route && mnl_socket_sendto(own->route, &question, question.head.nlmsg_len) == (ssize_t)question.head.nlmsg_len;
+    own->ask_again = own->ask_again || !asked;
+    return asked;
 }
 
 static void ask(struct protocol *protocol) {
     struct changes_private *own = protocol->changes;
     EACH_LINK(link, protocol->ports) link->present = false;
-    own->tap_named = false;
-    own->asking = ask_for(protocol->changes, 0, ++own->asked);
+    own->tap_named = own->ask_again = own->interrupted = false;
+    own->asking = ask_for(own, 0, ++own->asked);
     if (!own->asking && !protocol->process->has_started) stop(REFUSED, "the kernel takes no question", strerror(errno));
-    own->ask_again = !own->asking;
-    own->interrupted = false;
 }
 
 /* Whether what an interface sends goes by another one of this machine. The other end of a veth pair receives it. */
@@ -62,16 +63,9 @@ static bool is_named(const struct interface *interface, const char *name) {
     return false;
 }
 
-/* At the start an interface cannot be taken up. */
-static _Noreturn void refuse_link(const struct ports *ports, const struct link *link) {
-    char what[128], holder[HOLDER_ROOM];
-    if (link->trouble != EADDRINUSE) stop(REFUSED, link->name, strerror(link->trouble));
-    snprintf(what, sizeof what, "another lagd has the interface, %s", holder_of(ports, link->index, holder));
-    stop(REFUSED, what, link->name);
-}
-
 /* Takes up an interface that has the name of a port. At the start, what is wrong with one ends the program. */
 static bool take_up(struct protocol *protocol, struct link *link, const struct interface *interface) {
+    char what[128], holder[HOLDER_ROOM];
     if (interface->type != ARPHRD_ETHER) {
         if (!protocol->process->has_started && !link->left_over) stop(WRONG_WORD, "not an Ethernet interface", link->name);
         return false;
@@ -80,15 +74,16 @@ static bool take_up(struct protocol *protocol, struct link *link, const struct i
     memcpy(link->discipline, interface->discipline, sizeof link->discipline);
     if (interface->has_mac) memcpy(link->mac, interface->mac, sizeof link->mac);
     link->stacked = is_stacked(interface);
-    if (!open_link(protocol, link, interface->index)) {
-        if (!protocol->process->has_started && link->left_over) return false;
-        if (!protocol->process->has_started) refuse_link(protocol->ports, link);
-        protocol->changes->ask_again = true;
-        return false;
+    if (open_link(protocol, link, interface->index)) {
+        link->kernel_losses = interface->losses;
+        link->puts_in = false;
+        return true;
     }
-    link->kernel_losses = interface->losses;
-    link->puts_in = false;
-    return true;
+    if (protocol->process->has_started) protocol->changes->ask_again = true;
+    if (protocol->process->has_started || link->left_over) return false;
+    if (link->trouble != EADDRINUSE) stop(REFUSED, link->name, strerror(link->trouble));
+    snprintf(what, sizeof what, "another lagd has the interface, %s", holder_of(protocol->ports, link->index, holder));
+    stop(REFUSED, what, link->name);
 }
 
 /* The interface of a port does not do what it has to: it is taken up anew. */
@@ -97,22 +92,18 @@ void lose_member(struct protocol *protocol, struct link *link) {
     lose_link(protocol, link);
 }
 
-/* The queues of an interface are of another kind than it had: an interface that is made has none until it is up. Whether the kernel may
- * pass on what goes there is seen anew. Answers whether the interface is still taken up. */
-static bool follow_discipline(struct protocol *protocol, struct link *link, const struct interface *interface) {
-    if (!interface->discipline[0] || strcmp(link->discipline, interface->discipline) == 0) return true;
-    if (reopen_member(protocol->plane, link)) return true;
-    lose_member(protocol, link);
-    return false;
-}
-
 /* Follows an interface of a port. Its carrier may have gone and come back, of which the kernel tells at once: it counts how often
- * it went. IFF_RUNNING may be a second old, and IFF_LOWER_UP is the carrier itself. */
+ * it went. IFF_RUNNING may be a second old, and IFF_LOWER_UP is the carrier itself. An interface that is made has no queues until it is
+ * up: once it has others, whether the kernel may pass on what goes there is seen anew. */
 static void follow_link(struct protocol *protocol, struct link *link, const struct interface *interface) {
     uint16_t port = link->settings.number;
-    bool up, carrier = (interface->flags & IFF_UP) && (interface->flags & IFF_RUNNING) && (interface->flags & IFF_LOWER_UP), lost = false, other, spared;
+    const unsigned carried = IFF_UP | IFF_RUNNING | IFF_LOWER_UP;
+    bool carrier = (interface->flags & carried) == carried, lost = false;
     if (interface->has_mac) follow_address(protocol->plane, link, interface->mac);
-    if (!follow_discipline(protocol, link, interface)) return;
+    if (interface->discipline[0] && strcmp(link->discipline, interface->discipline) != 0 && !reopen_member(protocol->plane, link)) {
+        lose_member(protocol, link);
+        return;
+    }
     if (interface->mtu != 0) CALL(protocol->plane->carrying->follow_mtu, protocol->plane, link, interface->mtu);
     if (interface->counts_losses) {
         bool begun_anew = interface->losses < link->kernel_losses;
@@ -121,15 +112,15 @@ static void follow_link(struct protocol *protocol, struct link *link, const stru
         lost = losses > 0;
         link->counts[LOSSES] += losses;
     }
-    other = carrier && (lost || link->away) && has_other_speed(protocol, link);
-    spared = (interface->flags & IFF_UP) && is_spared(protocol, link, carrier, lost) && !other;
+    bool other = carrier && (lost || link->away) && has_other_speed(protocol, link);
+    bool spared = (interface->flags & IFF_UP) && is_spared(protocol, link, carrier, lost) && !other;
     if (spared && !carrier) return;
     if ((lost || other) && !spared && link->up) {
         if (!link->away) link->counts[LOSSES]--; /* which set_link counts */
         set_link(protocol, port, false);
     }
     if ((lost && !spared) || !carrier) forget_carrier(link);
-    up = carrier && !is_silent(protocol->halt) && is_restored(protocol, link);
+    bool up = carrier && !is_silent(protocol->halt) && is_restored(protocol, link);
     if (up && !link->up) fit_queue(protocol->plane, link);
     if (up) apply_speed(protocol, link);
     if (up) CALL(protocol->plane->carrying->follow_speed, protocol->plane, link);
@@ -184,7 +175,7 @@ static void note_discipline(struct protocol *protocol, const struct tcmsg *info)
         link->has_new_queues = true;
         ours = true;
     }
-    if (ours && info->tcm_parent == TC_H_ROOT && !ask_for(protocol->changes, info->tcm_ifindex, 0)) protocol->changes->ask_again = true;
+    if (ours && info->tcm_parent == TC_H_ROOT) (void)ask_for(protocol->changes, info->tcm_ifindex, 0);
 }
 
 /* The answer to the last question has ended. What a whole one did not name is gone. One that ends with an error ends the program at
@@ -217,7 +208,6 @@ static void parse_change(struct protocol *protocol, const struct nlmsghdr *messa
     if (type == RTM_DELLINK) follow_absent(protocol, &interface);
 }
 
-/* Takes the messages of `length` octets, in their order. */
 void read_messages(struct protocol *protocol, const void *messages, size_t length) {
     int left = (int)length;
     for (const struct nlmsghdr *message = messages; is_whole(message, left); message = mnl_nlmsg_next(message, &left))
@@ -268,7 +258,7 @@ void suspect_carriers(struct changes_private *own) {
 
 void ask_links(struct protocol *protocol) {
     EACH_LINK(link, protocol->ports)
-        if (link->socket >= 0 && !ask_for(protocol->changes, link->index, 0)) protocol->changes->ask_again = true;
+        if (link->socket >= 0) (void)ask_for(protocol->changes, link->index, 0);
 }
 
 /* Looks at carriers, at each tick and where one is suspected: the kernel counts at once that one came or went, but tells of those that go

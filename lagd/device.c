@@ -110,11 +110,6 @@ int tap_index(const struct device *own) {
     return own->number;
 }
 
-void forget_tap(struct device *own) {
-    own->number = 0;
-    own->carrier = false;
-}
-
 /* The MAC address that the device has now: whoever administers it may change it. */
 bool read_tap_mac(struct device *own, uint8_t *mac) {
     struct ifreq request = {0};

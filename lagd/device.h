@@ -33,7 +33,6 @@ bool has_carrier(const struct device *own);
 void set_speed(struct device *own, uint32_t megabits);
 void limit_mtu(struct device *own, uint32_t most);
 void pass_tap_tick(struct device *own);
-void forget_tap(struct device *own);
 bool read_tap_mac(struct device *own, uint8_t *mac);
 bool is_tap_up(struct device *own);
 void end_tap(int index);

@@ -317,7 +317,8 @@ static const char *add_by_words(struct protocol *protocol, char *text, uint16_t 
 /* Puts a port out of use, or lets it be used again; answers whether it is done, as far as anything is on its way. */
 static bool hold_by_word(struct protocol *protocol, struct link *link, bool hold) {
     if (link->held != hold) {
-        (void)say(protocol->process, LOG_NOTICE | ABOUT_PORT, "port %u %s: it is %s", link->settings.number, link->name, hold ? "held" : "used again");
+        (void)say(protocol->process, LOG_NOTICE | ABOUT_PORT, "port %u %s: it is %s", link->settings.number, link->name,
+            hold ? "held" : "used again");
         link->held = hold;
         if (!begin_hold(protocol, link)) return true;
         protocol->settings->ports[link->settings.number - 1].hold = hold;

@@ -1,5 +1,5 @@
-/* Questions to the kernel by netlink, and what its answers tell of interfaces. libmnl has the layout of messages; this file has what the daemon asks of
- * them. */
+/* Questions to the kernel by netlink, and what its answers tell of interfaces. libmnl has the layout of messages; this file has what the daemon
+ * asks of them. */
 #include "netlink.h"
 
 #include <linux/if_link.h>
@@ -72,7 +72,6 @@ bool ask_netlink(int bus, const union message *question, message_reader read_one
     return fault == 0;
 }
 
-/* Has the kernel do something of interfaces. */
 bool ask_kernel(const union message *wanted) {
     return ask_netlink(NETLINK_ROUTE, wanted, NULL, NULL);
 }

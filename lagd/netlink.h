@@ -15,8 +15,8 @@ union message {
 /* What is done with each message of an answer. It asks nothing itself. */
 typedef void (*message_reader)(const struct nlmsghdr *message, void *into);
 
-/* Each attribute behind so many octets of a message, and each within another one; those of libmnl convert numbers without a word, and read up to three
- * octets behind a message, too. */
+/* Each attribute behind so many octets of a message, and each within another one; those of libmnl convert numbers without a word, and read up
+ * to three octets behind a message, too. */
 #define EACH_WITHIN(attribute, first, end) \
     for (const struct nlattr *attribute = (first); mnl_attr_ok(attribute, (int)((const char *)(end) - (const char *)attribute)); \
         attribute = mnl_attr_next(attribute))

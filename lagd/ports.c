@@ -72,7 +72,6 @@ static bool is_same(const struct facts *one, const struct facts *other) {
         && one->partner_port == other->partner_port;
 }
 
-/* Prints a port; answers whether it could. */
 static bool print_facts(struct protocol *protocol, const struct link *link, const struct facts *facts, bool watched) {
     char whose[96] = "no partner", system[32], trouble[128] = "", holder[HOLDER_ROOM];
     int level = (facts->status == NIW_PORT_STATUS_DISTRIBUTING ? LOG_NOTICE : LOG_WARNING) | (watched ? WATCHED : 0) | ABOUT_PORT;

@@ -124,7 +124,6 @@ void send_again(struct protocol *protocol) {
         if (link->unsent && !link->tried) send_frame(protocol, link, link->frame);
 }
 
-/* The link of a port is up or down now. */
 void set_link(struct protocol *protocol, uint16_t port, bool up) {
     struct link *link = &protocol->ports->links[port - 1];
     if (link->up == up) return;
