@@ -46,13 +46,6 @@ void look_at_bundle(struct protocol *protocol) {
     enter(protocol, &now);
 }
 
-/* The bundle is as the last daemon had it, which is no change. */
-void go_on_as(struct protocol *protocol, const struct bundle *last, bool follows) {
-    protocol->bundle.state = last->state;
-    protocol->bundle.changed_at = last->changed_at;
-    go_on_selecting(protocol->selection, last->aggregator, follows);
-}
-
 void end_bundle(struct protocol *protocol) {
     struct bundle now = protocol->bundle;
     now.state = BUNDLE_DOWN;

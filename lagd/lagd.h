@@ -493,7 +493,6 @@ void choose_aggregator(struct protocol *protocol, struct bundle *now);
 bool is_as_good_as_any(struct protocol *protocol, uint16_t aggregator);
 
 /* bundle.c */
-void go_on_as(struct protocol *protocol, const struct bundle *last, bool follows);
 void look_at_bundle(struct protocol *protocol);
 void allow_bundle_line(struct bundle_private *own);
 void end_bundle(struct protocol *protocol);

@@ -331,21 +331,23 @@ static bool hold_by_word(struct protocol *protocol, struct link *link, bool hold
  * `removed` is, or a refusal, and a line end. */
 void answer_order(struct protocol *protocol, char *order, char answer[static ORDER_ROOM]) {
     char *name = strchr(order, ' ') + 1, room[ORDER_ROOM];
-    bool adds = strncmp(order, "add ", 4) == 0, removes = strncmp(order, "remove ", 7) == 0, holds = strncmp(order, "hold ", 5) == 0, done = true;
+    bool removes = strncmp(order, "remove ", 7) == 0, done = true;
     struct link *link = link_of(protocol->ports, name);
     const char *fault = NULL;
     uint16_t port = link ? link->settings.number : 0;
-    if (adds) fault = add_by_words(protocol, name, &port, room);
-    if (strncmp(order, "removed ", 8) == 0) {
+    if (strncmp(order, "add ", 4) == 0) {
+        fault = add_by_words(protocol, name, &port, room);
+    } else if (strncmp(order, "removed ", 8) == 0) {
         done = link == NULL;
-        fault = link && !link->leaving ? "it stays in the bundle" : NULL;
-    } else if (!adds && (!link || (link->leaving && !removes)))
+        if (link && !link->leaving) fault = "it stays in the bundle";
+    } else if (!link || (link->leaving && !removes)) {
         fault = "it is no port of this bundle";
-    else if (!fault && removes) {
+    } else if (removes) {
         leave_port(protocol, link);
         done = !link->used;
-    } else if (!fault && !adds)
-        done = hold_by_word(protocol, link, holds);
+    } else {
+        done = hold_by_word(protocol, link, strncmp(order, "hold ", 5) == 0);
+    }
     if (fault)
         snprintf(answer, ORDER_ROOM, REFUSAL "%.127s: %.180s\n", name, fault);
     else if (port > 0)
