@@ -36,14 +36,6 @@ static bool ask_for(struct changes_private *own, int index, uint32_t number) {
     return asked;
 }
 
-static void ask(struct protocol *protocol) {
-    struct changes_private *own = protocol->changes;
-    EACH_LINK(link, protocol->ports) link->present = false;
-    own->tap_named = own->ask_again = own->interrupted = false;
-    own->asking = ask_for(own, 0, ++own->asked);
-    if (!own->asking && !protocol->process->has_started) stop(REFUSED, "the kernel takes no question", strerror(errno));
-}
-
 /* Whether what an interface sends goes by another one of this machine. The other end of a veth pair receives it. */
 static bool is_stacked(const struct interface *interface) {
     static const char *const kinds[] = {"bond", "team", "bridge"};
@@ -239,13 +231,17 @@ void receive_changes(struct protocol *protocol) {
     }
 }
 
-/* Asks again for what was missed, or could not be taken up; once a second. */
+/* Asks for all interfaces again, where something was missed, or could not be taken up; once a second. */
 void watch_changes(struct protocol *protocol) {
     struct changes_private *own = protocol->changes;
-    if (own->ask_again && !own->asking) ask(protocol);
+    if (!own->ask_again || own->asking) return;
+    EACH_LINK(link, protocol->ports) link->present = false;
+    own->tap_named = own->ask_again = own->interrupted = false;
+    own->asking = ask_for(own, 0, ++own->asked);
+    if (!own->asking && !protocol->process->has_started) stop(REFUSED, "the kernel takes no question", strerror(errno));
 }
 
-/* An interface is to be taken up as soon as can be. */
+/* Interfaces are to be taken up as soon as can be. */
 void ask_now(struct protocol *protocol) {
     protocol->changes->ask_again = true;
     watch_changes(protocol);
@@ -281,7 +277,7 @@ int open_changes(struct protocol *protocol) {
     own->route = mnl_socket_open2(NETLINK_ROUTE, SOCK_NONBLOCK | SOCK_CLOEXEC);
     if (!own->route || mnl_socket_bind(own->route, RTMGRP_LINK | RTMGRP_TC, MNL_SOCKET_AUTOPID) < 0)
         stop(REFUSED, "no changes of interfaces", strerror(errno));
-    for (ask(protocol); own->asking || own->ask_again; watch_changes(protocol)) {
+    for (ask_now(protocol); own->asking || own->ask_again; watch_changes(protocol)) {
         if (poll(&(struct pollfd){mnl_socket_get_fd(own->route), POLLIN, 0}, 1, PATIENCE) != 1) stop(REFUSED, "no answer", "interfaces");
         if (own->asked > MOST_ASKED) stop(REFUSED, "no whole answer", "interfaces");
         receive_changes(protocol);
