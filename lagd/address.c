@@ -3,22 +3,18 @@
 
 #include <net/if_arp.h>
 
-/* Whether a system may have the address of an interface. */
-static bool has_system_address(const struct interface *interface) {
-    static const uint8_t none[sizeof interface->mac];
-    return interface->has_mac && !(interface->mac[0] & 1) && memcmp(interface->mac, none, sizeof none) != 0;
-}
-
 /* Takes the address of the first interface for the system. Where that is not possible, or it is that of the wanted partner, the
  * program ends. */
 void read_own_address(struct settings *settings) {
     const char *name = settings->ports[0].name;
+    static const uint8_t no_address[6];
     char what[NAME_ROOM + 16];
     struct interface interface;
     snprintf(what, sizeof what, "system=auto: %s", name);
     if (!ask_interface(0, name, &interface)) stop(REFUSED, what, strerror(errno));
     if (interface.type != ARPHRD_ETHER) stop(WRONG_WORD, "not an Ethernet interface", name);
-    if (!has_system_address(&interface)) stop(REFUSED, what, "it has no MAC address that a system may have");
+    if (!interface.has_mac || (interface.mac[0] & 1) || memcmp(interface.mac, no_address, sizeof no_address) == 0)
+        stop(REFUSED, what, "it has no MAC address that a system may have");
     memcpy(settings->config.mac, interface.mac, sizeof interface.mac);
     struct lack lack = lack_of(settings);
     snprintf(what, sizeof what, "expected %s", lack.expected ? lack.expected : "");

@@ -39,7 +39,7 @@ struct announce_private {
     unsigned wait_ticks; /* until it is announced next */
 };
 
-MAKES_WITH(announce, .sender = -1)
+MAKES_ROOM(announce)
 
 /* Sends a frame by an interface, as the host does: it comes from the device with the others. One that is not taken is lost, as on a wire. */
 static void send_from(struct announce_private *own, const struct place *place, const uint8_t *frame, size_t length) {
@@ -103,7 +103,8 @@ static bool is_above(struct announce_private *own, const struct interface *inter
 }
 
 /* The kernel told of an interface, which may stand on those that are known. */
-static void read_place(struct announce_private *own, const struct nlmsghdr *message) {
+static void read_place(const struct nlmsghdr *message, void *into) {
+    struct announce_private *own = into;
     struct interface interface = read_interface(message);
     struct place *place = place_of(own, interface.index);
     if (!place && interface.has_mac && own->place_count < 1 + MOST_ABOVE && is_above(own, &interface)) {
@@ -116,7 +117,8 @@ static void read_place(struct announce_private *own, const struct nlmsghdr *mess
 }
 
 /* The kernel told whether an interface is one of a router: hosts forget a router whose advertisement says that it is none. */
-static void read_forwarding(struct announce_private *own, const struct nlmsghdr *message) {
+static void read_forwarding(const struct nlmsghdr *message, void *into) {
+    struct announce_private *own = into;
     const int *index = value_of(attribute_of(message, sizeof(struct netconfmsg), NETCONFA_IFINDEX), sizeof *index);
     const int *forwarding = value_of(attribute_of(message, sizeof(struct netconfmsg), NETCONFA_FORWARDING), sizeof *forwarding);
     struct place *place = index && forwarding ? place_of(own, *index) : NULL;
@@ -126,7 +128,8 @@ static void read_forwarding(struct announce_private *own, const struct nlmsghdr 
 }
 
 /* The kernel told of an address. One of IPv6 that may be another host's is not announced. */
-static void read_address(struct announce_private *own, const struct nlmsghdr *message) {
+static void read_address(const struct nlmsghdr *message, void *into) {
+    struct announce_private *own = into;
     const struct ifaddrmsg *about = mnl_nlmsg_get_payload(message);
     if (mnl_nlmsg_get_payload_len(message) < sizeof *about) return;
     size_t octets = about->ifa_family == AF_INET ? 4 : 16;
@@ -139,17 +142,10 @@ static void read_address(struct announce_private *own, const struct nlmsghdr *me
         announce_ipv6(own, place, address);
 }
 
-static void read_told(const struct nlmsghdr *message, void *into) {
-    struct announce_private *own = into;
-    if (message->nlmsg_type == RTM_NEWNETCONF) read_forwarding(own, message);
-    if (message->nlmsg_type == RTM_NEWADDR) read_address(own, message);
-    if (message->nlmsg_type == RTM_NEWLINK) read_place(own, message);
-}
-
 /* Has the kernel tell all that it has of a kind; answers whether it did. The head of an interface is longer than what other kinds want. */
-static bool ask_all(struct announce_private *own, uint16_t what, uint8_t family) {
+static bool ask_all(struct announce_private *own, uint16_t what, uint8_t family, message_reader read_one) {
     union message question = message_of(what, NLM_F_DUMP, &(struct ifinfomsg){.ifi_family = family}, sizeof(struct ifinfomsg));
-    return ask_list(NETLINK_ROUTE, &question, read_told, own, 0);
+    return ask_list(NETLINK_ROUTE, &question, read_one, own, 0);
 }
 
 /* Finds the device, and what stands above it, level by level. */
@@ -161,7 +157,7 @@ static void find_places(struct carry *carry) {
     own->place_count = read_tap_mac(carry->device, own->places[0].mac) ? 1 : 0;
     for (unsigned level = 0; level < MOST_LEVELS && before != own->place_count; level++) {
         before = level == 0 ? 0 : own->place_count; /* the first one tells the bridge of the device alone, where that has a lower number */
-        (void)ask_all(own, RTM_GETLINK, AF_UNSPEC);
+        (void)ask_all(own, RTM_GETLINK, AF_UNSPEC, read_place);
     }
 }
 
@@ -174,14 +170,13 @@ static void announce(struct carry *carry) {
     own->announced = own->place_count = 0;
     if (own->sender >= 0) find_places(carry);
     if (own->place_count > 0) {
-        (void)ask_all(own, RTM_GETNETCONF, AF_INET6);
-        done = ask_all(own, RTM_GETADDR, AF_UNSPEC);
+        (void)ask_all(own, RTM_GETNETCONF, AF_INET6, read_forwarding);
+        done = ask_all(own, RTM_GETADDR, AF_UNSPEC, read_address);
     }
     if (!done)
         (void)say(carry->process, LOG_WARNING | ABOUT_CARRIER, "carry %s: its addresses were not announced: %s", carry->settings->carry,
             strerror(errno));
     if (own->sender >= 0) close(own->sender);
-    own->sender = -1;
 }
 
 void announce_soon(struct announce_private *own) {

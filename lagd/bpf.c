@@ -37,11 +37,15 @@ int attach_program(int program, int index, bool egress) {
     return bpf_link_create(program, index, (enum bpf_attach_type)(egress ? TCX_EGRESS : TCX_INGRESS), NULL);
 }
 
+static struct bpf_link_info info_of(int attached) {
+    struct bpf_link_info told = {0}, none = {0};
+    uint32_t room = sizeof told;
+    return bpf_obj_get_info_by_fd(attached, &told, &room) == 0 ? told : none;
+}
+
 /* The number of what keeps a program at an interface, as the kernel has it; 0 for any other file. */
 uint32_t program_keeper(int attached) {
-    struct bpf_link_info told = {0};
-    uint32_t room = sizeof told;
-    return bpf_obj_get_info_by_fd(attached, &told, &room) == 0 ? told.id : 0;
+    return info_of(attached).id;
 }
 
 /* What keeps a program at an interface runs it no more, whoever else has the file. */
@@ -51,9 +55,6 @@ void detach_program(int attached) {
 
 /* Puts a program in the place of the one that is kept there, between two frames; answers whether it did. */
 bool exchange_program(int attached, int program, int index) {
-    struct bpf_link_info told = {0};
-    uint32_t room = sizeof told;
-    return bpf_obj_get_info_by_fd(attached, &told, &room) == 0
-        && told.xdp.ifindex == (uint32_t)index /* where a link of TCX has its interface, too */
+    return info_of(attached).xdp.ifindex == (uint32_t)index /* where a link of TCX has its interface, too */
         && bpf_link_update(attached, program, NULL) == 0;
 }

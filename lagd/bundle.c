@@ -8,37 +8,24 @@ struct bundle_private {
 
 MAKES_WITH(bundle, .lines = MOST_LINES)
 
-static uint16_t most_links(struct protocol *protocol) {
-    uint16_t limit = protocol->settings->config.max_links;
-    uint16_t links = count_links(protocol->ports);
-    return limit > 0 && limit < links ? limit : links;
-}
-
-static enum bundle_state state_of(struct protocol *protocol, uint16_t carrying) {
-    if (carrying < protocol->settings->min_links) return BUNDLE_DOWN;
-    return carrying < most_links(protocol) ? BUNDLE_DEGRADED : BUNDLE_UP;
-}
-
 /* One more change may be told: another second passed. */
 void allow_bundle_line(struct bundle_private *own) {
     if (own->lines < MOST_LINES) own->lines++;
 }
 
-/* Takes a new state, and runs the hook. */
 static void enter(struct protocol *protocol, const struct bundle *now) {
     enum bundle_state before = protocol->bundle.state;
-    bool other = now->state != before;
     protocol->bundle = *now;
-    if (other) {
+    if (now->state != before) {
         protocol->bundle.changed_at = time(NULL);
         protocol->bundle.counts[now->state]++;
     }
     (void)say(protocol->process, (now->state == BUNDLE_UP ? LOG_NOTICE : LOG_WARNING) | ABOUT_BUNDLE,
-        "bundle %s: %s, %u of %u links carry, aggregator %u", protocol->settings->name, bundle_state_text(protocol->bundle.state),
-        protocol->bundle.carrying, protocol->bundle.links, protocol->bundle.aggregator);
+        "bundle %s: %s, %u of %u links carry, aggregator %u", protocol->settings->name, bundle_state_text(now->state), now->carrying, now->links,
+        now->aggregator);
     tell_watchers_of(protocol->control, NULL);
     notify_bundle(&protocol->bundle, "");
-    if (other && protocol->settings->hook[0]) run_hook(protocol, protocol->settings->hook, before);
+    if (now->state != before && protocol->settings->hook[0]) run_hook(protocol, protocol->settings->hook, before);
 }
 
 /* Looks at the ports, and tells what became of the bundle. What changes too often is told later, but not that its device is down. */
@@ -47,8 +34,9 @@ void look_at_bundle(struct protocol *protocol) {
     struct bundle now = protocol->bundle;
     if (!protocol->process->has_started || (own->lines == 0 && !is_halted(protocol->halt))) return;
     choose_aggregator(protocol, &now);
-    now.state = state_of(protocol, now.carrying);
     now.links = count_links(protocol->ports);
+    uint16_t limit = protocol->settings->config.max_links, most = limit > 0 && limit < now.links ? limit : now.links;
+    now.state = now.carrying < protocol->settings->min_links ? BUNDLE_DOWN : now.carrying < most ? BUNDLE_DEGRADED : BUNDLE_UP;
     if (own->told && now.state == protocol->bundle.state && now.links == protocol->bundle.links && now.carrying == protocol->bundle.carrying
         && now.aggregator == protocol->bundle.aggregator)
         return;
@@ -56,13 +44,6 @@ void look_at_bundle(struct protocol *protocol) {
     own->told = true;
     if (own->lines > 0) own->lines--;
     enter(protocol, &now);
-}
-
-/* The bundle is as the last daemon had it, which is no change. */
-void go_on_as(struct protocol *protocol, const struct bundle *last, bool follows) {
-    protocol->bundle.state = last->state;
-    protocol->bundle.changed_at = last->changed_at;
-    go_on_selecting(protocol->selection, last->aggregator, follows);
 }
 
 void end_bundle(struct protocol *protocol) {

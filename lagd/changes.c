@@ -25,22 +25,15 @@ struct changes_private {
 
 MAKES_ROOM(changes)
 
-/* Asks for an interface, or with 0 for all of them; answers whether the kernel took the question. The answer comes as changes do. */
+/* Asks for an interface, or with 0 for all of them; answers whether the kernel took the question, and else it is asked again. The answer comes as
+ * changes do. */
 static bool ask_for(struct changes_private *own, int index, uint32_t number) {
     union message question = message_of_interface(RTM_GETLINK, index == 0 ? NLM_F_DUMP : 0, index);
     question.head.nlmsg_seq = number;
     mnl_attr_put_u32(&question.head, IFLA_EXT_MASK, RTEXT_FILTER_SKIP_STATS);
-    return own->route && mnl_socket_sendto(own->route, &question, question.head.nlmsg_len) == (ssize_t)question.head.nlmsg_len;
-}
-
-static void ask(struct protocol *protocol) {
-    struct changes_private *own = protocol->changes;
-    EACH_LINK(link, protocol->ports) link->present = false;
-    own->tap_named = false;
-    own->asking = ask_for(protocol->changes, 0, ++own->asked);
-    if (!own->asking && !protocol->process->has_started) stop(REFUSED, "the kernel takes no question", strerror(errno));
-    own->ask_again = !own->asking;
-    own->interrupted = false;
+    bool asked = own->route && mnl_socket_sendto(own->route, &question, question.head.nlmsg_len) == (ssize_t)question.head.nlmsg_len;
+    own->ask_again = own->ask_again || !asked;
+    return asked;
 }
 
 /* Whether what an interface sends goes by another one of this machine. The other end of a veth pair receives it. */
@@ -51,28 +44,20 @@ static bool is_stacked(const struct interface *interface) {
     return interface->below != 0 && interface->below != interface->index && strcmp(interface->kind, "veth") != 0;
 }
 
-/* Looks for a name among the other names of an interface, and stops there. */
-static int seek(const struct nlattr *attribute, void *into) {
-    const char *const *name = into;
-    return mnl_attr_get_type(attribute) == IFLA_ALT_IFNAME && is_text(attribute, *name) ? MNL_CB_STOP : MNL_CB_OK;
-}
-
 /* Whether an interface has a name, as its own or as one of its other names. */
 static bool is_named(const struct interface *interface, const char *name) {
     if (strcmp(interface->name, name) == 0) return true;
-    return interface->others && mnl_attr_parse_nested(interface->others, seek, &name) == MNL_CB_STOP;
-}
-
-/* At the start an interface cannot be taken up. */
-static _Noreturn void refuse_link(const struct ports *ports, const struct link *link) {
-    char what[128], holder[HOLDER_ROOM];
-    if (link->trouble != EADDRINUSE) stop(REFUSED, link->name, strerror(link->trouble));
-    snprintf(what, sizeof what, "another lagd has the interface, %s", holder_of(ports, link->index, holder));
-    stop(REFUSED, what, link->name);
+    if (!interface->others) return false;
+    EACH_NESTED(other, interface->others)
+        if (mnl_attr_get_type(other) == IFLA_ALT_IFNAME && mnl_attr_validate(other, MNL_TYPE_NUL_STRING) == 0
+            && strcmp(mnl_attr_get_str(other), name) == 0)
+            return true;
+    return false;
 }
 
 /* Takes up an interface that has the name of a port. At the start, what is wrong with one ends the program. */
 static bool take_up(struct protocol *protocol, struct link *link, const struct interface *interface) {
+    char what[128], holder[HOLDER_ROOM];
     if (interface->type != ARPHRD_ETHER) {
         if (!protocol->process->has_started && !link->left_over) stop(WRONG_WORD, "not an Ethernet interface", link->name);
         return false;
@@ -81,59 +66,53 @@ static bool take_up(struct protocol *protocol, struct link *link, const struct i
     memcpy(link->discipline, interface->discipline, sizeof link->discipline);
     if (interface->has_mac) memcpy(link->mac, interface->mac, sizeof link->mac);
     link->stacked = is_stacked(interface);
-    if (!open_link(protocol, link, interface->index)) {
-        if (!protocol->process->has_started && link->left_over) return false;
-        if (!protocol->process->has_started) refuse_link(protocol->ports, link);
-        protocol->changes->ask_again = true;
-        return false;
+    if (open_link(protocol, link, interface->index)) {
+        link->kernel_losses = interface->losses;
+        link->puts_in = false;
+        return true;
     }
-    link->kernel_losses = interface->losses;
-    link->puts_in = false;
-    return true;
+    if (protocol->process->has_started) protocol->changes->ask_again = true;
+    if (protocol->process->has_started || link->left_over) return false;
+    if (link->trouble != EADDRINUSE) stop(REFUSED, link->name, strerror(link->trouble));
+    snprintf(what, sizeof what, "another lagd has the interface, %s", holder_of(protocol->ports, link->index, holder));
+    stop(REFUSED, what, link->name);
 }
 
-/* How often the carrier went since the kernel told `before`. A count that is less than that one was begun anew. */
-static uint32_t losses_since(uint32_t before, uint32_t now) {
-    return now >= before ? now - before : now;
-}
-
-static void lose_member(struct protocol *protocol, struct link *link) {
+/* The interface of a port does not do what it has to: it is taken up anew. */
+void lose_member(struct protocol *protocol, struct link *link) {
     protocol->changes->ask_again = true;
     lose_link(protocol, link);
 }
 
-/* The queues of an interface are of another kind than it had: an interface that is made has none until it is up. Whether the kernel may
- * pass on what goes there is seen anew. Answers whether the interface is still taken up. */
-static bool follow_discipline(struct protocol *protocol, struct link *link, const struct interface *interface) {
-    if (!interface->discipline[0] || strcmp(link->discipline, interface->discipline) == 0) return true;
-    if (reopen_member(protocol->plane, link)) return true;
-    lose_member(protocol, link);
-    return false;
-}
-
 /* Follows an interface of a port. Its carrier may have gone and come back, of which the kernel tells at once: it counts how often
- * it went. IFF_RUNNING may be a second old, and IFF_LOWER_UP is the carrier itself. */
+ * it went. IFF_RUNNING may be a second old, and IFF_LOWER_UP is the carrier itself. An interface that is made has no queues until it is
+ * up: once it has others, whether the kernel may pass on what goes there is seen anew. */
 static void follow_link(struct protocol *protocol, struct link *link, const struct interface *interface) {
     uint16_t port = link->settings.number;
-    bool up, carrier = (interface->flags & IFF_UP) && (interface->flags & IFF_RUNNING) && (interface->flags & IFF_LOWER_UP), lost = false, other, spared;
+    const unsigned carried = IFF_UP | IFF_RUNNING | IFF_LOWER_UP;
+    bool carrier = (interface->flags & carried) == carried, lost = false;
     if (interface->has_mac) follow_address(protocol->plane, link, interface->mac);
-    if (!follow_discipline(protocol, link, interface)) return;
+    if (interface->discipline[0] && strcmp(link->discipline, interface->discipline) != 0 && !reopen_member(protocol->plane, link)) {
+        lose_member(protocol, link);
+        return;
+    }
     if (interface->mtu != 0) CALL(protocol->plane->carrying->follow_mtu, protocol->plane, link, interface->mtu);
-    if (interface->counts_losses && interface->losses != link->kernel_losses) {
-        uint32_t losses = losses_since(link->kernel_losses, interface->losses);
+    if (interface->counts_losses) {
+        bool begun_anew = interface->losses < link->kernel_losses;
+        uint32_t losses = interface->losses - (begun_anew ? 0 : link->kernel_losses);
         link->kernel_losses = interface->losses;
         lost = losses > 0;
         link->counts[LOSSES] += losses;
     }
-    other = carrier && (lost || link->away) && has_other_speed(protocol, link);
-    spared = (interface->flags & IFF_UP) && is_spared(protocol, link, carrier, lost) && !other;
+    bool other = carrier && (lost || link->away) && has_other_speed(protocol, link);
+    bool spared = (interface->flags & IFF_UP) && is_spared(protocol, link, carrier, lost) && !other;
     if (spared && !carrier) return;
     if ((lost || other) && !spared && link->up) {
         if (!link->away) link->counts[LOSSES]--; /* which set_link counts */
         set_link(protocol, port, false);
     }
     if ((lost && !spared) || !carrier) forget_carrier(link);
-    up = carrier && !is_silent(protocol->halt) && is_restored(protocol, link);
+    bool up = carrier && !is_silent(protocol->halt) && is_restored(protocol, link);
     if (up && !link->up) fit_queue(protocol->plane, link);
     if (up) apply_speed(protocol, link);
     if (up) CALL(protocol->plane->carrying->follow_speed, protocol->plane, link);
@@ -158,7 +137,7 @@ static void follow_present(struct protocol *protocol, const struct interface *in
     EACH_LINK(link, protocol->ports) {
         bool named = is_named(interface, link->name), same = link->socket >= 0 && link->index == interface->index;
         named = named || (same && accept_name(protocol, link, interface));
-        if (link->socket >= 0 && (same != named || (same && !is_bound(link)))) lose_interface(protocol, link);
+        if (link->socket >= 0 && (same != named || (same && !is_bound(link->socket, link->index)))) lose_interface(protocol, link);
         if (same && link->socket >= 0 && !ASK(protocol->plane->carrying->still_has, true, protocol->plane, link, interface->master)) {
             tell_taken_out(protocol, link);
             lose_link(protocol, link);
@@ -188,7 +167,7 @@ static void note_discipline(struct protocol *protocol, const struct tcmsg *info)
         link->has_new_queues = true;
         ours = true;
     }
-    if (ours && info->tcm_parent == TC_H_ROOT && !ask_for(protocol->changes, info->tcm_ifindex, 0)) protocol->changes->ask_again = true;
+    if (ours && info->tcm_parent == TC_H_ROOT) (void)ask_for(protocol->changes, info->tcm_ifindex, 0);
 }
 
 /* The answer to the last question has ended. What a whole one did not name is gone. One that ends with an error ends the program at
@@ -221,65 +200,50 @@ static void parse_change(struct protocol *protocol, const struct nlmsghdr *messa
     if (type == RTM_DELLINK) follow_absent(protocol, &interface);
 }
 
-/* Takes the messages of `length` octets, in their order. */
 void read_messages(struct protocol *protocol, const void *messages, size_t length) {
     int left = (int)length;
     for (const struct nlmsghdr *message = messages; is_whole(message, left); message = mnl_nlmsg_next(message, &left))
         parse_change(protocol, message);
 }
 
-/* Sees the queues anew whose disciplines changed, once for all that was told at a time. */
-static void follow_all_queues(struct protocol *protocol) {
-    EACH_LINK(link, protocol->ports) {
-        bool changed = link->has_new_queues;
-        link->has_new_queues = false;
-        if (changed && !ASK(protocol->plane->queueing->follow, true, protocol->plane->tap, link)) lose_member(protocol, link);
-    }
-}
-
-/* The kernel had no room for something, or the daemon had none: of queueing disciplines, too. */
-static void miss_changes(struct protocol *protocol) {
-    EACH_LINK(link, protocol->ports) link->has_new_queues = true;
-    protocol->changes->ask_again = true;
-}
-
-/* Takes what the kernel told, up to its end. Where it had no room for some, it says so, and all is asked again. Any program of the machine
- * may send to this socket, too: what does not come from the kernel is not looked at. */
-static void receive_all(struct protocol *protocol) {
+/* Takes what the kernel told, up to its end. Where it had no room for some, it says so, and all is asked again, and queues are seen anew. Any program
+ * of the machine may send to this socket, too: what does not come from the kernel is not looked at. */
+void receive_changes(struct protocol *protocol) {
     struct changes_private *own = protocol->changes;
     _Alignas(struct nlmsghdr) uint8_t room[ROOM];
     for (int turn = 0; turn < MOST_TAKEN; turn++) {
         struct sockaddr_nl from = {0};
         socklen_t length = sizeof from;
         ssize_t got = recvfrom(mnl_socket_get_fd(own->route), room, sizeof room, MSG_TRUNC, (struct sockaddr *)&from, &length);
-        if (got < 0 && errno != ENOBUFS) return;
+        if (got < 0 && errno != ENOBUFS) break;
         if (got >= 0 && from.nl_pid != 0) continue;
-        if (got < 0 || got > (ssize_t)sizeof room)
-            miss_changes(protocol);
-        else
+        if (got < 0 || got > (ssize_t)sizeof room) {
+            EACH_LINK(link, protocol->ports) link->has_new_queues = true;
+            own->ask_again = true;
+        } else {
             read_messages(protocol, room, (size_t)got);
+        }
+    }
+    EACH_LINK(link, protocol->ports) { /* once for all that was told */
+        bool changed = link->has_new_queues;
+        link->has_new_queues = false;
+        if (changed && !ASK(protocol->plane->queueing->follow, true, protocol->plane->tap, link)) lose_member(protocol, link);
     }
 }
 
-void receive_changes(struct protocol *protocol) {
-    receive_all(protocol);
-    follow_all_queues(protocol);
-}
-
-/* Asks again for what was missed, or could not be taken up; once a second. */
+/* Asks for all interfaces again, where something was missed, or could not be taken up; once a second. */
 void watch_changes(struct protocol *protocol) {
     struct changes_private *own = protocol->changes;
-    if (own->ask_again && !own->asking) ask(protocol);
+    if (!own->ask_again || own->asking) return;
+    EACH_LINK(link, protocol->ports) link->present = false;
+    own->tap_named = own->ask_again = own->interrupted = false;
+    own->asking = ask_for(own, 0, ++own->asked);
+    if (!own->asking && !protocol->process->has_started) stop(REFUSED, "the kernel takes no question", strerror(errno));
 }
 
-/* An interface is to be taken up anew. */
-void look_again(struct changes_private *own) {
-    own->ask_again = true;
-}
-
-/* An interface is to be taken up as soon as can be. */
+/* Interfaces are to be taken up as soon as can be. */
 void ask_now(struct protocol *protocol) {
-    look_again(protocol->changes);
+    protocol->changes->ask_again = true;
     watch_changes(protocol);
 }
 
@@ -290,7 +254,7 @@ void suspect_carriers(struct changes_private *own) {
 
 void ask_links(struct protocol *protocol) {
     EACH_LINK(link, protocol->ports)
-        if (link->socket >= 0 && !ask_for(protocol->changes, link->index, 0)) protocol->changes->ask_again = true;
+        if (link->socket >= 0) (void)ask_for(protocol->changes, link->index, 0);
 }
 
 /* Looks at carriers, at each tick and where one is suspected: the kernel counts at once that one came or went, but tells of those that go
@@ -313,7 +277,7 @@ int open_changes(struct protocol *protocol) {
     own->route = mnl_socket_open2(NETLINK_ROUTE, SOCK_NONBLOCK | SOCK_CLOEXEC);
     if (!own->route || mnl_socket_bind(own->route, RTMGRP_LINK | RTMGRP_TC, MNL_SOCKET_AUTOPID) < 0)
         stop(REFUSED, "no changes of interfaces", strerror(errno));
-    for (ask(protocol); own->asking || own->ask_again; watch_changes(protocol)) {
+    for (ask_now(protocol); own->asking || own->ask_again; watch_changes(protocol)) {
         if (poll(&(struct pollfd){mnl_socket_get_fd(own->route), POLLIN, 0}, 1, PATIENCE) != 1) stop(REFUSED, "no answer", "interfaces");
         if (own->asked > MOST_ASKED) stop(REFUSED, "no whole answer", "interfaces");
         receive_changes(protocol);

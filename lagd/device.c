@@ -22,37 +22,10 @@
 /* For how many ticks the carrier may be another one than was set: the kernel takes up to a second to tell. */
 #define CARRIER_TICKS 15
 
-struct device {
-    struct process *process;
-    struct plane *plane;
-    int tap, asker; /* `asker`: a socket for questions about interfaces */
-    int number; /* of the device, its index; 0: there is none */
-    bool carrier; /* which was set last */
-    bool carrier_told; /* which it had, as the kernel told last */
-    unsigned carrier_ticks; /* for how long it was up and had none, and was to have one */
-    uint32_t most_mtu; /* the longest payload that each member takes, and the device may */
-    uint32_t less_mtu; /* one below that which an administrator set, or 0 */
-    uint32_t set_mtu; /* what was set last */
-    uint32_t speed; /* in Mb/s, as it was to be last; 0: as the kernel made the device */
-    bool refused; /* of set_carrier */
-    bool told; /* of set_speed */
-};
-
 struct device *make_device(struct process *process, struct plane *plane) {
     struct device *made = make_room(sizeof *made);
-    made->process = process;
-    made->plane = plane;
-    made->tap = -1;
-    made->asker = -1;
-    made->most_mtu = ETH_DATA_LEN;
+    *made = (struct device){.process = process, .plane = plane, .tap = -1, .asker = -1, .most_mtu = ETH_DATA_LEN};
     return made;
-}
-
-static struct ifreq request_of(const char *name) {
-    struct ifreq request;
-    memset(&request, 0, sizeof request);
-    memcpy(request.ifr_name, name, strnlen(name, sizeof request.ifr_name - 1));
-    return request;
 }
 
 /* Asks the kernel something of the device, or for something. The device goes by its index: it may have another name than it was given. */
@@ -78,8 +51,7 @@ void set_carrier(struct device *own, bool on) {
     } else if (!own->refused) {
         own->refused = true;
         (void)say(own->process, LOG_ERR | ABOUT_CARRIER, "carry %s: its carrier cannot be set %s: %s", own->process->settings->carry,
-            on ? "on" : "off",
-            strerror(errno));
+            on ? "on" : "off", strerror(errno));
     }
 }
 
@@ -104,11 +76,11 @@ void settle_tap_mtu(struct plane *plane) {
     struct ifreq now = {0}, wanted = {0};
     if (!ask_tap(own, SIOCGIFMTU, &now)) return;
     uint32_t mtu = (uint32_t)now.ifr_mtu;
-    if (own->set_mtu != 0 && mtu != own->set_mtu) own->less_mtu = mtu < own->most_mtu ? mtu : 0;
-    if (own->set_mtu != 0 && mtu != own->set_mtu && mtu > own->most_mtu)
+    bool is_set_by_others = own->set_mtu != 0 && mtu != own->set_mtu;
+    if (is_set_by_others) own->less_mtu = mtu < own->most_mtu ? mtu : 0;
+    if (is_set_by_others && mtu > own->most_mtu)
         (void)say(own->process, LOG_WARNING | ABOUT_CARRIER, "carry %s: its members take no MTU of %u: it has %u again",
-            own->process->settings->carry, mtu,
-            own->most_mtu);
+            own->process->settings->carry, mtu, own->most_mtu);
     uint32_t least = own->less_mtu != 0 && own->less_mtu < own->most_mtu ? own->less_mtu : own->most_mtu;
     wanted.ifr_mtu = (int)least;
     if (mtu == least || ask_tap(own, SIOCSIFMTU, &wanted)) own->set_mtu = least;
@@ -117,10 +89,6 @@ void settle_tap_mtu(struct plane *plane) {
 void limit_mtu(struct device *own, uint32_t most) {
     own->most_mtu = most < LONGEST_PAYLOAD ? most : LONGEST_PAYLOAD;
     settle_tap_mtu(own->plane);
-}
-
-uint32_t longest_payload(const struct device *own) {
-    return own->most_mtu;
 }
 
 void follow_tap(struct device *own, bool has_now, const char *discipline) {
@@ -140,11 +108,6 @@ void pass_tap_tick(struct device *own) {
 
 int tap_index(const struct device *own) {
     return own->number;
-}
-
-void forget_tap(struct device *own) {
-    own->number = 0;
-    own->carrier = false;
 }
 
 /* The MAC address that the device has now: whoever administers it may change it. */
@@ -179,11 +142,6 @@ static bool is_here(int fd, struct ifreq *device) {
     return same && ioctl(fd, TUNGETIFF, device) == 0 && (device->ifr_flags & IFF_TAP) && (device->ifr_flags & IFF_VNET_HDR);
 }
 
-static int index_of(const struct device *own, const char *name) {
-    struct ifreq found = request_of(name);
-    return ioctl(own->asker, SIOCGIFINDEX, &found) == 0 ? found.ifr_ifindex : 0;
-}
-
 /* The device is the one of the last daemon: it has all that was set of it, and outlives this one no more. */
 static void go_on_with_tap(struct device *own) {
     struct ifreq now = {0};
@@ -193,15 +151,13 @@ static void go_on_with_tap(struct device *own) {
     choose_segments(own);
 }
 
-/* Sets up a device that is new to the daemon, or to its settings, without carrier. It gets its MAC address before anything else: whoever
- * brings it up has a link-local address of it. */
+/* Sets up a device that is new to the daemon, or to its settings. It gets its MAC address before anything else: whoever brings it up has a
+ * link-local address of it. */
 static void set_up(struct device *own, const uint8_t *mac) {
     struct ifreq address = {0}, queue = {0};
     address.ifr_hwaddr.sa_family = ARPHRD_ETHER;
     memcpy(address.ifr_hwaddr.sa_data, mac, ETH_ALEN);
     if (!ask_tap(own, SIOCSIFHWADDR, &address)) stop(REFUSED, "no address of the TAP device", strerror(errno));
-    own->carrier = true;
-    set_carrier(own, false);
     choose_segments(own);
     queue.ifr_qlen = HOST_QUEUE;
     (void)ask_tap(own, SIOCSIFTXQLEN, &queue);
@@ -209,59 +165,59 @@ static void set_up(struct device *own, const uint8_t *mac) {
     CALL(own->plane->passing->set_up_device, own->number);
 }
 
-static void lose_waiting(const struct device *own) {
-    uint8_t scrap[ETH_HLEN];
-    for (unsigned frames = 0; frames < 2 * HOST_QUEUE && read(own->tap, scrap, sizeof scrap) > 0; frames++) continue;
-}
-
 /* Takes the device that the last daemon left with the manager of services, whatever an administrator named it since, and the frames that
- * wait there unless they are old; answers whether there is one. Its carrier goes where nothing goes on. */
-static bool open_inherited(struct device *own, const char *name, const uint8_t *mac) {
+ * wait there unless they are old; answers whether there is one. */
+static bool take_stored(struct device *own, const char *name) {
+    const struct inherited *inherited = own->process->inherited;
     struct ifreq device = {0};
+    uint8_t scrap[ETH_HLEN];
     int fd = claim_stored(own->process->store, "tap", 0);
     if (fd < 0) return false;
-    if (!is_here(fd, &device) || (own->process->inherited->tap == 0 ? strcmp(device.ifr_name, name) != 0 : index_of(own,
-            device.ifr_name) != own->process->inherited->tap)) {
+    own->number = is_here(fd, &device) ? (int)if_nametoindex(device.ifr_name) : 0;
+    if (own->number == 0 || (inherited->tap == 0 ? strcmp(device.ifr_name, name) != 0 : own->number != inherited->tap)) {
         close_stored(own->process->store, "tap", 0, fd);
         return false;
     }
     own->tap = fd;
-    own->number = index_of(own, device.ifr_name);
-    own->carrier = true;
-    if (!own->process->resuming) set_carrier(own, false);
-    if (!was_away_briefly(own->process->inherited)) lose_waiting(own);
-    if (own->process->inherited->tap == own->number)
-        go_on_with_tap(own);
-    else
-        set_up(own, mac);
+    for (unsigned i = 0; !was_away_briefly(inherited) && i < 2 * HOST_QUEUE && read(fd, scrap, sizeof scrap) > 0; i++) continue;
     return true;
 }
 
-/* Makes the device, without carrier, or takes one that is there and that nobody has, as that of the last daemon, which may have another name
- * now. One that was made is gone when the daemon ends, unless the next one goes on; where its number is that of the last daemon's, the namespace
- * was made anew, too. */
-static void make_tap(struct device *own, const char *name, const uint8_t *mac) {
-    char room[IF_NAMESIZE];
-    struct ifreq device = request_of(own->process->inherited->persists && if_indextoname((unsigned)own->process->inherited->tap, room) ? room : name);
-    own->tap = open("/dev/net/tun", O_RDWR | O_NONBLOCK | O_CLOEXEC);
-    if (own->tap < 0) stop(REFUSED, "no TAP device", strerror(errno));
-    int before = index_of(own, device.ifr_name);
-    device.ifr_flags = IFF_TAP | IFF_NO_PI | IFF_VNET_HDR | NO_CARRIER;
-    if (ioctl(own->tap, TUNSETIFF, &device) < 0) stop(REFUSED, name, strerror(errno));
-    own->number = index_of(own, device.ifr_name);
-    if (own->number == 0) stop(REFUSED, name, strerror(errno));
-    own->carrier = true; /* which older kernels set here */
-    set_carrier(own, false);
-    if (before == own->number && own->process->inherited->tap == own->number)
-        go_on_with_tap(own);
-    else
-        set_up(own, mac);
+/* Has an open file be the TAP device of this name, which is made where there is none. */
+static bool attach_tap(int fd, const char *name) {
+    struct ifreq device = {.ifr_flags = IFF_TAP | IFF_NO_PI | IFF_VNET_HDR | NO_CARRIER};
+    memcpy(device.ifr_name, name, strnlen(name, sizeof device.ifr_name - 1));
+    return ioctl(fd, TUNSETIFF, &device) == 0;
 }
 
+/* Makes the device, or takes one that is there and that nobody has, as that of the last daemon, which may have another name now; answers whether
+ * it is that one. A device that was made is gone when the daemon ends, unless the next one goes on. Where it gets the number of the last daemon's,
+ * the namespace was made anew, too. */
+static bool make_tap(struct device *own, const char *name) {
+    const struct inherited *inherited = own->process->inherited;
+    char room[IF_NAMESIZE];
+    const char *used = inherited->persists && if_indextoname((unsigned)inherited->tap, room) ? room : name;
+    unsigned before = if_nametoindex(used);
+    own->tap = open("/dev/net/tun", O_RDWR | O_NONBLOCK | O_CLOEXEC);
+    if (own->tap < 0) stop(REFUSED, "no TAP device", strerror(errno));
+    if (!attach_tap(own->tap, used)) stop(REFUSED, name, strerror(errno));
+    own->number = (int)if_nametoindex(used);
+    if (own->number == 0) stop(REFUSED, name, strerror(errno));
+    return before == (unsigned)own->number && own->number == inherited->tap;
+}
+
+/* Opens the device. Its carrier stays where the data of the last daemon goes on. */
 int open_tap(struct device *own, const char *name, const uint8_t *mac) {
     own->asker = socket(AF_UNIX, SOCK_DGRAM | SOCK_CLOEXEC, 0);
     if (own->asker < 0) stop(REFUSED, "no TAP device", strerror(errno));
-    if (!open_inherited(own, name, mac)) make_tap(own, name, mac);
+    bool was_stored = take_stored(own, name);
+    bool goes_on = was_stored ? own->number == own->process->inherited->tap : make_tap(own, name);
+    own->carrier = true; /* which older kernels set of a device that is made */
+    if (!was_stored || !goes_on || !own->process->resuming) set_carrier(own, false);
+    if (goes_on)
+        go_on_with_tap(own);
+    else
+        set_up(own, mac);
     put_stored(own->process->store, "tap", 0, own->tap);
     return own->tap;
 }
@@ -277,12 +233,9 @@ void use_team_device(struct device *own, int index) {
 
 void end_tap(int index) {
     char room[IF_NAMESIZE];
-    struct ifreq device = {0};
     int fd = if_indextoname((unsigned)index, room) ? open("/dev/net/tun", O_RDWR | O_CLOEXEC) : -1;
     if (fd < 0) return;
-    device = request_of(room);
-    device.ifr_flags = IFF_TAP | IFF_NO_PI | IFF_VNET_HDR | NO_CARRIER;
-    if (ioctl(fd, TUNSETIFF, &device) == 0) (void)ioctl(fd, TUNSETPERSIST, 0);
+    if (attach_tap(fd, room)) (void)ioctl(fd, TUNSETPERSIST, 0);
     close(fd);
 }
 
@@ -293,9 +246,4 @@ void keep_tap(struct plane *plane, bool keeps) {
     if (plane->made_device == keeps || ioctl(own->tap, TUNGETIFF, &device) < 0 || (keeps && (has_store() || (device.ifr_flags & IFF_PERSIST))))
         return;
     if (ioctl(own->tap, TUNSETPERSIST, keeps) == 0) plane->made_device = keeps;
-}
-
-/* A lower MTU than the members take, which an administrator set, or 0. */
-uint32_t mtu_of_administrator(const struct device *own) {
-    return own->less_mtu;
 }

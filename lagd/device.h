@@ -4,6 +4,22 @@
 
 #include "lagd.h"
 
+struct device {
+    struct process *process;
+    struct plane *plane;
+    int tap, asker; /* `asker`: a socket for questions about interfaces */
+    int number; /* of the device, its index; 0: there is none */
+    bool carrier; /* which was set last */
+    bool carrier_told; /* which it had, as the kernel told last */
+    unsigned carrier_ticks; /* for how long it was up and had none, and was to have one */
+    uint32_t most_mtu; /* the longest payload that each member takes, and the device may */
+    uint32_t less_mtu; /* one below that which an administrator set, or 0 */
+    uint32_t set_mtu; /* what was set last */
+    uint32_t speed; /* in Mb/s, as it was to be last; 0: as the kernel made the device */
+    bool refused; /* of set_carrier */
+    bool told; /* of set_speed */
+};
+
 /* device.c */
 struct device *make_device(struct process *process, struct plane *plane);
 int tap_index(const struct device *own);
@@ -16,13 +32,10 @@ void set_carrier(struct device *own, bool on);
 bool has_carrier(const struct device *own);
 void set_speed(struct device *own, uint32_t megabits);
 void limit_mtu(struct device *own, uint32_t most);
-uint32_t longest_payload(const struct device *own);
 void pass_tap_tick(struct device *own);
-void forget_tap(struct device *own);
 bool read_tap_mac(struct device *own, uint8_t *mac);
 bool is_tap_up(struct device *own);
 void end_tap(int index);
 void keep_tap(struct plane *plane, bool keeps);
-uint32_t mtu_of_administrator(const struct device *own);
 
 #endif

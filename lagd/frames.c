@@ -44,7 +44,6 @@ static void note_stranger(struct link *link, const struct system_id *system, con
 
 /* An LACPDU of this system was taken. */
 void note_actor(const struct settings *settings, struct link *link, const struct system_id *actor, const uint8_t *frame) {
-    const uint8_t *source = frame + ETH_ALEN;
     memcpy(link->lacpdu, frame, sizeof link->lacpdu);
     link->lacpdu_at = boottime();
     if (link->heard && !is_same_system(&link->actor, actor)) {
@@ -53,7 +52,7 @@ void note_actor(const struct settings *settings, struct link *link, const struct
     }
     link->heard = true;
     link->actor = *actor;
-    memcpy(link->source, source, sizeof link->source);
+    memcpy(link->source, frame + ETH_ALEN, sizeof link->source);
     struct system_id own = own_system(settings);
     if (settings->policy != PARTNER_FIRST || link->pinned || is_same_system(actor, &own)) return;
     link->pinned = true;

@@ -350,7 +350,6 @@ const char *holder_of(const struct ports *ports, int index, char room[static HOL
 /* links.c */
 bool open_link(struct protocol *protocol, struct link *link, int index);
 void close_link(struct protocol *protocol, struct link *link);
-bool is_bound(const struct link *link);
 bool has_new_carrier(struct link *link);
 void send_frame(struct protocol *protocol, struct link *link, const uint8_t *frame);
 
@@ -402,7 +401,7 @@ int open_changes(struct protocol *protocol);
 void receive_changes(struct protocol *protocol);
 void read_messages(struct protocol *protocol, const void *messages, size_t length);
 void watch_changes(struct protocol *protocol);
-void look_again(struct changes_private *own);
+void lose_member(struct protocol *protocol, struct link *link);
 void suspect_carriers(struct changes_private *own);
 void ask_links(struct protocol *protocol);
 void ask_now(struct protocol *protocol);
@@ -426,9 +425,9 @@ void make_system(struct protocol *protocol);
 size_t resume_system(struct protocol *protocol, struct niw_saved *saved, size_t count);
 void set_link(struct protocol *protocol, uint16_t port, bool up);
 bool apply_hold(struct protocol *protocol, uint16_t port) MUST_USE;
-bool hold_port(struct protocol *protocol, uint16_t port, bool hold);
 void lose_link(struct protocol *protocol, struct link *link);
 void send_due(struct protocol *protocol);
+void settle_calls(struct protocol *protocol);
 void send_again(struct protocol *protocol);
 bool pass_system_tick(struct protocol *protocol);
 uint64_t ticks_passed(const struct system_private *own);
@@ -447,10 +446,10 @@ bool place_ports(struct protocol *protocol, struct settings *settings);
 void keep_left_ports(struct protocol *protocol);
 void leave_left_ports(struct protocol *protocol);
 void begin_link(struct protocol *protocol, uint16_t port);
-void join_port(struct protocol *protocol, uint16_t port, const struct port_settings *settings);
-void leave_port(struct protocol *protocol, uint16_t port);
-bool begin_hold(struct protocol *protocol, uint16_t port);
-void stay_port(struct protocol *protocol, uint16_t port);
+void join_port(struct protocol *protocol, struct link *link, const struct port_settings *settings);
+void leave_port(struct protocol *protocol, struct link *link);
+bool begin_hold(struct protocol *protocol, struct link *link);
+void stay_port(struct protocol *protocol, struct link *link);
 void pass_leaving_tick(struct protocol *protocol);
 struct interface;
 bool may_put_in(struct protocol *protocol, const struct link *link);
@@ -494,7 +493,6 @@ void choose_aggregator(struct protocol *protocol, struct bundle *now);
 bool is_as_good_as_any(struct protocol *protocol, uint16_t aggregator);
 
 /* bundle.c */
-void go_on_as(struct protocol *protocol, const struct bundle *last, bool follows);
 void look_at_bundle(struct protocol *protocol);
 void allow_bundle_line(struct bundle_private *own);
 void end_bundle(struct protocol *protocol);
@@ -538,6 +536,7 @@ void return_stored(struct store_private *own, const char *kind, int number, int 
 void drop_stored(struct store_private *own, const char *kind, int number);
 void close_stored(struct store_private *own, const char *kind, int number, int fd);
 void drop_unclaimed(struct store_private *own);
+bool is_bound(int fd, int index);
 int packet_socket(struct process *process, const char *kind, int of, int index, int type);
 int attach_stored(struct store_private *own, const char *kind, int program, int index, bool egress);
 void detach_stored(struct store_private *own, const char *kind, int index, int attached);

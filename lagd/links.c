@@ -27,13 +27,11 @@ static int open_socket(struct process *process, int index) {
     return last_fault();
 }
 
-/* The queueing disciplines in which a frame of control passes data that waits: by its priority, or as the rare frame of a flow of its
- * own. */
-static const char *const PASSABLE[] = {"noqueue", "pfifo_fast", "prio", "fq_codel", "mq"};
-
+/* Whether a frame of control passes data that waits in a queueing discipline: by its priority, or as the rare frame of a flow of its own. */
 static bool is_passable(const char *discipline) {
-    for (size_t i = 0; i < sizeof PASSABLE / sizeof *PASSABLE; i++)
-        if (strcmp(discipline, PASSABLE[i]) == 0) return true;
+    static const char *const passable[] = {"noqueue", "pfifo_fast", "prio", "fq_codel", "mq"};
+    for (size_t i = 0; i < sizeof passable / sizeof *passable; i++)
+        if (strcmp(discipline, passable[i]) == 0) return true;
     return false;
 }
 
@@ -43,19 +41,14 @@ static bool give(int fd, const uint8_t *frame, bool bypass) {
     return send(fd, frame, NIW_FRAME, 0) == NIW_FRAME;
 }
 
-static bool has_queued(const struct link *link) {
-    int octets;
-    return ioctl(link->socket, SIOCOUTQ, &octets) == 0 && octets > 0;
-}
-
 /* Gives the kernel a frame, past a discipline in which it would wait behind data, or be refused with them: the order of LACPDUs and data
  * does not matter, and a marker goes by the socket of the data. No capture of this host shows what goes so. Where the driver has no room
  * at once, the frame waits with the data, and those after it go the same way until it left: an LACPDU that came behind a newer one would
  * undo that. */
 static bool give_past_data(struct link *link, const uint8_t *frame) {
-    bool bypass = !is_passable(link->discipline) || link->has_fifos;
-    link->queued = link->queued && has_queued(link);
-    if (!bypass || link->queued) return give(link->socket, frame, false);
+    int octets = 0;
+    link->queued = link->queued && ioctl(link->socket, SIOCOUTQ, &octets) == 0 && octets > 0;
+    if (link->queued || (is_passable(link->discipline) && !link->has_fifos)) return give(link->socket, frame, false);
     if (give(link->socket, frame, true)) return true;
     link->queued = errno == ENOBUFS && give(link->socket, frame, false);
     return link->queued;
@@ -133,52 +126,32 @@ void close_link(struct protocol *protocol, struct link *link) {
     link->changed = true;
 }
 
-/* Whether the socket of a link still has its interface. One that was made anew with the same number is another one. */
-bool is_bound(const struct link *link) {
-    struct sockaddr_ll address;
-    socklen_t length = sizeof address;
-    return getsockname(link->socket, (struct sockaddr *)&address, &length) == 0 && address.sll_ifindex == link->index;
-}
-
-/* Whether a second has room for one more LACPDU. The library counts ticks, of which two may come at once where one was late. */
-static bool has_room(const struct link *link) {
-    return link->lacpdus_at[0] == 0 || boottime() - link->lacpdus_at[0] > 1000;
-}
-
-static void note_lacpdu(struct link *link) {
-    memmove(link->lacpdus_at, link->lacpdus_at + 1, sizeof link->lacpdus_at - sizeof *link->lacpdus_at);
-    link->lacpdus_at[MOST_LACPDUS - 1] = boottime();
-    link->unsent = false;
-}
-
-static void keep_lacpdu(struct link *link, const uint8_t *frame) {
-    memmove(link->frame, frame, sizeof link->frame);
-    link->unsent = true;
-}
-
 /* Sends a frame, with the address that the interface has now. An LACPDU that the kernel does not take is sent again at each tick,
- * until a newer one is due; a response is lost, as on a wire. A response tells of what came before its marker, and may pass what goes. */
+ * until a newer one is due; so is one for which a second has no room: the library counts ticks, of which two may come at once where one was late. A
+ * response is lost, as on a wire. A response tells of what came before its marker, and may pass what goes. */
 void send_frame(struct protocol *protocol, struct link *link, const uint8_t *frame) {
     bool is_lacpdu = frame[SUBTYPE_AT] == SUBTYPE_LACP;
     uint8_t sent[NIW_FRAME];
     if (link->socket < 0) return;
-    if (is_lacpdu && !has_room(link)) {
-        keep_lacpdu(link, frame);
-        return;
-    }
     memcpy(sent, frame, sizeof sent);
-    memcpy(sent + 6, link->mac, 6);
-    if (is_lacpdu) link->tried = true;
+    if (is_lacpdu) {
+        memcpy(link->frame, sent, sizeof link->frame);
+        link->unsent = true;
+        if (link->lacpdus_at[0] != 0 && boottime() - link->lacpdus_at[0] <= 1000) return;
+        link->tried = true;
+    }
+    memcpy(sent + ETH_ALEN, link->mac, ETH_ALEN);
     if (give_past_data(link, sent)) {
-        if (is_done(protocol->process, niw_count_sent(&link->counters, sent, sizeof sent), "niw_count_sent") && is_lacpdu) note_lacpdu(link);
+        if (is_lacpdu) link->unsent = false;
+        if (!is_done(protocol->process, niw_count_sent(&link->counters, sent, sizeof sent), "niw_count_sent") || !is_lacpdu) return;
+        memmove(link->lacpdus_at, link->lacpdus_at + 1, sizeof link->lacpdus_at - sizeof *link->lacpdus_at);
+        link->lacpdus_at[MOST_LACPDUS - 1] = boottime();
         return;
     }
     link->counts[FAILED_SENT]++;
     suspect_carriers(protocol->changes);
-    if (errno != ENETDOWN && errno != ENXIO) { /* of a link that is down the kernel tells, too */
-        link->trouble = errno;
-        link->trouble_ticks = TROUBLE_TICKS;
-        link->changed = true;
-    }
-    if (is_lacpdu) keep_lacpdu(link, frame);
+    if (errno == ENETDOWN || errno == ENXIO) return; /* of a link that is down the kernel tells, too */
+    link->trouble = errno;
+    link->trouble_ticks = TROUBLE_TICKS;
+    link->changed = true;
 }

@@ -27,10 +27,11 @@ static struct link *link_of(struct ports *ports, const char *name) {
 
 /* The number that a port has, or had in the last daemon; 0 for none. */
 static uint16_t number_of(struct protocol *protocol, const char *name) {
+    const struct inherited *inherited = protocol->process->inherited;
     const struct link *link = link_of(protocol->ports, name);
-    if (protocol->process->has_started) return link ? link->settings.number : 0;
-    for (unsigned i = 0; i < protocol->process->inherited->port_count; i++)
-        if (strcmp(protocol->process->inherited->ports[i].name, name) == 0) return protocol->process->inherited->ports[i].number;
+    if (link) return link->settings.number;
+    for (unsigned i = 0; !protocol->process->has_started && i < inherited->port_count; i++)
+        if (strcmp(inherited->ports[i].name, name) == 0 && inherited->ports[i].number <= protocol->ports->slots) return inherited->ports[i].number;
     return 0;
 }
 
@@ -41,36 +42,25 @@ static bool has_carried(const struct inherited *inherited, const struct inherite
     return false;
 }
 
-/* Marks the numbers that a new port does not get: those of ports that are there, or, where so asked, are still to leave. */
-static void mark_taken(struct protocol *protocol, bool *taken, bool with_left) {
-    for (uint16_t i = 0; protocol->process->has_started && i < protocol->ports->count; i++) taken[i] = protocol->ports->links[i].used;
-    for (unsigned i = 0; with_left && !protocol->process->has_started && i < protocol->process->inherited->port_count; i++)
-        if (protocol->process->inherited->ports[i].number <= protocol->ports->slots
-            && has_carried(protocol->process->inherited, &protocol->process->inherited->ports[i]))
-            taken[protocol->process->inherited->ports[i].number - 1] = true;
-}
-
-/* The lowest number that no port has, which has it from now on; 0 where there is none. */
-static uint16_t claim_number(const struct ports *ports, bool *taken) {
-    uint16_t number = 1;
-    while (number <= ports->slots && taken[number - 1]) number++;
-    if (number > ports->slots) return 0;
-    taken[number - 1] = true;
-    return number;
-}
-
-/* Numbers these ports. One that is there, or was in the last daemon, keeps its number, and a new one has the lowest that is free. Answers whether
- * each found one. */
+/* Numbers these ports. One that is there, or was in the last daemon, keeps its number, and a new one has the lowest that is free: that of no port
+ * that is there or, where so asked, is still to leave. Answers whether each found one. */
 static bool number_ports(struct protocol *protocol, const struct port_settings *given, uint16_t count, uint16_t *numbers, bool with_left) {
-    bool taken[NIW_MOST_PORTS] = {false};
-    mark_taken(protocol, taken, with_left);
+    const struct inherited *inherited = protocol->process->inherited;
+    bool taken[NIW_MOST_PORTS + 1] = {true}; /* by number: there is no port 0 */
+    EACH_LINK(link, protocol->ports) taken[link->settings.number] = link->used;
+    for (unsigned i = 0; with_left && i < inherited->port_count; i++)
+        if (inherited->ports[i].number <= protocol->ports->slots && has_carried(inherited, &inherited->ports[i]))
+            taken[inherited->ports[i].number] = true;
     for (uint16_t i = 0; i < count; i++) {
         numbers[i] = number_of(protocol, given[i].name);
-        if (numbers[i] > protocol->ports->slots) numbers[i] = 0;
-        if (numbers[i] > 0) taken[numbers[i] - 1] = true;
+        taken[numbers[i]] = true;
     }
-    for (uint16_t i = 0; i < count; i++)
-        if (numbers[i] == 0 && (numbers[i] = claim_number(protocol->ports, taken)) == 0) return false;
+    for (uint16_t i = 0, lowest = 0; i < count; i++) {
+        if (numbers[i] != 0) continue;
+        while (lowest <= protocol->ports->slots && taken[lowest]) lowest++;
+        if (lowest > protocol->ports->slots) return false;
+        numbers[i] = lowest++;
+    }
     return true;
 }
 
@@ -80,9 +70,8 @@ bool place_ports(struct protocol *protocol, struct settings *settings) {
     struct port_settings given[NIW_MOST_PORTS];
     uint16_t numbers[NIW_MOST_PORTS], count = settings->port_count;
     memcpy(given, settings->ports, sizeof given);
-    if (!number_ports(protocol, given, count, numbers, true) && (protocol->process->has_started || !number_ports(protocol, given, count, numbers,
-        false)))
-        return false;
+    bool fits = !protocol->process->has_started && number_ports(protocol, given, count, numbers, true);
+    if (!fits && !number_ports(protocol, given, count, numbers, false)) return false;
     for (uint16_t i = 0; i < NIW_MOST_PORTS; i++) settings->ports[i] = unset_port();
     settings->port_count = 0;
     for (uint16_t i = 0; i < count; i++) {
@@ -94,14 +83,16 @@ bool place_ports(struct protocol *protocol, struct settings *settings) {
 
 /* Ports of the last daemon that the file has no more go on, so that their peers can be told, or as long as they are in the device. */
 void keep_left_ports(struct protocol *protocol) {
-    for (unsigned i = 0; i < protocol->process->inherited->port_count; i++) {
-        const struct inherited_port *port = &protocol->process->inherited->ports[i];
-        struct port_settings *settings = &protocol->settings->ports[port->number - 1];
-        if (port->number > protocol->ports->slots || settings->name[0] || !has_carried(protocol->process->inherited, port)) continue;
-        memcpy(settings->name, port->name, sizeof settings->name);
-        if (port->number > protocol->settings->port_count) protocol->settings->port_count = port->number;
-        protocol->ports->links[port->number - 1].left_over = !protocol->settings->follow;
-        protocol->ports->links[port->number - 1].followed = protocol->settings->follow;
+    const struct inherited *inherited = protocol->process->inherited;
+    struct settings *settings = protocol->settings;
+    for (const struct inherited_port *port = inherited->ports; port < inherited->ports + inherited->port_count; port++) {
+        struct link *link = &protocol->ports->links[port->number - 1];
+        if (port->number > protocol->ports->slots || link->used || !has_carried(inherited, port)) continue;
+        memcpy(settings->ports[port->number - 1].name, port->name, sizeof port->name);
+        if (port->number > settings->port_count) settings->port_count = port->number;
+        begin_link(protocol, port->number);
+        link->left_over = !settings->follow;
+        link->followed = settings->follow;
     }
 }
 
@@ -109,7 +100,7 @@ void keep_left_ports(struct protocol *protocol) {
 void begin_link(struct protocol *protocol, uint16_t port) {
     struct link *link = &protocol->ports->links[port - 1];
     *link = (struct link){.name = protocol->settings->ports[port - 1].name, .settings = port_of(protocol->settings, port), .socket = -1, .lock = -1,
-        .carrier_file = -1, .lines = MOST_LINES, .changed = true, .view = link->view, .left_over = link->left_over, .followed = link->followed};
+        .carrier_file = -1, .lines = MOST_LINES, .changed = true, .view = link->view};
     link->key = link->settings.key;
     link->used = link->name[0] != 0;
     link->held = wants_hold(protocol->settings, port);
@@ -126,11 +117,10 @@ static bool configure(struct protocol *protocol, struct link *link) {
         && apply_hold(protocol, port);
 }
 
-void join_port(struct protocol *protocol, uint16_t port, const struct port_settings *settings) {
-    struct link *link = &protocol->ports->links[port - 1];
+void join_port(struct protocol *protocol, struct link *link, const struct port_settings *settings) {
+    uint16_t port = link->settings.number;
     protocol->settings->ports[port - 1] = *settings;
     if (port > protocol->ports->count) protocol->settings->port_count = protocol->ports->count = port;
-    link->left_over = link->followed = false;
     begin_link(protocol, port);
     link->puts_in = true;
     CALL(protocol->plane->carrying->forget, protocol->plane, port);
@@ -146,7 +136,6 @@ static void end_leaving(struct protocol *protocol, struct link *link) {
     if (link->socket >= 0) lose_link(protocol, link);
     (void)say(protocol->process, LOG_NOTICE | ABOUT_PORT, "port %u %s: it left the bundle", port, link->name);
     protocol->settings->ports[port - 1] = unset_port();
-    link->left_over = link->followed = false;
     begin_link(protocol, port);
     protocol->plane->changed = true;
     look_at_bundle(protocol);
@@ -154,65 +143,52 @@ static void end_leaving(struct protocol *protocol, struct link *link) {
 
 /* A port is to be out of use, or to be used again; answers whether that is done. First its conversations move to others, behind markers, so that
  * nothing of ours is on its way there once the peer takes nothing more. */
-bool begin_hold(struct protocol *protocol, uint16_t port) {
-    struct link *link = &protocol->ports->links[port - 1];
+bool begin_hold(struct protocol *protocol, struct link *link) {
+    uint16_t port = link->settings.number;
+    bool out_of_use = link->held || link->leaving;
     link->leaves_since = milliseconds();
     link->left_at = 0;
-    link->emptying = (link->held || link->leaving) && ASK(protocol->plane->carrying->can_empty, false, protocol->plane, port);
-    if (link->emptying) {
-        protocol->plane->changed = true;
-        return true;
-    }
-    if (link->held || link->leaving) CALL(protocol->plane->carrying->drain, protocol->plane, port);
+    link->emptying = out_of_use && ASK(protocol->plane->carrying->can_empty, false, protocol->plane, port);
+    protocol->plane->changed = true;
+    if (link->emptying) return true;
+    if (out_of_use) CALL(protocol->plane->carrying->drain, protocol->plane, port);
     return apply_hold(protocol, port);
 }
 
 /* A port that is emptied is held, once it is empty, or after a while. */
-static void end_emptying(struct protocol *protocol, uint16_t port) {
-    struct link *link = &protocol->ports->links[port - 1];
+static void end_emptying(struct protocol *protocol, struct link *link) {
+    uint16_t port = link->settings.number;
     if (link->up && milliseconds() - link->leaves_since < MOST_WAIT && !ASK(protocol->plane->carrying->empty, true, protocol->plane, port)) return;
     link->emptying = false;
     link->leaves_since = milliseconds();
     CALL(protocol->plane->carrying->drain, protocol->plane, port);
-    if (!apply_hold(protocol, port)) return;
-    send_due(protocol);
-    read_views(protocol);
-    protocol->plane->changed = true;
+    if (apply_hold(protocol, port)) settle_calls(protocol);
 }
 
 /* A port goes: its peer is told, and its conversations leave it. One whose link is down is gone at once. */
-void leave_port(struct protocol *protocol, uint16_t port) {
-    struct link *link = &protocol->ports->links[port - 1];
+void leave_port(struct protocol *protocol, struct link *link) {
     if (link->leaving) return;
-    link->leaving = true;
+    link->leaving = link->changed = true;
     if (!link->up) {
         end_leaving(protocol, link);
         return;
     }
-    (void)say(protocol->process, LOG_NOTICE | ABOUT_PORT, "port %u %s: it leaves the bundle", port, link->name);
-    if (!begin_hold(protocol, port)) return;
-    send_due(protocol);
-    read_views(protocol);
-    link->changed = true;
-    protocol->plane->changed = true;
+    (void)say(protocol->process, LOG_NOTICE | ABOUT_PORT, "port %u %s: it leaves the bundle", link->settings.number, link->name);
+    if (begin_hold(protocol, link)) settle_calls(protocol);
 }
 
-void stay_port(struct protocol *protocol, uint16_t port) {
-    struct link *link = &protocol->ports->links[port - 1];
+void stay_port(struct protocol *protocol, struct link *link) {
     if (!link->leaving) return;
     link->leaving = false;
     link->changed = true;
-    (void)say(protocol->process, LOG_NOTICE | ABOUT_PORT, "port %u %s: it stays in the bundle", port, link->name);
-    if (!begin_hold(protocol, port)) return;
-    send_due(protocol);
-    protocol->plane->changed = true;
+    (void)say(protocol->process, LOG_NOTICE | ABOUT_PORT, "port %u %s: it stays in the bundle", link->settings.number, link->name);
+    if (begin_hold(protocol, link)) settle_calls(protocol);
 }
 
 /* Whether nothing of ours is on a link that is held, and its partner sends nothing more there, as far as it tells. */
 static bool is_quiet(struct protocol *protocol, const struct link *link) {
     uint64_t load = 0, held = 0;
     bool stopped = link->view.defaulted || !(link->view.partner_state & (NIW_STATE_COLLECTING | NIW_STATE_DISTRIBUTING));
-    if (!link->up) return true;
     return stopped && is_told(protocol->process, niw_load(&protocol->own_system, link->settings.number), "niw_load", &load) && load == 0
         && is_told(protocol->process, niw_held(&protocol->own_system, link->settings.number), "niw_held", &held) && held == 0;
 }
@@ -226,31 +202,26 @@ static bool has_left(struct protocol *protocol, struct link *link) {
     return link->left_at != 0 && now - link->left_at >= LINGERS;
 }
 
-/* A port that the device alone had is one no more. */
-static void drop_followed(struct protocol *protocol) {
-    EACH_LINK(link, protocol->ports)
-        if (link->used && link->followed && link->outside && !link->leaving) leave_port(protocol, link->settings.number);
-}
-
+/* 100 ms passed. A port that the device alone had, and has no more, leaves. */
 void pass_leaving_tick(struct protocol *protocol) {
-    if (protocol->settings->follow) drop_followed(protocol);
-    for (uint16_t i = 0; i < protocol->ports->count && !protocol->process->broken; i++)
-        if (protocol->ports->links[i].emptying) end_emptying(protocol, (uint16_t)(i + 1));
-    for (uint16_t i = 0; i < protocol->ports->count && !protocol->process->broken; i++)
-        if (protocol->ports->links[i].leaving && has_left(protocol, &protocol->ports->links[i])) end_leaving(protocol, &protocol->ports->links[i]);
+    EACH_LINK(link, protocol->ports) {
+        if (protocol->process->broken) return;
+        if (protocol->settings->follow && link->used && link->followed && link->outside) leave_port(protocol, link);
+        if (link->emptying) end_emptying(protocol, link);
+        if (link->leaving && has_left(protocol, link)) end_leaving(protocol, link);
+    }
 }
 
 /* The ports of the last daemon went on: those that the file has no more leave. */
 void leave_left_ports(struct protocol *protocol) {
     EACH_LINK(link, protocol->ports)
-        if (link->used && link->left_over) leave_port(protocol, link->settings.number);
+        if (link->used && link->left_over) leave_port(protocol, link);
 }
 
 /* Whether the daemon puts an interface into the device: where others choose its ports, only what the administrator asked for, and what a file has as
  * the device is made. */
 bool may_put_in(struct protocol *protocol, const struct link *link) {
-    return !protocol->settings->follow || link->puts_in
-        || (!protocol->process->has_started && protocol->plane->is_new);
+    return !protocol->settings->follow || link->puts_in || (!protocol->process->has_started && protocol->plane->is_new);
 }
 
 /* Whether an interface is no port, as others choose the ports of the device and it is not in there. */
@@ -271,21 +242,26 @@ void tell_taken_out(struct protocol *protocol, struct link *link) {
     if (apply_hold(protocol, port)) link->changed = true;
 }
 
+/* A number that no port has, as its place, or NULL. */
+static struct link *free_place(struct ports *ports) {
+    for (struct link *link = ports->links; link < ports->links + ports->slots; link++)
+        if (!link->used) return link;
+    return NULL;
+}
+
 /* The kernel told of an interface that is no port. Where it is in a device whose ports others choose, it becomes one. That may be older than what was
  * done since, as one that leaves is taken out: it is asked. */
 void follow_port(struct protocol *protocol, const struct interface *interface) {
     struct port_settings settings = unset_port();
     struct interface now;
-    uint16_t port = 1;
+    struct link *link = free_place(protocol->ports);
     if (!protocol->settings->follow || interface->master == 0 || interface->master != tap_index(protocol->device) || interface->type != ARPHRD_ETHER)
         return;
-    if (!ask_interface(interface->index, NULL, &now) || now.master != interface->master) return;
-    while (port <= protocol->ports->slots && protocol->ports->links[port - 1].used) port++;
-    if (port > protocol->ports->slots) return;
+    if (!link || !ask_interface(interface->index, NULL, &now) || now.master != interface->master) return;
     memcpy(settings.name, interface->name, sizeof interface->name);
-    join_port(protocol, port, &settings);
-    protocol->ports->links[port - 1].followed = protocol->ports->links[port - 1].present = true;
-    protocol->ports->links[port - 1].puts_in = false; /* others did, and may have taken it out since */
+    join_port(protocol, link, &settings);
+    link->followed = link->present = true;
+    link->puts_in = false; /* others did, and may have taken it out since */
 }
 
 /* The interface of a port that the device alone has was given another name: it is the same port. Answers whether it is. */
@@ -315,40 +291,38 @@ static const char *fault_of(struct protocol *protocol, const char *name) {
 
 /* Adds a port by INTERFACE[:WORD,..]; answers what is wrong, of which some is written into `room`, or NULL, and its number. */
 static const char *add_by_words(struct protocol *protocol, char *text, uint16_t *port, char room[static ORDER_ROOM]) {
-    static const char no_room[] = "there is no room for one more port: a restart of this bundle makes it";
     struct settings wanted = {.port_count = 0};
-    const char *found, *expected = read_port(&protocol->process->words, text, &wanted, &found), *fault;
-    struct link *known = expected ? NULL : link_of(protocol->ports, wanted.ports[0].name);
+    struct port_settings *settings = &wanted.ports[0];
+    const char *found, *expected = read_port(&protocol->process->words, text, &wanted, &found);
     text[strcspn(text, ":")] = 0;
-    if (expected && found != text) snprintf(room, ORDER_ROOM, "%.32s: expected %s", found, expected);
-    else snprintf(room, ORDER_ROOM, "expected %s", expected ? expected : "");
-    if (expected) return room;
-    if (known && !known->leaving) return "it is a port already";
-    if (known) {
-        *port = known->settings.number;
-        stay_port(protocol, *port);
-        return NULL;
+    if (expected) {
+        snprintf(room, ORDER_ROOM, "%.32s%sexpected %s", found == text ? "" : found, found == text ? "" : ": ", expected);
+        return room;
     }
-    fault = fault_of(protocol, wanted.ports[0].name);
+    struct link *known = link_of(protocol->ports, settings->name), *link = known ? known : free_place(protocol->ports);
+    const char *fault = known ? NULL : fault_of(protocol, settings->name);
+    if (known && !known->leaving) return "it is a port already";
     if (fault) return fault;
-    if (wanted.ports[0].key != AS_BUNDLE && !has_aggregator(protocol->keys, (uint16_t)wanted.ports[0].key))
+    if (!known && settings->key != AS_BUNDLE && !has_aggregator(protocol->keys, (uint16_t)settings->key))
         return "no port had this key at the start: a restart of this bundle makes aggregators of it";
-    for (*port = 1; *port <= protocol->ports->slots && protocol->ports->links[*port - 1].used;) ++*port;
-    if (*port > protocol->ports->slots) return no_room;
-    join_port(protocol, *port, &wanted.ports[0]);
+    if (!link) return "there is no room for one more port: a restart of this bundle makes it";
+    *port = link->settings.number;
+    if (known)
+        stay_port(protocol, known);
+    else
+        join_port(protocol, link, settings);
     return NULL;
 }
 
 /* Puts a port out of use, or lets it be used again; answers whether it is done, as far as anything is on its way. */
 static bool hold_by_word(struct protocol *protocol, struct link *link, bool hold) {
-    uint16_t port = link->settings.number;
     if (link->held != hold) {
-        (void)say(protocol->process, LOG_NOTICE | ABOUT_PORT, "port %u %s: it is %s", port, link->name, hold ? "held" : "used again");
-        if (!hold_port(protocol, port, hold)) return true;
-        protocol->settings->ports[port - 1].hold = hold;
-        send_due(protocol);
-        read_views(protocol);
-        protocol->plane->changed = true;
+        (void)say(protocol->process, LOG_NOTICE | ABOUT_PORT, "port %u %s: it is %s", link->settings.number, link->name,
+            hold ? "held" : "used again");
+        link->held = hold;
+        if (!begin_hold(protocol, link)) return true;
+        protocol->settings->ports[link->settings.number - 1].hold = hold;
+        settle_calls(protocol);
     }
     return !hold || has_left(protocol, link);
 }
@@ -357,21 +331,23 @@ static bool hold_by_word(struct protocol *protocol, struct link *link, bool hold
  * `removed` is, or a refusal, and a line end. */
 void answer_order(struct protocol *protocol, char *order, char answer[static ORDER_ROOM]) {
     char *name = strchr(order, ' ') + 1, room[ORDER_ROOM];
-    bool adds = strncmp(order, "add ", 4) == 0, removes = strncmp(order, "remove ", 7) == 0, holds = strncmp(order, "hold ", 5) == 0, done = true;
+    bool removes = strncmp(order, "remove ", 7) == 0, done = true;
     struct link *link = link_of(protocol->ports, name);
     const char *fault = NULL;
     uint16_t port = link ? link->settings.number : 0;
-    if (adds) fault = add_by_words(protocol, name, &port, room);
-    if (strncmp(order, "removed ", 8) == 0) {
+    if (strncmp(order, "add ", 4) == 0) {
+        fault = add_by_words(protocol, name, &port, room);
+    } else if (strncmp(order, "removed ", 8) == 0) {
         done = link == NULL;
-        fault = link && !link->leaving ? "it stays in the bundle" : NULL;
-    } else if (!adds && (!link || (link->leaving && !removes)))
+        if (link && !link->leaving) fault = "it stays in the bundle";
+    } else if (!link || (link->leaving && !removes)) {
         fault = "it is no port of this bundle";
-    else if (!fault && removes) {
-        leave_port(protocol, port);
-        done = !protocol->ports->links[port - 1].used;
-    } else if (!fault && !adds)
-        done = hold_by_word(protocol, link, holds);
+    } else if (removes) {
+        leave_port(protocol, link);
+        done = !link->used;
+    } else {
+        done = hold_by_word(protocol, link, strncmp(order, "hold ", 5) == 0);
+    }
     if (fault)
         snprintf(answer, ORDER_ROOM, REFUSAL "%.127s: %.180s\n", name, fault);
     else if (port > 0)

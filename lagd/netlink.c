@@ -1,7 +1,8 @@
-/* Questions to the kernel by netlink, and the attributes of its answers. libmnl has the layout of messages; this file has what the daemon
+/* Questions to the kernel by netlink, and what its answers tell of interfaces. libmnl has the layout of messages; this file has what the daemon
  * asks of them. */
 #include "netlink.h"
 
+#include <linux/if_link.h>
 #include <linux/rtnetlink.h>
 
 /* The octets of a part of an answer: the kernel makes none longer. */
@@ -39,17 +40,6 @@ int error_of(const struct nlmsghdr *message) {
     return *error <= 0 && *error >= -LAST_ERROR ? *error : -EPROTO;
 }
 
-/* Opens a socket that the kernel alone may send to: any program of the machine may send to others. */
-static struct mnl_socket *open_netlink(int bus) {
-    static const struct sockaddr_nl kernel = {.nl_family = AF_NETLINK};
-    struct mnl_socket *opened = mnl_socket_open2(bus, SOCK_NONBLOCK | SOCK_CLOEXEC);
-    if (!opened || connect(mnl_socket_get_fd(opened), (const struct sockaddr *)&kernel, sizeof kernel) == 0) return opened;
-    int fault = errno;
-    (void)mnl_socket_close(opened);
-    errno = fault;
-    return NULL;
-}
-
 /* Reads the answer up to its last message, which the kernel has sent once it took the question; answers its error, or 0. It is EINTR where what was
  * asked for changed meanwhile, so that some of it may be missing. */
 static int read_answer(const struct mnl_socket *asked, message_reader read_one, void *into) {
@@ -68,47 +58,39 @@ static int read_answer(const struct mnl_socket *asked, message_reader read_one, 
     return EPROTO;
 }
 
-/* Asks the kernel; answers whether it did so, and else errno tells why not. */
+/* Asks the kernel; answers whether it did so, and else errno tells why not. The kernel alone may send to the socket: any program of the machine may
+ * send to others. */
 bool ask_netlink(int bus, const union message *question, message_reader read_one, void *into) {
-    struct mnl_socket *asked = open_netlink(bus);
+    static const struct sockaddr_nl kernel = {.nl_family = AF_NETLINK};
+    struct mnl_socket *asked = mnl_socket_open2(bus, SOCK_NONBLOCK | SOCK_CLOEXEC);
     if (!asked) return false;
-    int fault = mnl_socket_sendto(asked, question, question->head.nlmsg_len) < 0 ? errno : read_answer(asked, read_one, into);
+    bool is_sent = connect(mnl_socket_get_fd(asked), (const struct sockaddr *)&kernel, sizeof kernel) == 0
+        && mnl_socket_sendto(asked, question, question->head.nlmsg_len) >= 0;
+    int fault = is_sent ? read_answer(asked, read_one, into) : errno;
     (void)mnl_socket_close(asked);
     errno = fault;
     return fault == 0;
 }
 
-/* Has the kernel do something of interfaces. */
 bool ask_kernel(const union message *wanted) {
     return ask_netlink(NETLINK_ROUTE, wanted, NULL, NULL);
 }
 
-/* As ask_netlink, of a list of which the kernel may change something while it tells it: then it is asked again. `into` has `size` octets, which are
- * as they were for each answer. */
+/* As ask_netlink, of a list of which the kernel may change something while it tells it: then it is asked again. `into` has `size` octets, MOST_LISTED
+ * at most, which are as they were for each answer. */
 bool ask_list(int bus, const union message *question, message_reader read_one, void *into, size_t size) {
     uint8_t before[MOST_LISTED];
-    bool told = false;
-    if (size > sizeof before) return ask_netlink(bus, question, read_one, into);
-    if (into) memcpy(before, into, size);
-    errno = EINTR;
-    for (int tries = 0; !told && errno == EINTR && tries < MOST_TRIES; tries++) {
-        if (into) memcpy(into, before, size);
-        told = ask_netlink(bus, question, read_one, into);
+    memcpy(before, into, size);
+    for (int tries = 1; !ask_netlink(bus, question, read_one, into); tries++) {
+        if (errno != EINTR || tries == MOST_TRIES) return false;
+        memcpy(into, before, size);
     }
-    return told;
-}
-
-/* Reads the attributes of a message, behind so many octets. mnl_attr_parse would read up to three octets behind a message, too. */
-void read_attributes(const struct nlmsghdr *message, size_t before, mnl_attr_cb_t take, void *into) {
-    size_t length = mnl_nlmsg_get_payload_len(message), begin = NLMSG_ALIGN(before);
-    if (length > begin) (void)mnl_attr_parse_payload(mnl_nlmsg_get_payload_offset(message, begin), length - begin, take, into);
+    return true;
 }
 
 /* The attribute of a type behind so many octets of a message, or NULL. */
 const struct nlattr *attribute_of(const struct nlmsghdr *message, size_t before, uint16_t type) {
-    size_t length = mnl_nlmsg_get_payload_len(message), begin = NLMSG_ALIGN(before);
-    if (length <= begin) return NULL;
-    EACH_ATTRIBUTE(attribute, mnl_nlmsg_get_payload_offset(message, begin), length - begin)
+    EACH_ATTRIBUTE(attribute, message, before)
         if (mnl_attr_get_type(attribute) == type) return attribute;
     return NULL;
 }
@@ -128,13 +110,64 @@ bool copy_value(const struct nlattr *attribute, void *into, size_t octets) {
 /* Copies a text, with a zero behind it, if it has room. */
 void copy_text(const struct nlattr *attribute, char *into, size_t room) {
     size_t length = mnl_attr_get_payload_len(attribute);
-    if (length > room) return;
-    memset(into, 0, room);
-    memcpy(into, mnl_attr_get_payload(attribute), length);
-    into[room - 1] = 0;
+    if (length <= room) snprintf(into, room, "%.*s", (int)length, mnl_attr_get_str(attribute));
 }
 
-bool is_text(const struct nlattr *attribute, const char *text) {
-    const void *value = value_of(attribute, strlen(text) + 1);
-    return value && memcmp(value, text, strlen(text) + 1) == 0;
+/* Takes one attribute of an interface. One that is shorter or longer than its type is not taken. */
+static void parse_attribute(struct interface *interface, const struct nlattr *attribute) {
+    struct rtnl_link_stats64 counts = {0};
+    uint8_t carrier = 0;
+    size_t length = mnl_attr_get_payload_len(attribute);
+    switch (mnl_attr_get_type(attribute)) {
+    case IFLA_IFNAME: copy_text(attribute, interface->name, sizeof interface->name); break;
+    case IFLA_ADDRESS: interface->has_mac = copy_value(attribute, interface->mac, sizeof interface->mac); break;
+    case IFLA_CARRIER_DOWN_COUNT: interface->counts_losses = copy_value(attribute, &interface->losses, sizeof interface->losses); break;
+    case IFLA_QDISC: copy_text(attribute, interface->discipline, sizeof interface->discipline); break;
+    case IFLA_MTU: (void)copy_value(attribute, &interface->mtu, sizeof interface->mtu); break;
+    case IFLA_CARRIER: interface->carrier = copy_value(attribute, &carrier, sizeof carrier) && carrier != 0; break;
+    case IFLA_LINK: (void)copy_value(attribute, &interface->below, sizeof interface->below); break;
+    case IFLA_LINK_NETNSID: interface->elsewhere = value_of(attribute, sizeof(int)) != NULL; break;
+    case IFLA_NEW_NETNSID: interface->moved = true; break;
+    case IFLA_MASTER: (void)copy_value(attribute, &interface->master, sizeof interface->master); break;
+    case IFLA_LINKINFO:
+        EACH_NESTED(part, attribute)
+            if (mnl_attr_get_type(part) == IFLA_INFO_KIND) copy_text(part, interface->kind, sizeof interface->kind);
+        break;
+    case IFLA_PROP_LIST: interface->others = attribute; break;
+    case IFLA_STATS64:
+        memcpy(&counts, mnl_attr_get_payload(attribute), length < sizeof counts ? length : sizeof counts);
+        interface->octets_sent = counts.tx_bytes;
+        interface->frames_received = counts.rx_packets;
+        break;
+    default: break;
+    }
+}
+
+/* Reads a message that tells of an interface; of one that is too short the index is 0. */
+struct interface read_interface(const struct nlmsghdr *message) {
+    struct interface interface = {0};
+    const struct ifinfomsg *about = mnl_nlmsg_get_payload(message);
+    if (mnl_nlmsg_get_payload_len(message) < sizeof *about) return interface;
+    interface.index = about->ifi_index;
+    interface.flags = about->ifi_flags;
+    interface.type = about->ifi_type;
+    EACH_ATTRIBUTE(attribute, message, sizeof *about) parse_attribute(&interface, attribute);
+    return interface;
+}
+
+static void parse_interface(const struct nlmsghdr *message, void *into) {
+    struct interface *interface = into;
+    if (message->nlmsg_type == RTM_NEWLINK) *interface = read_interface(message);
+}
+
+/* Reads what the kernel has of an interface now; answers whether there is one of this number, or of this name or alternative name, where the
+ * number is 0, and else errno tells why not. Its other names are not kept. */
+bool ask_interface(int index, const char *name, struct interface *interface) {
+    union message question = message_of_interface(RTM_GETLINK, NLM_F_ACK, index);
+    if (index == 0 && name) mnl_attr_put_strz(&question.head, strlen(name) < DEVICE_ROOM ? IFLA_IFNAME : IFLA_ALT_IFNAME, name);
+    *interface = (struct interface){0};
+    bool told = ask_netlink(NETLINK_ROUTE, &question, parse_interface, interface);
+    interface->others = NULL;
+    if (told && interface->index == 0) errno = EPROTO;
+    return told && interface->index != 0;
 }

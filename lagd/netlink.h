@@ -15,11 +15,15 @@ union message {
 /* What is done with each message of an answer. It asks nothing itself. */
 typedef void (*message_reader)(const struct nlmsghdr *message, void *into);
 
-/* Each attribute of so many octets, and of another attribute; those of libmnl convert numbers without a word. */
-#define EACH_ATTRIBUTE(attribute, payload, length) \
-    for (const struct nlattr *attribute = (payload); mnl_attr_ok(attribute, (int)((const char *)(payload) + (length) - (const char *)attribute)); \
+/* Each attribute behind so many octets of a message, and each within another one; those of libmnl convert numbers without a word, and read up
+ * to three octets behind a message, too. */
+#define EACH_WITHIN(attribute, first, end) \
+    for (const struct nlattr *attribute = (first); mnl_attr_ok(attribute, (int)((const char *)(end) - (const char *)attribute)); \
         attribute = mnl_attr_next(attribute))
-#define EACH_NESTED(attribute, nest) EACH_ATTRIBUTE(attribute, mnl_attr_get_payload(nest), mnl_attr_get_payload_len(nest))
+#define EACH_ATTRIBUTE(attribute, message, before) \
+    EACH_WITHIN(attribute, mnl_nlmsg_get_payload_offset(message, before), (const char *)(message) + (message)->nlmsg_len)
+#define EACH_NESTED(attribute, nest) \
+    EACH_WITHIN(attribute, mnl_attr_get_payload(nest), (const char *)mnl_attr_get_payload(nest) + mnl_attr_get_payload_len(nest))
 
 /* netlink.c */
 union message message_of(uint16_t type, unsigned flags, const void *about, size_t length);
@@ -29,12 +33,10 @@ bool ask_kernel(const union message *wanted);
 bool ask_list(int bus, const union message *question, message_reader read_one, void *into, size_t size);
 bool is_whole(const struct nlmsghdr *message, int left);
 int error_of(const struct nlmsghdr *message);
-void read_attributes(const struct nlmsghdr *message, size_t before, mnl_attr_cb_t take, void *into);
 const struct nlattr *attribute_of(const struct nlmsghdr *message, size_t before, uint16_t type);
 const void *value_of(const struct nlattr *attribute, size_t octets);
 bool copy_value(const struct nlattr *attribute, void *into, size_t octets);
 void copy_text(const struct nlattr *attribute, char *into, size_t room);
-bool is_text(const struct nlattr *attribute, const char *text);
 
 /* What the kernel has of an interface. */
 struct interface {
@@ -56,7 +58,6 @@ struct interface {
     uint64_t octets_sent, frames_received;
 };
 
-/* interfaces.c */
 struct interface read_interface(const struct nlmsghdr *message);
 bool ask_interface(int index, const char *name, struct interface *interface);
 

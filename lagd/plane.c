@@ -1,4 +1,4 @@
-/* The tables of what carries the data, and the switch that chooses them. */
+/* The tables of what carries the data, and which of them hold. */
 #include "control.h"
 
 static const struct carrying NO_DEVICE = {0};
@@ -43,27 +43,18 @@ static const struct queueing ALL_QUEUES = {
     .answer = answer_later, .show = show_queues, .text = ", all queues", .markers_at_once = MARKERS_AT_ONCE,
 };
 
-void choose_no_plane(struct plane *plane) {
-    plane->carrying = &NO_DEVICE;
-    plane->passing = &BY_DAEMON;
-    plane->queueing = &ONE_QUEUE;
-    plane->segments = plane->wants_fifo = plane->renews = false;
-}
-
-static void choose_tap(struct plane *plane, const struct settings *settings) {
-    plane->carrying = &TAP_DEVICE;
-    if (settings->fast) plane->passing = &BY_KERNEL;
-    if (settings->all_queues) plane->queueing = &ALL_QUEUES;
-    plane->segments = settings->offload || settings->fast;
-    plane->wants_fifo = plane->segments || settings->all_queues;
-    plane->renews = settings->fast || settings->all_queues;
-}
-
 void choose_plane(struct plane *plane, const struct settings *settings) {
-    choose_no_plane(plane);
-    if (!settings->carry[0]) return;
-    switch (settings->plane) {
-    case PLANE_TAP: choose_tap(plane, settings); break;
-    case PLANE_TEAM: plane->carrying = &TEAM_DEVICE; break;
-    }
+    bool has_device = settings->carry[0] != 0, by_tap = has_device && settings->plane == PLANE_TAP;
+    bool fast = by_tap && settings->fast, all_queues = by_tap && settings->all_queues;
+    plane->carrying = by_tap ? &TAP_DEVICE : has_device ? &TEAM_DEVICE : &NO_DEVICE;
+    plane->passing = fast ? &BY_KERNEL : &BY_DAEMON;
+    plane->queueing = all_queues ? &ALL_QUEUES : &ONE_QUEUE;
+    plane->segments = fast || (by_tap && settings->offload);
+    plane->wants_fifo = plane->segments || all_queues;
+    plane->renews = fast || all_queues;
+}
+
+void choose_no_plane(struct plane *plane) {
+    static const struct settings none;
+    choose_plane(plane, &none);
 }

@@ -56,11 +56,12 @@ void read_views(struct protocol *protocol) {
     struct niw_view views[NIW_MOST_PORTS];
     uint64_t changed;
     if (!is_told(protocol->process, niw_views(&protocol->own_system, views, NIW_MOST_PORTS), "niw_views", &changed)) return;
-    for (uint16_t i = 0; i < protocol->ports->count; i++) {
-        if (!(changed >> i & 1)) continue;
-        count_change(protocol->settings, &protocol->ports->links[i], &views[i]);
-        protocol->ports->links[i].view = views[i];
-        protocol->ports->links[i].changed = true;
+    EACH_LINK(link, protocol->ports) {
+        const struct niw_view *now = &views[link->settings.number - 1];
+        if (!(changed >> (link->settings.number - 1) & 1)) continue;
+        count_change(protocol->settings, link, now);
+        link->view = *now;
+        link->changed = true;
     }
 }
 
@@ -71,25 +72,17 @@ static bool is_same(const struct facts *one, const struct facts *other) {
         && one->partner_port == other->partner_port;
 }
 
-/* Why a port is in trouble, behind a comma. */
-static const char *trouble_text(const struct ports *ports, const struct link *link, char *room, size_t size) {
-    char holder[HOLDER_ROOM];
-    room[0] = 0;
-    if (link->trouble == EADDRINUSE)
-        snprintf(room, size, ", another lagd has the interface: %s", holder_of(ports, link->index, holder));
-    else if (link->trouble)
-        snprintf(room, size, ", %s", strerror(link->trouble));
-    return room;
-}
-
-/* Prints a port; answers whether it could. */
 static bool print_facts(struct protocol *protocol, const struct link *link, const struct facts *facts, bool watched) {
-    char whose[96] = "no partner", system[32], trouble[128];
+    char whose[96] = "no partner", system[32], trouble[128] = "", holder[HOLDER_ROOM];
     int level = (facts->status == NIW_PORT_STATUS_DISTRIBUTING ? LOG_NOTICE : LOG_WARNING) | (watched ? WATCHED : 0) | ABOUT_PORT;
     if (!facts->defaulted)
         snprintf(whose, sizeof whose, "partner %s key %u port %u", system_text(&facts->partner, system), facts->partner_key, facts->partner_port);
+    if (link->trouble == EADDRINUSE)
+        snprintf(trouble, sizeof trouble, ", another lagd has the interface: %s", holder_of(protocol->ports, link->index, holder));
+    else if (link->trouble)
+        snprintf(trouble, sizeof trouble, ", %s", strerror(link->trouble));
     return say(protocol->process, level, "port %u %s: %s, aggregator %u, %s%s", link->settings.number, link->name, status_text(facts->status),
-        facts->aggregator, whose, trouble_text(protocol->ports, link, trouble, sizeof trouble));
+        facts->aggregator, whose, trouble);
 }
 
 /* Looks at a port, and prints it if it changed; answers whether it did. What could not be printed is looked at again. */

@@ -8,11 +8,11 @@
 
 /* No interface has this index. */
 #define NO_INDEX INT_MAX
-#define NO_PROGRAMS "the kernel has no program of an interface, which Linux has from 6.6 on"
 
-/* Tells what is lacking, or not known, for a key of the file. */
-static void tell(struct process *process, const struct options *options, const char *key, const char *what) {
+/* Tells what is lacking, or not known, for a key of the file; answers how the program ends. */
+static int tell(struct process *process, const struct options *options, const char *key, const char *what, int status) {
     complain(process, "%s:%u: %s: %s", options->file, line_of(&options->settings, key), key, what);
+    return status;
 }
 
 /* Whether the kernel has a program run at an interface, as Linux does from 6.6 on: then it misses the interface alone. 0, or -errno. */
@@ -27,33 +27,27 @@ int fault_of_programs(const struct settings *settings) {
 /* Whether the kernel has what a key wants: programs of an interface, and for `fast` to wait for them. Answers how the program ends. */
 static int check_programs(struct process *process, const struct options *options, const char *key, bool waits) {
     int fault = fault_of_programs(process->settings);
-    bool lacks = fault == 0 && waits && syscall(SYS_membarrier, MEMBARRIER_CMD_GLOBAL, 0, 0) != 0;
-    if (fault == 0 && !lacks) return DONE;
-    tell(process, options, key, lacks ? "the kernel cannot wait for its programs (membarrier)"
-        : fault == -EPERM ? "not known without CAP_BPF and CAP_NET_ADMIN" : NO_PROGRAMS);
-    return fault == -EPERM ? DONE : REFUSED;
+    if (fault == -EPERM) return tell(process, options, key, "not known without CAP_BPF and CAP_NET_ADMIN", DONE);
+    if (fault != 0) return tell(process, options, key, "the kernel has no program of an interface, which Linux has from 6.6 on", REFUSED);
+    if (!waits || syscall(SYS_membarrier, MEMBARRIER_CMD_GLOBAL, 0, 0) == 0) return DONE;
+    return tell(process, options, key, "the kernel cannot wait for its programs (membarrier)", REFUSED);
 }
 
 /* Whether the kernel has the team driver, and its mode, which is another module: answers how the program ends. The mode is tried in a network
  * namespace that ends with the program, where that may be made. */
 static int check_team(struct team_plane *team, const struct options *options) {
     bool is_apart = unshare(CLONE_NEWNET) == 0, has_driver = find_team_driver(team);
-    if (!has_driver && errno == EPERM) {
-        tell(team->process, options, "plane", "not known without CAP_NET_ADMIN");
-        return DONE;
-    }
-    if (has_driver && (!is_apart || has_team_mode(team))) return DONE;
-    tell(team->process, options, "plane", has_driver ? "the team driver of this kernel has no mode loadbalance" : "this kernel has no team driver");
-    return REFUSED;
+    if (!has_driver && errno == EPERM) return tell(team->process, options, "plane", "not known without CAP_NET_ADMIN", DONE);
+    if (!has_driver) return tell(team->process, options, "plane", "this kernel has no team driver", REFUSED);
+    if (!is_apart || has_team_mode(team)) return DONE;
+    return tell(team->process, options, "plane", "the team driver of this kernel has no mode loadbalance", REFUSED);
 }
 
 /* Says what this machine lacks for a file that is right: answers how the program ends. */
 int check_machine(struct control *control, const struct options *options) {
-    if (options->settings.plane == PLANE_TEAM) return check_team(control->team, options);
-    if (options->settings.carry[0] && access("/dev/net/tun", F_OK) < 0) {
-        tell(control->process, options, "carry", "there is no /dev/net/tun");
-        return REFUSED;
-    }
-    if (options->settings.fast && check_programs(control->process, options, "fast", true) != DONE) return REFUSED;
-    return options->settings.all_queues ? check_programs(control->process, options, "queues", false) : DONE;
+    const struct settings *settings = &options->settings;
+    if (settings->plane == PLANE_TEAM) return check_team(control->team, options);
+    if (settings->carry[0] && access("/dev/net/tun", F_OK) < 0) return tell(control->process, options, "carry", "there is no /dev/net/tun", REFUSED);
+    if (settings->fast && check_programs(control->process, options, "fast", true) != DONE) return REFUSED;
+    return settings->all_queues ? check_programs(control->process, options, "queues", false) : DONE;
 }

@@ -33,7 +33,9 @@ static bool change_port(struct protocol *protocol, uint16_t port, const struct s
         now->short_timeout = next.short_timeout;
         changed = true;
     }
-    return (link->held != hold && hold_port(protocol, port, hold)) || changed;
+    if (link->held == hold) return changed;
+    link->held = hold;
+    return begin_hold(protocol, link) || changed;
 }
 
 /* Who may be the partner changes for each link at once. One that is no longer pinned is so by who speaks next. */
@@ -57,7 +59,7 @@ static bool apply_port(struct protocol *protocol, uint16_t port, const struct se
     bool was_leaving = link->leaving, is_wanted = wanted->ports[port - 1].name[0] != 0;
     if (!link->used && (!is_wanted || !has_aggregator(protocol->keys, port_of(wanted, port).key))) return false;
     if (!link->used) {
-        join_port(protocol, port, &wanted->ports[port - 1]);
+        join_port(protocol, link, &wanted->ports[port - 1]);
         return true;
     }
     if (!is_wanted && wanted->follow && link->socket >= 0) {
@@ -65,10 +67,10 @@ static bool apply_port(struct protocol *protocol, uint16_t port, const struct se
         return false;
     }
     if (!is_wanted) {
-        leave_port(protocol, port);
+        leave_port(protocol, link);
         return !was_leaving;
     }
-    stay_port(protocol, port);
+    stay_port(protocol, link);
     link->followed = false;
     protocol->settings->ports[port - 1] = wanted->ports[port - 1];
     return change_port(protocol, port, wanted) || was_leaving;

@@ -149,9 +149,14 @@ void resume_conversations(struct plane *plane, bool goes_on) {
 }
 
 void resume_data(struct protocol *protocol, unsigned count) {
-    bool goes_on = count > 0 && protocol->process->inherited->bundle.aggregator <= protocol->aggregator_count;
+    const struct inherited *inherited = protocol->process->inherited;
+    bool goes_on = count > 0 && inherited->bundle.aggregator <= protocol->aggregator_count;
     read_views(protocol);
-    if (goes_on) go_on_as(protocol, &protocol->process->inherited->bundle, protocol->process->inherited->follows);
+    if (goes_on) { /* which is no change of the bundle */
+        protocol->bundle.state = inherited->bundle.state;
+        protocol->bundle.changed_at = inherited->bundle.changed_at;
+        go_on_selecting(protocol->selection, inherited->bundle.aggregator, inherited->follows);
+    }
     CALL(protocol->plane->carrying->resume, protocol->plane, goes_on);
 }
 

@@ -160,7 +160,8 @@ void close_stored(struct store_private *own, const char *kind, int number, int f
     errno = fault;
 }
 
-static bool is_of(int fd, int index) {
+/* Whether a packet socket still has its interface. One that was made anew with the same number is another one. */
+bool is_bound(int fd, int index) {
     struct sockaddr_ll address = {0};
     socklen_t length = sizeof address;
     return getsockname(fd, (struct sockaddr *)&address, &length) == 0 && address.sll_family == AF_PACKET && address.sll_ifindex == index;
@@ -170,7 +171,7 @@ static bool is_of(int fd, int index) {
  * is old, or a new one, which takes nothing before it is bound; or -errno. */
 int packet_socket(struct process *process, const char *kind, int of, int index, int type) {
     int fd = claim_stored(process->store, kind, of);
-    if (fd >= 0 && is_of(fd, index) && (type == SOCK_DGRAM || was_away_briefly(process->inherited))) return fd;
+    if (fd >= 0 && is_bound(fd, index) && (type == SOCK_DGRAM || was_away_briefly(process->inherited))) return fd;
     if (fd >= 0) close_stored(process->store, kind, of, fd);
     fd = socket(AF_PACKET, type | SOCK_NONBLOCK | SOCK_CLOEXEC, 0);
     return fd < 0 ? -errno : fd;

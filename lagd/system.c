@@ -5,7 +5,7 @@
 
 struct system_private {
     uint64_t ticks;
-    struct timespec began;
+    uint64_t began; /* in milliseconds */
     uint16_t keys[NIW_MOST_PORTS]; /* of the aggregators */
 };
 
@@ -13,13 +13,6 @@ MAKES_ROOM(system)
 
 uint64_t ticks_passed(const struct system_private *own) {
     return own->ticks;
-}
-
-/* How many seconds passed since the start, also while the daemon was stopped. */
-uint64_t seconds_passed(const struct system_private *own) {
-    struct timespec now;
-    clock_gettime(CLOCK_MONOTONIC, &now);
-    return (uint64_t)(now.tv_sec - own->began.tv_sec);
 }
 
 uint64_t milliseconds_of(clockid_t clock) {
@@ -32,28 +25,25 @@ uint64_t milliseconds(void) {
     return milliseconds_of(CLOCK_MONOTONIC);
 }
 
+/* How many seconds passed since the start, also while the daemon was stopped. */
+uint64_t seconds_passed(const struct system_private *own) {
+    return (milliseconds() - own->began) / 1000;
+}
+
 /* An identifier for the first marker that nobody can guess. More than two thousand million are above it, of which none comes twice. */
 static uint32_t random_marker(void) {
     uint32_t random;
-    if (getrandom(&random, sizeof random, GRND_NONBLOCK) != sizeof random) {
-        struct timespec now; /* so soon after the start of the machine */
-        clock_gettime(CLOCK_REALTIME, &now);
-        random = (uint32_t)now.tv_nsec ^ (uint32_t)now.tv_sec ^ (uint32_t)getpid() << 16;
-    }
-    return random % INT32_MAX + 1;
+    struct timespec now;
+    if (getrandom(&random, sizeof random, GRND_NONBLOCK) == sizeof random) return random % INT32_MAX + 1;
+    clock_gettime(CLOCK_REALTIME, &now); /* so soon after the start of the machine */
+    return ((uint32_t)now.tv_nsec ^ (uint32_t)now.tv_sec ^ (uint32_t)getpid() << 16) % INT32_MAX + 1;
 }
 
 /* Holds a port that nothing may use, whatever its link does, or lets it go; answers whether that is done. */
 bool apply_hold(struct protocol *protocol, uint16_t port) {
     const struct link *link = &protocol->ports->links[port - 1];
-    bool hold = (link->held || link->leaving) && !link->emptying;
-    return is_done(protocol->process, niw_hold(&protocol->own_system, port, hold || is_halted(protocol->halt)), "niw_hold");
-}
-
-/* The file takes a port out of use, or lets it be used again; answers whether that is done. */
-bool hold_port(struct protocol *protocol, uint16_t port, bool hold) {
-    protocol->ports->links[port - 1].held = hold;
-    return begin_hold(protocol, port);
+    bool hold = ((link->held || link->leaving) && !link->emptying) || is_halted(protocol->halt);
+    return is_done(protocol->process, niw_hold(&protocol->own_system, port, hold), "niw_hold");
 }
 
 /* Puts a system into the empty handle, whose ports have their settings and keys of now: a warm one, where some of them were saved. */
@@ -70,23 +60,16 @@ static void hold_by_settings(struct protocol *protocol) {
         if (protocol->ports->links[port - 1].held && !apply_hold(protocol, port)) return;
 }
 
-/* Drops a port from those that were saved; answers how many are left. One that is not among them leaves none. */
-static size_t drop_saved(struct niw_saved *saved, size_t count, uint64_t port) {
-    size_t at = 0;
-    while (at < count && saved[at].port != port) at++;
-    if (at == count) return 0;
-    memmove(saved + at, saved + at + 1, (count - at - 1) * sizeof *saved);
-    return count - 1;
-}
-
 /* Makes the system anew, with these ports as they were. One that the library refuses comes up as the others do. Answers how many are back. */
 size_t resume_system(struct protocol *protocol, struct niw_saved *saved, size_t count) {
-    struct niw_made made;
     if (count == 0 || !is_done(protocol->process, niw_free(&protocol->own_system), "niw_free")) return 0;
-    for (;;) {
+    struct niw_made made = put_system(protocol, saved, count);
+    while (made.status == NIW_STALE || made.status == NIW_NOT_DISTRIBUTING) {
+        size_t at = 0;
+        while (at < count && saved[at].port != made.place) at++;
+        if (at < count) memmove(saved + at, saved + at + 1, (count - at - 1) * sizeof *saved);
+        count = at < count ? count - 1 : 0;
         made = put_system(protocol, saved, count);
-        if (made.status != NIW_STALE && made.status != NIW_NOT_DISTRIBUTING) break;
-        count = drop_saved(saved, count, made.place);
     }
     if (!is_done(protocol->process, made.status, "niw_resume")) return 0;
     hold_by_settings(protocol);
@@ -94,39 +77,45 @@ size_t resume_system(struct protocol *protocol, struct niw_saved *saved, size_t 
 }
 
 void make_system(struct protocol *protocol) {
-    clock_gettime(CLOCK_MONOTONIC, &protocol->system->began);
+    protocol->system->began = milliseconds();
     protocol->settings->config.first_marker = first_marker_left(protocol->process->inherited);
     if (protocol->settings->config.first_marker == 0) protocol->settings->config.first_marker = random_marker();
     choose_slots(protocol);
     if (!place_ports(protocol, protocol->settings)) stop(WRONG_WORD, "too many interfaces", protocol->settings->name);
+    for (uint16_t port = 1; port <= NIW_MOST_PORTS; port++) begin_link(protocol, port);
     keep_left_ports(protocol);
     protocol->ports->count = protocol->settings->port_count;
-    for (uint16_t port = 1; port <= NIW_MOST_PORTS; port++) begin_link(protocol, port);
     make_keys(protocol, protocol->system->keys);
     if (!is_done(protocol->process, put_system(protocol, NULL, 0).status, "niw_new")) return;
     hold_by_settings(protocol);
     read_views(protocol);
 }
 
-static void send_due_of(struct protocol *protocol, uint16_t port) {
+static void send_due_of(struct protocol *protocol, struct link *link) {
     uint8_t frame[NIW_FRAME];
     for (;;) {
-        struct niw_sent due = niw_transmit(&protocol->own_system, port, frame, sizeof frame);
+        struct niw_sent due = niw_transmit(&protocol->own_system, link->settings.number, frame, sizeof frame);
         if (!is_done(protocol->process, due.status, "niw_transmit") || !due.is) return;
         if (due.what == NIW_SENT_MARKER)
-            CALL(protocol->plane->carrying->send_marker, protocol->plane, &protocol->ports->links[port - 1], frame);
+            CALL(protocol->plane->carrying->send_marker, protocol->plane, link, frame);
         else
-            send_frame(protocol, &protocol->ports->links[port - 1], frame);
+            send_frame(protocol, link, frame);
     }
 }
 
 /* Sends what is due: after each call that may change anything, since one about a port may make a frame due on another. */
 void send_due(struct protocol *protocol) {
     uint64_t due;
-    if (protocol->process->resuming) return;
-    if (!is_told(protocol->process, niw_due(&protocol->own_system), "niw_due", &due)) return;
+    if (protocol->process->resuming || !is_told(protocol->process, niw_due(&protocol->own_system), "niw_due", &due)) return;
     for (uint16_t i = 0; i < protocol->ports->count; i++)
-        if (due >> i & 1) send_due_of(protocol, (uint16_t)(i + 1));
+        if (due >> i & 1) send_due_of(protocol, &protocol->ports->links[i]);
+}
+
+/* Follows calls that may have changed anything of ports. */
+void settle_calls(struct protocol *protocol) {
+    send_due(protocol);
+    read_views(protocol);
+    protocol->plane->changed = true;
 }
 
 /* Sends again what did not go before this tick, if nothing newer was due since. */
@@ -135,7 +124,6 @@ void send_again(struct protocol *protocol) {
         if (link->unsent && !link->tried) send_frame(protocol, link, link->frame);
 }
 
-/* The link of a port is up or down now. */
 void set_link(struct protocol *protocol, uint16_t port, bool up) {
     struct link *link = &protocol->ports->links[port - 1];
     if (link->up == up) return;
@@ -146,13 +134,10 @@ void set_link(struct protocol *protocol, uint16_t port, bool up) {
         if (!is_silent(protocol->halt) && !link->away) link->counts[LOSSES]++;
         link->away = false;
         forget_partner(protocol->settings, link);
+        CALL(protocol->plane->carrying->lose, protocol->plane, port);
     }
-    if (!up) CALL(protocol->plane->carrying->lose, protocol->plane, port);
-    if (protocol->process->resuming) return;
-    if (!is_done(protocol->process, niw_set_link(&protocol->own_system, port, up), "niw_set_link")) return;
-    protocol->plane->changed = true;
-    send_due(protocol);
-    read_views(protocol);
+    if (protocol->process->resuming || !is_done(protocol->process, niw_set_link(&protocol->own_system, port, up), "niw_set_link")) return;
+    settle_calls(protocol);
     (void)print_change(protocol, link);
 }
 
@@ -163,30 +148,23 @@ void lose_link(struct protocol *protocol, struct link *link) {
     (void)print_change(protocol, link);
 }
 
-/* 100 ms passed for a link: what failed is forgotten after a while. */
-static void pass_tick_of(struct link *link) {
-    link->tried = false;
-    if (link->trouble_ticks == 0 || --link->trouble_ticks > 0) return;
-    link->trouble = 0;
-    link->changed = true;
-}
-
-/* 100 ms passed for churn detection: by what the library tells of the ports after its own tick. */
-static void watch_churn(struct protocol *protocol) {
+/* 100 ms passed; answers whether the library took that. Churn detection goes by what it tells of the ports then, and what failed of a link is
+ * forgotten after a while. */
+bool pass_system_tick(struct protocol *protocol) {
+    bool taken = is_done(protocol->process, niw_tick(&protocol->own_system), "niw_tick");
+    if (!taken) return false;
     read_views(protocol);
     EACH_LINK(link, protocol->ports) {
         const struct niw_view *view = &link->view;
-        if (!is_done(protocol->process, niw_churn_tick(&link->churn, view->up, view->state, view->partner_state), "niw_churn_tick")) return;
+        uint32_t status = niw_churn_tick(&link->churn, view->up, view->state, view->partner_state);
+        taken = is_done(protocol->process, status, "niw_churn_tick") && taken;
+        link->tried = false;
+        if (link->trouble_ticks == 0 || --link->trouble_ticks > 0) continue;
+        link->trouble = 0;
+        link->changed = true;
     }
-}
-
-/* 100 ms passed; answers whether the library took that. */
-bool pass_system_tick(struct protocol *protocol) {
-    if (!is_done(protocol->process, niw_tick(&protocol->own_system), "niw_tick")) return false;
-    watch_churn(protocol);
-    EACH_LINK(link, protocol->ports) pass_tick_of(link);
     protocol->system->ticks++;
-    return true;
+    return taken;
 }
 
 /* A port is about to leave its aggregator: its peer has to be told, if it has one. */
@@ -197,13 +175,12 @@ void expect_lacpdu(struct link *link) {
 
 /* Takes each port out of its aggregator, by a key that none has, and so tells the peers that they have to stop. */
 void tell_end(struct protocol *protocol) {
-    struct niw_change leave = {.key = free_key(protocol, 0, NULL)};
-    for (uint16_t port = 1; port <= protocol->ports->count; port++) {
-        struct link *link = &protocol->ports->links[port - 1];
+    uint16_t key = free_key(protocol, 0, NULL);
+    EACH_LINK(link, protocol->ports) {
+        struct niw_change leave = {.key = key, .priority = link->settings.priority, .aggregatable = link->settings.aggregatable};
+        uint32_t status = niw_configure(&protocol->own_system, link->settings.number, &leave).status;
         expect_lacpdu(link);
-        leave.priority = link->settings.priority;
-        leave.aggregatable = link->settings.aggregatable;
-        link->to_tell = is_done(protocol->process, niw_configure(&protocol->own_system, port, &leave).status, "niw_configure") && link->to_tell;
+        link->to_tell = is_done(protocol->process, status, "niw_configure") && link->to_tell;
     }
     send_due(protocol);
 }
@@ -211,8 +188,7 @@ void tell_end(struct protocol *protocol) {
 /* Whether each peer was told. Where three LACPDUs were sent within a second, the next one waits. */
 bool end_is_told(const struct ports *ports) {
     EACH_LINK_AS_IS(link, ports)
-        if (link->to_tell && link->up && link->counters.lacpdus_sent == link->sent_before_end)
-            return false;
+        if (link->to_tell && link->up && link->counters.lacpdus_sent == link->sent_before_end) return false;
     return true;
 }
 

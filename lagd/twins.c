@@ -17,20 +17,16 @@ static uint16_t twin_of(const struct ports *ports, const struct link *link) {
     return 0;
 }
 
-static void tell_twin(struct protocol *protocol, const struct link *link) {
-    struct facts facts = facts_of(protocol, link);
-    char system[32];
-    (void)say(protocol->process, LOG_WARNING | ABOUT_STRANGER,
-        "port %u %s: its partner is port %u of %s, and so is that of port %u %s: two hosts may have this system",
-        link->settings.number, link->name, facts.partner_port, system_text(&facts.partner, system), link->twin,
-            protocol->ports->links[link->twin - 1].name);
-}
-
 void look_for_twins(struct protocol *protocol) {
+    char system[32];
     EACH_LINK(link, protocol->ports) {
         uint16_t twin = twin_of(protocol->ports, link);
         link->twin_seconds = twin == 0 ? 0 : link->twin_seconds + 1;
         if (twin == 0 || link->twin_seconds >= SECONDS) link->twin = twin;
-        if (link->twin_seconds == SECONDS) tell_twin(protocol, link);
+        if (link->twin_seconds != SECONDS) continue;
+        struct facts facts = facts_of(protocol, link);
+        (void)say(protocol->process, LOG_WARNING | ABOUT_STRANGER,
+            "port %u %s: its partner is port %u of %s, and so is that of port %u %s: two hosts may have this system", link->settings.number,
+            link->name, facts.partner_port, system_text(&facts.partner, system), twin, protocol->ports->links[twin - 1].name);
     }
 }

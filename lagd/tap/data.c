@@ -34,7 +34,7 @@ static void send_on(struct tap_plane *tap, const struct conversation *conversati
 /* Whether a frame of the host may go: of a right length, which each member takes, and none of the slow protocols. */
 static bool is_fit(const struct device *own, const uint8_t *packet, size_t length) {
     const uint8_t *frame = packet + head_octets();
-    return has_right_length(packet, length, longest_payload(own)) && ((unsigned)frame[12] << 8 | frame[13]) != ETH_P_SLOW;
+    return has_right_length(packet, length, own->most_mtu) && ((unsigned)frame[12] << 8 | frame[13]) != ETH_P_SLOW;
 }
 
 /* A frame of a conversation came. It overtakes none that waits. */

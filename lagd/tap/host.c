@@ -39,7 +39,8 @@ void lose_device(struct plane *plane) {
     if (tap->process->broken) return;
     tap->process->broken = true;
     CALL(plane->passing->end, tap);
-    forget_tap(tap->device);
+    tap->device->number = 0;
+    tap->device->carrier = false;
     drop_stored(tap->process->store, "tap", 0);
     if (own->tap >= 0) await_no_more(tap->process->epoll_file, own->tap);
     (void)say(tap->process, LOG_ERR | ABOUT_CARRIER, "carry %s: the device was deleted, or moved to another namespace; "

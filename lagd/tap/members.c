@@ -263,9 +263,7 @@ void watch_queues(struct tap_plane *tap) {
         if (!is_open(member)) continue;
         bool changed = is_spread_anew(tap->protocol->system, link, &member->guard);
         if (!changed && !(member->guard.unusual && has_usual_queues(tap, &member->guard))) continue;
-        if (changed ? renew_changed(tap, link) : renew_member(tap, link)) continue;
-        look_again(tap->protocol->changes);
-        lose_link(tap->protocol, link);
+        if (!(changed ? renew_changed(tap, link) : renew_member(tap, link))) lose_member(tap->protocol, link);
     }
 }
 

@@ -66,11 +66,6 @@ struct disciplines {
     unsigned queues; /* how many that send have one of their own, below that of the daemon */
 };
 
-static int read_kind(const struct nlattr *attribute, void *into) {
-    if (mnl_attr_get_type(attribute) == TCA_KIND) copy_text(attribute, into, DISCIPLINE_ROOM);
-    return MNL_CB_OK;
-}
-
 /* Sees one of them: the root, one of a queue, or one below that. A tbf has one row. */
 static void parse_discipline(const struct nlmsghdr *message, void *into) {
     struct disciplines *seen = into;
@@ -78,7 +73,8 @@ static void parse_discipline(const struct nlmsghdr *message, void *into) {
     char kind[DISCIPLINE_ROOM] = "";
     if (message->nlmsg_type != RTM_NEWQDISC || mnl_nlmsg_get_payload_len(message) < sizeof *about) return;
     if (about->tcm_ifindex != seen->index || about->tcm_parent == TC_H_CLSACT) return;
-    read_attributes(message, sizeof *about, read_kind, kind);
+    const struct nlattr *told = attribute_of(message, sizeof *about, TCA_KIND);
+    if (told) copy_text(told, kind, sizeof kind);
     bool in_order = about->tcm_parent == TC_H_ROOT ? about->tcm_handle == FIFO && strcmp(kind, "mq") == 0 : strcmp(kind, "tbf") == 0;
     in_order = in_order || keeps_order(kind);
     seen->queues += TC_H_MAJ(about->tcm_parent) == FIFO && TC_H_MIN(about->tcm_parent) <= seen->sends;

@@ -128,8 +128,7 @@ static void note_refusal(struct team_plane *team, uint16_t port) {
     team->shortages = 0;
     if (if_indextoname((unsigned)link->index, name)) /* of one that is gone the kernel tells, too */
         (void)say(team->process, LOG_WARNING | ABOUT_DATA, "port %u %s: the team driver refuses it: %s", port, link->name, strerror(fault));
-    lose_link(team->protocol, link);
-    look_again(team->protocol->changes);
+    lose_member(team->protocol, link);
 }
 
 /* Has the driver pass data on a port, or none; answers whether it does so. */

@@ -122,8 +122,7 @@ void give_team_addresses(struct team_plane *team) {
         if (fault == 0) continue;
         (void)say(team->process, LOG_WARNING | ABOUT_DATA, "port %u %s: it does not take the address of %s: %s", link->settings.number,
             link->name, team->settings->carry, strerror(-fault));
-        lose_link(team->protocol, link);
-        look_again(team->protocol->changes);
+        lose_member(team->protocol, link);
     }
 }
 

@@ -107,6 +107,11 @@ bool set_bucket(const struct team_plane *team, uint16_t bucket, int port) {
     return set_option_at(team, tap_index(team->device), "lb_tx_hash_to_port_mapping", (struct place){0, bucket}, TYPE_U32, &port, sizeof port);
 }
 
+static bool is_text(const struct nlattr *attribute, const char *text) {
+    const char *at = value_of(attribute, strlen(text) + 1);
+    return at && memcmp(at, text, strlen(text) + 1) == 0;
+}
+
 /* Notes an option. A flag that is not set has no value. */
 static void note_option(struct team_now *now, const struct nlattr *item) {
     const struct nlattr *parts[TEAM_ATTR_OPTION_MAX + 1] = {NULL};

@@ -141,7 +141,6 @@ NOTHING(begin_carry_tick, struct carry *carry)
 NOTHING(note_heard, struct carry *carry)
 NOTHING(end_carry_tick, struct carry *carry)
 NOTHING(forget_heard, struct carry *carry)
-NOTHING(look_again, struct changes_private *own)
 void set_carrier(struct device *device, bool on) {
     carrier = on;
 }
@@ -158,7 +157,7 @@ void choose_ports(struct plane *plane) {
 }
 
 /* The driver refused something of a port: its link is lost, and so is its place. */
-void lose_link(struct protocol *protocol, struct link *link) {
+void lose_member(struct protocol *protocol, struct link *link) {
     uint16_t port = (uint16_t)(link - protocol->ports->links + 1);
     lost++;
     distributes[port] = lagd->team.taken[port - 1] = enabled[port] = false;

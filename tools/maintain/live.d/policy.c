@@ -16,6 +16,7 @@
 #include "alone.h"
 #include "checks.h"
 #include "daemon.h"
+#include "device.h"
 
 #define PORTS 4
 #define KEYS 2 /* so many aggregators, with as many ports each */
@@ -58,6 +59,7 @@ struct waiting_packet {
 /* One end, and what is known of its frames. */
 struct end {
     struct lagd lagd;
+    struct device device;
     struct wire wires[PORTS + 1]; /* what it sent */
     struct waiting_packet out[BATCH * PORTS];
     unsigned out_count;
@@ -254,7 +256,6 @@ ANSWERS(uint32_t count_segments, 1, const uint8_t *packet, size_t length)
 bool has_right_length(const uint8_t *packet, size_t length, uint32_t mtu) {
     return length <= mtu + ETH_HLEN;
 }
-ANSWERS(uint32_t longest_payload, ETH_DATA_LEN, const struct device *own)
 struct niw_number conversation_of(struct protocol *protocol, const uint8_t *frame, size_t length) {
     return (struct niw_number){.status = NIW_OK, .number = conversation_at(frame)};
 }
@@ -305,7 +306,8 @@ static void make_end(struct end *end, uint8_t which) {
     struct lagd *lagd = &end->lagd;
     struct niw_port ports[PORTS];
     const uint16_t keys[KEYS] = {1, 2};
-    lagd->device = (struct device *)(void *)end;
+    lagd->device = &end->device;
+    end->device.most_mtu = ETH_DATA_LEN;
     join_parts(lagd);
     lagd->protocol.bundle_private = make_bundle_private();
     lagd->protocol.selection = make_select_private();
