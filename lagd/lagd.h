@@ -339,9 +339,6 @@ enum journaled tell_journal(struct process *process, int level, const char *text
 /* address.c */
 void read_own_address(struct settings *settings);
 
-/* signals.c */
-int open_signals(const struct settings *settings);
-
 /* locks.c */
 int lock_interface(struct process *process, int index);
 #define HOLDER_ROOM 64
@@ -545,9 +542,6 @@ void detach_stored(struct store_private *own, const char *kind, int index, int a
 
 /* possible.c */
 int fault_of_programs(const struct settings *settings);
-
-/* privileges.c */
-void drop_privileges(struct process *process);
 
 /* main.c */
 #define MOST_CALLERS 64
