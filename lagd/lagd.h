@@ -201,13 +201,6 @@ struct options {
     struct settings settings;
 };
 
-/* What is called as the program ends. */
-#define MOST_ENDINGS 8
-struct ending {
-    void (*act)(void *what);
-    void *what;
-};
-
 /* The program: how far it is, its lines, the files that it has open, and what it was given. */
 #define EACH_FILE_OF_PROCESS(DO) DO(status, status) DO(store, store)
 struct process {
@@ -221,8 +214,6 @@ struct process {
     int folder;     /* of the status socket, and of what members had */
     int output, journal; /* what lines are written to, once there were some, or -1 */
     struct words words;
-    struct ending endings[MOST_ENDINGS]; /* the last one first */
-    unsigned ending_count;
     EACH_FILE_OF_PROCESS(KEEPS)
 };
 EACH_FILE_OF_PROCESS(MAKES)
@@ -274,8 +265,7 @@ static inline void *make_room(size_t octets) {
 }
 
 /* What a file keeps begins as zeros, but for these fields. */
-#define MAKES_ROOM(file) \
-    struct file##_private *make_##file##_private(void) { return make_room(sizeof(struct file##_private)); }
+#define MAKES_ROOM(file) MAKES_WITH(file, 0)
 #define MAKES_WITH(file, ...) \
     struct file##_private *make_##file##_private(void) { \
         struct file##_private *made = make_room(sizeof *made); \
@@ -559,9 +549,6 @@ enum {
 bool await_input(int epoll_file, int fd, uint32_t tag);
 bool await_output(int epoll_file, int fd, uint32_t tag);
 void await_no_more(int epoll_file, int fd);
-
-/* daemon.c */
-void call_at_exit(struct process *process, void (*act)(void *what), void *what);
 
 /* options.c */
 const char *read_port(struct words *words, char *text, struct settings *settings, const char **found);

@@ -216,7 +216,7 @@ void tell_watchers_of(struct control *control, const struct link *link) {
     if (!control->process->broken) tell_watchers(own, control->report->text, control->report->length, true);
 }
 
-static void remove_socket(void *given) {
+static void remove_socket(int status UNUSED, void *given) {
     const struct process *process = given;
     (void)unlinkat(process->folder, process->status->own_name, 0);
 }
@@ -244,6 +244,6 @@ void open_status(struct process *process, const char *folder) {
     int fault = own->listener < 0 || bind(own->listener, (struct sockaddr *)&address, sizeof address) < 0 || listen(own->listener, 64) < 0 ? errno : 0;
     umask(mask);
     if (fault) stop(REFUSED, folder, strerror(fault));
-    call_at_exit(process, remove_socket, process);
+    need(on_exit(remove_socket, process) == 0, "on_exit");
     own->listens = await_input(process->epoll_file, own->listener, STATUS);
 }

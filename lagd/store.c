@@ -130,7 +130,7 @@ void leave_store(struct store_private *own) {
 }
 
 /* The program ends, by whatever it is refused: nothing goes on without it, as the carrier of its device. */
-static void empty_store(void *given) {
+static void empty_store(int status UNUSED, void *given) {
     struct store_private *own = given;
     if (own->stays) return;
     EACH_STORED(it, own) tell_store("FDSTOREREMOVE", it->name, -1);
@@ -153,7 +153,7 @@ void open_store(struct process *process) {
         free(names[i]);
     }
     free(names);
-    call_at_exit(process, empty_store, own);
+    need(on_exit(empty_store, own) == 0, "on_exit");
 }
 
 /* Closes a file that the manager keeps, too, and leaves errno as it is. */
