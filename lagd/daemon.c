@@ -8,7 +8,6 @@ static void make_files(struct lagd *lagd) {
     { struct carry *of = &lagd->carry; EACH_FILE_OF_CARRY(MAKE) }
     { struct tap_plane *of = &lagd->tap; EACH_FILE_OF_TAP(MAKE) }
     { struct team_plane *of = &lagd->team; EACH_FILE_OF_TEAM(MAKE) }
-    { struct control *of = &lagd->control; EACH_FILE_OF_CONTROL(MAKE) }
 }
 
 struct lagd *make_lagd(void) {

@@ -190,7 +190,7 @@ struct bundle {
 };
 
 /* What the program is to do. */
-enum action { RUN, CHECK, SHOW, SHOW_CONFIG, WATCH, METRICS, ORDER };
+enum action { RUN_BUNDLE, CHECK, SHOW, SHOW_CONFIG, WATCH, METRICS, ORDER };
 
 struct options {
     enum action action;

@@ -278,9 +278,10 @@ static int run_daemon(struct lagd *lagd, const struct options *options) {
 
 int main(int argc, char **argv) {
     struct lagd *lagd = make_lagd();
+    struct options options;
     keep_standard_files();
-    const struct options *options = read_options(&lagd->control, argc, argv);
-    if (options->action == RUN) return run_daemon(lagd, options);
-    if (options->action == CHECK) return check_machine(&lagd->control, options);
-    return ask_daemons(&lagd->control, options);
+    read_options(&lagd->process, argc, argv, &options);
+    if (options.action == RUN_BUNDLE) return run_daemon(lagd, &options);
+    if (options.action == CHECK) return check_machine(&lagd->control, &options);
+    return ask_daemons(&lagd->control, &options);
 }

@@ -9,12 +9,11 @@
 /* The priority of a system by `auto`, and of a port if nothing else is given: the one in the middle. */
 #define USUAL_PRIORITY 32768
 
-static bool read_number(const char *text, unsigned least, unsigned most, uint16_t *into) {
-    size_t digits = strspn(text, "0123456789");
-    unsigned long found = digits > 0 && digits < 6 && !text[digits] ? strtoul(text, NULL, 10) : most + 1ul;
-    if (found < least || found > most) return false;
-    *into = (uint16_t)found;
-    return true;
+/* The number that `length` digits stand for, if it is one of these; else -1. */
+static int read_number(const char *text, size_t length, int least, int most) {
+    bool right = length > 0 && length < 6 && strspn(text, "0123456789") == length;
+    int found = right ? (int)strtol(text, NULL, 10) : -1;
+    return found >= least && found <= most ? found : -1;
 }
 
 /* Twelve hexadecimal digits: in pairs joined by colons or by hyphens, in fours joined by points, or alone. */
@@ -33,11 +32,10 @@ static bool read_mac(const char *text, uint8_t *mac) {
 }
 
 static bool read_system(const char *text, struct system_id *into) {
-    char priority[8] = "";
     size_t digits = strcspn(text, ",");
-    if (digits >= sizeof priority || !text[digits]) return false;
-    memcpy(priority, text, digits);
-    return read_number(priority, 0, UINT16_MAX, &into->priority) && read_mac(text + digits + 1, into->mac);
+    int priority = read_number(text, digits, 0, UINT16_MAX);
+    into->priority = (uint16_t)priority;
+    return priority >= 0 && text[digits] && read_mac(text + digits + 1, into->mac);
 }
 
 /* PRIORITY,MAC; or auto, where the address comes later. */
@@ -102,10 +100,10 @@ const char *selection_text(enum selection selection) {
 
 /* Parts of a row: the place of a value in a struct, and what else its kind wants. */
 #define IN(type, field) .at = offsetof(struct type, field), .size = sizeof ((struct type *)NULL)->field
-#define FROM(from, to, of, word) .least = from, .most = to, .expected = "a number " of "from " #from " to " #to, .value = word
-#define NUMBER(field, from, to) A_NUMBER, IN(settings, field), FROM(from, to, "", "N")
-#define SECONDS(field, from, to) A_NUMBER, IN(settings, field), FROM(from, to, "of seconds ", "SECONDS")
-#define MILLISECONDS(field, from, to) A_NUMBER, IN(settings, field), FROM(from, to, "of milliseconds ", "MILLISECONDS")
+#define FROM(from, to, of) .least = from, .most = to, .expected = "a number " of "from " #from " to " #to
+#define NUMBER(field, from, to) A_NUMBER, IN(settings, field), FROM(from, to, ""), .value = "N"
+#define SECONDS(field, from, to) A_NUMBER, IN(settings, field), FROM(from, to, "of seconds "), .value = "SECONDS"
+#define MILLISECONDS(field, from, to) A_NUMBER, IN(settings, field), FROM(from, to, "of milliseconds "), .value = "MILLISECONDS"
 #define SWITCH(field, two) A_SWITCH, IN(settings, field), .words = two
 #define WORD(field, several) A_WORD, IN(settings, field), .words = several
 #define TEXT(field, of, check) A_TEXT, IN(settings, field), .expected = of, .is_right = check
@@ -168,8 +166,8 @@ const struct key BUNDLE_KEYS[] = {
 _Static_assert(sizeof BUNDLE_KEYS / sizeof *BUNDLE_KEYS - 1 <= MOST_BUNDLE_KEYS, "each key has room for its line");
 
 const struct key PORT_KEYS[] = {
-    {"key", 0, A_NUMBER, IN(port_settings, key), FROM(0, 65535, "", "N")},
-    {"priority", 0, A_NUMBER, IN(port_settings, priority), FROM(0, 65535, "", "N")},
+    {"key", 0, A_NUMBER, IN(port_settings, key), FROM(0, 65535, "")},
+    {"priority", 0, A_NUMBER, IN(port_settings, priority), FROM(0, 65535, "")},
     {"timeout", 0, A_SWITCH, IN(port_settings, short_timeout), .words = TIMEOUTS},
     {"activity", 0, A_SWITCH, IN(port_settings, active), .words = ACTIVITIES},
     {"individual", 0, A_SWITCH, IN(port_settings, individual), .words = YES_OR_NO},
@@ -187,8 +185,7 @@ static int *value_of_port(const struct key *key, const struct port_settings *por
 
 /* What a text stands for, if that is a number, a switch or a word: else -1. */
 static int number_of(const struct key *key, const char *text) {
-    uint16_t number;
-    if (key->kind == A_NUMBER) return read_number(text, key->least, key->most, &number) ? number : -1;
+    if (key->kind == A_NUMBER) return read_number(text, strlen(text), key->least, key->most);
     for (int i = 0; key->words[i]; i++)
         if (strcmp(text, key->words[i]) == 0) return key->kind == A_SWITCH ? i == 0 : i;
     return -1;
@@ -218,29 +215,28 @@ static bool read_value(const struct key *key, const char *text, struct settings 
     }
 }
 
-/* Writes the value that a key of the bundle has, as it is read; nothing where it has none. */
-static void write_value(const struct key *key, const struct settings *settings, char text[static PATH_ROOM]) {
+const char *partner_text(const struct settings *settings, char room[static 32]) {
+    if (settings->policy == PARTNER_GIVEN) return system_text(&settings->partner, room);
+    return settings->policy == PARTNER_FIRST ? "first" : "any";
+}
+
+/* The value that a key of the bundle has, as it is read. */
+static const char *value_text(const struct key *key, const struct settings *settings, char room[static 32]) {
     const void *value = value_in(key, settings);
     struct system_id own = own_system(settings);
-    char room[32];
     switch (key->kind) {
-    case A_NUMBER: snprintf(text, PATH_ROOM, "%u", *(const uint16_t *)value); break;
-    case A_SWITCH: snprintf(text, PATH_ROOM, "%s", key->words[*(const bool *)value ? 0 : 1]); break;
-    case A_WORD: snprintf(text, PATH_ROOM, "%s", key->words[*(const unsigned *)value]); break;
-    case A_TEXT: snprintf(text, PATH_ROOM, "%s", (const char *)value); break;
-    case A_SYSTEM: snprintf(text, PATH_ROOM, "%s", system_text(&own, room)); break;
-    case A_PARTNER:
-        snprintf(text, PATH_ROOM, "%s", settings->policy == PARTNER_GIVEN ? system_text(&settings->partner, room)
-            : settings->policy == PARTNER_FIRST ? "first" : "any");
-        break;
+    case A_NUMBER: snprintf(room, 32, "%u", *(const uint16_t *)value); return room;
+    case A_SWITCH: return key->words[*(const bool *)value ? 0 : 1];
+    case A_WORD: return key->words[*(const unsigned *)value];
+    case A_SYSTEM: return system_text(&own, room);
+    case A_PARTNER: return partner_text(settings, room);
+    default: return value;
     }
 }
 
 bool is_same_value(const struct key *key, const struct settings *one, const struct settings *other) {
-    char value[PATH_ROOM], other_value[PATH_ROOM];
-    write_value(key, one, value);
-    write_value(key, other, other_value);
-    return strcmp(value, other_value) == 0;
+    char room[32], other_room[32];
+    return strcmp(value_text(key, one, room), value_text(key, other, other_room)) == 0;
 }
 
 /* Copies a value, but for a system or a partner, which stand in several places. */
@@ -251,9 +247,8 @@ void copy_setting(const struct key *key, const struct settings *from, struct set
 /* Writes a key with its value where that has to be given, or is not as it is if nothing is given; answers whether it did. */
 bool write_bundle_key(const struct key *key, const struct settings *settings, char text[static LINE_ROOM]) {
     const struct settings usual = usual_settings();
-    char value[PATH_ROOM];
-    write_value(key, settings, value);
-    snprintf(text, LINE_ROOM, "%s=%s", key->name, value);
+    char room[32];
+    snprintf(text, LINE_ROOM, "%s=%s", key->name, value_text(key, settings, room));
     return key->letter == 0 || !is_same_value(key, settings, &usual);
 }
 
@@ -330,12 +325,17 @@ struct port_settings unset_port(void) {
     return port;
 }
 
+static bool has_port(const struct settings *settings, const char *name, size_t length) {
+    for (uint16_t i = 0; i < settings->port_count; i++)
+        if (strlen(settings->ports[i].name) == length && memcmp(settings->ports[i].name, name, length) == 0) return true;
+    return false;
+}
+
+/* Answers NULL, or what was expected. */
 const char *add_port(struct settings *settings, const char *name, size_t length) {
     struct port_settings *port = &settings->ports[settings->port_count];
     if (!is_name(name, length)) return "the name of an interface";
-    for (uint16_t i = 0; i < settings->port_count; i++)
-        if (strlen(settings->ports[i].name) == length && memcmp(settings->ports[i].name, name, length) == 0)
-            return "each interface once";
+    if (has_port(settings, name, length)) return "each interface once";
     if (settings->port_count == NIW_MOST_PORTS) return "at most 64 interfaces";
     *port = unset_port();
     memcpy(port->name, name, length);
@@ -361,41 +361,38 @@ static const char *key_of_data(const struct settings *settings) {
     return NULL;
 }
 
-/* Whether the bundle could never have a partner: LACPDUs of its own system are not taken. */
-static bool wants_itself(const struct settings *settings) {
-    return settings->policy == PARTNER_GIVEN && settings->partner.priority == settings->config.priority
-        && memcmp(settings->partner.mac, settings->config.mac, sizeof settings->partner.mac) == 0;
-}
-
-/* What has to be given and is not, or what contradicts itself. */
+/* What has to be given and is not, or what contradicts itself: the first of these. */
 struct lack lack_of(const struct settings *settings) {
-    const char *data = key_of_data(settings);
-    if (!line_of(settings, "key")) return (struct lack){"key=NUMBER in [Bundle]", NULL};
-    if (!line_of(settings, "system")) return (struct lack){"system=auto or system=PRIORITY,MAC in [Bundle]", NULL};
-    if (settings->port_count == 0 && settings->system_auto)
-        return (struct lack){"system=PRIORITY,MAC beside no section [Port INTERFACE]: by auto it is the address of the first one", "system"};
-    for (uint16_t i = 0; i < settings->port_count; i++)
-        if (settings->ports[i].name[0] && strcmp(settings->ports[i].name, settings->carry) == 0)
-            return (struct lack){"carry=NAME that is not the interface of a port", "carry"};
-    if (data && !settings->carry[0])
-        return (struct lack){"carry=NAME beside plane, members, hash, hash-seed, flight, offload, fast, queues or answer-after", data};
-    if (settings->hash_seed && settings->hash == HASH_LAYER2)
-        return (struct lack){"another hash than layer2 beside hash-seed", "hash-seed"};
-    if (settings->plane == PLANE_TEAM && (settings->offload || settings->fast))
-        return (struct lack){"neither offload nor fast beside plane=team, by which the kernel carries all", "plane"};
-    if (settings->plane == PLANE_TEAM && settings->select != SELECT_COUNT)
-        return (struct lack){"select=count beside plane=team, which does not see in which group the peer sends", "select"};
-    if (settings->follow && settings->plane != PLANE_TEAM) return (struct lack){"plane=team beside members=follow", "members"};
-    if (settings->plane == PLANE_TEAM && settings->all_queues)
-        return (struct lack){"no queues=all beside plane=team, which leaves queues as they are", "queues"};
-    if (line_of(settings, "answer-after") && !settings->all_queues) return (struct lack){"queues=all beside answer-after", "answer-after"};
-    if (settings->plane == PLANE_TEAM && settings->hash == HASH_ENCAP3_4)
-        return (struct lack){"another hash than encap3+4 beside plane=team", "hash"};
-    if (settings->config.max_links && settings->min_links > settings->config.max_links)
-        return (struct lack){"min-links that is at most max-links", "min-links"};
-    if (settings->revert && !settings->config.max_links) return (struct lack){"max-links=N beside revert", "revert"};
-    if (wants_itself(settings)) return (struct lack){"a partner that is not this system", "partner"};
-    return (struct lack){NULL, NULL};
+    const char *data = key_of_data(settings), *carry = settings->carry;
+    const uint16_t most = settings->config.max_links;
+    const bool team = settings->plane == PLANE_TEAM;
+    const struct system_id own = own_system(settings);
+    const struct {
+        bool is_so;
+        struct lack lack;
+    } rules[] = {
+        {!line_of(settings, "key"), {"key=NUMBER in [Bundle]", NULL}},
+        {!line_of(settings, "system"), {"system=auto or system=PRIORITY,MAC in [Bundle]", NULL}},
+        {settings->port_count == 0 && settings->system_auto,
+            {"system=PRIORITY,MAC beside no section [Port INTERFACE]: by auto it is the address of the first one", "system"}},
+        {carry[0] && has_port(settings, carry, strlen(carry)), {"carry=NAME that is not the interface of a port", "carry"}},
+        {data && !carry[0], {"carry=NAME beside plane, members, hash, hash-seed, flight, offload, fast, queues or answer-after", data}},
+        {settings->hash_seed && settings->hash == HASH_LAYER2, {"another hash than layer2 beside hash-seed", "hash-seed"}},
+        {team && (settings->offload || settings->fast), {"neither offload nor fast beside plane=team, by which the kernel carries all", "plane"}},
+        {team && settings->select != SELECT_COUNT, {"select=count beside plane=team, which does not see in which group the peer sends", "select"}},
+        {settings->follow && !team, {"plane=team beside members=follow", "members"}},
+        {team && settings->all_queues, {"no queues=all beside plane=team, which leaves queues as they are", "queues"}},
+        {line_of(settings, "answer-after") && !settings->all_queues, {"queues=all beside answer-after", "answer-after"}},
+        {team && settings->hash == HASH_ENCAP3_4, {"another hash than encap3+4 beside plane=team", "hash"}},
+        {most && settings->min_links > most, {"min-links that is at most max-links", "min-links"}},
+        {settings->revert && !most, {"max-links=N beside revert", "revert"}},
+        /* LACPDUs of its own system are not taken. */
+        {settings->policy == PARTNER_GIVEN && memcmp(&settings->partner, &own, sizeof own) == 0, {"a partner that is not this system", "partner"}},
+        {true, {NULL, NULL}},
+    };
+    size_t first = 0;
+    while (!rules[first].is_so) first++;
+    return rules[first].lack;
 }
 
 static int value_of(int own, int all) {

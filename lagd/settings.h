@@ -11,16 +11,12 @@
 
 struct process;
 
-/* The room of a name of an interface, of its alternative names too: ALTIFNAMSIZ of linux/if.h. */
-#define NAME_ROOM 128
-/* The room of the path of a hook or a folder: with its key it fits into a line of a file. */
-#define PATH_ROOM 176
-/* The most keys of a bundle. */
+#define NAME_ROOM 128  /* of a name of an interface, of its alternative names too: ALTIFNAMSIZ of linux/if.h */
+#define DEVICE_ROOM 16 /* of the name of a device that is made, with a zero: IFNAMSIZ of linux/if.h */
+#define PATH_ROOM 176  /* of the path of a hook or a folder: with its key it fits into a line of a file */
+#define LINE_ROOM (PATH_ROOM + 32) /* of a line of a key with its value */
 #define MOST_BUNDLE_KEYS 28
-/* The room of the name of a device that is made, with a zero: IFNAMSIZ of linux/if.h. */
-#define DEVICE_ROOM 16
 
-/* A system: its priority and its MAC address. */
 struct system_id {
     uint16_t priority;
     uint8_t mac[6];
@@ -33,8 +29,7 @@ enum partner_policy {
     PARTNER_GIVEN, /* those of one given system */
 };
 
-/* Where a port has no value of its own. */
-enum { AS_BUNDLE = -1 };
+enum { AS_BUNDLE = -1 }; /* a port has no value of its own */
 
 struct port_settings {
     char name[NAME_ROOM];      /* of the interface */
@@ -104,11 +99,11 @@ enum kind {
     A_PARTNER,
 };
 
-/* What a reload does with a value that can change while the daemon runs. */
+/* How a reload takes a new value. */
 enum change {
-    BY_RELOAD, /* reload.c knows what it wants beside */
+    NOT_COPIED, /* reload.c applies it to each port, or it takes a restart */
     AT_ONCE,
-    WITH_DATA, /* it changes at once if data is carried in the same way */
+    WITH_DATA, /* at once if data is carried in the same way */
 };
 
 /* A key of a bundle or of a port: the file has its name, and so has the long option of a bundle. */
@@ -139,13 +134,11 @@ struct words {
     char text[512];
 };
 
-/* The room of a line of a key with its value. */
-#define LINE_ROOM (PATH_ROOM + 32)
-
 struct settings usual_settings(void);
 const char *hash_text(enum hash hash);
 const char *selection_text(enum selection selection);
 const char *way_text(const struct settings *settings);
+const char *partner_text(const struct settings *settings, char room[static 32]);
 void add_word(struct words *words, const char *joint, const char *word);
 const char *list_choice(struct words *words, const struct key *key, const char *joint, const char *last_joint);
 const char *set_bundle(struct words *words, struct settings *settings, const char *name, const char *text, unsigned line);
