@@ -296,24 +296,25 @@ const char *time_text(time_t time, char room[static 32]);
 
 /* lines.c */
 #define WATCHED 0x100 /* beside a level: watchers have had the line */
-/* Beside a level: the kind of a line. Each has a message id in the journal. */
-enum {
-    ABOUT_PORT = 0x1000,     /* a port changed */
-    ABOUT_BUNDLE = 0x2000,   /* the bundle is up, degraded or down, or has more or fewer links that carry */
-    ABOUT_STRANGER = 0x3000, /* another system than the partner speaks */
-    ABOUT_RELOAD = 0x4000,   /* the file was read again */
-    ABOUT_RESTART = 0x5000,  /* something new in it needs a restart */
-    ABOUT_FILE = 0x6000,     /* it is wrong */
-    ABOUT_HOOK = 0x7000,     /* the hook cannot be run */
-    ABOUT_END = 0x8000,      /* the daemon left a port, as it ends */
-    ABOUT_REFUSAL = 0x9000,  /* the library refused a call */
-    ABOUT_CARRIER = 0xa000,  /* the TAP device has a carrier, or none */
-    ABOUT_MARKERS = 0xb000,  /* the peer answers markers, or none */
-    ABOUT_DATA = 0xc000,     /* what troubles the data of a port */
-    ABOUT_RIGHTS = 0xd000,   /* the daemon keeps capabilities that it does not need */
-    ABOUT_HANDOVER = 0xe000, /* what one daemon leaves to the next one */
-    KINDS = 0xf000,
-};
+/* Beside a level: the kind of a line, and its message id in the journal, by which journalctl finds it. docs/LAGD.md lists them: one that is given out
+ * is never given another meaning. */
+#define EACH_KIND(KIND) \
+    KIND(ABOUT_PORT, 0x1000, "abdf3e7059424239914537af4149a604") /* a port changed */ \
+    KIND(ABOUT_BUNDLE, 0x2000, "2c13c00e7c20445b928385f869ff8b88") /* the bundle is up, degraded or down, or has more or fewer links that carry */ \
+    KIND(ABOUT_STRANGER, 0x3000, "0b5d3f91c315421c910c98100506535d") /* another system than the partner speaks */ \
+    KIND(ABOUT_RELOAD, 0x4000, "868170804c524cb8ae11e713761f3e86") /* the file was read again */ \
+    KIND(ABOUT_RESTART, 0x5000, "e914800a54254eb3a5729784441b157c") /* something new in it needs a restart */ \
+    KIND(ABOUT_FILE, 0x6000, "79af5fb89756413b86bdfe99a5118b5f") /* it is wrong */ \
+    KIND(ABOUT_HOOK, 0x7000, "ee4807ee3eb645199ae06dbdc7074c56") /* the hook cannot be run */ \
+    KIND(ABOUT_END, 0x8000, "da067c6258764cdbb7b8cb7be984bc2d") /* the daemon left a port, as it ends */ \
+    KIND(ABOUT_REFUSAL, 0x9000, "b7f3f1992518457f93456f9151641518") /* the library refused a call */ \
+    KIND(ABOUT_CARRIER, 0xa000, "0607a32ee45a4403aa4285dc01ab9bad") /* the TAP device has a carrier, or none */ \
+    KIND(ABOUT_MARKERS, 0xb000, "a31e97fa3b6f4028a557b2d2e89d4829") /* the peer answers markers, or none */ \
+    KIND(ABOUT_DATA, 0xc000, "c6168aa2020d442a8bc8c32f421bd6f9") /* what troubles the data of a port */ \
+    KIND(ABOUT_RIGHTS, 0xd000, "9e14e381d96044edbfe2c030fd7290ff") /* the daemon keeps capabilities that it does not need */ \
+    KIND(ABOUT_HANDOVER, 0xe000, "5d0c2f6be7a14b0f9c3e88d1a4f7b260") /* what one daemon leaves to the next one */
+#define KIND_ITSELF(kind, value, id) kind = value,
+enum { EACH_KIND(KIND_ITSELF) KINDS = 0xf000 };
 _Noreturn void stop(int status, const char *what, const char *which);
 void need(bool done, const char *what);
 bool is_done(struct process *process, uint32_t status, const char *call) MUST_USE;
@@ -321,10 +322,6 @@ bool is_told(struct process *process, struct niw_number answer, const char *call
 bool say(struct process *process, int level, const char *format, ...) __attribute__((format(printf, 3, 4)));
 void complain(struct process *process, const char *format, ...) __attribute__((format(printf, 2, 3)));
 size_t escape(char *text, size_t room, const char *from, size_t length, bool lines);
-
-/* journal.c */
-enum journaled { JOURNALED, JOURNAL_IS_BUSY, NOT_JOURNALED };
-enum journaled tell_journal(struct process *process, int level, const char *text);
 
 /* address.c */
 void read_own_address(struct settings *settings);
