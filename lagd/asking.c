@@ -5,11 +5,9 @@
 #include <poll.h>
 #include <sys/un.h>
 
-/* How long a daemon may take for its answer, in milliseconds. */
-#define PATIENCE 2000
-/* The most daemons that are asked, and the most octets of the answer of each. */
+#define PATIENCE 2000 /* milliseconds that a daemon may take for its answer */
 #define MOST_DAEMONS 256
-#define MOST_ANSWERED 8388608
+#define MOST_ANSWERED 8388608 /* octets of the answer of each */
 
 struct daemon {
     char path[512];

@@ -43,24 +43,11 @@ enum {
 /* How the program ends. */
 enum { DONE = 0, REFUSED = 1, WRONG_WORD = 2 };
 
-/* The most frames, or messages of the kernel, that are taken of a socket in a turn, so that no flood stops the clock. */
-#define MOST_TAKEN 64
-/* How many lines of a port, or of the bundle, time and frames may cause at once; one more each second. Each change of a link has its
- * line. */
-#define MOST_LINES 10
-/* The ticks of a second. */
-#define SECOND 10
-/* The most LACPDUs of a port within a second (IEEE 802.1AX-2014, 6.4.16). */
-#define MOST_LACPDUS 3
-/* For how many nanoseconds too long the kernel may let the daemon sleep: hardly longer than frames are to gather (main.c). */
-#define TIMER_SLACK 1
-
-/* The parts of a daemon that stand above the protocol. */
-struct control;
-struct device;
-struct inherited;
-struct process;
-struct report;
+#define MOST_TAKEN 64 /* frames, or messages of the kernel, that are taken of a socket in a turn, so that no flood stops the clock */
+#define MOST_LINES 10 /* of a port, or of the bundle, that time and frames may cause at once; one more each second */
+#define SECOND 10     /* in ticks */
+#define MOST_LACPDUS 3 /* of a port within a second (IEEE 802.1AX-2014, 6.4.16) */
+#define TIMER_SLACK 1 /* nanoseconds too long that the kernel may let the daemon sleep: hardly longer than frames are to gather (main.c) */
 
 /* What a file keeps for a daemon, which it alone knows, and the field by which it is found; and who makes that. */
 #define KEEPS(file, field) struct file##_private *field;
@@ -106,8 +93,7 @@ struct speed {
     uint8_t duplex;    /* DUPLEX_FULL, DUPLEX_HALF or DUPLEX_UNKNOWN */
 };
 
-/* The octets of the name of a queueing discipline. */
-#define DISCIPLINE_ROOM 16
+#define DISCIPLINE_ROOM 16 /* of the name of a queueing discipline */
 
 /* An interface. Link i is port i + 1 of the system. */
 struct link {
@@ -278,10 +264,8 @@ static inline int last_fault(void) {
     return errno > 0 ? -errno : -EIO;
 }
 
-/* An answer that tells whether the library refused: what depends on the call is done only where it did not. */
-#define MUST_USE __attribute__((warn_unused_result))
-/* A word that a function is handed since others of its kind want it. */
-#define UNUSED __attribute__((unused))
+#define MUST_USE __attribute__((warn_unused_result)) /* the answer tells whether the library did it: else nothing that depends on it is done */
+#define UNUSED __attribute__((unused)) /* of a word that a function is handed since others of its kind want it */
 
 /* names.c */
 const char *status_text(unsigned status);
@@ -346,7 +330,6 @@ struct arrival {
     int index;            /* of the interface that had it */
     bool tagged;          /* whether the kernel took a VLAN tag from it */
 };
-struct msghdr;
 struct tpacket_auxdata;
 struct tpacket_auxdata aux_of(struct msghdr *message);
 void accept_frame(struct protocol *protocol, struct link *link, const struct arrival *arrival);
@@ -364,8 +347,7 @@ void note_odd_marker(struct link *link, const struct arrival *arrival, enum coun
 bool may_answer(struct protocol *protocol, struct link *link, const struct arrival *arrival);
 void tell_markers(struct protocol *protocol, struct link *link);
 
-/* How many markers come in the place of one, of a partner whose members have several queues, where ours have: one for each queue. */
-#define MARKERS_AT_ONCE 16
+#define MARKERS_AT_ONCE 16 /* how many come in the place of one, of a partner whose members have several queues, where ours have */
 
 /* twins.c */
 void look_for_twins(struct protocol *protocol);
@@ -551,10 +533,8 @@ void await_no_more(int epoll_file, int fd);
 const char *read_port(struct words *words, char *text, struct settings *settings, const char **found);
 
 /* status.c */
-/* A question has a name of an interface at most, with its words. */
-#define QUESTION_ROOM 256
-/* How the answer begins to who has no place. */
-#define REFUSAL "refused: "
+#define QUESTION_ROOM 256 /* a question has a name of an interface at most, with its words */
+#define REFUSAL "refused: " /* begins the answer to who has no place */
 void open_status(struct process *process, const char *folder);
 void accept_callers(struct process *process);
 void pass_tick_of_callers(struct process *process);

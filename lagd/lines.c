@@ -5,10 +5,8 @@
 #include <stdarg.h>
 #include <sys/un.h>
 
-/* A pipe with room has at least so many octets of it. */
-#define LONGEST_LINE 512
-/* The room of the text of a line: each octet may be written as four. */
-#define LONGEST_TEXT 400
+#define LONGEST_LINE 512 /* a pipe with room has at least so many octets of it */
+#define LONGEST_TEXT 400 /* of a line, as it is written */
 
 #define KIND_ID(kind, value, id) [(value) / ABOUT_PORT] = id,
 static const char *const MESSAGE_IDS[KINDS / ABOUT_PORT + 1] = {EACH_KIND(KIND_ID)};

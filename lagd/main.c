@@ -15,15 +15,11 @@
 #include <sys/signalfd.h>
 #include <sys/timerfd.h>
 
-/* The most events of a turn. */
-#define MOST_EVENTS TAGS
-/* The most ticks that are made up after a stall: what comes in then is new, and time goes on from there. */
-#define MOST_TICKS 10
-/* After a turn with so many frames the next ones gather for so many nanoseconds. */
-#define MANY 32
-#define GATHERS 50000
-/* How many ticks the peers are told of the end at most. */
-#define END_TICKS 15
+#define MOST_EVENTS TAGS /* of a turn */
+#define MOST_TICKS 10    /* that are made up after a stall: what comes in then is new, and time goes on from there */
+#define MANY 32          /* after a turn with so many frames the next ones gather */
+#define GATHERS 50000    /* for so many nanoseconds */
+#define END_TICKS 15     /* for which the peers are told of the end at most */
 
 /* Waits for a file descriptor, too; answers whether the kernel takes it. */
 bool await_input(int epoll_file, int fd, uint32_t tag) {

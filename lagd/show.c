@@ -95,13 +95,16 @@ static void add_state(struct report *report, enum form form, uint64_t state) {
     add(report, form == AS_TEXT ? "\n" : "]}");
 }
 
-/* One end of a port, as text. */
-static void add_side(struct report *report, const char *whose, const uint8_t *mac, const unsigned numbers[static 4], uint64_t state) {
+/* One end of a port: its system, port number, priorities, key and state. */
+static void add_side(struct report *report, enum form form, const char *whose, const uint8_t *mac, const unsigned numbers[static 4], uint64_t state) {
     char text[32];
-    add(report, "\n  %s sys_id: %s\n  %s sys_priority: %u\n", whose, mac_text(mac, text), whose, numbers[0]);
-    add(report, "  %s port_id: %u\n  %s port_priority: %u\n", whose, numbers[1], whose, numbers[2]);
-    add(report, "  %s key: %u\n  %s state:", whose, numbers[3], whose);
-    add_state(report, AS_TEXT, state);
+    if (form == AS_TEXT) {
+        add(report, "\n  %s sys_id: %s\n  %s sys_priority: %u\n", whose, mac_text(mac, text), whose, numbers[0]);
+        add(report, "  %s port_id: %u\n  %s port_priority: %u\n", whose, numbers[1], whose, numbers[2]);
+        add(report, "  %s key: %u\n  %s state:", whose, numbers[3], whose);
+    } else
+        add(report, "\"key\":%u,\"port_priority\":%u,\"port\":%u,\"state\":[", numbers[3], numbers[2], numbers[1]);
+    add_state(report, form, state);
 }
 
 /* What the library tells of a port. */
@@ -131,18 +134,13 @@ static void add_both_ends(struct report *report, enum form form, const struct vi
     const struct niw_actor *own = &view->own;
     const struct niw_info *partner = &view->partner;
     char mac[32];
-    if (form == AS_TEXT) {
-        add_side(report, "actor", own->system_mac, (unsigned[]){own->system_priority, own->port, own->port_priority, own->key}, view->state);
-        add_side(report, "partner", partner->system_mac,
-            (unsigned[]){partner->system_priority, partner->port, partner->port_priority, partner->key}, partner->state);
-        return;
-    }
-    add(report, ",\"actor\":{\"key\":%u,\"port_priority\":%u,\"port\":%u,\"state\":[", own->key, own->port_priority, own->port);
-    add_state(report, form, view->state);
-    add(report, ",\"partner\":{\"defaulted\":%s,\"system_priority\":%u,\"system\":\"%s\"", view->facts.defaulted ? "true" : "false",
-        partner->system_priority, mac_text(partner->system_mac, mac));
-    add(report, ",\"key\":%u,\"port_priority\":%u,\"port\":%u,\"state\":[", partner->key, partner->port_priority, partner->port);
-    add_state(report, form, partner->state);
+    if (form == AS_JSON) add(report, ",\"actor\":{");
+    add_side(report, form, "actor", own->system_mac, (unsigned[]){own->system_priority, own->port, own->port_priority, own->key}, view->state);
+    if (form == AS_JSON)
+        add(report, ",\"partner\":{\"defaulted\":%s,\"system_priority\":%u,\"system\":\"%s\",", view->facts.defaulted ? "true" : "false",
+            partner->system_priority, mac_text(partner->system_mac, mac));
+    add_side(report, form, "partner", partner->system_mac,
+        (unsigned[]){partner->system_priority, partner->port, partner->port_priority, partner->key}, partner->state);
 }
 
 static void add_strangers(struct control *control, const struct link *link, enum form form) {

@@ -3,17 +3,12 @@
 
 #include <sys/un.h>
 
-/* The most connections of one user, so that none takes all of them; how many of these may watch, so that the others can ask; and how many
- * of all are root's alone. */
-#define MOST_OF_USER 24
-#define MOST_WATCHERS 16
-#define ROOTS_OWN 24
-/* The most connections that are taken between two ticks, so that no flood takes the processor. The others wait in their order. */
-#define MOST_IN_TICK 20
-/* How much of the name of a bundle the name of its socket has: an address has no more room. */
-#define LONGEST_NAME 64
-/* How many ticks a question may take, and how many each part of an answer may wait for whoever asked. */
-#define PATIENCE 20
+#define MOST_OF_USER 24  /* connections of one user, so that none takes all of them */
+#define MOST_WATCHERS 16 /* of these, so that the others can ask */
+#define ROOTS_OWN 24     /* of all connections */
+#define MOST_IN_TICK 20  /* connections are taken between two ticks, so that no flood takes the processor; the others wait in their order */
+#define LONGEST_NAME 64  /* of a bundle in the name of its socket: an address has no more room */
+#define PATIENCE 20      /* ticks that a question may take, and that each part of an answer may wait for whoever asked */
 
 struct caller {
     int fd; /* -1: none */
