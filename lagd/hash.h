@@ -113,10 +113,6 @@ static __always_inline void enter_tunnel(const struct frame *frame, struct place
     }
 }
 
-static __always_inline bool has_ports(uint64_t protocol) {
-    return protocol == IPPROTO_TCP || protocol == IPPROTO_UDP || protocol == IPPROTO_SCTP;
-}
-
 /* Addresses, and ports where the hash has them. Frames without IP have their MAC addresses, of `ethernet`. */
 static __always_inline uint64_t add_headers(const struct frame *frame, const uint32_t *ethernet, const struct place *place, enum hash way,
                                             uint64_t start) {
@@ -133,8 +129,8 @@ static __always_inline uint64_t add_headers(const struct frame *frame, const uin
         }
     }
     if (way == HASH_LAYER2_3 || !has_addresses) hash = add_words(hash, ethernet, 3);
-    if (way != HASH_LAYER2_3 && has_ports(carried.type) && read_octets(frame, carried.at, &ports, sizeof ports))
-        hash = add_words(hash, &ports, 1);
+    bool has_ports = carried.type == IPPROTO_TCP || carried.type == IPPROTO_UDP || carried.type == IPPROTO_SCTP;
+    if (way != HASH_LAYER2_3 && has_ports && read_octets(frame, carried.at, &ports, sizeof ports)) hash = add_words(hash, &ports, 1);
     return hash;
 }
 

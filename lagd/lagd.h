@@ -28,8 +28,7 @@
 
 #define VERSION NIW_VERSION_TEXT
 
-/* The statuses of a port: those of the library, and from here on what it does not know. */
-enum {
+enum { /* the statuses of a port: those of the library, and from here on what it does not know */
     MISSING = 128,   /* its interface is missing */
     WITHOUT_PARTNER, /* it distributes on defaults */
     PARTNER_WANTED,  /* so it does, but partner-required is given */
@@ -40,8 +39,7 @@ enum {
     AWAY,            /* it distributes, as delay-down has it, but its carrier is away */
 };
 
-/* How the program ends. */
-enum { DONE = 0, REFUSED = 1, WRONG_WORD = 2 };
+enum { DONE = 0, REFUSED = 1, WRONG_WORD = 2 }; /* how the program ends */
 
 #define MOST_TAKEN 64 /* frames, or messages of the kernel, that are taken of a socket in a turn, so that no flood stops the clock */
 #define MOST_LINES 10 /* of a port, or of the bundle, that time and frames may cause at once; one more each second */
@@ -53,8 +51,7 @@ enum { DONE = 0, REFUSED = 1, WRONG_WORD = 2 };
 #define KEEPS(file, field) struct file##_private *field;
 #define MAKES(file, field) struct file##_private *make_##file##_private(void);
 
-/* What is printed of a port. */
-struct facts {
+struct facts { /* what is printed of a port */
     uint8_t status; /* NIW_PORT_STATUS_.., or MISSING and so on */
     uint16_t aggregator;
     bool defaulted;
@@ -63,8 +60,7 @@ struct facts {
     int trouble;
 };
 
-/* The other systems that speak on a link. */
-struct strangers {
+struct strangers { /* the other systems that speak on a link */
     struct system_id system; /* the last one */
     uint8_t source[6];       /* of its frame */
     uint64_t told;           /* how many frames and changes of the partner a line told of */
@@ -79,8 +75,7 @@ struct answered {
     uint16_t partner[ANSWERED_SLOTS], others[ANSWERED_SLOTS];
 };
 
-/* Marker PDUs that come on a link. */
-struct markers {
+struct markers { /* Marker PDUs that come on a link */
     struct answered answered;
     uint8_t source[6]; /* of the last one that was not taken, or not answered */
     uint64_t told;     /* of how many of these a line told */
@@ -163,7 +158,6 @@ struct link {
     time_t changed_at;    /* when that changed, in seconds since 1970 */
 };
 
-/* What the bundle is doing. */
 enum bundle_state { BUNDLE_DOWN, BUNDLE_DEGRADED, BUNDLE_UP, BUNDLE_STATES };
 
 struct bundle {
@@ -175,7 +169,6 @@ struct bundle {
     uint64_t counts[BUNDLE_STATES];
 };
 
-/* What the program is to do. */
 enum action { RUN_BUNDLE, CHECK, SHOW, SHOW_CONFIG, WATCH, METRICS, ORDER };
 
 struct options {

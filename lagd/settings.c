@@ -79,12 +79,6 @@ const char *way_text(const struct settings *settings) {
     return settings->fast ? "fast" : settings->offload ? "offload" : "plain";
 }
 
-static const char *const YES_OR_NO[] = {"yes", "no", NULL};
-static const char *const TIMEOUTS[] = {"short", "long", NULL};
-static const char *const ACTIVITIES[] = {"active", "passive", NULL};
-static const char *const OF_WHOM[] = {"given", "follow", NULL};
-static const char *const QUEUES[] = {"one", "all", NULL};
-static const char *const PLANES[] = {[PLANE_TAP] = "tap", [PLANE_TEAM] = "team", NULL};
 static const char *const HASHES[] = {[HASH_LAYER2] = "layer2", [HASH_LAYER2_3] = "layer2+3", [HASH_LAYER3_4] = "layer3+4",
     [HASH_ENCAP3_4] = "encap3+4", [HASH_VLAN_SRCMAC] = "vlan+srcmac", NULL};
 static const char *const SELECTIONS[] = {[SELECT_COUNT] = "count", [SELECT_BANDWIDTH] = "bandwidth", [SELECT_PRIORITY] = "priority",
@@ -104,23 +98,24 @@ const char *selection_text(enum selection selection) {
 #define NUMBER(field, from, to) A_NUMBER, IN(settings, field), FROM(from, to, ""), .value = "N"
 #define SECONDS(field, from, to) A_NUMBER, IN(settings, field), FROM(from, to, "of seconds "), .value = "SECONDS"
 #define MILLISECONDS(field, from, to) A_NUMBER, IN(settings, field), FROM(from, to, "of milliseconds "), .value = "MILLISECONDS"
-#define SWITCH(field, two) A_SWITCH, IN(settings, field), .words = two
-#define WORD(field, several) A_WORD, IN(settings, field), .words = several
+#define ONE_OF(...) .words = (const char *const[]){__VA_ARGS__, NULL}
+#define SWITCH(field, on, off) A_SWITCH, IN(settings, field), ONE_OF(on, off)
+#define WORD(field, ...) A_WORD, IN(settings, field), __VA_ARGS__
 #define TEXT(field, of, check) A_TEXT, IN(settings, field), .expected = of, .is_right = check
 const struct key BUNDLE_KEYS[] = {
     {"key", 0, NUMBER(key, 0, 65535)},
     {"system", 0, A_SYSTEM, .expected = "auto or " A_MAC_SYSTEM, .restart = "another system"},
     {"port-priority", 'p', NUMBER(port_priority, 0, 65535), .usual = USUAL_PRIORITY, .help = "0 to 65535; 32768 if not given"},
-    {"timeout", 't', SWITCH(short_timeout, TIMEOUTS), .usual = true,
+    {"timeout", 't', SWITCH(short_timeout, "short", "long"), .usual = true,
         .help = "what is asked of the peers: an LACPDU each second, as if not given, or each 30 seconds"},
-    {"activity", 'a', SWITCH(active, ACTIVITIES), .usual = true, .help = "whether it speaks first: active, if not given"},
+    {"activity", 'a', SWITCH(active, "active", "passive"), .usual = true, .help = "whether it speaks first: active, if not given"},
     {"max-links", 'm', NUMBER(config.max_links, 0, 64), .help = "the most links of an aggregator, 1 to 64; 0, as if not given: no limit"},
     {"min-links", 'n', NUMBER(min_links, 1, 64), .usual = 1, .change = AT_ONCE,
         .help = "with fewer links that carry the bundle is down: 1 to 64; 1, if not given"},
-    {"select", 'e', WORD(select, SELECTIONS), .change = AT_ONCE,
+    {"select", 'e', WORD(select, .words = SELECTIONS), .change = AT_ONCE,
         .help = "which of several aggregators carries: of most links, as if not given, the fastest, or that of\n"
                 "the port with the lowest priority; stable: one that carries stays"},
-    {"revert", 'R', SWITCH(revert, YES_OR_NO), .change = AT_ONCE,
+    {"revert", 'R', SWITCH(revert, "yes", "no"), .change = AT_ONCE,
         .help = "with max-links the ports with the lowest priorities are used, not those that come first"},
     {"wait-to-restore", 'W', SECONDS(wait_to_restore, 0, 3600), .change = AT_ONCE,
         .help = "how long the carrier of a link that comes back has to be steady; 0 if not given"},
@@ -128,8 +123,8 @@ const struct key BUNDLE_KEYS[] = {
         .help = "how long the carrier of a link may be away while the link counts as up; 0 if not given"},
     {"partner", 'r', A_PARTNER, .expected = "any, first or " A_MAC_SYSTEM, .value = "any|first|PRIORITY,MAC",
         .help = "whose LACPDUs are taken: any, if not given; first: of whom is learnt first, until the\nlink goes down"},
-    {"partner-required", 'q', SWITCH(partner_required, YES_OR_NO), .change = AT_ONCE, .help = "a port without a partner does not carry"},
-    {"key-by-speed", 'b', SWITCH(key_by_speed, YES_OR_NO), .restart = "another key-by-speed",
+    {"partner-required", 'q', SWITCH(partner_required, "yes", "no"), .change = AT_ONCE, .help = "a port without a partner does not carry"},
+    {"key-by-speed", 'b', SWITCH(key_by_speed, "yes", "no"), .restart = "another key-by-speed",
         .help = "links of another speed or duplex have another key, so that they share no group"},
     /* As often as IEEE 802.3, annex 57A, lets one of the slow protocols send. */
     {"marker-responses", 'o', NUMBER(marker_responses, 0, 10000), .usual = 10, .change = AT_ONCE,
@@ -140,23 +135,23 @@ const struct key BUNDLE_KEYS[] = {
         .value = "FOLDER", .help = "keeps there what a start after a reboot goes on from"},
     {"carry", 'C', TEXT(carry, "a name of an interface of at most 15 characters", is_name_of_device), .restart = "another carry",
         .value = "NAME", .help = "carries the data of a device of this name, which it makes, with the MAC address of the system"},
-    {"plane", 'P', WORD(plane, PLANES), .restart = "another plane",
+    {"plane", 'P', WORD(plane, ONE_OF([PLANE_TAP] = "tap", [PLANE_TEAM] = "team")), .restart = "another plane",
         .help = "what that device is: a TAP device, as if not given, or one of the kernel's team driver,\nby which the kernel carries"},
-    {"members", 'B', WORD(follow, OF_WHOM), .change = WITH_DATA,
+    {"members", 'B', WORD(follow, ONE_OF("given", "follow")), .change = WITH_DATA,
         .help = "with --plane team, who says which interfaces are ports: given here, or follow: whoever puts\n"
                 "them into the device or takes them out, as the network manager does"},
-    {"hash", 'H', WORD(hash, HASHES), .restart = "another hash or hash-seed",
+    {"hash", 'H', WORD(hash, .words = HASHES), .restart = "another hash or hash-seed",
         .help = "what frames of one conversation have in common; layer2, if not given"},
     {"hash-seed", 'S', NUMBER(hash_seed, 0, 65535), .restart = "another hash or hash-seed",
         .help = "another number spreads conversations in another way, but by layer2; 0 if not given"},
     /* On a direct cable a frame is on its way for far less. */
     {"flight", 'F', MILLISECONDS(flight, 1, 60000), .usual = 500, .change = WITH_DATA,
         .help = "how long a frame can be on its way; 500 if not given"},
-    {"offload", 'O', SWITCH(offload, YES_OR_NO), .restart = "another offload or fast",
+    {"offload", 'O', SWITCH(offload, "yes", "no"), .restart = "another offload or fast",
         .help = "passes frames of several segments, which the kernel or the card cuts"},
-    {"fast", 'K', SWITCH(fast, YES_OR_NO), .restart = "another offload or fast",
+    {"fast", 'K', SWITCH(fast, "yes", "no"), .restart = "another offload or fast",
         .help = "the kernel passes data on by itself (Linux 6.6), of several segments too"},
-    {"queues", 'Q', WORD(all_queues, QUEUES), .restart = "another queues",
+    {"queues", 'Q', WORD(all_queues, ONE_OF("one", "all")), .restart = "another queues",
         .help = "how many queues of its members data goes by: one, if not given; all (Linux 6.6): each\nconversation by one of them"},
     /* A processor takes what its card gave it within a few milliseconds; this is more than ten programs on it have in turn, of 4 ms each. */
     {"answer-after", 'A', MILLISECONDS(answer_after, 1, 500), .usual = 50, .change = WITH_DATA,
@@ -168,10 +163,10 @@ _Static_assert(sizeof BUNDLE_KEYS / sizeof *BUNDLE_KEYS - 1 <= MOST_BUNDLE_KEYS,
 const struct key PORT_KEYS[] = {
     {"key", 0, A_NUMBER, IN(port_settings, key), FROM(0, 65535, "")},
     {"priority", 0, A_NUMBER, IN(port_settings, priority), FROM(0, 65535, "")},
-    {"timeout", 0, A_SWITCH, IN(port_settings, short_timeout), .words = TIMEOUTS},
-    {"activity", 0, A_SWITCH, IN(port_settings, active), .words = ACTIVITIES},
-    {"individual", 0, A_SWITCH, IN(port_settings, individual), .words = YES_OR_NO},
-    {"hold", 0, A_SWITCH, IN(port_settings, hold), .words = YES_OR_NO},
+    {"timeout", 0, A_SWITCH, IN(port_settings, short_timeout), ONE_OF("short", "long")},
+    {"activity", 0, A_SWITCH, IN(port_settings, active), ONE_OF("active", "passive")},
+    {"individual", 0, A_SWITCH, IN(port_settings, individual), ONE_OF("yes", "no")},
+    {"hold", 0, A_SWITCH, IN(port_settings, hold), ONE_OF("yes", "no")},
     {0},
 };
 
@@ -244,23 +239,17 @@ void copy_setting(const struct key *key, const struct settings *from, struct set
     memcpy(value_in(key, to), value_in(key, from), key->size);
 }
 
-/* Writes a key with its value where that has to be given, or is not as it is if nothing is given; answers whether it did. */
-bool write_bundle_key(const struct key *key, const struct settings *settings, char text[static LINE_ROOM]) {
+/* The value of a key where it has to be given, or is not as it is if nothing is given; else NULL. */
+const char *value_to_give(const struct key *key, const struct settings *settings, char room[static 32]) {
     const struct settings usual = usual_settings();
-    char room[32];
-    snprintf(text, LINE_ROOM, "%s=%s", key->name, value_text(key, settings, room));
-    return key->letter == 0 || !is_same_value(key, settings, &usual);
+    return key->letter == 0 || !is_same_value(key, settings, &usual) ? value_text(key, settings, room) : NULL;
 }
 
-/* The same of a key that a port has of its own. */
-bool write_port_key(const struct key *key, const struct port_settings *port, char text[static LINE_ROOM]) {
+/* The value of a key that a port has of its own, or NULL. */
+const char *value_of_own(const struct key *key, const struct port_settings *port, char room[static 32]) {
     int value = *value_of_port(key, port);
-    if (value == AS_BUNDLE) return false;
-    if (key->words)
-        snprintf(text, LINE_ROOM, "%s=%s", key->name, key->words[value ? 0 : 1]);
-    else
-        snprintf(text, LINE_ROOM, "%s=%d", key->name, value);
-    return true;
+    snprintf(room, 32, "%d", value);
+    return value == AS_BUNDLE ? NULL : key->words ? key->words[value ? 0 : 1] : room;
 }
 
 /* Adds a word to a row of them, behind `joint` if it is not the first one. */

@@ -14,7 +14,6 @@ struct process;
 #define NAME_ROOM 128  /* of a name of an interface, of its alternative names too: ALTIFNAMSIZ of linux/if.h */
 #define DEVICE_ROOM 16 /* of the name of a device that is made, with a zero: IFNAMSIZ of linux/if.h */
 #define PATH_ROOM 176  /* of the path of a hook or a folder: with its key it fits into a line of a file */
-#define LINE_ROOM (PATH_ROOM + 32) /* of a line of a key with its value */
 #define MOST_BUNDLE_KEYS 28
 
 struct system_id {
@@ -22,8 +21,7 @@ struct system_id {
     uint8_t mac[6];
 };
 
-/* Whose LACPDUs are taken. */
-enum partner_policy {
+enum partner_policy { /* whose LACPDUs are taken */
     PARTNER_ANY,
     PARTNER_FIRST, /* those of the system that speaks first, until the link goes down */
     PARTNER_GIVEN, /* those of one given system */
@@ -37,14 +35,12 @@ struct port_settings {
     int active, short_timeout, individual, hold; /* 0 or 1, or AS_BUNDLE */
 };
 
-/* What carries the data. */
-enum plane_kind {
+enum plane_kind { /* what carries the data */
     PLANE_TAP,  /* a TAP device, and the daemon or programs of the kernel */
     PLANE_TEAM, /* the team driver of the kernel */
 };
 
-/* Which aggregator carries, of several that have ports which may. */
-enum selection {
+enum selection { /* which aggregator carries, of several that have ports which may */
     SELECT_COUNT,     /* that of most ports, as the library has it */
     SELECT_BANDWIDTH, /* the fastest one */
     SELECT_PRIORITY,  /* that of the port with the lowest identifier, at the end with the lower system */
@@ -89,8 +85,7 @@ static inline struct system_id own_system(const struct settings *settings) {
     return (struct system_id){settings->config.priority, {mac[0], mac[1], mac[2], mac[3], mac[4], mac[5]}};
 }
 
-/* What a key has for a value. */
-enum kind {
+enum kind { /* what a key has for a value */
     A_NUMBER, /* a uint16_t from `least` to `most` */
     A_SWITCH, /* a bool: whether it is the first one of two words */
     A_WORD,   /* an enum: the place of the word */
@@ -99,8 +94,7 @@ enum kind {
     A_PARTNER,
 };
 
-/* How a reload takes a new value. */
-enum change {
+enum change { /* how a reload takes a new value */
     NOT_COPIED, /* reload.c applies it to each port, or it takes a restart */
     AT_ONCE,
     WITH_DATA, /* at once if data is carried in the same way */
@@ -129,8 +123,7 @@ struct lack {
     const char *expected, *key;
 };
 
-/* Words in a row. */
-struct words {
+struct words { /* in a row */
     char text[512];
 };
 
@@ -146,8 +139,8 @@ unsigned line_of(const struct settings *settings, const char *name);
 const char *set_port(struct words *words, struct port_settings *port, const char *name, const char *text);
 bool is_same_value(const struct key *key, const struct settings *one, const struct settings *other);
 void copy_setting(const struct key *key, const struct settings *from, struct settings *to);
-bool write_bundle_key(const struct key *key, const struct settings *settings, char text[static LINE_ROOM]);
-bool write_port_key(const struct key *key, const struct port_settings *port, char text[static LINE_ROOM]);
+const char *value_to_give(const struct key *key, const struct settings *settings, char room[static 32]);
+const char *value_of_own(const struct key *key, const struct port_settings *port, char room[static 32]);
 struct port_settings unset_port(void);
 const char *add_port(struct settings *settings, const char *name, size_t length);
 struct lack lack_of(const struct settings *settings);

@@ -153,11 +153,11 @@ static void add_strangers(struct control *control, const struct link *link, enum
         add_row(control->report, form, NULL, "same_partner_port", twin ? "" : NULL);
         if (twin) add_string(control->report, twin);
     }
-    (void)system_text(&others->system, system);
-    (void)mac_text(others->source, source);
-    if (form == AS_TEXT && others->seen) add(control->report, "  other system: %s from %s\n", system, source);
-    if (form == AS_JSON)
-        add(control->report, others->seen ? ",\"other_system\":{\"system\":\"%s\",\"source\":\"%s\"}" : ",\"other_system\":null", system, source);
+    if (!others->seen)
+        add_row(control->report, form, NULL, "other_system", NULL);
+    else
+        add(control->report, form == AS_TEXT ? "  other system: %s from %s\n" : ",\"other_system\":{\"system\":\"%s\",\"source\":\"%s\"}",
+            system_text(&others->system, system), mac_text(others->source, source));
 }
 
 static void add_counts(struct report *report, const struct link *link, enum form form) {
@@ -250,8 +250,9 @@ void write_json(struct control *control) {
     char mac[32];
     add(report, "{\"lagd\":\"%s\",", VERSION);
     add_json_bundle(control);
-    add(report, ",\"system_priority\":%u,\"system\":\"%s\",\"key\":%u", settings->config.priority, mac_text(settings->config.mac, mac), settings->key);
-    add(report, ",\"collector_max_delay\":%u,\"min_links\":%u,\"max_links\":%u", settings->config.max_delay, settings->min_links, settings->config.max_links);
+    add(report, ",\"system_priority\":%u,\"system\":\"%s\"", settings->config.priority, mac_text(settings->config.mac, mac));
+    add(report, ",\"key\":%u,\"collector_max_delay\":%u", settings->key, settings->config.max_delay);
+    add(report, ",\"min_links\":%u,\"max_links\":%u", settings->min_links, settings->config.max_links);
     add(report, ",\"select\":\"%s\",\"follows_peer\":%s,\"seconds\":%" PRIu64 ",", selection_text(settings->select),
         is_following(control->protocol->selection) ? "true" : "false", seconds_passed(control->protocol->system));
     CALL(control->plane->carrying->show, control, AS_JSON);
@@ -282,15 +283,16 @@ void write_json_event(struct control *control, const struct link *link) {
 
 /* The settings that hold now, as a file has them: without ports that leave, and those that the device alone has. */
 void write_config(struct control *control) {
-    char text[LINE_ROOM];
+    const char *value;
+    char room[32];
     add(control->report, "# %s\n[Bundle]\n", control->settings->name);
     for (const struct key *key = BUNDLE_KEYS; key->name; key++)
-        if (write_bundle_key(key, control->settings, text)) add(control->report, "%s\n", text);
+        if ((value = value_to_give(key, control->settings, room))) add(control->report, "%s=%s\n", key->name, value);
     EACH_LINK(link, control->ports) {
         const struct port_settings *port = &control->settings->ports[link - control->ports->links];
         if (!link->used || link->leaving || link->followed) continue;
         add(control->report, "\n[Port %s]\n", port->name);
         for (const struct key *key = PORT_KEYS; key->name; key++)
-            if (write_port_key(key, port, text)) add(control->report, "%s\n", text);
+            if ((value = value_of_own(key, port, room))) add(control->report, "%s=%s\n", key->name, value);
     }
 }
