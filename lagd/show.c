@@ -171,16 +171,12 @@ static void add_counts(struct report *report, const struct link *link, enum form
     if (form == AS_JSON) add(report, "}");
 }
 
-/* What names a port: its first line, or the first fields of its object. */
-static void add_name(struct report *report, const struct link *link, enum form form, const char *receive, const char *mux) {
-    if (form == AS_TEXT) {
-        add(report, "\nmember: %s: %s, %s\n", link->name, receive, mux);
-        return;
-    }
+/* The first fields of the object of a port, which name it. */
+static void add_json_name(struct report *report, const struct link *link) {
     add(report, "{\"port\":%u,\"interface\":", link->settings.number);
     add_string(report, link->name);
     add(report, link->socket < 0 ? ",\"index\":null" : ",\"index\":%d", link->index);
-    add_number(report, form, NULL, "key", link->key);
+    add(report, ",\"key\":%u", link->key);
 }
 
 static void add_link(struct control *control, const struct link *link, enum form form) {
@@ -191,7 +187,6 @@ static void add_link(struct control *control, const struct link *link, enum form
     add_words(control->report, form, "link", "link", text);
 }
 
-/* One port. */
 static void add_member(struct control *control, const struct link *link, enum form form) {
     struct report *report = control->report;
     struct view view;
@@ -199,7 +194,8 @@ static void add_member(struct control *control, const struct link *link, enum fo
     if (!read_view(control->protocol, link, &view)) return;
     const char *receive = niw_receive_state_text((uint32_t)view.receive);
     const char *mux = niw_mux_state_text((uint32_t)view.mux);
-    add_name(report, link, form, receive, mux);
+    if (form == AS_TEXT) add(report, "\nmember: %s: %s, %s\n", link->name, receive, mux);
+    else add_json_name(report, link);
     add_words(report, form, "status", "status", status_text(view.facts.status));
     add_row(report, form, "may_enable", "carries", carries(control->protocol, link) ? "true" : "false");
     if (form == AS_TEXT && link->trouble) add(report, "  trouble: %s\n", strerror(link->trouble));
