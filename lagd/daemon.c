@@ -1,21 +1,17 @@
-/* A daemon is made, and goes. */
+/* A daemon is made: its memory goes with the program. */
 #include "daemon.h"
 
 #define MAKE(file, field) of->field = make_##file##_private();
-static void make_files(struct lagd *lagd) {
-    { struct process *of = &lagd->process; EACH_FILE_OF_PROCESS(MAKE) }
-    { struct protocol *of = &lagd->protocol; EACH_FILE_OF_PROTOCOL(MAKE) }
-    { struct carry *of = &lagd->carry; EACH_FILE_OF_CARRY(MAKE) }
-    { struct tap_plane *of = &lagd->tap; EACH_FILE_OF_TAP(MAKE) }
-    { struct team_plane *of = &lagd->team; EACH_FILE_OF_TEAM(MAKE) }
-}
-
 struct lagd *make_lagd(void) {
     struct lagd *lagd = make_room(sizeof *lagd);
     lagd->device = make_device(&lagd->process, &lagd->plane);
     lagd->state = make_state(&lagd->carry, &lagd->team);
     join_parts(lagd);
-    make_files(lagd);
+    { struct process *of = &lagd->process; EACH_FILE_OF_PROCESS(MAKE) }
+    { struct protocol *of = &lagd->protocol; EACH_FILE_OF_PROTOCOL(MAKE) }
+    { struct carry *of = &lagd->carry; EACH_FILE_OF_CARRY(MAKE) }
+    { struct tap_plane *of = &lagd->tap; EACH_FILE_OF_TAP(MAKE) }
+    { struct team_plane *of = &lagd->team; EACH_FILE_OF_TEAM(MAKE) }
     lagd->control.report = make_room(sizeof *lagd->control.report);
     choose_no_plane(&lagd->plane);
     return lagd;

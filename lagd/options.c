@@ -117,10 +117,6 @@ static void print_version(void) {
     printf("with %s%s\n", portable ? "liblag of " : "native liblag, for lag.h of ", portable ? portable : VERSION);
 }
 
-static _Noreturn void end_printing(void) {
-    exit(fflush(stdout) ? REFUSED : DONE);
-}
-
 /* One option. --help and --version end the program. */
 static void act_on_letter(struct words *words, struct options *options, int letter, const char *last) {
     const struct option_text *row = OPTIONS;
@@ -141,8 +137,8 @@ static void act_on_letter(struct words *words, struct options *options, int lett
         break;
     case 'f': options->folder = optarg; break;
     case 'j': options->json = true; break;
-    case 'h': print_help(words); end_printing();
-    case 'V': print_version(); end_printing();
+    case 'h': print_help(words); exit(fflush(stdout) ? REFUSED : DONE);
+    case 'V': print_version(); exit(fflush(stdout) ? REFUSED : DONE);
     case '?': case ':': stop(WRONG_WORD, "not an option, or its word is missing", optopt ? (const char[]){'-', (char)optopt, 0} : last);
     default: if (key->name) give(words, options, key->name, key->name, optarg ? optarg : "yes");
     }

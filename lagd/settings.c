@@ -186,16 +186,18 @@ static int number_of(const struct key *key, const char *text) {
     return -1;
 }
 
-static void put_number(const struct key *key, int number, struct settings *settings) {
+/* Answers whether there is a number, of 0 or more. */
+static bool put_number(const struct key *key, int number, struct settings *settings) {
     void *into = value_in(key, settings);
+    if (number < 0) return false;
     if (key->kind == A_NUMBER) *(uint16_t *)into = (uint16_t)number;
     if (key->kind == A_SWITCH) *(bool *)into = number != 0;
     if (key->kind == A_WORD) *(unsigned *)into = (unsigned)number;
+    return true;
 }
 
 /* Gives a key of the bundle the value that a text has for it; answers whether it has one. */
 static bool read_value(const struct key *key, const char *text, struct settings *settings) {
-    int number;
     switch (key->kind) {
     case A_SYSTEM: return read_system_or_auto(text, settings);
     case A_PARTNER: return read_partner(text, settings);
@@ -203,10 +205,7 @@ static bool read_value(const struct key *key, const char *text, struct settings 
         if (!key->is_right(text)) return false;
         strncpy(value_in(key, settings), text, key->size); /* which has room for a zero, as is_right knows */
         return true;
-    default:
-        number = number_of(key, text);
-        if (number >= 0) put_number(key, number, settings);
-        return number >= 0;
+    default: return put_number(key, number_of(key, text), settings);
     }
 }
 
@@ -336,7 +335,7 @@ const char *add_port(struct settings *settings, const char *name, size_t length)
 struct settings usual_settings(void) {
     struct settings settings = {.config = {.conversations = 256}};
     for (const struct key *key = BUNDLE_KEYS; key->name; key++)
-        if (key->usual) put_number(key, key->usual, &settings);
+        if (key->usual) (void)put_number(key, key->usual, &settings);
     return settings;
 }
 
