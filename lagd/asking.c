@@ -245,8 +245,11 @@ static int order_daemon(struct asking *own) {
 }
 
 int ask_daemons(struct control *control, const struct options *options) {
-    struct asking own = {.process = control->process, .report = control->report, .options = options};
+    static struct asking own; /* its answers stay until the program ends */
     unsigned answers = 0;
+    own.process = control->process;
+    own.report = control->report;
+    own.options = options;
     find_sockets(&own, options->folder, true);
     if (options->action == ORDER) return order_daemon(&own);
     if (options->action == SHOW_CONFIG) (void)find_daemon(&own); /* a file has one bundle */

@@ -273,8 +273,9 @@ static int run_daemon(struct lagd *lagd, const struct options *options) {
 }
 
 int main(int argc, char **argv) {
-    struct lagd *lagd = make_lagd();
+    static struct lagd *lagd; /* until the program ends */
     struct options options;
+    lagd = make_lagd();
     keep_standard_files();
     read_options(&lagd->process, argc, argv, &options);
     if (options.action == RUN_BUNDLE) return run_daemon(lagd, &options);
