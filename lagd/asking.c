@@ -5,26 +5,28 @@
 #include <poll.h>
 #include <sys/un.h>
 
-/* How long a daemon may take for its answer, in milliseconds. */
-#define PATIENCE 2000
-/* The most daemons that are asked, and the most octets of the answer of each. */
+#define PATIENCE 2000 /* milliseconds that a daemon may take for its answer */
 #define MOST_DAEMONS 256
-#define MOST_ANSWERED 8388608
+#define MOST_ANSWERED 8388608 /* octets of the answer of each */
 
-struct asking_private {
-    struct {
-        char path[512];
-        char bundle[NAME_ROOM];
-        int fd;
-        bool may_ask;
-        char *answer; /* whole, with a zero behind it */
-    } daemons[MOST_DAEMONS];
-    unsigned count;
-    const char *denied; /* what may not be looked at, if there is something */
-    char line[4096]; /* of print */
+struct daemon {
+    char path[512];
+    char bundle[NAME_ROOM];
+    int fd;
+    bool may_ask;
+    char *answer; /* whole, with a zero behind it */
 };
 
-MAKES_ROOM(asking)
+struct asking {
+    struct process *process;
+    struct report *report;
+    const struct options *options;
+    struct daemon daemons[MOST_DAEMONS];
+    unsigned count;
+    const char *denied; /* what may not be looked at, if there is something */
+};
+
+#define EACH_DAEMON(it, own) for (struct daemon *it = (own)->daemons; it < (own)->daemons + (own)->count; it++)
 
 /* Whether a file is the status socket of a daemon of this namespace, of which bundle. */
 static bool is_socket(const char *name, char bundle[static NAME_ROOM]) {
@@ -40,18 +42,17 @@ static int is_visible(const struct dirent *entry) {
 }
 
 /* Finds the status sockets in a folder, and in the folders in it. */
-static void find_sockets(struct asking_private *own, const char *folder, bool deeper) {
+static void find_sockets(struct asking *own, const char *folder, bool deeper) {
     struct dirent **entries = NULL;
     int found = scandir(folder, &entries, is_visible, alphasort);
     if (found < 0 && errno == EACCES) own->denied = strdup(folder);
     for (int i = 0; i < found; i++) {
-        char path[sizeof own->daemons->path], bundle[NAME_ROOM];
+        char path[sizeof own->daemons->path];
         bool fits = snprintf(path, sizeof path, "%s/%s", folder, entries[i]->d_name) < (int)sizeof path;
         struct stat file;
-        if (fits && own->count < MOST_DAEMONS && is_socket(entries[i]->d_name, bundle)) {
-            memcpy(own->daemons[own->count].bundle, bundle, sizeof bundle);
+        if (fits && own->count < MOST_DAEMONS && is_socket(entries[i]->d_name, own->daemons[own->count].bundle))
             memcpy(own->daemons[own->count++].path, path, sizeof path);
-        } else if (fits && deeper && lstat(path, &file) == 0 && S_ISDIR(file.st_mode))
+        else if (fits && deeper && lstat(path, &file) == 0 && S_ISDIR(file.st_mode))
             find_sockets(own, path, false);
         free(entries[i]);
     }
@@ -59,8 +60,8 @@ static void find_sockets(struct asking_private *own, const char *folder, bool de
 }
 
 /* The address of a socket, whose whole path may be longer than an address: by its folder, which is opened; answers that, or -errno. */
-static int address_of(struct asking_private *own, const char *path, struct sockaddr_un *to) {
-    char folder[sizeof own->daemons->path];
+static int address_of(const char *path, struct sockaddr_un *to) {
+    char folder[sizeof ((struct daemon *)NULL)->path];
     const char *name = strrchr(path, '/') + 1;
     snprintf(folder, sizeof folder, "%.*s", (int)(name - path), path);
     int opened = open(folder, O_PATH | O_DIRECTORY | O_CLOEXEC);
@@ -72,10 +73,10 @@ static int address_of(struct asking_private *own, const char *path, struct socka
 }
 
 /* Connects with a daemon and asks it; or -errno. It waits no longer than PATIENCE: one that is stopped may answer nobody. */
-static int ask(struct asking_private *own, const char *path, const char *question) {
+static int ask(const char *path, const char *question) {
     struct sockaddr_un to;
     struct timeval patience = {PATIENCE / 1000, 0};
-    int folder = address_of(own, path, &to), opened, fault = 0;
+    int folder = address_of(path, &to), opened, fault = 0;
     if (folder < 0) return folder;
     opened = socket(AF_UNIX, SOCK_STREAM | SOCK_CLOEXEC, 0);
     if (opened < 0 || setsockopt(opened, SOL_SOCKET, SO_SNDTIMEO, &patience, sizeof patience) < 0
@@ -96,38 +97,33 @@ static bool is_refusal(struct process *process, const char *path, const char *te
 
 /* Reads until the daemon ends the connection; NULL where it does not in time, or refuses, as a line says. */
 static char *read_answer(struct process *process, int fd, const char *path) {
-    char *whole = NULL;
-    size_t size = 0, used = 0;
-    ssize_t got = -1;
-    do {
-        if (size - used < 65536 && (size += 65536) <= MOST_ANSWERED && !(whole = realloc(whole, size + 1)))
-            stop(REFUSED, "no memory", "for an answer");
-        if (size > MOST_ANSWERED || poll(&(struct pollfd){fd, POLLIN, 0}, 1, PATIENCE) != 1) break;
-        got = recv(fd, whole + used, size - used, 0);
+    char *whole = malloc(MOST_ANSWERED + 1);
+    size_t used = 0;
+    ssize_t got = 1;
+    if (!whole) stop(REFUSED, "no memory", "for an answer");
+    while (got > 0 && used < MOST_ANSWERED && poll(&(struct pollfd){fd, POLLIN, 0}, 1, PATIENCE) == 1) {
+        got = recv(fd, whole + used, MOST_ANSWERED - used, 0);
         if (got > 0) used += (size_t)got;
-    } while (got > 0);
-    if (whole) whole[used] = 0;
-    if (whole && is_refusal(process, path, whole))
-        used = 0;
-    else if (got != 0 || used == 0)
-        complain(process, "%s: its daemon does not answer", path);
-    if (got == 0 && used > 0) return whole;
+    }
+    whole[used] = 0;
+    bool refused = is_refusal(process, path, whole);
+    if (!refused && got == 0 && used > 0) return realloc(whole, used + 1);
+    if (!refused) complain(process, "%s: its daemon does not answer", path);
     free(whole);
     return NULL;
 }
 
 /* Prints text of a daemon. Whoever made a socket in the folder may be no daemon: a terminal only shows what it says. */
-static void print(struct asking_private *own, const char *text, size_t length) {
-    while (length > 0) {
-        size_t part = length < 1000 ? length : 1000;
-        fwrite(own->line, 1, escape(own->line, sizeof own->line, text, part, true), stdout);
-        text += part;
-        length -= part;
+static void print(const char *text, size_t length) {
+    char shown[4096];
+    for (size_t part; length > 0; text += part, length -= part) {
+        part = length < 1000 ? length : 1000;
+        fwrite(shown, 1, escape(shown, sizeof shown, text, part, true), stdout);
     }
 }
 
 /* Prints the metrics of all: each metric has one head, and the values of all daemons below it. */
-static void print_metrics(struct asking_private *own) {
+static void print_metrics(struct asking *own) {
     const char *at[MOST_DAEMONS];
     for (unsigned i = 0; i < own->count; i++) at[i] = own->daemons[i].answer ? own->daemons[i].answer : "";
     for (bool more = true; more;) {
@@ -137,7 +133,7 @@ static void print_metrics(struct asking_private *own) {
             const char *next;
             for (unsigned line = 0; *at[i] && (line < 2 || *at[i] != '#'); line++, at[i] = *next ? next + 1 : next) {
                 next = at[i] + strcspn(at[i], "\n");
-                if (line >= 2 || first) print(own, at[i], (size_t)(next - at[i]) + (*next != 0));
+                if (line >= 2 || first) print(at[i], (size_t)(next - at[i]) + (*next != 0));
             }
             more = more || first;
         }
@@ -145,25 +141,23 @@ static void print_metrics(struct asking_private *own) {
 }
 
 /* Prints which bundles have a daemon that answers, and when that was. */
-static void print_who_answers(struct control *control) {
-    struct asking_private *own = control->asking;
-    control->report->length = 0;
-    add_head(control->report, "up", "gauge", "whether the daemon of the bundle answers");
-    for (unsigned i = 0; i < own->count; i++)
-        if (own->daemons[i].may_ask) add_value_of(control->report, "up", own->daemons[i].bundle, own->daemons[i].answer != NULL);
-    add_head(control->report, "time_seconds", "gauge", "when this was asked");
-    add(control->report, "lagd_time_seconds %llu\n", (unsigned long long)time(NULL));
-    print(control->asking, control->report->text, control->report->length);
+static void print_who_answers(struct asking *own) {
+    own->report->length = 0;
+    add_head(own->report, "up", "gauge", "whether the daemon of the bundle answers");
+    EACH_DAEMON(it, own)
+        if (it->may_ask) add_value_of(own->report, "up", it->bundle, it->answer != NULL);
+    add_head(own->report, "time_seconds", "gauge", "when this was asked");
+    add(own->report, "lagd_time_seconds %llu\n", (unsigned long long)time(NULL));
+    print(own->report->text, own->report->length);
 }
 
-static _Noreturn void refuse_all(const struct asking_private *own, const char *folder) {
+static _Noreturn void refuse_all(const struct asking *own) {
     if (own->denied) stop(REFUSED, "permission denied", own->denied);
-    stop(REFUSED, "no lagd answers in", folder);
+    stop(REFUSED, "no lagd answers in", own->options->folder);
 }
 
 /* Prints what the daemons say, one after the other as each has a line, until they end. */
-static int print_changes_of_all(struct control *control) {
-    struct asking_private *own = control->asking;
+static int print_changes_of_all(const struct asking *own) {
     struct pollfd waits[MOST_DAEMONS];
     char text[4096 + 1];
     unsigned left = 0;
@@ -176,7 +170,7 @@ static int print_changes_of_all(struct control *control) {
             if (!waits[i].revents) continue;
             ssize_t got = recv(waits[i].fd, text, sizeof text - 1, 0);
             text[got > 0 ? got : 0] = 0;
-            if (got > 0 && !is_refusal(control->process, own->daemons[i].path, text)) print(own, text, (size_t)got);
+            if (got > 0 && !is_refusal(own->process, own->daemons[i].path, text)) print(text, (size_t)got);
             if (got <= 0) waits[i].fd = -1;
             left -= got <= 0;
         }
@@ -192,57 +186,56 @@ static const char *question_of(const struct options *options) {
 }
 
 /* Asks a daemon, and whether it answers before it is watched. One that does not has a line. */
-static bool ask_one(struct control *control, unsigned daemon, const struct options *options) {
-    struct asking_private *own = control->asking;
-    const char *path = own->daemons[daemon].path;
-    bool watched = options->action == WATCH;
-    int fd = ask(control->asking, path, question_of(options));
-    own->daemons[daemon].may_ask = fd != -EACCES && fd != -EPERM;
-    if (!own->daemons[daemon].may_ask) own->denied = path;
-    if (fd < 0) complain(control->process, "%s: its daemon does not answer: %s", path, strerror(-fd));
-    if (fd >= 0) own->daemons[daemon].answer = read_answer(control->process, fd, path);
+static bool ask_one(struct asking *own, struct daemon *daemon) {
+    bool watched = own->options->action == WATCH;
+    int fd = ask(daemon->path, question_of(own->options));
+    daemon->may_ask = fd != -EACCES && fd != -EPERM;
+    if (!daemon->may_ask) own->denied = daemon->path;
+    if (fd < 0) complain(own->process, "%s: its daemon does not answer: %s", daemon->path, strerror(-fd));
+    if (fd >= 0) daemon->answer = read_answer(own->process, fd, daemon->path);
     if (fd >= 0) close(fd);
-    own->daemons[daemon].fd = watched && fd >= 0 ? ask(control->asking, path, options->json ? "watch-json\n" : "watch\n") : -1;
-    return watched ? own->daemons[daemon].fd >= 0 : own->daemons[daemon].answer != NULL;
+    daemon->fd = watched && fd >= 0 ? ask(daemon->path, own->options->json ? "watch-json\n" : "watch\n") : -1;
+    return watched ? daemon->fd >= 0 : daemon->answer != NULL;
 }
 
 /* Tells a daemon an order; answers what it said, without the line end. */
-static char *tell_order(struct control *control, const char *path, const char *what, const char *interface) {
+static char *tell_order(struct asking *own, const char *path, const char *what) {
+    const char *interface = own->options->interface;
     char order[QUESTION_ROOM], *answer;
     if (snprintf(order, sizeof order, "%s %s\n", what, interface) >= (int)sizeof order || strchr(interface, '\n'))
         stop(WRONG_WORD, "expected the name of an interface", interface);
-    int fd = ask(control->asking, path, order);
+    int fd = ask(path, order);
     if (fd < 0) stop(REFUSED, path, strerror(-fd));
-    answer = read_answer(control->process, fd, path);
+    answer = read_answer(own->process, fd, path);
     close(fd);
     if (answer) answer[strcspn(answer, "\n")] = 0;
     return answer;
 }
 
 /* The socket of the one daemon of a folder: one that was killed may have left another there. */
-static const char *find_daemon(struct asking_private *own, const char *folder) {
+static const char *find_daemon(struct asking *own) {
     const char *found = NULL;
-    for (unsigned i = 0; i < own->count; i++) {
-        int fd = ask(own, own->daemons[i].path, "");
-        if (fd == -EACCES) own->denied = own->daemons[i].path;
+    EACH_DAEMON(it, own) {
+        int fd = ask(it->path, "");
+        if (fd == -EACCES) own->denied = it->path;
         if (fd < 0) continue;
         close(fd);
-        if (found) stop(WRONG_WORD, "more than one lagd is here: give the folder of one by --folder", folder);
-        found = own->daemons[i].path;
+        if (found) stop(WRONG_WORD, "more than one lagd is here: give the folder of one by --folder", own->options->folder);
+        found = it->path;
     }
-    if (!found) refuse_all(own, folder);
+    if (!found) refuse_all(own);
     return found;
 }
 
 /* Has the one daemon of a folder change its bundle, and waits until that is done; answers how the program ends. */
-static int order_daemon(struct control *control, const struct options *options) {
-    const char *what = options->order, *path = find_daemon(control->asking, options->folder);
+static int order_daemon(struct asking *own) {
+    const char *what = own->options->order, *path = find_daemon(own);
     bool waits = true;
     while (waits) {
-        char *answer = tell_order(control, path, what, options->interface);
+        char *answer = tell_order(own, path, what);
         if (!answer) return REFUSED;
         waits = strncmp(answer, "wait: ", 6) == 0;
-        if (!waits) print(control->asking, answer, strlen(answer));
+        if (!waits) print(answer, strlen(answer));
         free(answer);
         if (waits && strcmp(what, "remove") == 0) what = "removed"; /* another one may add it anew meanwhile */
         if (waits) (void)poll(NULL, 0, NIW_TICK_MILLISECONDS);
@@ -252,19 +245,22 @@ static int order_daemon(struct control *control, const struct options *options) 
 }
 
 int ask_daemons(struct control *control, const struct options *options) {
-    struct asking_private *own = control->asking;
+    static struct asking own; /* its answers stay until the program ends */
     unsigned answers = 0;
-    find_sockets(control->asking, options->folder, true);
-    if (options->action == ORDER) return order_daemon(control, options);
-    if (options->action == SHOW_CONFIG) (void)find_daemon(own, options->folder); /* a file has one bundle */
-    for (unsigned i = 0; i < own->count; i++) answers += ask_one(control, i, options);
-    if (answers == 0 && (options->action != METRICS || own->count == 0 || own->denied)) refuse_all(control->asking, options->folder);
-    if (options->action == WATCH) return print_changes_of_all(control);
+    own.process = control->process;
+    own.report = control->report;
+    own.options = options;
+    find_sockets(&own, options->folder, true);
+    if (options->action == ORDER) return order_daemon(&own);
+    if (options->action == SHOW_CONFIG) (void)find_daemon(&own); /* a file has one bundle */
+    EACH_DAEMON(it, &own) answers += ask_one(&own, it);
+    if (answers == 0 && (options->action != METRICS || own.count == 0 || own.denied)) refuse_all(&own);
+    if (options->action == WATCH) return print_changes_of_all(&own);
     if (options->action == METRICS) {
-        print_metrics(control->asking);
-        print_who_answers(control);
-    }
-    for (unsigned i = 0; (options->action == SHOW || options->action == SHOW_CONFIG) && i < own->count; i++)
-        if (own->daemons[i].answer) print(control->asking, own->daemons[i].answer, strlen(own->daemons[i].answer));
+        print_metrics(&own);
+        print_who_answers(&own);
+    } else
+        EACH_DAEMON(it, &own)
+            if (it->answer) print(it->answer, strlen(it->answer));
     return fflush(stdout) == 0 ? DONE : REFUSED;
 }

@@ -13,18 +13,16 @@ struct report {
 };
 
 /* What is told of a daemon, and what is done for who asks. */
-#define EACH_FILE_OF_CONTROL(DO) DO(asking, asking) DO(options, options)
 struct control {
     PARTS
     struct carry *carry;
     struct tap_plane *tap;
     struct team_plane *team;
     struct report *report;
-    EACH_FILE_OF_CONTROL(KEEPS)
 };
-EACH_FILE_OF_CONTROL(MAKES)
+
 /* options.c */
-struct options *read_options(struct control *control, int argc, char **argv);
+void read_options(struct process *process, int argc, char **argv, struct options *options);
 
 /* possible.c */
 int check_machine(struct control *control, const struct options *options);
@@ -40,19 +38,9 @@ void show_queues(struct control *control, const struct link *link, enum form for
 void show_frames_waiting(struct control *control, enum form form);
 void show_waiting_buckets(struct control *control, enum form form);
 
-/* report.c */
+/* show.c, metrics.c */
 void add(struct report *report, const char *format, ...) __attribute__((format(printf, 2, 3)));
 void add_string(struct report *report, const char *text);
-
-/* show.c, metrics.c */
-struct view {
-    struct facts facts;
-    uint64_t receive, mux, current_while, wait_while;
-    struct niw_actor own;
-    uint8_t state; /* the state octet of its own side */
-    struct niw_info partner;
-};
-bool view_of(struct protocol *protocol, const struct link *link, struct view *view) MUST_USE;
 void write_text(struct control *control);
 void write_config(struct control *control);
 void write_json(struct control *control);

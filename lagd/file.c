@@ -32,16 +32,12 @@ static void expect(struct reading *reading, const char *expected, const char *fo
 /* Takes the head of a section: `line` begins with a bracket. */
 static void parse_section(struct reading *reading, const char *line) {
     const char *end = strrchr(line, ']'), *fault = "[Bundle] or [Port INTERFACE]";
-    reading->section = WRONG_SECTION;
-    if (strcmp(line, "[Bundle]") == 0) {
-        fault = reading->has_bundle ? "one section [Bundle]" : NULL;
-        if (!fault) reading->section = BUNDLE_SECTION;
-        reading->has_bundle = true;
-    } else if (end && !end[1] && strncmp(line, "[Port ", 6) == 0) {
-        fault = add_port(reading->settings, line + 6, (size_t)(end - line) - 6);
-        if (!fault) reading->section = PORT_SECTION;
-    }
+    bool is_bundle = strcmp(line, "[Bundle]") == 0, is_port = end && !end[1] && strncmp(line, "[Port ", 6) == 0;
+    if (is_bundle) fault = reading->has_bundle ? "one section [Bundle]" : NULL;
+    if (is_port) fault = add_port(reading->settings, line + 6, (size_t)(end - line) - 6);
     if (fault) expect(reading, fault, line);
+    reading->section = fault ? WRONG_SECTION : is_port ? PORT_SECTION : BUNDLE_SECTION;
+    reading->has_bundle = reading->has_bundle || is_bundle;
 }
 
 /* What is wrong with a line, before its key and value are looked at, or NULL. The library would cut a line that is too long, take one

@@ -32,7 +32,7 @@ FILE *open_in(int folder, const char *name, int flags, const char *mode) {
     return file;
 }
 
-/* Why a folder, or a file, that is open is refused, or NULL: others may have written it. */
+/* Why a folder that is open, or a file in it, is refused, or NULL: others may have written it. */
 const char *fault_of_owner(int opened) {
     struct stat found;
     if (fstat(opened, &found) < 0) return strerror(errno);

@@ -80,10 +80,9 @@ static __always_inline bool add_addresses(const struct frame *frame, const struc
 /* Goes on from a header of UDP to what VXLAN carries, if it does. */
 static __always_inline void enter_vxlan(const struct frame *frame, struct place *place) {
     uint8_t udp[VXLAN_FLAGS + 1];
-    uint16_t port;
     place->type = 0;
     if (!read_octets(frame, place->at, udp, sizeof udp) || !(udp[VXLAN_FLAGS] & VXLAN_IS_VALID)) return;
-    port = number_at(udp + UDP_TO);
+    uint16_t port = number_at(udp + UDP_TO);
     if (port != VXLAN_PORT && port != VXLAN_USUAL_PORT) return;
     place->at += VXLAN_ETHERNET;
     enter_ethernet(frame, place);
@@ -92,10 +91,9 @@ static __always_inline void enter_vxlan(const struct frame *frame, struct place 
 /* Goes on from a header of GRE to what it carries, if it is of the kind that is known. */
 static __always_inline void enter_gre(const struct frame *frame, struct place *place) {
     uint8_t gre[GRE_OCTETS];
-    uint16_t flags;
     place->type = 0;
     if (!read_octets(frame, place->at, gre, sizeof gre)) return;
-    flags = number_at(gre);
+    uint16_t flags = number_at(gre);
     if (flags & GRE_OTHER) return;
     place->at += GRE_OCTETS + (flags & GRE_SUM ? 4u : 0u) + (flags & GRE_KEY ? 4u : 0u) + (flags & GRE_SEQUENCE ? 4u : 0u);
     place->type = number_at(gre + GRE_TYPE);
@@ -111,10 +109,6 @@ static __always_inline void enter_tunnel(const struct frame *frame, struct place
     case IPPROTO_GRE: enter_gre(frame, place); break;
     default: place->type = 0;
     }
-}
-
-static __always_inline bool has_ports(uint64_t protocol) {
-    return protocol == IPPROTO_TCP || protocol == IPPROTO_UDP || protocol == IPPROTO_SCTP;
 }
 
 /* Addresses, and ports where the hash has them. Frames without IP have their MAC addresses, of `ethernet`. */
@@ -133,8 +127,8 @@ static __always_inline uint64_t add_headers(const struct frame *frame, const uin
         }
     }
     if (way == HASH_LAYER2_3 || !has_addresses) hash = add_words(hash, ethernet, 3);
-    if (way != HASH_LAYER2_3 && has_ports(carried.type) && read_octets(frame, carried.at, &ports, sizeof ports))
-        hash = add_words(hash, &ports, 1);
+    bool has_ports = carried.type == IPPROTO_TCP || carried.type == IPPROTO_UDP || carried.type == IPPROTO_SCTP;
+    if (way != HASH_LAYER2_3 && has_ports && read_octets(frame, carried.at, &ports, sizeof ports)) hash = add_words(hash, &ports, 1);
     return hash;
 }
 

@@ -28,8 +28,7 @@
 
 #define VERSION NIW_VERSION_TEXT
 
-/* The statuses of a port: those of the library, and from here on what it does not know. */
-enum {
+enum { /* the statuses of a port: those of the library, and from here on what it does not know */
     MISSING = 128,   /* its interface is missing */
     WITHOUT_PARTNER, /* it distributes on defaults */
     PARTNER_WANTED,  /* so it does, but partner-required is given */
@@ -40,34 +39,19 @@ enum {
     AWAY,            /* it distributes, as delay-down has it, but its carrier is away */
 };
 
-/* How the program ends. */
-enum { DONE = 0, REFUSED = 1, WRONG_WORD = 2 };
+enum { DONE = 0, REFUSED = 1, WRONG_WORD = 2 }; /* how the program ends */
 
-/* The most frames, or messages of the kernel, that are taken of a socket in a turn, so that no flood stops the clock. */
-#define MOST_TAKEN 64
-/* How many lines of a port, or of the bundle, time and frames may cause at once; one more each second. Each change of a link has its
- * line. */
-#define MOST_LINES 10
-/* The ticks of a second. */
-#define SECOND 10
-/* The most LACPDUs of a port within a second (IEEE 802.1AX-2014, 6.4.16). */
-#define MOST_LACPDUS 3
-/* For how many nanoseconds too long the kernel may let the daemon sleep: hardly longer than frames are to gather (main.c). */
-#define TIMER_SLACK 1
-
-/* The parts of a daemon that stand above the protocol. */
-struct control;
-struct device;
-struct inherited;
-struct process;
-struct report;
+#define MOST_TAKEN 64 /* frames, or messages of the kernel, that are taken of a socket in a turn, so that no flood stops the clock */
+#define MOST_LINES 10 /* of a port, or of the bundle, that time and frames cause, beside one for each change of a link; one more each second */
+#define SECOND 10     /* in ticks */
+#define MOST_LACPDUS 3 /* of a port within a second (IEEE 802.1AX-2014, 6.4.16) */
+#define TIMER_SLACK 1 /* nanoseconds too long that the kernel may let the daemon sleep: hardly longer than frames are to gather (main.c) */
 
 /* What a file keeps for a daemon, which it alone knows, and the field by which it is found; and who makes that. */
 #define KEEPS(file, field) struct file##_private *field;
 #define MAKES(file, field) struct file##_private *make_##file##_private(void);
 
-/* What is printed of a port. */
-struct facts {
+struct facts { /* what is printed of a port */
     uint8_t status; /* NIW_PORT_STATUS_.., or MISSING and so on */
     uint16_t aggregator;
     bool defaulted;
@@ -76,8 +60,7 @@ struct facts {
     int trouble;
 };
 
-/* The other systems that speak on a link. */
-struct strangers {
+struct strangers { /* the other systems that speak on a link */
     struct system_id system; /* the last one */
     uint8_t source[6];       /* of its frame */
     uint64_t told;           /* how many frames and changes of the partner a line told of */
@@ -92,8 +75,7 @@ struct answered {
     uint16_t partner[ANSWERED_SLOTS], others[ANSWERED_SLOTS];
 };
 
-/* Marker PDUs that come on a link. */
-struct markers {
+struct markers { /* Marker PDUs that come on a link */
     struct answered answered;
     uint8_t source[6]; /* of the last one that was not taken, or not answered */
     uint64_t told;     /* of how many of these a line told */
@@ -106,8 +88,7 @@ struct speed {
     uint8_t duplex;    /* DUPLEX_FULL, DUPLEX_HALF or DUPLEX_UNKNOWN */
 };
 
-/* The octets of the name of a queueing discipline. */
-#define DISCIPLINE_ROOM 16
+#define DISCIPLINE_ROOM 16 /* of the name of a queueing discipline */
 
 /* An interface. Link i is port i + 1 of the system. */
 struct link {
@@ -177,7 +158,6 @@ struct link {
     time_t changed_at;    /* when that changed, in seconds since 1970 */
 };
 
-/* What the bundle is doing. */
 enum bundle_state { BUNDLE_DOWN, BUNDLE_DEGRADED, BUNDLE_UP, BUNDLE_STATES };
 
 struct bundle {
@@ -189,8 +169,7 @@ struct bundle {
     uint64_t counts[BUNDLE_STATES];
 };
 
-/* What the program is to do. */
-enum action { RUN, CHECK, SHOW, SHOW_CONFIG, WATCH, METRICS, ORDER };
+enum action { RUN_BUNDLE, CHECK, SHOW, SHOW_CONFIG, WATCH, METRICS, ORDER };
 
 struct options {
     enum action action;
@@ -199,13 +178,6 @@ struct options {
     const char *file;   /* of the bundle, or NULL */
     const char *order, *interface; /* of ORDER: what is to be done with which interface */
     struct settings settings;
-};
-
-/* What is called as the program ends. */
-#define MOST_ENDINGS 8
-struct ending {
-    void (*act)(void *what);
-    void *what;
 };
 
 /* The program: how far it is, its lines, the files that it has open, and what it was given. */
@@ -221,8 +193,6 @@ struct process {
     int folder;     /* of the status socket, and of what members had */
     int output, journal; /* what lines are written to, once there were some, or -1 */
     struct words words;
-    struct ending endings[MOST_ENDINGS]; /* the last one first */
-    unsigned ending_count;
     EACH_FILE_OF_PROCESS(KEEPS)
 };
 EACH_FILE_OF_PROCESS(MAKES)
@@ -274,8 +244,7 @@ static inline void *make_room(size_t octets) {
 }
 
 /* What a file keeps begins as zeros, but for these fields. */
-#define MAKES_ROOM(file) \
-    struct file##_private *make_##file##_private(void) { return make_room(sizeof(struct file##_private)); }
+#define MAKES_ROOM(file) MAKES_WITH(file, 0)
 #define MAKES_WITH(file, ...) \
     struct file##_private *make_##file##_private(void) { \
         struct file##_private *made = make_room(sizeof *made); \
@@ -288,10 +257,8 @@ static inline int last_fault(void) {
     return errno > 0 ? -errno : -EIO;
 }
 
-/* An answer that tells whether the library refused: what depends on the call is done only where it did not. */
-#define MUST_USE __attribute__((warn_unused_result))
-/* A word that a function is handed since others of its kind want it. */
-#define UNUSED __attribute__((unused))
+#define MUST_USE __attribute__((warn_unused_result)) /* the answer tells whether the library did it: else nothing that depends on it is done */
+#define UNUSED __attribute__((unused)) /* of a word that a function is handed since others of its kind want it */
 
 /* names.c */
 const char *status_text(unsigned status);
@@ -306,24 +273,25 @@ const char *time_text(time_t time, char room[static 32]);
 
 /* lines.c */
 #define WATCHED 0x100 /* beside a level: watchers have had the line */
-/* Beside a level: the kind of a line. Each has a message id in the journal. */
-enum {
-    ABOUT_PORT = 0x1000,     /* a port changed */
-    ABOUT_BUNDLE = 0x2000,   /* the bundle is up, degraded or down, or has more or fewer links that carry */
-    ABOUT_STRANGER = 0x3000, /* another system than the partner speaks */
-    ABOUT_RELOAD = 0x4000,   /* the file was read again */
-    ABOUT_RESTART = 0x5000,  /* something new in it needs a restart */
-    ABOUT_FILE = 0x6000,     /* it is wrong */
-    ABOUT_HOOK = 0x7000,     /* the hook cannot be run */
-    ABOUT_END = 0x8000,      /* the daemon left a port, as it ends */
-    ABOUT_REFUSAL = 0x9000,  /* the library refused a call */
-    ABOUT_CARRIER = 0xa000,  /* the TAP device has a carrier, or none */
-    ABOUT_MARKERS = 0xb000,  /* the peer answers markers, or none */
-    ABOUT_DATA = 0xc000,     /* what troubles the data of a port */
-    ABOUT_RIGHTS = 0xd000,   /* the daemon keeps capabilities that it does not need */
-    ABOUT_HANDOVER = 0xe000, /* what one daemon leaves to the next one */
-    KINDS = 0xf000,
-};
+/* Beside a level: the kind of a line, and its message id in the journal, by which journalctl finds it. docs/LAGD.md lists them: one that is given out
+ * is never given another meaning. */
+#define EACH_KIND(KIND) \
+    KIND(ABOUT_PORT, 0x1000, "abdf3e7059424239914537af4149a604") /* a port changed */ \
+    KIND(ABOUT_BUNDLE, 0x2000, "2c13c00e7c20445b928385f869ff8b88") /* the bundle is up, degraded or down, or has more or fewer links that carry */ \
+    KIND(ABOUT_STRANGER, 0x3000, "0b5d3f91c315421c910c98100506535d") /* another system than the partner speaks */ \
+    KIND(ABOUT_RELOAD, 0x4000, "868170804c524cb8ae11e713761f3e86") /* the file was read again */ \
+    KIND(ABOUT_RESTART, 0x5000, "e914800a54254eb3a5729784441b157c") /* something new in it needs a restart */ \
+    KIND(ABOUT_FILE, 0x6000, "79af5fb89756413b86bdfe99a5118b5f") /* it is wrong */ \
+    KIND(ABOUT_HOOK, 0x7000, "ee4807ee3eb645199ae06dbdc7074c56") /* the hook cannot be run */ \
+    KIND(ABOUT_END, 0x8000, "da067c6258764cdbb7b8cb7be984bc2d") /* the daemon left a port, as it ends */ \
+    KIND(ABOUT_REFUSAL, 0x9000, "b7f3f1992518457f93456f9151641518") /* the library refused a call */ \
+    KIND(ABOUT_CARRIER, 0xa000, "0607a32ee45a4403aa4285dc01ab9bad") /* the TAP device has a carrier, or none */ \
+    KIND(ABOUT_MARKERS, 0xb000, "a31e97fa3b6f4028a557b2d2e89d4829") /* the peer answers markers, or none */ \
+    KIND(ABOUT_DATA, 0xc000, "c6168aa2020d442a8bc8c32f421bd6f9") /* what troubles the data of a port */ \
+    KIND(ABOUT_RIGHTS, 0xd000, "9e14e381d96044edbfe2c030fd7290ff") /* the daemon keeps capabilities that it does not need */ \
+    KIND(ABOUT_HANDOVER, 0xe000, "5d0c2f6be7a14b0f9c3e88d1a4f7b260") /* what one daemon leaves to the next one */
+#define KIND_ITSELF(kind, value, id) kind = value,
+enum { EACH_KIND(KIND_ITSELF) KINDS = 0xf000 };
 _Noreturn void stop(int status, const char *what, const char *which);
 void need(bool done, const char *what);
 bool is_done(struct process *process, uint32_t status, const char *call) MUST_USE;
@@ -332,15 +300,8 @@ bool say(struct process *process, int level, const char *format, ...) __attribut
 void complain(struct process *process, const char *format, ...) __attribute__((format(printf, 2, 3)));
 size_t escape(char *text, size_t room, const char *from, size_t length, bool lines);
 
-/* journal.c */
-enum journaled { JOURNALED, JOURNAL_IS_BUSY, NOT_JOURNALED };
-enum journaled tell_journal(struct process *process, int level, const char *text);
-
 /* address.c */
 void read_own_address(struct settings *settings);
-
-/* signals.c */
-int open_signals(const struct settings *settings);
 
 /* locks.c */
 int lock_interface(struct process *process, int index);
@@ -361,7 +322,6 @@ struct arrival {
     int index;            /* of the interface that had it */
     bool tagged;          /* whether the kernel took a VLAN tag from it */
 };
-struct msghdr;
 struct tpacket_auxdata;
 struct tpacket_auxdata aux_of(struct msghdr *message);
 void accept_frame(struct protocol *protocol, struct link *link, const struct arrival *arrival);
@@ -379,8 +339,7 @@ void note_odd_marker(struct link *link, const struct arrival *arrival, enum coun
 bool may_answer(struct protocol *protocol, struct link *link, const struct arrival *arrival);
 void tell_markers(struct protocol *protocol, struct link *link);
 
-/* How many markers come in the place of one, of a partner whose members have several queues, where ours have: one for each queue. */
-#define MARKERS_AT_ONCE 16
+#define MARKERS_AT_ONCE 16 /* how many come in the place of one, of a partner whose members have several queues, where ours have */
 
 /* twins.c */
 void look_for_twins(struct protocol *protocol);
@@ -544,9 +503,6 @@ void detach_stored(struct store_private *own, const char *kind, int index, int a
 /* possible.c */
 int fault_of_programs(const struct settings *settings);
 
-/* privileges.c */
-void drop_privileges(struct process *process);
-
 /* main.c */
 #define MOST_CALLERS 64
 enum {
@@ -564,17 +520,12 @@ bool await_input(int epoll_file, int fd, uint32_t tag);
 bool await_output(int epoll_file, int fd, uint32_t tag);
 void await_no_more(int epoll_file, int fd);
 
-/* daemon.c */
-void call_at_exit(struct process *process, void (*act)(void *what), void *what);
-
 /* options.c */
 const char *read_port(struct words *words, char *text, struct settings *settings, const char **found);
 
 /* status.c */
-/* A question has a name of an interface at most, with its words. */
-#define QUESTION_ROOM 256
-/* How the answer begins to who has no place. */
-#define REFUSAL "refused: "
+#define QUESTION_ROOM 256 /* a question has a name of an interface at most, with its words */
+#define REFUSAL "refused: " /* begins the answer to who has no place */
 void open_status(struct process *process, const char *folder);
 void accept_callers(struct process *process);
 void pass_tick_of_callers(struct process *process);

@@ -3,11 +3,13 @@
 
 #include <poll.h>
 #include <stdarg.h>
+#include <sys/un.h>
 
-/* A pipe with room has at least so many octets of it. */
-#define LONGEST_LINE 512
-/* The room of the text of a line: each octet may be written as four. */
-#define LONGEST_TEXT 400
+#define LONGEST_LINE 512 /* a pipe with room has at least so many octets of it */
+#define LONGEST_TEXT 400 /* of a line, as it is written */
+
+#define KIND_ID(kind, value, id) [(value) / ABOUT_PORT] = id,
+static const char *const MESSAGE_IDS[KINDS / ABOUT_PORT + 1] = {EACH_KIND(KIND_ID)};
 
 /* Writes `length` octets of text so that a terminal only shows them: each one that is not printable ASCII as \xHH, but for the ends of
  * lines where there may be `lines`. Answers how many octets that are. */
@@ -51,17 +53,16 @@ static bool write_line(int fd, const char *line, size_t length) {
 /* Writes a line on standard error, under the name of the program. */
 static void write_error(const char *text) {
     char line[LONGEST_LINE];
-    int used = snprintf(line, sizeof line - 1, "%slagd: %s", in_journal() ? "<3>" : "", text);
-    size_t length = used < (int)sizeof line - 1 ? (size_t)used : sizeof line - 2;
-    line[length] = '\n';
-    (void)write_line(STDERR_FILENO, line, length + 1);
+    size_t used = (size_t)snprintf(line, sizeof line, "%slagd: ", in_journal() ? "<3>" : "");
+    used += escape(line + used, sizeof line - used - 1, text, strlen(text), false);
+    line[used] = '\n';
+    (void)write_line(STDERR_FILENO, line, used + 1);
 }
 
 /* Ends the program with a line on standard error. No peer knows of it: it is called before there are any. */
 _Noreturn void stop(int status, const char *what, const char *which) {
-    char raw[LONGEST_TEXT], text[LONGEST_LINE];
-    int length = snprintf(raw, sizeof raw, "%s: %s", what, which);
-    (void)escape(text, sizeof text, raw, length < (int)sizeof raw ? (size_t)length : sizeof raw - 1, false);
+    char text[LONGEST_TEXT];
+    snprintf(text, sizeof text, "%s: %s", what, which);
     write_error(text);
     exit(status);
 }
@@ -88,6 +89,19 @@ bool is_told(struct process *process, struct niw_number answer, const char *call
     return is_done(process, answer.status, call);
 }
 
+/* Hands the journal a line of printable text, by its own protocol; answers 0, or errno. */
+static int tell_journal(struct process *process, int level, const char *text) {
+    static const struct sockaddr_un to = {.sun_family = AF_UNIX, .sun_path = "/run/systemd/journal/socket"};
+    char entry[2048], bundle[4 * NAME_ROOM];
+    const char *id = MESSAGE_IDS[(level & KINDS) / ABOUT_PORT];
+    if (process->journal < 0) process->journal = socket(AF_UNIX, SOCK_DGRAM | SOCK_NONBLOCK | SOCK_CLOEXEC, 0);
+    if (process->journal < 0) return errno;
+    (void)escape(bundle, sizeof bundle, process->settings->name, strlen(process->settings->name), false);
+    int used = snprintf(entry, sizeof entry, "MESSAGE=%s\nPRIORITY=%d\nSYSLOG_IDENTIFIER=lagd\nLAGD_BUNDLE=%s\n", text, level & LOG_PRIMASK, bundle);
+    if (id) used += snprintf(entry + used, sizeof entry - (size_t)used, "MESSAGE_ID=%s\n", id);
+    return sendto(process->journal, entry, (size_t)used, MSG_NOSIGNAL, (const struct sockaddr *)&to, sizeof to) == used ? 0 : errno;
+}
+
 /* Prints a text with the time, in UTC, or for the journal with its priority; watchers get it, too. Answers whether it was printed. */
 static bool say_text(struct process *process, int level, const char *text) {
     char line[LONGEST_LINE], time[32];
@@ -96,8 +110,8 @@ static bool say_text(struct process *process, int level, const char *text) {
     int used = snprintf(line, sizeof line, "%s.%03ldZ %s\n", time_text(now.tv_sec, time), now.tv_nsec / 1000000, text);
     if (!(level & WATCHED)) tell_watchers(process->status, line, (size_t)used, false);
     if (in_journal()) {
-        enum journaled told = tell_journal(process, level, text);
-        if (told != NOT_JOURNALED) return told == JOURNALED;
+        int fault = tell_journal(process, level, text);
+        if (fault == 0 || fault == EAGAIN) return fault == 0; /* one that is elsewhere reads standard output */
         used = snprintf(line, sizeof line, "<%d>%s\n", level & LOG_PRIMASK, text);
     }
     return write_line(output(process), line, (size_t)used);

@@ -8,21 +8,18 @@
  * change of a port in one line. Data frames stay with the kernel, or go by a device of its own (carry). `lagd --help` tells the options. */
 #include "daemon.h"
 
+#include <cap-ng.h>
 #include <signal.h>
 #include <sys/epoll.h>
 #include <sys/prctl.h>
 #include <sys/signalfd.h>
 #include <sys/timerfd.h>
 
-/* The most events of a turn. */
-#define MOST_EVENTS TAGS
-/* The most ticks that are made up after a stall: what comes in then is new, and time goes on from there. */
-#define MOST_TICKS 10
-/* After a turn with so many frames the next ones gather for so many nanoseconds. */
-#define MANY 32
-#define GATHERS 50000
-/* How many ticks the peers are told of the end at most. */
-#define END_TICKS 15
+#define MOST_EVENTS TAGS /* of a turn */
+#define MOST_TICKS 10    /* that are made up after a stall: what comes in then is new, and time goes on from there */
+#define MANY 32          /* after a turn with so many frames the next ones gather */
+#define GATHERS 50000    /* for so many nanoseconds */
+#define END_TICKS 15     /* for which the peers are told of the end at most */
 
 /* Waits for a file descriptor, too; answers whether the kernel takes it. */
 bool await_input(int epoll_file, int fd, uint32_t tag) {
@@ -39,16 +36,58 @@ void await_no_more(int epoll_file, int fd) {
     (void)epoll_ctl(epoll_file, EPOLL_CTL_DEL, fd, NULL);
 }
 
-/* At the start, what cannot be waited for ends the program. */
-static void await_at_start(struct process *process, int fd, uint32_t tag) {
-    if (!await_input(process->epoll_file, fd, tag)) stop(REFUSED, "epoll", strerror(errno));
-}
-
 static int open_clock(void) {
     struct itimerspec every = {{0, 100000000}, {0, 100000000}};
     int fd = timerfd_create(CLOCK_MONOTONIC, TFD_NONBLOCK | TFD_CLOEXEC);
-    if (fd < 0 || timerfd_settime(fd, 0, &every, NULL) < 0) stop(REFUSED, "no clock", strerror(errno));
+    need(fd >= 0 && timerfd_settime(fd, 0, &every, NULL) == 0, "no clock");
     return fd;
+}
+
+/* Whether the starting program had a signal ignored, as nohup does: then it stays so. */
+static bool is_ignored(int signal) {
+    struct sigaction action;
+    return sigaction(signal, NULL, &action) == 0 && action.sa_handler == SIG_IGN;
+}
+
+/* Opens the signals that end the daemon, SIGUSR1 too, SIGHUP, and SIGUSR2 where it carries data. A log that may not grow (SIGXFSZ), a reader
+ * that is gone (SIGPIPE) and a hook that ends (SIGCHLD) do not disturb it. */
+static int open_signals(const struct settings *settings) {
+    /* These would end the program at once, beside those of a fault in it. */
+    static const int ends[] = {SIGHUP, SIGINT, SIGQUIT, SIGALRM, SIGVTALRM, SIGPROF, SIGIO, SIGPWR, SIGXCPU, SIGSTKFLT};
+    sigset_t taken;
+    sigemptyset(&taken);
+    sigaddset(&taken, SIGTERM);
+    sigaddset(&taken, SIGUSR1);
+    if (settings->carry[0]) sigaddset(&taken, SIGUSR2);
+    for (size_t i = 0; i < sizeof ends / sizeof *ends; i++)
+        if (!is_ignored(ends[i])) sigaddset(&taken, ends[i]);
+    for (int it = SIGRTMIN; it <= SIGRTMAX; it++)
+        if (!is_ignored(it)) sigaddset(&taken, it);
+    sigprocmask(SIG_BLOCK, &taken, NULL);
+    signal(SIGPIPE, SIG_IGN);
+    signal(SIGXFSZ, SIG_IGN);
+    if (!settings->carry[0]) signal(SIGUSR2, SIG_IGN);
+    signal(SIGCHLD, SIG_IGN);
+    int fd = signalfd(-1, &taken, SFD_CLOEXEC);
+    need(fd >= 0, "no signals");
+    return fd;
+}
+
+/* Drops what is not needed once the sockets are open, for good: no program that it starts gets more, or has any. CAP_NET_RAW stays, for an
+ * interface that comes later, and CAP_NET_ADMIN beside it where it carries data, as far as they are there. Its user stays who he was: who is
+ * root may set files of /sys back, and runs the hooks. The unit has another one. */
+static void drop_privileges(struct process *process) {
+    (void)prctl(PR_SET_NO_NEW_PRIVS, 1, 0, 0, 0);
+    (void)prctl(PR_CAP_AMBIENT, PR_CAP_AMBIENT_CLEAR_ALL, 0, 0, 0);
+    bool known = capng_get_caps_process() == 0;
+    bool raw = known && capng_have_capability(CAPNG_EFFECTIVE, CAP_NET_RAW);
+    bool admin = known && process->settings->carry[0] && capng_have_capability(CAPNG_EFFECTIVE, CAP_NET_ADMIN);
+    capng_clear(CAPNG_SELECT_BOTH);
+    if (raw) (void)capng_update(CAPNG_ADD, CAPNG_EFFECTIVE | CAPNG_PERMITTED, CAP_NET_RAW);
+    if (admin) (void)capng_update(CAPNG_ADD, CAPNG_EFFECTIVE | CAPNG_PERMITTED, CAP_NET_ADMIN);
+    /* Whoever may not change the bounding set has it bounded, or not, by who started the daemon. */
+    if (capng_apply(CAPNG_SELECT_BOTH) != 0 && capng_apply(CAPNG_SELECT_CAPS) != 0)
+        (void)say(process, LOG_WARNING | ABOUT_RIGHTS, "the capabilities stay as they are");
 }
 
 static void tell_changes(struct protocol *protocol) {
@@ -89,20 +128,10 @@ static void pass_time(struct lagd *lagd, int clock) {
     tell_changes(&lagd->protocol);
 }
 
-/* What is ready beside frames and callers. */
-struct ready {
-    bool signal, tick, change, caller;
-};
-
-static struct ready ready_of(const struct epoll_event *events, int count) {
-    struct ready ready = {0};
-    for (int i = 0; i < count; i++) {
-        ready.signal |= events[i].data.u32 == SIGNALS;
-        ready.tick |= events[i].data.u32 == CLOCK;
-        ready.change |= events[i].data.u32 == CHANGES;
-        ready.caller |= events[i].data.u32 == STATUS;
-    }
-    return ready;
+static bool is_ready(const struct epoll_event *events, int count, uint32_t tag) {
+    for (int i = 0; i < count; i++)
+        if (events[i].data.u32 == tag) return true;
+    return false;
 }
 
 /* Takes the frames of all ports, and sends once what they made due. */
@@ -121,37 +150,32 @@ static void serve_all_frames(struct protocol *protocol, const struct epoll_event
 
 /* Takes the data of all members, and then that of the host. */
 static void serve_all_data(struct tap_plane *tap, const struct epoll_event *events, int count) {
-    bool host = is_cutting(tap);
-    for (int i = 0; i < count; i++) {
-        host |= events[i].data.u32 == HOST;
+    bool host = is_cutting(tap) || is_ready(events, count, HOST);
+    for (int i = 0; i < count; i++)
         if (events[i].data.u32 >= MEMBERS) serve_data(tap, events[i].data.u32);
-    }
     settle_carry(tap->plane);
     if (host) serve_data(tap, HOST);
 }
 
-static void serve_all_callers(struct control *control, const struct epoll_event *events, int count) {
-    for (int i = 0; i < count; i++)
-        if (events[i].data.u32 >= CALLERS && events[i].data.u32 < HOST) serve_caller(control, events[i].data.u32 - CALLERS);
-}
-
-/* The next daemon is to go on: answers whether it can. */
-static bool leave_state(struct lagd *lagd) {
+/* The next daemon is to go on, if it can. */
+static void leave_state(struct lagd *lagd) {
     CALL(lagd->plane.carrying->keep_device, &lagd->plane, true);
     lagd->process.has_left = save_state(lagd->state, true);
-    if (!lagd->process.has_left) CALL(lagd->plane.carrying->keep_device, &lagd->plane, false);
-    if (!lagd->process.has_left) return false;
+    if (!lagd->process.has_left) {
+        CALL(lagd->plane.carrying->keep_device, &lagd->plane, false);
+        return;
+    }
     (void)say(&lagd->process, LOG_NOTICE | ABOUT_HANDOVER, "the next daemon may go on from here; %u frames that waited are lost",
         ASK(lagd->plane.carrying->frames_waiting, 0, &lagd->plane));
-    return true;
 }
 
+/* Takes a signal; answers whether it ends the daemon. */
 static bool is_end(struct lagd *lagd, int signals, const char *file) {
     struct signalfd_siginfo signal;
     if (read(signals, &signal, sizeof signal) != sizeof signal) return true;
     switch (signal.ssi_signo) {
     case SIGUSR2: ask_moves(&lagd->carry); return false;
-    case SIGUSR1: return !leave_state(lagd);
+    case SIGUSR1: leave_state(lagd); return !lagd->process.has_left;
     case SIGHUP:
         if (file) reload(&lagd->protocol, file);
         return !file;
@@ -160,14 +184,16 @@ static bool is_end(struct lagd *lagd, int signals, const char *file) {
 }
 
 /* What came in a turn, the clock after the frames that waited. */
-static void serve(struct lagd *lagd, const struct epoll_event *events, int count, struct ready ready, int clock) {
-    if (ready.change) receive_changes(&lagd->protocol);
+static void serve(struct lagd *lagd, const struct epoll_event *events, int count, int clock) {
+    bool tick = is_ready(events, count, CLOCK);
+    if (is_ready(events, count, CHANGES)) receive_changes(&lagd->protocol);
     serve_all_frames(&lagd->protocol, events, count);
     serve_all_data(&lagd->tap, events, count);
-    serve_all_callers(&lagd->control, events, count);
-    if (ready.caller) accept_callers(&lagd->process);
-    watch_carriers(&lagd->protocol, ready.tick);
-    if (ready.tick) pass_time(lagd, clock);
+    for (int i = 0; i < count; i++)
+        if (events[i].data.u32 >= CALLERS && events[i].data.u32 < HOST) serve_caller(&lagd->control, events[i].data.u32 - CALLERS);
+    if (is_ready(events, count, STATUS)) accept_callers(&lagd->process);
+    watch_carriers(&lagd->protocol, tick);
+    if (tick) pass_time(lagd, clock);
     settle_carry(&lagd->plane);
 }
 
@@ -187,12 +213,11 @@ static void run(struct lagd *lagd, int signals, int clock, const char *file) {
     bool ends = false;
     for (unsigned end_ticks = 0; !ends || (end_ticks < END_TICKS && !end_is_told(&lagd->ports));) {
         int count = wait_for(&lagd->tap, events);
-        struct ready ready = ready_of(events, count);
         bool ends_now = count < 0 && errno != EINTR;
-        serve(lagd, events, count, ready, clock);
+        serve(lagd, events, count, clock);
         if (lagd->process.broken) end_carry(&lagd->plane);
-        if (ready.tick && ends) end_ticks++;
-        if (ready.signal) ends_now = is_end(lagd, signals, ends ? NULL : file);
+        if (ends && is_ready(events, count, CLOCK)) end_ticks++;
+        if (is_ready(events, count, SIGNALS)) ends_now = is_end(lagd, signals, ends ? NULL : file);
         if (lagd->process.has_left || (ends && ends_now)) return;
         if (ends || !(ends_now || lagd->process.broken)) continue;
         ends = true;
@@ -204,8 +229,9 @@ static void run(struct lagd *lagd, int signals, int clock, const char *file) {
 
 /* Where a standard file is closed, what is opened next would take its number. */
 static void keep_standard_files(void) {
-    int opened = open("/dev/null", O_RDWR);
-    while (opened >= 0 && opened <= STDERR_FILENO) opened = open("/dev/null", O_RDWR);
+    int opened;
+    do opened = open("/dev/null", O_RDWR);
+    while (opened >= 0 && opened <= STDERR_FILENO);
     if (opened >= 0) close(opened);
 }
 
@@ -214,7 +240,7 @@ static int run_daemon(struct lagd *lagd, const struct options *options) {
     (void)prctl(PR_SET_TIMERSLACK, TIMER_SLACK);
     int signals = open_signals(&lagd->settings);
     lagd->process.epoll_file = epoll_create1(EPOLL_CLOEXEC);
-    if (lagd->process.epoll_file < 0) stop(REFUSED, "epoll", strerror(errno));
+    need(lagd->process.epoll_file >= 0, "epoll");
     if (lagd->settings.system_auto) read_own_address(&lagd->settings);
     lagd->process.folder = open_folder(options->folder);
     open_store(&lagd->process);
@@ -224,11 +250,10 @@ static int run_daemon(struct lagd *lagd, const struct options *options) {
     begin_resuming(&lagd->protocol);
     open_carry(&lagd->protocol);
     start_halt(&lagd->protocol);
-    await_at_start(&lagd->process, open_changes(&lagd->protocol), CHANGES);
+    need(await_input(lagd->process.epoll_file, open_changes(&lagd->protocol), CHANGES), "epoll");
     open_status(&lagd->process, options->folder);
     int clock = open_clock();
-    await_at_start(&lagd->process, signals, SIGNALS);
-    await_at_start(&lagd->process, clock, CLOCK);
+    need(await_input(lagd->process.epoll_file, signals, SIGNALS) && await_input(lagd->process.epoll_file, clock, CLOCK), "epoll");
     drop_privileges(&lagd->process);
     unsigned resumed = resume(&lagd->protocol);
     lagd->process.has_started = true;
@@ -247,10 +272,12 @@ static int run_daemon(struct lagd *lagd, const struct options *options) {
 }
 
 int main(int argc, char **argv) {
-    struct lagd *lagd = make_lagd();
+    static struct lagd *lagd; /* until the program ends */
+    struct options options;
+    lagd = make_lagd();
     keep_standard_files();
-    const struct options *options = read_options(&lagd->control, argc, argv);
-    if (options->action == RUN) return run_daemon(lagd, options);
-    if (options->action == CHECK) return check_machine(&lagd->control, options);
-    return ask_daemons(&lagd->control, options);
+    read_options(&lagd->process, argc, argv, &options);
+    if (options.action == RUN_BUNDLE) return run_daemon(lagd, &options);
+    if (options.action == CHECK) return check_machine(&lagd->control, &options);
+    return ask_daemons(&lagd->control, &options);
 }

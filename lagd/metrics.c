@@ -45,23 +45,26 @@ static void add_state_values(struct control *control, const char *name, const ch
     }
 }
 
-/* What a port has, beside its counts, and the values of it. */
-static const struct count_text GAUGES[] = {
-    {"port_link_up", "whether the link is up"},
-    {"port_carrying", "whether the port carries"},
-    {"port_has_partner", "whether the port has a partner, and does not run on defaults"},
-    {"port_status", "why the port does not distribute: 0 where it does"},
-    {"port_aggregator", "the aggregator of the port, or 0"},
-    {"port_actor_churn", "whether the link has been up for 60 s, and the own side not synchronized"},
-    {"port_partner_churn", "whether the link has been up for 60 s, and the partner not synchronized"},
-    {"port_last_change_timestamp_seconds", "when the port changed last"},
-};
-enum { GAUGE_COUNT = sizeof GAUGES / sizeof *GAUGES };
+/* A metric that each port has; `value` is that of `link`. */
+#define ADD_METRIC(control, name, kind, help, link, value) do { \
+        add_head((control)->report, name, kind, help); \
+        EACH_LINK(link, (control)->ports) \
+            if (link->used) add_port_value(control, name, link, value); \
+    } while (0)
 
-static uint64_t gauge_at(struct protocol *protocol, const struct link *link, size_t place) {
-    const uint64_t values[GAUGE_COUNT] = {link->up, carries(protocol, link), !link->view.defaulted, facts_of(protocol, link).status, link->view.aggregator,
-        link->churn.actor.state == NIW_CHURN_CHURN, link->churn.partner.state == NIW_CHURN_CHURN, (uint64_t)link->changed_at};
-    return values[place];
+/* What a port has, beside its counts. */
+static void add_gauges(struct control *control) {
+    struct protocol *protocol = control->protocol;
+    ADD_METRIC(control, "port_link_up", "gauge", "whether the link is up", link, link->up);
+    ADD_METRIC(control, "port_carrying", "gauge", "whether the port carries", link, carries(protocol, link));
+    ADD_METRIC(control, "port_has_partner", "gauge", "whether the port has a partner, and does not run on defaults", link, !link->view.defaulted);
+    ADD_METRIC(control, "port_status", "gauge", "why the port does not distribute: 0 where it does", link, facts_of(protocol, link).status);
+    ADD_METRIC(control, "port_aggregator", "gauge", "the aggregator of the port, or 0", link, link->view.aggregator);
+    ADD_METRIC(control, "port_actor_churn", "gauge", "whether the link has been up for 60 s, and the own side not synchronized",
+        link, link->churn.actor.state == NIW_CHURN_CHURN);
+    ADD_METRIC(control, "port_partner_churn", "gauge", "whether the link has been up for 60 s, and the partner not synchronized",
+        link, link->churn.partner.state == NIW_CHURN_CHURN);
+    ADD_METRIC(control, "port_last_change_timestamp_seconds", "gauge", "when the port changed last", link, (uint64_t)link->changed_at);
 }
 
 void write_metrics(struct control *control) {
@@ -77,17 +80,11 @@ void write_metrics(struct control *control) {
     add_bundle_value(control, "bundle_min_links", "gauge", "with fewer the bundle is down", control->settings->min_links);
     add_bundle_value(control, "bundle_last_change_timestamp_seconds", "gauge", "when the state of the bundle changed last",
         (uint64_t)bundle->changed_at);
-    for (size_t gauge = 0; gauge < GAUGE_COUNT; gauge++) {
-        add_head(control->report, GAUGES[gauge].name, "gauge", GAUGES[gauge].help);
-        EACH_LINK(link, control->ports)
-            if (link->used) add_port_value(control, GAUGES[gauge].name, link, gauge_at(control->protocol, link, gauge));
-    }
+    add_gauges(control);
     for (unsigned count = 0; count < ALL_COUNTS; count++) {
         char name[64];
         snprintf(name, sizeof name, "port_%s_total", count_text(count).name);
-        add_head(control->report, name, "counter", count_text(count).help);
-        EACH_LINK(link, control->ports)
-            if (link->used) add_port_value(control, name, link, count_at(link, count));
+        ADD_METRIC(control, name, "counter", count_text(count).help, link, count_at(link, count));
     }
     CALL(control->plane->carrying->show, control, AS_METRICS);
 }

@@ -38,9 +38,8 @@ const char *mac_text(const uint8_t *mac, char room[static 32]) {
 
 /* PRIORITY,MAC. */
 const char *system_text(const struct system_id *system, char room[static 32]) {
-    int used = snprintf(room, 32, "%u,", system->priority);
-    const uint8_t *mac = system->mac;
-    snprintf(room + used, 32 - (size_t)used, "%02x:%02x:%02x:%02x:%02x:%02x", mac[0], mac[1], mac[2], mac[3], mac[4], mac[5]);
+    char mac[32];
+    snprintf(room, 32, "%u,%.17s", system->priority, mac_text(system->mac, mac));
     return room;
 }
 

@@ -20,31 +20,31 @@ static const char HELP_ENDS[] = "  -h, --help      -V, --version\n"
     "Words of an interface stand over the options: %s.\n"
     "Status: 0; 1: the kernel or another lagd is in the way, or none answers; 2: a wrong word or file.\n";
 
-/* An option that no file has: what the program is to do. */
+/* An option that no file has. */
 struct option_text {
     char letter;
     const char *name, *value, *help; /* `value`: the word for it in the help; NULL: it has none */
-    enum action action;              /* RUN: it is none of these */
+    enum action action;              /* RUN_BUNDLE: it does not choose what the program does */
 };
 
 /* In the order of the help, which has the keys of a bundle behind LAST_BEFORE_KEYS. */
 #define LAST_BEFORE_KEYS 'k'
 static const struct option_text OPTIONS[] = {
-    {'c', "config", "FILE", "runs the bundle of this file", RUN},
+    {'c', "config", "FILE", "runs the bundle of this file", RUN_BUNDLE},
     {'k', "check", "FILE", "says what is wrong with a file, or what this machine lacks for it", CHECK},
-    {'f', "folder", "FOLDER", "of status sockets; /run/lagd if not given", RUN},
+    {'f', "folder", "FOLDER", "of status sockets; /run/lagd if not given", RUN_BUNDLE},
     {'s', "status", NULL, "prints the state of each lagd of this network namespace and folder", SHOW},
     {'D', "show-config", NULL, "prints the settings that it has now, as a file has them", SHOW_CONFIG},
     {'w', "watch", NULL, "prints each change of one, as it happens", WATCH},
-    {'j', "json", NULL, "prints either as JSON, a line for each", RUN},
+    {'j', "json", NULL, "prints either as JSON, a line for each", RUN_BUNDLE},
     {'M', "metrics", NULL, "prints counts and states in the form of Prometheus", METRICS},
     {'I', "add", "IFACE[:WORD,..]",
         "has this interface join the bundle of the one lagd of the folder, until the next reload or\nrestart; root alone may, as the next three", ORDER},
     {'E', "remove", "IFACE", "has it leave: its peer is told first; the program ends once it left", ORDER},
     {'L', "hold", "IFACE", "has its data leave it, as before a cable is taken away, and ends once that is so", ORDER},
     {'G', "release", "IFACE", "has it used again", ORDER},
-    {'h', "help", NULL, NULL, RUN},
-    {'V', "version", NULL, NULL, RUN},
+    {'h', "help", NULL, NULL, RUN_BUNDLE},
+    {'V', "version", NULL, NULL, RUN_BUNDLE},
     {0},
 };
 
@@ -61,16 +61,7 @@ static const struct {
     {"individual", "individual", "yes"},
 };
 
-enum { PORT_WORD_COUNT = sizeof PORT_WORDS / sizeof *PORT_WORDS };
-
-enum { OPTION_ROOM = MOST_BUNDLE_KEYS + sizeof OPTIONS / sizeof *OPTIONS };
-
-struct options_private {
-    struct options options;
-    bool has_words; /* whether an option stands there that a file has, too */
-};
-
-MAKES_WITH(options, .options.folder = "/run/lagd")
+enum { PORT_WORD_COUNT = sizeof PORT_WORDS / sizeof *PORT_WORDS, OPTION_ROOM = MOST_BUNDLE_KEYS + sizeof OPTIONS / sizeof *OPTIONS };
 
 /* The column of the help in which texts begin, if there is room before it. */
 enum { TEXT_AT = 30, LEAST_GAP = 3 };
@@ -105,37 +96,16 @@ static void print_help(struct words *words) {
     printf(HELP_ENDS, list_port_words(words, ", "));
 }
 
-/* A command line is one line. */
-enum { THE_LINE = 1 };
-
 static void expect(const char *expected, const char *name, const char *value) {
     char found[256];
     if (!expected) return;
-    snprintf(found, sizeof found, "expected %s", expected);
-    if (name) snprintf(found, sizeof found, "%s: expected %s", name, expected);
+    snprintf(found, sizeof found, "%s%sexpected %s", name ? name : "", name ? ": " : "", expected);
     stop(WRONG_WORD, found, value);
 }
 
-/* An option that is a key of the bundle. */
-static void apply_key(struct control *control, int letter, const char *text) {
-    struct options_private *own = control->options;
-    const struct key *key = BUNDLE_KEYS;
-    while (key->letter != letter) key++;
-    own->has_words = true;
-    expect(set_bundle(&control->process->words, &own->options.settings, key->name, text, THE_LINE), key->name, text);
-}
-
-static void choose(struct options *options, const struct option_text *row, const char *interface) {
-    if (options->action != RUN)
-        stop(WRONG_WORD, "usage", "one of --check, --status, --watch, --metrics, --add, --remove, --hold and --release; lagd --help tells more");
-    options->action = row->action;
-    options->order = row->name;
-    options->interface = interface;
-}
-
-static void note_file(struct options *options, const char *file) {
-    if (options->file) stop(WRONG_WORD, "usage", "one file, by --config or by --check; lagd --help tells more");
-    options->file = file;
+/* Gives a key of the bundle a value; `shown` is what a refusal calls it. A command line is one line. */
+static void give(struct words *words, struct options *options, const char *key, const char *shown, const char *text) {
+    expect(set_bundle(words, &options->settings, key, text, 1), shown, text);
 }
 
 /* A text that the library of c/lag.c has, and the native one has not. */
@@ -147,24 +117,30 @@ static void print_version(void) {
     printf("with %s%s\n", portable ? "liblag of " : "native liblag, for lag.h of ", portable ? portable : VERSION);
 }
 
-static _Noreturn void end_printing(void) {
-    exit(fflush(stdout) ? REFUSED : DONE);
-}
-
 /* One option. --help and --version end the program. */
-static void act_on_letter(struct control *control, int option, const char *last) {
-    struct options *options = &control->options->options;
+static void act_on_letter(struct words *words, struct options *options, int letter, const char *last) {
     const struct option_text *row = OPTIONS;
-    while (row->name && row->letter != option) row++;
-    if (row->action != RUN) choose(options, row, optarg);
-    switch (option) {
-    case 'c': case 'k': note_file(options, optarg); break;
+    const struct key *key = BUNDLE_KEYS;
+    while (row->name && row->letter != letter) row++;
+    while (key->name && key->letter != letter) key++;
+    if (row->action != RUN_BUNDLE) {
+        if (options->action != RUN_BUNDLE)
+            stop(WRONG_WORD, "usage", "one of --check, --status, --watch, --metrics, --add, --remove, --hold and --release; lagd --help tells more");
+        options->action = row->action;
+        options->order = row->name;
+        options->interface = optarg;
+    }
+    switch (letter) {
+    case 'c': case 'k':
+        if (options->file) stop(WRONG_WORD, "usage", "one file, by --config or by --check; lagd --help tells more");
+        options->file = optarg;
+        break;
     case 'f': options->folder = optarg; break;
     case 'j': options->json = true; break;
-    case 'h': print_help(&control->process->words); end_printing();
-    case 'V': print_version(); end_printing();
+    case 'h': print_help(words); exit(fflush(stdout) ? REFUSED : DONE);
+    case 'V': print_version(); exit(fflush(stdout) ? REFUSED : DONE);
     case '?': case ':': stop(WRONG_WORD, "not an option, or its word is missing", optopt ? (const char[]){'-', (char)optopt, 0} : last);
-    default: if (!row->name) apply_key(control, option, optarg ? optarg : "yes");
+    default: if (key->name) give(words, options, key->name, key->name, optarg ? optarg : "yes");
     }
 }
 
@@ -191,45 +167,45 @@ const char *read_port(struct words *words, char *text, struct settings *settings
 }
 
 /* KEY PRIORITY,MAC INTERFACE[:WORD,..].. */
-static void read_words(struct control *control, int count, char **words) {
-    struct settings *given = &control->options->options.settings;
+static void read_bundle(struct words *words, struct options *options, int count, char **given) {
+    struct settings *settings = &options->settings;
     if (count < 3) stop(WRONG_WORD, "usage", "lagd [OPTION..] KEY PRIORITY,MAC INTERFACE.., or lagd --config FILE; lagd --help tells more");
-    expect(set_bundle(&control->process->words, given, "key", words[0], THE_LINE), "KEY", words[0]);
-    expect(set_bundle(&control->process->words, given, "system", words[1], THE_LINE), "system", words[1]);
+    give(words, options, "key", "KEY", given[0]);
+    give(words, options, "system", "system", given[1]);
     for (int i = 2; i < count; i++) {
-        const char *found, *expected = read_port(&control->process->words, words[i], given, &found);
+        const char *found, *expected = read_port(words, given[i], settings, &found);
         expect(expected, NULL, found);
     }
-    struct lack lack = lack_of(given);
+    struct lack lack = lack_of(settings);
     expect(lack.expected, NULL, lack.key);
-    strcpy(given->name, given->ports[0].name);
+    strcpy(settings->name, settings->ports[0].name);
 }
 
-static void read_rows(struct control *control, int argc, char **argv) {
+static void read_letters(struct words *words, struct options *options, int argc, char **argv) {
     struct option names[OPTION_ROOM + 1] = {{NULL, 0, NULL, 0}};
     char letters[2 * OPTION_ROOM + 1] = "";
     size_t count = 0, length = 0;
     for (const struct option_text *row = OPTIONS; row->name; row++) names[count++] = (struct option){row->name, row->value != NULL, NULL, row->letter};
     for (const struct key *key = BUNDLE_KEYS; key->name; key++)
-        if (key->letter) names[count++] = (struct option){key->name, value_word(&control->process->words, key) != NULL, NULL, key->letter};
+        if (key->letter) names[count++] = (struct option){key->name, value_word(words, key) != NULL, NULL, key->letter};
     for (size_t i = 0; i < count; i++) {
         letters[length++] = (char)names[i].val;
         if (names[i].has_arg) letters[length++] = ':';
     }
     opterr = 0;
-    for (int option; (option = getopt_long(argc, argv, letters, names, NULL)) >= 0;) act_on_letter(control, option, argv[optind - 1]);
+    for (int letter; (letter = getopt_long(argc, argv, letters, names, NULL)) >= 0;) act_on_letter(words, options, letter, argv[optind - 1]);
 }
 
 /* Reads the command line, and the file that it names. */
-struct options *read_options(struct control *control, int argc, char **argv) {
-    struct options_private *own = control->options;
-    own->options.settings = usual_settings();
-    read_rows(control, argc, argv);
-    if (own->options.json && own->options.action != SHOW && own->options.action != WATCH)
+void read_options(struct process *process, int argc, char **argv, struct options *options) {
+    static const unsigned no_lines[MOST_BUNDLE_KEYS];
+    *options = (struct options){.folder = "/run/lagd", .settings = usual_settings()};
+    read_letters(&process->words, options, argc, argv);
+    bool has_keys = memcmp(options->settings.lines, no_lines, sizeof no_lines) != 0;
+    if (options->json && options->action != SHOW && options->action != WATCH)
         stop(WRONG_WORD, "usage", "lagd --status --json, or lagd --watch --json");
-    if ((own->options.action != RUN || own->options.file) && (optind < argc || own->has_words))
+    if ((options->action != RUN_BUNDLE || options->file) && (optind < argc || has_keys))
         stop(WRONG_WORD, "usage", "a file has all of its bundle, and a question has none of it; lagd --help tells more");
-    if (own->options.file && !read_file(control->process, own->options.file, &own->options.settings)) exit(WRONG_WORD);
-    if (own->options.action == RUN && !own->options.file) read_words(control, argc - optind, argv + optind);
-    return &own->options;
+    if (options->file && !read_file(process, options->file, &options->settings)) exit(WRONG_WORD);
+    if (options->action == RUN_BUNDLE && !options->file) read_bundle(&process->words, options, argc - optind, argv + optind);
 }

@@ -9,12 +9,11 @@
 /* The priority of a system by `auto`, and of a port if nothing else is given: the one in the middle. */
 #define USUAL_PRIORITY 32768
 
-static bool read_number(const char *text, unsigned least, unsigned most, uint16_t *into) {
-    size_t digits = strspn(text, "0123456789");
-    unsigned long found = digits > 0 && digits < 6 && !text[digits] ? strtoul(text, NULL, 10) : most + 1ul;
-    if (found < least || found > most) return false;
-    *into = (uint16_t)found;
-    return true;
+/* The number that `length` digits stand for, if it is one of these; else -1. */
+static int read_number(const char *text, size_t length, int least, int most) {
+    bool right = length > 0 && length < 6 && strspn(text, "0123456789") == length;
+    int found = right ? (int)strtol(text, NULL, 10) : -1;
+    return found >= least && found <= most ? found : -1;
 }
 
 /* Twelve hexadecimal digits: in pairs joined by colons or by hyphens, in fours joined by points, or alone. */
@@ -33,11 +32,10 @@ static bool read_mac(const char *text, uint8_t *mac) {
 }
 
 static bool read_system(const char *text, struct system_id *into) {
-    char priority[8] = "";
     size_t digits = strcspn(text, ",");
-    if (digits >= sizeof priority || !text[digits]) return false;
-    memcpy(priority, text, digits);
-    return read_number(priority, 0, UINT16_MAX, &into->priority) && read_mac(text + digits + 1, into->mac);
+    int priority = read_number(text, digits, 0, UINT16_MAX);
+    into->priority = (uint16_t)priority;
+    return priority >= 0 && text[digits] && read_mac(text + digits + 1, into->mac);
 }
 
 /* PRIORITY,MAC; or auto, where the address comes later. */
@@ -81,12 +79,6 @@ const char *way_text(const struct settings *settings) {
     return settings->fast ? "fast" : settings->offload ? "offload" : "plain";
 }
 
-static const char *const YES_OR_NO[] = {"yes", "no", NULL};
-static const char *const TIMEOUTS[] = {"short", "long", NULL};
-static const char *const ACTIVITIES[] = {"active", "passive", NULL};
-static const char *const OF_WHOM[] = {"given", "follow", NULL};
-static const char *const QUEUES[] = {"one", "all", NULL};
-static const char *const PLANES[] = {[PLANE_TAP] = "tap", [PLANE_TEAM] = "team", NULL};
 static const char *const HASHES[] = {[HASH_LAYER2] = "layer2", [HASH_LAYER2_3] = "layer2+3", [HASH_LAYER3_4] = "layer3+4",
     [HASH_ENCAP3_4] = "encap3+4", [HASH_VLAN_SRCMAC] = "vlan+srcmac", NULL};
 static const char *const SELECTIONS[] = {[SELECT_COUNT] = "count", [SELECT_BANDWIDTH] = "bandwidth", [SELECT_PRIORITY] = "priority",
@@ -102,27 +94,28 @@ const char *selection_text(enum selection selection) {
 
 /* Parts of a row: the place of a value in a struct, and what else its kind wants. */
 #define IN(type, field) .at = offsetof(struct type, field), .size = sizeof ((struct type *)NULL)->field
-#define FROM(from, to, of, word) .least = from, .most = to, .expected = "a number " of "from " #from " to " #to, .value = word
-#define NUMBER(field, from, to) A_NUMBER, IN(settings, field), FROM(from, to, "", "N")
-#define SECONDS(field, from, to) A_NUMBER, IN(settings, field), FROM(from, to, "of seconds ", "SECONDS")
-#define MILLISECONDS(field, from, to) A_NUMBER, IN(settings, field), FROM(from, to, "of milliseconds ", "MILLISECONDS")
-#define SWITCH(field, two) A_SWITCH, IN(settings, field), .words = two
-#define WORD(field, several) A_WORD, IN(settings, field), .words = several
+#define FROM(from, to, of) .least = from, .most = to, .expected = "a number " of "from " #from " to " #to
+#define NUMBER(field, from, to) A_NUMBER, IN(settings, field), FROM(from, to, ""), .value = "N"
+#define SECONDS(field, from, to) A_NUMBER, IN(settings, field), FROM(from, to, "of seconds "), .value = "SECONDS"
+#define MILLISECONDS(field, from, to) A_NUMBER, IN(settings, field), FROM(from, to, "of milliseconds "), .value = "MILLISECONDS"
+#define ONE_OF(...) .words = (const char *const[]){__VA_ARGS__, NULL}
+#define SWITCH(field, on, off) A_SWITCH, IN(settings, field), ONE_OF(on, off)
+#define WORD(field, ...) A_WORD, IN(settings, field), __VA_ARGS__
 #define TEXT(field, of, check) A_TEXT, IN(settings, field), .expected = of, .is_right = check
 const struct key BUNDLE_KEYS[] = {
     {"key", 0, NUMBER(key, 0, 65535)},
     {"system", 0, A_SYSTEM, .expected = "auto or " A_MAC_SYSTEM, .restart = "another system"},
     {"port-priority", 'p', NUMBER(port_priority, 0, 65535), .usual = USUAL_PRIORITY, .help = "0 to 65535; 32768 if not given"},
-    {"timeout", 't', SWITCH(short_timeout, TIMEOUTS), .usual = true,
+    {"timeout", 't', SWITCH(short_timeout, "short", "long"), .usual = true,
         .help = "what is asked of the peers: an LACPDU each second, as if not given, or each 30 seconds"},
-    {"activity", 'a', SWITCH(active, ACTIVITIES), .usual = true, .help = "whether it speaks first: active, if not given"},
+    {"activity", 'a', SWITCH(active, "active", "passive"), .usual = true, .help = "whether it speaks first: active, if not given"},
     {"max-links", 'm', NUMBER(config.max_links, 0, 64), .help = "the most links of an aggregator, 1 to 64; 0, as if not given: no limit"},
     {"min-links", 'n', NUMBER(min_links, 1, 64), .usual = 1, .change = AT_ONCE,
         .help = "with fewer links that carry the bundle is down: 1 to 64; 1, if not given"},
-    {"select", 'e', WORD(select, SELECTIONS), .change = AT_ONCE,
+    {"select", 'e', WORD(select, .words = SELECTIONS), .change = AT_ONCE,
         .help = "which of several aggregators carries: of most links, as if not given, the fastest, or that of\n"
                 "the port with the lowest priority; stable: one that carries stays"},
-    {"revert", 'R', SWITCH(revert, YES_OR_NO), .change = AT_ONCE,
+    {"revert", 'R', SWITCH(revert, "yes", "no"), .change = AT_ONCE,
         .help = "with max-links the ports with the lowest priorities are used, not those that come first"},
     {"wait-to-restore", 'W', SECONDS(wait_to_restore, 0, 3600), .change = AT_ONCE,
         .help = "how long the carrier of a link that comes back has to be steady; 0 if not given"},
@@ -130,8 +123,8 @@ const struct key BUNDLE_KEYS[] = {
         .help = "how long the carrier of a link may be away while the link counts as up; 0 if not given"},
     {"partner", 'r', A_PARTNER, .expected = "any, first or " A_MAC_SYSTEM, .value = "any|first|PRIORITY,MAC",
         .help = "whose LACPDUs are taken: any, if not given; first: of whom is learnt first, until the\nlink goes down"},
-    {"partner-required", 'q', SWITCH(partner_required, YES_OR_NO), .change = AT_ONCE, .help = "a port without a partner does not carry"},
-    {"key-by-speed", 'b', SWITCH(key_by_speed, YES_OR_NO), .restart = "another key-by-speed",
+    {"partner-required", 'q', SWITCH(partner_required, "yes", "no"), .change = AT_ONCE, .help = "a port without a partner does not carry"},
+    {"key-by-speed", 'b', SWITCH(key_by_speed, "yes", "no"), .restart = "another key-by-speed",
         .help = "links of another speed or duplex have another key, so that they share no group"},
     /* As often as IEEE 802.3, annex 57A, lets one of the slow protocols send. */
     {"marker-responses", 'o', NUMBER(marker_responses, 0, 10000), .usual = 10, .change = AT_ONCE,
@@ -142,23 +135,23 @@ const struct key BUNDLE_KEYS[] = {
         .value = "FOLDER", .help = "keeps there what a start after a reboot goes on from"},
     {"carry", 'C', TEXT(carry, "a name of an interface of at most 15 characters", is_name_of_device), .restart = "another carry",
         .value = "NAME", .help = "carries the data of a device of this name, which it makes, with the MAC address of the system"},
-    {"plane", 'P', WORD(plane, PLANES), .restart = "another plane",
+    {"plane", 'P', WORD(plane, ONE_OF([PLANE_TAP] = "tap", [PLANE_TEAM] = "team")), .restart = "another plane",
         .help = "what that device is: a TAP device, as if not given, or one of the kernel's team driver,\nby which the kernel carries"},
-    {"members", 'B', WORD(follow, OF_WHOM), .change = WITH_DATA,
+    {"members", 'B', WORD(follow, ONE_OF("given", "follow")), .change = WITH_DATA,
         .help = "with --plane team, who says which interfaces are ports: given here, or follow: whoever puts\n"
                 "them into the device or takes them out, as the network manager does"},
-    {"hash", 'H', WORD(hash, HASHES), .restart = "another hash or hash-seed",
+    {"hash", 'H', WORD(hash, .words = HASHES), .restart = "another hash or hash-seed",
         .help = "what frames of one conversation have in common; layer2, if not given"},
     {"hash-seed", 'S', NUMBER(hash_seed, 0, 65535), .restart = "another hash or hash-seed",
         .help = "another number spreads conversations in another way, but by layer2; 0 if not given"},
     /* On a direct cable a frame is on its way for far less. */
     {"flight", 'F', MILLISECONDS(flight, 1, 60000), .usual = 500, .change = WITH_DATA,
         .help = "how long a frame can be on its way; 500 if not given"},
-    {"offload", 'O', SWITCH(offload, YES_OR_NO), .restart = "another offload or fast",
+    {"offload", 'O', SWITCH(offload, "yes", "no"), .restart = "another offload or fast",
         .help = "passes frames of several segments, which the kernel or the card cuts"},
-    {"fast", 'K', SWITCH(fast, YES_OR_NO), .restart = "another offload or fast",
+    {"fast", 'K', SWITCH(fast, "yes", "no"), .restart = "another offload or fast",
         .help = "the kernel passes data on by itself (Linux 6.6), of several segments too"},
-    {"queues", 'Q', WORD(all_queues, QUEUES), .restart = "another queues",
+    {"queues", 'Q', WORD(all_queues, ONE_OF("one", "all")), .restart = "another queues",
         .help = "how many queues of its members data goes by: one, if not given; all (Linux 6.6): each\nconversation by one of them"},
     /* A processor takes what its card gave it within a few milliseconds; this is more than ten programs on it have in turn, of 4 ms each. */
     {"answer-after", 'A', MILLISECONDS(answer_after, 1, 500), .usual = 50, .change = WITH_DATA,
@@ -168,12 +161,12 @@ const struct key BUNDLE_KEYS[] = {
 _Static_assert(sizeof BUNDLE_KEYS / sizeof *BUNDLE_KEYS - 1 <= MOST_BUNDLE_KEYS, "each key has room for its line");
 
 const struct key PORT_KEYS[] = {
-    {"key", 0, A_NUMBER, IN(port_settings, key), FROM(0, 65535, "", "N")},
-    {"priority", 0, A_NUMBER, IN(port_settings, priority), FROM(0, 65535, "", "N")},
-    {"timeout", 0, A_SWITCH, IN(port_settings, short_timeout), .words = TIMEOUTS},
-    {"activity", 0, A_SWITCH, IN(port_settings, active), .words = ACTIVITIES},
-    {"individual", 0, A_SWITCH, IN(port_settings, individual), .words = YES_OR_NO},
-    {"hold", 0, A_SWITCH, IN(port_settings, hold), .words = YES_OR_NO},
+    {"key", 0, A_NUMBER, IN(port_settings, key), FROM(0, 65535, "")},
+    {"priority", 0, A_NUMBER, IN(port_settings, priority), FROM(0, 65535, "")},
+    {"timeout", 0, A_SWITCH, IN(port_settings, short_timeout), ONE_OF("short", "long")},
+    {"activity", 0, A_SWITCH, IN(port_settings, active), ONE_OF("active", "passive")},
+    {"individual", 0, A_SWITCH, IN(port_settings, individual), ONE_OF("yes", "no")},
+    {"hold", 0, A_SWITCH, IN(port_settings, hold), ONE_OF("yes", "no")},
     {0},
 };
 
@@ -187,23 +180,24 @@ static int *value_of_port(const struct key *key, const struct port_settings *por
 
 /* What a text stands for, if that is a number, a switch or a word: else -1. */
 static int number_of(const struct key *key, const char *text) {
-    uint16_t number;
-    if (key->kind == A_NUMBER) return read_number(text, key->least, key->most, &number) ? number : -1;
+    if (key->kind == A_NUMBER) return read_number(text, strlen(text), key->least, key->most);
     for (int i = 0; key->words[i]; i++)
         if (strcmp(text, key->words[i]) == 0) return key->kind == A_SWITCH ? i == 0 : i;
     return -1;
 }
 
-static void put_number(const struct key *key, int number, struct settings *settings) {
+/* Answers whether there is a number, of 0 or more. */
+static bool put_number(const struct key *key, int number, struct settings *settings) {
     void *into = value_in(key, settings);
+    if (number < 0) return false;
     if (key->kind == A_NUMBER) *(uint16_t *)into = (uint16_t)number;
     if (key->kind == A_SWITCH) *(bool *)into = number != 0;
     if (key->kind == A_WORD) *(unsigned *)into = (unsigned)number;
+    return true;
 }
 
 /* Gives a key of the bundle the value that a text has for it; answers whether it has one. */
 static bool read_value(const struct key *key, const char *text, struct settings *settings) {
-    int number;
     switch (key->kind) {
     case A_SYSTEM: return read_system_or_auto(text, settings);
     case A_PARTNER: return read_partner(text, settings);
@@ -211,36 +205,32 @@ static bool read_value(const struct key *key, const char *text, struct settings 
         if (!key->is_right(text)) return false;
         strncpy(value_in(key, settings), text, key->size); /* which has room for a zero, as is_right knows */
         return true;
-    default:
-        number = number_of(key, text);
-        if (number >= 0) put_number(key, number, settings);
-        return number >= 0;
+    default: return put_number(key, number_of(key, text), settings);
     }
 }
 
-/* Writes the value that a key of the bundle has, as it is read; nothing where it has none. */
-static void write_value(const struct key *key, const struct settings *settings, char text[static PATH_ROOM]) {
+const char *partner_text(const struct settings *settings, char room[static 32]) {
+    if (settings->policy == PARTNER_GIVEN) return system_text(&settings->partner, room);
+    return settings->policy == PARTNER_FIRST ? "first" : "any";
+}
+
+/* The value that a key of the bundle has, as it is read. */
+static const char *value_text(const struct key *key, const struct settings *settings, char room[static 32]) {
     const void *value = value_in(key, settings);
     struct system_id own = own_system(settings);
-    char room[32];
     switch (key->kind) {
-    case A_NUMBER: snprintf(text, PATH_ROOM, "%u", *(const uint16_t *)value); break;
-    case A_SWITCH: snprintf(text, PATH_ROOM, "%s", key->words[*(const bool *)value ? 0 : 1]); break;
-    case A_WORD: snprintf(text, PATH_ROOM, "%s", key->words[*(const unsigned *)value]); break;
-    case A_TEXT: snprintf(text, PATH_ROOM, "%s", (const char *)value); break;
-    case A_SYSTEM: snprintf(text, PATH_ROOM, "%s", system_text(&own, room)); break;
-    case A_PARTNER:
-        snprintf(text, PATH_ROOM, "%s", settings->policy == PARTNER_GIVEN ? system_text(&settings->partner, room)
-            : settings->policy == PARTNER_FIRST ? "first" : "any");
-        break;
+    case A_NUMBER: snprintf(room, 32, "%u", *(const uint16_t *)value); return room;
+    case A_SWITCH: return key->words[*(const bool *)value ? 0 : 1];
+    case A_WORD: return key->words[*(const unsigned *)value];
+    case A_SYSTEM: return system_text(&own, room);
+    case A_PARTNER: return partner_text(settings, room);
+    default: return value;
     }
 }
 
 bool is_same_value(const struct key *key, const struct settings *one, const struct settings *other) {
-    char value[PATH_ROOM], other_value[PATH_ROOM];
-    write_value(key, one, value);
-    write_value(key, other, other_value);
-    return strcmp(value, other_value) == 0;
+    char room[32], other_room[32];
+    return strcmp(value_text(key, one, room), value_text(key, other, other_room)) == 0;
 }
 
 /* Copies a value, but for a system or a partner, which stand in several places. */
@@ -248,24 +238,17 @@ void copy_setting(const struct key *key, const struct settings *from, struct set
     memcpy(value_in(key, to), value_in(key, from), key->size);
 }
 
-/* Writes a key with its value where that has to be given, or is not as it is if nothing is given; answers whether it did. */
-bool write_bundle_key(const struct key *key, const struct settings *settings, char text[static LINE_ROOM]) {
+/* The value of a key where it has to be given, or is not as it is if nothing is given; else NULL. */
+const char *value_to_give(const struct key *key, const struct settings *settings, char room[static 32]) {
     const struct settings usual = usual_settings();
-    char value[PATH_ROOM];
-    write_value(key, settings, value);
-    snprintf(text, LINE_ROOM, "%s=%s", key->name, value);
-    return key->letter == 0 || !is_same_value(key, settings, &usual);
+    return key->letter == 0 || !is_same_value(key, settings, &usual) ? value_text(key, settings, room) : NULL;
 }
 
-/* The same of a key that a port has of its own. */
-bool write_port_key(const struct key *key, const struct port_settings *port, char text[static LINE_ROOM]) {
+/* The value of a key that a port has of its own, or NULL. */
+const char *value_of_own(const struct key *key, const struct port_settings *port, char room[static 32]) {
     int value = *value_of_port(key, port);
-    if (value == AS_BUNDLE) return false;
-    if (key->words)
-        snprintf(text, LINE_ROOM, "%s=%s", key->name, key->words[value ? 0 : 1]);
-    else
-        snprintf(text, LINE_ROOM, "%s=%d", key->name, value);
-    return true;
+    snprintf(room, 32, "%d", value);
+    return value == AS_BUNDLE ? NULL : key->words ? key->words[value ? 0 : 1] : room;
 }
 
 /* Adds a word to a row of them, behind `joint` if it is not the first one. */
@@ -330,12 +313,17 @@ struct port_settings unset_port(void) {
     return port;
 }
 
+static bool has_port(const struct settings *settings, const char *name, size_t length) {
+    for (uint16_t i = 0; i < settings->port_count; i++)
+        if (strlen(settings->ports[i].name) == length && memcmp(settings->ports[i].name, name, length) == 0) return true;
+    return false;
+}
+
+/* Answers NULL, or what was expected. */
 const char *add_port(struct settings *settings, const char *name, size_t length) {
     struct port_settings *port = &settings->ports[settings->port_count];
     if (!is_name(name, length)) return "the name of an interface";
-    for (uint16_t i = 0; i < settings->port_count; i++)
-        if (strlen(settings->ports[i].name) == length && memcmp(settings->ports[i].name, name, length) == 0)
-            return "each interface once";
+    if (has_port(settings, name, length)) return "each interface once";
     if (settings->port_count == NIW_MOST_PORTS) return "at most 64 interfaces";
     *port = unset_port();
     memcpy(port->name, name, length);
@@ -347,7 +335,7 @@ const char *add_port(struct settings *settings, const char *name, size_t length)
 struct settings usual_settings(void) {
     struct settings settings = {.config = {.conversations = 256}};
     for (const struct key *key = BUNDLE_KEYS; key->name; key++)
-        if (key->usual) put_number(key, key->usual, &settings);
+        if (key->usual) (void)put_number(key, key->usual, &settings);
     return settings;
 }
 
@@ -361,41 +349,38 @@ static const char *key_of_data(const struct settings *settings) {
     return NULL;
 }
 
-/* Whether the bundle could never have a partner: LACPDUs of its own system are not taken. */
-static bool wants_itself(const struct settings *settings) {
-    return settings->policy == PARTNER_GIVEN && settings->partner.priority == settings->config.priority
-        && memcmp(settings->partner.mac, settings->config.mac, sizeof settings->partner.mac) == 0;
-}
-
-/* What has to be given and is not, or what contradicts itself. */
+/* What has to be given and is not, or what contradicts itself: the first of these. */
 struct lack lack_of(const struct settings *settings) {
-    const char *data = key_of_data(settings);
-    if (!line_of(settings, "key")) return (struct lack){"key=NUMBER in [Bundle]", NULL};
-    if (!line_of(settings, "system")) return (struct lack){"system=auto or system=PRIORITY,MAC in [Bundle]", NULL};
-    if (settings->port_count == 0 && settings->system_auto)
-        return (struct lack){"system=PRIORITY,MAC beside no section [Port INTERFACE]: by auto it is the address of the first one", "system"};
-    for (uint16_t i = 0; i < settings->port_count; i++)
-        if (settings->ports[i].name[0] && strcmp(settings->ports[i].name, settings->carry) == 0)
-            return (struct lack){"carry=NAME that is not the interface of a port", "carry"};
-    if (data && !settings->carry[0])
-        return (struct lack){"carry=NAME beside plane, members, hash, hash-seed, flight, offload, fast, queues or answer-after", data};
-    if (settings->hash_seed && settings->hash == HASH_LAYER2)
-        return (struct lack){"another hash than layer2 beside hash-seed", "hash-seed"};
-    if (settings->plane == PLANE_TEAM && (settings->offload || settings->fast))
-        return (struct lack){"neither offload nor fast beside plane=team, by which the kernel carries all", "plane"};
-    if (settings->plane == PLANE_TEAM && settings->select != SELECT_COUNT)
-        return (struct lack){"select=count beside plane=team, which does not see in which group the peer sends", "select"};
-    if (settings->follow && settings->plane != PLANE_TEAM) return (struct lack){"plane=team beside members=follow", "members"};
-    if (settings->plane == PLANE_TEAM && settings->all_queues)
-        return (struct lack){"no queues=all beside plane=team, which leaves queues as they are", "queues"};
-    if (line_of(settings, "answer-after") && !settings->all_queues) return (struct lack){"queues=all beside answer-after", "answer-after"};
-    if (settings->plane == PLANE_TEAM && settings->hash == HASH_ENCAP3_4)
-        return (struct lack){"another hash than encap3+4 beside plane=team", "hash"};
-    if (settings->config.max_links && settings->min_links > settings->config.max_links)
-        return (struct lack){"min-links that is at most max-links", "min-links"};
-    if (settings->revert && !settings->config.max_links) return (struct lack){"max-links=N beside revert", "revert"};
-    if (wants_itself(settings)) return (struct lack){"a partner that is not this system", "partner"};
-    return (struct lack){NULL, NULL};
+    const char *data = key_of_data(settings), *carry = settings->carry;
+    const uint16_t most = settings->config.max_links;
+    const bool team = settings->plane == PLANE_TEAM;
+    const struct system_id own = own_system(settings);
+    const struct {
+        bool is_so;
+        struct lack lack;
+    } rules[] = {
+        {!line_of(settings, "key"), {"key=NUMBER in [Bundle]", NULL}},
+        {!line_of(settings, "system"), {"system=auto or system=PRIORITY,MAC in [Bundle]", NULL}},
+        {settings->port_count == 0 && settings->system_auto,
+            {"system=PRIORITY,MAC beside no section [Port INTERFACE]: by auto it is the address of the first one", "system"}},
+        {carry[0] && has_port(settings, carry, strlen(carry)), {"carry=NAME that is not the interface of a port", "carry"}},
+        {data && !carry[0], {"carry=NAME beside plane, members, hash, hash-seed, flight, offload, fast, queues or answer-after", data}},
+        {settings->hash_seed && settings->hash == HASH_LAYER2, {"another hash than layer2 beside hash-seed", "hash-seed"}},
+        {team && (settings->offload || settings->fast), {"neither offload nor fast beside plane=team, by which the kernel carries all", "plane"}},
+        {team && settings->select != SELECT_COUNT, {"select=count beside plane=team, which does not see in which group the peer sends", "select"}},
+        {settings->follow && !team, {"plane=team beside members=follow", "members"}},
+        {team && settings->all_queues, {"no queues=all beside plane=team, which leaves queues as they are", "queues"}},
+        {line_of(settings, "answer-after") && !settings->all_queues, {"queues=all beside answer-after", "answer-after"}},
+        {team && settings->hash == HASH_ENCAP3_4, {"another hash than encap3+4 beside plane=team", "hash"}},
+        {most && settings->min_links > most, {"min-links that is at most max-links", "min-links"}},
+        {settings->revert && !most, {"max-links=N beside revert", "revert"}},
+        /* LACPDUs of its own system are not taken. */
+        {settings->policy == PARTNER_GIVEN && memcmp(&settings->partner, &own, sizeof own) == 0, {"a partner that is not this system", "partner"}},
+        {true, {NULL, NULL}},
+    };
+    size_t first = 0;
+    while (!rules[first].is_so) first++;
+    return rules[first].lack;
 }
 
 static int value_of(int own, int all) {

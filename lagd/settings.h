@@ -11,30 +11,23 @@
 
 struct process;
 
-/* The room of a name of an interface, of its alternative names too: ALTIFNAMSIZ of linux/if.h. */
-#define NAME_ROOM 128
-/* The room of the path of a hook or a folder: with its key it fits into a line of a file. */
-#define PATH_ROOM 176
-/* The most keys of a bundle. */
+#define NAME_ROOM 128  /* of a name of an interface, of its alternative names too: ALTIFNAMSIZ of linux/if.h */
+#define DEVICE_ROOM 16 /* of the name of a device that is made, with a zero: IFNAMSIZ of linux/if.h */
+#define PATH_ROOM 176  /* of the path of a hook or a folder: with its key it fits into a line of a file */
 #define MOST_BUNDLE_KEYS 28
-/* The room of the name of a device that is made, with a zero: IFNAMSIZ of linux/if.h. */
-#define DEVICE_ROOM 16
 
-/* A system: its priority and its MAC address. */
 struct system_id {
     uint16_t priority;
     uint8_t mac[6];
 };
 
-/* Whose LACPDUs are taken. */
-enum partner_policy {
+enum partner_policy { /* whose LACPDUs are taken */
     PARTNER_ANY,
     PARTNER_FIRST, /* those of the system that speaks first, until the link goes down */
     PARTNER_GIVEN, /* those of one given system */
 };
 
-/* Where a port has no value of its own. */
-enum { AS_BUNDLE = -1 };
+enum { AS_BUNDLE = -1 }; /* a port has no value of its own */
 
 struct port_settings {
     char name[NAME_ROOM];      /* of the interface */
@@ -42,14 +35,12 @@ struct port_settings {
     int active, short_timeout, individual, hold; /* 0 or 1, or AS_BUNDLE */
 };
 
-/* What carries the data. */
-enum plane_kind {
+enum plane_kind { /* what carries the data */
     PLANE_TAP,  /* a TAP device, and the daemon or programs of the kernel */
     PLANE_TEAM, /* the team driver of the kernel */
 };
 
-/* Which aggregator carries, of several that have ports which may. */
-enum selection {
+enum selection { /* which aggregator carries, of several that have ports which may */
     SELECT_COUNT,     /* that of most ports, as the library has it */
     SELECT_BANDWIDTH, /* the fastest one */
     SELECT_PRIORITY,  /* that of the port with the lowest identifier, at the end with the lower system */
@@ -94,8 +85,7 @@ static inline struct system_id own_system(const struct settings *settings) {
     return (struct system_id){settings->config.priority, {mac[0], mac[1], mac[2], mac[3], mac[4], mac[5]}};
 }
 
-/* What a key has for a value. */
-enum kind {
+enum kind { /* what a key has for a value */
     A_NUMBER, /* a uint16_t from `least` to `most` */
     A_SWITCH, /* a bool: whether it is the first one of two words */
     A_WORD,   /* an enum: the place of the word */
@@ -104,11 +94,10 @@ enum kind {
     A_PARTNER,
 };
 
-/* What a reload does with a value that can change while the daemon runs. */
-enum change {
-    BY_RELOAD, /* reload.c knows what it wants beside */
+enum change { /* how a reload takes a new value */
+    NOT_COPIED, /* reload.c applies it to each port, or it takes a restart */
     AT_ONCE,
-    WITH_DATA, /* it changes at once if data is carried in the same way */
+    WITH_DATA, /* at once if data is carried in the same way */
 };
 
 /* A key of a bundle or of a port: the file has its name, and so has the long option of a bundle. */
@@ -134,18 +123,15 @@ struct lack {
     const char *expected, *key;
 };
 
-/* Words in a row. */
-struct words {
+struct words { /* in a row */
     char text[512];
 };
-
-/* The room of a line of a key with its value. */
-#define LINE_ROOM (PATH_ROOM + 32)
 
 struct settings usual_settings(void);
 const char *hash_text(enum hash hash);
 const char *selection_text(enum selection selection);
 const char *way_text(const struct settings *settings);
+const char *partner_text(const struct settings *settings, char room[static 32]);
 void add_word(struct words *words, const char *joint, const char *word);
 const char *list_choice(struct words *words, const struct key *key, const char *joint, const char *last_joint);
 const char *set_bundle(struct words *words, struct settings *settings, const char *name, const char *text, unsigned line);
@@ -153,8 +139,8 @@ unsigned line_of(const struct settings *settings, const char *name);
 const char *set_port(struct words *words, struct port_settings *port, const char *name, const char *text);
 bool is_same_value(const struct key *key, const struct settings *one, const struct settings *other);
 void copy_setting(const struct key *key, const struct settings *from, struct settings *to);
-bool write_bundle_key(const struct key *key, const struct settings *settings, char text[static LINE_ROOM]);
-bool write_port_key(const struct key *key, const struct port_settings *port, char text[static LINE_ROOM]);
+const char *value_to_give(const struct key *key, const struct settings *settings, char room[static 32]);
+const char *value_of_own(const struct key *key, const struct port_settings *port, char room[static 32]);
 struct port_settings unset_port(void);
 const char *add_port(struct settings *settings, const char *name, size_t length);
 struct lack lack_of(const struct settings *settings);

@@ -1,6 +1,30 @@
 /* The status as text, laid out as Open vSwitch lays out `ovs-appctl lacp/show`, and as JSON, as each change. */
 #include "control.h"
 
+#include <stdarg.h>
+
+/* Adds to the report, as far as there is room. */
+void add(struct report *report, const char *format, ...) {
+    va_list given;
+    va_start(given, format);
+    int length = vsnprintf(report->text + report->length, sizeof report->text - report->length, format, given);
+    va_end(given);
+    report->length += (size_t)length < sizeof report->text - report->length ? (size_t)length : sizeof report->text - report->length - 1;
+}
+
+/* Adds a string of JSON. The kernel allows any octets in a name. */
+void add_string(struct report *report, const char *text) {
+    add(report, "\"");
+    for (; *text; text++) {
+        unsigned char octet = (unsigned char)*text;
+        if (octet < 0x20 || octet > 0x7e || octet == '"' || octet == '\\')
+            add(report, "\\u%04x", octet);
+        else
+            add(report, "%c", octet);
+    }
+    add(report, "\"");
+}
+
 /* A row: in the text `  NAME: VALUE`, in JSON `,"NAME":VALUE`. A form that has no name for it, and a text of no value, do without. */
 static void add_row(struct report *report, enum form form, const char *text, const char *json, const char *value) {
     if (form == AS_TEXT && text && value) add(report, "  %s: %s\n", text, value);
@@ -26,13 +50,6 @@ static void add_time(struct report *report, enum form form, time_t time) {
     add_words(report, form, "last change", "last_change", time ? zoned : NULL);
 }
 
-static void add_policy(struct report *report, const struct settings *settings) {
-    char text[32];
-    const char *whom = settings->policy == PARTNER_ANY ? "any" : "first";
-    if (settings->policy == PARTNER_GIVEN) whom = system_text(&settings->partner, text);
-    add(report, "  partner: %s%s\n", whom, settings->partner_required ? ", required" : "");
-}
-
 /* Which aggregator carries, and what each one has of what decides that. */
 static void add_selection(struct report *report, struct protocol *protocol) {
     enum selection by = protocol->settings->select;
@@ -52,22 +69,22 @@ static void add_selection(struct report *report, struct protocol *protocol) {
 static void add_bundle(struct control *control) {
     const struct settings *settings = control->settings;
     const struct bundle *bundle = &control->protocol->bundle;
-    char mac[32];
+    char text[32];
     add(control->report, "---- %s ----\n", settings->name);
     add(control->report, "  status: %s, %u of %u links carry", bundle_state_text(bundle->state), bundle->carrying, bundle->links);
     EACH_LINK(link, control->ports)
         if (link->away) add(control->report, ", but the carrier of %s is away", link->name);
     add(control->report, "\n");
-    add(control->report, "  sys_id: %s\n  sys_priority: %u\n", mac_text(settings->config.mac, mac), settings->config.priority);
+    add(control->report, "  sys_id: %s\n  sys_priority: %u\n", mac_text(settings->config.mac, text), settings->config.priority);
     add(control->report, "  aggregation key: %u\n  lacp_time: %s\n", settings->key, settings->short_timeout ? "fast" : "slow");
     add(control->report, "  aggregator: %u\n  min_links: %u\n  max_links: %u\n", bundle->aggregator, settings->min_links, settings->config.max_links);
     add_selection(control->report, control->protocol);
-    add_policy(control->report, settings);
+    add(control->report, "  partner: %s%s\n", partner_text(settings, text), settings->partner_required ? ", required" : "");
     add_time(control->report, AS_TEXT, bundle->changed_at);
     add(control->report, "  uptime: %" PRIu64 " s, lagd %s\n", seconds_passed(control->protocol->system), VERSION);
 }
 
-static void add_state(struct report *report, enum form form, uint8_t state) {
+static void add_state(struct report *report, enum form form, uint64_t state) {
     static const char *const names[8] = {"activity", "timeout", "aggregation", "synchronization", "collecting", "distributing", "defaulted", "expired"};
     const char *between = "";
     for (unsigned bit = 0; bit < 8; bit++) {
@@ -78,31 +95,52 @@ static void add_state(struct report *report, enum form form, uint8_t state) {
     add(report, form == AS_TEXT ? "\n" : "]}");
 }
 
-/* One end of a port, as text. */
-static void add_side(struct report *report, const char *whose, const uint8_t *mac, const unsigned numbers[static 4], uint8_t state) {
+/* One end of a port: its system, port number, priorities, key and state. */
+static void add_side(struct report *report, enum form form, const char *whose, const uint8_t *mac, const unsigned numbers[static 4], uint64_t state) {
     char text[32];
-    add(report, "\n  %s sys_id: %s\n  %s sys_priority: %u\n", whose, mac_text(mac, text), whose, numbers[0]);
-    add(report, "  %s port_id: %u\n  %s port_priority: %u\n", whose, numbers[1], whose, numbers[2]);
-    add(report, "  %s key: %u\n  %s state:", whose, numbers[3], whose);
-    add_state(report, AS_TEXT, state);
+    if (form == AS_TEXT) {
+        add(report, "\n  %s sys_id: %s\n  %s sys_priority: %u\n", whose, mac_text(mac, text), whose, numbers[0]);
+        add(report, "  %s port_id: %u\n  %s port_priority: %u\n", whose, numbers[1], whose, numbers[2]);
+        add(report, "  %s key: %u\n  %s state:", whose, numbers[3], whose);
+    } else
+        add(report, "\"key\":%u,\"port_priority\":%u,\"port\":%u,\"state\":[", numbers[3], numbers[2], numbers[1]);
+    add_state(report, form, state);
+}
+
+/* What the library tells of a port. */
+struct view {
+    struct facts facts;
+    uint64_t receive, mux, current_while, wait_while, state; /* the last one: the state octet of its own side */
+    struct niw_actor own;
+    struct niw_info partner;
+};
+
+/* Asks for that; answers whether the library told it. */
+static bool read_view(struct protocol *protocol, const struct link *link, struct view *view) {
+    struct niw_system *system = &protocol->own_system;
+    uint16_t port = link->settings.number;
+    view->facts = facts_of(protocol, link);
+    view->own = niw_party(system, port);
+    view->partner = niw_partner(system, port);
+    return is_done(protocol->process, view->own.status, "niw_party") && is_done(protocol->process, view->partner.status, "niw_partner")
+        && is_told(protocol->process, niw_receive_state(system, port), "niw_receive_state", &view->receive)
+        && is_told(protocol->process, niw_mux_state(system, port), "niw_mux_state", &view->mux)
+        && is_told(protocol->process, niw_current_while(system, port), "niw_current_while", &view->current_while)
+        && is_told(protocol->process, niw_wait_while(system, port), "niw_wait_while", &view->wait_while)
+        && is_told(protocol->process, niw_state(system, port), "niw_state", &view->state);
 }
 
 static void add_both_ends(struct report *report, enum form form, const struct view *view) {
     const struct niw_actor *own = &view->own;
     const struct niw_info *partner = &view->partner;
     char mac[32];
-    if (form == AS_TEXT) {
-        add_side(report, "actor", own->system_mac, (unsigned[]){own->system_priority, own->port, own->port_priority, own->key}, view->state);
-        add_side(report, "partner", partner->system_mac,
-            (unsigned[]){partner->system_priority, partner->port, partner->port_priority, partner->key}, partner->state);
-        return;
-    }
-    add(report, ",\"actor\":{\"key\":%u,\"port_priority\":%u,\"port\":%u,\"state\":[", own->key, own->port_priority, own->port);
-    add_state(report, form, view->state);
-    add(report, ",\"partner\":{\"defaulted\":%s,\"system_priority\":%u,\"system\":\"%s\"", view->facts.defaulted ? "true" : "false",
-        partner->system_priority, mac_text(partner->system_mac, mac));
-    add(report, ",\"key\":%u,\"port_priority\":%u,\"port\":%u,\"state\":[", partner->key, partner->port_priority, partner->port);
-    add_state(report, form, partner->state);
+    if (form == AS_JSON) add(report, ",\"actor\":{");
+    add_side(report, form, "actor", own->system_mac, (unsigned[]){own->system_priority, own->port, own->port_priority, own->key}, view->state);
+    if (form == AS_JSON)
+        add(report, ",\"partner\":{\"defaulted\":%s,\"system_priority\":%u,\"system\":\"%s\",", view->facts.defaulted ? "true" : "false",
+            partner->system_priority, mac_text(partner->system_mac, mac));
+    add_side(report, form, "partner", partner->system_mac,
+        (unsigned[]){partner->system_priority, partner->port, partner->port_priority, partner->key}, partner->state);
 }
 
 static void add_strangers(struct control *control, const struct link *link, enum form form) {
@@ -115,11 +153,11 @@ static void add_strangers(struct control *control, const struct link *link, enum
         add_row(control->report, form, NULL, "same_partner_port", twin ? "" : NULL);
         if (twin) add_string(control->report, twin);
     }
-    (void)system_text(&others->system, system);
-    (void)mac_text(others->source, source);
-    if (form == AS_TEXT && others->seen) add(control->report, "  other system: %s from %s\n", system, source);
-    if (form == AS_JSON)
-        add(control->report, others->seen ? ",\"other_system\":{\"system\":\"%s\",\"source\":\"%s\"}" : ",\"other_system\":null", system, source);
+    if (!others->seen)
+        add_row(control->report, form, NULL, "other_system", NULL);
+    else
+        add(control->report, form == AS_TEXT ? "  other system: %s from %s\n" : ",\"other_system\":{\"system\":\"%s\",\"source\":\"%s\"}",
+            system_text(&others->system, system), mac_text(others->source, source));
 }
 
 static void add_counts(struct report *report, const struct link *link, enum form form) {
@@ -133,16 +171,12 @@ static void add_counts(struct report *report, const struct link *link, enum form
     if (form == AS_JSON) add(report, "}");
 }
 
-/* What names a port: its first line, or the first fields of its object. */
-static void add_name(struct report *report, const struct link *link, enum form form, const char *receive, const char *mux) {
-    if (form == AS_TEXT) {
-        add(report, "\nmember: %s: %s, %s\n", link->name, receive, mux);
-        return;
-    }
+/* The first fields of the object of a port, which name it. */
+static void add_json_name(struct report *report, const struct link *link) {
     add(report, "{\"port\":%u,\"interface\":", link->settings.number);
     add_string(report, link->name);
     add(report, link->socket < 0 ? ",\"index\":null" : ",\"index\":%d", link->index);
-    add_number(report, form, NULL, "key", link->key);
+    add(report, ",\"key\":%u", link->key);
 }
 
 static void add_link(struct control *control, const struct link *link, enum form form) {
@@ -153,15 +187,15 @@ static void add_link(struct control *control, const struct link *link, enum form
     add_words(control->report, form, "link", "link", text);
 }
 
-/* One port. */
 static void add_member(struct control *control, const struct link *link, enum form form) {
     struct report *report = control->report;
     struct view view;
     char text[40];
-    if (!view_of(control->protocol, link, &view)) return;
+    if (!read_view(control->protocol, link, &view)) return;
     const char *receive = niw_receive_state_text((uint32_t)view.receive);
     const char *mux = niw_mux_state_text((uint32_t)view.mux);
-    add_name(report, link, form, receive, mux);
+    if (form == AS_TEXT) add(report, "\nmember: %s: %s, %s\n", link->name, receive, mux);
+    else add_json_name(report, link);
     add_words(report, form, "status", "status", status_text(view.facts.status));
     add_row(report, form, "may_enable", "carries", carries(control->protocol, link) ? "true" : "false");
     if (form == AS_TEXT && link->trouble) add(report, "  trouble: %s\n", strerror(link->trouble));
@@ -212,16 +246,11 @@ void write_json(struct control *control) {
     char mac[32];
     add(report, "{\"lagd\":\"%s\",", VERSION);
     add_json_bundle(control);
-    add_number(report, AS_JSON, NULL, "system_priority", settings->config.priority);
-    add_words(report, AS_JSON, NULL, "system", mac_text(settings->config.mac, mac));
-    add_number(report, AS_JSON, NULL, "key", settings->key);
-    add_number(report, AS_JSON, NULL, "collector_max_delay", settings->config.max_delay);
-    add_number(report, AS_JSON, NULL, "min_links", settings->min_links);
-    add_number(report, AS_JSON, NULL, "max_links", settings->config.max_links);
-    add_words(report, AS_JSON, NULL, "select", selection_text(settings->select));
-    add_row(report, AS_JSON, NULL, "follows_peer", is_following(control->protocol->selection) ? "true" : "false");
-    add_number(report, AS_JSON, NULL, "seconds", seconds_passed(control->protocol->system));
-    add(report, ",");
+    add(report, ",\"system_priority\":%u,\"system\":\"%s\"", settings->config.priority, mac_text(settings->config.mac, mac));
+    add(report, ",\"key\":%u,\"collector_max_delay\":%u", settings->key, settings->config.max_delay);
+    add(report, ",\"min_links\":%u,\"max_links\":%u", settings->min_links, settings->config.max_links);
+    add(report, ",\"select\":\"%s\",\"follows_peer\":%s,\"seconds\":%" PRIu64 ",", selection_text(settings->select),
+        is_following(control->protocol->selection) ? "true" : "false", seconds_passed(control->protocol->system));
     CALL(control->plane->carrying->show, control, AS_JSON);
     add(report, "\"ports\":[");
     EACH_LINK(link, control->ports) {
@@ -250,15 +279,16 @@ void write_json_event(struct control *control, const struct link *link) {
 
 /* The settings that hold now, as a file has them: without ports that leave, and those that the device alone has. */
 void write_config(struct control *control) {
-    char text[LINE_ROOM];
+    const char *value;
+    char room[32];
     add(control->report, "# %s\n[Bundle]\n", control->settings->name);
     for (const struct key *key = BUNDLE_KEYS; key->name; key++)
-        if (write_bundle_key(key, control->settings, text)) add(control->report, "%s\n", text);
+        if ((value = value_to_give(key, control->settings, room))) add(control->report, "%s=%s\n", key->name, value);
     EACH_LINK(link, control->ports) {
         const struct port_settings *port = &control->settings->ports[link - control->ports->links];
         if (!link->used || link->leaving || link->followed) continue;
         add(control->report, "\n[Port %s]\n", port->name);
         for (const struct key *key = PORT_KEYS; key->name; key++)
-            if (write_port_key(key, port, text)) add(control->report, "%s\n", text);
+            if ((value = value_of_own(key, port, room))) add(control->report, "%s=%s\n", key->name, value);
     }
 }

@@ -125,7 +125,7 @@ void drop_unclaimed(struct store_private *own) {
 }
 
 /* The program ends, by whatever it is refused: nothing goes on without it, as the carrier of its device. */
-static void empty_store(void *given) {
+static void empty_store(int status UNUSED, void *given) {
     const struct process *process = given;
     if (process->has_left) return;
     EACH_STORED(it, process->store) tell_store("FDSTOREREMOVE", it->name, -1);
@@ -149,7 +149,7 @@ void open_store(struct process *process) {
         free(names[i]);
     }
     free(names);
-    call_at_exit(process, empty_store, process);
+    need(on_exit(empty_store, process) == 0, "on_exit");
 }
 
 /* Closes a file that the manager keeps, too, and leaves errno as it is. */

@@ -198,7 +198,7 @@ void open_tap_plane(struct plane *plane) {
     start_members(tap->members);
     tap->dropper = load_program(tap->settings, "dropper", NULL);
     CALL(plane->queueing->start, tap);
-    call_at_exit(tap->process, put_back_members, tap);
+    need(on_exit(put_back_members, tap) == 0, "on_exit");
     own->tap = open_tap(tap->device, tap->settings->carry, tap->settings->config.mac);
     gather(tap->process, tap_index(tap->device));
     CALL(plane->passing->start, tap);

@@ -299,7 +299,7 @@ void forget_member(struct plane *plane, uint16_t port) {
 }
 
 /* The program ends, by whatever it is refused, and no other one goes on: its members get what they had. */
-void put_back_members(void *given) {
+void put_back_members(int status UNUSED, void *given) {
     struct tap_plane *tap = given;
     EACH_LINK(link, tap->ports) {
         struct member *member = member_of(tap, link);

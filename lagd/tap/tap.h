@@ -138,7 +138,7 @@ bool send_by_one_queue(struct tap_plane *tap, struct link *link, const uint8_t *
 bool give_marker(struct tap_plane *tap, struct link *link, const uint8_t *marker, struct msghdr *message);
 void watch_queues(struct tap_plane *tap);
 unsigned member_queues(const struct members_private *own, uint16_t port);
-void put_back_members(void *given);
+void put_back_members(int status, void *given);
 bool has_fast_member(const struct members_private *own, uint16_t port);
 uint32_t sum_speeds(struct tap_plane *tap);
 void put_data(struct tap_plane *tap, uint16_t port, uint16_t number, uint8_t *packet, size_t length);

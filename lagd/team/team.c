@@ -201,7 +201,7 @@ void leave_team(struct team_plane *team, int index, bool with_device) {
 
 /* The program ends, and no other one goes on: its ports are free, also those that a start did not come to, and the device goes if a daemon made
  * it. */
-static void end_team(void *given) {
+static void end_team(int status UNUSED, void *given) {
     struct team_plane *team = given;
     if (!team->opened || team->process->has_left) return;
     EACH_LINK(link, team->ports) close_team_port(team->plane, link);
@@ -219,7 +219,7 @@ void open_team(struct plane *plane) {
     struct interface device;
     struct team_now now;
     need(find_team_driver(team), "plane=team: this kernel has no team driver");
-    call_at_exit(team->process, end_team, team);
+    need(on_exit(end_team, team) == 0, "on_exit");
     team->opened = true;
     if (find_device(team->process, name, &device)) {
         adopt_device(team, &device, mac);
@@ -238,5 +238,5 @@ void end_team_plane(struct plane *plane) {
     struct team_plane *team = plane->team;
     set_carrier(team->device, false);
     remove_all_members(team->protocol);
-    end_team(team);
+    end_team(DONE, team);
 }

@@ -537,7 +537,7 @@ def entries(listener: socket.socket, daemon: Daemon, wanted: int) -> list[dict[s
 def message_ids(part: Part) -> None:
     """What the journal gets by its own protocol: each kind of line has its message id."""
     ids = ids_of_lines()
-    with open(os.path.join(TOP, "lagd", "journal.c"), encoding="utf-8") as source:
+    with open(os.path.join(TOP, "lagd", "lagd.h"), encoding="utf-8") as source:
         given = re.findall(r'"([0-9a-f]{32})"', source.read())
     check(sorted(given) == sorted(ids.values()) and len(set(given)) == len(given) > 5, "the documents have each message id", given, ids)
     place, (reader, writer) = os.path.join(part.folder, "journal"), socket.socketpair()
