@@ -6,6 +6,8 @@
 
 #include "lag.h"
 
+_Static_assert(PORTS >= 1 && PORTS <= 32, "a mask of ports has 32 bits");
+
 #define RESPONSES 10 /* markers that a port answers at most in a second (802.3, 57A.2), which eleven ticks hold wherever it begins */
 #define SECOND 11
 #define MADE_UP 10    /* the most ticks that are made up */
