@@ -82,7 +82,6 @@ struct passing {
     void (*set_collecting)(struct tap_plane *tap);                /* frames go up from the ports that collect now, and from no other one */
     void (*read_host)(struct tap_plane *tap);                     /* takes what waits in the device, each 100 ms: what is not there was lost */
     void (*tick)(struct tap_plane *tap);                          /* 100 ms passed */
-    int (*member_of)(struct tap_plane *tap, uint16_t number);     /* the interface by which the kernel has a conversation go, or 0 */
     void (*resume)(struct tap_plane *tap);                        /* what the kernel passed on for the last daemon stays, where its port does */
     bool steers; /* whether one processor has to take what a member of one queue receives */
 };

@@ -58,7 +58,8 @@ void accept_from_host(struct tap_plane *tap, uint8_t *packet, size_t length) {
         return;
     }
     struct conversation *conversation = &tap->carry->conversations[number % CONVERSATIONS];
-    note_taken(conversation, count_segments(packet, length));
+    conversation->fast.touched = true;
+    conversation->fast.taken += count_segments(packet, length);
     if (has_segments(packet)) tap->carry->counts[SEGMENTED]++;
     if (is_fit(tap->device, packet, length))
         accept_fit(tap, conversation, (uint16_t)number, packet, length);

@@ -182,10 +182,6 @@ void lose_data(struct plane *plane, uint16_t port) {
     forget_answers(tap->answers, port);
 }
 
-int passing_member_of(struct plane *plane, uint16_t number) {
-    return ASK(plane->passing->member_of, 0, plane->tap, number);
-}
-
 /* Makes the TAP device, and what members are given and have taken away. */
 void open_tap_plane(struct plane *plane) {
     struct tap_plane *tap = plane->tap;

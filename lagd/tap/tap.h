@@ -77,7 +77,6 @@ void lose_data(struct plane *plane, uint16_t port);
 struct iovec;
 void open_tap_plane(struct plane *plane);
 void end_tap_plane(struct plane *plane);
-int passing_member_of(struct plane *plane, uint16_t number);
 void read_host(struct tap_plane *tap);
 bool is_cutting(struct tap_plane *tap);
 bool give_host(struct tap_plane *tap, const struct iovec *parts, unsigned count, size_t length);
@@ -204,7 +203,6 @@ void start_fast(struct tap_plane *tap);
 void end_fast(struct tap_plane *tap);
 int open_fast_receiver(struct tap_plane *tap, const struct link *link);
 void close_fast_receiver(struct fast_private *own, const struct link *link);
-void note_taken(struct conversation *conversation, uint32_t segments);
 void pass_on(struct tap_plane *tap);
 void withdraw(struct tap_plane *tap);
 void withdraw_port(struct tap_plane *tap, uint16_t port);
@@ -214,7 +212,7 @@ void pass_fast_tick(struct tap_plane *tap);
 void note_read(struct tap_plane *tap, unsigned packets, bool drained);
 void open_host(struct tap_plane *tap, bool open);
 void follow_host_queue(struct tap_plane *tap, const char *discipline);
-int fast_member_of(struct tap_plane *tap, uint16_t number);
+int fast_member_of(struct plane *plane, uint16_t number);
 void resume_fast(struct tap_plane *tap);
 
 /* features.c: what puts received frames together, a bit for each way */
