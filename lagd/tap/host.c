@@ -190,7 +190,7 @@ void open_tap_plane(struct plane *plane) {
     own->segments = make_rooms();
     own->rooms = make_rooms();
     start_held(tap);
-    start_members(tap->members);
+    tap->rooms = make_rooms();
     tap->dropper = load_program(tap->settings, "dropper", NULL);
     CALL(plane->queueing->start, tap);
     call_at_exit(tap->process, put_back_members, tap);

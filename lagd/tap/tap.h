@@ -18,6 +18,7 @@ struct tap_plane {
     PARTS
     struct carry *carry;
     int dropper; /* the program that keeps data from the stack of a member, or -1 */
+    uint8_t *rooms; /* for the packets of a batch that members receive */
     EACH_FILE_OF_TAP(KEEPS)
 };
 EACH_FILE_OF_TAP(MAKES)
@@ -129,7 +130,6 @@ void forget_member(struct plane *plane, uint16_t port);
 void drain_member(struct plane *plane, uint16_t port);
 void send_new_marker(struct plane *plane, struct link *link, const uint8_t *frame);
 void follow_speed(struct plane *plane, const struct link *link);
-void start_members(struct members_private *own);
 bool renew_for_discipline(struct plane *plane, struct link *link);
 void move_member(struct plane *plane, struct link *link, const uint8_t *mac);
 void follow_member_mtu(struct plane *plane, struct link *link, uint32_t mtu);
