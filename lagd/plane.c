@@ -38,7 +38,7 @@ static const struct queueing ONE_QUEUE = {
 };
 
 static const struct queueing ALL_QUEUES = {
-    .start = start_all_queues, .fifos_of = count_fifos, .set = keep_queues, .follow = follow_member_queues,
+    .start = start_all_queues, .fifos_of = count_sending_queues, .set = keep_queues, .follow = follow_member_queues,
     .watch = watch_queues, .mark = mark_conversation, .send_marker = send_by_queues, .accept_response = accept_response_of_queue,
     .answer = answer_later, .show = show_queues, .text = ", all queues", .markers_at_once = MARKERS_AT_ONCE,
 };

@@ -11,23 +11,19 @@ static const char *const joining[] = {"rx-gro", "rx-gro-hw", "rx-lro"};
 #define MOST_FEATURES 256
 #define WORDS (MOST_FEATURES / 32)
 
+/* A question to a driver, with room for what it answers. */
+#define QUESTION(kind, octets) union { uint8_t room[sizeof(struct kind) + (octets)]; struct kind about; }
+
 static uint32_t count_features(int index) {
-    union {
-        uint8_t room[sizeof(struct ethtool_sset_info) + sizeof(uint32_t)];
-        struct ethtool_sset_info about;
-    } told = {{0}};
+    QUESTION(ethtool_sset_info, sizeof(uint32_t)) told = {{0}};
     told.about.cmd = ETHTOOL_GSSET_INFO;
     told.about.sset_mask = 1ULL << ETH_SS_FEATURES;
-    if (!ask_driver(index, &told) || told.about.sset_mask == 0 || told.about.data[0] > MOST_FEATURES) return 0;
-    return told.about.data[0];
+    return ask_driver(index, &told) && told.about.sset_mask != 0 && told.about.data[0] <= MOST_FEATURES ? told.about.data[0] : 0;
 }
 
 /* Writes the number that the kernel has for each way; for one that it does not know, how many features it has, which is the answer. */
 static uint32_t find_joining(int index, uint32_t places[static JOINING]) {
-    union {
-        uint8_t room[sizeof(struct ethtool_gstrings) + MOST_FEATURES * ETH_GSTRING_LEN];
-        struct ethtool_gstrings about;
-    } told = {{0}};
+    QUESTION(ethtool_gstrings, MOST_FEATURES * ETH_GSTRING_LEN) told = {{0}};
     uint32_t count = count_features(index);
     told.about.cmd = ETHTOOL_GSTRINGS;
     told.about.string_set = ETH_SS_FEATURES;
@@ -41,38 +37,30 @@ static uint32_t find_joining(int index, uint32_t places[static JOINING]) {
 
 /* Which of the ways to join frames are on, and which are wanted: one that is wanted may be off while another one is on. */
 struct joins read_joins(int index) {
-    union {
-        uint8_t room[sizeof(struct ethtool_gfeatures) + WORDS * sizeof(struct ethtool_get_features_block)];
-        struct ethtool_gfeatures about;
-    } told = {{0}};
+    QUESTION(ethtool_gfeatures, WORDS * sizeof(struct ethtool_get_features_block)) told = {{0}};
     uint32_t places[JOINING], count = find_joining(index, places);
     struct joins joins = {0};
     told.about.cmd = ETHTOOL_GFEATURES;
     told.about.size = WORDS;
     if (count == 0 || !ask_driver(index, &told)) return joins;
     for (size_t i = 0; i < JOINING; i++) {
-        uint32_t word = places[i] / 32, bit = 1u << places[i] % 32;
         if (places[i] == count) continue;
-        if (told.about.features[word].active & bit) joins.on |= 1u << i;
-        if (told.about.features[word].requested & bit) joins.wanted |= 1u << i;
+        joins.on |= (told.about.features[places[i] / 32].active >> places[i] % 32 & 1) << i;
+        joins.wanted |= (told.about.features[places[i] / 32].requested >> places[i] % 32 & 1) << i;
     }
     return joins;
 }
 
 /* Has these ways wanted, and no other one. */
 void set_joins(int index, unsigned wanted) {
-    union {
-        uint8_t room[sizeof(struct ethtool_sfeatures) + WORDS * sizeof(struct ethtool_set_features_block)];
-        struct ethtool_sfeatures about;
-    } told = {{0}};
+    QUESTION(ethtool_sfeatures, WORDS * sizeof(struct ethtool_set_features_block)) told = {{0}};
     uint32_t places[JOINING], count = find_joining(index, places);
     told.about.cmd = ETHTOOL_SFEATURES;
     told.about.size = (count + 31) / 32;
     for (size_t i = 0; count > 0 && i < JOINING; i++) {
-        uint32_t word = places[i] / 32, bit = 1u << places[i] % 32;
         if (places[i] == count) continue;
-        told.about.features[word].valid |= bit;
-        if (wanted & 1u << i) told.about.features[word].requested |= bit;
+        told.about.features[places[i] / 32].valid |= 1u << places[i] % 32;
+        told.about.features[places[i] / 32].requested |= (wanted >> i & 1) << places[i] % 32;
     }
     if (count > 0) (void)ask_driver(index, &told);
 }

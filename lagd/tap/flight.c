@@ -18,21 +18,16 @@ static bool distributes(struct protocol *protocol, uint16_t port, bool wanted) {
     return is_done(protocol->process, answer.status, "niw_distributes") && answer.is == wanted;
 }
 
-/* Whether a port does not distribute with a partner: a link that fell silent distributes again, on defaults, 5 s after it stopped, and nobody
- * answers its markers. */
-static bool is_without_partner(struct protocol *protocol, uint16_t port) {
-    return protocol->ports->links[port - 1].view.defaulted || distributes(protocol, port, false);
-}
-
 void note_sent(struct flight_private *own, uint16_t port) {
     own->silent_since[port - 1] = 0;
 }
 
-/* Frees what is held on a port that does not distribute with a partner, and had no frame, for longer than frames can be on their way. */
+/* Frees what is held on a port that does not distribute with a partner, and had no frame, for longer than frames can be on their way. A link that
+ * fell silent distributes again, on defaults, 5 s after it stopped, and nobody answers its markers. */
 static void watch_port(struct tap_plane *tap, uint16_t port) {
     struct carry *carry = tap->carry;
     uint64_t held, freed, *since = &tap->flight->silent_since[port - 1];
-    bool holds = is_without_partner(tap->protocol, port)
+    bool holds = (tap->ports->links[port - 1].view.defaulted || distributes(tap->protocol, port, false))
         && is_told(tap->process, niw_held(&tap->protocol->own_system, port), "niw_held", &held) && held > 0;
     if (!holds || *since == 0) *since = holds ? carry->time : 0;
     if (!holds || carry->time - *since < tap->settings->flight) return;
@@ -41,13 +36,6 @@ static void watch_port(struct tap_plane *tap, uint16_t port) {
     carry->counts[FORCED] += freed;
     (void)say(tap->process, LOG_WARNING | ABOUT_DATA, "port %u %s: it carries no more, and %" PRIu64 " conversations leave it", port,
         tap->ports->links[port - 1].name, freed);
-}
-
-/* Loses what has waited for longer than a flight and a second. */
-static void drop_old(struct tap_plane *tap, uint16_t number) {
-    uint64_t came;
-    while (oldest_held(tap, number, &came) && tap->carry->time - came >= tap->settings->flight + 1000u && drop_held(tap, number, HELD_TOO_LONG))
-        continue;
 }
 
 /* Frees a conversation from the port that it is on, or that holds it since nobody answered its marker (`held`): nothing of it was sent for a
@@ -85,7 +73,8 @@ static void watch_held(struct carry *carry, struct conversation *conversation, u
 static void watch_conversation(struct tap_plane *tap, uint16_t number, uint64_t *again) {
     struct conversation *conversation = &tap->carry->conversations[number];
     struct niw_assignment state;
-    drop_old(tap, number);
+    uint64_t came, longest = tap->settings->flight + 1000u;
+    while (oldest_held(tap, number, &came) && tap->carry->time - came >= longest && drop_held(tap, number, HELD_TOO_LONG)) continue;
     if (conversation->used) conversation->last = tap->carry->time;
     conversation->used = false;
     if (conversation->home == 0 || !ask_state(tap->protocol, conversation->home, number, &state)) return;

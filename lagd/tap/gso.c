@@ -14,11 +14,6 @@ void write_length(uint8_t *packet, const struct tcp_packet *tcp) {
     put_sum(ip, 4 * (ip[0] & 15u), IPV4_SUM);
 }
 
-/* Whether a packet of this kind, as the kernel tells it, has this version of IP. */
-static bool is_of(unsigned kind, unsigned version) {
-    return (kind == VIRTIO_NET_HDR_GSO_TCPV4 && version == 4) || (kind == VIRTIO_NET_HDR_GSO_TCPV6 && version == 6);
-}
-
 /* The least octets of a segment with its options of TCP: Linux sends none that is shorter (TCP_MIN_SND_MSS), but for the last one. */
 #define LEAST_SEGMENT 48
 
@@ -32,10 +27,11 @@ bool read_cut(const uint8_t *packet, size_t length, struct cut *cut) {
     whole->network = head + ETH_HLEN + tag_octets(packet + head, length - head, ALL_TAGS);
     if (!(told.flags & VIRTIO_NET_HDR_F_NEEDS_CSUM) || told.csum_offset != TCP_SUM || cut->size == 0) return false;
     if (whole->network + IPV4_OCTETS > whole->transport || whole->transport + TCP_OCTETS > length) return false;
-    unsigned version = packet[whole->network] >> 4;
+    unsigned version = packet[whole->network] >> 4, kind = told.gso_type & ~(unsigned)VIRTIO_NET_HDR_GSO_ECN;
+    bool is_told = version == 4 ? kind == VIRTIO_NET_HDR_GSO_TCPV4 : version == 6 && kind == VIRTIO_NET_HDR_GSO_TCPV6;
     behind_ip = whole->network + (version == 4 ? 4 * (packet[whole->network] & 15u) : IPV6_OCTETS);
     whole->payload = whole->transport + 4 * ((size_t)packet[whole->transport + TCP_LENGTH] >> 4);
-    if (!is_of(told.gso_type & ~(unsigned)VIRTIO_NET_HDR_GSO_ECN, version) || behind_ip < whole->network + IPV4_OCTETS
+    if (!is_told || behind_ip < whole->network + IPV4_OCTETS
         || behind_ip > whole->transport || whole->payload < whole->transport + TCP_OCTETS || whole->payload >= length
         || cut->size + whole->payload - whole->transport < TCP_OCTETS + LEAST_SEGMENT)
         return false;

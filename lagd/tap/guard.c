@@ -7,19 +7,14 @@ void warn_of(struct process *process, const struct link *link, const char *what,
     (void)say(process, LOG_WARNING | ABOUT_DATA, "port %u %s: %s%s%s", link->settings.number, link->name, what, why ? ": " : "", why ? why : "");
 }
 
-/* How many queues the kernel has for one direction of an interface whose driver does not tell. */
-static unsigned count_queues(int index) {
-    unsigned sends = count_entries(index, "tx-"), receives = count_entries(index, "rx-");
-    if (receives == 0) receives = 1;
-    return sends > receives ? sends : receives;
-}
-
-/* How many queues an interface has for one direction, as `channels` tells in full: in several of them a marker may overtake data. */
+/* How many queues an interface has for one direction, as `channels` tells in full: in several of them a marker may overtake data. Of a driver
+ * that does not tell, those that the kernel has. */
 static unsigned queues_of(int index, struct ethtool_channels *channels) {
     *channels = (struct ethtool_channels){.cmd = ETHTOOL_GCHANNELS};
-    if (!ask_driver(index, channels)) return count_queues(index);
-    uint32_t more = channels->rx_count > channels->tx_count ? channels->rx_count : channels->tx_count;
-    return channels->combined_count + more;
+    bool told = ask_driver(index, channels);
+    unsigned sends = told ? channels->tx_count : count_sending_queues(index), receives = told ? channels->rx_count : count_entries(index, "rx-");
+    if (!told && receives == 0) receives = 1;
+    return channels->combined_count + (sends > receives ? sends : receives);
 }
 
 static void give_one_queue(int index) {
@@ -44,20 +39,9 @@ static bool part_queues(int index, struct ethtool_channels *wanted) {
     return has_channels(index, wanted) || ask_driver(index, wanted) || has_channels(index, wanted);
 }
 
-static void look_before(const struct plane *plane, const struct link *link, struct kept *before) {
-    *before = (struct kept){.joins = read_joins(link->index).wanted};
-    if (queues_of(link->index, &before->queues) <= 1) before->queues = (struct ethtool_channels){0};
-    if (!plane->passing->steers || !read_steering(link->index, before->steered)) before->steered[0] = 0;
-}
-
 /* Whether an interface has no queueing discipline yet: it gets one when it comes up. */
 static bool is_unqueued(const struct link *link) {
     return strcmp(link->discipline, "noop") == 0;
-}
-
-/* How many queues of an interface have a discipline of their own: all of them, where it keeps them. */
-unsigned count_fifos(int index) {
-    return count_entries(index, "tx-");
 }
 
 /* Sees whether what is sent at an interface keeps its order in its queueing discipline. Frames of several segments have to go through
@@ -118,26 +102,21 @@ static unsigned joins_allowed(const struct settings *settings, const struct link
     return guard->spread && guard->fast && keeps_briefly(settings, link->index) ? JOINED_BY_KERNEL : 0;
 }
 
-/* A member that has one queue, as this daemon or an earlier one gave it, gets back what it had, where it may keep that. How many others give it
- * meanwhile, it is to have behind the daemon. */
-static void regain_queues(int folder, const struct link *link, struct ethtool_channels *before) {
-    struct ethtool_channels now;
-    if (queues_of(link->index, &now) > 1)
-        *before = now;
-    else if (may_spread(folder, link))
-        (void)part_queues(link->index, before);
-}
-
 bool join_queues(struct tap_plane *tap, struct link *link, struct guard *guard, bool again) {
     look_at_discipline(tap, link, guard);
     if (!again) give_one_queue(link->index);
     return true;
 }
 
-/* Lets a member keep all its queues, where it can, or gives it one; answers false where it has no queue yet: it is looked at again then. */
+/* Lets a member keep all its queues, where it can, or gives it one; answers false where it has no queue yet: it is looked at again then. One that
+ * has one queue, as this daemon or an earlier one gave it, gets back what it had. How many others give it meanwhile, it is to have behind the
+ * daemon. */
 bool keep_queues(struct tap_plane *tap, struct link *link, struct guard *guard, bool again UNUSED) {
-    struct ethtool_channels *before = &guard->before.queues;
-    regain_queues(tap->process->folder, link, before);
+    struct ethtool_channels now, *before = &guard->before.queues;
+    if (queues_of(link->index, &now) > 1)
+        *before = now;
+    else if (may_spread(tap->process->folder, link))
+        (void)part_queues(link->index, before);
     look_at_discipline(tap, link, guard);
     if (is_unqueued(link)) return false;
     spread(tap, link, guard);
@@ -173,9 +152,11 @@ void reopen_guard(struct tap_plane *tap, struct link *link, struct guard *guard)
 /* Prepares an interface. What it cannot be kept from has a line. */
 void open_guard(struct tap_plane *tap, struct link *link, struct guard *guard) {
     struct ethtool_channels queues;
-    *guard = (struct guard){.opened = -1, .chooser = -1, .queues = 1};
-    look_before(tap->plane, link, &guard->before);
-    keep_settings(tap->process, link, &guard->before);
+    struct kept *before = &guard->before;
+    *guard = (struct guard){.opened = -1, .chooser = -1, .queues = 1, .before.joins = read_joins(link->index).wanted};
+    if (queues_of(link->index, &before->queues) <= 1) before->queues = (struct ethtool_channels){0};
+    if (!tap->plane->passing->steers || !read_steering(link->index, before->steered)) before->steered[0] = 0;
+    keep_settings(tap->process, link, before);
     bool has_queues = tap->plane->queueing->set(tap, link, guard, false);
     run_programs(tap, link, guard);
     if ((read_joins(link->index).on & ~joins_allowed(tap->settings, link, guard)) != 0)

@@ -107,7 +107,7 @@ static uint32_t unanswered(struct members_private *own, const struct link *link,
     uint32_t found = queues->dirty;
     for (size_t i = 0; i < MOST_FLIGHTS; i++) found |= queues->flights[i].waiting;
     if (has_fast_member(own, link->settings.number)) {
-        unsigned now = count_entries(link->index, "tx-");
+        unsigned now = count_sending_queues(link->index);
         if (now > MOST_QUEUES) now = MOST_QUEUES;
         if (now > queues->count && queues->count > 1) queues->count = now;
         found = all_of(queues->count);

@@ -215,7 +215,7 @@ void move_former(struct process *process, struct link *link, const uint8_t *mac)
 
 /* How many queues an interface has, those that send above those that receive; 0 where the kernel does not tell of both. */
 unsigned channels_of(int index) {
-    unsigned sends = count_entries(index, "tx-"), receives = count_entries(index, "rx-");
+    unsigned sends = count_sending_queues(index), receives = count_entries(index, "rx-");
     return sends > 0 && receives > 0 ? sends << 16 | receives : 0;
 }
 
@@ -248,7 +248,7 @@ bool may_spread(int folder, const struct link *link) {
 }
 
 void spread(struct tap_plane *tap, const struct link *link, struct guard *guard) {
-    unsigned count = count_entries(link->index, "tx-");
+    unsigned count = count_sending_queues(link->index);
     const char *fault = fault_of_spreading(tap->process->folder, link, guard, count);
     guard->queues = fault ? 1 : count < MOST_QUEUES ? count : MOST_QUEUES;
     if (guard->queues > 1 && guard->chooser < 0) /* a program chooses the queue of each frame that the daemon sends there */

@@ -117,7 +117,6 @@ void keep_from_stack(struct tap_plane *tap, const struct link *link, struct guar
 void run_fast_programs(struct tap_plane *tap, const struct link *link, struct guard *guard);
 bool join_queues(struct tap_plane *tap, struct link *link, struct guard *guard, bool again);
 bool keep_queues(struct tap_plane *tap, struct link *link, struct guard *guard, bool again);
-unsigned count_fifos(int index);
 void look_at_discipline(struct tap_plane *tap, struct link *link, struct guard *guard);
 void reopen_guard(struct tap_plane *tap, struct link *link, struct guard *guard);
 void close_guard(struct tap_plane *tap, const struct link *link, struct guard *guard);
@@ -225,6 +224,7 @@ void set_joins(int index, unsigned wanted);
 
 /* spread.c: queues of an interface, and the processors that serve them */
 unsigned count_entries(int index, const char *begin);
+unsigned count_sending_queues(int index);
 unsigned channels_of(int index);
 bool keeps_briefly(const struct settings *settings, int index);
 bool read_steering(int index, char mask[static PROCESSORS_ROOM]);

@@ -89,7 +89,7 @@ static void parse_discipline(const struct nlmsghdr *message, void *into) {
 /* Sees the queueing disciplines of an interface. The kernel tells of those of all: what it does not tell in full may be of others. */
 static struct disciplines read_disciplines(int index) {
     union message question = question_of(RTM_GETQDISC, NLM_F_DUMP, index, 0, 0);
-    struct disciplines seen = {index, count_entries(index, "tx-"), true, true, 0};
+    struct disciplines seen = {index, count_sending_queues(index), true, true, 0};
     if (!ask_list(NETLINK_ROUTE, &question, parse_discipline, &seen, sizeof seen)) seen.in_order = seen.changeable = false;
     return seen;
 }
