@@ -27,7 +27,7 @@ static enum offered offer(struct carry *carry, struct conversation *conversation
 }
 
 static void send_on(struct tap_plane *tap, const struct conversation *conversation, uint8_t *packet, size_t length) {
-    note_sent(tap->flight, conversation->port);
+    tap->silent_since[conversation->port - 1] = 0;
     put_data(tap, conversation->port, (uint16_t)(conversation - tap->carry->conversations), packet, length);
 }
 

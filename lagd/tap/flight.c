@@ -6,27 +6,17 @@
 /* How long a marker may have no answer while its port distributes, in milliseconds: as a partner of short timeouts is waited for. */
 #define UNANSWERED 3000
 
-struct flight_private {
-    uint64_t silent_since[NIW_MOST_PORTS]; /* the time since which a port holds conversations and does not distribute, or 0 */
-};
-
-MAKES_ROOM(flight)
-
 /* Whether the library tells that a port distributes, or that it does not. */
 static bool distributes(struct protocol *protocol, uint16_t port, bool wanted) {
     struct niw_truth answer = niw_distributes(&protocol->own_system, port);
     return is_done(protocol->process, answer.status, "niw_distributes") && answer.is == wanted;
 }
 
-void note_sent(struct flight_private *own, uint16_t port) {
-    own->silent_since[port - 1] = 0;
-}
-
 /* Frees what is held on a port that does not distribute with a partner, and had no frame, for longer than frames can be on their way. A link that
  * fell silent distributes again, on defaults, 5 s after it stopped, and nobody answers its markers. */
 static void watch_port(struct tap_plane *tap, uint16_t port) {
     struct carry *carry = tap->carry;
-    uint64_t held, freed, *since = &tap->flight->silent_since[port - 1];
+    uint64_t held, freed, *since = &tap->silent_since[port - 1];
     bool holds = (tap->ports->links[port - 1].view.defaulted || distributes(tap->protocol, port, false))
         && is_told(tap->process, niw_held(&tap->protocol->own_system, port), "niw_held", &held) && held > 0;
     if (!holds || *since == 0) *since = holds ? carry->time : 0;

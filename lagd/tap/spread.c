@@ -19,13 +19,6 @@
 /* What a queue has: the processors that take what it received (RPS), and those, and the queues that received, whose frames it sends (XPS). */
 enum setting { TAKEN_BY, SENT_FOR, SENT_BEHIND, SETTINGS };
 
-struct spread_private {
-    int program;
-    unsigned usual; /* by how many queues the kernel passes data on, while it does so of any member */
-};
-
-MAKES_WITH(spread, .program = -1)
-
 /* A file or folder in /sys, from that of the queues of an interface on; answers whether it is of this interface. */
 static bool path_of(int index, const char *what, char path[static PATH_OCTETS]) {
     char name[IF_NAMESIZE];
@@ -122,11 +115,10 @@ bool steer_back(int index, const char *mask) {
 
 /* Loads the program that chooses queues, while the daemon may, and opens what wakes it for responses. */
 void start_all_queues(struct tap_plane *tap) {
-    struct spread_private *own = tap->spread;
     int fault = fault_of_programs(tap->settings);
     if (fault != 0) stop(REFUSED, "queues=all: no program of an interface, which Linux has from 6.6 on", strerror(-fault));
-    own->program = load_program(tap->settings, "chooser", NULL);
-    if (own->program < 0) stop(REFUSED, "queues=all: the kernel takes no program", program_fault());
+    tap->chooser = load_program(tap->settings, "chooser", NULL);
+    if (tap->chooser < 0) stop(REFUSED, "queues=all: the kernel takes no program", program_fault());
     start_answers(tap);
 }
 
@@ -252,7 +244,7 @@ void spread(struct tap_plane *tap, const struct link *link, struct guard *guard)
     const char *fault = fault_of_spreading(tap->process->folder, link, guard, count);
     guard->queues = fault ? 1 : count < MOST_QUEUES ? count : MOST_QUEUES;
     if (guard->queues > 1 && guard->chooser < 0) /* a program chooses the queue of each frame that the daemon sends there */
-        guard->chooser = attach_stored(tap->process->store, "queues", tap->spread->program, link->index, true);
+        guard->chooser = attach_stored(tap->process->store, "queues", tap->chooser, link->index, true);
     if (guard->queues > 1 && guard->chooser < 0) fault = strerror(-guard->chooser);
     guard->spread = !fault;
     if (!fault) return;
@@ -287,8 +279,8 @@ bool is_spread_anew(const struct system_private *own, const struct link *link, c
 bool has_usual_queues(struct tap_plane *tap, const struct guard *guard) {
     bool any = false;
     for (uint16_t port = 1; port <= tap->ports->count; port++) any = any || has_fast_member(tap->members, port);
-    if (!any) tap->spread->usual = guard->queues;
-    return guard->queues == tap->spread->usual;
+    if (!any) tap->usual_queues = guard->queues;
+    return guard->queues == tap->usual_queues;
 }
 
 /* The queues of an interface get back what they had before. What cannot be set back stays kept: all of it, where not all are back (`whole`). */

@@ -12,13 +12,16 @@
 /* Frames that are sent by one call of the kernel, or taken of a socket in a turn: a marker on another one waits for no more. */
 #define BATCH 64
 #define EACH_FILE_OF_TAP(DO) \
-    DO(answers, answers) DO(fast, fast) DO(flight, flight) DO(gro, gro) DO(held, held) DO(host, host) \
-    DO(members, members) DO(queues, queues) DO(spread, spread)
+    DO(answers, answers) DO(fast, fast) DO(gro, gro) DO(held, held) DO(host, host) \
+    DO(members, members) DO(queues, queues)
 struct tap_plane {
     PARTS
     struct carry *carry;
     int dropper; /* the program that keeps data from the stack of a member, or -1 */
+    int chooser; /* with all queues, the program by which a frame of the daemon goes by its queue */
+    unsigned usual_queues; /* by how many the kernel passes data on, while it does so of any member */
     uint8_t *rooms; /* for the packets of a batch that members receive */
+    uint64_t silent_since[NIW_MOST_PORTS]; /* the time since which a port holds conversations and does not distribute, or 0 */
     EACH_FILE_OF_TAP(KEEPS)
 };
 EACH_FILE_OF_TAP(MAKES)
@@ -35,7 +38,6 @@ void hand_up(struct tap_plane *tap, uint32_t aggregator, uint8_t *packet, size_t
 void pass_probe_tick(struct tap_plane *tap);
 
 /* flight.c */
-void note_sent(struct flight_private *own, uint16_t port);
 void pass_flight_tick(struct tap_plane *tap);
 
 /* queues.c: by which queue of its member a conversation goes, and the markers of each queue */

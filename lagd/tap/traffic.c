@@ -50,10 +50,10 @@ static bool set_fifo(int index, uint32_t megabits, unsigned flags, uint32_t pare
     return ask_kernel(&question);
 }
 
-/* Gives an interface a discipline that has a queue for each of its own, in place of what the kernel gave it by itself. */
-static bool give_queues(int index) {
-    union message question = question_of(RTM_NEWQDISC, NLM_F_CREATE, index, TC_H_ROOT, FIFO);
-    mnl_attr_put_strz(&question.head, TCA_KIND, "mq");
+/* Changes the discipline of all queues of an interface. */
+static bool change_root(uint16_t type, unsigned flags, int index, uint32_t handle, const char *kind) {
+    union message question = question_of(type, flags, index, TC_H_ROOT, handle);
+    if (kind) mnl_attr_put_strz(&question.head, TCA_KIND, kind);
     return ask_kernel(&question);
 }
 
@@ -66,11 +66,6 @@ struct disciplines {
     unsigned queues; /* how many that send have one of their own, below that of the daemon */
 };
 
-static int read_kind(const struct nlattr *attribute, void *into) {
-    if (mnl_attr_get_type(attribute) == TCA_KIND) copy_text(attribute, into, DISCIPLINE_ROOM);
-    return MNL_CB_OK;
-}
-
 /* Sees one of them: the root, one of a queue, or one below that. A tbf has one row. */
 static void parse_discipline(const struct nlmsghdr *message, void *into) {
     struct disciplines *seen = into;
@@ -78,7 +73,8 @@ static void parse_discipline(const struct nlmsghdr *message, void *into) {
     char kind[DISCIPLINE_ROOM] = "";
     if (message->nlmsg_type != RTM_NEWQDISC || mnl_nlmsg_get_payload_len(message) < sizeof *about) return;
     if (about->tcm_ifindex != seen->index || about->tcm_parent == TC_H_CLSACT) return;
-    read_attributes(message, sizeof *about, read_kind, kind);
+    const struct nlattr *told = attribute_of(message, sizeof *about, TCA_KIND);
+    if (told) copy_text(told, kind, sizeof kind);
     bool in_order = about->tcm_parent == TC_H_ROOT ? about->tcm_handle == FIFO && strcmp(kind, "mq") == 0 : strcmp(kind, "tbf") == 0;
     in_order = in_order || keeps_order(kind);
     seen->queues += TC_H_MAJ(about->tcm_parent) == FIFO && TC_H_MIN(about->tcm_parent) <= seen->sends;
@@ -110,9 +106,9 @@ bool may_have_order(int index) {
  * the order. */
 bool give_each_fifo(int index, unsigned queues, uint32_t megabits) {
     if (queues <= 1) return set_fifo(index, megabits, NLM_F_CREATE, TC_H_ROOT, FIFO);
-    bool given = give_queues(index);
+    bool given = change_root(RTM_NEWQDISC, NLM_F_CREATE, index, FIFO, "mq");
     if (!given) drop_fifo(index);
-    if (!given && !give_queues(index)) return false;
+    if (!given && !change_root(RTM_NEWQDISC, NLM_F_CREATE, index, FIFO, "mq")) return false;
     fit_each_fifo(index, queues, megabits);
     return have_order(index);
 }
@@ -127,15 +123,12 @@ void fit_each_fifo(int index, unsigned queues, uint32_t megabits) {
 
 /* The kernel gives an interface what it chooses by itself, if its queue is one of the daemon. */
 void drop_fifo(int index) {
-    union message question = question_of(RTM_DELQDISC, 0, index, TC_H_ROOT, FIFO);
-    (void)ask_kernel(&question);
+    (void)change_root(RTM_DELQDISC, 0, index, FIFO, NULL);
 }
 
 /* An interface gets no queueing discipline, unless an administrator gave it one. Which it has then is told with all interfaces. */
 void give_no_queue(int index) {
-    union message question = question_of(RTM_NEWQDISC, NLM_F_CREATE | NLM_F_EXCL, index, TC_H_ROOT, 0);
-    mnl_attr_put_strz(&question.head, TCA_KIND, "noqueue");
-    (void)ask_kernel(&question);
+    (void)change_root(RTM_NEWQDISC, NLM_F_CREATE | NLM_F_EXCL, index, 0, "noqueue");
 }
 
 static union message question_of_place(uint16_t type, unsigned flags, int index) {
@@ -157,17 +150,13 @@ static bool has_classifier(int index, uint32_t handle) {
     return ask_kernel(&question);
 }
 
-/* Whether a message tells of nothing but the classifier of the daemon: first of its priority, and then of itself. */
-static bool is_own(const struct nlmsghdr *message) {
+/* Sees a filter: whether it is nothing but the classifier of the daemon, of which the kernel tells first of its priority, and then of itself. */
+static void parse_filter(const struct nlmsghdr *message, void *alone) {
     const struct tcmsg *about = mnl_nlmsg_get_payload(message);
-    if (message->nlmsg_type != RTM_NEWTFILTER || mnl_nlmsg_get_payload_len(message) < sizeof *about) return false;
-    return about->tcm_info == TC_H_MAKE(PRIORITY, htons(ETH_P_ALL)) && about->tcm_handle <= PLACE_MADE
+    bool own = message->nlmsg_type == RTM_NEWTFILTER && mnl_nlmsg_get_payload_len(message) >= sizeof *about
+        && about->tcm_info == TC_H_MAKE(PRIORITY, htons(ETH_P_ALL)) && about->tcm_handle <= PLACE_MADE
         && about->tcm_parent == TC_H_MAKE(TC_H_CLSACT, TC_H_MIN_INGRESS);
-}
-
-static void parse_filter(const struct nlmsghdr *message, void *into) {
-    bool *alone = into;
-    *alone = *alone && is_own(message);
+    if (!own) *(bool *)alone = false;
 }
 
 /* Whether nobody else has a filter in this direction of a place. What is not told in full may be of others. */

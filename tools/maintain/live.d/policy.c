@@ -309,7 +309,6 @@ static void make_end(struct end *end, uint8_t which) {
     lagd->protocol.bundle_private = make_bundle_private();
     lagd->protocol.selection = make_select_private();
     lagd->carry.carry_private = make_carry_private();
-    lagd->tap.flight = make_flight_private();
     lagd->tap.held = make_held_private();
     lagd->carry.probe = make_probe_private();
     lagd->plane.carrying = &FRAMES;
