@@ -25,7 +25,6 @@ struct answers_private {
 
 MAKES_WITH(answers, .timer = -1)
 
-/* Opens what wakes the daemon for a response. */
 void start_answers(struct tap_plane *tap) {
     struct answers_private *own = tap->answers;
     own->timer = timerfd_create(CLOCK_MONOTONIC, TFD_NONBLOCK | TFD_CLOEXEC);
@@ -96,7 +95,6 @@ static void answer_due(struct tap_plane *tap, uint16_t port) {
     }
 }
 
-/* The time of a response came. */
 void serve_answers(struct tap_plane *tap) {
     uint64_t passed;
     (void)!read(tap->answers->timer, &passed, sizeof passed);

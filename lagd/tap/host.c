@@ -50,7 +50,7 @@ bool is_cutting(struct tap_plane *tap) {
     return tap->host->count > 0 && !tap->process->broken;
 }
 
-/* Takes segments of a packet from this one on, so many at most; answers how many. */
+/* Takes up to `most` segments of a packet from this one on; answers how many. */
 static unsigned cut_segments(struct tap_plane *tap, const struct cut *cut, uint32_t from, unsigned most) {
     struct host_private *own = tap->host;
     unsigned taken = 0;

@@ -61,7 +61,7 @@ bool can_empty(struct plane *plane, uint16_t port) {
         && carry->ports->links[port - 1].view.aggregator == carry->active;
 }
 
-/* The port that carries fewest conversations of a list, of those that carry. */
+/* The port that has fewest conversations of those that carry. */
 static uint16_t emptiest(const struct carry *carry, const unsigned *loads) {
     uint16_t found = carry->active_ports[0];
     for (uint16_t i = 1; i < carry->active_count; i++)
