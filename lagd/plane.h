@@ -111,7 +111,7 @@ struct plane {
     bool wants_fifo; /* whether members get a queueing discipline that keeps the order */
     bool renews;     /* whether a member with another one is taken up anew */
     bool changed;    /* whether the library may answer otherwise now, so that conversations go or come */
-    bool made_device; /* whether the next daemon is to take the device away at its end */
+    bool owns_device; /* whether a daemon made the device, or had it outlive itself, so that the next one takes it away at its end */
     bool is_new;      /* whether this start made the device, into which it puts the ports of the file */
     /* What the functions of the tables work with. Nobody else looks into these. */
     struct device *device;

@@ -54,7 +54,6 @@ bool answer_at_once(struct tap_plane *tap, struct link *link, const uint8_t *res
     return true;
 }
 
-/* Sends the response to a marker later; answers false where too many wait. */
 bool answer_later(struct tap_plane *tap, struct link *link, const uint8_t *response) {
     struct waiting *waiting = &tap->answers->ports[link->settings.number - 1];
     if (waiting->count == MOST_WAITING) return false;

@@ -107,7 +107,6 @@ static void release(struct tap_plane *tap) {
     CALL(tap->plane->passing->pass_on, tap);
 }
 
-/* The host sees how fast the ports are that carry, and a carrier where there are some. */
 void tell_speed_and_carrier(struct plane *plane) {
     struct tap_plane *tap = plane->tap;
     set_speed(tap->device, sum_speeds(tap));

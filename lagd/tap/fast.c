@@ -298,7 +298,8 @@ static void pass(struct tap_plane *tap, struct conversation *conversation) {
     struct fast_row *row = row_of(tap, conversation);
     uint64_t none = 0, member = (uint32_t)tap->ports->links[conversation->port - 1].index;
     if (__atomic_load_n(&row->opaque, __ATOMIC_SEQ_CST) != 0) return;
-    if (__atomic_compare_exchange_n(&row->word, &none, member, false, __ATOMIC_SEQ_CST, __ATOMIC_SEQ_CST)) conversation->fast.port = conversation->port;
+    if (!__atomic_compare_exchange_n(&row->word, &none, member, false, __ATOMIC_SEQ_CST, __ATOMIC_SEQ_CST)) return;
+    conversation->fast.port = conversation->port;
 }
 
 /* After all that was put was sent: what was taken counts no more, and the kernel gets what it may pass on. */

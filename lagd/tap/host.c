@@ -175,14 +175,12 @@ void serve_data(struct tap_plane *tap, uint32_t tag) {
     if (tag == HOST) read_host(tap);
 }
 
-/* The link of a port goes down: nothing goes there from here on. */
 void lose_data(struct plane *plane, uint16_t port) {
     struct tap_plane *tap = plane->tap;
     CALL(plane->passing->withdraw_port, tap, port);
     forget_answers(tap->answers, port);
 }
 
-/* Makes the TAP device, and what members are given and have taken away. */
 void open_tap_plane(struct plane *plane) {
     struct tap_plane *tap = plane->tap;
     struct host_private *own = tap->host;
@@ -200,7 +198,6 @@ void open_tap_plane(struct plane *plane) {
     if (!await_input(tap->process->epoll_file, own->tap, HOST)) stop(REFUSED, "epoll", strerror(errno));
 }
 
-/* Members are as they were before, and the device goes with the program. */
 void end_tap_plane(struct plane *plane) {
     struct tap_plane *tap = plane->tap;
     await_no_more(tap->process->epoll_file, tap->host->tap);

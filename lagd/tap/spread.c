@@ -152,13 +152,11 @@ static const char *wanted_of(const struct link *link, enum setting setting, unsi
     return mask;
 }
 
-/* Copies what is known of queues, which is closed then; answers whether all of it was read. */
+/* Copies what is known of queues; answers whether all of it was read. */
 static bool copy_known(FILE *file, FILE *next) {
     char name[NAME_OCTETS], mask[PROCESSORS_ROOM];
     while (fscanf(file, READ_LINE, name, mask) == 2) fprintf(next, "%s %s\n", name, mask);
-    bool done = !ferror(file);
-    fclose(file);
-    return done;
+    return !ferror(file);
 }
 
 /* Whether it is known what a setting was before an earlier daemon changed it. */

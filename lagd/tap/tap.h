@@ -60,7 +60,7 @@ void forget_answers(struct answers_private *own, uint16_t port);
 #define PROCESSORS_LENGTH "2399" /* of the mask of the 8192 processors that Linux knows */
 #define PROCESSORS_ROOM 2400
 struct kept {
-    unsigned joins;                 /* what of GRO and LRO was wanted, as features.c has it */
+    unsigned joins;                 /* what of GRO and LRO was wanted, as guard.c has it */
     char steered[PROCESSORS_ROOM];  /* the processors that RPS named, or empty where that was one, or is not changed */
     struct ethtool_channels queues; /* what there was; all 0 where there was one queue */
 };
@@ -177,7 +177,7 @@ uint64_t add_octets(uint64_t sum, const uint8_t *octets, size_t length);
 uint16_t fold(uint64_t sum);
 void put_sum(uint8_t *octets, size_t length, size_t field);
 
-/* gso.c: a packet that is cut into `count` of them, each with so many octets of payload but for the last one */
+/* segments.c: a packet that is cut into `count` of them, each with so many octets of payload but for the last one */
 struct cut {
     const uint8_t *packet;
     struct tcp_packet whole;
@@ -187,8 +187,6 @@ struct cut {
 bool read_cut(const uint8_t *packet, size_t length, struct cut *cut);
 size_t put_segment(const struct cut *cut, uint32_t number, uint8_t *packet);
 void finish_sum(uint8_t *packet, size_t length);
-
-/* gro.c */
 void put_host(struct tap_plane *tap, uint8_t *packet, size_t length);
 void flush_host(struct tap_plane *tap);
 
@@ -215,14 +213,6 @@ void open_host(struct tap_plane *tap, bool open);
 void follow_host_queue(struct tap_plane *tap, const char *discipline);
 int fast_member_of(struct plane *plane, uint16_t number);
 void resume_fast(struct tap_plane *tap);
-
-/* features.c: what puts received frames together, a bit for each way */
-struct joins {
-    unsigned on, wanted;
-};
-struct joins read_joins(int index);
-void set_joins(int index, unsigned wanted);
-#define JOINED_BY_KERNEL 1u
 
 /* spread.c: queues of an interface, and the processors that serve them */
 unsigned count_entries(int index, const char *begin);
