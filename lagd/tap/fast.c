@@ -112,13 +112,18 @@ static uint64_t *place_at(struct fast_private *own, const struct link *link) {
     return &own->places[member_place((uint32_t)link->index)].word;
 }
 
+/* What stands in the place of a member. */
+static uint64_t place_word(const struct link *link) {
+    return (uint64_t)(uint32_t)link->index << 32 | link->settings.number;
+}
+
 /* Has what comes at a member go up by the kernel, as long as the answer is open; or -errno, as where another member has its place. */
 int open_fast_receiver(struct tap_plane *tap, const struct link *wanted) {
-    struct fast_private *own = tap->fast;
+    uint64_t *place = place_at(tap->fast, wanted), taken = __atomic_load_n(place, __ATOMIC_SEQ_CST);
     EACH_LINK_AS_IS(link, tap->ports)
-        if (link != wanted && has_fast_member(tap->members, link->settings.number) && place_at(own, link) == place_at(own, wanted)) return -EBUSY;
-    __atomic_store_n(place_at(own, wanted), (uint64_t)(uint32_t)wanted->index << 32 | wanted->settings.number, __ATOMIC_SEQ_CST);
-    return attach_stored(tap->process->store, "guard", own->receiver, wanted->index, false);
+        if (link != wanted && link->socket >= 0 && place_word(link) == taken) return -EBUSY;
+    __atomic_store_n(place, place_word(wanted), __ATOMIC_SEQ_CST);
+    return attach_stored(tap->process->store, "guard", tap->fast->receiver, wanted->index, false);
 }
 
 /* The interface is no member any more. */

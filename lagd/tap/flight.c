@@ -40,16 +40,6 @@ static void set_free(struct carry *carry, struct conversation *conversation, uin
     conversation->since = 0;
 }
 
-/* Towards a peer that answers no markers, a conversation that is still for a flight may go elsewhere, once the kernel passes nothing
- * of it. */
-static void watch_free(struct carry *carry, struct conversation *conversation, uint16_t number, const struct niw_assignment *state) {
-    conversation->since = 0;
-    if (peer_answering(carry->probe) != MUTE || state->what != NIW_CONVERSATION_ON || conversation->fast.port != 0
-        || carry->time - conversation->last < carry->settings->flight)
-        return;
-    set_free(carry, conversation, number, false);
-}
-
 /* A conversation that is held for long goes on: nothing of it was sent since. It waits for a peer that answers markers, which may have
  * been stopped for a while, and for a flight else. What is held on a port that does not distribute is for watch_port. */
 static void watch_held(struct carry *carry, struct conversation *conversation, uint16_t number, const struct niw_assignment *state) {
@@ -71,10 +61,15 @@ static void watch_conversation(struct tap_plane *tap, uint16_t number, uint64_t 
     bool away = conversation->home != tap->carry->active && tap->carry->active != 0 && state.what == NIW_CONVERSATION_ON;
     if (state.what == NIW_CONVERSATION_FLUSHING && state.age > 0 && state.age % AGAIN_TICKS == 0)
         *again |= (uint64_t)1 << (state.port - 1);
-    if (is_held(&state) || (away && !none_held(tap, number)))
+    if (is_held(&state) || (away && !none_held(tap, number))) {
         watch_held(tap->carry, conversation, number, &state);
-    else
-        watch_free(tap->carry, conversation, number, &state);
+        return;
+    }
+    conversation->since = 0;
+    /* Towards a peer that answers no markers, what is still for a flight may go elsewhere, once the kernel passes nothing of it. */
+    if (peer_answering(tap->carry->probe) == MUTE && state.what == NIW_CONVERSATION_ON && conversation->fast.port == 0
+        && tap->carry->time - conversation->last >= tap->settings->flight)
+        set_free(tap->carry, conversation, number, false);
 }
 
 void pass_flight_tick(struct tap_plane *tap) {

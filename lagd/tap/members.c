@@ -124,11 +124,14 @@ static int open_socket(struct tap_plane *tap, const struct link *link, const str
     int index = kind == MARKERS ? tap_index(tap->device) : link->index;
     struct sockaddr_ll address = {.sll_family = AF_PACKET, .sll_protocol = htons(kind == DIRECT ? ETH_P_SLOW : ETH_P_ALL), .sll_ifindex = index};
     int fd = packet_socket(tap->process, SOCKET_NAMES[kind], link->index, index, SOCK_RAW);
-    bool only_sends = kind == DATA && guard->fast;
+    bool only_sends = kind == DATA && guard->fast, filtered;
     if (fd < 0) return fd;
     (void)set_packet(fd, PACKET_IGNORE_OUTGOING, 1);
-    if ((only_sends || kind == MARKERS ? filter_marked(fd, only_sends ? 0 : link->settings.number) : filter(fd, true))
-        && (kind != DATA || set_up_data(fd, index, guard)) && set_packet(fd, PACKET_AUXDATA, 1)
+    if (only_sends || kind == MARKERS)
+        filtered = filter_marked(fd, only_sends ? 0 : link->settings.number);
+    else
+        filtered = filter(fd, true);
+    if (filtered && (kind != DATA || set_up_data(fd, index, guard)) && set_packet(fd, PACKET_AUXDATA, 1)
         && bind(fd, (struct sockaddr *)&address, sizeof address) == 0
         && (only_sends || await_input(tap->process->epoll_file, fd, MEMBERS + link->settings.number - 1u))) {
         put_stored(tap->process->store, SOCKET_NAMES[kind], link->index, fd);

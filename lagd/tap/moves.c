@@ -61,15 +61,7 @@ bool can_empty(struct plane *plane, uint16_t port) {
         && carry->ports->links[port - 1].view.aggregator == carry->active;
 }
 
-/* The port that has fewest conversations of those that carry. */
-static uint16_t emptiest(const struct carry *carry, const unsigned *loads) {
-    uint16_t found = carry->active_ports[0];
-    for (uint16_t i = 1; i < carry->active_count; i++)
-        if (loads[carry->active_ports[i]] < loads[found]) found = carry->active_ports[i];
-    return found;
-}
-
-/* Moves the conversations of a port to others; answers whether none is left there, or can leave so. */
+/* Moves the conversations of a port to those that carry fewest; answers whether none is left there, or can leave so. */
 bool empty_port(struct plane *plane, uint16_t port) {
     struct carry *carry = plane->carry;
     unsigned loads[NIW_MOST_PORTS + 1] = {0};
@@ -78,7 +70,9 @@ bool empty_port(struct plane *plane, uint16_t port) {
     for (uint16_t number = 0; number < CONVERSATIONS; number++) loads[carry->port_of[number]]++;
     for (uint16_t number = 0; number < CONVERSATIONS; number++) {
         if (carry->port_of[number] != port) continue;
-        uint16_t other = emptiest(carry, loads);
+        uint16_t other = carry->active_ports[0];
+        for (uint16_t i = 1; i < carry->active_count; i++)
+            if (loads[carry->active_ports[i]] < loads[other]) other = carry->active_ports[i];
         if (move(carry, number, other)) loads[other]++;
     }
     send_due(carry->protocol);

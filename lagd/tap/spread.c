@@ -219,22 +219,16 @@ static const char *fault_of_spreading(int folder, const struct link *link, const
     return NULL;
 }
 
-/* Whether the settings of the queues may be written, as far as the first one tells. */
-static bool may_set(int index) {
-    char path[PATH_OCTETS];
-    int opened = path_of(index, "tx-0/xps_cpus", path) ? open(path, O_WRONLY | O_CLOEXEC) : -1;
-    if (opened >= 0) close(opened);
-    return opened >= 0;
-}
-
 /* Whether a member may keep all its queues once it has them, as far as that is seen before: giving them may take its link down. Where it is
- * known that settings of them are to be changed, these must be changeable. */
+ * known that settings of them are to be changed, these must be changeable, as far as the first one tells. */
 bool may_spread(int folder, const struct link *link) {
-    char name[NAME_OCTETS];
+    char name[NAME_OCTETS], path[PATH_OCTETS];
     FILE *file = read_kept(folder, link, "queues");
     bool changes = file && fscanf(file, "%31s", name) == 1;
     if (file) fclose(file);
-    return !link->stacked && may_have_order(link->index) && (!changes || may_set(link->index));
+    int opened = changes && path_of(link->index, "tx-0/xps_cpus", path) ? open(path, O_WRONLY | O_CLOEXEC) : -1;
+    if (opened >= 0) close(opened);
+    return !link->stacked && may_have_order(link->index) && (!changes || opened >= 0);
 }
 
 void spread(struct tap_plane *tap, const struct link *link, struct guard *guard) {

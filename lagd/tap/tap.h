@@ -43,7 +43,6 @@ void pass_flight_tick(struct tap_plane *tap);
 /* queues.c: by which queue of its member a conversation goes, and the markers of each queue */
 bool ends_flight(struct queues_private *own, const struct link *link, uint32_t *id);
 void set_identifier(uint8_t *frame, uint32_t id);
-struct msghdr;
 void begin_queues(struct queues_private *own, uint16_t port, unsigned count);
 void mark_conversation(struct tap_plane *tap, uint16_t port, uint16_t number, struct msghdr *message);
 bool send_by_queues(struct tap_plane *tap, struct link *link, const uint8_t *marker, bool again);
