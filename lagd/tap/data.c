@@ -31,8 +31,7 @@ static void send_on(struct tap_plane *tap, const struct conversation *conversati
     put_data(tap, conversation->port, (uint16_t)(conversation - tap->carry->conversations), packet, length);
 }
 
-/* A frame of the host came: it goes if it has a right length, which each member takes, is none of the slow protocols, and overtakes none of its
- * conversation that waits. */
+/* A frame of the host goes, if each member takes its length, it is none of the slow protocols, and none of its conversation waits. */
 void accept_from_host(struct tap_plane *tap, uint8_t *packet, size_t length) {
     const uint8_t *frame = packet + head_octets();
     enum offered offered = LOST;

@@ -242,8 +242,7 @@ void resume_fast(struct tap_plane *tap) {
     if (any) wait_or_end(tap);
 }
 
-/* Takes back what is not, or no longer, on the port where the kernel passes it on, before a marker goes there; all, where the library refuses
- * to tell. */
+/* Takes back what is no longer on the port where the kernel passes it on, before a marker goes there; all, where the library does not tell. */
 void withdraw(struct tap_plane *tap) {
     bool told = ask_ports(tap->protocol, tap->carry->active, tap->carry->port_of);
     EACH_CONVERSATION(conversation, tap->carry) {

@@ -2,8 +2,7 @@
  * and hand them to its own network stack. */
 #include "tap.h"
 
-/* What puts received frames together, so that a marker may overtake data: GRO by the kernel, and by the card, and LRO, by the names that the kernel
- * gives its features (ethtool). A bit for each. */
+/* What puts received frames together, so that a marker may overtake data: GRO by the kernel, and by the card, and LRO (ethtool). A bit each. */
 static const char *const joining[] = {"rx-gro", "rx-gro-hw", "rx-lro"};
 #define JOINED_BY_KERNEL 1u
 #define JOINING (sizeof joining / sizeof *joining)
@@ -175,9 +174,8 @@ bool join_queues(struct tap_plane *tap, struct link *link, struct guard *guard, 
     return true;
 }
 
-/* Lets a member keep all its queues, where it can, or gives it one; answers false where it has no queue yet: it is looked at again then. One that
- * has one queue, as this daemon or an earlier one gave it, gets back what it had. How many others give it meanwhile, it is to have behind the
- * daemon. */
+/* Lets a member keep all its queues, where it can, or gives it one. One that has one queue, as this daemon or an earlier one gave it, gets back
+ * what it had. How many others give it meanwhile, it is to have behind the daemon. */
 bool keep_queues(struct tap_plane *tap, struct link *link, struct guard *guard, bool again UNUSED) {
     struct ethtool_channels now, *before = &guard->before.queues;
     if (queues_of(link->index, &now) > 1)

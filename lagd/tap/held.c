@@ -149,8 +149,7 @@ bool drop_held(struct tap_plane *tap, uint16_t number, enum carry_count why) {
     return true;
 }
 
-/* Takes the oldest frame of a conversation out, to be sent; answers NULL where none is told. Its packet stays where it is until
- * free_left. */
+/* Takes the oldest frame of a conversation out, to be sent; answers NULL where none is told. Its packet stays there until free_left. */
 uint8_t *remove_held(struct tap_plane *tap, uint16_t number, size_t *length) {
     struct held_private *own = tap->held;
     struct niw_queued queued = niw_queue_next(&own->queues, number);

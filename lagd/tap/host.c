@@ -131,11 +131,8 @@ static unsigned accept_in_turn(struct tap_plane *tap, uint8_t *packet, size_t le
 static unsigned read_next(struct tap_plane *tap, uint8_t *packet) {
     if (tap->process->broken) return 0;
     ssize_t length = read(tap->host->tap, packet, packet_room());
-    if (length < 0 && (errno == EAGAIN || errno == EINTR)) return 0;
-    if (length < 0 && (errno == EBADFD || errno == EIO || errno == ENODEV)) {
-        lose_device(tap->plane);
-        return 0;
-    }
+    if (length < 0 && (errno == EBADFD || errno == EIO || errno == ENODEV)) lose_device(tap->plane);
+    if (length < 0 && (tap->process->broken || errno == EAGAIN || errno == EINTR)) return 0;
     if (length >= (ssize_t)head_octets() && !tap->plane->segments) return accept_in_turn(tap, packet, (size_t)length);
     accept_from_host(tap, packet, length < 0 ? 0 : (size_t)length); /* one that cannot be read has no octets */
     return 1;

@@ -231,8 +231,7 @@ void move_member(struct plane *plane, struct link *link, const uint8_t *mac) {
     write_settings(plane->tap->process, link, &member->guard.before);
 }
 
-/* A queueing discipline of an interface came, changed or went: where each queue has one of the daemon, others may have put another one there,
- * or taken theirs away. Answers whether the member is still taken up. */
+/* A queueing discipline of an interface changed: where each queue has one of the daemon, others may have put another one there, or taken theirs. */
 bool follow_member_queues(struct tap_plane *tap, struct link *link) {
     struct member *member = member_of(tap, link);
     bool kept = link->has_fifos ? have_order(link->index) : member->guard.in_order || !may_have_order(link->index);

@@ -8,8 +8,7 @@
 #include <linux/rtnetlink.h>
 #include <netinet/in.h>
 
-/* What waits at a member: the octets of 50 ms at the speed of its link, within these bounds; the most of them where nobody tells a
- * speed. */
+/* What waits at a member: the octets of 50 ms at the speed of its link, within these bounds; the most where nobody tells a speed. */
 #define OCTETS_QUEUED(megabits) ((uint64_t)(megabits) * 125 * 50)
 #define LEAST_QUEUED (64 * (ETH_HLEN + ETH_DATA_LEN))
 #define MOST_QUEUED (4 << 20)
@@ -35,7 +34,7 @@ bool keeps_order(const char *discipline) {
     return strcmp(discipline, "noqueue") == 0 || strcmp(discipline, "bfifo") == 0 || strcmp(discipline, "pfifo") == 0;
 }
 
-/* How many octets wait at most for a link of so many Mb/s; 0 and SPEED_UNKNOWN tell no speed. */
+/* 0 and SPEED_UNKNOWN tell no speed. */
 static uint32_t most_queued(uint32_t megabits) {
     uint64_t octets = OCTETS_QUEUED(megabits);
     if (megabits == 0 || octets > MOST_QUEUED) return MOST_QUEUED;
