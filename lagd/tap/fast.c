@@ -61,7 +61,7 @@ static void *open_map(struct tap_plane *tap, int number, uint32_t size, uint32_t
 
 /* What a count of the kernel has since it was taken last. */
 static uint64_t take(uint64_t *count) {
-    return __atomic_exchange_n(count, 0, __ATOMIC_ACQUIRE);
+    return __atomic_exchange_n(count, 0, __ATOMIC_SEQ_CST);
 }
 
 /* What the kernel did for the last daemon is no count of this one, and ports that are no more collect nothing. */
@@ -126,7 +126,6 @@ int open_fast_receiver(struct tap_plane *tap, const struct link *wanted) {
     return attach_stored(tap->process->store, "guard", tap->fast->receiver, wanted->index, false);
 }
 
-/* The interface is no member any more. */
 void close_fast_receiver(struct fast_private *own, const struct link *link) {
     __atomic_store_n(place_at(own, link), 0, __ATOMIC_SEQ_CST);
 }
@@ -155,7 +154,6 @@ static void subtract(struct tap_plane *tap, struct conversation *conversation, u
     conversation->fast.suspected = false;
 }
 
-/* Counts what the kernel passed on of a conversation. */
 static void count_passed(struct tap_plane *tap, struct conversation *conversation) {
     uint64_t passed = take(&row_of(tap, conversation)->passed);
     if (passed == 0 || conversation->fast.port == 0) return;

@@ -191,7 +191,6 @@ bool keep_queues(struct tap_plane *tap, struct link *link, struct guard *guard, 
     return true;
 }
 
-/* Runs the programs of a member that has none yet. */
 static void run_programs(struct tap_plane *tap, const struct link *link, struct guard *guard) {
     tap->plane->passing->run_programs(tap, link, guard);
     if (guard->before.joins != 0) set_joins(link->index, guard->before.joins & joins_allowed(tap->settings, link, guard));

@@ -194,7 +194,6 @@ static bool renew_member(struct tap_plane *tap, struct link *link) {
     return open_sockets(tap, link, member) == 0;
 }
 
-/* Others changed the queues of a member. */
 static bool renew_changed(struct tap_plane *tap, struct link *link) {
     (void)say(tap->process, LOG_NOTICE | ABOUT_DATA, "port %u %s: its queues were changed", link->settings.number, link->name);
     return renew_member(tap, link);
@@ -265,7 +264,6 @@ void count_losses(struct tap_plane *tap) {
     for (uint16_t i = 0; i < tap->ports->count; i++) count_loss(&tap->members->members[i]);
 }
 
-/* The interface is gone, or the daemon ends. */
 void close_member(struct plane *plane, struct link *link) {
     struct tap_plane *tap = plane->tap;
     struct member *member = member_of(tap, link);
@@ -275,7 +273,6 @@ void close_member(struct plane *plane, struct link *link) {
     release_member(tap, link, member);
 }
 
-/* Another interface is to be this member: its counts begin anew. */
 void forget_member(struct plane *plane, uint16_t port) {
     struct member *member = &plane->tap->members->members[port - 1];
     memset(member->counts, 0, sizeof member->counts);
@@ -305,7 +302,6 @@ void follow_member_mtu(struct plane *plane, struct link *link, uint32_t mtu) {
     if (least != UINT32_MAX) limit_mtu(tap->device, least);
 }
 
-/* The kernel told of an interface whose link is up, which may have another speed. */
 void follow_speed(struct plane *plane, const struct link *link) {
     uint32_t now = read_speed(link->socket, link->index).megabits;
     member_of(plane->tap, link)->megabits = now == (uint32_t)SPEED_UNKNOWN ? 0 : now;
