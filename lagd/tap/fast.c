@@ -31,7 +31,7 @@ static bool wait_for_programs(void) {
     return syscall(SYS_membarrier, MEMBARRIER_CMD_GLOBAL, 0, 0) == 0;
 }
 
-/* Loads a program; a fault ends the program. */
+/* Loads a program of the kernel; a fault ends the daemon. */
 static int load(struct tap_plane *tap, const char *name, const struct fast_maps *maps) {
     int program = load_program(tap->settings, name, maps);
     if (program < 0) stop(REFUSED, "fast: the kernel takes no program", program_fault());

@@ -19,7 +19,7 @@
 /* What a queue has: the processors that take what it received (RPS), and those, and the queues that received, whose frames it sends (XPS). */
 enum setting { TAKEN_BY, SENT_FOR, SENT_BEHIND, SETTINGS };
 
-/* A file or folder in /sys, from that of the queues of an interface on; answers whether it is of this interface. */
+/* The path of a file or folder in that of the queues of an interface in /sys; answers whether it is of this interface. */
 static bool path_of(int index, const char *what, char path[static PATH_OCTETS]) {
     char name[IF_NAMESIZE];
     int found = 0;
