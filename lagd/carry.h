@@ -16,8 +16,6 @@ struct fast {
     uint16_t port;    /* the port whose member its row names, or 0 */
     bool touched;     /* whether it may be passed on now: frames of it came, or went */
     uint32_t taken;   /* segments that came to the daemon since the last flush */
-    uint64_t counted; /* frames that the kernel had passed on when they were counted last */
-    uint64_t overflowed; /* segments that overflowed, of those that its row no longer counts as left */
     bool suspected;     /* whether its row was found with frames that do not come; it was so: */
     uint64_t suspected_word, suspected_opaque;
     uint64_t not_before; /* the time before which it does not go on, after its link went down */
@@ -33,6 +31,8 @@ struct conversation {
     bool asked;     /* whether it is asked to move */
     struct fast fast;
 };
+#define EACH_CONVERSATION(conversation, of) \
+    for (struct conversation *conversation = (of)->conversations; conversation < (of)->conversations + CONVERSATIONS; conversation++)
 
 /* Times are milliseconds of CLOCK_MONOTONIC. Ticks are made up after a stall, in which a frame may have been sent just before: they do not
  * tell for how long nothing was. */

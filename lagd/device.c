@@ -243,7 +243,7 @@ void end_tap(int index) {
 void keep_tap(struct plane *plane, bool keeps) {
     struct device *own = plane->device;
     struct ifreq device = {0};
-    if (plane->made_device == keeps || ioctl(own->tap, TUNGETIFF, &device) < 0 || (keeps && (has_store() || (device.ifr_flags & IFF_PERSIST))))
+    if (plane->owns_device == keeps || ioctl(own->tap, TUNGETIFF, &device) < 0 || (keeps && (has_store() || (device.ifr_flags & IFF_PERSIST))))
         return;
-    if (ioctl(own->tap, TUNSETPERSIST, keeps) == 0) plane->made_device = keeps;
+    if (ioctl(own->tap, TUNSETPERSIST, keeps) == 0) plane->owns_device = keeps;
 }

@@ -10,7 +10,7 @@ static const struct carrying TAP_DEVICE = {
     .drain = drain_member, .lose = lose_data, .forget = forget_member, .send_marker = send_new_marker, .note_response = note_response,
     .settle = settle_frames, .tick = pass_tick_of_frames, .keeps_aggregator = hears_peer,
     .frames_heard = frames_handed_up, .tell_host = tell_speed_and_carrier, .resume = resume_conversations, .go_on = settle_carry,
-    .member_of = passing_member_of, .end_resuming = release_former_members, .frames_waiting = count_frames_waiting, .show = show_carry,
+    .member_of = fast_member_of, .end_resuming = release_former_members, .frames_waiting = count_frames_waiting, .show = show_carry,
     .show_member = show_member, .show_markers = show_markers, .show_waiting = show_frames_waiting, .end_count = CARRY_COUNTS,
     .member_counts = MEMBER_COUNTS, .keeps_members = true,
 };
@@ -29,7 +29,7 @@ static const struct passing BY_KERNEL = {
     .start = start_fast, .end = end_fast, .set_up_device = give_no_queue, .run_programs = run_fast_programs, .count = count_fast_frames,
     .withdraw = withdraw, .withdraw_port = withdraw_port, .pass_on = pass_on, .note_read = note_read, .open_host = open_host,
     .follow_discipline = follow_host_queue, .set_collecting = set_collecting, .read_host = read_host, .tick = pass_fast_tick,
-    .member_of = fast_member_of, .resume = resume_fast, .steers = true,
+    .resume = resume_fast, .steers = true,
 };
 
 static const struct queueing ONE_QUEUE = {
@@ -38,7 +38,7 @@ static const struct queueing ONE_QUEUE = {
 };
 
 static const struct queueing ALL_QUEUES = {
-    .start = start_all_queues, .fifos_of = count_fifos, .set = keep_queues, .follow = follow_member_queues,
+    .start = start_all_queues, .fifos_of = count_sending_queues, .set = keep_queues, .follow = follow_member_queues,
     .watch = watch_queues, .mark = mark_conversation, .send_marker = send_by_queues, .accept_response = accept_response_of_queue,
     .answer = answer_later, .show = show_queues, .text = ", all queues", .markers_at_once = MARKERS_AT_ONCE,
 };

@@ -82,7 +82,6 @@ struct passing {
     void (*set_collecting)(struct tap_plane *tap);                /* frames go up from the ports that collect now, and from no other one */
     void (*read_host)(struct tap_plane *tap);                     /* takes what waits in the device, each 100 ms: what is not there was lost */
     void (*tick)(struct tap_plane *tap);                          /* 100 ms passed */
-    int (*member_of)(struct tap_plane *tap, uint16_t number);     /* the interface by which the kernel has a conversation go, or 0 */
     void (*resume)(struct tap_plane *tap);                        /* what the kernel passed on for the last daemon stays, where its port does */
     bool steers; /* whether one processor has to take what a member of one queue receives */
 };
@@ -112,7 +111,7 @@ struct plane {
     bool wants_fifo; /* whether members get a queueing discipline that keeps the order */
     bool renews;     /* whether a member with another one is taken up anew */
     bool changed;    /* whether the library may answer otherwise now, so that conversations go or come */
-    bool made_device; /* whether the next daemon is to take the device away at its end */
+    bool owns_device; /* whether a daemon made the device, or had it outlive itself, so that the next one takes it away at its end */
     bool is_new;      /* whether this start made the device, into which it puts the ports of the file */
     /* What the functions of the tables work with. Nobody else looks into these. */
     struct device *device;

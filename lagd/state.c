@@ -96,7 +96,7 @@ static void write_state(struct state *own, FILE *file) {
     fprintf(file, "bundle %u %u %lld\n", protocol->bundle.state, protocol->bundle.aggregator, (long long)protocol->bundle.changed_at);
     if (is_following(protocol->selection)) fputs("follows\n", file);
     if (tap_index(carry->device) != 0)
-        fprintf(file, "tap %d %d %" PRIu32 " %u\n", tap_index(carry->device), carry->plane->made_device,
+        fprintf(file, "tap %d %d %" PRIu32 " %u\n", tap_index(carry->device), carry->plane->owns_device,
             carry->device->less_mtu, peer_answering(carry->probe));
     EACH_LINK(link, carry->ports)
         if (link->used) fprintf(file, "port %u %d %s\n", link->settings.number, link->socket >= 0 ? link->index : 0, link->name);

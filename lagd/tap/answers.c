@@ -25,15 +25,10 @@ struct answers_private {
 
 MAKES_WITH(answers, .timer = -1)
 
-/* Opens what wakes the daemon for a response. */
 void start_answers(struct tap_plane *tap) {
     struct answers_private *own = tap->answers;
     own->timer = timerfd_create(CLOCK_MONOTONIC, TFD_NONBLOCK | TFD_CLOEXEC);
     if (own->timer < 0 || !await_input(tap->process->epoll_file, own->timer, RESPONSES)) stop(REFUSED, "no clock", strerror(errno));
-}
-
-static struct answer *first_of(struct waiting *waiting) {
-    return waiting->count > 0 ? &waiting->answers[waiting->first] : NULL;
 }
 
 /* Wakes the daemon for the first response that is due: one that waits for its socket is looked at again in a millisecond. */
@@ -42,8 +37,8 @@ static void wake(struct tap_plane *tap) {
     uint64_t now = milliseconds(), next = UINT64_MAX;
     struct itimerspec at = {{0, 0}, {0, 0}};
     for (uint16_t i = 0; i < tap->ports->count; i++) {
-        const struct answer *answer = first_of(&own->ports[i]);
-        if (answer && answer->due < next) next = answer->due;
+        const struct waiting *waiting = &own->ports[i];
+        if (waiting->count > 0 && waiting->answers[waiting->first].due < next) next = waiting->answers[waiting->first].due;
     }
     if (next <= now) next = now + 1;
     if (next != UINT64_MAX) at.it_value = (struct timespec){(time_t)(next / 1000), (long)(next % 1000) * 1000000};
@@ -55,7 +50,6 @@ bool answer_at_once(struct tap_plane *tap, struct link *link, const uint8_t *res
     return true;
 }
 
-/* Sends the response to a marker later; answers false where too many wait. */
 bool answer_later(struct tap_plane *tap, struct link *link, const uint8_t *response) {
     struct waiting *waiting = &tap->answers->ports[link->settings.number - 1];
     if (waiting->count == MOST_WAITING) return false;
@@ -85,18 +79,19 @@ void forget_answers(struct answers_private *own, uint16_t port) {
 /* Sends what is due on a port, behind the data that came before. */
 static void answer_due(struct tap_plane *tap, uint16_t port) {
     struct waiting *waiting = &tap->answers->ports[port - 1];
-    struct answer *answer = first_of(waiting);
     uint64_t now = milliseconds();
-    if (!answer || answer->due > now) return;
+    if (waiting->count == 0 || waiting->answers[waiting->first].due > now) return;
     if (!has_fast_member(tap->members, port)) receive_data(tap, port);
-    while ((answer = first_of(waiting)) && answer->due <= now && (answer->unread == 0 || has_fast_member(tap->members, port))) {
+    bool is_fast = has_fast_member(tap->members, port);
+    while (waiting->count > 0) {
+        const struct answer *answer = &waiting->answers[waiting->first];
+        if (answer->due > now || (answer->unread > 0 && !is_fast)) return;
         send_frame(tap->protocol, &tap->ports->links[port - 1], answer->frame);
         waiting->first = (waiting->first + 1) % MOST_WAITING;
         waiting->count--;
     }
 }
 
-/* The time of a response came. */
 void serve_answers(struct tap_plane *tap) {
     uint64_t passed;
     (void)!read(tap->answers->timer, &passed, sizeof passed);

@@ -27,43 +27,36 @@ static enum offered offer(struct carry *carry, struct conversation *conversation
 }
 
 static void send_on(struct tap_plane *tap, const struct conversation *conversation, uint8_t *packet, size_t length) {
-    note_sent(tap->flight, conversation->port);
+    tap->silent_since[conversation->port - 1] = 0;
     put_data(tap, conversation->port, (uint16_t)(conversation - tap->carry->conversations), packet, length);
 }
 
-/* Whether a frame of the host may go: of a right length, which each member takes, and none of the slow protocols. */
-static bool is_fit(const struct device *own, const uint8_t *packet, size_t length) {
-    const uint8_t *frame = packet + head_octets();
-    return has_right_length(packet, length, own->most_mtu) && ((unsigned)frame[12] << 8 | frame[13]) != ETH_P_SLOW;
-}
-
-/* A frame of a conversation came. It overtakes none that waits. */
-static void accept_fit(struct tap_plane *tap, struct conversation *conversation, uint16_t number, uint8_t *packet, size_t length) {
-    enum offered offered = LOST;
-    if (tap->carry->active != 0) {
-        conversation->used = true;
-        offered = none_held(tap, number) ? offer(tap->carry, conversation, number) : WAITS;
-    }
-    if (offered == WAITS) keep(tap, number, packet, length);
-    if (offered == GOES) send_on(tap, conversation, packet, length);
-    if (offered == LOST) tap->carry->counts[NONE_CARRIES]++;
-}
-
+/* A frame of the host goes, if each member takes its length, it is none of the slow protocols, and none of its conversation waits. */
 void accept_from_host(struct tap_plane *tap, uint8_t *packet, size_t length) {
+    const uint8_t *frame = packet + head_octets();
+    enum offered offered = LOST;
     uint64_t number;
     tap->carry->counts[FROM_HOST]++;
     if (length < head_octets() + ETH_HLEN
-        || !is_told(tap->process, conversation_of(tap->protocol, packet + head_octets(), length - head_octets()), "niw_conversation", &number)) {
+        || !is_told(tap->process, conversation_of(tap->protocol, frame, length - head_octets()), "niw_conversation", &number)) {
         tap->carry->counts[UNFIT]++;
         return;
     }
     struct conversation *conversation = &tap->carry->conversations[number % CONVERSATIONS];
-    note_taken(conversation, count_segments(packet, length));
+    conversation->fast.touched = true;
+    conversation->fast.taken += count_segments(packet, length);
     if (has_segments(packet)) tap->carry->counts[SEGMENTED]++;
-    if (is_fit(tap->device, packet, length))
-        accept_fit(tap, conversation, (uint16_t)number, packet, length);
-    else
+    if (!has_right_length(packet, length, tap->device->most_mtu) || ((unsigned)frame[12] << 8 | frame[13]) == ETH_P_SLOW) {
         tap->carry->counts[UNFIT]++;
+        return;
+    }
+    if (tap->carry->active != 0) {
+        conversation->used = true;
+        offered = none_held(tap, (uint16_t)number) ? offer(tap->carry, conversation, (uint16_t)number) : WAITS;
+    }
+    if (offered == WAITS) keep(tap, (uint16_t)number, packet, length);
+    if (offered == GOES) send_on(tap, conversation, packet, length);
+    if (offered == LOST) tap->carry->counts[NONE_CARRIES]++;
 }
 
 /* How many frames of the peer came in an aggregator that was active, of those that come here, or by the kernel. */
@@ -113,7 +106,6 @@ static void release(struct tap_plane *tap) {
     CALL(tap->plane->passing->pass_on, tap);
 }
 
-/* The host sees how fast the ports are that carry, and a carrier where there are some. */
 void tell_speed_and_carrier(struct plane *plane) {
     struct tap_plane *tap = plane->tap;
     set_speed(tap->device, sum_speeds(tap));
@@ -134,7 +126,6 @@ void settle_frames(struct plane *plane) {
     tap->carry->to_balance = false;
 }
 
-/* 100 ms passed, where frames come here. */
 void pass_tick_of_frames(struct plane *plane) {
     struct tap_plane *tap = plane->tap;
     begin_carry_tick(tap->carry);

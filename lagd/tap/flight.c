@@ -6,33 +6,18 @@
 /* How long a marker may have no answer while its port distributes, in milliseconds: as a partner of short timeouts is waited for. */
 #define UNANSWERED 3000
 
-struct flight_private {
-    uint64_t silent_since[NIW_MOST_PORTS]; /* the time since which a port holds conversations and does not distribute, or 0 */
-};
-
-MAKES_ROOM(flight)
-
 /* Whether the library tells that a port distributes, or that it does not. */
 static bool distributes(struct protocol *protocol, uint16_t port, bool wanted) {
     struct niw_truth answer = niw_distributes(&protocol->own_system, port);
     return is_done(protocol->process, answer.status, "niw_distributes") && answer.is == wanted;
 }
 
-/* Whether a port does not distribute with a partner: a link that fell silent distributes again, on defaults, 5 s after it stopped, and nobody
- * answers its markers. */
-static bool is_without_partner(struct protocol *protocol, uint16_t port) {
-    return protocol->ports->links[port - 1].view.defaulted || distributes(protocol, port, false);
-}
-
-void note_sent(struct flight_private *own, uint16_t port) {
-    own->silent_since[port - 1] = 0;
-}
-
-/* Frees what is held on a port that does not distribute with a partner, and had no frame, for longer than frames can be on their way. */
+/* Frees what is held on a port that does not distribute with a partner, and had no frame, for longer than frames can be on their way. A link that
+ * fell silent distributes again, on defaults, 5 s after it stopped, and nobody answers its markers. */
 static void watch_port(struct tap_plane *tap, uint16_t port) {
     struct carry *carry = tap->carry;
-    uint64_t held, freed, *since = &tap->flight->silent_since[port - 1];
-    bool holds = is_without_partner(tap->protocol, port)
+    uint64_t held, freed, *since = &tap->silent_since[port - 1];
+    bool holds = (tap->ports->links[port - 1].view.defaulted || distributes(tap->protocol, port, false))
         && is_told(tap->process, niw_held(&tap->protocol->own_system, port), "niw_held", &held) && held > 0;
     if (!holds || *since == 0) *since = holds ? carry->time : 0;
     if (!holds || carry->time - *since < tap->settings->flight) return;
@@ -41,13 +26,6 @@ static void watch_port(struct tap_plane *tap, uint16_t port) {
     carry->counts[FORCED] += freed;
     (void)say(tap->process, LOG_WARNING | ABOUT_DATA, "port %u %s: it carries no more, and %" PRIu64 " conversations leave it", port,
         tap->ports->links[port - 1].name, freed);
-}
-
-/* Loses what has waited for longer than a flight and a second. */
-static void drop_old(struct tap_plane *tap, uint16_t number) {
-    uint64_t came;
-    while (oldest_held(tap, number, &came) && tap->carry->time - came >= tap->settings->flight + 1000u && drop_held(tap, number, HELD_TOO_LONG))
-        continue;
 }
 
 /* Frees a conversation from the port that it is on, or that holds it since nobody answered its marker (`held`): nothing of it was sent for a
@@ -60,16 +38,6 @@ static void set_free(struct carry *carry, struct conversation *conversation, uin
     carry->counts[held ? FORCED : RESTED]++;
     carry->plane->changed = true;
     conversation->since = 0;
-}
-
-/* Towards a peer that answers no markers, a conversation that is still for a flight may go elsewhere, once the kernel passes nothing
- * of it. */
-static void watch_free(struct carry *carry, struct conversation *conversation, uint16_t number, const struct niw_assignment *state) {
-    conversation->since = 0;
-    if (peer_answering(carry->probe) != MUTE || state->what != NIW_CONVERSATION_ON || conversation->fast.port != 0
-        || carry->time - conversation->last < carry->settings->flight)
-        return;
-    set_free(carry, conversation, number, false);
 }
 
 /* A conversation that is held for long goes on: nothing of it was sent since. It waits for a peer that answers markers, which may have
@@ -85,17 +53,23 @@ static void watch_held(struct carry *carry, struct conversation *conversation, u
 static void watch_conversation(struct tap_plane *tap, uint16_t number, uint64_t *again) {
     struct conversation *conversation = &tap->carry->conversations[number];
     struct niw_assignment state;
-    drop_old(tap, number);
+    uint64_t came, longest = tap->settings->flight + 1000u;
+    while (oldest_held(tap, number, &came) && tap->carry->time - came >= longest && drop_held(tap, number, HELD_TOO_LONG)) continue;
     if (conversation->used) conversation->last = tap->carry->time;
     conversation->used = false;
     if (conversation->home == 0 || !ask_state(tap->protocol, conversation->home, number, &state)) return;
     bool away = conversation->home != tap->carry->active && tap->carry->active != 0 && state.what == NIW_CONVERSATION_ON;
     if (state.what == NIW_CONVERSATION_FLUSHING && state.age > 0 && state.age % AGAIN_TICKS == 0)
         *again |= (uint64_t)1 << (state.port - 1);
-    if (is_held(&state) || (away && !none_held(tap, number)))
+    if (is_held(&state) || (away && !none_held(tap, number))) {
         watch_held(tap->carry, conversation, number, &state);
-    else
-        watch_free(tap->carry, conversation, number, &state);
+        return;
+    }
+    conversation->since = 0;
+    /* Towards a peer that answers no markers, what is still for a flight may go elsewhere, once the kernel passes nothing of it. */
+    if (peer_answering(tap->carry->probe) == MUTE && state.what == NIW_CONVERSATION_ON && conversation->fast.port == 0
+        && tap->carry->time - conversation->last >= tap->settings->flight)
+        set_free(tap->carry, conversation, number, false);
 }
 
 void pass_flight_tick(struct tap_plane *tap) {

@@ -2,24 +2,85 @@
  * and hand them to its own network stack. */
 #include "tap.h"
 
+/* What puts received frames together, so that a marker may overtake data: GRO by the kernel, and by the card, and LRO (ethtool). A bit each. */
+static const char *const joining[] = {"rx-gro", "rx-gro-hw", "rx-lro"};
+#define JOINED_BY_KERNEL 1u
+#define JOINING (sizeof joining / sizeof *joining)
+/* The most features of an interface, and the words of 32 bits that have a bit for each. */
+#define MOST_FEATURES 256
+#define WORDS (MOST_FEATURES / 32)
+
+/* A question to a driver, with room for what it answers. */
+#define QUESTION(kind, octets) union { uint8_t room[sizeof(struct kind) + (octets)]; struct kind about; }
+
+static uint32_t count_features(int index) {
+    QUESTION(ethtool_sset_info, sizeof(uint32_t)) told = {{0}};
+    told.about.cmd = ETHTOOL_GSSET_INFO;
+    told.about.sset_mask = 1ULL << ETH_SS_FEATURES;
+    return ask_driver(index, &told) && told.about.sset_mask != 0 && told.about.data[0] <= MOST_FEATURES ? told.about.data[0] : 0;
+}
+
+/* Writes the number that the kernel has for each way; for one that it does not know, how many features it has, which is the answer. */
+static uint32_t find_joining(int index, uint32_t places[static JOINING]) {
+    QUESTION(ethtool_gstrings, MOST_FEATURES * ETH_GSTRING_LEN) told = {{0}};
+    uint32_t count = count_features(index);
+    told.about.cmd = ETHTOOL_GSTRINGS;
+    told.about.string_set = ETH_SS_FEATURES;
+    told.about.len = count;
+    if (count == 0 || !ask_driver(index, &told)) return 0;
+    for (size_t i = 0; i < JOINING; i++)
+        for (places[i] = 0; places[i] < count; places[i]++)
+            if (strncmp((char *)told.about.data + places[i] * ETH_GSTRING_LEN, joining[i], ETH_GSTRING_LEN) == 0) break;
+    return count;
+}
+
+struct joins {
+    unsigned on, wanted;
+};
+
+/* Which of the ways to join frames are on, and which are wanted: one that is wanted may be off while another one is on. */
+static struct joins read_joins(int index) {
+    QUESTION(ethtool_gfeatures, WORDS * sizeof(struct ethtool_get_features_block)) told = {{0}};
+    uint32_t places[JOINING], count = find_joining(index, places);
+    struct joins joins = {0};
+    told.about.cmd = ETHTOOL_GFEATURES;
+    told.about.size = WORDS;
+    if (count == 0 || !ask_driver(index, &told)) return joins;
+    for (size_t i = 0; i < JOINING; i++) {
+        if (places[i] == count) continue;
+        joins.on |= (told.about.features[places[i] / 32].active >> places[i] % 32 & 1) << i;
+        joins.wanted |= (told.about.features[places[i] / 32].requested >> places[i] % 32 & 1) << i;
+    }
+    return joins;
+}
+
+/* Has these ways wanted, and no other one. */
+static void set_joins(int index, unsigned wanted) {
+    QUESTION(ethtool_sfeatures, WORDS * sizeof(struct ethtool_set_features_block)) told = {{0}};
+    uint32_t places[JOINING], count = find_joining(index, places);
+    told.about.cmd = ETHTOOL_SFEATURES;
+    told.about.size = (count + 31) / 32;
+    for (size_t i = 0; count > 0 && i < JOINING; i++) {
+        if (places[i] == count) continue;
+        told.about.features[places[i] / 32].valid |= 1u << places[i] % 32;
+        told.about.features[places[i] / 32].requested |= (wanted >> i & 1) << places[i] % 32;
+    }
+    if (count > 0) (void)ask_driver(index, &told);
+}
+
 /* A line about what troubles the data of a member, and why, where there is more to tell. */
 void warn_of(struct process *process, const struct link *link, const char *what, const char *why) {
     (void)say(process, LOG_WARNING | ABOUT_DATA, "port %u %s: %s%s%s", link->settings.number, link->name, what, why ? ": " : "", why ? why : "");
 }
 
-/* How many queues the kernel has for one direction of an interface whose driver does not tell. */
-static unsigned count_queues(int index) {
-    unsigned sends = count_entries(index, "tx-"), receives = count_entries(index, "rx-");
-    if (receives == 0) receives = 1;
-    return sends > receives ? sends : receives;
-}
-
-/* How many queues an interface has for one direction, as `channels` tells in full: in several of them a marker may overtake data. */
+/* How many queues an interface has for one direction, as `channels` tells in full: in several of them a marker may overtake data. Of a driver
+ * that does not tell, those that the kernel has. */
 static unsigned queues_of(int index, struct ethtool_channels *channels) {
     *channels = (struct ethtool_channels){.cmd = ETHTOOL_GCHANNELS};
-    if (!ask_driver(index, channels)) return count_queues(index);
-    uint32_t more = channels->rx_count > channels->tx_count ? channels->rx_count : channels->tx_count;
-    return channels->combined_count + more;
+    bool told = ask_driver(index, channels);
+    unsigned sends = told ? channels->tx_count : count_sending_queues(index), receives = told ? channels->rx_count : count_entries(index, "rx-");
+    if (!told && receives == 0) receives = 1;
+    return channels->combined_count + (sends > receives ? sends : receives);
 }
 
 static void give_one_queue(int index) {
@@ -44,20 +105,9 @@ static bool part_queues(int index, struct ethtool_channels *wanted) {
     return has_channels(index, wanted) || ask_driver(index, wanted) || has_channels(index, wanted);
 }
 
-static void look_before(const struct plane *plane, const struct link *link, struct kept *before) {
-    *before = (struct kept){.joins = read_joins(link->index).wanted};
-    if (queues_of(link->index, &before->queues) <= 1) before->queues = (struct ethtool_channels){0};
-    if (!plane->passing->steers || !read_steering(link->index, before->steered)) before->steered[0] = 0;
-}
-
 /* Whether an interface has no queueing discipline yet: it gets one when it comes up. */
 static bool is_unqueued(const struct link *link) {
     return strcmp(link->discipline, "noop") == 0;
-}
-
-/* How many queues of an interface have a discipline of their own: all of them, where it keeps them. */
-unsigned count_fifos(int index) {
-    return count_entries(index, "tx-");
 }
 
 /* Sees whether what is sent at an interface keeps its order in its queueing discipline. Frames of several segments have to go through
@@ -118,26 +168,20 @@ static unsigned joins_allowed(const struct settings *settings, const struct link
     return guard->spread && guard->fast && keeps_briefly(settings, link->index) ? JOINED_BY_KERNEL : 0;
 }
 
-/* A member that has one queue, as this daemon or an earlier one gave it, gets back what it had, where it may keep that. How many others give it
- * meanwhile, it is to have behind the daemon. */
-static void regain_queues(int folder, const struct link *link, struct ethtool_channels *before) {
-    struct ethtool_channels now;
-    if (queues_of(link->index, &now) > 1)
-        *before = now;
-    else if (may_spread(folder, link))
-        (void)part_queues(link->index, before);
-}
-
 bool join_queues(struct tap_plane *tap, struct link *link, struct guard *guard, bool again) {
     look_at_discipline(tap, link, guard);
     if (!again) give_one_queue(link->index);
     return true;
 }
 
-/* Lets a member keep all its queues, where it can, or gives it one; answers false where it has no queue yet: it is looked at again then. */
+/* Lets a member keep all its queues, where it can, or gives it one. One that has one queue, as this daemon or an earlier one gave it, gets back
+ * what it had. How many others give it meanwhile, it is to have behind the daemon. */
 bool keep_queues(struct tap_plane *tap, struct link *link, struct guard *guard, bool again UNUSED) {
-    struct ethtool_channels *before = &guard->before.queues;
-    regain_queues(tap->process->folder, link, before);
+    struct ethtool_channels now, *before = &guard->before.queues;
+    if (queues_of(link->index, &now) > 1)
+        *before = now;
+    else if (may_spread(tap->process->folder, link))
+        (void)part_queues(link->index, before);
     look_at_discipline(tap, link, guard);
     if (is_unqueued(link)) return false;
     spread(tap, link, guard);
@@ -147,7 +191,6 @@ bool keep_queues(struct tap_plane *tap, struct link *link, struct guard *guard, 
     return true;
 }
 
-/* Runs the programs of a member that has none yet. */
 static void run_programs(struct tap_plane *tap, const struct link *link, struct guard *guard) {
     tap->plane->passing->run_programs(tap, link, guard);
     if (guard->before.joins != 0) set_joins(link->index, guard->before.joins & joins_allowed(tap->settings, link, guard));
@@ -173,9 +216,11 @@ void reopen_guard(struct tap_plane *tap, struct link *link, struct guard *guard)
 /* Prepares an interface. What it cannot be kept from has a line. */
 void open_guard(struct tap_plane *tap, struct link *link, struct guard *guard) {
     struct ethtool_channels queues;
-    *guard = (struct guard){.opened = -1, .chooser = -1, .queues = 1};
-    look_before(tap->plane, link, &guard->before);
-    keep_settings(tap->process, link, &guard->before);
+    struct kept *before = &guard->before;
+    *guard = (struct guard){.opened = -1, .chooser = -1, .queues = 1, .before.joins = read_joins(link->index).wanted};
+    if (queues_of(link->index, &before->queues) <= 1) before->queues = (struct ethtool_channels){0};
+    if (!tap->plane->passing->steers || !read_steering(link->index, before->steered)) before->steered[0] = 0;
+    keep_settings(tap->process, link, before);
     bool has_queues = tap->plane->queueing->set(tap, link, guard, false);
     run_programs(tap, link, guard);
     if ((read_joins(link->index).on & ~joins_allowed(tap->settings, link, guard)) != 0)

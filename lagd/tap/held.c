@@ -41,22 +41,20 @@ static struct pool *pool_of(struct held_private *own, uint32_t at) {
 }
 
 static struct slot *slot_of(struct held_private *own, uint32_t at) {
-    struct pool *pool = pool_of(own, at);
+    const struct pool *pool = pool_of(own, at);
     return (struct slot *)(void *)(pool->slots + (size_t)((at & ~LARGE) - 1) * pool->octets);
 }
 
-/* Sets how many slots a pool has; answers their octets. */
-static size_t size_pool(struct pool *pool, size_t room, uint32_t most) {
-    pool->octets = (sizeof(struct slot) + room + 15) / 16 * 16;
-    pool->most = most;
-    return pool->octets * most;
+static size_t slot_octets(size_t room) {
+    return (sizeof(struct slot) + room + 15) / 16 * 16;
 }
 
 /* Takes all memory. Its pages are in use once they are written. */
 void start_held(struct tap_plane *tap) {
     struct held_private *own = tap->held;
-    size_t before = size_pool(&own->small, SMALL_ROOM, MOST_WAIT);
-    size_t behind = size_pool(&own->large, packet_room(), MOST_LARGE);
+    own->small = (struct pool){.octets = slot_octets(SMALL_ROOM), .most = MOST_WAIT};
+    own->large = (struct pool){.octets = slot_octets(packet_room()), .most = MOST_LARGE};
+    size_t before = own->small.octets * MOST_WAIT, behind = own->large.octets * MOST_LARGE;
     own->small.slots = mmap(NULL, before + behind, PROT_READ | PROT_WRITE, MAP_PRIVATE | MAP_ANONYMOUS | MAP_NORESERVE, -1, 0);
     if (own->small.slots == MAP_FAILED) stop(REFUSED, "no room for held frames", strerror(errno));
     own->large.slots = own->small.slots + before;
@@ -126,20 +124,22 @@ bool oldest_held(struct tap_plane *tap, uint16_t number, uint64_t *came) {
 /* Puts a packet behind those of its conversation; answers whether there was room. */
 bool put_held(struct tap_plane *tap, uint16_t number, const uint8_t *packet, size_t length) {
     struct held_private *own = tap->held;
-    uint32_t at = claim_slot(tap->held, length > SMALL_ROOM ? &own->large : &own->small), status;
+    uint32_t at = claim_slot(own, length > SMALL_ROOM ? &own->large : &own->small);
     if (at == NONE) return false;
-    status = niw_queue_put(&own->queues, number, at);
+    uint32_t status = niw_queue_put(&own->queues, number, at);
     if (status == NIW_CONVERSATION_FULL || status == NIW_ALL_FULL || !is_done(tap->process, status, "niw_queue_put")) {
-        free_slot(tap->held, at);
+        free_slot(own, at);
         return false;
     }
-    slot_of(tap->held, at)->length = (uint32_t)length;
-    slot_of(tap->held, at)->came = tap->carry->time;
-    memcpy(slot_of(tap->held, at)->packet, packet, length);
+    struct slot *slot = slot_of(own, at);
+    slot->length = (uint32_t)length;
+    slot->came = tap->carry->time;
+    memcpy(slot->packet, packet, length);
     tap->carry->waiting = true;
     return true;
 }
 
+/* Loses the oldest frame of a conversation; answers whether one waits. */
 bool drop_held(struct tap_plane *tap, uint16_t number, enum carry_count why) {
     struct niw_queued queued = niw_queue_drop(&tap->held->queues, number);
     uint32_t at = slot_told(tap->process, &queued, "niw_queue_drop");
@@ -149,17 +149,17 @@ bool drop_held(struct tap_plane *tap, uint16_t number, enum carry_count why) {
     return true;
 }
 
-/* Takes the oldest frame of a conversation out, to be sent; answers NULL where none is told. Its packet stays where it is until
- * free_left. */
+/* Takes the oldest frame of a conversation out, to be sent; answers NULL where none is told. Its packet stays there until free_left. */
 uint8_t *remove_held(struct tap_plane *tap, uint16_t number, size_t *length) {
     struct held_private *own = tap->held;
     struct niw_queued queued = niw_queue_next(&own->queues, number);
     uint32_t at = slot_told(tap->process, &queued, "niw_queue_next");
     if (at == NONE) return NULL;
-    slot_of(tap->held, at)->next = own->leaving;
+    struct slot *slot = slot_of(own, at);
+    slot->next = own->leaving;
     own->leaving = at;
-    *length = slot_of(tap->held, at)->length;
-    return slot_of(tap->held, at)->packet;
+    *length = slot->length;
+    return slot->packet;
 }
 
 /* All that was on its way was sent. */

@@ -51,7 +51,7 @@ bool is_cutting(struct tap_plane *tap) {
     return tap->host->count > 0 && !tap->process->broken;
 }
 
-/* Takes segments of a packet from this one on, so many at most; answers how many. */
+/* Takes up to `most` segments of a packet from this one on; answers how many. */
 static unsigned cut_segments(struct tap_plane *tap, const struct cut *cut, uint32_t from, unsigned most) {
     struct host_private *own = tap->host;
     unsigned taken = 0;
@@ -132,11 +132,8 @@ static unsigned accept_in_turn(struct tap_plane *tap, uint8_t *packet, size_t le
 static unsigned read_next(struct tap_plane *tap, uint8_t *packet) {
     if (tap->process->broken) return 0;
     ssize_t length = read(tap->host->tap, packet, packet_room());
-    if (length < 0 && (errno == EAGAIN || errno == EINTR)) return 0;
-    if (length < 0 && (errno == EBADFD || errno == EIO || errno == ENODEV)) {
-        lose_device(tap->plane);
-        return 0;
-    }
+    if (length < 0 && (errno == EBADFD || errno == EIO || errno == ENODEV)) lose_device(tap->plane);
+    if (length < 0 && (tap->process->broken || errno == EAGAIN || errno == EINTR)) return 0;
     if (length >= (ssize_t)head_octets() && !tap->plane->segments) return accept_in_turn(tap, packet, (size_t)length);
     accept_from_host(tap, packet, length < 0 ? 0 : (size_t)length); /* one that cannot be read has no octets */
     return 1;
@@ -176,18 +173,12 @@ void serve_data(struct tap_plane *tap, uint32_t tag) {
     if (tag == HOST) read_host(tap);
 }
 
-/* The link of a port goes down: nothing goes there from here on. */
 void lose_data(struct plane *plane, uint16_t port) {
     struct tap_plane *tap = plane->tap;
     CALL(plane->passing->withdraw_port, tap, port);
     forget_answers(tap->answers, port);
 }
 
-int passing_member_of(struct plane *plane, uint16_t number) {
-    return ASK(plane->passing->member_of, 0, plane->tap, number);
-}
-
-/* Makes the TAP device, and what members are given and have taken away. */
 void open_tap_plane(struct plane *plane) {
     struct tap_plane *tap = plane->tap;
     struct host_private *own = tap->host;
@@ -195,7 +186,7 @@ void open_tap_plane(struct plane *plane) {
     own->segments = make_rooms();
     own->rooms = make_rooms();
     start_held(tap);
-    start_members(tap->members);
+    tap->rooms = make_rooms();
     tap->dropper = load_program(tap->settings, "dropper", NULL);
     CALL(plane->queueing->start, tap);
     need(on_exit(put_back_members, tap) == 0, "on_exit");
@@ -205,7 +196,6 @@ void open_tap_plane(struct plane *plane) {
     if (!await_input(tap->process->epoll_file, own->tap, HOST)) stop(REFUSED, "epoll", strerror(errno));
 }
 
-/* Members are as they were before, and the device goes with the program. */
 void end_tap_plane(struct plane *plane) {
     struct tap_plane *tap = plane->tap;
     await_no_more(tap->process->epoll_file, tap->host->tap);

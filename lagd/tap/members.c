@@ -30,7 +30,6 @@ struct members_private {
         struct iovec parts[BATCH];
         struct mmsghdr messages[BATCH];
     } members[NIW_MOST_PORTS];
-    uint8_t *member_packets; /* for the packets of a batch */
 };
 
 struct members_private *make_members_private(void) {
@@ -107,8 +106,8 @@ static bool set_packet(int fd, int what, int value) {
 
 /* Has what is sent go round a queueing discipline that does not keep the order: fq_codel has a queue for each flow, and a marker would
  * overtake the data before it. */
-static bool set_bypass(int fd, bool in_order) {
-    return set_packet(fd, PACKET_QDISC_BYPASS, !in_order);
+static bool set_bypass(int fd, const struct guard *guard) {
+    return set_packet(fd, PACKET_QDISC_BYPASS, !guard->in_order);
 }
 
 /* What the socket for data has more: room, frames to all addresses, and a head before each frame. */
@@ -116,65 +115,53 @@ static bool set_up_data(int fd, int index, const struct guard *guard) {
     struct packet_mreq all = {index, PACKET_MR_PROMISC, 0, {0}};
     enlarge(fd, SO_RCVBUFFORCE, SO_RCVBUF);
     enlarge(fd, SO_SNDBUFFORCE, SO_SNDBUF);
-    return set_bypass(fd, guard->in_order) && set_packet(fd, PACKET_VNET_HDR, 1)
-        && setsockopt(fd, SOL_PACKET, PACKET_ADD_MEMBERSHIP, &all, sizeof all) == 0;
-}
-
-/* Lets a socket have what it is for. */
-static bool filter_kind(int fd, enum socket_kind kind, const struct link *link, const struct guard *guard) {
-    if (kind == MARKERS) return filter_marked(fd, link->settings.number);
-    return kind == DATA && guard->fast ? filter_marked(fd, 0) : filter(fd, true);
+    return set_bypass(fd, guard) && set_packet(fd, PACKET_VNET_HDR, 1) && setsockopt(fd, SOL_PACKET, PACKET_ADD_MEMBERSHIP, &all, sizeof all) == 0;
 }
 
 /* Opens a socket of a member; answers it, or -errno. One for all protocols has markers before the filters and bridges of an administrator,
- * which may take frames away there. */
+ * which may take frames away there. Where the kernel hands up what comes, nothing comes by that for data. */
 static int open_socket(struct tap_plane *tap, const struct link *link, const struct guard *guard, enum socket_kind kind) {
     int index = kind == MARKERS ? tap_index(tap->device) : link->index;
     struct sockaddr_ll address = {.sll_family = AF_PACKET, .sll_protocol = htons(kind == DIRECT ? ETH_P_SLOW : ETH_P_ALL), .sll_ifindex = index};
     int fd = packet_socket(tap->process, SOCKET_NAMES[kind], link->index, index, SOCK_RAW);
+    bool only_sends = kind == DATA && guard->fast, filtered;
     if (fd < 0) return fd;
     (void)set_packet(fd, PACKET_IGNORE_OUTGOING, 1);
-    if (filter_kind(fd, kind, link, guard) && (kind != DATA || set_up_data(fd, index, guard)) && set_packet(fd, PACKET_AUXDATA, 1)
-        && bind(fd, (struct sockaddr *)&address, sizeof address) == 0)
+    if (only_sends || kind == MARKERS)
+        filtered = filter_marked(fd, only_sends ? 0 : link->settings.number);
+    else
+        filtered = filter(fd, true);
+    if (filtered && (kind != DATA || set_up_data(fd, index, guard)) && set_packet(fd, PACKET_AUXDATA, 1)
+        && bind(fd, (struct sockaddr *)&address, sizeof address) == 0
+        && (only_sends || await_input(tap->process->epoll_file, fd, MEMBERS + link->settings.number - 1u))) {
+        put_stored(tap->process->store, SOCKET_NAMES[kind], link->index, fd);
         return fd;
+    }
     close_stored(tap->process->store, SOCKET_NAMES[kind], link->index, fd);
     return last_fault();
 }
 
-void start_members(struct members_private *own) {
-    own->member_packets = make_rooms();
-}
-
-static void close_sockets(struct tap_plane *tap, struct member *member) {
-    int index = tap->ports->links[member - tap->members->members].index;
+static void close_sockets(struct tap_plane *tap, const struct link *link, struct member *member) {
     for (enum socket_kind kind = DATA; kind < SOCKETS; kind++) {
-        if (member->sockets[kind] >= 0) close_stored(tap->process->store, SOCKET_NAMES[kind], index, member->sockets[kind]);
+        if (member->sockets[kind] >= 0) close_stored(tap->process->store, SOCKET_NAMES[kind], link->index, member->sockets[kind]);
         member->sockets[kind] = -1;
     }
 }
 
-/* Opens the sockets of a member; where the kernel hands up what comes, nothing comes by that for data. */
-static int open_sockets(struct tap_plane *tap, struct member *member, const struct link *link) {
-    const struct guard *guard = &member->guard;
-    uint32_t tag = MEMBERS + (uint32_t)(member - tap->members->members);
-    for (enum socket_kind kind = DATA; kind < (guard->fast ? SOCKETS : MARKERS); kind++) {
-        member->sockets[kind] = open_socket(tap, link, guard, kind);
-        if (member->sockets[kind] < 0) return member->sockets[kind];
-        if ((kind != DATA || !guard->fast) && !await_input(tap->process->epoll_file, member->sockets[kind], tag)) return last_fault();
-    }
-    return 0;
+/* An interface is no member any more, and has what it had before. */
+static void release_member(struct tap_plane *tap, const struct link *link, struct member *member) {
+    close_sockets(tap, link, member);
+    close_guard(tap, link, &member->guard);
 }
 
 /* Opens the sockets of a member whose programs run; answers 0, or -errno, and then it is no member any more. */
-static int open_or_close(struct tap_plane *tap, struct member *member, const struct link *link) {
-    int fault = open_sockets(tap, member, link);
-    if (fault != 0) {
-        close_sockets(tap, member);
-        close_guard(tap, link, &member->guard);
-        return fault;
+static int open_sockets(struct tap_plane *tap, const struct link *link, struct member *member) {
+    for (enum socket_kind kind = DATA; kind < (member->guard.fast ? SOCKETS : MARKERS); kind++) {
+        int opened = member->sockets[kind] = open_socket(tap, link, &member->guard, kind);
+        if (opened >= 0) continue;
+        release_member(tap, link, member);
+        return opened;
     }
-    for (enum socket_kind kind = DATA; kind < SOCKETS; kind++)
-        if (member->sockets[kind] >= 0) put_stored(tap->process->store, SOCKET_NAMES[kind], link->index, member->sockets[kind]);
     begin_queues(tap->queues, link->settings.number, member->guard.queues);
     return 0;
 }
@@ -185,7 +172,7 @@ int open_member(struct plane *plane, struct link *link) {
     if (!filter(link->socket, false)) return last_fault();
     open_guard(tap, link, &member->guard);
     member->has_marker = false;
-    return open_or_close(tap, member, link);
+    return open_sockets(tap, link, member);
 }
 
 /* Frames that came while the socket was full. */
@@ -201,13 +188,12 @@ static bool renew_member(struct tap_plane *tap, struct link *link) {
     struct member *member = member_of(tap, link);
     CALL(tap->plane->passing->withdraw_port, tap, link->settings.number);
     count_loss(member);
-    close_sockets(tap, member);
+    close_sockets(tap, link, member);
     reopen_guard(tap, link, &member->guard);
     tap->plane->changed = true;
-    return open_or_close(tap, member, link) == 0;
+    return open_sockets(tap, link, member) == 0;
 }
 
-/* Others changed the queues of a member. */
 static bool renew_changed(struct tap_plane *tap, struct link *link) {
     (void)say(tap->process, LOG_NOTICE | ABOUT_DATA, "port %u %s: its queues were changed", link->settings.number, link->name);
     return renew_member(tap, link);
@@ -227,7 +213,7 @@ bool renew_for_discipline(struct plane *plane, struct link *link) {
     if (!is_open(member)) return true;
     if (plane->renews) return renew_member(tap, link);
     look_at_discipline(tap, link, &member->guard);
-    return set_bypass(member->sockets[DATA], member->guard.in_order);
+    return set_bypass(member->sockets[DATA], &member->guard);
 }
 
 void follow_address(struct plane *plane, struct link *link, const uint8_t *mac) {
@@ -238,15 +224,13 @@ void follow_address(struct plane *plane, struct link *link, const uint8_t *mac) 
 
 /* What a member had before it was one stays known by its new MAC address, also where this daemon is killed. */
 void move_member(struct plane *plane, struct link *link, const uint8_t *mac) {
-    struct tap_plane *tap = plane->tap;
-    struct member *member = member_of(tap, link);
+    const struct member *member = member_of(plane->tap, link);
     if (!is_open(member)) return;
-    move_former(tap->process, link, mac);
-    write_settings(tap->process, link, &member->guard.before);
+    move_former(plane->tap->process, link, mac);
+    write_settings(plane->tap->process, link, &member->guard.before);
 }
 
-/* A queueing discipline of an interface came, changed or went: where each queue has one of the daemon, others may have put another one there,
- * or taken theirs away. Answers whether the member is still taken up. */
+/* A queueing discipline of an interface changed: where each queue has one of the daemon, others may have put another one there, or taken theirs. */
 bool follow_member_queues(struct tap_plane *tap, struct link *link) {
     struct member *member = member_of(tap, link);
     bool kept = link->has_fifos ? have_order(link->index) : member->guard.in_order || !may_have_order(link->index);
@@ -254,8 +238,7 @@ bool follow_member_queues(struct tap_plane *tap, struct link *link) {
     return renew_changed(tap, link);
 }
 
-/* Looks at the queues of all members, each second: one whose queues others changed is taken up anew, and one that has the number of queues of
- * the others by now. */
+/* Each second a member is taken up anew whose queues others changed, or that has the number of queues of the others by now. */
 void watch_queues(struct tap_plane *tap) {
     if (ticks_passed(tap->protocol->system) % SECOND != 0) return;
     EACH_LINK(link, tap->ports) {
@@ -279,18 +262,15 @@ void count_losses(struct tap_plane *tap) {
     for (uint16_t i = 0; i < tap->ports->count; i++) count_loss(&tap->members->members[i]);
 }
 
-/* The interface is gone, or the daemon ends. */
 void close_member(struct plane *plane, struct link *link) {
     struct tap_plane *tap = plane->tap;
     struct member *member = member_of(tap, link);
     if (!is_open(member)) return;
     lose_data(plane, link->settings.number);
     count_loss(member);
-    close_sockets(tap, member);
-    close_guard(tap, link, &member->guard);
+    release_member(tap, link, member);
 }
 
-/* Another interface is to be this member: its counts begin anew. */
 void forget_member(struct plane *plane, uint16_t port) {
     struct member *member = &plane->tap->members->members[port - 1];
     memset(member->counts, 0, sizeof member->counts);
@@ -303,25 +283,23 @@ void put_back_members(int status UNUSED, void *given) {
     struct tap_plane *tap = given;
     EACH_LINK(link, tap->ports) {
         struct member *member = member_of(tap, link);
-        if (tap->process->has_left || !is_open(member)) continue;
-        close_sockets(tap, member);
-        close_guard(tap, link, &member->guard);
+        if (!tap->process->has_left && is_open(member)) release_member(tap, link, member);
     }
 }
 
 /* The TAP device takes what each member takes; 0: there is no such member any more. */
 void follow_member_mtu(struct plane *plane, struct link *link, uint32_t mtu) {
     struct tap_plane *tap = plane->tap;
-    struct members_private *own = tap->members;
-    uint32_t least = 0;
+    uint32_t least = UINT32_MAX;
     if (member_of(tap, link)->mtu == mtu) return;
     member_of(tap, link)->mtu = mtu;
-    for (uint16_t i = 0; i < tap->ports->count; i++)
-        if (own->members[i].mtu > 0 && (least == 0 || own->members[i].mtu < least)) least = own->members[i].mtu;
-    if (least != 0) limit_mtu(tap->device, least);
+    for (uint16_t i = 0; i < tap->ports->count; i++) {
+        uint32_t most = tap->members->members[i].mtu;
+        if (most > 0 && most < least) least = most;
+    }
+    if (least != UINT32_MAX) limit_mtu(tap->device, least);
 }
 
-/* The kernel told of an interface whose link is up, which may have another speed. */
 void follow_speed(struct plane *plane, const struct link *link) {
     uint32_t now = read_speed(link->socket, link->index).megabits;
     member_of(plane->tap, link)->megabits = now == (uint32_t)SPEED_UNKNOWN ? 0 : now;
@@ -337,12 +315,11 @@ uint32_t sum_speeds(struct tap_plane *tap) {
 }
 
 /* Sends what waits for a member. A frame that the kernel does not take is lost, as on a wire. */
-static void flush_member(struct changes_private *own, struct member *member) {
-    unsigned at = 0;
-    while (at < member->out) {
+static void flush_member(struct tap_plane *tap, struct member *member) {
+    for (unsigned at = 0; at < member->out;) {
         int sent = is_open(member) ? sendmmsg(member->sockets[DATA], member->messages + at, member->out - at, 0) : -1;
         if (sent < 0 && is_open(member) && errno == EINTR) continue;
-        if (sent < 0) suspect_carriers(own);
+        if (sent < 0) suspect_carriers(tap->protocol->changes);
         member->counts[sent > 0 ? DATA_SENT : DATA_UNSENT] += sent > 0 ? (unsigned)sent : 1;
         at += sent > 0 ? (unsigned)sent : 1;
     }
@@ -350,16 +327,14 @@ static void flush_member(struct changes_private *own, struct member *member) {
 }
 
 void flush_data(struct tap_plane *tap) {
-    struct members_private *own = tap->members;
-    for (uint16_t i = 0; i < tap->ports->count; i++)
-        if (own->members[i].out > 0) flush_member(tap->protocol->changes, &own->members[i]);
+    EACH_LINK(link, tap->ports) flush_member(tap, member_of(tap, link));
     free_left(tap->held);
 }
 
 /* Puts a packet of a conversation behind those that wait for a port. It stays where it is until flush_data. */
 void put_data(struct tap_plane *tap, uint16_t port, uint16_t number, uint8_t *packet, size_t length) {
     struct member *member = &tap->members->members[port - 1];
-    if (member->out == BATCH) flush_member(tap->protocol->changes, member);
+    if (member->out == BATCH) flush_member(tap, member);
     member->parts[member->out] = (struct iovec){packet, length};
     member->messages[member->out].msg_hdr = (struct msghdr){.msg_iov = &member->parts[member->out], .msg_iovlen = 1};
     CALL(tap->plane->queueing->mark, tap, port, number, &member->messages[member->out].msg_hdr);
@@ -387,7 +362,7 @@ bool send_by_one_queue(struct tap_plane *tap, struct link *link, const uint8_t *
 /* Sends a marker behind the data of its port, by the same socket: by another one, of another priority, it would overtake them. What the
  * kernel passes on and no longer may is taken back before. */
 static bool send_marker(struct tap_plane *tap, struct link *link, const uint8_t *marker, bool again) {
-    flush_member(tap->protocol->changes, member_of(tap, link));
+    flush_member(tap, member_of(tap, link));
     CALL(tap->plane->passing->withdraw, tap);
     return tap->plane->queueing->send_marker(tap, link, marker, again);
 }
@@ -403,8 +378,8 @@ void send_new_marker(struct plane *plane, struct link *link, const uint8_t *fram
 
 /* Sends the last marker of a port again: a cable may repeat control frames, and may lose one. Answers whether it went. */
 bool send_marker_again(struct tap_plane *tap, uint16_t port) {
-    struct members_private *own = tap->members;
-    return own->members[port - 1].has_marker && send_marker(tap, &tap->ports->links[port - 1], own->members[port - 1].marker, true);
+    const struct member *member = &tap->members->members[port - 1];
+    return member->has_marker && send_marker(tap, &tap->ports->links[port - 1], member->marker, true);
 }
 
 void accept_only_response(struct tap_plane *tap, struct link *link, const struct arrival *arrival, uint32_t id UNUSED) {
@@ -415,39 +390,30 @@ void accept_only_response(struct tap_plane *tap, struct link *link, const struct
 void accept_response_of_queue(struct tap_plane *tap, struct link *link, const struct arrival *arrival, uint32_t id) {
     uint8_t frame[NIW_FRAME];
     struct arrival last = {frame, sizeof frame, arrival->packet_type, arrival->index, arrival->tagged};
-    if (ends_flight(tap->queues, link, &id)) {
-        memcpy(frame, arrival->frame, sizeof frame);
-        set_identifier(frame, id);
-        accept_response(tap->protocol, link, &last);
-    } else if (!is_done(tap->process, niw_count_received(&link->counters, arrival->frame, arrival->length, NIW_RECEIVED_RELEASED),
-        "niw_count_received")) {
+    if (!ends_flight(tap->queues, link, &id)) {
+        uint32_t status = niw_count_received(&link->counters, arrival->frame, arrival->length, NIW_RECEIVED_RELEASED);
+        (void)!is_done(tap->process, status, "niw_count_received");
         return;
     }
+    memcpy(frame, arrival->frame, sizeof frame);
+    set_identifier(frame, id);
+    accept_response(tap->protocol, link, &last);
 }
 
 /* Hands a frame of data to the library, and up. */
 static void deliver(struct tap_plane *tap, struct link *link, uint8_t *packet, size_t length) {
-    struct member *member = member_of(tap, link);
+    const uint8_t *frame = packet + head_octets();
     uint8_t response[NIW_FRAME];
-    size_t octets = length - head_octets() < LONGEST_SHOWN ? length - head_octets() : LONGEST_SHOWN;
-    struct niw_received received = niw_receive(&tap->protocol->own_system, link->settings.number, packet + head_octets(), octets, response,
-        sizeof response);
+    size_t shown = length - head_octets() < LONGEST_SHOWN ? length - head_octets() : LONGEST_SHOWN;
+    struct niw_received received = niw_receive(&tap->protocol->own_system, link->settings.number, frame, shown, response, sizeof response);
     if (is_done(tap->process, received.status, "niw_receive") && received.what == NIW_RECEIVED_HANDED_UP)
         hand_up(tap, received.number, packet, length);
     else
-        member->counts[UNCOLLECTED]++;
+        member_of(tap, link)->counts[UNCOLLECTED]++;
 }
 
-/* A marker goes the way of all slow protocols. One that the kernel handed up to the TAP device came by its member. */
-static void accept_slow(struct tap_plane *tap, struct link *link, const struct sockaddr_ll *from, bool handed_up, const uint8_t *frame,
-    size_t length) {
-    struct arrival arrival = {frame, length, from->sll_pkttype, handed_up ? link->index : from->sll_ifindex, false};
-    flush_host(tap); /* what came before it */
-    accept_frame(tap->protocol, link, &arrival);
-    tap->plane->changed = true;
-}
-
-/* Takes a packet that came: a marker alone, without a head, where the kernel hands up the data. */
+/* Takes a packet that came: a marker alone, without a head, where the kernel hands up the data (`handed_up`). A marker goes the way of all slow
+ * protocols. One that the kernel handed up to the TAP device came by its member. */
 static void accept_packet(struct tap_plane *tap, struct link *link, struct mmsghdr *message, bool handed_up) {
     struct member *member = member_of(tap, link);
     const struct sockaddr_ll *from = message->msg_hdr.msg_name;
@@ -455,12 +421,15 @@ static void accept_packet(struct tap_plane *tap, struct link *link, struct mmsgh
     size_t head = handed_up ? 0 : head_octets(), length = message->msg_len;
     uint8_t *packet = message->msg_hdr.msg_iov->iov_base;
     bool tagged = (aux.tp_status & TP_STATUS_VLAN_VALID) != 0;
+    bool slow = !tagged && length >= head + ETH_HLEN && ((unsigned)packet[head + 12] << 8 | packet[head + 13]) == ETH_P_SLOW;
     if (from->sll_pkttype == PACKET_OUTGOING) return; /* an old kernel shows what was sent */
-    if (!tagged && length >= head + ETH_HLEN && ((unsigned)packet[head + 12] << 8 | packet[head + 13]) == ETH_P_SLOW) {
-        accept_slow(tap, link, from, handed_up, packet + head, length - head);
-        return;
+    if (slow) {
+        int index = handed_up ? link->index : from->sll_ifindex;
+        flush_host(tap); /* what came before it */
+        accept_frame(tap->protocol, link, &(struct arrival){packet + head, length - head, from->sll_pkttype, index, false});
+        tap->plane->changed = true;
     }
-    if (handed_up) return;
+    if (slow || handed_up) return;
     member->counts[DATA_RECEIVED]++;
     if (tagged) {
         packet = put_tag(packet, aux.tp_status & TP_STATUS_VLAN_TPID_VALID ? aux.tp_vlan_tpid : ETH_P_8021Q, aux.tp_vlan_tci);
@@ -483,9 +452,8 @@ static void receive_packets(struct tap_plane *tap, uint16_t port, enum socket_ki
     struct iovec parts[BATCH];
     struct sockaddr_ll from[BATCH];
     _Alignas(struct cmsghdr) uint8_t controls[BATCH][CMSG_SPACE(sizeof(struct tpacket_auxdata))];
-    if (member->sockets[kind] < 0) return;
     for (unsigned i = 0; i < BATCH; i++) {
-        parts[i] = (struct iovec){room_at(tap->members->member_packets, i), packet_room()};
+        parts[i] = (struct iovec){room_at(tap->rooms, i), packet_room()};
         messages[i].msg_hdr = (struct msghdr){.msg_name = &from[i], .msg_namelen = sizeof from[i],
             .msg_iov = &parts[i], .msg_iovlen = 1, .msg_control = controls[i], .msg_controllen = sizeof controls[i]};
     }
@@ -506,20 +474,16 @@ static void receive_packets(struct tap_plane *tap, uint16_t port, enum socket_ki
 /* Takes all that waits at a member, but for a flood, before its port is held: what came before that is collected. */
 void drain_member(struct plane *plane, uint16_t port) {
     struct tap_plane *tap = plane->tap;
-    struct member *member = &tap->members->members[port - 1];
-    if (!is_open(member)) return;
-    for (unsigned turn = 0; turn < MOST_DRAINED && !tap->process->broken; turn++) {
+    bool more = is_open(&tap->members->members[port - 1]);
+    for (unsigned turn = 0; more && turn < MOST_DRAINED && !tap->process->broken; turn++) {
         tap->carry->more_waits = false;
         receive_data(tap, port);
-        if (!tap->carry->more_waits) return;
+        more = tap->carry->more_waits;
     }
 }
 
 void receive_data(struct tap_plane *tap, uint16_t port) {
-    if (tap->members->members[port - 1].sockets[MARKERS] < 0) {
-        receive_packets(tap, port, DATA);
-        return;
-    }
-    receive_packets(tap, port, MARKERS);
-    receive_packets(tap, port, DIRECT);
+    const struct member *member = &tap->members->members[port - 1];
+    for (enum socket_kind kind = member->sockets[MARKERS] < 0 ? DATA : MARKERS; kind < SOCKETS; kind++)
+        if (member->sockets[kind] >= 0) receive_packets(tap, port, kind);
 }

@@ -29,10 +29,10 @@ static bool move_asked(struct carry *carry) {
     bool any = false;
     for (uint16_t number = 0; number < CONVERSATIONS; number++) {
         struct conversation *conversation = &carry->conversations[number];
-        if (!conversation->asked) continue;
+        uint16_t port = carry->port_of[number];
+        bool wanted = conversation->asked && is_busy(carry, conversation) && port != 0;
         conversation->asked = false;
-        if (is_busy(carry, conversation) && carry->port_of[number] != 0 && move(carry, number, next_port(carry, carry->port_of[number])))
-            any = true;
+        any = (wanted && move(carry, number, next_port(carry, port))) || any;
     }
     return any;
 }
@@ -61,15 +61,7 @@ bool can_empty(struct plane *plane, uint16_t port) {
         && carry->ports->links[port - 1].view.aggregator == carry->active;
 }
 
-/* The port that carries fewest conversations of a list, of those that carry. */
-static uint16_t emptiest(const struct carry *carry, const unsigned *loads) {
-    uint16_t found = carry->active_ports[0];
-    for (uint16_t i = 1; i < carry->active_count; i++)
-        if (loads[carry->active_ports[i]] < loads[found]) found = carry->active_ports[i];
-    return found;
-}
-
-/* Moves the conversations of a port to others; answers whether none is left there, or can leave so. */
+/* Moves the conversations of a port to those that carry fewest; answers whether none is left there, or can leave so. */
 bool empty_port(struct plane *plane, uint16_t port) {
     struct carry *carry = plane->carry;
     unsigned loads[NIW_MOST_PORTS + 1] = {0};
@@ -78,7 +70,9 @@ bool empty_port(struct plane *plane, uint16_t port) {
     for (uint16_t number = 0; number < CONVERSATIONS; number++) loads[carry->port_of[number]]++;
     for (uint16_t number = 0; number < CONVERSATIONS; number++) {
         if (carry->port_of[number] != port) continue;
-        uint16_t other = emptiest(carry, loads);
+        uint16_t other = carry->active_ports[0];
+        for (uint16_t i = 1; i < carry->active_count; i++)
+            if (loads[carry->active_ports[i]] < loads[other]) other = carry->active_ports[i];
         if (move(carry, number, other)) loads[other]++;
     }
     send_due(carry->protocol);
@@ -86,21 +80,16 @@ bool empty_port(struct plane *plane, uint16_t port) {
         && is_told(carry->process, niw_held(&carry->protocol->own_system, port), "niw_held", &held) && held == 0;
 }
 
-static bool is_any_emptied(const struct ports *ports) {
-    EACH_LINK_AS_IS(link, ports)
-        if (link->emptying) return true;
-    return false;
-}
-
 /* Moves what has to move, once a tick, towards a peer that answers markers: one marker of a port tells of all that leave it. */
 void balance(struct carry *carry) {
-    if (carry->active_count < 2 || peer_answering(carry->probe) != ANSWERS || is_any_emptied(carry->ports) || !none_moves(carry)
+    EACH_LINK_AS_IS(link, carry->ports)
+        if (link->emptying) return;
+    if (carry->active_count < 2 || peer_answering(carry->probe) != ANSWERS || !none_moves(carry)
         || !ask_ports(carry->protocol, carry->active, carry->port_of))
         return;
     if (move_asked(carry) || level(carry)) send_due(carry->protocol);
 }
 
 void ask_moves(struct carry *carry) {
-    for (uint16_t number = 0; number < CONVERSATIONS; number++)
-        carry->conversations[number].asked = is_busy(carry, &carry->conversations[number]);
+    EACH_CONVERSATION(conversation, carry) conversation->asked = is_busy(carry, conversation);
 }

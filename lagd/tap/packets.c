@@ -8,7 +8,6 @@
 #define LONGEST_SEGMENTED (65536 + ETH_HLEN + USUAL_TAGS * TAG_OCTETS)
 /* The octets of most packets, and more. */
 #define USUAL_OCTETS 2048
-/* The octets of a header of UDP. */
 #define UDP_OCTETS 8
 
 static const size_t head = sizeof(struct virtio_net_hdr);
@@ -64,7 +63,7 @@ uint32_t count_segments(const uint8_t *packet, size_t length) {
 size_t tag_octets(const uint8_t *frame, size_t length, size_t most) {
     size_t octets = 0;
     while (octets / TAG_OCTETS < most && ETH_HLEN + octets + TAG_OCTETS <= length) {
-        unsigned type = (unsigned)frame[12 + octets] << 8 | frame[13 + octets];
+        uint16_t type = read16(frame + 12 + octets);
         if (type != ETH_P_8021Q && type != ETH_P_8021AD) break;
         octets += TAG_OCTETS;
     }
@@ -84,10 +83,8 @@ uint8_t *put_tag(uint8_t *packet, uint16_t type, uint16_t tag) {
     struct virtio_net_hdr told = head_of(packet);
     uint8_t *at = packet - TAG_OCTETS, *frame = at + head;
     memmove(at, packet, head + 2 * ETH_ALEN);
-    frame[12] = (uint8_t)(type >> 8);
-    frame[13] = (uint8_t)type;
-    frame[14] = (uint8_t)(tag >> 8);
-    frame[15] = (uint8_t)tag;
+    write16(frame + 12, type);
+    write16(frame + 14, tag);
     if (told.hdr_len > 0) told.hdr_len = (uint16_t)(told.hdr_len + TAG_OCTETS);
     if (told.flags & VIRTIO_NET_HDR_F_NEEDS_CSUM) told.csum_start = (uint16_t)(told.csum_start + TAG_OCTETS);
     memcpy(at, &told, sizeof told);

@@ -36,23 +36,20 @@ static void keep_last(char *log) {
             keep_line(line);
 }
 
-/* Has the programs use these tables; a program that has none has no maps. */
-static bool share_maps(const struct programs *made, const struct fast_maps *maps) {
-    if (maps)
-        return bpf_map__reuse_fd(made->maps.rows, maps->rows) == 0 && bpf_map__reuse_fd(made->maps.members, maps->members) == 0
-            && bpf_map__reuse_fd(made->maps.hosts, maps->host) == 0 && bpf_map__reuse_fd(made->maps.places, maps->places) == 0;
-    return bpf_map__set_autocreate(made->maps.rows, false) == 0 && bpf_map__set_autocreate(made->maps.members, false) == 0
-        && bpf_map__set_autocreate(made->maps.hosts, false) == 0 && bpf_map__set_autocreate(made->maps.places, false) == 0;
+/* Has the programs use a table of the daemon, or none. */
+static bool share_map(struct bpf_map *map, const int *table) {
+    return (table ? bpf_map__reuse_fd(map, *table) : bpf_map__set_autocreate(map, false)) == 0;
 }
 
-/* Says which program is loaded, and what it has of the settings; answers whether all of it can be. */
+/* Says which program is loaded, what it has of the settings, and its tables, if it has some; answers whether all of it can be. */
 static bool prepare(const struct settings *settings, const struct programs *made, const char *name, const struct fast_maps *maps) {
     struct bpf_program *program;
     bpf_object__for_each_program(program, made->obj) (void)bpf_program__set_autoload(program, strcmp(bpf_program__name(program), name) == 0);
     made->rodata->way = settings->hash;
     made->rodata->hash_seed = settings->hash_seed;
     made->rodata->all_queues = settings->all_queues;
-    return share_maps(made, maps);
+    return share_map(made->maps.rows, maps ? &maps->rows : NULL) && share_map(made->maps.members, maps ? &maps->members : NULL)
+        && share_map(made->maps.hosts, maps ? &maps->host : NULL) && share_map(made->maps.places, maps ? &maps->places : NULL);
 }
 
 static int load_with_log(const struct settings *settings, const char *name, const struct fast_maps *maps, char *log) {

@@ -1,7 +1,7 @@
 /* The queues of a member, where it keeps all of them: by which one a conversation goes, and the markers of each. A frame in one queue may
  * overtake those in others. So a marker goes by each queue that may have frames before it, with the number of the queue in its
  * identifier, and the library has the last of its responses. */
-#include "tap.h"
+#include "segments.h"
 
 /* Where a Marker PDU has the identifier of its requester (IEEE 802.1AX-2014, 6.5.3.3), and which of its bits are the queue. */
 #define IDENTIFIER_AT (ETH_HLEN + 12)
@@ -65,13 +65,8 @@ void mark_conversation(struct tap_plane *tap, uint16_t port, uint16_t number, st
     mark_queue(tap->queues, queues, queue, message);
 }
 
-static uint32_t identifier_of(const uint8_t *frame) {
-    const uint8_t *at = frame + IDENTIFIER_AT;
-    return (uint32_t)at[0] << 24 | (uint32_t)at[1] << 16 | (uint32_t)at[2] << 8 | at[3];
-}
-
 void set_identifier(uint8_t *frame, uint32_t id) {
-    for (unsigned i = 0; i < 4; i++) frame[IDENTIFIER_AT + i] = (uint8_t)(id >> (24 - 8 * i));
+    write32(frame + IDENTIFIER_AT, id);
 }
 
 /* Sends the marker of a flight by each queue that has no response yet; answers whether all went. */
@@ -107,7 +102,7 @@ static uint32_t unanswered(struct members_private *own, const struct link *link,
     uint32_t found = queues->dirty;
     for (size_t i = 0; i < MOST_FLIGHTS; i++) found |= queues->flights[i].waiting;
     if (has_fast_member(own, link->settings.number)) {
-        unsigned now = count_entries(link->index, "tx-");
+        unsigned now = count_sending_queues(link->index);
         if (now > MOST_QUEUES) now = MOST_QUEUES;
         if (now > queues->count && queues->count > 1) queues->count = now;
         found = all_of(queues->count);
@@ -135,7 +130,7 @@ bool send_by_queues(struct tap_plane *tap, struct link *link, const uint8_t *mar
     struct queues_private *own = tap->queues;
     struct queues *queues = &own->ports[link->settings.number - 1];
     if (again) return send_again_by_queues(tap, link, marker);
-    struct flight flight = {identifier_of(marker), unanswered(tap->members, link, queues), tap->carry->time, own->all++};
+    struct flight flight = {read32(marker + IDENTIFIER_AT), unanswered(tap->members, link, queues), tap->carry->time, own->all++};
     struct flight *place = next_flight(queues);
     queues->dirty = 0;
     *place = flight;

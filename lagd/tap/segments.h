@@ -43,7 +43,4 @@ static inline bool has_ipv6(const uint8_t *packet, const struct tcp_packet *tcp)
     return packet[tcp->network] >> 4 == 6;
 }
 
-/* gso.c */
-void write_length(uint8_t *packet, const struct tcp_packet *tcp);
-
 #endif

@@ -13,67 +13,52 @@
 /* The most processors that are named for RPS. */
 #define MOST_PROCESSORS 32
 #define PATH_OCTETS 128
-/* Where /sys has what is of a queue; and which processors take what an interface of one queue receives (RPS). */
-#define QUEUES "queues/"
+/* Which processors take what an interface of one queue receives (RPS). */
 #define STEERING "rx-0/rps_cpus"
 
 /* What a queue has: the processors that take what it received (RPS), and those, and the queues that received, whose frames it sends (XPS). */
 enum setting { TAKEN_BY, SENT_FOR, SENT_BEHIND, SETTINGS };
 
-struct spread_private {
-    int program;
-    unsigned usual; /* by how many queues the kernel passes data on, while it does so of any member */
-};
-
-MAKES_WITH(spread, .program = -1)
-
-/* A file or folder of an interface in /sys; answers whether it is of this interface. */
-static bool path_of(int index, const char *folder, const char *what, char path[static PATH_OCTETS]) {
-    char name[IF_NAMESIZE], number[16] = "";
-    FILE *file;
+/* The path of a file or folder in that of the queues of an interface in /sys; answers whether it is of this interface. */
+static bool path_of(int index, const char *what, char path[static PATH_OCTETS]) {
+    char name[IF_NAMESIZE];
+    int found = 0;
     if (!if_indextoname((unsigned)index, name)) return false;
     snprintf(path, PATH_OCTETS, "/sys/class/net/%s/ifindex", name);
-    file = fopen(path, "re");
+    FILE *file = fopen(path, "re");
     if (!file) return false;
-    if (!fgets(number, sizeof number, file)) number[0] = 0;
+    if (fscanf(file, "%d", &found) != 1) found = 0;
     fclose(file);
-    snprintf(path, PATH_OCTETS, "/sys/class/net/%s/%s%s", name, folder, what);
-    return atoi(number) == index;
+    snprintf(path, PATH_OCTETS, "/sys/class/net/%s/queues/%s", name, what);
+    return found == index;
 }
 
 unsigned count_entries(int index, const char *begin) {
     char path[PATH_OCTETS];
     unsigned count = 0;
-    DIR *folder = path_of(index, QUEUES, "", path) ? opendir(path) : NULL;
+    DIR *folder = path_of(index, "", path) ? opendir(path) : NULL;
     for (const struct dirent *entry; folder && (entry = readdir(folder));) count += strncmp(entry->d_name, begin, strlen(begin)) == 0;
     if (folder) closedir(folder);
     return count;
 }
 
-/* Whether an interface is one of a card, each of whose queues is served by one processor at a time. */
-static bool has_card(int index) {
-    char path[PATH_OCTETS];
-    return path_of(index, "", "device", path) && access(path, F_OK) == 0;
+unsigned count_sending_queues(int index) {
+    return count_entries(index, "tx-");
 }
 
-/* Reads the line of a file of an interface. One that is too long is none. */
-static bool read_line(int index, const char *folder, const char *what, char line[static PROCESSORS_ROOM]) {
+/* Reads the line of a file: of a queue, the processors as a mask in hexadecimal. One that is too long is none. */
+static bool read_line(int index, const char *what, char line[static PROCESSORS_ROOM]) {
     char path[PATH_OCTETS];
-    FILE *file = path_of(index, folder, what, path) ? fopen(path, "re") : NULL;
+    FILE *file = path_of(index, what, path) ? fopen(path, "re") : NULL;
     bool done = file && fgets(line, PROCESSORS_ROOM, file) && strchr(line, '\n');
     if (file) fclose(file);
     if (done) line[strcspn(line, "\n")] = 0;
     return done;
 }
 
-/* The processors of a queue, as a mask in hexadecimal. */
-static bool read_processors(int index, const char *what, char mask[static PROCESSORS_ROOM]) {
-    return read_line(index, QUEUES, what, mask);
-}
-
 static bool set_processors(int index, const char *what, const char *mask) {
     char path[PATH_OCTETS];
-    FILE *file = path_of(index, QUEUES, what, path) ? fopen(path, "we") : NULL;
+    FILE *file = path_of(index, what, path) ? fopen(path, "we") : NULL;
     bool done = file && fputs(mask, file) >= 0;
     return file && fclose(file) == 0 && done;
 }
@@ -82,18 +67,16 @@ static bool set_processors(int index, const char *what, const char *mask) {
  * does so until the end of a turn. */
 bool keeps_briefly(const struct settings *settings, int index) {
     char nanoseconds[PROCESSORS_ROOM];
-    return read_line(index, "", "gro_flush_timeout", nanoseconds) && strtoull(nanoseconds, NULL, 10) < settings->answer_after * 500000ull;
-}
-
-static bool is_one(const char *mask) {
-    unsigned bits = 0;
-    for (; *mask; mask++)
-        for (int digit = *mask == ',' ? 0 : (int)strtol((char[]){*mask, 0}, NULL, 16); digit; digit &= digit - 1) bits++;
-    return bits == 1;
+    return read_line(index, "../gro_flush_timeout", nanoseconds) && strtoull(nanoseconds, NULL, 10) < settings->answer_after * 500000ull;
 }
 
 static bool is_none(const char *mask) {
     return strspn(mask, "0,") == strlen(mask);
+}
+
+static bool is_one(const char *mask) {
+    const char *digit = mask + strspn(mask, "0,");
+    return *digit && strchr("1248", *digit) && is_none(digit + 1);
 }
 
 /* A mask of one processor: another one for each place, in turn. */
@@ -105,13 +88,13 @@ static void mask_of(unsigned place, char mask[static 16]) {
 
 /* Reads which processors take what an interface of one queue receives; answers whether that is known, and not one alone. */
 bool read_steering(int index, char mask[static PROCESSORS_ROOM]) {
-    return read_processors(index, STEERING, mask) && !is_one(mask);
+    return read_line(index, STEERING, mask) && !is_one(mask);
 }
 
 /* Has one processor take all that an interface receives, so that it stands in one row, whatever processors it was sent from. */
 bool steer(const struct link *link) {
     char mask[16], now[PROCESSORS_ROOM];
-    if (!read_processors(link->index, STEERING, now)) return false;
+    if (!read_line(link->index, STEERING, now)) return false;
     mask_of(link->settings.number - 1u, mask);
     return is_one(now) || set_processors(link->index, STEERING, mask);
 }
@@ -127,16 +110,15 @@ void gather(struct process *process, int index) {
 /* Sets back which processors take what an interface receives; answers whether these do now. */
 bool steer_back(int index, const char *mask) {
     char now[PROCESSORS_ROOM];
-    return set_processors(index, STEERING, mask) || (read_processors(index, STEERING, now) && strcmp(now, mask) == 0);
+    return set_processors(index, STEERING, mask) || (read_line(index, STEERING, now) && strcmp(now, mask) == 0);
 }
 
 /* Loads the program that chooses queues, while the daemon may, and opens what wakes it for responses. */
 void start_all_queues(struct tap_plane *tap) {
-    struct spread_private *own = tap->spread;
     int fault = fault_of_programs(tap->settings);
     if (fault != 0) stop(REFUSED, "queues=all: no program of an interface, which Linux has from 6.6 on", strerror(-fault));
-    own->program = load_program(tap->settings, "chooser", NULL);
-    if (own->program < 0) stop(REFUSED, "queues=all: the kernel takes no program", program_fault());
+    tap->chooser = load_program(tap->settings, "chooser", NULL);
+    if (tap->chooser < 0) stop(REFUSED, "queues=all: the kernel takes no program", program_fault());
     start_answers(tap);
 }
 
@@ -148,18 +130,24 @@ static void name_setting(enum setting setting, unsigned queue, char name[static 
 static bool is_setting(const char *name) {
     char own[NAME_OCTETS];
     unsigned queue;
-    if (sscanf(name, "%*2[rtx]-%u", &queue) != 1) return false;
-    for (enum setting setting = 0; setting < SETTINGS; setting++) {
+    bool found = false;
+    for (enum setting setting = 0; setting < SETTINGS && sscanf(name, "%*2[rtx]-%u", &queue) == 1; setting++) {
         name_setting(setting, queue, own);
-        if (strcmp(name, own) == 0) return true;
+        found = found || strcmp(name, own) == 0;
     }
-    return false;
+    return found;
+}
+
+/* Whether an interface is one of a card, each of whose queues is served by one processor at a time. */
+static bool is_card(int index) {
+    char path[PATH_OCTETS];
+    return path_of(index, "../device", path) && access(path, F_OK) == 0;
 }
 
 /* What a queue is to have in the place of what it has now, for which `mask` is room: NULL where that may stay. */
 static const char *wanted_of(const struct link *link, enum setting setting, unsigned queue, const char *now, char mask[static 16]) {
     if (setting != TAKEN_BY) return is_none(now) ? NULL : "0";
-    if (is_one(now) || (has_card(link->index) && is_none(now))) return NULL;
+    if (is_one(now) || (is_card(link->index) && is_none(now))) return NULL;
     mask_of(link->settings.number - 1u + queue, mask);
     return mask;
 }
@@ -190,7 +178,7 @@ static bool change_processors(int folder, const struct link *link, FILE *next) {
         unsigned count = count_entries(link->index, setting == TAKEN_BY ? "rx-" : "tx-");
         for (unsigned queue = 0; queue < count; queue++) {
             name_setting(setting, queue, name);
-            if (!read_processors(link->index, name, now)) continue;
+            if (!read_line(link->index, name, now)) continue;
             const char *wanted = wanted_of(link, setting, queue, now, mask);
             if (wanted && next) done = (is_known(folder, link, name) || fprintf(next, "%s %s\n", name, now) > 0) && done;
             if (wanted && !next) done = set_processors(link->index, name, wanted) && done;
@@ -217,7 +205,7 @@ void move_former(struct process *process, struct link *link, const uint8_t *mac)
 
 /* How many queues an interface has, those that send above those that receive; 0 where the kernel does not tell of both. */
 unsigned channels_of(int index) {
-    unsigned sends = count_entries(index, "tx-"), receives = count_entries(index, "rx-");
+    unsigned sends = count_sending_queues(index), receives = count_entries(index, "rx-");
     return sends > 0 && receives > 0 ? sends << 16 | receives : 0;
 }
 
@@ -231,30 +219,24 @@ static const char *fault_of_spreading(int folder, const struct link *link, const
     return NULL;
 }
 
-/* Whether the settings of the queues may be written, as far as the first one tells. */
-static bool may_set(int index) {
-    char path[PATH_OCTETS];
-    int opened = path_of(index, QUEUES, "tx-0/xps_cpus", path) ? open(path, O_WRONLY | O_CLOEXEC) : -1;
-    if (opened >= 0) close(opened);
-    return opened >= 0;
-}
-
 /* Whether a member may keep all its queues once it has them, as far as that is seen before: giving them may take its link down. Where it is
- * known that settings of them are to be changed, these must be changeable. */
+ * known that settings of them are to be changed, these must be changeable, as far as the first one tells. */
 bool may_spread(int folder, const struct link *link) {
-    char name[NAME_OCTETS];
+    char name[NAME_OCTETS], path[PATH_OCTETS];
     FILE *file = read_kept(folder, link, "queues");
     bool changes = file && fscanf(file, "%31s", name) == 1;
     if (file) fclose(file);
-    return !link->stacked && may_have_order(link->index) && (!changes || may_set(link->index));
+    int opened = changes && path_of(link->index, "tx-0/xps_cpus", path) ? open(path, O_WRONLY | O_CLOEXEC) : -1;
+    if (opened >= 0) close(opened);
+    return !link->stacked && may_have_order(link->index) && (!changes || opened >= 0);
 }
 
 void spread(struct tap_plane *tap, const struct link *link, struct guard *guard) {
-    unsigned count = count_entries(link->index, "tx-");
+    unsigned count = count_sending_queues(link->index);
     const char *fault = fault_of_spreading(tap->process->folder, link, guard, count);
     guard->queues = fault ? 1 : count < MOST_QUEUES ? count : MOST_QUEUES;
     if (guard->queues > 1 && guard->chooser < 0) /* a program chooses the queue of each frame that the daemon sends there */
-        guard->chooser = attach_stored(tap->process->store, "queues", tap->spread->program, link->index, true);
+        guard->chooser = attach_stored(tap->process->store, "queues", tap->chooser, link->index, true);
     if (guard->queues > 1 && guard->chooser < 0) fault = strerror(-guard->chooser);
     guard->spread = !fault;
     if (!fault) return;
@@ -279,7 +261,7 @@ bool is_spread_anew(const struct system_private *own, const struct link *link, c
     for (enum setting setting = 0; guard->spread && setting < SETTINGS; setting++) {
         unsigned queue = (unsigned)seconds_passed(own) % (setting == TAKEN_BY ? channels & 0xffff : channels >> 16);
         name_setting(setting, queue, name);
-        if (read_processors(link->index, name, now) && wanted_of(link, setting, queue, now, mask)) return true;
+        if (read_line(link->index, name, now) && wanted_of(link, setting, queue, now, mask)) return true;
     }
     return false;
 }
@@ -289,8 +271,8 @@ bool is_spread_anew(const struct system_private *own, const struct link *link, c
 bool has_usual_queues(struct tap_plane *tap, const struct guard *guard) {
     bool any = false;
     for (uint16_t port = 1; port <= tap->ports->count; port++) any = any || has_fast_member(tap->members, port);
-    if (!any) tap->spread->usual = guard->queues;
-    return guard->queues == tap->spread->usual;
+    if (!any) tap->usual_queues = guard->queues;
+    return guard->queues == tap->usual_queues;
 }
 
 /* The queues of an interface get back what they had before. What cannot be set back stays kept: all of it, where not all are back (`whole`). */
@@ -301,7 +283,7 @@ void gather_back(int folder, const struct link *link, bool whole) {
     if (!file) return;
     while (fscanf(file, READ_LINE, name, mask) == 2) {
         if (!is_setting(name) || set_processors(link->index, name, mask)) continue;
-        if (read_processors(link->index, name, now) && strcmp(now, mask) != 0) done = false;
+        if (read_line(link->index, name, now) && strcmp(now, mask) != 0) done = false;
     }
     fclose(file);
     if (done) drop_kept(folder, link, "queues");

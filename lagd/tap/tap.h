@@ -12,12 +12,16 @@
 /* Frames that are sent by one call of the kernel, or taken of a socket in a turn: a marker on another one waits for no more. */
 #define BATCH 64
 #define EACH_FILE_OF_TAP(DO) \
-    DO(answers, answers) DO(fast, fast) DO(flight, flight) DO(gro, gro) DO(held, held) DO(host, host) \
-    DO(members, members) DO(queues, queues) DO(spread, spread)
+    DO(answers, answers) DO(fast, fast) DO(gro, gro) DO(held, held) DO(host, host) \
+    DO(members, members) DO(queues, queues)
 struct tap_plane {
     PARTS
     struct carry *carry;
     int dropper; /* the program that keeps data from the stack of a member, or -1 */
+    int chooser; /* with all queues, the program by which a frame of the daemon goes by its queue */
+    unsigned usual_queues; /* by how many the kernel passes data on, while it does so of any member */
+    uint8_t *rooms; /* for the packets of a batch that members receive */
+    uint64_t silent_since[NIW_MOST_PORTS]; /* the time since which a port holds conversations and does not distribute, or 0 */
     EACH_FILE_OF_TAP(KEEPS)
 };
 EACH_FILE_OF_TAP(MAKES)
@@ -34,13 +38,11 @@ void hand_up(struct tap_plane *tap, uint32_t aggregator, uint8_t *packet, size_t
 void pass_probe_tick(struct tap_plane *tap);
 
 /* flight.c */
-void note_sent(struct flight_private *own, uint16_t port);
 void pass_flight_tick(struct tap_plane *tap);
 
 /* queues.c: by which queue of its member a conversation goes, and the markers of each queue */
 bool ends_flight(struct queues_private *own, const struct link *link, uint32_t *id);
 void set_identifier(uint8_t *frame, uint32_t id);
-struct msghdr;
 void begin_queues(struct queues_private *own, uint16_t port, unsigned count);
 void mark_conversation(struct tap_plane *tap, uint16_t port, uint16_t number, struct msghdr *message);
 bool send_by_queues(struct tap_plane *tap, struct link *link, const uint8_t *marker, bool again);
@@ -57,7 +59,7 @@ void forget_answers(struct answers_private *own, uint16_t port);
 #define PROCESSORS_LENGTH "2399" /* of the mask of the 8192 processors that Linux knows */
 #define PROCESSORS_ROOM 2400
 struct kept {
-    unsigned joins;                 /* what of GRO and LRO was wanted, as features.c has it */
+    unsigned joins;                 /* what of GRO and LRO was wanted, as guard.c has it */
     char steered[PROCESSORS_ROOM];  /* the processors that RPS named, or empty where that was one, or is not changed */
     struct ethtool_channels queues; /* what there was; all 0 where there was one queue */
 };
@@ -76,7 +78,6 @@ void lose_data(struct plane *plane, uint16_t port);
 struct iovec;
 void open_tap_plane(struct plane *plane);
 void end_tap_plane(struct plane *plane);
-int passing_member_of(struct plane *plane, uint16_t number);
 void read_host(struct tap_plane *tap);
 bool is_cutting(struct tap_plane *tap);
 bool give_host(struct tap_plane *tap, const struct iovec *parts, unsigned count, size_t length);
@@ -116,7 +117,6 @@ void keep_from_stack(struct tap_plane *tap, const struct link *link, struct guar
 void run_fast_programs(struct tap_plane *tap, const struct link *link, struct guard *guard);
 bool join_queues(struct tap_plane *tap, struct link *link, struct guard *guard, bool again);
 bool keep_queues(struct tap_plane *tap, struct link *link, struct guard *guard, bool again);
-unsigned count_fifos(int index);
 void look_at_discipline(struct tap_plane *tap, struct link *link, struct guard *guard);
 void reopen_guard(struct tap_plane *tap, struct link *link, struct guard *guard);
 void close_guard(struct tap_plane *tap, const struct link *link, struct guard *guard);
@@ -129,7 +129,6 @@ void forget_member(struct plane *plane, uint16_t port);
 void drain_member(struct plane *plane, uint16_t port);
 void send_new_marker(struct plane *plane, struct link *link, const uint8_t *frame);
 void follow_speed(struct plane *plane, const struct link *link);
-void start_members(struct members_private *own);
 bool renew_for_discipline(struct plane *plane, struct link *link);
 void move_member(struct plane *plane, struct link *link, const uint8_t *mac);
 void follow_member_mtu(struct plane *plane, struct link *link, uint32_t mtu);
@@ -176,7 +175,7 @@ uint64_t add_octets(uint64_t sum, const uint8_t *octets, size_t length);
 uint16_t fold(uint64_t sum);
 void put_sum(uint8_t *octets, size_t length, size_t field);
 
-/* gso.c: a packet that is cut into `count` of them, each with so many octets of payload but for the last one */
+/* segments.c: a packet that is cut into `count` of them, each with so many octets of payload but for the last one */
 struct cut {
     const uint8_t *packet;
     struct tcp_packet whole;
@@ -186,8 +185,6 @@ struct cut {
 bool read_cut(const uint8_t *packet, size_t length, struct cut *cut);
 size_t put_segment(const struct cut *cut, uint32_t number, uint8_t *packet);
 void finish_sum(uint8_t *packet, size_t length);
-
-/* gro.c */
 void put_host(struct tap_plane *tap, uint8_t *packet, size_t length);
 void flush_host(struct tap_plane *tap);
 
@@ -203,7 +200,6 @@ void start_fast(struct tap_plane *tap);
 void end_fast(struct tap_plane *tap);
 int open_fast_receiver(struct tap_plane *tap, const struct link *link);
 void close_fast_receiver(struct fast_private *own, const struct link *link);
-void note_taken(struct conversation *conversation, uint32_t segments);
 void pass_on(struct tap_plane *tap);
 void withdraw(struct tap_plane *tap);
 void withdraw_port(struct tap_plane *tap, uint16_t port);
@@ -213,19 +209,12 @@ void pass_fast_tick(struct tap_plane *tap);
 void note_read(struct tap_plane *tap, unsigned packets, bool drained);
 void open_host(struct tap_plane *tap, bool open);
 void follow_host_queue(struct tap_plane *tap, const char *discipline);
-int fast_member_of(struct tap_plane *tap, uint16_t number);
+int fast_member_of(struct plane *plane, uint16_t number);
 void resume_fast(struct tap_plane *tap);
-
-/* features.c: what puts received frames together, a bit for each way */
-struct joins {
-    unsigned on, wanted;
-};
-struct joins read_joins(int index);
-void set_joins(int index, unsigned wanted);
-#define JOINED_BY_KERNEL 1u
 
 /* spread.c: queues of an interface, and the processors that serve them */
 unsigned count_entries(int index, const char *begin);
+unsigned count_sending_queues(int index);
 unsigned channels_of(int index);
 bool keeps_briefly(const struct settings *settings, int index);
 bool read_steering(int index, char mask[static PROCESSORS_ROOM]);

@@ -8,8 +8,7 @@
 #include <linux/rtnetlink.h>
 #include <netinet/in.h>
 
-/* What waits at a member: the octets of 50 ms at the speed of its link, within these bounds; the most of them where nobody tells a
- * speed. */
+/* What waits at a member: the octets of 50 ms at the speed of its link, within these bounds; the most where nobody tells a speed. */
 #define OCTETS_QUEUED(megabits) ((uint64_t)(megabits) * 125 * 50)
 #define LEAST_QUEUED (64 * (ETH_HLEN + ETH_DATA_LEN))
 #define MOST_QUEUED (4 << 20)
@@ -35,7 +34,7 @@ bool keeps_order(const char *discipline) {
     return strcmp(discipline, "noqueue") == 0 || strcmp(discipline, "bfifo") == 0 || strcmp(discipline, "pfifo") == 0;
 }
 
-/* How many octets wait at most for a link of so many Mb/s; 0 and SPEED_UNKNOWN tell no speed. */
+/* 0 and SPEED_UNKNOWN tell no speed. */
 static uint32_t most_queued(uint32_t megabits) {
     uint64_t octets = OCTETS_QUEUED(megabits);
     if (megabits == 0 || octets > MOST_QUEUED) return MOST_QUEUED;
@@ -50,10 +49,10 @@ static bool set_fifo(int index, uint32_t megabits, unsigned flags, uint32_t pare
     return ask_kernel(&question);
 }
 
-/* Gives an interface a discipline that has a queue for each of its own, in place of what the kernel gave it by itself. */
-static bool give_queues(int index) {
-    union message question = question_of(RTM_NEWQDISC, NLM_F_CREATE, index, TC_H_ROOT, FIFO);
-    mnl_attr_put_strz(&question.head, TCA_KIND, "mq");
+/* Changes the discipline of all queues of an interface. */
+static bool change_root(uint16_t type, unsigned flags, int index, uint32_t handle, const char *kind) {
+    union message question = question_of(type, flags, index, TC_H_ROOT, handle);
+    if (kind) mnl_attr_put_strz(&question.head, TCA_KIND, kind);
     return ask_kernel(&question);
 }
 
@@ -85,7 +84,7 @@ static void parse_discipline(const struct nlmsghdr *message, void *into) {
 /* Sees the queueing disciplines of an interface. The kernel tells of those of all: what it does not tell in full may be of others. */
 static struct disciplines read_disciplines(int index) {
     union message question = question_of(RTM_GETQDISC, NLM_F_DUMP, index, 0, 0);
-    struct disciplines seen = {index, count_entries(index, "tx-"), true, true, 0};
+    struct disciplines seen = {index, count_sending_queues(index), true, true, 0};
     if (!ask_list(NETLINK_ROUTE, &question, parse_discipline, &seen, sizeof seen)) seen.in_order = seen.changeable = false;
     return seen;
 }
@@ -106,9 +105,9 @@ bool may_have_order(int index) {
  * the order. */
 bool give_each_fifo(int index, unsigned queues, uint32_t megabits) {
     if (queues <= 1) return set_fifo(index, megabits, NLM_F_CREATE, TC_H_ROOT, FIFO);
-    bool given = give_queues(index);
+    bool given = change_root(RTM_NEWQDISC, NLM_F_CREATE, index, FIFO, "mq");
     if (!given) drop_fifo(index);
-    if (!given && !give_queues(index)) return false;
+    if (!given && !change_root(RTM_NEWQDISC, NLM_F_CREATE, index, FIFO, "mq")) return false;
     fit_each_fifo(index, queues, megabits);
     return have_order(index);
 }
@@ -123,15 +122,12 @@ void fit_each_fifo(int index, unsigned queues, uint32_t megabits) {
 
 /* The kernel gives an interface what it chooses by itself, if its queue is one of the daemon. */
 void drop_fifo(int index) {
-    union message question = question_of(RTM_DELQDISC, 0, index, TC_H_ROOT, FIFO);
-    (void)ask_kernel(&question);
+    (void)change_root(RTM_DELQDISC, 0, index, FIFO, NULL);
 }
 
 /* An interface gets no queueing discipline, unless an administrator gave it one. Which it has then is told with all interfaces. */
 void give_no_queue(int index) {
-    union message question = question_of(RTM_NEWQDISC, NLM_F_CREATE | NLM_F_EXCL, index, TC_H_ROOT, 0);
-    mnl_attr_put_strz(&question.head, TCA_KIND, "noqueue");
-    (void)ask_kernel(&question);
+    (void)change_root(RTM_NEWQDISC, NLM_F_CREATE | NLM_F_EXCL, index, 0, "noqueue");
 }
 
 static union message question_of_place(uint16_t type, unsigned flags, int index) {
@@ -153,17 +149,13 @@ static bool has_classifier(int index, uint32_t handle) {
     return ask_kernel(&question);
 }
 
-/* Whether a message tells of nothing but the classifier of the daemon: first of its priority, and then of itself. */
-static bool is_own(const struct nlmsghdr *message) {
+/* Sees a filter: whether it is nothing but the classifier of the daemon, of which the kernel tells first of its priority, and then of itself. */
+static void parse_filter(const struct nlmsghdr *message, void *alone) {
     const struct tcmsg *about = mnl_nlmsg_get_payload(message);
-    if (message->nlmsg_type != RTM_NEWTFILTER || mnl_nlmsg_get_payload_len(message) < sizeof *about) return false;
-    return about->tcm_info == TC_H_MAKE(PRIORITY, htons(ETH_P_ALL)) && about->tcm_handle <= PLACE_MADE
+    bool own = message->nlmsg_type == RTM_NEWTFILTER && mnl_nlmsg_get_payload_len(message) >= sizeof *about
+        && about->tcm_info == TC_H_MAKE(PRIORITY, htons(ETH_P_ALL)) && about->tcm_handle <= PLACE_MADE
         && about->tcm_parent == TC_H_MAKE(TC_H_CLSACT, TC_H_MIN_INGRESS);
-}
-
-static void parse_filter(const struct nlmsghdr *message, void *into) {
-    bool *alone = into;
-    *alone = *alone && is_own(message);
+    if (!own) *(bool *)alone = false;
 }
 
 /* Whether nobody else has a filter in this direction of a place. What is not told in full may be of others. */

@@ -70,7 +70,7 @@ static void adopt_device(struct team_plane *team, const struct interface *device
         stop(REFUSED, team->settings->carry, "a team device of another mode is there");
     if (!team->settings->follow && !has_own_ports(team->settings, &now) && !known)
         stop(REFUSED, team->settings->carry, "a team device with ports of others is there");
-    team->plane->made_device = known && team->process->inherited->persists;
+    team->plane->owns_device = known && team->process->inherited->persists;
     need(known || set_address(device->index, mac), team->settings->carry);
     use_team_device(team->device, device->index);
 }
@@ -206,7 +206,7 @@ static void end_team(int status UNUSED, void *given) {
     if (!team->opened || team->process->has_left) return;
     EACH_LINK(link, team->ports) close_team_port(team->plane, link);
     if (tap_index(team->device) != 0) free_inherited_ports(team->process->inherited, tap_index(team->device));
-    if (team->plane->made_device && tap_index(team->device) != 0) (void)remove_device(tap_index(team->device));
+    if (team->plane->owns_device && tap_index(team->device) != 0) (void)remove_device(tap_index(team->device));
     if (team->lock >= 0) close_stored(team->process->store, "lock", team->locked, team->lock);
     team->opened = false;
 }
@@ -226,7 +226,7 @@ void open_team(struct plane *plane) {
     } else {
         need(make_team_device(name, mac, least_mtu(team->settings)) && ask_interface(0, name, &device), name);
         lock_device(team, device.index); /* another one may have taken it at once */
-        plane->made_device = plane->is_new = true;
+        plane->owns_device = plane->is_new = true;
         use_team_device(team->device, device.index);
     }
     need(read_team(team, tap_index(team->device), &now), "team");

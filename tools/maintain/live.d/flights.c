@@ -29,7 +29,7 @@ static uint32_t ids[64], marks[64];
 
 ANSWERS(uint64_t milliseconds, now, void)
 ANSWERS(bool has_fast_member, is_fast_member, const struct members_private *own, uint16_t port)
-ANSWERS(unsigned count_entries, entries, int index, const char *begin)
+ANSWERS(unsigned count_sending_queues, entries, int index)
 ANSWERS(bool await_input, fd >= 0 && tag == RESPONSES, int epoll_file, int fd, uint32_t tag)
 NOTHING(receive_data, struct tap_plane *tap, uint16_t port)
 void send_frame(struct protocol *protocol, struct link *link, const uint8_t *frame) {

@@ -138,7 +138,7 @@ ALONE = (
     Alone("flights", ("queues", "answers"), "a marker counts as answered once each queue is that had frames"),
     Alone("lists", ("netlink",), "a list of the kernel that changes while it is told is asked for again", ("mnl_socket_sendto", "mnl_socket_recvfrom"), True,
           ("-lmnl",)),
-    Alone("segments", ("gro", "gso", "packets", "sums"), "what goes up together is, cut again, what came"),
+    Alone("segments", ("segments", "packets", "sums"), "what goes up together is, cut again, what came"),
     Alone("buckets", ("buckets",), "buckets are on links that carry, and leave one that does only after a rest", (), True),
 )  # fmt: skip
 

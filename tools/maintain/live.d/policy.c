@@ -274,7 +274,6 @@ NOTHING(count_losses, struct tap_plane *tap)
 NOTHING(pass_announcing_tick, struct carry *carry)
 NOTHING(pass_tap_tick, struct device *device)
 NOTHING(announce_soon, struct announce_private *own)
-NOTHING(note_taken, struct conversation *conversation, uint32_t segments)
 ANSWERS(uint32_t sum_speeds, 1000, struct tap_plane *tap)
 NOTHING(set_speed, struct device *device, uint32_t megabits)
 NOTHING(run_hook, struct protocol *protocol, const char *path, enum bundle_state before)
@@ -311,7 +310,6 @@ static void make_end(struct end *end, uint8_t which) {
     join_parts(lagd);
     lagd->protocol.bundle_private = make_bundle_private();
     lagd->protocol.selection = make_select_private();
-    lagd->tap.flight = make_flight_private();
     lagd->tap.held = make_held_private();
     lagd->carry.probe = make_probe_private();
     lagd->plane.carrying = &FRAMES;

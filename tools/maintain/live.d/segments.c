@@ -1,4 +1,4 @@
-/* Frames of several segments that are cut, and frames that are put together (lagd/tap/gso.c, lagd/tap/gro.c), alone, over a device in memory: what is
+/* Frames of several segments that are cut, and frames that are put together (lagd/tap/segments.c), alone, over a device in memory: what is
  * cut has the headers and checksums that each segment has by itself; what goes up together is, cut again, what came, in its order; and what is
  * no part of a stream, was damaged, or is refused together, goes up as it came.
  *
