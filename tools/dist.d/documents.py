@@ -3,8 +3,6 @@
 A page of the repository links to sources and tools that are not installed. Such a link becomes its own words.
 """
 
-from __future__ import annotations
-
 import os
 import re
 from typing import Mapping

@@ -1,7 +1,5 @@
 """The versions of packages whose LACP is ours."""
 
-from __future__ import annotations
-
 import os
 
 from repository import TOP

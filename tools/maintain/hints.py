@@ -3,8 +3,6 @@
 Two tools may have modules of one name, so each is read by itself.
 """
 
-from __future__ import annotations
-
 import os
 import re
 import subprocess

@@ -1,7 +1,5 @@
 """What each crate is: the first sentence of its own documentation, and the table of docs/internals/ARCHITECTURE.md that is made of these."""
 
-from __future__ import annotations
-
 import os
 import re
 

@@ -1,7 +1,5 @@
 """Streams of TCP between two devices, by iperf3."""
 
-from __future__ import annotations
-
 import json
 import shutil
 import subprocess

@@ -1,7 +1,5 @@
 """Where else the interface of the C library stands: the list of symbols of Debian, the C program that calls each function, and docs/USING.md."""
 
-from __future__ import annotations
-
 import re
 import textwrap
 

@@ -1,7 +1,5 @@
 """The daemon under loads: many bundles, many ports of long names, a flood of rubbish, a minute in which it is stopped."""
 
-from __future__ import annotations
-
 import json
 import os
 import shutil

@@ -1,7 +1,5 @@
 """Two network namespaces joined by veth pairs, and raw frames at the end of a pair."""
 
-from __future__ import annotations
-
 import contextlib
 import ctypes
 import os

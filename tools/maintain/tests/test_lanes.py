@@ -1,7 +1,5 @@
 """How many checks run side by side."""
 
-from __future__ import annotations
-
 import os
 from pathlib import Path
 

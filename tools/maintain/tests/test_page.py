@@ -1,7 +1,5 @@
 """How tools/maintain/page packs the page."""
 
-from __future__ import annotations
-
 import re
 
 import pytest

@@ -1,7 +1,5 @@
 """How tools/maintain/trusted reads a check."""
 
-from __future__ import annotations
-
 import loading
 
 trusted = loading.program("trusted")
