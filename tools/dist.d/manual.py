@@ -7,7 +7,7 @@ import re
 from typing import Sequence
 
 import documents
-from repository import TOP, Missing
+from repository import TOP, Missing, read_text
 
 # Of each program: the page, its first heading, and the heading that comes after its part. A page that is not there leaves the next.
 PARTS: dict[str, list[tuple[str, str | None, str | None]]] = {
@@ -29,8 +29,7 @@ def part_of(name: str) -> list[str]:
     if not there:
         raise Missing(f"no page tells of {name}: {', '.join(it[0] for it in PARTS[name])}")
     file, first, last = there[0]
-    with open(os.path.join(TOP, file), encoding="utf-8") as it:
-        lines = documents.renamed(it.read()).split("\n")
+    lines = documents.renamed(read_text(os.path.join(TOP, file))).split("\n")
     for heading in (first, last):
         if heading and heading not in lines:
             raise Missing(f"{file} has no line {heading}")

@@ -11,7 +11,7 @@ from checking import Skipped, check, within
 from daemon import Daemon, Part
 from daemons import COMES_UP
 from fetching import Packages
-from repository import CACHE, TOP
+from repository import CACHE, TOP, read_text
 from service import FILE
 from spaces import THEIRS, inside, ip
 
@@ -55,8 +55,7 @@ def lay_over(packages: Packages, name: str) -> Callable[[str], None]:
         put(over, "etc/systemd/system/bundle.target", TARGET.replace("dbus.service", f"dbus.service {' '.join(units)}"))
         put(over, "etc/lagd/uplink.conf", BUNDLE)
         put(over, "etc/network/interfaces", "source /etc/network/interfaces.d/*\n")
-        with open(os.path.join(TOP, "lagd", "carry.conf"), encoding="utf-8") as it:
-            put(over, f"{UNIT}/carry.conf", it.read())
+        put(over, f"{UNIT}/carry.conf", read_text(os.path.join(TOP, "lagd", "carry.conf")))
         for file, place in files.items():
             put(over, place, text_of(file), 0o600 if place.startswith(CONNECTIONS) else 0o644)
 

@@ -15,7 +15,7 @@ from typing import Callable
 from checking import Skipped, check, command, within
 from daemon import SYSTEM, Daemon, Part
 from daemons import COMES_UP, GOES_DOWN
-from repository import TOP
+from repository import TOP, read_text
 from service import BUNDLE_LINE, FILE, ids_of_lines, write
 from spaces import OURS
 
@@ -69,8 +69,7 @@ def lay_out(part: Part, over: str, bundle: str) -> None:
     if "carry=" in bundle:
         files["carry.conf"] = "etc/systemd/system/lagd@.service.d/carry.conf"
     for file, place in files.items():
-        with open(os.path.join(TOP, "lagd", file), encoding="utf-8") as it:
-            put(over, place, it.read())
+        put(over, place, read_text(os.path.join(TOP, "lagd", file)))
     put(over, "etc/systemd/system/bundle.target", TARGET)
     put(over, "etc/systemd/system/lagd@.service.d/impatient.conf", IMPATIENT)
     put(over, "etc/lagd/uplink.conf", bundle)
@@ -116,8 +115,7 @@ class Machine:
     def first(self) -> str | None:
         """The number of its first process, outside."""
         path = f"/proc/{self.process.pid}/task/{self.process.pid}/children"
-        with open(path, encoding="utf-8") as it:
-            return next(iter(it.read().split()), None)
+        return next(iter(read_text(path).split()), None)
 
     def run(self, *words: str) -> subprocess.CompletedProcess[str]:
         first = self.first() if self.process.poll() is None else None

@@ -10,7 +10,7 @@ from typing import NamedTuple, Sequence
 
 from checking import Failed, check, command
 from processors import FOR_EACH_X86
-from repository import CC, COMPILER, CRATES, MAINTAIN, RT, TOP, WARNINGS, Missing, daemon_words, kernel_programs, runtime, want
+from repository import CC, COMPILER, CRATES, MAINTAIN, RT, TOP, WARNINGS, Missing, daemon_words, kernel_programs, read_text, runtime, want
 
 CRATE = os.path.join(CRATES, "lagffi")
 INCLUDE = f"-I{CRATE}/include"
@@ -197,8 +197,7 @@ REFUSING = f"{MAINTAIN}/live.d/refusing.c"
 
 def refusable() -> list[str]:
     """The functions that refusing.c refuses, without their lagffi_."""
-    with open(REFUSING, encoding="utf-8") as source:
-        return re.findall(r"^REFUSING\([\w ]+, (\w+),", source.read(), re.M)
+    return re.findall(r"^REFUSING\([\w ]+, (\w+),", read_text(REFUSING), re.M)
 
 
 def called() -> set[str]:

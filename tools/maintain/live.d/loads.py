@@ -11,7 +11,7 @@ import time
 from checking import Failed, check, command, within
 from daemon import ENDS, KEY, OTHER, SYSTEM, Daemon, Part
 from daemons import COMES_UP, both_up, pair_up
-from repository import CC, COMPILER, MAINTAIN
+from repository import CC, COMPILER, MAINTAIN, read_text
 from service import Filed, write
 from spaces import OURS, THEIRS, inside, ip, make_pair
 
@@ -94,8 +94,7 @@ def build_flood(folder: str) -> str:
 
 def memory(daemon: Daemon) -> int:
     """How many octets of memory a daemon has."""
-    with open(f"/proc/{daemon.process.pid}/statm", encoding="utf-8") as it:
-        return int(it.read().split()[1]) * os.sysconf("SC_PAGE_SIZE")
+    return int(read_text(f"/proc/{daemon.process.pid}/statm").split()[1]) * os.sysconf("SC_PAGE_SIZE")
 
 
 def rubbish(part: Part) -> None:

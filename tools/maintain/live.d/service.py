@@ -16,7 +16,7 @@ from typing import Callable, Mapping, Sequence
 from checking import Skipped, check, command, within
 from daemon import ENDS, KEY, OTHER, SYSTEM, Daemon, Part
 from daemons import COMES_UP, GOES_DOWN, NOBODY, both_up, pair_up
-from repository import TOP, daemon_words
+from repository import TOP, daemon_words, read_text
 from spaces import OURS, THEIRS, flap, inside, ip, make_pair
 
 UNIT = os.path.join(TOP, "lagd", "lagd@.service")
@@ -537,8 +537,7 @@ def entries(listener: socket.socket, daemon: Daemon, wanted: int) -> list[dict[s
 def message_ids(part: Part) -> None:
     """What the journal gets by its own protocol: each kind of line has its message id."""
     ids = ids_of_lines()
-    with open(os.path.join(TOP, "lagd", "journal.c"), encoding="utf-8") as source:
-        given = re.findall(r'"([0-9a-f]{32})"', source.read())
+    given = re.findall(r'"([0-9a-f]{32})"', read_text(os.path.join(TOP, "lagd", "journal.c")))
     check(sorted(given) == sorted(ids.values()) and len(set(given)) == len(given) > 5, "the documents have each message id", given, ids)
     place, (reader, writer) = os.path.join(part.folder, "journal"), socket.socketpair()
     os.mkdir(place)
@@ -580,8 +579,7 @@ def rights(part: Part) -> None:
     ip(OURS, "link", "del", "a1")
     ours = part.ours()
     within(ENDS, lambda: ours.port("a0")["link"] == "up")
-    with open(f"/proc/{ours.process.pid}/status", encoding="utf-8") as it:
-        has = dict(re.findall(r"^(\w+):\t(\S+)$", it.read(), re.M))
+    has = dict(re.findall(r"^(\w+):\t(\S+)$", read_text(f"/proc/{ours.process.pid}/status"), re.M))
     wanted = {"CapInh": 0, "CapPrm": 1 << 13, "CapEff": 1 << 13, "CapBnd": 0, "CapAmb": 0, "NoNewPrivs": 1}
     found = {name: int(has[name], 16) for name in wanted}
     check(found == wanted, "as root the daemon keeps CAP_NET_RAW alone", found)

@@ -4,7 +4,8 @@ import os
 import subprocess
 import tempfile
 
-from stored import Tests, read
+from repository import read_text
+from stored import Tests
 from texts import EXPLAIN, STATUS, second_port, told_of
 
 COPIED = "are of system 02-00-00-0{}-0a-01: if these are two hosts, give one of them another identifier"
@@ -14,7 +15,7 @@ UNHEARD = "No LACPDU comes on any link: is LACP on at the far end?"
 
 
 def status(name: str) -> str:
-    return read(os.path.join(STATUS, name))
+    return read_text(os.path.join(STATUS, name))
 
 
 def told_of_two(here: str, there: str) -> str:

@@ -11,7 +11,7 @@ import sys
 import pytest
 
 import loading
-from repository import Missing
+from repository import Missing, read_bytes, read_text
 
 EXAMPLES = os.path.join(os.path.dirname(loading.TOOLS), "examples")
 CAPTURES = os.path.join(EXAMPLES, "captures")
@@ -28,30 +28,24 @@ def answer(*words: str, given: bytes | None = None) -> tuple[int, str, str]:
     return ended.returncode, ended.stdout.decode(), ended.stderr.decode()
 
 
-def read(path: str) -> str:
-    with open(path, encoding="utf-8") as it:
-        return it.read()
-
-
 @needs_node
 @pytest.mark.parametrize("name, end", STORED)
 def test_a_capture_gives_what_is_stored(name: str, end: str) -> None:
     path = os.path.join(CAPTURES, name)
-    assert answer(ENDS[end], "capture", path) == (1, read(path.rpartition(".")[0] + end), "")
+    assert answer(ENDS[end], "capture", path) == (1, read_text(path.rpartition(".")[0] + end), "")
 
 
 @needs_node
 @pytest.mark.parametrize("name", SCRIPTS)
 def test_a_script_gives_its_report(name: str) -> None:
     path = os.path.join(EXAMPLES, name)
-    assert answer("replay", path) == (0, read(f"{path.removesuffix('.toml')}.txt"), "")
+    assert answer("replay", path) == (0, read_text(f"{path.removesuffix('.toml')}.txt"), "")
 
 
 @needs_node
 def test_standard_input_vectors_and_refusals() -> None:
     path = os.path.join(CAPTURES, "flapping.pcap")
-    with open(path, "rb") as it:
-        assert answer("capture", "-", given=it.read()) == answer("capture", path)
+    assert answer("capture", "-", given=read_bytes(path)) == answer("capture", path)
     assert answer("vectors")[1].endswith("vectors 10 failed 0\n")
     assert answer("decode", "zz") == (2, "", "lagtool: not hex\n")
     assert answer("capture", "/none") == (2, "", "lagtool: cannot read /none\n")
