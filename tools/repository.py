@@ -146,10 +146,16 @@ def say(text: object) -> None:
     print(f"{os.path.basename(sys.argv[0])}: {text}", file=sys.stderr, flush=True)
 
 
-def run(main: Callable[[], int | None]) -> NoReturn:
-    """Runs a tool. Where something is missing it ends with a line and status 2."""
+def tally(passed: int, failed: int) -> int:
+    """Prints the last line of a tool that checks something; answers its status."""
+    print(f"{passed} passed, {failed} failed")
+    return int(failed > 0)
+
+
+def run(main: Callable[[], int | None], told: str | None = None) -> NoReturn:
+    """Runs a tool; --help alone prints what is told of it, where that is given. Where something is missing it ends with a line and status 2."""
     try:
-        status = main()
+        status = print(told, end="") if told and sys.argv[1:] in (["--help"], ["-h"]) else main()
         sys.stdout.flush()
         sys.exit(status)
     except BrokenPipeError:

@@ -149,8 +149,7 @@ def try_reload(count: Count, bench: Bench, daemon: subprocess.Popen[bytes]) -> N
         write_text(bench.tree + FILE, file().replace("system=auto", f"system=auto\n{text}"))
         daemon.send_signal(signal.SIGHUP)
         time.sleep(1)
-        told = until(status, wanted) or until(status, "status: up, 2 of 2 links carry")
-        count.add(f"a reload with {text}: {wanted}", told)
+        count.add(f"a reload with {text}: {wanted}", until(status, wanted) or until(status, "status: up, 2 of 2 links carry"))
 
 
 def try_upgraded(count: Count, bench: Bench, daemon: subprocess.Popen[bytes]) -> None:

@@ -52,8 +52,7 @@ def table(imports: dict[str, set[str]]) -> str:
 def write(processor: str, found: set[str]) -> None:
     """Writes the column of a processor."""
     text = page()
-    made = re.sub(re.escape(HEAD) + r"(?:\|.*\n)+", lambda _: table({**rows(text), processor: found}), text)
-    write_text(PAGE, made)
+    write_text(PAGE, re.sub(re.escape(HEAD) + r"(?:\|.*\n)+", lambda _: table({**rows(text), processor: found}), text))
 
 
 def tried(count: Count, file: str, processor: str) -> None:

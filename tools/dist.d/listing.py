@@ -23,10 +23,7 @@ def sum_of(octets: bytes) -> str:
 
 def sums(files: list[str]) -> str:
     """Lines for `sha256sum --check`, in the order of the names."""
-    found = []
-    for file in sorted(files, key=os.path.basename):
-        found.append(f"{sum_of(read_bytes(file))}  {os.path.basename(file)}\n")
-    return "".join(found)
+    return "".join(f"{sum_of(read_bytes(file))}  {os.path.basename(file)}\n" for file in sorted(files, key=os.path.basename))
 
 
 def identifier(name: str) -> str:
@@ -101,8 +98,7 @@ def materials(parts: Parts, folder: str, tool: str) -> str:
 def listed(parts: Parts, out: str, folder: str, files: list[str]) -> list[str]:
     """Writes both lists beside what was made; answers their files."""
     inside, checked = (os.path.join(out, f"niwhopera-{version()}-{parts.processor.machine}.{it}") for it in ("spdx.json", "sha256"))
-    tool = printed(RT, "version").split("\n")[0].strip()
-    write_text(inside, materials(parts, folder, tool))
+    write_text(inside, materials(parts, folder, printed(RT, "version").split("\n")[0].strip()))
     write_text(checked, sums([*files, inside]))
     return [inside, checked]
 

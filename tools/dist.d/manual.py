@@ -95,8 +95,7 @@ def table(cells: list[list[str]]) -> list[str]:
     """A table of tbl; each cell is a text block, which may have several lines."""
     columns = widths(cells)
     text = [".PP", ".TS", "tab(@);", *(" ".join(f"l{font}w({it}n)" for it in columns) + end for font, end in (("b", ""), ("", ".")))]
-    for row in cells:
-        text.append("@".join(f"T{{\n{guarded(breakable(inline(it)))}\nT}}" if it else "" for it in row))
+    text += ["@".join(f"T{{\n{guarded(breakable(inline(it)))}\nT}}" if it else "" for it in row) for row in cells]
     return [*text, ".TE"]
 
 

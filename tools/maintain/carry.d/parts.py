@@ -135,8 +135,7 @@ def restarts(programs: Programs) -> None:
             again = within(COMES_UP, lambda: ours.links() == theirs.links() == 2)
             check(again, "both links carry again", ours.text(), theirs.text())
             time.sleep(LINKWATCH)
-            outcome = run_flows(programs, 4, every(1, 3, move_all(ours)))
-            check_order(outcome, f"after it was {what}", ours.text())
+            check_order(run_flows(programs, 4, every(1, 3, move_all(ours))), f"after it was {what}", ours.text())
             check_end(ours, "the sending end")
         ours.process.send_signal(signal.SIGTERM)
         check(ours.process.wait(10) == 0, "SIGTERM ends the sending end with status 0", ours.printed())
@@ -213,8 +212,7 @@ def open_vswitch(programs: Programs) -> None:
             found = within(COMES_UP, lambda: ours.carry()["markers"] in ("answered", "not answered"))
             check(found, f"it has {ours.carry()['markers']} a marker", ours.text())
             events = [(3, lambda: laid.tell("cut", 1)), (5, lambda: laid.tell("join", 1))]
-            outcome = run_flows(programs, 10, events, devices=(DEVICE, "br0"))
-            check_order(outcome, "to Open vSwitch, with a cut", ours.text())
+            check_order(run_flows(programs, 10, events, devices=(DEVICE, "br0")), "to Open vSwitch, with a cut", ours.text())
             check_end(ours, "the sending end")
         finally:
             ours.kill()
@@ -225,8 +223,7 @@ def frames(programs: Programs) -> None:
     """Frames with a tag, of the longest kind, too long and of the slow protocols; and the MTU."""
     with cables(programs, ()):
         ours, theirs = End(programs, OURS), End(programs, THEIRS)
-        up = within(COMES_UP, lambda: ours.links() == theirs.links() == 2)
-        check(up, "two links without delay carry", ours.text())
+        check(within(COMES_UP, lambda: ours.links() == theirs.links() == 2), "two links without delay carry", ours.text())
         try_frames(ours, theirs)
 
 

@@ -15,8 +15,7 @@ LINK = ["wasm-ld", "-mwasm64", "--experimental-pic", "-shared", "--no-entry", "-
 def made(folder: str) -> bytes:
     """The octets of the module."""
     at = {name: os.path.join(folder, name) for name in ("lagffi.o", "builtins.o", "lag.wasm")}
-    text = module.retargeted(module.lowered(folder, "lagffi"))
-    module.compiled(text, at["lagffi.o"], WORDS)
+    module.compiled(module.retargeted(module.lowered(folder, "lagffi")), at["lagffi.o"], WORDS)
     builtins = os.path.join(TOP, "page", "builtins.c")
     done(["clang", *WORDS, "-ffreestanding", "-fno-builtin", "-fvisibility=hidden", "-c", builtins, "-o", at["builtins.o"]], module.clang())
     done([*LINK, *(f"--export={name}" for name in exports()), "-o", at["lag.wasm"], at["lagffi.o"], at["builtins.o"]], module.clang())

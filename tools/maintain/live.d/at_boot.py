@@ -3,7 +3,6 @@
 import contextlib
 import os
 import shutil
-from pathlib import Path
 from typing import Callable
 
 from booted import ANSWERS, BOOTS, TARGET, Machine, put
@@ -36,7 +35,7 @@ WAYS: dict[str, tuple[dict[str, str], list[str], list[str]]] = {
 def text_of(file: str) -> str:
     """A file of lagd/boot, with the names of our members."""
     path = os.path.join(TOP, "lagd", "boot", file)
-    text = Path(path if os.path.exists(path) else path.replace("eth2", "eth1")).read_text(encoding="utf-8")
+    text = read_text(path if os.path.exists(path) else path.replace("eth2", "eth1"))
     return text.replace("eth1", "a1" if file.startswith("eth2") else "a0").replace("eth2", "a1")
 
 

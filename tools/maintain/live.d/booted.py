@@ -9,14 +9,13 @@ import shutil
 import signal
 import subprocess
 import time
-from pathlib import Path
 from typing import Callable
 
 from checking import Skipped, check, command, within
 from daemon import SYSTEM, Daemon, Part
 from daemons import COMES_UP, GOES_DOWN
-from repository import TOP, read_text
-from service import BUNDLE_LINE, FILE, ids_of_lines, write
+from repository import TOP, read_text, write_text
+from service import BUNDLE_LINE, FILE, ids_of_lines
 from spaces import OURS
 
 BOOTS, ANSWERS = 30, 20
@@ -59,7 +58,7 @@ def put(over: str, path: str, text: str, mode: int = 0o644) -> None:
     """A file over those of the machine."""
     place = os.path.join(over, path)
     os.makedirs(os.path.dirname(place), exist_ok=True)
-    write(place, text)
+    write_text(place, text)
     os.chmod(place, mode)
 
 
@@ -141,7 +140,7 @@ class Machine:
         check(active, "systemd starts the unit, whose Type is notify", self.told())
 
     def told(self) -> str:
-        return Path(self.log).read_text(encoding="utf-8")[-3000:] + self.tells("journalctl", "--no-pager", "--lines", "60")
+        return read_text(self.log)[-3000:] + self.tells("journalctl", "--no-pager", "--lines", "60")
 
     def close(self) -> None:
         if self.process.poll() is None:

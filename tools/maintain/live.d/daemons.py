@@ -198,8 +198,7 @@ def other_addresses(daemon: Daemon, wire: Wire) -> None:
     check(seen and spared, "no LACPDU to another address is taken", *told)
     wire.send(lacpdu(STRANGER, 0x1234))
     named = lambda partner: (partner["system"], partner["port"]) == (STRANGER, 0x1234)
-    taken = lambda: named(daemon.port("a0")["partner"])
-    check(within(ENDS, taken), "one to the address of the slow protocols is", daemon.text())
+    check(within(ENDS, lambda: named(daemon.port("a0")["partner"])), "one to the address of the slow protocols is", daemon.text())
 
 
 def count_frames(daemon: Daemon, wire: Wire) -> None:
@@ -445,8 +444,7 @@ def not_root(part: Part) -> None:
     os.chown(os.path.join(part.folder, "run"), int(NOBODY), int(NOBODY))
     ours = part.ours(before=words)
     part.folder = os.path.dirname(part.folder)
-    theirs = part.theirs()
-    both_up(ours, theirs, "not as root, both links distribute")
+    both_up(ours, part.theirs(), "not as root, both links distribute")
     found = [it.getsockopt(socket.SOL_SOCKET, socket.SO_PRIORITY) for it in sockets_of(ours.process.pid)]
     check(found == [CONTROL, CONTROL], "its frames have the priority of control frames, too", found)
 

@@ -5,7 +5,6 @@ import glob
 import os
 import re
 import shutil
-from pathlib import Path
 
 import library
 from checking import check, command
@@ -19,8 +18,7 @@ PRINTS = "both ends distribute after 30 ticks of 100 ms\n"
 
 
 def check_example(folder: str, libraries: list[str]) -> None:
-    program = build(os.path.join(folder, "two_ends"), [EXAMPLE], libraries, *STRICT, "-Werror")
-    told = ran(program)
+    told = ran(build(os.path.join(folder, "two_ends"), [EXAMPLE], libraries, *STRICT, "-Werror"))
     check(told.returncode == 0 and told.stdout == PRINTS, "examples/c/two_ends.c prints what README says", told.stdout + told.stderr)
     check(PRINTS.strip() in read_text(f"{TOP}/README.md"), "README says what it prints")
 
@@ -31,7 +29,7 @@ def check_programs(folder: str, libraries: list[str]) -> None:
     pooled = ["-DNIW_POOL", library.PORTABLE]
     for text in sorted(glob.glob(f"{EXAMPLES}/*.txt")):
         name = os.path.basename(text).removesuffix(".txt")
-        wanted = Path(text).read_text(encoding="utf-8")
+        wanted = read_text(text)
         for linked in [pooled, [*pooled, *LARGER]] if name == "pool" else [libraries]:
             told = ran(build(os.path.join(folder, name), [os.path.join(EXAMPLES, f"{name}.c")], linked, *STRICT))
             named = " ".join([f"examples/c/{name}.c", *(LARGER if LARGER[0] in linked else [])])

@@ -11,8 +11,8 @@ import time
 from checking import Failed, check, command, within
 from daemon import ENDS, KEY, OTHER, SYSTEM, Daemon, Part
 from daemons import COMES_UP, both_up, pair_up
-from repository import CC, COMPILER, MAINTAIN, read_text
-from service import Filed, write
+from repository import CC, COMPILER, MAINTAIN, read_text, write_text
+from service import Filed
 from spaces import OURS, THEIRS, inside, ip, make_pair
 
 BUNDLES, MOST_PORTS, A_MINUTE = 100, 64, 60
@@ -68,7 +68,7 @@ def whole_status(part: Part) -> None:
     named = "".join(f"link property add dev a{place} altname {names[place]}\n" for place in range(1, MOST_PORTS))
     ip(OURS, "-batch", "-", input=named)
     file = os.path.join(part.folder, "b" * 127 + ".conf")
-    write(file, f"[Bundle]\nkey=7\nsystem=1,{SYSTEM}\n" + "".join(f"[Port {name}]\n" for name in names))
+    write_text(file, f"[Bundle]\nkey=7\nsystem=1,{SYSTEM}\n" + "".join(f"[Port {name}]\n" for name in names))
     ours = Filed(part, file)
     check(within(ENDS, lambda: list(ours.ports()) == names), "64 ports of long names", ours.printed())
     text = ours.text()

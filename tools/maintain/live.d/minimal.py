@@ -4,11 +4,11 @@ import os
 import signal
 import subprocess
 import time
-from pathlib import Path
 
 from checking import check, within
 from daemon import ENDS, Daemon, Part
 from daemons import COMES_UP, GOES_DOWN, STALL, STRANGER
+from repository import read_text
 from spaces import OURS, THEIRS, Wire, inside, ip, lacpdu, marker
 
 UP, DOWN = "a0: it distributes", "a0: the link is down"
@@ -31,7 +31,7 @@ class Minimal:
         part.running.append(self)
 
     def printed(self) -> str:
-        return Path(self.log).read_text(encoding="utf-8")
+        return read_text(self.log)
 
     def printed_in_all(self, *lines: str) -> bool:
         return self.printed().splitlines() == list(lines)
@@ -57,8 +57,7 @@ def meets_strangers(ours: Minimal, theirs: Daemon) -> None:
     """A marker; and LACPDUs of another system, to other addresses and then to the right one."""
     wire = Wire(THEIRS, "b0")
     wire.send(marker(1))
-    answered = lambda: theirs.count("b0", "foreign_responses") == 1
-    check(within(ENDS, answered), "it answers a marker", theirs.text())
+    check(within(ENDS, lambda: theirs.count("b0", "foreign_responses") == 1), "it answers a marker", theirs.text())
     for to in "ff:ff:ff:ff:ff:ff", "01:80:c2:00:00:00", "01:80:c2:00:00:03":
         wire.send(lacpdu(STRANGER, 1), to)
     time.sleep(1)

@@ -8,7 +8,6 @@ import signal
 import time
 from concurrent.futures import ThreadPoolExecutor
 from dataclasses import dataclass
-from pathlib import Path
 from threading import Event, Thread
 from typing import Callable, Iterator
 
@@ -16,6 +15,7 @@ from checking import Failed, Skipped, check, within
 from daemon import OTHER, SYSTEM, Daemon, Part, set_up
 from daemons import COMES_UP
 from linking import called, refusable
+from repository import read_text, write_text
 from spaces import OURS, THEIRS, flap, inside, ip, make_pair, packet_socket
 
 # Those that are refused from the start on: the first call is the one that counts.
@@ -108,8 +108,8 @@ def reloaded(trial: Trial) -> Iterator[float]:
         it.write("activity=passive\nhold=yes\n")
     trial.tell(signal.SIGHUP)
     yield 3.0
-    text = Path(file).read_text(encoding="utf-8")
-    Path(file).write_text(text.replace("[Bundle]", "[Bundle]\nmax-links=1"), encoding="utf-8")
+    text = read_text(file)
+    write_text(file, text.replace("[Bundle]", "[Bundle]\nmax-links=1"))
     trial.tell(signal.SIGHUP)
     yield 10.0
 
@@ -141,7 +141,7 @@ def write_file(folder: str, names: list[str], keys: dict[str, str]) -> str:
     """Writes the file of a bundle; answers its path."""
     path = os.path.join(folder, "bundle.conf")
     lines = ["[Bundle]", *(f"{name}={value}" for name, value in keys.items()), *(f"[Port {name}]" for name in names), ""]
-    Path(path).write_text("\n".join(lines), encoding="utf-8")
+    write_text(path, "\n".join(lines))
     return path
 
 

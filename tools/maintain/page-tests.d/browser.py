@@ -222,5 +222,4 @@ class Browser:
         self.call("Emulation.setEmulatedMedia", features=[{"name": "prefers-color-scheme", "value": "dark" if on else "light"}])
 
     def picture(self, path: str) -> None:
-        found = self.call("Page.captureScreenshot", format="png")
-        write_bytes(path, base64.b64decode(found["data"]))
+        write_bytes(path, base64.b64decode(self.call("Page.captureScreenshot", format="png")["data"]))

@@ -72,8 +72,7 @@ def of_unused(tests: Tests) -> None:
     for why, text in cases.items():
         line = told_of(text)[1].split("\n")[1].split("does not carry: ")[-1]
         tests.same(f"a port that is detached: {why}", line, f"this end has not attached it: {why}")
-    one_way = told_of(second_port(61, 5))[1]
-    tests.same("of a port that is used it is said", COLLECTS in one_way, True)
+    tests.same("of a port that is used it is said", COLLECTS in told_of(second_port(61, 5))[1], True)
 
 
 def of_unheard(tests: Tests) -> None:

@@ -51,10 +51,7 @@ def changed(octets: bytes, chance: random.Random) -> bytes:
 
 
 def read(folder: str, kinds: tuple[str, ...]) -> list[bytes]:
-    found = []
-    for name in sorted(it for it in os.listdir(folder) if it.endswith(kinds)):
-        found.append(read_bytes(os.path.join(folder, name)))
-    return found
+    return [read_bytes(os.path.join(folder, name)) for name in sorted(os.listdir(folder)) if name.endswith(kinds)]
 
 
 def frames_in(captures: list[bytes], chance: random.Random, count: int) -> list[bytes]:
