@@ -18,13 +18,7 @@ from repository import TOP, read_text, write_text
 BUNDLE, FILE = "uplink", "/etc/lagd/uplink.conf"
 UNIT = "lib/systemd/system/lagd@.service"
 # The lines of docs/INSTALL.md that are tried here; those with systemctl by the commands that the unit names.
-LINES = (
-    f"lagd --check {FILE}",
-    f"systemctl enable --now lagd@{BUNDLE}",
-    "lagd --status",
-    "lagd --metrics",
-    f"systemctl reload lagd@{BUNDLE}",
-)
+LINES = (f"lagd --check {FILE}", f"systemctl enable --now lagd@{BUNDLE}", "lagd --status", "lagd --metrics", f"systemctl reload lagd@{BUNDLE}")
 PEER = ["/usr/sbin/lagd", "--folder", "/run/lagd-peer", "9", "32768,02:00:00:00:00:02", "eth1", "eth2"]
 # In a new mount namespace: the tree becomes /, with a proc of its own, as in installing.py.
 ENTER = ["unshare", "--mount", "--propagation", "private", "sh", "-c", 'mount -t proc proc "$0/proc" && exec chroot "$0" "$@"']

@@ -100,8 +100,7 @@ def switches(programs: Programs) -> None:
 def stays_while_heard(programs: Programs, laid: Cables, ours: End, theirs: End) -> None:
     """With data from the other end, a group that has as many links again does not get the data back."""
     first, before = ours.carry()["aggregator"], ours.carry()["switches"]
-    back = subprocess.Popen(["ip", "netns", "exec", THEIRS, programs.flows, "send", DEVICE, "1000", "8", "20", "macs"],
-                            stdout=subprocess.DEVNULL)
+    back = subprocess.Popen(["ip", "netns", "exec", THEIRS, programs.flows, "send", DEVICE, "1000", "8", "20", "macs"], stdout=subprocess.DEVNULL)
     try:
         seen: list[Carry] = []
         events: list[Event] = [(1, lambda: laid.tell("cut", 0)), (3, lambda: laid.tell("join", 0)), (8, lambda: seen.append(ours.carry()))]

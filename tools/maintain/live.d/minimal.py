@@ -15,10 +15,7 @@ UP, DOWN = "a0: it distributes", "a0: the link is down"
 WAITS, SILENT, ALONE = "a0: it waits for wait_while", "a0: no LACPDU came in time", "a0: it distributes without a partner"
 GONE = "minimal: a0: No such device"
 # Wrong words, with the status and the line that they end with.
-WRONG: list[tuple[list[str], int, str]] = [
-    ([], 2, "minimal: usage: minimal INTERFACE\n"),
-    (["none0"], 1, "minimal: none0: No such device\n"),
-]
+WRONG: list[tuple[list[str], int, str]] = [([], 2, "minimal: usage: minimal INTERFACE\n"), (["none0"], 1, "minimal: none0: No such device\n")]
 
 
 class Minimal:

@@ -235,7 +235,4 @@ def refuse_each(part: Part, way: list[str]) -> None:
     check(not wrong, f"each of them refused, but for {len(ELSEWHERE)}, {' '.join(way) or 'plain'}: the daemon ends with status 1 and a line that names it", *wrong)
 
 
-PARTS = {
-    "each call refused": lambda part: refuse_each(part, []),
-    "each call refused, fast": lambda part: refuse_each(part, ["--fast"]),
-}
+PARTS = {"each call refused": lambda part: refuse_each(part, []), "each call refused, fast": lambda part: refuse_each(part, ["--fast"])}

@@ -205,8 +205,4 @@ def fastest(part: Part) -> None:
         theirs.ends("the other daemon")
 
 
-PARTS = {
-    "the fastest group": fastest,
-    "links of two speeds": unequal,
-    "links of five speeds": many_speeds,
-}
+PARTS = {"the fastest group": fastest, "links of two speeds": unequal, "links of five speeds": many_speeds}
