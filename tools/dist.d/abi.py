@@ -77,8 +77,7 @@ def check_numbers(count: Count) -> None:
     """Each number that is kept is the header's."""
     found = numbers()
     for of, file in kept(KEPT_NUMBERS):
-        with open(file, encoding="utf-8") as it:
-            was = {name: int(number) for name, number in (line.split() for line in it)}
+        was = {name: int(number) for name, number in (line.split() for line in read_text(file).splitlines())}
         differs = [f"{name} was {number} and is {found.get(name, 'gone')}" for name, number in was.items() if found.get(name) != number]
         count.add(f"lag.h has the {len(was)} numbers of {of}", "; ".join(differs))
 

@@ -203,8 +203,7 @@ def places(kept: Kept) -> list[str]:
     """The conversations, and the interface of each, as the daemon last wrote it."""
     time.sleep(WRITTEN)
     path = max(glob.glob(f"{kept.folder}/*.{'a' if kept.at == OURS else 'b'}0.state"), key=os.path.getmtime)
-    with open(path, encoding="utf-8") as it:
-        return sorted(line for line in it if line.startswith("on "))
+    return sorted(line for line in read_text(path).splitlines() if line.startswith("on "))
 
 
 def stay(programs: Programs) -> None:

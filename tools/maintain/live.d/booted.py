@@ -83,8 +83,7 @@ def lay_out(part: Part, over: str, bundle: str) -> None:
 
 def unified() -> str:
     """Where the machine has its cgroups of version 2."""
-    with open("/proc/mounts", encoding="utf-8") as mounts:
-        found = [line.split()[1] for line in mounts if line.split()[2] == "cgroup2"]
+    found = [line.split()[1] for line in read_text("/proc/mounts").splitlines() if line.split()[2] == "cgroup2"]
     if not found:
         raise Skipped("no cgroups of version 2")
     return found[0]
@@ -150,10 +149,8 @@ class Machine:
         within(ANSWERS, ended)
         time.sleep(0.2)
         for place, _, _ in os.walk(self.group, topdown=False):
-            try:
+            with contextlib.suppress(OSError):
                 os.rmdir(place)
-            except OSError:
-                pass
 
 
 def journal_lines(machine: Machine, kind: str) -> list[tuple[str | None, str | None, str]]:

@@ -1,6 +1,7 @@
 """The daemon `lagd` over veth pairs: against itself, alone, with a stranger on the wire, and against the bonding driver."""
 
 import array
+import contextlib
 import fcntl
 import math
 import os
@@ -320,13 +321,11 @@ def full_queue(part: Part) -> None:
     check(within(ENDS, lambda: daemon.port("a0")["link"] == "up"), "a daemon alone", daemon.printed())
     daemon.process.send_signal(signal.SIGSTOP)
     askers: list[socket.socket] = []
-    try:
+    with contextlib.suppress(BlockingIOError):
         while len(askers) < 1000:
             askers.append(socket.socket(socket.AF_UNIX, socket.SOCK_STREAM | socket.SOCK_NONBLOCK))
             askers[-1].connect(daemon.socket())
             askers[-1].send(b"text\n")
-    except BlockingIOError:
-        pass
     status, line = part.refused("--status")
     told = status == 1 and line.startswith(f"lagd: {daemon.socket()}: its daemon does not answer: ") and "\nlagd: no lagd answers in: " in line
     check(len(askers) > 1 and told, f"stopped, with {len(askers)} questions unanswered, it keeps nobody waiting", line)
@@ -343,10 +342,8 @@ def false_changes(part: Part, seconds: float = 4) -> None:
     gone = LINK_GONE.pack(LINK_GONE.size, RTM_DELLINK, 0, 0, 0, socket.AF_UNSPEC, 0, int(inside(OURS, "cat", INDEX).stdout), 0, 0)
     sent, before, until = 0, ours.count("a0", "lacpdus_sent"), time.monotonic() + seconds
     while time.monotonic() < until:
-        try:
+        with contextlib.suppress(BlockingIOError, ConnectionRefusedError):
             sent += sender.sendto(gone, (ours.process.pid, 0)) > 0
-        except (BlockingIOError, ConnectionRefusedError):
-            pass
     check(sent > 1000 and ours.lines("a0") == lines, f"{sent} messages of another program change nothing", ours.printed())
     after = ours.count("a0", "lacpdus_sent")
     check(after >= before + 2, "the daemon sends meanwhile", before, after)

@@ -3,6 +3,7 @@ that are gone or false."""
 
 from __future__ import annotations
 
+import contextlib
 import json
 import os
 import re
@@ -346,13 +347,11 @@ class FalseDaemon(threading.Thread):
         answer = self.answer
         if answer is None or answer.endswith(HANGS):
             self.kept += [taken]
-        try:
+        with contextlib.suppress(OSError):
             taken.recv(16)
             taken.sendall((answer or b"").removesuffix(HANGS).removesuffix(ENDLESS))
             while answer and answer.endswith(ENDLESS):
                 taken.sendall(answer.removesuffix(ENDLESS))
-        except OSError:
-            pass
         if taken not in self.kept:
             taken.close()
 

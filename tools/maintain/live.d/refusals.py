@@ -3,6 +3,7 @@ call, and its peer is told."""
 
 from __future__ import annotations
 
+import contextlib
 import os
 import signal
 import time
@@ -58,10 +59,8 @@ class Trial:
         out = packet_socket(OURS, self.device, 0)
         while not self.quiet.wait(0.002):
             for flow in range(FLOWS):
-                try:
+                with contextlib.suppress(OSError):
                     out.send(bytes.fromhex(f"02bb000000{flow:02x}" "02aa00000000" "88b5") + bytes(50))
-                except OSError:
-                    pass
         out.close()
 
 

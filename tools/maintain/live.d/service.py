@@ -2,6 +2,7 @@
 
 from __future__ import annotations
 
+import contextlib
 import json
 import os
 import re
@@ -491,10 +492,8 @@ def managed(part: Part) -> None:
     told: list[str] = []
 
     def hears(word: str) -> bool:
-        try:
+        with contextlib.suppress(BlockingIOError):
             told.extend(manager.recv(4096).decode().split("\n"))
-        except BlockingIOError:
-            pass
         return word in told
 
     ours, _ = Filed(part, file, more={"NOTIFY_SOCKET": path}), part.theirs()

@@ -142,8 +142,7 @@ def module_files(folder: str, version: str, tree: str) -> str:
 
 def first_modules(laid: str) -> list[Entry]:
     """The modules without which a guest has no disks, in the order in which they are loaded. What the kernel has built in has no file."""
-    with open(f"{laid}/modules.dep", encoding="utf-8") as it:
-        rows = dict(line.strip().split(":", 1) for line in it)
+    rows = dict(line.strip().split(":", 1) for line in read_text(f"{laid}/modules.dep").splitlines())
     order: list[str] = []
     for name in FIRST:
         path = next((it for it in rows if re.search(rf"/{name}\.ko", it)), None)

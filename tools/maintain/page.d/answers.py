@@ -101,8 +101,7 @@ def of_module(octets: bytes, jobs: list[Job], folder: str) -> list[Answer]:
     ended = subprocess.run(["node", at["answers.mjs"], at["module.wasm"], at["jobs.json"], at["answers.json"]], capture_output=True, text=True)
     if ended.returncode:
         raise Missing(f"node failed: {ended.stderr.strip()[-800:]}")
-    with open(at["answers.json"], encoding="utf-8") as it:
-        return [(status, printed, said) for status, printed, said in json.load(it)]
+    return [(status, printed, said) for status, printed, said in json.loads(read_text(at["answers.json"]))]
 
 
 def compared(octets: bytes, lagtool: str, folder: str, seed: int, count: int) -> tuple[int, list[str]]:
