@@ -24,25 +24,24 @@ needs_node = pytest.mark.skipif(not shutil.which("node"), reason="there is no no
 
 def answer(*words: str, given: bytes | None = None) -> tuple[int, str, str]:
     """The status, what is printed and what is said."""
+    if not shutil.which("node"):
+        pytest.skip("there is no node")
     ended = subprocess.run(["node", ANSWER, *words], input=given or b"", capture_output=True)
     return ended.returncode, ended.stdout.decode(), ended.stderr.decode()
 
 
-@needs_node
 @pytest.mark.parametrize("name, end", STORED)
 def test_a_capture_gives_what_is_stored(name: str, end: str) -> None:
     path = os.path.join(CAPTURES, name)
     assert answer(ENDS[end], "capture", path) == (1, read_text(path.rpartition(".")[0] + end), "")
 
 
-@needs_node
 @pytest.mark.parametrize("name", SCRIPTS)
 def test_a_script_gives_its_report(name: str) -> None:
     path = os.path.join(EXAMPLES, name)
     assert answer("replay", path) == (0, read_text(f"{path.removesuffix('.toml')}.txt"), "")
 
 
-@needs_node
 def test_standard_input_vectors_and_refusals() -> None:
     path = os.path.join(CAPTURES, "flapping.pcap")
     assert answer("capture", "-", given=read_bytes(path)) == answer("capture", path)
@@ -55,7 +54,6 @@ def test_standard_input_vectors_and_refusals() -> None:
     assert answer("check", path)[0] == answer("capture")[0] == 2
 
 
-@needs_node
 def test_a_file_that_cannot_be_read_has_the_words_of_the_program(tmp_path: pathlib.Path) -> None:
     locked = tmp_path / "locked"
     locked.touch(0)
@@ -65,7 +63,6 @@ def test_a_file_that_cannot_be_read_has_the_words_of_the_program(tmp_path: pathl
             assert answer("--explain", job, path) == (2, "", f"lagtool: cannot read {path}\nlagtool: {path}: {cause}\n")
 
 
-@needs_node
 def test_an_option_behind_the_subcommand_is_told_its_place() -> None:
     path = os.path.join(CAPTURES, "flapping.pcap")
     for words in (["capture", "--json", path], ["capture", path, "--json"]):
@@ -92,7 +89,6 @@ def test_where_nobody_reads_on_nothing_is_said() -> None:
     assert (ended.returncode, ended.stderr) == (141, b"")
 
 
-@needs_node
 def test_a_script_that_is_not_utf_8_is_told_by_its_file(tmp_path: pathlib.Path) -> None:
     script = tmp_path / "port.toml"
     script.write_bytes(b"# \xff\n")
