@@ -1,5 +1,7 @@
 """From where this machine has packages of Debian, as its own apt is configured: its mirror is what its owner chose."""
 
+from __future__ import annotations
+
 import re
 import subprocess
 from typing import NamedTuple

@@ -5,6 +5,8 @@ libabigail writes its interface down, and abidiff compares. What tools/maintain/
 the library. docs/ABI.md says what may change.
 """
 
+from __future__ import annotations
+
 import glob
 import os
 import re

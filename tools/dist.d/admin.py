@@ -4,6 +4,8 @@ In the tree no systemd runs. So the command line of the unit is run by hand, as 
 in a network namespace with two veth pairs; a second daemon at the other ends is the peer.
 """
 
+from __future__ import annotations
+
 import os
 import re
 import shutil

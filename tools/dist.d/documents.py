@@ -3,6 +3,8 @@
 A page of the repository links to sources and tools that are not installed. Such a link becomes its own words.
 """
 
+from __future__ import annotations
+
 import os
 import re
 from typing import Mapping

@@ -1,6 +1,8 @@
 """Tries what was built for another processor as it is tried on this one, by qemu, but for what wants the kernel: packet sockets and
 network namespaces, which qemu has not for a program alone."""
 
+from __future__ import annotations
+
 import os
 import re
 import subprocess

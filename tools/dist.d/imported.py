@@ -1,5 +1,7 @@
 """What a library imports, and the table of docs/ABI.md that says it."""
 
+from __future__ import annotations
+
 import os
 import re
 

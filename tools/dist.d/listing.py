@@ -1,5 +1,7 @@
 """Says of what was made: its checksums, and what is in it (SPDX 2.3)."""
 
+from __future__ import annotations
+
 import hashlib
 import json
 import os

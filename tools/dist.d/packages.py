@@ -1,5 +1,7 @@
 """Makes the packages of Debian: the files of each stand below `debian`, and debhelper does the rest."""
 
+from __future__ import annotations
+
 import email.utils
 import os
 import shutil

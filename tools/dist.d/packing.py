@@ -1,5 +1,7 @@
 """Packs files into an archive, so that equal files give equal octets."""
 
+from __future__ import annotations
+
 import gzip
 import io
 import os

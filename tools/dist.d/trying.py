@@ -1,5 +1,7 @@
 """Tries an archive as someone would who has no toolchain."""
 
+from __future__ import annotations
+
 import os
 import re
 import shutil

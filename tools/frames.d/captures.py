@@ -1,5 +1,7 @@
 """Reads captures: the formats pcap and pcapng, as their drafts of the IETF (opsawg) describe them."""
 
+from __future__ import annotations
+
 import struct
 from typing import BinaryIO, Iterator, NamedTuple, NoReturn
 

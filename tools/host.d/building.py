@@ -1,5 +1,7 @@
 """How a host is built and packed: what both have in common."""
 
+from __future__ import annotations
+
 import glob
 import hashlib
 import os

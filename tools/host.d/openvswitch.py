@@ -1,5 +1,7 @@
 """Open vSwitch: its lib/lacp.c is exchanged, and two of its packages are built by Debian's own packaging, without DPDK and AF_XDP."""
 
+from __future__ import annotations
+
 import glob
 import os
 import re

@@ -1,5 +1,7 @@
 """teamd of libteam: its lacp runner is exchanged, and the package libteam-utils of this machine is packed again with the new program."""
 
+from __future__ import annotations
+
 import os
 import re
 import shutil

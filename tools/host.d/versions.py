@@ -1,5 +1,7 @@
 """The versions of packages whose LACP is ours."""
 
+from __future__ import annotations
+
 import os
 
 from repository import TOP, read_text

@@ -1,5 +1,7 @@
 """The program's help, from the texts in its sources, where the program is not built yet."""
 
+from __future__ import annotations
+
 import os
 import re
 import textwrap

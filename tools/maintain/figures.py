@@ -1,5 +1,7 @@
 """Figures that sentences of pages copy: each row names a sentence, and what finds its figures in a table, a source or a stored report."""
 
+from __future__ import annotations
+
 import glob
 import os
 import re

@@ -3,6 +3,8 @@
 Two tools may have modules of one name, so each is read by itself.
 """
 
+from __future__ import annotations
+
 import os
 import re
 import subprocess

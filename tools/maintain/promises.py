@@ -5,6 +5,8 @@ A promise is a comment of a crate's `src` or `specs`, `// promise:` in the code 
 the order of the rows: a row stays where it is while its promise or its contract stays, and a new one comes last of its crate.
 """
 
+from __future__ import annotations
+
 import os
 import re
 from typing import Iterator, NamedTuple

@@ -1,5 +1,7 @@
 """What each crate is: the first sentence of its own documentation, and the table of docs/internals/ARCHITECTURE.md that is made of these."""
 
+from __future__ import annotations
+
 import os
 import re
 

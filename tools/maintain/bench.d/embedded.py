@@ -1,5 +1,7 @@
 """liblag.a beside Open vSwitch's lib/lacp.c, each compiled for a program that has one LAG and nothing else: code, memory and times."""
 
+from __future__ import annotations
+
 import os
 import subprocess
 import tempfile

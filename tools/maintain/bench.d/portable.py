@@ -1,5 +1,7 @@
 """c/lag.c beside the native library, in one run: times of calls, each of both compiled with one program by -O2."""
 
+from __future__ import annotations
+
 import os
 import subprocess
 import tempfile

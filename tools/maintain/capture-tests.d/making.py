@@ -1,5 +1,7 @@
 """Makes captures: frames of the slow protocols, and the files pcap and pcapng, octet by octet."""
 
+from __future__ import annotations
+
 import struct
 from typing import NamedTuple
 

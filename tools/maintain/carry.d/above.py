@@ -1,5 +1,7 @@
 """What is tried of interfaces above the TAP device: VLANs, two tags, a bridge that filters VLANs, IPv6, and tunnels."""
 
+from __future__ import annotations
+
 import shutil
 import socket
 import time

@@ -1,6 +1,8 @@
 """What is tried of members that keep all their queues: by which queue a frame goes, and the order through moves, restarts and changes of the
 queues."""
 
+from __future__ import annotations
+
 import contextlib
 import os
 import select

@@ -1,5 +1,7 @@
 """What is tried of announcements: which frames come to the peer once data goes another way, as tcpdump reads them."""
 
+from __future__ import annotations
+
 import contextlib
 import shutil
 import subprocess

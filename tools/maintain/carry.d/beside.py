@@ -1,5 +1,7 @@
 """Two bonds of Open vSwitch in the place of two daemons, and how a table of both is printed."""
 
+from __future__ import annotations
+
 import contextlib
 import os
 from typing import Iterable, Iterator, Sequence

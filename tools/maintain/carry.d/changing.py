@@ -1,5 +1,7 @@
 """What is tried of members that come and go while a daemon runs, and of a daemon that is started again with fewer of them."""
 
+from __future__ import annotations
+
 import contextlib
 import signal
 import subprocess

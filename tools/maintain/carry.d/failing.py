@@ -1,5 +1,7 @@
 """The table of failures: for how long no frame comes where one of two links goes, and how much memory a daemon has."""
 
+from __future__ import annotations
+
 from typing import Sequence
 
 from beside import print_rows, switches

@@ -1,5 +1,7 @@
 """What is tried of frames of several segments, and of data that the kernel passes on by itself."""
 
+from __future__ import annotations
+
 import contextlib
 import ctypes
 import shutil

@@ -1,5 +1,7 @@
 """What is tried of a guest behind a bridge with the device, which sends what no honest host does."""
 
+from __future__ import annotations
+
 import fcntl
 import os
 import struct

@@ -1,5 +1,7 @@
 """What is tried of a device that an administrator sets down and up again."""
 
+from __future__ import annotations
+
 import signal
 import time
 from typing import Callable

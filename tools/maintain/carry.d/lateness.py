@@ -1,5 +1,7 @@
 """How long the processes of a run waited for a processor, as the kernel counts it: on a loaded machine frames are late for that reason alone."""
 
+from __future__ import annotations
+
 import glob
 import os
 

@@ -1,5 +1,7 @@
 """The long run: ten million frames, thousands of moves and two hundred failures, by each way."""
 
+from __future__ import annotations
+
 import os
 from typing import Callable
 

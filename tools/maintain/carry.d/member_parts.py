@@ -1,5 +1,7 @@
 """What is tried of the members: what their own network stacks have, what is left to their cards, and what queues them."""
 
+from __future__ import annotations
+
 import fcntl
 import functools
 import os

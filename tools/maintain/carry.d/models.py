@@ -1,5 +1,7 @@
 """The protocol between the daemon and the programs of the kernel, as a model: spin looks at all its interleavings."""
 
+from __future__ import annotations
+
 import os
 import re
 import shutil

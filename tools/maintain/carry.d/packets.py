@@ -1,5 +1,7 @@
 """Packets of TCP that are to be cut into segments, as a host hands them to a device."""
 
+from __future__ import annotations
+
 import socket
 import struct
 

@@ -1,5 +1,7 @@
 """What is tried: each part is a function of the programs."""
 
+from __future__ import annotations
+
 import shutil
 import signal
 import subprocess

@@ -1,5 +1,7 @@
 """What is tried of links that come back: they wait until their carrier was steady, and those with the lowest priorities are used."""
 
+from __future__ import annotations
+
 import signal
 import time
 from typing import Callable

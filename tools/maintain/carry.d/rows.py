@@ -1,5 +1,7 @@
 """Pairs of frames, and whether they are of one conversation by each hash."""
 
+from __future__ import annotations
+
 from collections import Counter
 from typing import Sequence
 

@@ -1,5 +1,7 @@
 """What is tried of several aggregators: which one carries, by `select`, with two peers, and with one that prefers another one."""
 
+from __future__ import annotations
+
 import contextlib
 import subprocess
 from typing import Callable, Iterator

@@ -1,6 +1,8 @@
 """What is tried of streams of TCP, whose segments the daemon cuts, and puts together: what is on the cables, what comes, and what becomes of a
 stream where a member, the memory or the device goes."""
 
+from __future__ import annotations
+
 import contextlib
 import hashlib
 import os

@@ -1,5 +1,7 @@
 """Streams of TCP between two devices, by iperf3."""
 
+from __future__ import annotations
+
 import json
 import shutil
 import subprocess

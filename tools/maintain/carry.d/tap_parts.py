@@ -1,6 +1,8 @@
 """What is tried of the TAP device: its host sends while it has no carrier, and an administrator deletes it, moves it, renames it, or sets it
 up in another way."""
 
+from __future__ import annotations
+
 import contextlib
 import errno
 import shutil

@@ -1,5 +1,7 @@
 """The table of speeds: two interfaces without a bond, the daemon's three ways, and Open vSwitch, in one run."""
 
+from __future__ import annotations
+
 import re
 from dataclasses import dataclass
 from typing import Callable, Sequence

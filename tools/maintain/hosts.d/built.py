@@ -1,5 +1,7 @@
 """The hosts as tools/host builds them, once a run."""
 
+from __future__ import annotations
+
 import glob
 import os
 import pathlib

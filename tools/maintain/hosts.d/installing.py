@@ -1,5 +1,7 @@
 """The packages of hosts: installed over those of this machine and taken back, in an overlay of its tree."""
 
+from __future__ import annotations
+
 import os
 import re
 import subprocess

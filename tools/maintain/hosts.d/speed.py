@@ -1,5 +1,7 @@
 """teamd as it is, teamd with the library, and lagd with plane=team, measured in turns in one guest; and what many teamds cost."""
 
+from __future__ import annotations
+
 import os
 import re
 import shutil

@@ -1,5 +1,7 @@
 """Tests and a fuzzer of hosts/shared/lag_state.h."""
 
+from __future__ import annotations
+
 import os
 import shutil
 import subprocess

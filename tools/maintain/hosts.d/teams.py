@@ -1,5 +1,7 @@
 """teamd with the library, in guests of User-mode Linux, which has the team driver."""
 
+from __future__ import annotations
+
 import contextlib
 import glob
 import os

@@ -1,5 +1,7 @@
 """Parts of tools/maintain/hosts side by side, each by a call of the tool for itself."""
 
+from __future__ import annotations
+
 import re
 import subprocess
 import sys

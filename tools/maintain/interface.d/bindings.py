@@ -1,5 +1,7 @@
 """python/niwhopera/_numbers.py: the numbers, texts and structs of lag.h, and the exports with their types."""
 
+from __future__ import annotations
+
 import keyword
 import re
 

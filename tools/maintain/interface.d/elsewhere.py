@@ -1,5 +1,7 @@
 """Where else the interface of the C library stands: the list of symbols of Debian, the C program that calls each function, and docs/USING.md."""
 
+from __future__ import annotations
+
 import re
 import textwrap
 

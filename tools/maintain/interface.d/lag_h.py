@@ -1,5 +1,7 @@
 """lag.h: its enums and texts, prototypes and wrappers, by the sources. What is said beside an enumerator, structs, and all between, is by hand."""
 
+from __future__ import annotations
+
 import re
 from typing import Iterator, Mapping
 

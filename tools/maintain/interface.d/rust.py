@@ -1,5 +1,7 @@
 """examples/rust/src/raw.rs: the numbers, structs and exports of lag.h, as Rust declares them."""
 
+from __future__ import annotations
+
 import re
 
 import bindings

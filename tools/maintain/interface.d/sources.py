@@ -5,6 +5,8 @@ Beside an export stand `///` lines: what lag.h says of it, and behind `Refuses:`
 looked at. NIW_NULL is not named: the functions of the header answer it for each null pointer.
 """
 
+from __future__ import annotations
+
 import functools
 import os
 import re

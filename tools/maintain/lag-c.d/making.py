@@ -1,5 +1,7 @@
 """Makes the module of which C is made: crates/lagffi for WebAssembly, whose data may stand anywhere."""
 
+from __future__ import annotations
+
 import os
 
 import module

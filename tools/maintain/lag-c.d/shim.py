@@ -4,6 +4,8 @@ and out again.
 The module's layout is that of Linux on x86-64. Where the program's is the same, the module is given its structs as they are: the compiler knows which.
 """
 
+from __future__ import annotations
+
 from repository import Missing
 from sources import Export, Field, Structs
 from wasm import Module

@@ -1,5 +1,7 @@
 """The whole of c/lag.c: what it is, memory and numbers by hand, the data and functions of the module, and the functions of lag.h."""
 
+from __future__ import annotations
+
 import os
 
 import functions

@@ -1,5 +1,7 @@
 """Reads a module of WebAssembly: as far as clang and wasm-ld write one of the library, with memory of 64 bits and no floating point."""
 
+from __future__ import annotations
+
 from typing import Any, Iterator, NamedTuple
 
 from repository import Missing

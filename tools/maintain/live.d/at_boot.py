@@ -1,5 +1,7 @@
 """Boots with the files of lagd/boot: what configures the network of a machine gives the members and the device what they need, each time."""
 
+from __future__ import annotations
+
 import contextlib
 import os
 import shutil

@@ -1,5 +1,7 @@
 """Checks that are counted, commands that are run, and signs that are waited for."""
 
+from __future__ import annotations
+
 import re
 import subprocess
 import time

@@ -1,5 +1,7 @@
 """The daemon `lagd` over veth pairs: against itself, alone, with a stranger on the wire, and against the bonding driver."""
 
+from __future__ import annotations
+
 import array
 import contextlib
 import fcntl

@@ -1,6 +1,8 @@
 """The example in C that README.md names, and the same in Rust: each builds without a warning and prints what README says. The C of
 docs/USING.md and docs/FIRMWARE.md stands in programs that run."""
 
+from __future__ import annotations
+
 import glob
 import os
 import re

@@ -1,5 +1,7 @@
 """Ports that others choose (members=follow), as they put interfaces into the device of the team driver, delete, rename and take them out."""
 
+from __future__ import annotations
+
 import re
 
 from checking import Skipped, check, command, within

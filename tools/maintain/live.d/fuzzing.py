@@ -1,6 +1,8 @@
 """Fuzzes the parsers of the daemon with libFuzzer: files, frames, their auxiliary data, questions at the status socket, what the last
 daemon left, and messages of the kernel."""
 
+from __future__ import annotations
+
 import os
 import re
 import shutil

@@ -1,5 +1,7 @@
 """The C library, and programs in C over it: how they are built."""
 
+from __future__ import annotations
+
 import glob
 import os
 import re

@@ -1,5 +1,7 @@
 """The daemon under loads: many bundles, many ports of long names, a flood of rubbish, a minute in which it is stopped."""
 
+from __future__ import annotations
+
 import json
 import os
 import shutil

@@ -1,5 +1,7 @@
 """What each option of the daemon does: its help text, docs/LAGD.md and the man page that is made of that have the same ones."""
 
+from __future__ import annotations
+
 import os
 import re
 import sys

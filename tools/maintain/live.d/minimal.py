@@ -1,5 +1,7 @@
 """The example of one port in C, examples/c/minimal.c, over a veth pair: against the daemon, and with a stranger on the wire."""
 
+from __future__ import annotations
+
 import os
 import signal
 import subprocess

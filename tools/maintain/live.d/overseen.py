@@ -1,5 +1,7 @@
 """The units of lagd-snmp and of the example for lldpd under systemd, beside snmpd and lldpd as Debian starts them."""
 
+from __future__ import annotations
+
 import contextlib
 import os
 import re

@@ -1,5 +1,7 @@
 """Two network namespaces joined by veth pairs, and raw frames at the end of a pair."""
 
+from __future__ import annotations
+
 import contextlib
 import ctypes
 import os

@@ -1,5 +1,7 @@
 """User-mode Linux on a processor whose registers it does not know: what is loaded before it."""
 
+from __future__ import annotations
+
 import os
 import subprocess
 import threading

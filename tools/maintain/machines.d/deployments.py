@@ -1,6 +1,8 @@
 """Whole machines as people have them: a server with a bridge of VLANs for virtual machines at a pair of switches that act as one (MLAG), and
 a router with a partner that is named. Their files are those that an administrator writes."""
 
+from __future__ import annotations
+
 import os
 from typing import Callable, NamedTuple
 

@@ -3,6 +3,8 @@
 Its clock goes on with what it does: by a nanosecond, or 2 to the power of SHIFT, for each instruction, and by real time while it has nothing
 to do. So it has as much time for its work on a machine that is slow or busy, and what it measures is of that clock."""
 
+from __future__ import annotations
+
 import json
 import os
 import shutil

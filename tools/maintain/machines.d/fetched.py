@@ -1,5 +1,7 @@
 """What guests are made of, from packages of Debian in a cache folder: qemu, and kernels with their modules. Nothing is installed."""
 
+from __future__ import annotations
+
 import glob
 import lzma
 import os

@@ -1,6 +1,8 @@
 """A guest: a Linux of its own whose systemd boots, and a shell in it. Its near end has the links eth1 and eth2, whose far ends are far1 and
 far2 in the network namespace `far` of the same guest."""
 
+from __future__ import annotations
+
 import base64
 import socket
 import subprocess

@@ -4,6 +4,8 @@ The clock of a guest goes on with its instructions, so each time is a count of t
 this machine is not in it. Cards and wires take none. So ways may be measured in several guests side by side, and beside each other. Speeds and
 frames are told as parts of those of one bare link."""
 
+from __future__ import annotations
+
 import json
 import re
 import statistics

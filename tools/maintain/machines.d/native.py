@@ -1,5 +1,7 @@
 """A guest that is a process of this machine: a Linux for user mode (UML), whose links are veth. It is as fast as this machine is."""
 
+from __future__ import annotations
+
 import os
 import signal
 import socket

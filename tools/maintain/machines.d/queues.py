@@ -1,6 +1,8 @@
 """Members that keep all their queues (`queues=all`), at both ends of a guest with several processors and cards of several queues, beside members that
 are cut to one queue."""
 
+from __future__ import annotations
+
 from functools import partial
 from typing import Callable, NamedTuple
 

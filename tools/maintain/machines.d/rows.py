@@ -1,5 +1,7 @@
 """What is tried in each guest, a row of the table each. A row answers what the table has of it, and says in its checks what has to hold."""
 
+from __future__ import annotations
+
 import re
 import time
 from typing import Callable, NamedTuple

@@ -1,5 +1,7 @@
 """The kernel's team driver as what carries (`plane=team`): the bundle of the unit by it, a daemon by it at the far end, and then bonding."""
 
+from __future__ import annotations
+
 from functools import partial
 from typing import Callable
 

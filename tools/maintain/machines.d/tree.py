@@ -1,5 +1,7 @@
 """The tree of the guests: a Debian 12 with the packages of tools/dist in it, as a disk."""
 
+from __future__ import annotations
+
 import glob
 import os
 import shutil

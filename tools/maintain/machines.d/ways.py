@@ -1,6 +1,8 @@
 """What passes data on over both links of a guest, at both ends: a bare link, the ways of the daemon, the kernel's bonding, teamd, and Open vSwitch
 in the kernel's datapath."""
 
+from __future__ import annotations
+
 import json
 from typing import Callable, NamedTuple
 

@@ -1,5 +1,7 @@
 """A headless Chromium with one page, driven over its debugging protocol by two pipes."""
 
+from __future__ import annotations
+
 import base64
 import fcntl
 import glob

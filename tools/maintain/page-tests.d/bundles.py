@@ -1,6 +1,8 @@
 """Bundles of Linux bonding 6.1 (and of teamd 1.31, where it is said) over veth cables, each broken in one way: what is said first of their captures, a file a link, is
 what was done to them."""
 
+from __future__ import annotations
+
 import glob
 import os
 import subprocess

@@ -1,5 +1,7 @@
 """Tests of what is said of texts that are easily judged wrongly: copied identifiers, several bundles, ports that Open vSwitch does not use, and nobody heard."""
 
+from __future__ import annotations
+
 import os
 import subprocess
 import tempfile

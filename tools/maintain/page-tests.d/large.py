@@ -1,5 +1,7 @@
 """Tests of a capture of 1 GB: it is read piece by piece, shows how far it is, and can be stopped; and the memory that this takes."""
 
+from __future__ import annotations
+
 import os
 import time
 

@@ -1,5 +1,7 @@
 """README's picture of the page: the example, as the page shows it. The picture keeps what was said in it, so that an older one is told."""
 
+from __future__ import annotations
+
 import os
 import struct
 import zlib

@@ -1,5 +1,7 @@
 """Tests of scripts and payloads in the page: the examples, faults at their places, steps, and what is decoded."""
 
+from __future__ import annotations
+
 import json
 import os
 from typing import Any

@@ -1,5 +1,7 @@
 """What passed and what failed, and tests of the page by what examples/ stores."""
 
+from __future__ import annotations
+
 import base64
 import os
 import subprocess

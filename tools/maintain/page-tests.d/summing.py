@@ -1,5 +1,7 @@
 """Tests of what is said before all else: the headline, a line a link, the first cause, and what is folded. Each capture has one cause."""
 
+from __future__ import annotations
+
 import os
 from typing import Any, Callable
 

@@ -1,5 +1,7 @@
 """Tests of what the page says of a status: the texts of examples/status, as a file, pasted, cut, and of both ends."""
 
+from __future__ import annotations
+
 import csv
 import json
 import os

@@ -1,6 +1,8 @@
 """The answers of the module beside those of lagtool: status, what is printed and what is said, over the captures and scripts of examples/, the
 frames in them, and over what is made of these by chance."""
 
+from __future__ import annotations
+
 import base64
 import json
 import os

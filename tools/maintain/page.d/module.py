@@ -1,5 +1,7 @@
 """Makes the module of the page, of crates/lagpage: by clang, from what rattle lowers for x86-64. tools/maintain/lag-c makes that of crates/lagffi."""
 
+from __future__ import annotations
+
 import os
 import re
 

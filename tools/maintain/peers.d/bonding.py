@@ -1,5 +1,7 @@
 """The bonding driver of the kernel, in mode 802.3ad."""
 
+from __future__ import annotations
+
 import re
 
 from checking import Failed

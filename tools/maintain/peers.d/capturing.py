@@ -1,5 +1,7 @@
 """Every frame of a run as a capture, and what is counted of it."""
 
+from __future__ import annotations
+
 import os
 import select
 import socket

@@ -3,6 +3,8 @@
 The peer stands in one network namespace, and lagconform in the other one. Its hook asks this trial, over a socket, to start, end, or send.
 """
 
+from __future__ import annotations
+
 import json
 import os
 import runpy

@@ -1,6 +1,8 @@
 """What a peer makes of forged LACPDUs: of a partner that never names it, of two partners on its two links, and of one that asks again
 and again."""
 
+from __future__ import annotations
+
 import time
 
 from capturing import Capture, most_in_a_second

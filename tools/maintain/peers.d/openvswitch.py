@@ -1,5 +1,7 @@
 """Open vSwitch: a bond of two links in its userspace datapath."""
 
+from __future__ import annotations
+
 import os
 import re
 import subprocess

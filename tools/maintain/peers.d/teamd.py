@@ -1,5 +1,7 @@
 """teamd, with its runner lacp over the team driver of the kernel."""
 
+from __future__ import annotations
+
 import json
 from typing import Any
 

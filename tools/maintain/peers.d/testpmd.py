@@ -4,6 +4,8 @@ Its LACPDUs go out only where a program sends something. So frames come to it on
 to the bonded device. What DPDK up to 23.07 calls a slave is a member from 23.11 on; what was run is 22.11.
 """
 
+from __future__ import annotations
+
 import contextlib
 import os
 import re

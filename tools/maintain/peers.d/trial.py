@@ -1,5 +1,7 @@
 """What is tried with each peer, and the row of the table that it leaves."""
 
+from __future__ import annotations
+
 import os
 import re
 import time

@@ -1,5 +1,7 @@
 """Boards with a Cortex-M, which qemu emulates: a program runs there without a system below it, and newlib prints through the emulator."""
 
+from __future__ import annotations
+
 import os
 import shutil
 import subprocess

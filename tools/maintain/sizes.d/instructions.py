@@ -1,5 +1,7 @@
 """Counts the instructions of calls of c/lag.c: an emulator of qemu runs calls.c beside it, and tells each instruction with its function."""
 
+from __future__ import annotations
+
 import os
 import shutil
 import subprocess

@@ -1,5 +1,7 @@
 """Loads tools for their tests: a program without its last line, which runs it, and a module by its path."""
 
+from __future__ import annotations
+
 import ast
 import importlib.util
 import os

@@ -1,5 +1,7 @@
 """How tools/maintain/bench reads the lines of its harness, and the tables that it prints."""
 
+from __future__ import annotations
+
 import pytest
 
 import loading

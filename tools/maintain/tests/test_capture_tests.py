@@ -1,5 +1,7 @@
 """tools/maintain/capture-tests: the captures that it makes, whose octets are written here by hand, and how lines and records are read."""
 
+from __future__ import annotations
+
 import json
 import subprocess
 

@@ -1,5 +1,7 @@
 """tools/maintain/carry.d/bonds.py: events in time, and when the frames of a run are in order and accounted for."""
 
+from __future__ import annotations
+
 import os
 import subprocess
 import sys

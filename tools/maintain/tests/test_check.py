@@ -1,5 +1,7 @@
 """tools/check: which checks its words name, which of them run at a time, and what it says at the end."""
 
+from __future__ import annotations
+
 import os
 import subprocess
 from pathlib import Path

@@ -1,5 +1,7 @@
 """tools/draw: how a report of lagtool replay is read."""
 
+from __future__ import annotations
+
 import pytest
 
 import loading

@@ -1,5 +1,7 @@
 """An edit: its lines, and how it is put in and taken out."""
 
+from __future__ import annotations
+
 from pathlib import Path
 
 import pytest

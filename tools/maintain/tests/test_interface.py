@@ -1,5 +1,7 @@
 """tools/maintain/interface: exports, structs, enums and numbers of sources, and what becomes of them in C, in Python and in docs/USING.md."""
 
+from __future__ import annotations
+
 from typing import Callable
 
 import pytest

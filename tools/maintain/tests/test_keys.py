@@ -1,5 +1,7 @@
 """The keys of lagd's files and its options: an option is looked up by its letter, a key by its name, and the first row that has it is taken."""
 
+from __future__ import annotations
+
 import re
 
 import loading

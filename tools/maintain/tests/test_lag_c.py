@@ -1,6 +1,8 @@
 """tools/maintain/lag-c: the C of each instruction computes what node does, over values at the edges; memory has the octets of a number from low to
 high; and what C is not made of is refused."""
 
+from __future__ import annotations
+
 import json
 import pathlib
 import shutil

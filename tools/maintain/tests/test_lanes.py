@@ -1,5 +1,7 @@
 """How many checks run side by side."""
 
+from __future__ import annotations
+
 import os
 from pathlib import Path
 

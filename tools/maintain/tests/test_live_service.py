@@ -1,5 +1,7 @@
 """tools/maintain/live.d/service.py: what the journal is handed, and the message ids of the documents."""
 
+from __future__ import annotations
+
 import socket
 from pathlib import Path
 from typing import Iterator

@@ -1,5 +1,7 @@
 """tools/script: what the three forms of a shorter script become."""
 
+from __future__ import annotations
+
 from collections.abc import Callable
 
 import pytest

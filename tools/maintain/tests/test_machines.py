@@ -1,5 +1,7 @@
 """What the guests of tools/maintain/machines are made of, and how their tables look."""
 
+from __future__ import annotations
+
 import socket
 import subprocess
 from pathlib import Path

@@ -1,5 +1,7 @@
 """How tools/maintain/machines --table reckons what a guest prints."""
 
+from __future__ import annotations
+
 import json
 import subprocess
 from typing import Any

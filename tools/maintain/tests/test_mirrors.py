@@ -1,5 +1,7 @@
 """From where packages come: the machine's own apt configuration."""
 
+from __future__ import annotations
+
 from pathlib import Path
 
 import loading  # noqa: F401  (tools/ is looked up)

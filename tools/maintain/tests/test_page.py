@@ -1,5 +1,7 @@
 """How tools/maintain/page packs the page."""
 
+from __future__ import annotations
+
 import re
 
 import pytest

@@ -1,5 +1,7 @@
 """The pages and man pages that tools write."""
 
+from __future__ import annotations
+
 import os
 
 import pytest

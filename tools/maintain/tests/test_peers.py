@@ -1,5 +1,7 @@
 """tools/maintain/peers: which peers its words name, its tables, and a trial that does not run to its end."""
 
+from __future__ import annotations
+
 import subprocess
 import sys
 

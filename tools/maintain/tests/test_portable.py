@@ -1,5 +1,7 @@
 """tools/maintain/portable calls each function of lag.h, and wants values for each of its parameters."""
 
+from __future__ import annotations
+
 import re
 from typing import Any
 

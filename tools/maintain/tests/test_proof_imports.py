@@ -1,5 +1,7 @@
 """What a crate's proofs import: names that several files take stand once, in proofs/Common."""
 
+from __future__ import annotations
+
 from pathlib import Path
 
 import pytest

@@ -1,5 +1,7 @@
 """What the proof of the program says of how far it is."""
 
+from __future__ import annotations
+
 import os
 import pathlib
 import signal

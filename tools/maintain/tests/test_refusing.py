@@ -1,5 +1,7 @@
 """tools/maintain/refusing.py, tools/maintain/refuse.c and tools/maintain/refuse-memory: which call is refused, and which runs count."""
 
+from __future__ import annotations
+
 import os
 import re
 import subprocess

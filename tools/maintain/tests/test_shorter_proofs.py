@@ -1,5 +1,7 @@
 """How shorter-proofs reads a file of proofs, and what it proposes; the prover takes no part."""
 
+from __future__ import annotations
+
 from pathlib import Path
 
 import loading

@@ -1,5 +1,7 @@
 """How tools/maintain/trusted reads a check."""
 
+from __future__ import annotations
+
 import loading
 
 trusted = loading.program("trusted")
