@@ -13,7 +13,7 @@ import re
 import subprocess
 
 from processors import AMD64, Processor, compile_crate
-from repository import COMPILER, CRATES, RT, TOOLS, TOP, Missing, runtime, want
+from repository import COMPILER, CRATES, RT, TOOLS, TOP, Missing, read_text, runtime, want, write_text
 
 HEADER = os.path.join(CRATES, "lagffi", "include", "lag.h")
 ARCHIVE = os.path.join(CRATES, "lagffi", "out", "liblagffi.a")
@@ -50,8 +50,7 @@ def printed(*words: str, given: str | None = None, cwd: str | None = None, env: 
 
 def exports() -> list[str]:
     """The functions that lag.h declares, in the order of their names."""
-    with open(HEADER, encoding="utf-8") as it:
-        found = re.findall(r"^[\w ]+ (lagffi_\w+)\(", it.read(), re.M)
+    found = re.findall(r"^[\w ]+ (lagffi_\w+)\(", read_text(HEADER), re.M)
     if not found:
         raise Missing(f"{HEADER} declares no function")
     return sorted(found)
@@ -92,8 +91,7 @@ def one_object(folder: str, parts: list[str], processor: Processor = AMD64) -> s
     """All that the archives and objects hold as one object, lag.o, of which only the functions of lag.h are seen from outside."""
     want(processor.tool("ld"), processor.tool("objcopy"))
     made, kept = os.path.join(folder, "lag.o"), os.path.join(folder, "exports")
-    with open(kept, "w", encoding="utf-8") as it:
-        it.write("\n".join(exports()) + "\n")
+    write_text(kept, "\n".join(exports()) + "\n")
     printed(processor.tool("ld"), "-r", "-o", made, "--whole-archive", *parts)
     printed(processor.tool("objcopy"), f"--keep-global-symbols={kept}", "--strip-debug", made)
     return made
@@ -120,14 +118,12 @@ def version_script(folder: str, *more: str) -> str:
     """The file that tells the linker what the library shows, and in which version; a version has those before it in it. The first has these
     names, too."""
     made, text, before = os.path.join(folder, "liblag.map"), "", ""
-    with open(SYMBOLS, encoding="utf-8") as it:
-        rows = re.findall(r"^ (lagffi_\w+)@LAG_(\d+) ", it.read(), re.M)
+    rows = re.findall(r"^ (lagffi_\w+)@LAG_(\d+) ", read_text(SYMBOLS), re.M)
     for number in sorted({int(number) for _, number in rows}):
         names = "".join(f"    {name};\n" for name in [*(name for name, its in rows if int(its) == number), *([] if before else more)])
         text += f"LAG_{number} {{\nglobal:\n{names}" + ("" if before else "local:\n    *;\n") + f"}}{before};\n"
         before = f" LAG_{number}"
-    with open(made, "w", encoding="utf-8") as out:
-        out.write(text)
+    write_text(made, text)
     return made
 
 

@@ -6,7 +6,7 @@ import re
 import subprocess
 from typing import NamedTuple
 
-from repository import Missing, want
+from repository import Missing, read_text, want
 
 # The lists of apt that are looked at: those of packages of Debian.
 MAIN = "Created-By: Packages", "Component: main", "Origin: Debian"
@@ -29,8 +29,7 @@ def keys_of(entry: str) -> str:
     """The keys by which an entry of apt's sources is signed, as FILE:NUMBER names it; "" for those that apt trusts anyway."""
     path, _, number = entry.rpartition(":")
     try:
-        with open(path, encoding="utf-8") as it:
-            text = it.read()
+        text = read_text(path)
     except OSError:
         return ""
     if path.endswith(".sources"):

@@ -12,6 +12,7 @@ import shutil
 import signal
 import subprocess
 import sys
+from pathlib import Path
 from typing import Callable, NoReturn
 
 TOOLS = os.path.dirname(os.path.abspath(__file__))
@@ -36,6 +37,22 @@ WHY = {RT: "it comes with the Rattle toolchain (README.md), and RT may name it",
 
 class Missing(Exception):
     """Something that the tool needs is not here, or failed: what is told of it."""
+
+
+def read_text(path: str | Path) -> str:
+    return Path(path).read_text(encoding="utf-8")
+
+
+def read_bytes(path: str | Path) -> bytes:
+    return Path(path).read_bytes()
+
+
+def write_text(path: str | Path, text: str) -> None:
+    Path(path).write_text(text, encoding="utf-8")
+
+
+def write_bytes(path: str | Path, octets: bytes) -> None:
+    Path(path).write_bytes(octets)
 
 
 def want(*names: str) -> None:
@@ -83,8 +100,7 @@ def runtime() -> str:
 
 def lines() -> dict[str, str]:
     """The lines of crates.txt, without comments, by the names of their crates."""
-    with open(os.path.join(TOP, "crates.txt"), encoding="utf-8") as it:
-        rows = [line.split("#")[0].strip() for line in it]
+    rows = [line.split("#")[0].strip() for line in read_text(os.path.join(TOP, "crates.txt")).splitlines()]
     return {re.split("[ :]", row)[0]: row for row in rows if row}
 
 
@@ -130,10 +146,16 @@ def say(text: object) -> None:
     print(f"{os.path.basename(sys.argv[0])}: {text}", file=sys.stderr, flush=True)
 
 
-def run(main: Callable[[], int | None]) -> NoReturn:
-    """Runs a tool. Where something is missing it ends with a line and status 2."""
+def tally(passed: int, failed: int) -> int:
+    """Prints the last line of a tool that checks something; answers its status."""
+    print(f"{passed} passed, {failed} failed")
+    return int(failed > 0)
+
+
+def run(main: Callable[[], int | None], told: str | None = None) -> NoReturn:
+    """Runs a tool; --help alone prints what is told of it, where that is given. Where something is missing it ends with a line and status 2."""
     try:
-        status = main()
+        status = print(told, end="") if told and sys.argv[1:] in (["--help"], ["-h"]) else main()
         sys.stdout.flush()
         sys.exit(status)
     except BrokenPipeError:

@@ -17,7 +17,7 @@ import sys
 import library
 from counting import Count
 from library import printed
-from repository import COMPILER, MAINTAIN, Missing
+from repository import COMPILER, MAINTAIN, Missing, read_text, write_text
 
 sys.path.append(os.path.join(MAINTAIN, "interface.d"))
 
@@ -33,8 +33,7 @@ CHANGED, INCOMPATIBLE = 4, 8
 
 def stand_in() -> str:
     """A program text with each function that the library shows, which answers zeros."""
-    with open(library.HEADER, encoding="utf-8") as it:
-        text = re.sub(r"/\*.*?\*/", "", it.read(), flags=re.S)
+    text = re.sub(r"/\*.*?\*/", "", read_text(library.HEADER), flags=re.S)
     found = re.findall(r"^((?:struct )?\w+) (lagffi_\w+)\((.*?)\);", text, re.M | re.S)
     new = {name: (answer, given) for answer, name, given in found}
     found += [(new[name][0], old, new[name][1]) for old, name in library.RENAMED.items()]
@@ -49,8 +48,7 @@ def stand_in() -> str:
 def described(folder: str) -> str:
     """The interface of the header as it is now, as a file for abidiff."""
     source, made, told = (os.path.join(folder, it) for it in ("lag.c", library.SONAME, "liblag.abi"))
-    with open(source, "w", encoding="utf-8") as out:
-        out.write(stand_in())
+    write_text(source, stand_in())
     include = os.path.dirname(library.HEADER)
     script = library.version_script(folder)
     words = ["-g", "-gdwarf-4", "-shared", "-fPIC", f"-Wl,-soname,{library.SONAME}", f"-Wl,--version-script={script}"]
@@ -62,15 +60,13 @@ def described(folder: str) -> str:
 
 def numbers() -> dict[str, int]:
     """The numbers of the header, but for that of the header itself, which rises with each change."""
-    with open(library.HEADER, encoding="utf-8") as it:
-        return numbering.of_header(it.read())
+    return numbering.of_header(read_text(library.HEADER))
 
 
 def keep(folder: str) -> None:
     """Keeps the interface of the header as it is now."""
     shutil.copy(described(folder), KEPT)
-    with open(KEPT_NUMBERS, "w", encoding="utf-8") as out:
-        out.write("".join(f"{name} {number}\n" for name, number in sorted(numbers().items())))
+    write_text(KEPT_NUMBERS, "".join(f"{name} {number}\n" for name, number in sorted(numbers().items())))
 
 
 def kept(file: str) -> list[tuple[str, str]]:
@@ -83,8 +79,7 @@ def check_numbers(count: Count) -> None:
     """Each number that is kept is the header's."""
     found = numbers()
     for of, file in kept(KEPT_NUMBERS):
-        with open(file, encoding="utf-8") as it:
-            was = {name: int(number) for name, number in (line.split() for line in it)}
+        was = {name: int(number) for name, number in (line.split() for line in read_text(file).splitlines())}
         differs = [f"{name} was {number} and is {found.get(name, 'gone')}" for name, number in was.items() if found.get(name) != number]
         count.add(f"lag.h has the {len(was)} numbers of {of}", "; ".join(differs))
 

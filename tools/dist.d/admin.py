@@ -15,18 +15,12 @@ import time
 from typing import Callable, NamedTuple, Sequence
 
 from counting import Count, clean, ran
-from repository import TOP
+from repository import TOP, read_text, write_text
 
 BUNDLE, FILE = "uplink", "/etc/lagd/uplink.conf"
 UNIT = "lib/systemd/system/lagd@.service"
 # The lines of docs/INSTALL.md that are tried here; those with systemctl by the commands that the unit names.
-LINES = (
-    f"lagd --check {FILE}",
-    f"systemctl enable --now lagd@{BUNDLE}",
-    "lagd --status",
-    "lagd --metrics",
-    f"systemctl reload lagd@{BUNDLE}",
-)
+LINES = (f"lagd --check {FILE}", f"systemctl enable --now lagd@{BUNDLE}", "lagd --status", "lagd --metrics", f"systemctl reload lagd@{BUNDLE}")
 PEER = ["/usr/sbin/lagd", "--folder", "/run/lagd-peer", "9", "32768,02:00:00:00:00:02", "eth1", "eth2"]
 # In a new mount namespace: the tree becomes /, with a proc of its own, as in installing.py.
 ENTER = ["unshare", "--mount", "--propagation", "private", "sh", "-c", 'mount -t proc proc "$0/proc" && exec chroot "$0" "$@"']
@@ -45,8 +39,7 @@ class Unit(NamedTuple):
 
 def unit(tree: str) -> Unit:
     """The unit that is installed."""
-    with open(os.path.join(tree, UNIT), encoding="utf-8") as it:
-        said = dict(re.findall(r"^(\w+)=(.*)$", it.read().replace("%i", BUNDLE), re.M))
+    said = dict(re.findall(r"^(\w+)=(.*)$", read_text(os.path.join(tree, UNIT)).replace("%i", BUNDLE), re.M))
     start = said["ExecStart"].split()
     return Unit([start[0], "--check", start[2]], start, said["User"], said["CapabilityBoundingSet"])
 
@@ -65,8 +58,7 @@ def folder(it: Unit) -> list[str]:
 
 def file() -> str:
     """The file of the bundle without data, as docs/INSTALL.md has it: the unit alone gives no right to carry data."""
-    with open(os.path.join(TOP, "docs", "INSTALL.md"), encoding="utf-8") as it:
-        [rows] = re.findall(r"^    \[Bundle\]\n(?:    \S.*\n)+", it.read(), re.M)
+    [rows] = re.findall(r"^    \[Bundle\]\n(?:    \S.*\n)+", read_text(os.path.join(TOP, "docs", "INSTALL.md")), re.M)
     return re.sub(r"^    ", "", rows, flags=re.M)
 
 
@@ -125,8 +117,7 @@ def until(told: Callable[[], str], wanted: str) -> str:
 
 def try_lines(count: Count, it: Unit) -> None:
     """docs/INSTALL.md has each line that is tried, and the command line of the unit."""
-    with open(os.path.join(TOP, "docs", "INSTALL.md"), encoding="utf-8") as text:
-        lines = text.read().replace("\\\n", "").split("\n")
+    lines = read_text(os.path.join(TOP, "docs", "INSTALL.md")).replace("\\\n", "").split("\n")
     rows = [" ".join(re.sub(r"  +#.*", "", line).split()) for line in lines if line.startswith("    ")]
     wanted = (*LINES, " ".join(folder(it)), " ".join([*as_unit(it), *it.start]))
     count.add(f"docs/INSTALL.md has the {len(wanted)} lines that an admin writes", ", ".join(it for it in wanted if it not in rows))
@@ -135,8 +126,7 @@ def try_lines(count: Count, it: Unit) -> None:
 def try_start(count: Count, bench: Bench) -> subprocess.Popen[bytes]:
     """A file, the command line of the unit, a status and a metric."""
     it = unit(bench.tree)
-    with open(bench.tree + FILE, "w", encoding="utf-8") as out:
-        out.write(file())
+    write_text(bench.tree + FILE, file())
     checked = bench.run(*it.check)
     count.add(f"{' '.join(it.check)} takes the file of INSTALL", checked.stderr or ("it fails" if checked.returncode else ""))
     bench.run(*folder(it))
@@ -152,12 +142,10 @@ def try_reload(count: Count, bench: Bench, daemon: subprocess.Popen[bytes]) -> N
     """A reload takes another file, and nothing of a wrong one."""
     status = lambda: bench.run("lagd", "--status").stdout  # noqa: E731
     for text, wanted in (("min-links=2", "min_links: 2"), ("min-links=many", "min_links: 2"), ("min-links=1", "min_links: 1")):
-        with open(bench.tree + FILE, "w", encoding="utf-8") as out:
-            out.write(file().replace("system=auto", f"system=auto\n{text}"))
+        write_text(bench.tree + FILE, file().replace("system=auto", f"system=auto\n{text}"))
         daemon.send_signal(signal.SIGHUP)
         time.sleep(1)
-        told = until(status, wanted) or until(status, "status: up, 2 of 2 links carry")
-        count.add(f"a reload with {text}: {wanted}", told)
+        count.add(f"a reload with {text}: {wanted}", until(status, wanted) or until(status, "status: up, 2 of 2 links carry"))
 
 
 def try_upgraded(count: Count, bench: Bench, daemon: subprocess.Popen[bytes]) -> None:

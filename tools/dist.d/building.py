@@ -15,7 +15,7 @@ import library
 import manual
 from library import printed
 from processors import AMD64, Processor, compile_crate, want_tools
-from repository import CRATES, RT, TOOLS, TOP, Missing, make_program, say, want
+from repository import CRATES, RT, TOOLS, TOP, Missing, make_program, read_bytes, read_text, say, want
 
 
 class File(NamedTuple):
@@ -60,8 +60,7 @@ SHARE = "share/niwhopera-tools"
 
 def version() -> str:
     """The version of the file VERSION."""
-    with open(os.path.join(TOP, "VERSION"), encoding="utf-8") as it:
-        return it.read().strip()
+    return read_text(os.path.join(TOP, "VERSION")).strip()
 
 
 def program(name: str, processor: Processor) -> str:
@@ -120,8 +119,7 @@ def verdict() -> str:
     """The last line of the test command for this commit, as tools/test left it."""
     commit = printed("git", "rev-parse", "HEAD", cwd=TOP).strip()
     try:
-        with open(os.path.join(TOP, "out", "verdict"), encoding="utf-8") as it:
-            tested, line = it.read().split("\n")[:2]
+        tested, line = read_text(os.path.join(TOP, "out", "verdict")).split("\n")[:2]
     except (OSError, ValueError):
         tested, line = "", ""
     changed = printed("git", "status", "--porcelain", cwd=TOP).strip()
@@ -140,8 +138,7 @@ def pkg_config(prefix: str, libraries: str) -> str:
 
 def read(path: str) -> bytes:
     """The octets of a file of the repository."""
-    with open(os.path.join(TOP, path), "rb") as it:
-        return it.read()
+    return read_bytes(os.path.join(TOP, path))
 
 
 def texts(*paths: str) -> dict[str, str]:

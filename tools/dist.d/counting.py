@@ -4,6 +4,7 @@ from __future__ import annotations
 
 import os
 import subprocess
+from repository import tally
 from typing import Sequence
 
 # The seconds that a command may take.
@@ -23,8 +24,7 @@ class Count:
 
     def ends(self) -> int:
         """Prints the last line; answers the status."""
-        print(f"{self.passed} passed, {self.failed} failed")
-        return 1 if self.failed else 0
+        return tally(self.passed, self.failed)
 
 
 def clean() -> dict[str, str]:

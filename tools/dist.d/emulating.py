@@ -10,7 +10,7 @@ import tempfile
 
 from counting import Count, clean, ran
 from processors import ARM64, Processor
-from repository import CACHE, MAINTAIN, TOP
+from repository import CACHE, MAINTAIN, TOP, write_text
 
 # Debian's Python of arm64, which is fetched once and not installed: beside that of this machine apt installs none.
 TREE = os.path.join(CACHE, "niwhopera-dist", "arm64")
@@ -60,8 +60,7 @@ def try_tool(count: Count, name: str, words: list[str], given: dict[str, str]) -
 def wrapper(folder: str, words: list[str]) -> str:
     """A program of this machine that runs one of the processor."""
     made = os.path.join(folder, os.path.basename(words[-1]))
-    with open(made, "w", encoding="utf-8") as it:
-        it.write(f"#!/bin/sh\nexec {' '.join(words)} \"$@\"\n")
+    write_text(made, f"#!/bin/sh\nexec {' '.join(words)} \"$@\"\n")
     os.chmod(made, 0o755)
     return made
 

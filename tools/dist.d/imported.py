@@ -8,7 +8,7 @@ import re
 from counting import Count
 from library import printed
 from processors import PROCESSORS
-from repository import TOP, Missing
+from repository import TOP, Missing, read_text, write_text
 
 PAGE = os.path.join(TOP, "docs", "ABI.md")
 HEAD = f"|imported|{'|'.join(PROCESSORS)}|\n|---|{'---|' * len(PROCESSORS)}\n"
@@ -33,8 +33,7 @@ def newest_glibc(versions: str) -> str:
 
 def page() -> str:
     """The text of docs/ABI.md."""
-    with open(PAGE, encoding="utf-8") as it:
-        return it.read()
+    return read_text(PAGE)
 
 
 def rows(text: str) -> dict[str, set[str]]:
@@ -55,9 +54,7 @@ def table(imports: dict[str, set[str]]) -> str:
 def write(processor: str, found: set[str]) -> None:
     """Writes the column of a processor."""
     text = page()
-    made = re.sub(re.escape(HEAD) + r"(?:\|.*\n)+", lambda _: table({**rows(text), processor: found}), text)
-    with open(PAGE, "w", encoding="utf-8") as out:
-        out.write(made)
+    write_text(PAGE, re.sub(re.escape(HEAD) + r"(?:\|.*\n)+", lambda _: table({**rows(text), processor: found}), text))
 
 
 def tried(count: Count, file: str, processor: str) -> None:

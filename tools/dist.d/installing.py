@@ -18,7 +18,7 @@ from building import version
 from counting import Count, ran
 from library import printed
 from processors import AMD64, Processor
-from repository import CACHE, Missing, say
+from repository import CACHE, Missing, say, write_text
 
 RELEASE = "bookworm"
 TREE = os.path.join(CACHE, "niwhopera-dist", "tree")
@@ -86,8 +86,7 @@ def base_tree() -> str | None:
     if made.returncode:
         print(f"skipped: a tree of Debian: debootstrap fails: {(made.stderr or made.stdout)[-300:]}")
         return None
-    with open(f"{TREE}/usr/sbin/policy-rc.d", "w", encoding="utf-8") as it:
-        it.write("#!/bin/sh\nexit 101\n")
+    write_text(f"{TREE}/usr/sbin/policy-rc.d", "#!/bin/sh\nexit 101\n")
     os.chmod(f"{TREE}/usr/sbin/policy-rc.d", 0o755)
     # A minimal tree as those of containers leaves documents out; this one is looked at.
     for file in glob.glob(f"{TREE}/etc/dpkg/dpkg.cfg.d/*"):
@@ -153,8 +152,7 @@ def try_life(count: Count, tree: str, files: Sequence[str], newer: Sequence[str]
     install(tree, files)
     count.add("apt installs the packages", "" if versions(tree, names) == {f"install ok installed {version()}"} else "they are not installed")
     try_installed(count, tree)
-    with open(f"{tree}/{CONFIGURATION}", "w", encoding="utf-8") as it:
-        it.write("# An admin wrote this.\n")
+    write_text(f"{tree}/{CONFIGURATION}", "# An admin wrote this.\n")
     admin.tried(count, tree, lambda: install(tree, newer))
     told = versions(tree, names)
     count.add("apt upgrades the packages, and keeps the configuration", "" if told == {f"install ok installed {version()}+1"} and os.path.exists(f"{tree}/{CONFIGURATION}") else f"{told}")

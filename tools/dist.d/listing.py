@@ -12,7 +12,7 @@ from building import Parts, version
 from counting import Count, ran
 from library import SONAME, printed
 from packing import date
-from repository import RT, TOP, lines
+from repository import RT, TOP, lines, read_bytes, write_bytes, write_text
 
 # What a relation is called between the whole and a part of it.
 INSIDE, LOADED, MADE = "STATIC_LINK", "DYNAMIC_LINK", "BUILD_TOOL_OF"
@@ -25,11 +25,7 @@ def sum_of(octets: bytes) -> str:
 
 def sums(files: list[str]) -> str:
     """Lines for `sha256sum --check`, in the order of the names."""
-    found = []
-    for file in sorted(files, key=os.path.basename):
-        with open(file, "rb") as it:
-            found.append(f"{sum_of(it.read())}  {os.path.basename(file)}\n")
-    return "".join(found)
+    return "".join(f"{sum_of(read_bytes(file))}  {os.path.basename(file)}\n" for file in sorted(files, key=os.path.basename))
 
 
 def identifier(name: str) -> str:
@@ -61,8 +57,7 @@ def loaded(parts: Parts, folder: str) -> list[str]:
     found, file = set(), os.path.join(folder, "program")
     for part in (*parts.archive, *parts.instead):
         if part.octets.startswith(b"\x7fELF"):
-            with open(file, "wb") as it:
-                it.write(part.octets)
+            write_bytes(file, part.octets)
             found |= set(re.findall(r"\(NEEDED\).*\[(.*)\]", printed("readelf", "--dynamic", "--wide", file)))
     return sorted(found - {SONAME})
 
@@ -105,11 +100,8 @@ def materials(parts: Parts, folder: str, tool: str) -> str:
 def listed(parts: Parts, out: str, folder: str, files: list[str]) -> list[str]:
     """Writes both lists beside what was made; answers their files."""
     inside, checked = (os.path.join(out, f"niwhopera-{version()}-{parts.processor.machine}.{it}") for it in ("spdx.json", "sha256"))
-    tool = printed(RT, "version").split("\n")[0].strip()
-    with open(inside, "w", encoding="utf-8") as it:
-        it.write(materials(parts, folder, tool))
-    with open(checked, "w", encoding="utf-8") as it:
-        it.write(sums([*files, inside]))
+    write_text(inside, materials(parts, folder, printed(RT, "version").split("\n")[0].strip()))
+    write_text(checked, sums([*files, inside]))
     return [inside, checked]
 
 

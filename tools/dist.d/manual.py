@@ -7,7 +7,7 @@ import re
 from typing import Sequence
 
 import documents
-from repository import TOP, Missing
+from repository import TOP, Missing, read_text
 
 # Of each program: the page, its first heading, and the heading that comes after its part. A page that is not there leaves the next.
 PARTS: dict[str, list[tuple[str, str | None, str | None]]] = {
@@ -29,8 +29,7 @@ def part_of(name: str) -> list[str]:
     if not there:
         raise Missing(f"no page tells of {name}: {', '.join(it[0] for it in PARTS[name])}")
     file, first, last = there[0]
-    with open(os.path.join(TOP, file), encoding="utf-8") as it:
-        lines = documents.renamed(it.read()).split("\n")
+    lines = documents.renamed(read_text(os.path.join(TOP, file))).split("\n")
     for heading in (first, last):
         if heading and heading not in lines:
             raise Missing(f"{file} has no line {heading}")
@@ -96,8 +95,7 @@ def table(cells: list[list[str]]) -> list[str]:
     """A table of tbl; each cell is a text block, which may have several lines."""
     columns = widths(cells)
     text = [".PP", ".TS", "tab(@);", *(" ".join(f"l{font}w({it}n)" for it in columns) + end for font, end in (("b", ""), ("", ".")))]
-    for row in cells:
-        text.append("@".join(f"T{{\n{guarded(breakable(inline(it)))}\nT}}" if it else "" for it in row))
+    text += ["@".join(f"T{{\n{guarded(breakable(inline(it)))}\nT}}" if it else "" for it in row) for row in cells]
     return [*text, ".TE"]
 
 

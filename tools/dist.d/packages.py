@@ -10,7 +10,7 @@ from building import File, Parts, version
 from library import printed
 from packing import date
 from processors import Processor
-from repository import say
+from repository import say, write_bytes, write_text
 
 # What debhelper reads: the package files of this folder, and what is installed.
 KEPT = os.path.join(os.path.dirname(os.path.abspath(__file__)), "debian")
@@ -54,8 +54,7 @@ def lay(part: File, tree: str, processor: Processor) -> None:
     if part.link:
         os.symlink(part.link, path)
         return
-    with open(path, "wb") as it:
-        it.write(part.octets)
+    write_bytes(path, part.octets)
     os.chmod(path, 0o755 if part.is_program else 0o644)
 
 
@@ -74,8 +73,7 @@ def tree_of(parts: Parts, folder: str, more: str) -> str:
     stands = {it.path for it in parts.instead}
     for part in [*(it for it in parts.archive if it.path not in stands), *parts.instead]:
         lay(part, stage, parts.processor)
-    with open(os.path.join(files, "changelog"), "w", encoding="utf-8") as it:
-        it.write(changelog(more))
+    write_text(os.path.join(files, "changelog"), changelog(more))
     users = os.path.join(stage, USERS)
     if os.path.exists(users):
         # debhelper installs it, and makes the users when the package is installed.

@@ -9,7 +9,7 @@ import tarfile
 
 from building import Parts, version
 from library import printed
-from repository import TOP
+from repository import TOP, write_bytes
 
 
 def date() -> int:
@@ -30,6 +30,5 @@ def archive(parts: Parts, out: str) -> str:
             tar.addfile(entry, io.BytesIO(part.octets))
     os.makedirs(out, exist_ok=True)
     file = os.path.join(out, f"{name}.tar.gz")
-    with open(file, "wb") as it:
-        it.write(gzip.compress(packed.getvalue(), mtime=0))
+    write_bytes(file, gzip.compress(packed.getvalue(), mtime=0))
     return file

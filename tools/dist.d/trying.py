@@ -5,7 +5,6 @@ from __future__ import annotations
 import os
 import re
 import shutil
-import subprocess
 import sys
 import tarfile
 import tempfile
@@ -17,7 +16,7 @@ import imported
 from counting import Count, ran
 from library import RENAMED
 from processors import AMD64, EMULATED, PROCESSORS, Processor, emulator
-from repository import WARNINGS, Missing, want
+from repository import WARNINGS, Missing, read_text, want, write_text
 
 # A program over the library: one port whose link comes up, and the LACPDU that it sends within a second.
 PROGRAM = r"""
@@ -162,8 +161,7 @@ def try_library(count: Count, root: str, pkg_config: str, given: Mapping[str, st
         both = ("cc", "c", "-std=c11"), ("c++", "cc", "-std=c++20")
         for compiler, ending, standard in ((processor.compiler, "c", "-std=c11"),) if processor.prefix else both:
             source, made = os.path.join(folder, f"try.{ending}"), os.path.join(folder, f"try-{ending}")
-            with open(source, "w", encoding="utf-8") as it:
-                it.write(f'extern "C" {{\n{PROGRAM}\n}}\n' if ending == "cc" else PROGRAM)
+            write_text(source, f'extern "C" {{\n{PROGRAM}\n}}\n' if ending == "cc" else PROGRAM)
             for kind, words in libraries(root, told.stdout.split()):
                 built = ran([compiler, standard, *WARNINGS, "-o", made, source, *words])
                 ended = built if built.returncode else ran([*processor.runs, made], LD_LIBRARY_PATH=load)
@@ -179,8 +177,7 @@ def try_source(count: Count, root: str) -> None:
     elsewhere = {name: (f"{prefix}-gcc", [emulator(emulated) or ""]) for name, (prefix, emulated) in EMULATED.items()}
     with tempfile.TemporaryDirectory() as made:
         source, program = os.path.join(made, "try.c"), os.path.join(made, "try")
-        with open(source, "w", encoding="utf-8") as it:
-            it.write(PROGRAM)
+        write_text(source, PROGRAM)
         for name, (compiler, runs) in {**here, **elsewhere}.items():
             if not shutil.which(compiler) or not all(runs):
                 print(f"skipped: lag.c on {name}: there is no {compiler}, or no emulator of it")
@@ -209,8 +206,7 @@ def try_programs_on_oldest(count: Count, root: str) -> None:
 
 def try_exports(count: Count, root: str) -> None:
     """Both libraries show the functions of lag.h alone, the one to load old names too, and it and the programs are hardened."""
-    with open(os.path.join(root, "include", "lag.h"), encoding="utf-8") as it:
-        functions = set(re.findall(r"^[\w ]+ (lagffi_\w+)\(", it.read(), re.M))
+    functions = set(re.findall(r"^[\w ]+ (lagffi_\w+)\(", read_text(os.path.join(root, "include", "lag.h")), re.M))
     for file, words, wanted in ("liblag.so.0", ["-D"], functions | {*RENAMED}), ("liblag.a", ["-g"], functions):
         told = ran(["nm", *words, "--defined-only", "--format=posix", os.path.join(root, "lib", file)]).stdout
         found = {line.split("@")[0].split(" ")[0] for line in told.split("\n") if " T " in line or " D " in line}
@@ -225,8 +221,7 @@ def try_exports(count: Count, root: str) -> None:
 def try_glibc(count: Count, root: str) -> None:
     """The library needs the glibc that docs/INSTALL.md says."""
     needs = imported.newest_glibc(ran(["readelf", "--version-info", "--wide", os.path.join(root, "lib", "liblag.so.0")]).stdout)
-    with open(os.path.join(root, documents.FOLDER, "docs", "INSTALL.md"), encoding="utf-8") as it:
-        says = re.findall(r"needs\s+GLIBC\s+([0-9.]+)\s+or\s+later", it.read())
+    says = re.findall(r"needs\s+GLIBC\s+([0-9.]+)\s+or\s+later", read_text(os.path.join(root, documents.FOLDER, "docs", "INSTALL.md")))
     count.add(f"docs/INSTALL.md says that the library needs GLIBC {needs}", "" if says == [needs] else f"it says {says}")
 
 
@@ -252,8 +247,7 @@ def try_documents(count: Count, root: str, folder: str) -> None:
             path = os.path.relpath(os.path.join(at, name), top)
             there.add(path)
             if name.endswith(".md"):
-                with open(os.path.join(at, name), encoding="utf-8") as it:
-                    pages[path] = it.read()
+                pages[path] = read_text(os.path.join(at, name))
     count.add(f"the links of {len(pages)} documents lead somewhere", "; ".join(documents.dangling(pages, there)[:9]) or ("" if pages else "there is none"))
 
 

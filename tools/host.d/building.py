@@ -12,7 +12,7 @@ from typing import Callable, NamedTuple
 
 from fetched import Source, Sources
 from library import HEADER, PORTABLE, PORTABLE_SHOWS, archive, one_object, portable, proved
-from repository import TOP, Missing, say, want
+from repository import TOP, Missing, read_bytes, read_text, say, want
 
 HOSTS = os.path.join(TOP, "hosts")
 SHARED = os.path.join(HOSTS, "shared")
@@ -60,8 +60,7 @@ def archives(folder: str) -> list[str]:
 
 def library_of(archive: str) -> str:
     """Which of the two libraries an archive has: that of c/lag.c shows a name that says so."""
-    with open(archive, "rb") as it:
-        translated = PORTABLE_SHOWS.encode() in it.read()
+    translated = PORTABLE_SHOWS.encode() in read_bytes(archive)
     return "liblag of c/lag.c (C, translated from the proved sources; the translation is tested)" if translated else "the native liblag (compiled by rattle from the proved sources)"
 
 
@@ -111,16 +110,14 @@ def stamp(name: str, source: Source, linked: list[str], version: str = "") -> st
     of = hashlib.sha256(repr([source.version, version, *(os.environ.get(it) for it in ("CFLAGS", "CC"))]).encode())
     places = *(f"{HOSTS}/{name}/*.{it}" for it in ("c", "h", "patch", *(["md"] if version else []))), f"{HOSTS}/{name}/tests/*.at", f"{HOSTS}/{name}/tests/*.sed", f"{SHARED}/*.h", *(f"{os.path.dirname(__file__)}/{it}.py" for it in ("building", "fetched", name)), HEADER, *linked
     for path in sorted(it for place in places for it in glob.glob(place) if os.path.isfile(it)):
-        with open(path, "rb") as it:
-            of.update(path.encode() + it.read())
+        of.update(path.encode() + read_bytes(path))
     return of.hexdigest()
 
 
 def is_built(folder: str, word: str) -> bool:
     """Whether a folder has a whole build of this stamp."""
     try:
-        with open(f"{folder}.stamp", encoding="utf-8") as it:
-            return it.read() == word and os.path.isdir(folder)
+        return read_text(f"{folder}.stamp") == word and os.path.isdir(folder)
     except OSError:
         return False
 

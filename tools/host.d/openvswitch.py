@@ -10,7 +10,7 @@ import time
 
 from building import HOSTS, Host, Order, before, begins, done, exchange, library_of
 from fetched import Source, Sources, unpacked
-from repository import Missing
+from repository import Missing, read_text, write_text
 
 PACKAGES = "openvswitch-common", "openvswitch-switch"
 OPTIONS = "--disable-afxdp"
@@ -20,8 +20,7 @@ UNUSED = "architecture-is-64-bit", "graphviz", "libbpf-dev", "libdpdk-dev", "lib
 
 def wanted(source: Source) -> str:
     """What the sources are built with, as their description tells it."""
-    with open(source.described, encoding="utf-8") as it:
-        told = re.search(r"^Build-Depends: (.*)$", it.read(), re.M)
+    told = re.search(r"^Build-Depends: (.*)$", read_text(source.described), re.M)
     return ", ".join(each for each in (told.group(1).split(", ") if told else []) if each.split()[0] not in UNUSED)
 
 
@@ -59,12 +58,10 @@ def add_tests(tree: str) -> None:
 
 def without_dpdk(tree: str) -> None:
     """Takes the parts for DPDK out of debian/rules, which are for some processors."""
-    with open(f"{tree}/debian/rules", encoding="utf-8") as it:
-        rules, count = re.subn(r"^ifneq \(,\$\(filter i386 amd64 .*$", "ifeq (1,0)", it.read(), flags=re.M)
+    rules, count = re.subn(r"^ifneq \(,\$\(filter i386 amd64 .*$", "ifeq (1,0)", read_text(f"{tree}/debian/rules"), flags=re.M)
     if not count:
         raise Missing("debian/rules of Open vSwitch is not as it is known: --version names other sources")
-    with open(f"{tree}/debian/rules", "w", encoding="utf-8") as it:
-        it.write(rules)
+    write_text(f"{tree}/debian/rules", rules)
 
 
 def pack(_: Sources, order: Order) -> list[str]:

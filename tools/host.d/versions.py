@@ -4,10 +4,9 @@ from __future__ import annotations
 
 import os
 
-from repository import TOP
+from repository import TOP, read_text
 
 
 def ours(version: str) -> str:
     """Above the version of Debian, and below its next one."""
-    with open(os.path.join(TOP, "VERSION"), encoding="utf-8") as it:
-        return f"{version}+niw{it.read().strip()}"
+    return f"{version}+niw{read_text(os.path.join(TOP, 'VERSION')).strip()}"

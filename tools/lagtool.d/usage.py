@@ -6,7 +6,7 @@ import os
 import re
 import textwrap
 
-from repository import CRATES
+from repository import CRATES, read_text
 
 TEXTS = os.path.join(CRATES, "lagtool", "src", "help.rt")
 
@@ -24,8 +24,7 @@ EXPLAIN = """\
 
 def texts() -> dict[str, str]:
     """The constants of the file: their names and texts."""
-    with open(TEXTS, encoding="utf-8") as it:
-        found = re.findall(r'^pub const (\w+): &str =\s*"((?:[^"\\]|\\.)*)";', it.read(), re.M | re.S)
+    found = re.findall(r'^pub const (\w+): &str =\s*"((?:[^"\\]|\\.)*)";', read_text(TEXTS), re.M | re.S)
     return {name: re.sub(r"\\\n\s*", "", text).replace('\\"', '"') for name, text in found}
 
 

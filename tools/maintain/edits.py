@@ -12,7 +12,7 @@ from dataclasses import dataclass
 from itertools import takewhile
 from typing import Iterable
 
-from repository import CRATES, MAINTAIN, TOP, Missing, below, crates, lines
+from repository import CRATES, MAINTAIN, TOP, Missing, below, crates, lines, read_text, write_text
 
 BODIES = os.path.join(MAINTAIN, "wrong-bodies.d")
 DEFINITIONS = os.path.join(MAINTAIN, "wrong-definitions.d")
@@ -20,15 +20,9 @@ DEFINITIONS = os.path.join(MAINTAIN, "wrong-definitions.d")
 Pair = tuple[str, str, str]
 
 
-def read(path: str) -> str:
-    with open(path, encoding="utf-8") as file:
-        return file.read()
-
-
 def write(path: str, text: str) -> None:
     os.makedirs(os.path.dirname(path), exist_ok=True)
-    with open(path, "w", encoding="utf-8") as file:
-        file.write(text)
+    write_text(path, text)
 
 
 def copy_crates(folder: str, crates: Iterable[str]) -> str:
@@ -93,7 +87,7 @@ def stored_in(top: str, crate: str) -> list[Trial]:
     path = os.path.join(top, f"{crate}.edits")
     rows: dict[str, list[str]] = {}
     here: list[str] | None = None
-    for line in read(path).splitlines() if os.path.exists(path) else []:
+    for line in read_text(path).splitlines() if os.path.exists(path) else []:
         if line.startswith("edit: "):
             name = line.removeprefix("edit: ")
             if name in rows:
@@ -123,7 +117,7 @@ def must_fail(crate: str) -> list[Trial]:
     for file in files:
         if not file.endswith(".edit"):
             raise Missing(f"{os.path.join(folder, file)} is no edit: its name has to end in .edit")
-    return [read_trial(crate, file.removesuffix(".edit"), read(os.path.join(folder, file)).splitlines()) for file in files]
+    return [read_trial(crate, file.removesuffix(".edit"), read_text(os.path.join(folder, file)).splitlines()) for file in files]
 
 
 def replaced(folder: str, pairs: Iterable[Pair]) -> tuple[dict[str, str], dict[str, str], str | None]:
@@ -132,7 +126,7 @@ def replaced(folder: str, pairs: Iterable[Pair]) -> tuple[dict[str, str], dict[s
     now: dict[str, str] = {}
     for file, old, new in pairs:
         path = os.path.join(folder, file)
-        text = now[path] if path in now else read(path) if os.path.isfile(path) else ""
+        text = now[path] if path in now else read_text(path) if os.path.isfile(path) else ""
         if text.count(old) != 1 and not (isinstance(old, Everywhere) and old in text):
             return {}, {}, f"the old text stands in {file} {text.count(old)} times: {old}"
         was.setdefault(path, text)

@@ -10,7 +10,7 @@ import re
 import subprocess
 from typing import Iterator
 
-from repository import MAINTAIN, TOOLS, TOP
+from repository import MAINTAIN, TOOLS, TOP, read_text
 
 TESTS = os.path.join(MAINTAIN, "tests")
 # A folder of modules, as a tool names it.
@@ -37,8 +37,7 @@ def folders(path: str) -> list[str]:
     found: list[str] = []
     left = [path]
     while left:
-        with open(left.pop(), encoding="utf-8") as it:
-            named = [os.path.join(place, name) for name in FOLDER.findall(it.read()) for place in (TOOLS, MAINTAIN)]
+        named = [os.path.join(place, name) for name in FOLDER.findall(read_text(left.pop())) for place in (TOOLS, MAINTAIN)]
         for folder in named:
             # Folders of edits have no modules.
             if folder not in found and os.path.isdir(folder) and modules(folder):

@@ -11,8 +11,7 @@ import os
 import re
 from typing import Iterator, NamedTuple
 
-from edits import read
-from repository import CRATES, TOP, Missing
+from repository import CRATES, TOP, Missing, read_text
 
 PAGE = "docs/internals/THEOREMS.md"
 HEAD = re.compile(r"\|promise\|contract\|(not said|premises)\|")
@@ -65,7 +64,7 @@ def promises_of(crate: str) -> list[Promise]:
             inner.sort()
             for file in sorted(files):
                 path = os.path.join(folder, file)
-                found += promises_in(read(path), os.path.relpath(path, TOP)) if file.endswith((".rt", ".antt")) else []
+                found += promises_in(read_text(path), os.path.relpath(path, TOP)) if file.endswith((".rt", ".antt")) else []
     return found
 
 
@@ -92,7 +91,7 @@ def rows_of(tables: list[list[str]], promises: list[Promise]) -> list[list[str]]
 
 def page() -> str:
     """The page with the tables of what the crates promise."""
-    parts = re.split(r"(?m)^(?=## )", read(os.path.join(TOP, PAGE)))
+    parts = re.split(r"(?m)^(?=## )", read_text(os.path.join(TOP, PAGE)))
     for index, part in enumerate(parts):
         crate = part.partition("\n")[0][3:]
         lines = part.split("\n")

@@ -12,9 +12,9 @@ import subprocess
 import sys
 from typing import Iterable, Iterator, NamedTuple
 
-from edits import Trial, copy_crates, read, write
+from edits import Trial, copy_crates, write
 from lanes import lanes
-from repository import CRATES, RT, Missing
+from repository import CRATES, RT, Missing, read_text
 
 # An edit, whether it passed, and what to print.
 Result = tuple[Trial, bool, str]
@@ -48,7 +48,7 @@ def attempt(kind: str, trial: Trial) -> Attempt:
 def own(trial: Trial) -> Attempt:
     """An edit of a crate's must-fail, as it stands there."""
     file = f"{trial.name}.edit"
-    return Attempt(trial, file, read(os.path.join(CRATES, trial.crate, "must-fail", file)))
+    return Attempt(trial, file, read_text(os.path.join(CRATES, trial.crate, "must-fail", file)))
 
 
 def ran(folder: str) -> list[str]:

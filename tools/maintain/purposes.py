@@ -5,8 +5,7 @@ from __future__ import annotations
 import os
 import re
 
-from edits import read
-from repository import CRATES, TOP, Missing, below, crates
+from repository import CRATES, TOP, Missing, below, crates, read_text
 
 PAGE = "docs/internals/ARCHITECTURE.md"
 HEAD = "|crate|what it is|\n|---|---|\n"
@@ -22,7 +21,7 @@ def purpose(crate: str) -> str:
     for file in "lib.rt", "main.rt":
         path = os.path.join(CRATES, crate, "src", file)
         if os.path.exists(path):
-            first = re.match(r"(?://! .*\n)+", read(path))
+            first = re.match(r"(?://! .*\n)+", read_text(path))
             found = SENTENCE.match(" ".join(line[4:] for line in first[0].splitlines())) if first else None
             if found is None:
                 raise Missing(f"{os.path.relpath(path, TOP)} does not begin with a sentence behind //!")
@@ -47,4 +46,4 @@ def with_table(text: str) -> str:
 
 
 def page() -> str:
-    return with_table(read(os.path.join(TOP, PAGE)))
+    return with_table(read_text(os.path.join(TOP, PAGE)))

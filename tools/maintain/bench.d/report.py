@@ -86,8 +86,7 @@ def codec_rows(table: Table, m: Measured) -> None:
         rows.append(([what, number(ours), *map(number, others), *(f"{ours / it:.2f}" for it in others)], is_right))
         if what in ("decode", "encode"):
             table.goal(f"{what} beside plain Rust", ours / others[0], 1.0)
-    head = ["codec, ns a PDU", "ours", *(name for _, name in CODECS), *(f"ours / {name}" for _, name in CODECS)]
-    table.section(head, rows)
+    table.section(["codec, ns a PDU", "ours", *(name for _, name in CODECS), *(f"ours / {name}" for _, name in CODECS)], rows)
 
 
 def timed_rows(table: Table, m: Measured, head: list[str], kind: str, columns: list[tuple[str, str]]) -> None:
@@ -102,8 +101,7 @@ def timed_rows(table: Table, m: Measured, head: list[str], kind: str, columns: l
 
 def call_rows(table: Table, m: Measured) -> None:
     columns = [(ports, used) for ports in PORTS for used in USED]
-    head = ["one system, ns a call: ports / conversations"] + [" / ".join(it) for it in columns]
-    timed_rows(table, m, head, "call", columns)
+    timed_rows(table, m, ["one system, ns a call: ports / conversations"] + [" / ".join(it) for it in columns], "call", columns)
 
 
 def wide_rows(table: Table, m: Measured) -> None:

@@ -43,8 +43,7 @@ def pings(address: str, octets: int = 56, count: int = 5) -> bool:
 def check_pings(what: str, net: str, longest: int, ours: End) -> None:
     """Packets of IPv4 and IPv6, short ones and those as long as the device takes."""
     for address, head in (f"{net}.2", 28), (f"2001:db8:{net.split('.')[-1]}::2", 48):
-        reached = within(COMES, lambda: pings(address, count=1))
-        whole = reached and pings(address) and pings(address, longest - head)
+        whole = within(COMES, lambda: pings(address, count=1)) and pings(address) and pings(address, longest - head)
         check(whole, f"{what}: {address} answers, up to {longest} octets", ours.text(), ours.printed())
 
 

@@ -217,8 +217,7 @@ def queues_answered(programs: Programs) -> None:
             laid.tell("dumb", number)
         outcome = run_flows(programs, 10, every(1, 9, move_all(ours)), rate=RATE // 4)
         check_order(outcome, "half of the queues are answered", ours.text())
-        carry = ours.carry()
-        check(carry["markers"] == "not answered", "the peer counts as one that answers none", ours.text(), ours.printed())
+        check(ours.carry()["markers"] == "not answered", "the peer counts as one that answers none", ours.text(), ours.printed())
         check_end(ours, "the sending end")
     with pair(programs, delays=(), options=ALL, queues=QUEUES) as (_, ours, theirs):
         try_flood(ours, theirs)

@@ -115,8 +115,7 @@ def announced(programs: Programs) -> None:
     ways: tuple[list[str], ...] = ([], ["--fast"])
     for options in ways:
         with cables(programs, (0, 0, 0, 0)) as laid:
-            ends = [End(programs, OURS, links=4, options=options),
-                    End(programs, THEIRS, names=("b2:key=6", "b3:key=6", "b0", "b1"), options=options)]
+            ends = [End(programs, OURS, links=4, options=options), End(programs, THEIRS, names=("b2:key=6", "b3:key=6", "b0", "b1"), options=options)]
             if not within(COMES_UP, lambda: ends[0].links() == ends[1].links() == 2):
                 raise Failed("two of four links carry", ends[0].text())
             address(OURS)

@@ -78,59 +78,15 @@ def build_programs(folder: str, libraries: list[str], words: Sequence[str] = ())
                     buckets=buckets, **own)
 
 
-class Carry(TypedDict):
-    """What a status has of the data that a bundle carries: counts, but for the carrier and the texts."""
-
-    device: str
-    carrier: bool
-    aggregator: int
-    hash: str
-    flight: int
-    markers: str
-    way: str
-    waiting: int
-    fast_conversations: int
-    from_host: int
-    unfit: int
-    none_carries: int
-    queue_full: int
-    held_too_long: int
-    overflowed: int
-    handed_up: int
-    host_untaken: int
-    other_aggregator: int
-    held: int
-    longest_queue: int
-    markers_sent: int
-    markers_again: int
-    moves: int
-    rested: int
-    forced: int
-    switches: int
-    woken: int
-    segmented: int
-    withdrawn: int
-
-
-class Member(TypedDict):
-    """What is read here of a port in a status."""
-
-    interface: str
-    port: int
-    aggregator: int
-    status: str
-    partner: dict[str, object]
-    data: dict[str, int]
-
-
-class Status(TypedDict):
-    """What is read here of a status."""
-
-    state: str
-    carrying: int
-    away: int
-    carry: Carry
-    ports: list[Member]
+# What a status has of the data that a bundle carries: counts, but for the carrier and the texts.
+Carry = TypedDict("Carry", {
+    "device": str, "hash": str, "markers": str, "way": str, "carrier": bool, "aggregator": int, "flight": int, "waiting": int, "fast_conversations": int,
+    "from_host": int, "unfit": int, "none_carries": int, "queue_full": int, "held_too_long": int, "overflowed": int, "handed_up": int,
+    "host_untaken": int, "other_aggregator": int, "held": int, "longest_queue": int, "markers_sent": int, "markers_again": int, "moves": int,
+    "rested": int, "forced": int, "switches": int, "woken": int, "segmented": int, "withdrawn": int})  # fmt: skip
+# What is read here of a port in a status, and of a status.
+Member = TypedDict("Member", {"interface": str, "port": int, "aggregator": int, "status": str, "partner": dict[str, object], "data": dict[str, int]})
+Status = TypedDict("Status", {"state": str, "carrying": int, "away": int, "carry": Carry, "ports": list[Member]})
 
 
 def counted_of_members(told: Status, name: str) -> int:

@@ -174,8 +174,7 @@ def fast_requeued(programs: Programs) -> None:
         inside(OURS, "tc", "qdisc", "del", "dev", "a0", "root")
         time.sleep(1)
         check(changes() == before, "its carrier stays on meanwhile", before, changes(), ours.printed())
-        outcome = run_flows(programs, 3, every(1, 2, move_all(ours)))
-        check_order(outcome, "by the kernel on both links again", ours.text())
+        check_order(run_flows(programs, 3, every(1, 2, move_all(ours))), "by the kernel on both links again", ours.text())
         passed = [port["data"]["passed_on"] for port in ours.told()["ports"]]
         check(min(passed) > 0, f"the kernel passed on {passed}", ours.text())
         ours.ends("the daemon")

@@ -43,8 +43,7 @@ def check_up(programs: Programs, kept: Kept, peer: End, what: str) -> None:
     ip(kept.at, "link", "set", DEVICE, "up")
     check(within(COMES_UP, lambda: kept.links() == peer.links() == DIRECT), f"{what}: up begins it again", kept.text(), peer.text())
     time.sleep(1)
-    outcome = run_flows(programs, 2)
-    check_order(outcome, f"{what}, after it is up again", kept.text())
+    check_order(run_flows(programs, 2), f"{what}, after it is up again", kept.text())
 
 
 def device_down(programs: Programs) -> None:

@@ -10,12 +10,12 @@ import select
 import socket
 import struct
 import time
-from pathlib import Path
 from typing import Callable
 
 from bonds import COMES_UP, DEVICE, End, Programs, cables, wait_for_links
 from checking import Skipped, check, command, within
 from daemon import SYSTEM
+from repository import write_text
 from spaces import OURS, THEIRS, inside, ip, octets, packet_socket, within_space
 from stream_parts import ADDRESSES6, give_both_addresses
 from streams import ADDRESSES, give_addresses, run_stream
@@ -55,7 +55,7 @@ def filters(name: str) -> tuple[int, bool]:
 def asks_kernel(programs: Programs) -> None:
     """lagd --check tells what a file wants and the kernel lacks."""
     path = os.path.join(programs.folder, "asked.conf")
-    Path(path).write_text("[Bundle]\nkey=1\nsystem=1,02:00:00:00:00:01\ncarry=lag0\nfast=yes\n[Port a0]\n", encoding="utf-8")
+    write_text(path, "[Bundle]\nkey=1\nsystem=1,02:00:00:00:00:01\ncarry=lag0\nfast=yes\n[Port a0]\n")
     lacks = f"lagd: {path}:5: fast: the kernel has no program of an interface, which Linux has from 6.6 on\n"
     for program, wanted in (programs.old_kernel, (1, lacks)), (programs.daemon, (0, "")):
         ended = command(program, "--check", path)

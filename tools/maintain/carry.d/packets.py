@@ -24,8 +24,7 @@ def host_socket() -> socket.socket:
 def internet_sum(octets: bytes) -> int:
     """The sum of which the checksum of IP and TCP is the complement; of octets with a right one 0xFFFF."""
     octets += bytes(len(octets) % 2)
-    total = sum(int.from_bytes(octets[at:at + 2], "big") for at in range(0, len(octets), 2))
-    return total % 0xFFFF or 0xFFFF
+    return sum(int.from_bytes(octets[at:at + 2], "big") for at in range(0, len(octets), 2)) % 0xFFFF or 0xFFFF
 
 
 def packet_to_cut(octets: int, size: int, macs: bytes = bytes([2] * 12), tags: bytes = b"") -> bytes:

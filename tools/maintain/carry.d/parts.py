@@ -102,8 +102,7 @@ def switches(programs: Programs) -> None:
 def stays_while_heard(programs: Programs, laid: Cables, ours: End, theirs: End) -> None:
     """With data from the other end, a group that has as many links again does not get the data back."""
     first, before = ours.carry()["aggregator"], ours.carry()["switches"]
-    back = subprocess.Popen(["ip", "netns", "exec", THEIRS, programs.flows, "send", DEVICE, "1000", "8", "20", "macs"],
-                            stdout=subprocess.DEVNULL)
+    back = subprocess.Popen(["ip", "netns", "exec", THEIRS, programs.flows, "send", DEVICE, "1000", "8", "20", "macs"], stdout=subprocess.DEVNULL)
     try:
         seen: list[Carry] = []
         events: list[Event] = [(1, lambda: laid.tell("cut", 0)), (3, lambda: laid.tell("join", 0)), (8, lambda: seen.append(ours.carry()))]
@@ -137,8 +136,7 @@ def restarts(programs: Programs) -> None:
             again = within(COMES_UP, lambda: ours.links() == theirs.links() == 2)
             check(again, "both links carry again", ours.text(), theirs.text())
             time.sleep(LINKWATCH)
-            outcome = run_flows(programs, 4, every(1, 3, move_all(ours)))
-            check_order(outcome, f"after it was {what}", ours.text())
+            check_order(run_flows(programs, 4, every(1, 3, move_all(ours))), f"after it was {what}", ours.text())
             check_end(ours, "the sending end")
         ours.process.send_signal(signal.SIGTERM)
         check(ours.process.wait(10) == 0, "SIGTERM ends the sending end with status 0", ours.printed())
@@ -215,8 +213,7 @@ def open_vswitch(programs: Programs) -> None:
             found = within(COMES_UP, lambda: ours.carry()["markers"] in ("answered", "not answered"))
             check(found, f"it has {ours.carry()['markers']} a marker", ours.text())
             events = [(3, lambda: laid.tell("cut", 1)), (5, lambda: laid.tell("join", 1))]
-            outcome = run_flows(programs, 10, events, devices=(DEVICE, "br0"))
-            check_order(outcome, "to Open vSwitch, with a cut", ours.text())
+            check_order(run_flows(programs, 10, events, devices=(DEVICE, "br0")), "to Open vSwitch, with a cut", ours.text())
             check_end(ours, "the sending end")
         finally:
             ours.kill()
@@ -227,8 +224,7 @@ def frames(programs: Programs) -> None:
     """Frames with a tag, of the longest kind, too long and of the slow protocols; and the MTU."""
     with cables(programs, ()):
         ours, theirs = End(programs, OURS), End(programs, THEIRS)
-        up = within(COMES_UP, lambda: ours.links() == theirs.links() == 2)
-        check(up, "two links without delay carry", ours.text())
+        check(within(COMES_UP, lambda: ours.links() == theirs.links() == 2), "two links without delay carry", ours.text())
         try_frames(ours, theirs)
 
 

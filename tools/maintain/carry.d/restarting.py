@@ -13,7 +13,6 @@ import time
 from array import array
 from dataclasses import replace
 from functools import partial
-from pathlib import Path
 from threading import Event, Thread, Timer
 from typing import Callable, Iterator, Sequence
 
@@ -24,6 +23,7 @@ from bonds import (COMES_BACK, COMES_UP, DEVICE, DIRECT, FLIGHT, FLOWS, LATE, MI
 from checking import Failed, Skipped, check, found, within
 from daemon import ENDS, SYSTEM, Daemon, Part
 from openvswitch import OpenVSwitch
+from repository import read_text
 from spaces import OURS, THEIRS, inside, ip
 
 ADDRESS = "192.0.2.1/24"
@@ -203,8 +203,7 @@ def places(kept: Kept) -> list[str]:
     """The conversations, and the interface of each, as the daemon last wrote it."""
     time.sleep(WRITTEN)
     path = max(glob.glob(f"{kept.folder}/*.{'a' if kept.at == OURS else 'b'}0.state"), key=os.path.getmtime)
-    with open(path, encoding="utf-8") as it:
-        return sorted(line for line in it if line.startswith("on "))
+    return sorted(line for line in read_text(path).splitlines() if line.startswith("on "))
 
 
 def stay(programs: Programs) -> None:
@@ -238,8 +237,7 @@ def another_hash(programs: Programs) -> None:
         check_flows(programs, kept, peer, "fast, another hash")
         tables = [name for name in kept.manager.files if name.startswith("map-")] if kept.manager else []
         check(len(tables) == TABLES, f"fast, another hash: {len(tables)} tables are kept", kept.text())
-        outcome = flows_through(programs, partial(kept.again, signal.SIGUSR1))
-        check_lost(outcome, 0, "fast, another hash, handed over", kept)
+        check_lost(flows_through(programs, partial(kept.again, signal.SIGUSR1)), 0, "fast, another hash, handed over", kept)
 
 
 def hand_over(programs: Programs, name: str, more: Sequence[str] = (), queues: int = 1) -> None:
@@ -417,7 +415,7 @@ def tells_of_device(path: str) -> bool:
     """Whether a state is whole, and of the device that is there."""
     if not os.path.exists(path):
         return False
-    lines = Path(path).read_text(encoding="utf-8").splitlines()
+    lines = read_text(path).splitlines()
     return "end" in lines and any(line.startswith(f"tap {device_number()} ") for line in lines)
 
 

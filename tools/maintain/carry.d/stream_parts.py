@@ -151,8 +151,7 @@ def small_segments(programs: Programs) -> None:
     with pair(programs, delays=()) as (_, ours, theirs):
         with host_socket() as host:
             host.send(packet_to_cut(3000, 1000, tags=b"\x88\xa8\x00\x05" + b"\x81\x00\x00\x05" * 2))
-        check(within(ANSWERS, lambda: theirs.carry()["handed_up"] == 3), "a packet with three tags is cut, too",
-              ours.text())
+        check(within(ANSWERS, lambda: theirs.carry()["handed_up"] == 3), "a packet with three tags is cut, too", ours.text())
 
 
 def stream_troubles(programs: Programs) -> None:

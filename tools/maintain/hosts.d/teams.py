@@ -14,7 +14,7 @@ from typing import Callable
 import usermode
 from built import HOSTS, REFUSE, UNDEFINED, Built
 from checking import Failed, Skipped, check
-from repository import TOP
+from repository import TOP, write_text
 from switches import words_of
 
 TESTS = os.path.join(HOSTS, "teamd", "tests")
@@ -160,8 +160,7 @@ def valgrind(built: Built) -> None:
     shutil.copy(program(built), f"{folder}/teamd-for-valgrind")
     built.compile("-shared", "-fPIC", "-o", f"{folder}/kept.so", os.path.join(TESTS, "kept.c"))
     wrapper = f"{built.folder}/valgrind-teamd"
-    with open(wrapper, "w", encoding="utf-8") as it:
-        it.write(VALGRIND)
+    write_text(wrapper, VALGRIND)
     os.chmod(wrapper, 0o755)
     for script in NAMES:
         told = guest(built, script, wrapper, "valgrind-teamd", SLOW)

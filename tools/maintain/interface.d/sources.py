@@ -12,7 +12,7 @@ import os
 import re
 from typing import Iterator, NamedTuple
 
-from repository import CRATES, Missing
+from repository import CRATES, Missing, read_text
 
 SOURCES = os.path.join(CRATES, "lagffi", "src")
 # Types of C, and their sizes on x86-64, which are their alignments too.
@@ -30,11 +30,6 @@ EXPORT = re.compile(r'((?:^///[^\n]*\n)*)#\[unsafe\(no_mangle\)\]\npub extern "C
 # What lagffi refuses by itself, and the word by which a contract says so.
 CONTRACTS = {"NIW_NO_SYSTEM": r"\bno_system\b", "NIW_HAS_SYSTEM": "holds_system_already", "NIW_NO_QUEUE": r"\bno_queue\b",
              "NIW_HAS_QUEUE": "holds_queue_already", "NIW_BUFFER": "wrong_buffer_length|TellsRowsIf", "NIW_NO_PDU": r"\bno_pdu\b"}
-
-
-def read(path: str) -> str:
-    with open(path, encoding="utf-8") as it:
-        return it.read()
 
 
 def plain(text: str) -> str:
@@ -62,7 +57,7 @@ def library() -> dict[str, str]:
     found = {}
     for crate in sorted(os.listdir(CRATES)):
         if not crate.startswith(("tests_", "example_", "lagtool", "lagffi")):
-            found.update({path: read(path) for path in files(os.path.join(CRATES, crate, "src"))})
+            found.update({path: read_text(path) for path in files(os.path.join(CRATES, crate, "src"))})
     return found
 
 
@@ -76,7 +71,7 @@ def owner(pattern: str) -> str:
 
 def text_of_lagffi() -> str:
     """The sources of lagffi."""
-    return "\n".join(map(read, files(SOURCES)))
+    return "\n".join(map(read_text, files(SOURCES)))
 
 
 class Field(NamedTuple):

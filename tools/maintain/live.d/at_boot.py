@@ -5,7 +5,6 @@ from __future__ import annotations
 import contextlib
 import os
 import shutil
-from pathlib import Path
 from typing import Callable
 
 from booted import ANSWERS, BOOTS, TARGET, Machine, put
@@ -13,7 +12,7 @@ from checking import Skipped, check, within
 from daemon import Daemon, Part
 from daemons import COMES_UP
 from fetching import Packages
-from repository import CACHE, TOP
+from repository import CACHE, TOP, read_text
 from service import FILE
 from spaces import THEIRS, inside, ip
 
@@ -38,7 +37,7 @@ WAYS: dict[str, tuple[dict[str, str], list[str], list[str]]] = {
 def text_of(file: str) -> str:
     """A file of lagd/boot, with the names of our members."""
     path = os.path.join(TOP, "lagd", "boot", file)
-    text = Path(path if os.path.exists(path) else path.replace("eth2", "eth1")).read_text(encoding="utf-8")
+    text = read_text(path if os.path.exists(path) else path.replace("eth2", "eth1"))
     return text.replace("eth1", "a1" if file.startswith("eth2") else "a0").replace("eth2", "a1")
 
 
@@ -57,8 +56,7 @@ def lay_over(packages: Packages, name: str) -> Callable[[str], None]:
         put(over, "etc/systemd/system/bundle.target", TARGET.replace("dbus.service", f"dbus.service {' '.join(units)}"))
         put(over, "etc/lagd/uplink.conf", BUNDLE)
         put(over, "etc/network/interfaces", "source /etc/network/interfaces.d/*\n")
-        with open(os.path.join(TOP, "lagd", "carry.conf"), encoding="utf-8") as it:
-            put(over, f"{UNIT}/carry.conf", it.read())
+        put(over, f"{UNIT}/carry.conf", read_text(os.path.join(TOP, "lagd", "carry.conf")))
         for file, place in files.items():
             put(over, place, text_of(file), 0o600 if place.startswith(CONNECTIONS) else 0o644)
 

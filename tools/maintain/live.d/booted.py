@@ -9,14 +9,13 @@ import shutil
 import signal
 import subprocess
 import time
-from pathlib import Path
 from typing import Callable
 
 from checking import Skipped, check, command, within
 from daemon import SYSTEM, Daemon, Part
 from daemons import COMES_UP, GOES_DOWN
-from repository import TOP
-from service import BUNDLE_LINE, FILE, ids_of_lines, write
+from repository import TOP, read_text, write_text
+from service import BUNDLE_LINE, FILE, ids_of_lines
 from spaces import OURS
 
 BOOTS, ANSWERS = 30, 20
@@ -59,7 +58,7 @@ def put(over: str, path: str, text: str, mode: int = 0o644) -> None:
     """A file over those of the machine."""
     place = os.path.join(over, path)
     os.makedirs(os.path.dirname(place), exist_ok=True)
-    write(place, text)
+    write_text(place, text)
     os.chmod(place, mode)
 
 
@@ -69,8 +68,7 @@ def lay_out(part: Part, over: str, bundle: str) -> None:
     if "carry=" in bundle:
         files["carry.conf"] = "etc/systemd/system/lagd@.service.d/carry.conf"
     for file, place in files.items():
-        with open(os.path.join(TOP, "lagd", file), encoding="utf-8") as it:
-            put(over, place, it.read())
+        put(over, place, read_text(os.path.join(TOP, "lagd", file)))
     put(over, "etc/systemd/system/bundle.target", TARGET)
     put(over, "etc/systemd/system/lagd@.service.d/impatient.conf", IMPATIENT)
     put(over, "etc/lagd/uplink.conf", bundle)
@@ -85,8 +83,7 @@ def lay_out(part: Part, over: str, bundle: str) -> None:
 
 def unified() -> str:
     """Where the machine has its cgroups of version 2."""
-    with open("/proc/mounts", encoding="utf-8") as mounts:
-        found = [line.split()[1] for line in mounts if line.split()[2] == "cgroup2"]
+    found = [line.split()[1] for line in read_text("/proc/mounts").splitlines() if line.split()[2] == "cgroup2"]
     if not found:
         raise Skipped("no cgroups of version 2")
     return found[0]
@@ -116,8 +113,7 @@ class Machine:
     def first(self) -> str | None:
         """The number of its first process, outside."""
         path = f"/proc/{self.process.pid}/task/{self.process.pid}/children"
-        with open(path, encoding="utf-8") as it:
-            return next(iter(it.read().split()), None)
+        return next(iter(read_text(path).split()), None)
 
     def run(self, *words: str) -> subprocess.CompletedProcess[str]:
         first = self.first() if self.process.poll() is None else None
@@ -143,7 +139,7 @@ class Machine:
         check(active, "systemd starts the unit, whose Type is notify", self.told())
 
     def told(self) -> str:
-        return Path(self.log).read_text(encoding="utf-8")[-3000:] + self.tells("journalctl", "--no-pager", "--lines", "60")
+        return read_text(self.log)[-3000:] + self.tells("journalctl", "--no-pager", "--lines", "60")
 
     def close(self) -> None:
         if self.process.poll() is None:
@@ -153,10 +149,8 @@ class Machine:
         within(ANSWERS, ended)
         time.sleep(0.2)
         for place, _, _ in os.walk(self.group, topdown=False):
-            try:
+            with contextlib.suppress(OSError):
                 os.rmdir(place)
-            except OSError:
-                pass
 
 
 def journal_lines(machine: Machine, kind: str) -> list[tuple[str | None, str | None, str]]:

@@ -8,10 +8,10 @@ import os
 import re
 import signal
 import subprocess
-from pathlib import Path
 from typing import Any, Callable, NoReturn, Protocol, Sequence
 
 from checking import Skipped, check, within
+from repository import read_text
 from spaces import OURS, THEIRS, inside
 
 SYSTEM, OTHER, KEY = "02:00:00:00:00:aa", "02:00:00:00:00:bb", "23"
@@ -51,11 +51,10 @@ class Daemon:
 
     def busy(self) -> float:
         """For how many seconds it had a processor."""
-        with open(f"/proc/{self.process.pid}/schedstat", encoding="utf-8") as times:
-            return int(times.read().split()[0]) / 1e9
+        return int(read_text(f"/proc/{self.process.pid}/schedstat").split()[0]) / 1e9
 
     def printed(self) -> str:
-        return Path(self.log).read_text(encoding="utf-8")
+        return read_text(self.log)
 
     def lines(self, name: str) -> list[str]:
         """What it printed of a port, without times."""

@@ -3,6 +3,7 @@
 from __future__ import annotations
 
 import array
+import contextlib
 import fcntl
 import math
 import os
@@ -200,8 +201,7 @@ def other_addresses(daemon: Daemon, wire: Wire) -> None:
     check(seen and spared, "no LACPDU to another address is taken", *told)
     wire.send(lacpdu(STRANGER, 0x1234))
     named = lambda partner: (partner["system"], partner["port"]) == (STRANGER, 0x1234)
-    taken = lambda: named(daemon.port("a0")["partner"])
-    check(within(ENDS, taken), "one to the address of the slow protocols is", daemon.text())
+    check(within(ENDS, lambda: named(daemon.port("a0")["partner"])), "one to the address of the slow protocols is", daemon.text())
 
 
 def count_frames(daemon: Daemon, wire: Wire) -> None:
@@ -323,13 +323,11 @@ def full_queue(part: Part) -> None:
     check(within(ENDS, lambda: daemon.port("a0")["link"] == "up"), "a daemon alone", daemon.printed())
     daemon.process.send_signal(signal.SIGSTOP)
     askers: list[socket.socket] = []
-    try:
+    with contextlib.suppress(BlockingIOError):
         while len(askers) < 1000:
             askers.append(socket.socket(socket.AF_UNIX, socket.SOCK_STREAM | socket.SOCK_NONBLOCK))
             askers[-1].connect(daemon.socket())
             askers[-1].send(b"text\n")
-    except BlockingIOError:
-        pass
     status, line = part.refused("--status")
     told = status == 1 and line.startswith(f"lagd: {daemon.socket()}: its daemon does not answer: ") and "\nlagd: no lagd answers in: " in line
     check(len(askers) > 1 and told, f"stopped, with {len(askers)} questions unanswered, it keeps nobody waiting", line)
@@ -346,10 +344,8 @@ def false_changes(part: Part, seconds: float = 4) -> None:
     gone = LINK_GONE.pack(LINK_GONE.size, RTM_DELLINK, 0, 0, 0, socket.AF_UNSPEC, 0, int(inside(OURS, "cat", INDEX).stdout), 0, 0)
     sent, before, until = 0, ours.count("a0", "lacpdus_sent"), time.monotonic() + seconds
     while time.monotonic() < until:
-        try:
+        with contextlib.suppress(BlockingIOError, ConnectionRefusedError):
             sent += sender.sendto(gone, (ours.process.pid, 0)) > 0
-        except (BlockingIOError, ConnectionRefusedError):
-            pass
     check(sent > 1000 and ours.lines("a0") == lines, f"{sent} messages of another program change nothing", ours.printed())
     after = ours.count("a0", "lacpdus_sent")
     check(after >= before + 2, "the daemon sends meanwhile", before, after)
@@ -447,8 +443,7 @@ def not_root(part: Part) -> None:
     os.chown(os.path.join(part.folder, "run"), int(NOBODY), int(NOBODY))
     ours = part.ours(before=words)
     part.folder = os.path.dirname(part.folder)
-    theirs = part.theirs()
-    both_up(ours, theirs, "not as root, both links distribute")
+    both_up(ours, part.theirs(), "not as root, both links distribute")
     found = [it.getsockopt(socket.SOL_SOCKET, socket.SO_PRIORITY) for it in sockets_of(ours.process.pid)]
     check(found == [CONTROL, CONTROL], "its frames have the priority of control frames, too", found)
 

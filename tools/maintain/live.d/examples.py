@@ -7,12 +7,11 @@ import glob
 import os
 import re
 import shutil
-from pathlib import Path
 
 import library
 from checking import check, command
 from linking import EXAMPLES, RUN_BY, STRICT, build, ran
-from repository import COMPILER, MAINTAIN, TOP
+from repository import COMPILER, MAINTAIN, TOP, read_text
 
 EXAMPLE = os.path.join(EXAMPLES, "two_ends.c")
 CARGO = os.path.join(TOP, "examples", "rust", "Cargo.toml")
@@ -21,11 +20,9 @@ PRINTS = "both ends distribute after 30 ticks of 100 ms\n"
 
 
 def check_example(folder: str, libraries: list[str]) -> None:
-    program = build(os.path.join(folder, "two_ends"), [EXAMPLE], libraries, *STRICT, "-Werror")
-    told = ran(program)
+    told = ran(build(os.path.join(folder, "two_ends"), [EXAMPLE], libraries, *STRICT, "-Werror"))
     check(told.returncode == 0 and told.stdout == PRINTS, "examples/c/two_ends.c prints what README says", told.stdout + told.stderr)
-    with open(f"{TOP}/README.md", encoding="utf-8") as page:
-        check(PRINTS.strip() in page.read(), "README says what it prints")
+    check(PRINTS.strip() in read_text(f"{TOP}/README.md"), "README says what it prints")
 
 
 def check_programs(folder: str, libraries: list[str]) -> None:
@@ -34,7 +31,7 @@ def check_programs(folder: str, libraries: list[str]) -> None:
     pooled = ["-DNIW_POOL", library.PORTABLE]
     for text in sorted(glob.glob(f"{EXAMPLES}/*.txt")):
         name = os.path.basename(text).removesuffix(".txt")
-        wanted = Path(text).read_text(encoding="utf-8")
+        wanted = read_text(text)
         for linked in [pooled, [*pooled, *LARGER]] if name == "pool" else [libraries]:
             told = ran(build(os.path.join(folder, name), [os.path.join(EXAMPLES, f"{name}.c")], linked, *STRICT))
             named = " ".join([f"examples/c/{name}.c", *(LARGER if LARGER[0] in linked else [])])
@@ -55,8 +52,7 @@ def check_quotes() -> None:
     texts = [open(it, encoding="utf-8").read() for it in sources]
     blocks = []
     for name in "USING", "FIRMWARE":
-        with open(f"{TOP}/docs/{name}.md", encoding="utf-8") as page:
-            blocks += re.findall(r"^```c\n(.*?)^```$", page.read(), re.M | re.S)
+        blocks += re.findall(r"^```c\n(.*?)^```$", read_text(f"{TOP}/docs/{name}.md"), re.M | re.S)
     parts = [part for block in blocks for part in block.split("...\n")]
     strange = [part for part in parts if not any(part in text for text in texts)]
     check(bool(parts) and not strange, f"the {len(parts)} pieces of C in docs/USING.md and docs/FIRMWARE.md stand in programs that run", *strange)

@@ -10,7 +10,7 @@ import struct
 
 from checking import check, command
 from linking import DAEMON, INCLUDE, STANDING_IN, STRICT, daemon_sources
-from repository import MAINTAIN, daemon_words
+from repository import MAINTAIN, daemon_words, write_bytes
 from spaces import GROUP, SLOW_PROTOCOLS, lacpdu, octets
 
 # A message that an interface is there, with its name, the count of its losses, and an alternative name.
@@ -58,8 +58,7 @@ def fuzz(folder: str, libraries: list[str], seconds: int) -> None:
         return
     os.mkdir(seeds)
     for number, seed in enumerate(SEEDS):
-        with open(os.path.join(seeds, str(number)), "wb") as out:
-            out.write(seed)
+        write_bytes(os.path.join(seeds, str(number)), seed)
     words = [f"-max_total_time={seconds}", "-max_len=2048", "-print_final_stats=1", f"-artifact_prefix={folder}/", seeds]
     ran = command(made, *words, cwd=folder)
     times = (re.findall(r"number_of_executed_units: (\d+)", ran.stderr) or ["no"])[0]

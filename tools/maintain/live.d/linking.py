@@ -6,13 +6,12 @@ import glob
 import os
 import re
 import shutil
-from pathlib import Path
 from subprocess import CompletedProcess
 from typing import NamedTuple, Sequence
 
 from checking import Failed, check, command
 from processors import FOR_EACH_X86
-from repository import CC, COMPILER, CRATES, MAINTAIN, RT, TOP, WARNINGS, Missing, daemon_words, kernel_programs, runtime, want
+from repository import CC, COMPILER, CRATES, MAINTAIN, RT, TOP, WARNINGS, Missing, daemon_words, kernel_programs, read_text, runtime, want, write_text
 
 CRATE = os.path.join(CRATES, "lagffi")
 INCLUDE = f"-I{CRATE}/include"
@@ -67,8 +66,7 @@ def build_calls(folder: str, libraries: Sequence[str]) -> str:
     """Builds the program that calls each function; answers its path."""
     words = ["-std=c11", "-Wall", "-Wextra", "-Werror", *COUNTED]
     names = ("calls", "checks", "conversations", "payloads", "queues", "resuming", "settings", "active_aggregator", "observing")
-    sources = [f"{MAINTAIN}/live.d/{name}.c" for name in names]
-    return build(os.path.join(folder, "calls"), sources, libraries, *words)
+    return build(os.path.join(folder, "calls"), [f"{MAINTAIN}/live.d/{name}.c" for name in names], libraries, *words)
 
 
 # The folders of the daemon's sources: its own, and one of each plane.
@@ -199,8 +197,7 @@ REFUSING = f"{MAINTAIN}/live.d/refusing.c"
 
 def refusable() -> list[str]:
     """The functions that refusing.c refuses, without their lagffi_."""
-    with open(REFUSING, encoding="utf-8") as source:
-        return re.findall(r"^REFUSING\([\w ]+, (\w+),", source.read(), re.M)
+    return re.findall(r"^REFUSING\([\w ]+, (\w+),", read_text(REFUSING), re.M)
 
 
 def called() -> set[str]:
@@ -218,7 +215,7 @@ def build_refusing(folder: str, libraries: Sequence[str]) -> str:
 def check_header_alone(folder: str) -> None:
     """The header has no warning in any C and C++ of gcc and clang, where they are here."""
     source, told, count = os.path.join(folder, "alone.c"), "", 0
-    Path(source).write_text('#include "lag.h"\n', encoding="utf-8")
+    write_text(source, '#include "lag.h"\n')
     languages: list[tuple[str, list[str], list[str]]] = [("c", ["c99", "c11", "c17"], [])]
     languages.append(("c++", ["c++11", "c++17", "c++20"], ["-Wold-style-cast"]))
     for language, standards, more in languages:

@@ -13,8 +13,8 @@ import time
 from checking import Failed, check, command, within
 from daemon import ENDS, KEY, OTHER, SYSTEM, Daemon, Part
 from daemons import COMES_UP, both_up, pair_up
-from repository import CC, COMPILER, MAINTAIN
-from service import Filed, write
+from repository import CC, COMPILER, MAINTAIN, read_text, write_text
+from service import Filed
 from spaces import OURS, THEIRS, inside, ip, make_pair
 
 BUNDLES, MOST_PORTS, A_MINUTE = 100, 64, 60
@@ -70,7 +70,7 @@ def whole_status(part: Part) -> None:
     named = "".join(f"link property add dev a{place} altname {names[place]}\n" for place in range(1, MOST_PORTS))
     ip(OURS, "-batch", "-", input=named)
     file = os.path.join(part.folder, "b" * 127 + ".conf")
-    write(file, f"[Bundle]\nkey=7\nsystem=1,{SYSTEM}\n" + "".join(f"[Port {name}]\n" for name in names))
+    write_text(file, f"[Bundle]\nkey=7\nsystem=1,{SYSTEM}\n" + "".join(f"[Port {name}]\n" for name in names))
     ours = Filed(part, file)
     check(within(ENDS, lambda: list(ours.ports()) == names), "64 ports of long names", ours.printed())
     text = ours.text()
@@ -96,8 +96,7 @@ def build_flood(folder: str) -> str:
 
 def memory(daemon: Daemon) -> int:
     """How many octets of memory a daemon has."""
-    with open(f"/proc/{daemon.process.pid}/statm", encoding="utf-8") as it:
-        return int(it.read().split()[1]) * os.sysconf("SC_PAGE_SIZE")
+    return int(read_text(f"/proc/{daemon.process.pid}/statm").split()[1]) * os.sysconf("SC_PAGE_SIZE")
 
 
 def rubbish(part: Part) -> None:

@@ -3,6 +3,7 @@ that are gone or false."""
 
 from __future__ import annotations
 
+import contextlib
 import json
 import os
 import re
@@ -12,13 +13,13 @@ import socket
 import subprocess
 import threading
 import time
-from pathlib import Path
 from typing import Any
 
 from checking import Skipped, check, within
 from daemon import KEY, SYSTEM, Daemon, Part
 from daemons import COMES_UP
 from linking import build_subagent, has_subagent
+from repository import write_text
 from spaces import OURS, THEIRS, inside, ip, within_space
 
 # lagMIBObjects of IEEE8023-LAG-MIB, and its tables below it (IEEE 802.1AX-2014, annex D).
@@ -55,7 +56,7 @@ class Agent:
         want_subagent()
         self.part, self.socket = part, os.path.join(part.folder, "agentx")
         self.file, self.log = (os.path.join(part.folder, name) for name in ("snmpd.conf", "subagent"))
-        Path(self.file).write_text(CONFIGURATION.format(self.socket), encoding="utf-8")
+        write_text(self.file, CONFIGURATION.format(self.socket))
         ip(OURS, "link", "set", "lo", "up")
         self.words = [build_subagent(part.folder), "--agentx", f"unix:{self.socket}", "--folder", folder]
         self.master = self.start_master()
@@ -130,8 +131,7 @@ def index_of(name: str) -> int:
 
 
 def status_of(daemon: Daemon) -> Any:
-    told = inside(daemon.space, daemon.program, "--folder", daemon.folder, "--status", "--json")
-    return json.loads(told.stdout)
+    return json.loads(inside(daemon.space, daemon.program, "--folder", daemon.folder, "--status", "--json").stdout)
 
 
 def of_port(port: Any, aggregator: int) -> dict[int, str]:
@@ -347,13 +347,11 @@ class FalseDaemon(threading.Thread):
         answer = self.answer
         if answer is None or answer.endswith(HANGS):
             self.kept += [taken]
-        try:
+        with contextlib.suppress(OSError):
             taken.recv(16)
             taken.sendall((answer or b"").removesuffix(HANGS).removesuffix(ENDLESS))
             while answer and answer.endswith(ENDLESS):
                 taken.sendall(answer.removesuffix(ENDLESS))
-        except OSError:
-            pass
         if taken not in self.kept:
             taken.close()
 

@@ -5,10 +5,9 @@ from __future__ import annotations
 import os
 import re
 import sys
-from pathlib import Path
 
 from checking import check, command
-from repository import TOP
+from repository import TOP, read_text
 
 sys.path.append(os.path.join(TOP, "tools", "dist.d"))
 
@@ -39,7 +38,7 @@ def is_told(made: str, name: str, text: str) -> bool:
 
 
 def check_page(program: str) -> None:
-    page = Path(os.path.join(TOP, "docs", "LAGD.md")).read_text(encoding="utf-8")
+    page = read_text(os.path.join(TOP, "docs", "LAGD.md"))
     with open(os.path.join(TOP, "lagd", "settings.c"), encoding="utf-8") as it:
         keys = re.findall(r'^    \{"([\w-]+)"', it.read().partition(" BUNDLE_KEYS[] = {")[2].partition("\n};")[0], re.M)
     told = command(program, "--help").stdout

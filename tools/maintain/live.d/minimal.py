@@ -6,21 +6,18 @@ import os
 import signal
 import subprocess
 import time
-from pathlib import Path
 
 from checking import check, within
 from daemon import ENDS, Daemon, Part
 from daemons import COMES_UP, GOES_DOWN, STALL, STRANGER
+from repository import read_text
 from spaces import OURS, THEIRS, Wire, inside, ip, lacpdu, marker
 
 UP, DOWN = "a0: it distributes", "a0: the link is down"
 WAITS, SILENT, ALONE = "a0: it waits for wait_while", "a0: no LACPDU came in time", "a0: it distributes without a partner"
 GONE = "minimal: a0: No such device"
 # Wrong words, with the status and the line that they end with.
-WRONG: list[tuple[list[str], int, str]] = [
-    ([], 2, "minimal: usage: minimal INTERFACE\n"),
-    (["none0"], 1, "minimal: none0: No such device\n"),
-]
+WRONG: list[tuple[list[str], int, str]] = [([], 2, "minimal: usage: minimal INTERFACE\n"), (["none0"], 1, "minimal: none0: No such device\n")]
 
 
 class Minimal:
@@ -33,7 +30,7 @@ class Minimal:
         part.running.append(self)
 
     def printed(self) -> str:
-        return Path(self.log).read_text(encoding="utf-8")
+        return read_text(self.log)
 
     def printed_in_all(self, *lines: str) -> bool:
         return self.printed().splitlines() == list(lines)
@@ -59,8 +56,7 @@ def meets_strangers(ours: Minimal, theirs: Daemon) -> None:
     """A marker; and LACPDUs of another system, to other addresses and then to the right one."""
     wire = Wire(THEIRS, "b0")
     wire.send(marker(1))
-    answered = lambda: theirs.count("b0", "foreign_responses") == 1
-    check(within(ENDS, answered), "it answers a marker", theirs.text())
+    check(within(ENDS, lambda: theirs.count("b0", "foreign_responses") == 1), "it answers a marker", theirs.text())
     for to in "ff:ff:ff:ff:ff:ff", "01:80:c2:00:00:00", "01:80:c2:00:00:03":
         wire.send(lacpdu(STRANGER, 1), to)
     time.sleep(1)

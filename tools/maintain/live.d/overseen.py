@@ -6,7 +6,6 @@ import contextlib
 import os
 import re
 import shutil
-from pathlib import Path
 from typing import Callable
 
 from at_boot import BUNDLE, UNIT
@@ -16,6 +15,7 @@ from daemon import Part
 from daemons import COMES_UP
 from linking import DAEMON, build_subagent
 from managed import COMES_BACK, OBJECTS, want_subagent
+from repository import read_text
 
 UNITS = ("snmpd", "lldpd", "lagd-snmp", "lagd-lldp")
 CONFIGURATION = "agentaddress udp:127.0.0.1:161\nview systemonly included .1.3.6.1.2.1.1\nrocommunity public default -V systemonly\n"
@@ -27,7 +27,7 @@ def told_lines(program: str) -> str:
 
 
 def text_of(*path: str) -> str:
-    return Path(os.path.join(DAEMON, *path)).read_text(encoding="utf-8")
+    return read_text(os.path.join(DAEMON, *path))
 
 
 def lay(program: str) -> Callable[[str], None]:

@@ -3,12 +3,12 @@ call, and its peer is told."""
 
 from __future__ import annotations
 
+import contextlib
 import os
 import signal
 import time
 from concurrent.futures import ThreadPoolExecutor
 from dataclasses import dataclass
-from pathlib import Path
 from threading import Event, Thread
 from typing import Callable, Iterator
 
@@ -16,6 +16,7 @@ from checking import Failed, Skipped, check, within
 from daemon import OTHER, SYSTEM, Daemon, Part, set_up
 from daemons import COMES_UP
 from linking import called, refusable
+from repository import read_text, write_text
 from spaces import OURS, THEIRS, flap, inside, ip, make_pair, packet_socket
 
 # Those that are refused from the start on: the first call is the one that counts.
@@ -58,10 +59,8 @@ class Trial:
         out = packet_socket(OURS, self.device, 0)
         while not self.quiet.wait(0.002):
             for flow in range(FLOWS):
-                try:
+                with contextlib.suppress(OSError):
                     out.send(bytes.fromhex(f"02bb000000{flow:02x}" "02aa00000000" "88b5") + bytes(50))
-                except OSError:
-                    pass
         out.close()
 
 
@@ -108,8 +107,8 @@ def reloaded(trial: Trial) -> Iterator[float]:
         it.write("activity=passive\nhold=yes\n")
     trial.tell(signal.SIGHUP)
     yield 3.0
-    text = Path(file).read_text(encoding="utf-8")
-    Path(file).write_text(text.replace("[Bundle]", "[Bundle]\nmax-links=1"), encoding="utf-8")
+    text = read_text(file)
+    write_text(file, text.replace("[Bundle]", "[Bundle]\nmax-links=1"))
     trial.tell(signal.SIGHUP)
     yield 10.0
 
@@ -141,7 +140,7 @@ def write_file(folder: str, names: list[str], keys: dict[str, str]) -> str:
     """Writes the file of a bundle; answers its path."""
     path = os.path.join(folder, "bundle.conf")
     lines = ["[Bundle]", *(f"{name}={value}" for name, value in keys.items()), *(f"[Port {name}]" for name in names), ""]
-    Path(path).write_text("\n".join(lines), encoding="utf-8")
+    write_text(path, "\n".join(lines))
     return path
 
 
@@ -235,7 +234,4 @@ def refuse_each(part: Part, way: list[str]) -> None:
     check(not wrong, f"each of them refused, but for {len(ELSEWHERE)}, {' '.join(way) or 'plain'}: the daemon ends with status 1 and a line that names it", *wrong)
 
 
-PARTS = {
-    "each call refused": lambda part: refuse_each(part, []),
-    "each call refused, fast": lambda part: refuse_each(part, ["--fast"]),
-}
+PARTS = {"each call refused": lambda part: refuse_each(part, []), "each call refused, fast": lambda part: refuse_each(part, ["--fast"])}

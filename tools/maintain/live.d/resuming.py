@@ -9,12 +9,12 @@ import re
 import shutil
 import signal
 import time
-from pathlib import Path
 from typing import Callable, Iterator, Sequence
 
 from checking import Failed, Skipped, check, command, within
 from daemon import ENDS, Daemon, Part
 from daemons import COMES_UP, GOES_DOWN, both_up, pair_up
+from repository import read_text, write_text
 from spaces import OURS, THEIRS, flap, ip, make_pair
 
 # What the first line says that the next daemon prints: it went on, or why it did not.
@@ -33,8 +33,8 @@ def state_file(daemon: Daemon) -> str:
 
 
 def changed(path: str, change: Callable[[str], str]) -> None:
-    text = Path(path).read_text(encoding="utf-8")
-    Path(path).write_text(change(text), encoding="utf-8")
+    text = read_text(path)
+    write_text(path, change(text))
 
 
 def hand_over(part: Part, ours: Daemon, between: Callable[[], None] = lambda: None, by: signal.Signals = signal.SIGUSR1,

@@ -2,6 +2,7 @@
 
 from __future__ import annotations
 
+import contextlib
 import json
 import os
 import re
@@ -10,13 +11,12 @@ import signal
 import socket
 import subprocess
 import time
-from pathlib import Path
 from typing import Callable, Mapping, Sequence
 
 from checking import Skipped, check, command, within
 from daemon import ENDS, KEY, OTHER, SYSTEM, Daemon, Part
 from daemons import COMES_UP, GOES_DOWN, NOBODY, both_up, pair_up
-from repository import TOP, daemon_words
+from repository import TOP, daemon_words, read_text, write_text
 from spaces import OURS, THEIRS, flap, inside, ip, make_pair
 
 UNIT = os.path.join(TOP, "lagd", "lagd@.service")
@@ -105,10 +105,6 @@ CONTRADICTIONS = {
 }
 
 
-def write(path: str, text: str) -> None:
-    Path(path).write_text(text, encoding="utf-8")
-
-
 class Filed(Daemon):
     """A daemon that reads a file."""
 
@@ -123,7 +119,7 @@ class Filed(Daemon):
 
     def reload(self, text: str, told: str) -> str:
         """Its file has another text, and SIGHUP reads it; answers what the daemon prints then."""
-        write(self.file, text)
+        write_text(self.file, text)
         before = len(self.printed())
         self.process.send_signal(signal.SIGHUP)
         check(within(ENDS, lambda: told in self.printed()[before:]), f"after SIGHUP a line says: {told}", self.printed()[before:])
@@ -133,7 +129,7 @@ class Filed(Daemon):
 def filed(part: Part, text: str = FILE) -> tuple[Filed, Daemon]:
     """A daemon of a file, and another one, whose links come to distribute."""
     path = os.path.join(part.folder, "uplink.conf")
-    write(path, text)
+    write_text(path, text)
     ours, theirs = Filed(part, path), part.theirs()
     both_up(ours, theirs, "the bundle of a file comes to distribute")
     return ours, theirs
@@ -141,7 +137,7 @@ def filed(part: Part, text: str = FILE) -> tuple[Filed, Daemon]:
 
 def check_of_machine(part: Part, path: str) -> None:
     """What a file wants of the kernel, asked by root, by one who may not, and where there is no /dev/net/tun."""
-    write(path, FILE.replace("[Port", "carry=lag0\nfast=yes\n[Port", 1))
+    write_text(path, FILE.replace("[Port", "carry=lag0\nfast=yes\n[Port", 1))
     asked: dict[str, list[str]] = {"": [], "not known without CAP_BPF": ["setpriv", "--bounding-set=-all", "--inh-caps=-all"]}
     for told, words in asked.items():
         ended = inside(OURS, *words, part.program, "--check", path)
@@ -150,7 +146,7 @@ def check_of_machine(part: Part, path: str) -> None:
     lacking = inside(OURS, "unshare", "--mount", "sh", "-c", 'mount -t tmpfs none /dev && exec "$@"', "sh", part.program, "--check", path)
     holds = lacking.returncode == 1 and "carry: there is no /dev/net/tun" in lacking.stderr
     check(holds, "without /dev/net/tun it is told that carry lacks it", lacking.returncode, lacking.stderr)
-    write(path, FILE.replace("[Port", "carry=lag0\nplane=team\n[Port", 1))
+    write_text(path, FILE.replace("[Port", "carry=lag0\nplane=team\n[Port", 1))
     has_driver = inside(OURS, "ip", "link", "add", "team9", "type", "team").returncode == 0
     inside(OURS, "ip", "link", "del", "team9")
     refused = "this kernel has no team driver"
@@ -167,7 +163,7 @@ def files(part: Part) -> None:
     path = os.path.join(part.folder, "uplink.conf")
     untold = []
     for text, told in {**WRONG, **CONTRADICTIONS}.items():
-        write(path, text)
+        write_text(path, text)
         for words in ["--check", path], ["--config", path]:
             ended = inside(OURS, "timeout", "3", part.program, *words)
             if ended.returncode != 2 or f"lagd: {path}:{told}" not in ended.stderr:
@@ -176,7 +172,7 @@ def files(part: Part) -> None:
     missing = inside(OURS, part.program, "--check", os.path.join(part.folder, "none.conf"))
     check(missing.returncode == 2 and "none.conf: No such file" in missing.stderr, "so is one that is missing", missing.stderr)
     for address in (SYSTEM, *NOTATIONS):
-        write(path, FILE.replace(SYSTEM, address))
+        write_text(path, FILE.replace(SYSTEM, address))
         right = inside(OURS, part.program, "--check", path)
         check((right.returncode, right.stderr) == (0, ""), f"a right one is not, with the address {address}", right.stderr)
     check_of_machine(part, path)
@@ -251,7 +247,7 @@ def ports_change(part: Part) -> None:
     """SIGHUP takes ports out of a bundle and into it, down to none, and more than are there; each keeps its number, and the others are not touched."""
     path = os.path.join(part.folder, "uplink.conf")
     make_pair(2)
-    write(path, FILE)
+    write_text(path, FILE)
     ours, theirs = Filed(part, path), part.theirs("b0", "b1", "b2")
     check(within(COMES_UP, lambda: ours.distributes("a0", "a1")), "the bundle of a file comes to distribute", ours.text())
     head, numbers = FILE.partition("[Port")[0], lambda: {name: port["port"] for name, port in ours.ports().items()}
@@ -272,7 +268,7 @@ def ports_change(part: Part) -> None:
     told = inside(OURS, ours.program, "--folder", ours.folder, "--add", "a2:long,slow")
     check(told.returncode == 1 and "refused: a2: slow: expected key=N" in told.stderr, "a refused --add names the word that is wrong", told.stderr)
     ours.ends("the daemon")
-    write(path, head)
+    write_text(path, head)
     alone = Filed(part, path)
     check(within(ENDS, lambda: "0 of 0 links carry" in alone.text()), "a daemon starts without a port", alone.printed())
 
@@ -280,8 +276,8 @@ def ports_change(part: Part) -> None:
 def questions(part: Part) -> None:
     """One file at a time; and who asks for more than the daemon has files for keeps no processor."""
     path, wrong = (os.path.join(part.folder, name) for name in ("uplink.conf", "wrong.conf"))
-    write(path, FILE)
-    write(wrong, "[Bundle]\nkeys=7\n")
+    write_text(path, FILE)
+    write_text(wrong, "[Bundle]\nkeys=7\n")
     for words in ("--check", wrong, "--config", path), ("--config", path, "--check", wrong), ("--check", wrong, "--check", path), ("--config", path, "--config", wrong):
         found = part.refused(*words)
         check(found[0] == 2 and "usage: one" in found[1], f"{words[0]} and {words[2]} are refused together", found)
@@ -369,7 +365,7 @@ def shows_settings(part: Part) -> None:
     long += "g" * (175 - len(long))  # the longest path that is taken
     os.symlink("/bin/true", long)
     every = EVERY_KEY.replace("HOOK", long).replace("STATES", long[:-1])
-    write(path, every)
+    write_text(path, every)
     ours = Filed(part, path)
     shown = lambda: inside(OURS, ours.program, "--folder", ours.folder, "--show-config").stdout
     check(within(ENDS, lambda: "[Port a1]" in shown()), "a daemon shows its settings", ours.printed())
@@ -378,7 +374,7 @@ def shows_settings(part: Part) -> None:
     check(held.returncode == 0 and "hold=yes" in sections(shown())[1], "an order changes what is shown", held.stderr, shown())
     told = shown()
     ours.ends("the daemon")
-    write(path, told)
+    write_text(path, told)
     check(inside(OURS, ours.program, "--check", path).returncode == 0, "what was shown is a file of a bundle", told)
     ours = Filed(part, path)
     check(within(ENDS, lambda: shown() == told), "a daemon of this file shows the same", told, shown())
@@ -414,7 +410,7 @@ def running_settings(part: Part) -> None:
     reloaded(FILE.replace("min-links=1", "max-links=2"), 0)
     both_up(ours, theirs, "with max-links=2 both links distribute")
     ours.ends("the daemon")
-    write(ours.file, FILE + "hold=yes\n")
+    write_text(ours.file, FILE + "hold=yes\n")
     again = Filed(part, ours.file)
     check(within(COMES_UP, lambda: again.distributes("a0")) and again.port("a1")["status"] == "the host holds it", "a port is held from the start", again.text())
 
@@ -468,7 +464,7 @@ def hooks(part: Part) -> None:
     """A program is run where the bundle is up, degraded or down, and nobody waits for it."""
     hook, told, slack = (os.path.join(part.folder, name) for name in ("hook", "told", "slack"))
     state = "$LAGD_BUNDLE $LAGD_PREVIOUS $LAGD_STATE $LAGD_CARRYING/$LAGD_LINKS $LAGD_AGGREGATOR"
-    write(hook, f'#!/bin/sh\ncat /proc/self/timerslack_ns > {slack}\necho "{state}" >> {told}\nexec sleep 60\n')
+    write_text(hook, f'#!/bin/sh\ncat /proc/self/timerslack_ns > {slack}\necho "{state}" >> {told}\nexec sleep 60\n')
     os.chmod(hook, 0o755)
     ours, theirs = pair_up(part, ours=["--hook", hook])
     ip(THEIRS, "link", "set", "b1", "down")
@@ -490,16 +486,14 @@ def managed(part: Part) -> None:
     if "-DHAVE_SYSTEMD" not in daemon_words()[0]:
         raise Skipped("built without libsystemd")
     path, file = os.path.join(part.folder, "notify"), os.path.join(part.folder, "uplink.conf")
-    write(file, FILE)
+    write_text(file, FILE)
     manager = socket.socket(socket.AF_UNIX, socket.SOCK_DGRAM | socket.SOCK_NONBLOCK)
     manager.bind(path)
     told: list[str] = []
 
     def hears(word: str) -> bool:
-        try:
+        with contextlib.suppress(BlockingIOError):
             told.extend(manager.recv(4096).decode().split("\n"))
-        except BlockingIOError:
-            pass
         return word in told
 
     ours, _ = Filed(part, file, more={"NOTIFY_SOCKET": path}), part.theirs()
@@ -537,8 +531,7 @@ def entries(listener: socket.socket, daemon: Daemon, wanted: int) -> list[dict[s
 def message_ids(part: Part) -> None:
     """What the journal gets by its own protocol: each kind of line has its message id."""
     ids = ids_of_lines()
-    with open(os.path.join(TOP, "lagd", "lagd.h"), encoding="utf-8") as source:
-        given = re.findall(r'"([0-9a-f]{32})"', source.read())
+    given = re.findall(r'"([0-9a-f]{32})"', read_text(os.path.join(TOP, "lagd", "lagd.h")))
     check(sorted(given) == sorted(ids.values()) and len(set(given)) == len(given) > 5, "the documents have each message id", given, ids)
     place, (reader, writer) = os.path.join(part.folder, "journal"), socket.socketpair()
     os.mkdir(place)
@@ -580,8 +573,7 @@ def rights(part: Part) -> None:
     ip(OURS, "link", "del", "a1")
     ours = part.ours()
     within(ENDS, lambda: ours.port("a0")["link"] == "up")
-    with open(f"/proc/{ours.process.pid}/status", encoding="utf-8") as it:
-        has = dict(re.findall(r"^(\w+):\t(\S+)$", it.read(), re.M))
+    has = dict(re.findall(r"^(\w+):\t(\S+)$", read_text(f"/proc/{ours.process.pid}/status"), re.M))
     wanted = {"CapInh": 0, "CapPrm": 1 << 13, "CapEff": 1 << 13, "CapBnd": 0, "CapAmb": 0, "NoNewPrivs": 1}
     found = {name: int(has[name], 16) for name in wanted}
     check(found == wanted, "as root the daemon keeps CAP_NET_RAW alone", found)
@@ -598,14 +590,14 @@ def unit(part: Part) -> None:
     check(level and float(level[1]) <= EXPOSED, f"systemd-analyze security: at most {EXPOSED}", level and level[0])
     with open(UNIT, encoding="utf-8") as text, open(os.path.join(TOP, "lagd", "carry.conf"), encoding="utf-8") as more:
         whole = re.sub(r"^Documentation=.*\n", "", text.read(), flags=re.M).replace("/usr/sbin/lagd", part.program)
-        write(os.path.join(part.folder, "lagd@uplink.service"), whole.replace("[Install]", more.read() + "[Install]"))
+        write_text(os.path.join(part.folder, "lagd@uplink.service"), whole.replace("[Install]", more.read() + "[Install]"))
     verified = command("systemd-analyze", "verify", os.path.join(part.folder, "lagd@uplink.service"))
     check((verified.returncode, verified.stderr) == (0, ""), "systemd-analyze verify has no fault to find, with carry.conf either", verified.stderr)
     if not shutil.which("setpriv"):
         raise Skipped("no command setpriv (Debian: util-linux)")
     os.chmod(part.folder, 0o755)
     file, run = os.path.join(part.folder, "uplink.conf"), os.path.join(part.folder, "run")
-    write(file, FILE)
+    write_text(file, FILE)
     shutil.rmtree(run, ignore_errors=True)
     os.mkdir(run)
     os.chown(run, int(NOBODY), int(NOBODY))
@@ -614,8 +606,7 @@ def unit(part: Part) -> None:
     ours = Filed(part, file, before=words)
     part.folder = os.path.join(part.folder, "theirs")
     os.mkdir(part.folder)
-    theirs = part.theirs()
-    both_up(ours, theirs, "with the rights of the unit both links distribute")
+    both_up(ours, part.theirs(), "with the rights of the unit both links distribute")
     ours.ends("the daemon")
     shutil.rmtree(run)  # what the daemons of other parts have is root's
 

@@ -12,12 +12,12 @@ import socket
 import struct
 import threading
 import time
-from pathlib import Path
 from typing import Iterator
 
 from checking import Skipped, check, within
 from daemon import KEY, SYSTEM, Daemon, Part
 from daemons import COMES_UP
+from repository import write_text
 from spaces import OURS, THEIRS, ip, within_space
 
 TUNSETIFF, TUNSETCARRIER, TAP_WITHOUT_INFO = 0x400454CA, 0x400454E2, 0x1002
@@ -182,7 +182,7 @@ def fastest(part: Part) -> None:
 
         def write(more: str) -> None:
             ports = "".join(f"[Port {name}]\n" for name in names)
-            Path(file).write_text(f"[Bundle]\nkey={KEY}\nsystem=32768,{SYSTEM}\nkey-by-speed=yes\n{more}{ports}", encoding="utf-8")
+            write_text(file, f"[Bundle]\nkey={KEY}\nsystem=32768,{SYSTEM}\nkey-by-speed=yes\n{more}{ports}")
 
         theirs = part.theirs("u0", "u1", "u2:key=6")
         write("")
@@ -205,8 +205,4 @@ def fastest(part: Part) -> None:
         theirs.ends("the other daemon")
 
 
-PARTS = {
-    "the fastest group": fastest,
-    "links of two speeds": unequal,
-    "links of five speeds": many_speeds,
-}
+PARTS = {"the fastest group": fastest, "links of two speeds": unequal, "links of five speeds": many_speeds}

@@ -183,8 +183,7 @@ def cut_twice(ours: Daemon, theirs: Daemon) -> None:
         time.sleep(0.2)
         ip(THEIRS, "link", "set", "b3", "down")
         cut = time.time()
-        told = lambda: (told_at(ours, "third") or 0) > cut - 0.5
-        check(within(ENDS, told), "the second cut is told", ours.printed())
+        check(within(ENDS, lambda: (told_at(ours, "third") or 0) > cut - 0.5), "the second cut is told", ours.printed())
         late.append((told_at(ours, "third") or 0) - cut)
         counts = [ours.count(name, "link_losses") for name in ("a2", "third")]
         check(counts == [turn + 1, turn + 1], "each is counted once", counts, ours.text())

@@ -11,7 +11,7 @@ from ends import COMES_UP, OVER, journal, ping, status, traffic, up_again
 from fetched import USER_MODE
 from guest import Guest, MACS
 from native import CARD
-from repository import TOP
+from repository import TOP, read_text
 from rows import booted, boots, handed_over, no_unit_failed, orderly, pings, tried
 
 
@@ -108,8 +108,7 @@ def link(mac: str, name: str) -> str:
 
 def example(name: str) -> str:
     """A file of the package that is read at boot."""
-    with open(os.path.join(TOP, "lagd", "boot", name), encoding="utf-8") as it:
-        return it.read()
+    return read_text(os.path.join(TOP, "lagd", "boot", name))
 
 
 def switch_files() -> dict[str, str]:

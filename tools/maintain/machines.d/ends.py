@@ -71,8 +71,7 @@ def carrying(guest: Guest, bundle: str = "uplink") -> int:
 def comes_up(guest: Guest, links: int = 2, bundle: str = "uplink", seconds: float = COMES_UP) -> float | None:
     """Waits until so many links carry for a partner; answers after how many seconds of the guest, or None."""
     began = guest.clock()
-    up = guest.within(seconds, lambda: carrying(guest, bundle) == links)
-    return guest.clock() - began if up else None
+    return guest.clock() - began if guest.within(seconds, lambda: carrying(guest, bundle) == links) else None
 
 
 def up_again(guest: Guest, links: int = 2, bundle: str = "uplink") -> float:

@@ -14,6 +14,7 @@ import mirrors
 from checking import Failed, Skipped
 from fetching import Packages
 from filing import FILE, Entry, archive
+from repository import read_bytes, read_text, write_bytes, write_text
 
 KEYRING = "/usr/share/keyrings/debian-archive-keyring.gpg"
 RELEASE, BACKPORTS, NEWEST = "bookworm", "bookworm-backports", "trixie-backports"
@@ -143,8 +144,7 @@ def module_files(folder: str, version: str, tree: str) -> str:
 
 def first_modules(laid: str) -> list[Entry]:
     """The modules without which a guest has no disks, in the order in which they are loaded. What the kernel has built in has no file."""
-    with open(f"{laid}/modules.dep", encoding="utf-8") as it:
-        rows = dict(line.strip().split(":", 1) for line in it)
+    rows = dict(line.strip().split(":", 1) for line in read_text(f"{laid}/modules.dep").splitlines())
     order: list[str] = []
     for name in FIRST:
         path = next((it for it in rows if re.search(rf"/{name}\.ko", it)), None)
@@ -153,8 +153,7 @@ def first_modules(laid: str) -> list[Entry]:
                 order.append(file)
     entries = []
     for number, file in enumerate(order):
-        with open(f"{laid}/{file}", "rb") as module:
-            octets = module.read()
+        octets = read_bytes(f"{laid}/{file}")
         name = os.path.basename(file).split(".")[0]
         entries.append(Entry(f"modules/{number:02}-{name}", lzma.decompress(octets) if file.endswith(".xz") else octets))
     return entries
@@ -182,10 +181,8 @@ def user_mode(packages: Packages, tree: str) -> Kernel:
         shutil.copy(f"{place}/files/usr/bin/linux.uml", place)
         shutil.rmtree(f"{place}/files")
         shutil.rmtree(f"{tree}/tmp/modules")
-        with open(f"{place}/made", "w", encoding="utf-8") as out:
-            out.write(version)
-    with open(f"{place}/made", encoding="utf-8") as it:
-        return Kernel(it.read(), f"{place}/linux.uml", "", f"{place}/modules")
+        write_text(f"{place}/made", version)
+    return Kernel(read_text(f"{place}/made"), f"{place}/linux.uml", "", f"{place}/modules")
 
 
 def kernel(packages: Packages, name: str, tree: str) -> Kernel:
@@ -202,16 +199,12 @@ def kernel(packages: Packages, name: str, tree: str) -> Kernel:
         version = os.path.basename(image).removeprefix("vmlinuz-") if "/boot/" in image else os.path.basename(os.path.dirname(image))
         shutil.copy(image, f"{place}/vmlinuz")
         laid = module_files(folder, version, tree)
-        with open(f"{packages.root}/bin/busybox", "rb") as program:
-            busybox = program.read()
+        busybox = read_bytes(f"{packages.root}/bin/busybox")
         begins = [Entry("init", INIT.encode(), FILE | 0o755), Entry("bin/busybox", busybox, FILE | 0o755), *first_modules(laid)]
         folders = [Entry(it, None) for it in ("proc", "sys", "dev", "new", "over")]
-        with open(f"{place}/initramfs", "wb") as written:
-            written.write(archive([*folders, *begins]))
+        write_bytes(f"{place}/initramfs", archive([*folders, *begins]))
         disk(os.path.dirname(laid), f"{place}/modules.img", 300)
         shutil.rmtree(folder)
         shutil.rmtree(f"{tree}/tmp/modules")
-        with open(f"{place}/made", "w", encoding="utf-8") as out:
-            out.write(version)
-    with open(f"{place}/made", encoding="utf-8") as it:
-        return Kernel(it.read(), *(f"{place}/{file}" for file in ("vmlinuz", "initramfs", "modules.img")))
+        write_text(f"{place}/made", version)
+    return Kernel(read_text(f"{place}/made"), *(f"{place}/{file}" for file in ("vmlinuz", "initramfs", "modules.img")))

@@ -100,8 +100,7 @@ def goes_and_comes(guest: Guest) -> str:
         guest.sleep(1)
         guest.set_link(True, "eth1", "far1")
 
-    outcomes = traffic(guest, SECONDS + 5, event)
-    return orderly(guest, "a cable is pulled, and put back", outcomes, RATE, ordered=False)
+    return orderly(guest, "a cable is pulled, and put back", traffic(guest, SECONDS + 5, event), RATE, ordered=False)
 
 
 def balances(guest: Guest) -> str:

@@ -69,8 +69,7 @@ def handed_over(guest: Guest, what: str, outcomes: list[Outcome], most: int, ord
 def booted(guest: Guest, what: str) -> str:
     """The guest boots, and both links carry; answers how long it took."""
     took = guest.boots()
-    up = comes_up(guest, seconds=2 * COMES_UP)
-    check(up is not None, what, journal(guest))
+    check(comes_up(guest, seconds=2 * COMES_UP) is not None, what, journal(guest))
     return f"{took:.0f} s"
 
 

@@ -113,8 +113,7 @@ def joins_and_leaves(guest: Guest) -> str:
             ended = guest.run(f"lagd --folder /run/lagd/uplink --{order} eth2")
             check(ended.status == 0, f"--{order} eth2 is done", ended.text)
 
-    outcomes = traffic(guest, SECONDS, orders)
-    text = orderly(guest, "a member leaves and joins", outcomes, 10**6)
+    text = orderly(guest, "a member leaves and joins", traffic(guest, SECONDS, orders), 10**6)
     up_again(guest)
     pings(guest)
     return text

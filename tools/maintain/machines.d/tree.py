@@ -10,7 +10,7 @@ import subprocess
 from checking import Skipped
 from fetched import KEYRING, RELEASE, disk, done, unpack
 from fetching import Packages
-from repository import MAINTAIN
+from repository import MAINTAIN, write_text
 
 # What the tree has beside a minimal Debian; the libraries are those that lagd needs, so that packages are installed without a network.
 NEEDED = ("systemd-sysv", "udev", "dbus", "iproute2", "ethtool", "iputils-ping", "iperf3", "libteam-utils", "kmod", "procps", "tcpdump", "bridge-utils",
@@ -113,8 +113,7 @@ def base(packages: Packages) -> str:
         raise Skipped(f"debootstrap fails: {(ended.stderr or ended.stdout)[-300:]}")
     shutil.rmtree(f"{tree}/var/cache/apt/archives")
     unpack(packages, SWITCH_PACKAGES, f"{tree}{SWITCH}")
-    with open(marked, "w", encoding="utf-8") as it:
-        it.write(needed)
+    write_text(marked, needed)
     return tree
 
 
@@ -122,8 +121,7 @@ def put(tree: str, path: str, text: str) -> None:
     """Writes a file of the tree; one that begins as a script may be run."""
     place = f"{tree}/{path}"
     os.makedirs(os.path.dirname(place), exist_ok=True)
-    with open(place, "w", encoding="utf-8") as it:
-        it.write(text)
+    write_text(place, text)
     os.chmod(place, 0o755 if text.startswith("#!") else 0o644)
 
 

@@ -8,7 +8,8 @@ from typing import Any
 
 import made
 from browser import Browser
-from stored import CAPTURES, UNEQUAL, Tests, captures, printed, read
+from repository import read_bytes, read_text, write_bytes
+from stored import CAPTURES, UNEQUAL, Tests, captures, printed
 from summing import EACH
 
 HOSTILE = '<img src=x onerror="window.taken = true"><script>window.taken = true</script>'
@@ -70,7 +71,7 @@ def of_unable(tests: Tests, browser: Browser, page: str) -> None:
 
 def of_findings(tests: Tests, browser: Browser) -> None:
     browser.choose(UNEQUAL)
-    stored = [it for it in read(f"{UNEQUAL.rpartition('.')[0]}.report.txt").splitlines() if it.startswith("finding ")]
+    stored = [it for it in read_text(f"{UNEQUAL.rpartition('.')[0]}.report.txt").splitlines() if it.startswith("finding ")]
     browser.value(OPEN)
     browser.settle()
     links = browser.value("[...document.querySelectorAll('#findings a')].map((it) => it.textContent)")
@@ -287,8 +288,7 @@ def of_bundles(tests: Tests, browser: Browser, folder: str) -> None:
 
 def of_hostile(tests: Tests, browser: Browser, folder: str) -> None:
     """Broken files, and words that a page must not take for its own."""
-    with open(UNEQUAL, "rb") as it:
-        whole = it.read()
+    whole = read_bytes(UNEQUAL)
     cases = {
         "cut.pcapng": whole[:1001],
         "nothing.pcap": b"",
@@ -298,8 +298,7 @@ def of_hostile(tests: Tests, browser: Browser, folder: str) -> None:
     }
     for name, octets in cases.items():
         path = os.path.join(folder, name)
-        with open(path, "wb") as out:
-            out.write(octets)
+        write_bytes(path, octets)
         shown = browser.choose(path)
         tests.same(f"a broken file, {name}: it is refused by words", (bool(shown["said"] or shown["printed"]), shown["status"]), (True, 2))
         tests.same(f"a broken file, {name}: none of it runs", browser.value("[window.taken ?? 0, document.querySelectorAll('#shown img, #shown script').length]"), [0, 0])

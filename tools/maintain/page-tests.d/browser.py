@@ -14,7 +14,7 @@ import subprocess
 import time
 from typing import Any
 
-from repository import Missing
+from repository import Missing, read_bytes, write_bytes
 
 PATIENCE = 120.0  # seconds for an answer
 KEYS = {"Tab": 9, "Enter": 13, "Escape": 27, "ArrowLeft": 37, "ArrowUp": 38, "ArrowRight": 39, "ArrowDown": 40}
@@ -182,8 +182,7 @@ class Browser:
 
     def paste(self, path: str) -> dict[str, Any]:
         """Pastes a file into the page, and gives what is shown then."""
-        with open(path, "rb") as it:
-            octets = base64.b64encode(it.read()).decode()
+        octets = base64.b64encode(read_bytes(path)).decode()
         self.value("window.shown = null, 1")
         file = f"new File([Uint8Array.from(atob('{octets}'), (it) => it.charCodeAt(0))], {json.dumps(os.path.basename(path))})"
         data = f"const data = new DataTransfer(); data.items.add({file});"
@@ -225,6 +224,4 @@ class Browser:
         self.call("Emulation.setEmulatedMedia", features=[{"name": "prefers-color-scheme", "value": "dark" if on else "light"}])
 
     def picture(self, path: str) -> None:
-        found = self.call("Page.captureScreenshot", format="png")
-        with open(path, "wb") as out:
-            out.write(base64.b64decode(found["data"]))
+        write_bytes(path, base64.b64decode(self.call("Page.captureScreenshot", format="png")["data"]))

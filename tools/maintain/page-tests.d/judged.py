@@ -6,7 +6,8 @@ import os
 import subprocess
 import tempfile
 
-from stored import Tests, read
+from repository import read_text
+from stored import Tests
 from texts import EXPLAIN, STATUS, second_port, told_of
 
 COPIED = "are of system 02-00-00-0{}-0a-01: if these are two hosts, give one of them another identifier"
@@ -16,7 +17,7 @@ UNHEARD = "No LACPDU comes on any link: is LACP on at the far end?"
 
 
 def status(name: str) -> str:
-    return read(os.path.join(STATUS, name))
+    return read_text(os.path.join(STATUS, name))
 
 
 def told_of_two(here: str, there: str) -> str:
@@ -73,8 +74,7 @@ def of_unused(tests: Tests) -> None:
     for why, text in cases.items():
         line = told_of(text)[1].split("\n")[1].split("does not carry: ")[-1]
         tests.same(f"a port that is detached: {why}", line, f"this end has not attached it: {why}")
-    one_way = told_of(second_port(61, 5))[1]
-    tests.same("of a port that is used it is said", COLLECTS in one_way, True)
+    tests.same("of a port that is used it is said", COLLECTS in told_of(second_port(61, 5))[1], True)
 
 
 def of_unheard(tests: Tests) -> None:

@@ -7,7 +7,7 @@ import struct
 import zlib
 
 from browser import Browser
-from repository import TOP
+from repository import TOP, read_bytes, write_bytes
 from stored import UNEQUAL, Tests
 
 PICTURE = os.path.join(TOP, "docs", "try.png")
@@ -42,18 +42,15 @@ def shown(browser: Browser) -> str:
 def write_picture(browser: Browser) -> None:
     said = shown(browser)
     browser.picture(PICTURE)
-    with open(PICTURE, "rb") as it:
-        octets = it.read()
+    octets = read_bytes(PICTURE)
     whole = octets[:SIGNATURE]
     for kind, inside in [*chunks(octets)[:-1], (b"tEXt", digest(said)), chunks(octets)[-1]]:
         whole += struct.pack(">I", len(inside)) + kind + inside + struct.pack(">I", zlib.crc32(kind + inside))
-    with open(PICTURE, "wb") as out:
-        out.write(whole)
+    write_bytes(PICTURE, whole)
 
 
 def of_picture(tests: Tests, browser: Browser) -> None:
     """README's picture is of this page."""
-    with open(PICTURE, "rb") as it:
-        kept = [inside for kind, inside in chunks(it.read()) if kind == b"tEXt"]
+    kept = [inside for kind, inside in chunks(read_bytes(PICTURE)) if kind == b"tEXt"]
     tests.told("docs/try.png shows what the page says", "" if digest(shown(browser)) in kept else "tools/maintain/page-tests --picture writes it")
     browser.size(1200, 1500)

@@ -8,7 +8,8 @@ from typing import Any
 
 import made
 from browser import Browser
-from stored import EXAMPLES, Tests, read
+from repository import read_text
+from stored import EXAMPLES, Tests
 
 RESTARTS = os.path.join(EXAMPLES, "a-peer-restarts.toml")
 # Changes of this script, each with the line and the column of its fault, the marked text, and words of the fault.
@@ -38,7 +39,7 @@ def of_scripts(tests: Tests, browser: Browser) -> None:
     for name in scripts():
         path = os.path.join(EXAMPLES, name)
         shown = browser.replay(path)
-        tests.same(f"{name}: its report", (shown["status"], shown["printed"]), (0, read(f"{path[:-5]}.txt")))
+        tests.same(f"{name}: its report", (shown["status"], shown["printed"]), (0, read_text(f"{path[:-5]}.txt")))
         tests.same(f"{name}: the list names it", browser.value("document.getElementById('examples').value"), name)
         entries = [it.split(" ", 1)[1] for it in shown["printed"].splitlines() if " -> " in it]
         arrows = [it for it in entries if it.startswith(("deliver ", "repeat ")) and not it.endswith(("-> empty", "-> not control"))]
@@ -56,7 +57,7 @@ def typed(browser: Browser, text: str) -> Any:
 
 
 def of_faults(tests: Tests, browser: Browser) -> None:
-    whole = read(RESTARTS)
+    whole = read_text(RESTARTS)
     for old, new, marked, said in FAULTS:
         found = typed(browser, whole.replace(old, new, 1))
         told = browser.value("document.getElementById('fault').textContent")

@@ -8,7 +8,7 @@ import subprocess
 from typing import Any
 
 from browser import Browser
-from repository import TOP
+from repository import TOP, read_bytes, read_text
 
 EXAMPLES = os.path.join(TOP, "examples")
 CAPTURES = os.path.join(EXAMPLES, "captures")
@@ -35,15 +35,9 @@ class Tests:
         self.told(what, (ended.stdout + ended.stderr).strip()[-300:] if ended.returncode else "")
 
 
-def read(path: str) -> str:
-    with open(path, encoding="utf-8") as it:
-        return it.read()
-
-
 def octets_of(path: str) -> str:
     """An expression that gives the octets of a file."""
-    with open(path, "rb") as it:
-        return f"Uint8Array.from(atob('{base64.b64encode(it.read()).decode()}'), (it) => it.charCodeAt(0))"
+    return f"Uint8Array.from(atob('{base64.b64encode(read_bytes(path)).decode()}'), (it) => it.charCodeAt(0))"
 
 
 def printed(browser: Browser, path: str, options: str) -> str:
@@ -63,6 +57,6 @@ def of_examples(tests: Tests, browser: Browser) -> None:
         shown, stem = browser.choose(path), path.rpartition(".")[0]
         tests.same(f"{name}: it is read to its end", (shown["said"], shown["status"] < 2), ("", True))
         if os.path.exists(f"{stem}.json"):
-            tests.same(f"{name}: its records", printed(browser, path, "{ json: true }"), read(f"{stem}.json"))
+            tests.same(f"{name}: its records", printed(browser, path, "{ json: true }"), read_text(f"{stem}.json"))
         if os.path.exists(f"{stem}.report.txt"):
-            tests.same(f"{name}: its report", printed(browser, path, "{ frames: false }"), read(f"{stem}.report.txt"))
+            tests.same(f"{name}: its report", printed(browser, path, "{ frames: false }"), read_text(f"{stem}.report.txt"))

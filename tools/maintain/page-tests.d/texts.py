@@ -10,8 +10,8 @@ import tempfile
 
 import made
 from browser import Browser
-from repository import TOOLS
-from stored import CAPTURES, EXAMPLES, Tests, captures, read
+from repository import TOOLS, read_text
+from stored import CAPTURES, EXAMPLES, Tests, captures
 
 STATUS = os.path.join(EXAMPLES, "status")
 EXPLAIN = os.path.join(TOOLS, "lagtool.d", "explain.mjs")
@@ -52,7 +52,7 @@ def of_explain(tests: Tests, browser: Browser) -> None:
         tests.same(f"{name}: explain says the same", explained(path), browser.value("document.getElementById('verdict').textContent"))
     for row in truths():
         paths = [os.path.join(STATUS, row[name]) for name in ("text", "other end") if row[name]]
-        tests.same(f"{row['text']}: explain says the same", explained(*paths), pasted(browser, *map(read, paths))[0])
+        tests.same(f"{row['text']}: explain says the same", explained(*paths), pasted(browser, *map(read_text, paths))[0])
 
 
 def of_words(tests: Tests) -> None:
@@ -77,8 +77,8 @@ def of_words(tests: Tests) -> None:
 def of_endings(tests: Tests) -> None:
     """The status of explain: each link carries, something is found, or there is no LACPDU."""
     wanted = {"healthy-bonding.txt": 0, "healthy-lagd.txt": 0, "keys-bonding.txt": 1, "static-bonding.txt": 1, "setdown-ip.json": 1, "healthy-bonding-user.txt": 2}
-    tests.same("explain ends with the status of what is found", {name: told_of(read(os.path.join(STATUS, name)))[0] for name in wanted}, wanted)
-    whole = read(os.path.join(STATUS, "healthy-bonding.txt"))
+    tests.same("explain ends with the status of what is found", {name: told_of(read_text(os.path.join(STATUS, name)))[0] for name in wanted}, wanted)
+    whole = read_text(os.path.join(STATUS, "healthy-bonding.txt"))
     tests.same("a bond without LACP is a finding", told_of(whole.replace("IEEE 802.3ad Dynamic link aggregation", "load balancing (xor)"))[0], 1)
     tests.same("a text that is cut has no LACPDU to judge", told_of(whole[: len(whole) // 2])[0], 2)
     with tempfile.NamedTemporaryFile(suffix=".pcap") as it:
@@ -90,14 +90,14 @@ def of_endings(tests: Tests) -> None:
 
 def of_programs(tests: Tests) -> None:
     """Each text is told in the words of its program, once, and in whole sentences."""
-    said = {row["text"]: told_of(read(os.path.join(STATUS, row["text"])))[1] for row in truths()}
+    said = {row["text"]: told_of(read_text(os.path.join(STATUS, row["text"])))[1] for row in truths()}
     tests.same("commands of Open vSwitch stand at its texts alone", [name for name, text in said.items() if "ovs-" in text and "open-vswitch" not in name], [])
     tests.same("a text without root says once how it is read", said["healthy-bonding-user.txt"].count("sudo cat"), 1)
     tests.same("nothing came 1 times", [name for name, text in said.items() if " 1 times" in text], [])
-    failed = read(os.path.join(STATUS, "healthy-bonding.txt")).replace("Link Failure Count: 0", "Link Failure Count: 1", 1)
+    failed = read_text(os.path.join(STATUS, "healthy-bonding.txt")).replace("Link Failure Count: 0", "Link Failure Count: 1", 1)
     tests.same("a link failed once", "p1: its link failed once since the bond has it" in told_of(failed)[1], True)
     partner = "the partner of q2 says that it is synchronized, and this end does not"
-    tests.same("of an end that attached nothing it is said who did not", partner in told_of(read(os.path.join(STATUS, "standby-bonding.other.txt")))[1], True)
+    tests.same("of an end that attached nothing it is said who did not", partner in told_of(read_text(os.path.join(STATUS, "standby-bonding.other.txt")))[1], True)
     keys = said["keys-bonding.txt"]
     tests.same("two boxes that are one system are one finding", ["two boxes have one system" in keys, "channel-group" in keys, "remark: p1, p2 name" in keys], [True, False, False])
     churned = said["churned-bonding.txt"]
@@ -107,7 +107,7 @@ def of_programs(tests: Tests) -> None:
 def of_waiting(tests: Tests) -> None:
     """A link that is back, and that lagd does not use yet, is no fault, and does not carry; another one that is down is."""
     word = "1 of 2 links carries. The link of p2 is back, and waits until its carrier was steady for so long (wait-to-restore): it is not used before."
-    text, line = (read(os.path.join(STATUS, f"waiting-lagd{end}")) for end in (".txt", "-json.json"))
+    text, line = (read_text(os.path.join(STATUS, f"waiting-lagd{end}")) for end in (".txt", "-json.json"))
     for form, it in ("text", text), ("JSON", line):
         ended, said = told_of(it)
         found = [ended, said.partition("\n")[0], "\n1. remark: the link of p2 is back" in said, "down" in said]
@@ -120,9 +120,9 @@ def of_waiting(tests: Tests) -> None:
 def of_away(tests: Tests) -> None:
     """A link whose carrier is away, and that lagd takes as up, is no fault, and does not carry."""
     away, word = "its carrier is away, for less than delay-down so far", "1 of 2 links carries. The carrier of p2 is away, and LACP takes the link as up (delay-down): it passes nothing now."
-    head, last = read(os.path.join(STATUS, "healthy-lagd.txt")).split("member: p2:")
+    head, last = read_text(os.path.join(STATUS, "healthy-lagd.txt")).split("member: p2:")
     shown = f"{head}member: p2:{last.replace('it distributes', away).replace('link: up', 'link: away')}"
-    head, last = read(os.path.join(STATUS, "healthy-lagd-json.json")).split('{"port":2,')
+    head, last = read_text(os.path.join(STATUS, "healthy-lagd-json.json")).split('{"port":2,')
     line = head + '{"port":2,' + last.replace("it distributes", away).replace('"link":"up"', '"link":"away"')
     for form, text in ("text", shown), ("JSON", line):
         ended, said = told_of(text)
@@ -132,8 +132,8 @@ def of_away(tests: Tests) -> None:
 def of_a_device_that_is_down(tests: Tests) -> None:
     """While the device of lagd is down its ports say so: that is the cause, not their cables."""
     word, told = "0 of 2 links carry. The device of the bundle", "LACP has ended on p1, p2."
-    off = read(os.path.join(STATUS, "healthy-lagd.txt")).replace("it distributes", "the device is down").replace("link: up", "link: down").replace("may_enable: true", "may_enable: false")
-    line = read(os.path.join(STATUS, "healthy-lagd-json.json")).replace("it distributes", "the device is down").replace('"link":"up"', '"link":"down"').replace('"carries":true', '"carries":false')
+    off = read_text(os.path.join(STATUS, "healthy-lagd.txt")).replace("it distributes", "the device is down").replace("link: up", "link: down").replace("may_enable: true", "may_enable: false")
+    line = read_text(os.path.join(STATUS, "healthy-lagd-json.json")).replace("it distributes", "the device is down").replace('"link":"up"', '"link":"down"').replace('"carries":true', '"carries":false')
     for form, text in ("text", off), ("JSON", line):
         first = told_of(text)[1].partition("\n")[0]
         tests.same(f"a device that is down, as {form}", [first.startswith(word), first.endswith(told), "cable" in first], [True, True, False])
@@ -141,7 +141,7 @@ def of_a_device_that_is_down(tests: Tests) -> None:
 
 def of_speeds(tests: Tests) -> None:
     """Where keys differ because speeds do, the speeds come first, and the keys below them; else the keys."""
-    text = read(os.path.join(STATUS, "speeds-bonding.txt"))
+    text = read_text(os.path.join(STATUS, "speeds-bonding.txt"))
     text = text.replace("oper key: 9", "oper key: 5").replace("oper key: 7", "oper key: 5")
     one_there = told_of(text)[1]
     first, keys = "1 of 2 links carries. The links of the bond differ in speed or duplex.", "keys differ within one pair of systems"
@@ -153,7 +153,7 @@ def of_speeds(tests: Tests) -> None:
 
 def of_partners(tests: Tests) -> None:
     """How the partner of a port that is not used differs: its system priority, or it is individual."""
-    head, last = read(os.path.join(STATUS, "keys-bonding.txt")).split("Slave Interface: p2")
+    head, last = read_text(os.path.join(STATUS, "keys-bonding.txt")).split("Slave Interface: p2")
     own, partner = last.replace("oper key: 143", "oper key: 79").rsplit("details partner", 1)
     partner = partner.replace("port number: 1", "port number: 2")
     cases = {
@@ -169,7 +169,7 @@ def of_partners(tests: Tests) -> None:
 
 def second_port(own: int, there: int, key: int = 15, port: int = 2) -> str:
     """A bond of two links: what it says of the second one: the states of both ends, and of its partner the key and the port."""
-    head, last = read(os.path.join(STATUS, "healthy-bonding.txt")).split("Slave Interface: p2")
+    head, last = read_text(os.path.join(STATUS, "healthy-bonding.txt")).split("Slave Interface: p2")
     before, partner = last.rsplit("details partner", 1)
     for name, now, value in ("oper key", 15, key), ("port number", 2, port), ("port state", 63, there):
         partner = partner.replace(f"{name}: {now}", f"{name}: {value}")
@@ -193,7 +193,7 @@ def of_partner_states(tests: Tests) -> None:
         headline, line, _, _, told, *_ = told_of(second_port(own, there))[1].split("\n")
         wanted = [f"1 of 2 links carries. {cause}", why, True, False]
         tests.same(name, [headline, line.split("does not carry: ")[-1], advice in told, "channel-group" in told], wanted)
-    deaf = read(os.path.join(STATUS, "deaf-bonding.txt")).replace(":0b:", ":0c:").replace(":0a:", ":0b:").replace(":0c:", ":0a:").replace("p2", "q2")
+    deaf = read_text(os.path.join(STATUS, "deaf-bonding.txt")).replace(":0b:", ":0c:").replace(":0a:", ":0b:").replace(":0c:", ":0a:").replace("p2", "q2")
     with tempfile.NamedTemporaryFile("w", suffix=".txt") as one, tempfile.NamedTemporaryFile("w", suffix=".txt") as other:
         for file, text in (one, second_port(13, 69)), (other, deaf):
             file.write(text)
@@ -206,14 +206,14 @@ def of_partner_states(tests: Tests) -> None:
         found = [it in said for it in (far, "one MLAG number", "each has another partner, key or speed")]
         tests.same(f"keys that differ, with port {port} there", found, [is_two, True, False])
     for name, word in ("third-bonding.txt", "mode=active-backup"), ("third-teamd.json", "the runner activebackup"):
-        tests.same(f"{name}: what goes without MLAG", f"without MLAG: {word}, which needs no LACP" in told_of(read(os.path.join(STATUS, name)))[1], True)
+        tests.same(f"{name}: what goes without MLAG", f"without MLAG: {word}, which needs no LACP" in told_of(read_text(os.path.join(STATUS, name)))[1], True)
 
 
 def of_one_file(tests: Tests) -> None:
     """Several statuses in one file: it is said that they are there, and what to do where they are both ends of links."""
     names = "bonding.txt", "bonding.other.txt", "ip.json", "ip-text.txt", "teamd.json", "lagd.txt"
-    whole = {name: read(os.path.join(STATUS, f"healthy-{name}")) for name in names}
-    plain = read(os.path.join(STATUS, "healthy-bonding-user.txt"))
+    whole = {name: read_text(os.path.join(STATUS, f"healthy-{name}")) for name in names}
+    plain = read_text(os.path.join(STATUS, "healthy-bonding-user.txt"))
     tests.same("two statuses without LACPDUs are not said to be both ends", "remark: 2 bundles are in one text" in told_of(f"{plain}\n{plain}")[1], True)
     both = "both ends of links are in one text"
     for one, other, word in ("bonding.txt", "bonding.other.txt", both), *((it, it, "2 bundles are in one text") for it in names[2:]):
@@ -226,14 +226,14 @@ def of_hashes(tests: Tests) -> None:
     def head(name: str) -> str:
         return "2 of 2 links carry. LACP is not your trouble, if the other end says so, too. One flow has the speed of one link: the hash " + f"({name}) chooses it."
 
-    bond, machine, connection = read(os.path.join(STATUS, "healthy-bonding.txt")), "By it all that it sends to one machine goes over one link", "By it each connection goes over one link"
+    bond, machine, connection = read_text(os.path.join(STATUS, "healthy-bonding.txt")), "By it all that it sends to one machine goes over one link", "By it each connection goes over one link"
     config = json.dumps({"device": "team0", "runner": {"name": "lacp", "tx_hash": ["eth", "ipv4", "ipv6"]}}, indent=4)
-    backup = read(os.path.join(STATUS, "backup-open-vswitch.txt"))
+    backup = read_text(os.path.join(STATUS, "backup-open-vswitch.txt"))
     cases = {
         "xmit_hash_policy layer2": (bond, machine),
         "xmit_hash_policy layer3+4": (bond.replace("layer2 (0)", "layer3+4 (1)"), connection),
-        "tx_hash eth, ipv4, ipv6": (f"{read(os.path.join(STATUS, 'healthy-teamd.json'))}\n{config}\n", machine),
-        "hash layer2+3": (read(os.path.join(STATUS, "healthy-lagd.txt")).replace("\n\n", "\n  carry: lag0, carrier on, hash layer2+3, flight 10 ms, the kernel\n\n", 1), machine),
+        "tx_hash eth, ipv4, ipv6": (f"{read_text(os.path.join(STATUS, 'healthy-teamd.json'))}\n{config}\n", machine),
+        "hash layer2+3": (read_text(os.path.join(STATUS, "healthy-lagd.txt")).replace("\n\n", "\n  carry: lag0, carrier on, hash layer2+3, flight 10 ms, the kernel\n\n", 1), machine),
         "bond_mode balance-tcp": (backup.replace("bond_mode: active-backup", "bond_mode: balance-tcp"), connection),
     }
     for name, (text, meaning) in cases.items():
@@ -246,7 +246,7 @@ def of_hashes(tests: Tests) -> None:
 
 def of_texts(tests: Tests, browser: Browser) -> None:
     for row in truths():
-        text, other = (read(os.path.join(STATUS, row[name])) if row[name] else "" for name in ("text", "other end"))
+        text, other = (read_text(os.path.join(STATUS, row[name])) if row[name] else "" for name in ("text", "other end"))
         verdict, first, said = pasted(browser, text, other)
         cause = "" if first.startswith("Remark: ") else first
         right = verdict.startswith(row["links that carry"]) and (row["first cause"].lower() in cause.lower() if row["first cause"] else not cause) and not said
@@ -256,7 +256,7 @@ def of_texts(tests: Tests, browser: Browser) -> None:
     of_explain(tests, browser)
     for it in of_words, of_endings, of_programs, of_away, of_a_device_that_is_down, of_waiting, of_speeds, of_partners, of_partner_states, of_one_file, of_hashes:
         it(tests)
-    passive = read(os.path.join(STATUS, "healthy-bonding.txt")).replace("port state: 63", "port state: 62")
+    passive = read_text(os.path.join(STATUS, "healthy-bonding.txt")).replace("port state: 63", "port state: 62")
     tests.same("two passive ends do not carry, as in a capture", pasted(browser, passive)[0], "0 of 2 links carry. Both ends are passive: p1, p2.")
     shown = browser.choose(os.path.join(STATUS, "keys-bonding.txt"))
     tests.same("a status that is a file is explained", [shown["status"], browser.value(SAID)[0].split(".")[0]], [1, "1 of 2 links carries"])
@@ -266,7 +266,7 @@ def of_texts(tests: Tests, browser: Browser) -> None:
 def of_ways(tests: Tests, browser: Browser) -> None:
     """As people paste: with other ends of lines, a prompt, marks of a quotation, indented."""
     for name in "keys-bonding.txt", "keys-open-vswitch.txt", "third-teamd.json", "down-lagd.txt":
-        text = read(os.path.join(STATUS, name))
+        text = read_text(os.path.join(STATUS, name))
         lines = text.split("\n")
         ways = ["\r\n".join(lines), f"root@host:~# cat it\n{text}\nroot@host:~# ", "\n".join(f"> {it}" for it in lines), "\n".join(f"    {it}" for it in lines)]
         plain = pasted(browser, text)
@@ -276,7 +276,7 @@ def of_ways(tests: Tests, browser: Browser) -> None:
 def of_cuts(tests: Tests, browser: Browser) -> None:
     """Of a text that is cut no cause is named."""
     for name in (it["text"] for it in truths() if it["text"].startswith("healthy-")):
-        text, named = read(os.path.join(STATUS, name)), []
+        text, named = read_text(os.path.join(STATUS, name)), []
         for turn in range(1, CUTS):
             verdict, first, _ = pasted(browser, text[: len(text) * turn // CUTS])
             if first and not first.startswith("Remark: ") and "lacks the LACPDUs" not in first:
@@ -287,7 +287,7 @@ def of_cuts(tests: Tests, browser: Browser) -> None:
 
 def of_cut_bonds(tests: Tests) -> None:
     """A text of bonding that is cut behind its first port, or in the last line, is said to be cut, and where."""
-    both, apart = (read(os.path.join(STATUS, f"{it}-bonding.txt")) for it in ("healthy", "keys"))
+    both, apart = (read_text(os.path.join(STATUS, f"{it}-bonding.txt")) for it in ("healthy", "keys"))
     first, begin, last = both.index("Slave Interface: p2"), apart.index("Slave Interface: p2"), apart.rstrip("\n")
     cut = "The text is cut: {}. Nothing is named: give all of it, with the line behind it."
     cases = {

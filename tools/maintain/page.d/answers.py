@@ -11,7 +11,7 @@ import subprocess
 from typing import Any, Callable, NamedTuple
 
 import packing
-from repository import TOP, Missing, want
+from repository import TOP, Missing, read_bytes, read_text, want, write_bytes, write_text
 
 EXAMPLES = os.path.join(TOP, "examples")
 # Each way to explain a capture: the options of the program, and those of the page.
@@ -53,11 +53,7 @@ def changed(octets: bytes, chance: random.Random) -> bytes:
 
 
 def read(folder: str, kinds: tuple[str, ...]) -> list[bytes]:
-    found = []
-    for name in sorted(it for it in os.listdir(folder) if it.endswith(kinds)):
-        with open(os.path.join(folder, name), "rb") as it:
-            found.append(it.read())
-    return found
+    return [read_bytes(os.path.join(folder, name)) for name in sorted(os.listdir(folder)) if name.endswith(kinds)]
 
 
 def frames_in(captures: list[bytes], chance: random.Random, count: int) -> list[bytes]:
@@ -90,8 +86,7 @@ def all_jobs(seed: int, count: int) -> list[Job]:
 def of_program(lagtool: str, job: Job, folder: str) -> Answer:
     """What the program says: each line on standard error without its name, and that of a capture left out."""
     if job.file:
-        with open(os.path.join(folder, job.file), "wb") as out:
-            out.write(job.texts[0])
+        write_bytes(os.path.join(folder, job.file), job.texts[0])
     ended = subprocess.run([lagtool, *job.words], stdin=subprocess.DEVNULL, capture_output=True, cwd=folder)
     said = [it.removeprefix("lagtool: ") for it in ended.stderr.decode().removesuffix("\n").split("\n")]
     return ended.returncode, ended.stdout.decode(), "\n".join(said).replace("cannot read capture: ", "cannot read: ")
@@ -100,19 +95,15 @@ def of_program(lagtool: str, job: Job, folder: str) -> Answer:
 def of_module(octets: bytes, jobs: list[Job], folder: str) -> list[Answer]:
     want("node")
     at = {name: os.path.join(folder, name) for name in ("answers.mjs", "module.wasm", "jobs.json", "answers.json")}
-    with open(os.path.join(os.path.dirname(os.path.realpath(__file__)), "answers.js"), encoding="utf-8") as it:
-        driver = it.read()
-    with open(at["answers.mjs"], "w", encoding="utf-8") as out:
-        out.write(packing.text_of("module.js") + driver)
-    with open(at["module.wasm"], "wb") as module:
-        module.write(octets)
+    driver = read_text(os.path.join(os.path.dirname(os.path.realpath(__file__)), "answers.js"))
+    write_text(at["answers.mjs"], packing.text_of("module.js") + driver)
+    write_bytes(at["module.wasm"], octets)
     with open(at["jobs.json"], "w", encoding="utf-8") as out:
         json.dump([[it.name, [base64.b64encode(text).decode() for text in it.texts], it.options] for it in jobs], out)
     ended = subprocess.run(["node", at["answers.mjs"], at["module.wasm"], at["jobs.json"], at["answers.json"]], capture_output=True, text=True)
     if ended.returncode:
         raise Missing(f"node failed: {ended.stderr.strip()[-800:]}")
-    with open(at["answers.json"], encoding="utf-8") as it:
-        return [(status, printed, said) for status, printed, said in json.load(it)]
+    return [(status, printed, said) for status, printed, said in json.loads(read_text(at["answers.json"]))]
 
 
 def compared(octets: bytes, lagtool: str, folder: str, seed: int, count: int) -> tuple[int, list[str]]:

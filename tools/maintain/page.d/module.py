@@ -6,7 +6,7 @@ import os
 import re
 
 from processors import FOR_EACH_X86, compile_crate, done
-from repository import TOP, Missing, kit, want
+from repository import TOP, Missing, kit, read_bytes, read_text, want, write_text
 
 EXPORTS = [*(f"lagpage_{job}" for job in ("open", "feed", "end", "decode", "replay", "respond", "vectors")), "page_alloc"]
 TARGET = "wasm64-unknown-unknown"
@@ -49,8 +49,7 @@ def lowered(folder: str, crate: str) -> str:
         raise Missing("rattle called clang with no module: this toolchain lowers in another way")
     show = ["-S", "-emit-llvm", "-Xclang", "-disable-llvm-passes", "-Wno-unused-command-line-argument"]
     done(["clang", "--target=x86_64-unknown-linux-gnu", "-x", "ir", kept, *show, "-o", made], clang())
-    with open(made, encoding="utf-8") as it:
-        return it.read()
+    return read_text(made)
 
 
 def clang() -> str:
@@ -60,8 +59,7 @@ def clang() -> str:
 
 def compiled(text: str, made: str, words: list[str]) -> None:
     """Compiles a module in LLVM's text to an object for WebAssembly."""
-    with open(f"{made}.ll", "w", encoding="utf-8") as out:
-        out.write(text)
+    write_text(f"{made}.ll", text)
     done(["clang", *words, "-c", "-x", "ir", f"{made}.ll", "-o", made], clang())
 
 
@@ -90,5 +88,4 @@ def made(folder: str) -> bytes:
     objects = [at[it] for it in ("lagpage.o", "heap.o", "builtins.o")]
     done([*link, *(f"--export={name}" for name in EXPORTS), "-o", at["wide.wasm"], *objects], clang())
     done(["wasm-opt", *LOWER, at["wide.wasm"], "-o", at["page.wasm"]])
-    with open(at["page.wasm"], "rb") as module:
-        return module.read()
+    return read_bytes(at["page.wasm"])

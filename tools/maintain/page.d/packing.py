@@ -8,7 +8,7 @@ import json
 import os
 import re
 
-from repository import TOP, Missing
+from repository import TOP, Missing, read_text
 
 PARTS = os.path.join(TOP, "page")
 # The modules in the order in which each has what it imports.
@@ -28,8 +28,7 @@ WIDE = 120
 
 
 def text_of(name: str) -> str:
-    with open(os.path.join(PARTS, name), encoding="utf-8") as it:
-        return it.read()
+    return read_text(os.path.join(PARTS, name))
 
 
 def joined() -> str:
@@ -66,8 +65,7 @@ def scripts() -> str:
     """The scripts of examples/ by their names, as a data block."""
     texts: dict[str, str] = {}
     for name in sorted(it for it in os.listdir(EXAMPLES) if it.endswith(".toml")):
-        with open(os.path.join(EXAMPLES, name), encoding="utf-8") as it:
-            texts[name] = it.read()
+        texts[name] = read_text(os.path.join(EXAMPLES, name))
     return json.dumps(texts, indent=0).replace("<", "\\u003c")
 
 

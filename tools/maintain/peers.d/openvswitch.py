@@ -36,8 +36,7 @@ class OpenVSwitch:
         return command(*self.words(name, *words), env=self.environment, timeout=STARTS)
 
     def version(self) -> str:
-        told = command(self.packages.program("ovs-vswitchd"), "--version", env=self.environment)
-        return found(r"(\d+\.\d[\d.]*)", told.stdout)
+        return found(r"(\d+\.\d[\d.]*)", command(self.packages.program("ovs-vswitchd"), "--version", env=self.environment).stdout)
 
     def launch(self, name: str, *words: str) -> None:
         with open(f"{self.folder}/{name}.log", "a", encoding="utf-8") as log:

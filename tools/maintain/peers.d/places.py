@@ -8,12 +8,12 @@ import shlex
 import signal
 import subprocess
 import time
-from pathlib import Path
 
 import usermode
 from checking import Failed, Skipped, command
 from fetching import Packages
 from peer import pipes
+from repository import write_text
 from spaces import THEIRS, inside
 
 STARTS, END = 60, "command-has-ended"
@@ -85,7 +85,7 @@ class Guest:
             return
         init = f"{self.folder}/init"
         libraries = self.packages.environment()["LD_LIBRARY_PATH"]
-        Path(init).write_text(INIT.format(libraries=libraries, drivers=" ".join(self.drivers), folder=self.folder), encoding="utf-8")
+        write_text(init, INIT.format(libraries=libraries, drivers=" ".join(self.drivers), folder=self.folder))
         os.chmod(init, 0o755)
         words = ["ip", "netns", "exec", THEIRS, self.program, "mem=128M", "root=/dev/root", "rootfstype=hostfs", "rootflags=/"]
         words += ["ro", f"init={init}", f"uml_dir={self.folder}", "con0=fd:0,fd:1", "con=null", "panic=-1", "quiet"]

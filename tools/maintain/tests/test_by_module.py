@@ -11,7 +11,7 @@ import sys
 import pytest
 
 import loading
-from repository import Missing
+from repository import Missing, read_bytes, read_text
 
 EXAMPLES = os.path.join(os.path.dirname(loading.TOOLS), "examples")
 CAPTURES = os.path.join(EXAMPLES, "captures")
@@ -24,34 +24,27 @@ needs_node = pytest.mark.skipif(not shutil.which("node"), reason="there is no no
 
 def answer(*words: str, given: bytes | None = None) -> tuple[int, str, str]:
     """The status, what is printed and what is said."""
+    if not shutil.which("node"):
+        pytest.skip("there is no node")
     ended = subprocess.run(["node", ANSWER, *words], input=given or b"", capture_output=True)
     return ended.returncode, ended.stdout.decode(), ended.stderr.decode()
 
 
-def read(path: str) -> str:
-    with open(path, encoding="utf-8") as it:
-        return it.read()
-
-
-@needs_node
 @pytest.mark.parametrize("name, end", STORED)
 def test_a_capture_gives_what_is_stored(name: str, end: str) -> None:
     path = os.path.join(CAPTURES, name)
-    assert answer(ENDS[end], "capture", path) == (1, read(path.rpartition(".")[0] + end), "")
+    assert answer(ENDS[end], "capture", path) == (1, read_text(path.rpartition(".")[0] + end), "")
 
 
-@needs_node
 @pytest.mark.parametrize("name", SCRIPTS)
 def test_a_script_gives_its_report(name: str) -> None:
     path = os.path.join(EXAMPLES, name)
-    assert answer("replay", path) == (0, read(f"{path.removesuffix('.toml')}.txt"), "")
+    assert answer("replay", path) == (0, read_text(f"{path.removesuffix('.toml')}.txt"), "")
 
 
-@needs_node
 def test_standard_input_vectors_and_refusals() -> None:
     path = os.path.join(CAPTURES, "flapping.pcap")
-    with open(path, "rb") as it:
-        assert answer("capture", "-", given=it.read()) == answer("capture", path)
+    assert answer("capture", "-", given=read_bytes(path)) == answer("capture", path)
     assert answer("vectors")[1].endswith("vectors 10 failed 0\n")
     assert answer("decode", "zz") == (2, "", "lagtool: not hex\n")
     assert answer("capture", "/none") == (2, "", "lagtool: cannot read /none\n")
@@ -61,7 +54,6 @@ def test_standard_input_vectors_and_refusals() -> None:
     assert answer("check", path)[0] == answer("capture")[0] == 2
 
 
-@needs_node
 def test_a_file_that_cannot_be_read_has_the_words_of_the_program(tmp_path: pathlib.Path) -> None:
     locked = tmp_path / "locked"
     locked.touch(0)
@@ -71,7 +63,6 @@ def test_a_file_that_cannot_be_read_has_the_words_of_the_program(tmp_path: pathl
             assert answer("--explain", job, path) == (2, "", f"lagtool: cannot read {path}\nlagtool: {path}: {cause}\n")
 
 
-@needs_node
 def test_an_option_behind_the_subcommand_is_told_its_place() -> None:
     path = os.path.join(CAPTURES, "flapping.pcap")
     for words in (["capture", "--json", path], ["capture", path, "--json"]):
@@ -98,7 +89,6 @@ def test_where_nobody_reads_on_nothing_is_said() -> None:
     assert (ended.returncode, ended.stderr) == (141, b"")
 
 
-@needs_node
 def test_a_script_that_is_not_utf_8_is_told_by_its_file(tmp_path: pathlib.Path) -> None:
     script = tmp_path / "port.toml"
     script.write_bytes(b"# \xff\n")

@@ -35,11 +35,7 @@ def crate(tmp_path: Path) -> Path:
 def test_an_edit_says_what_it_replaces() -> None:
     trial = edits.read_trial("lagsystem", "limit", EDIT.splitlines())
     assert trial.says == "the limit is one more"
-    assert trial.pairs == (
-        ("specs/Limits.antt", "most = 64", "most = 65"),
-        ("src/limits.rt", "64", "65"),
-        ("src/limits.rt", "return kept;", ""),
-    )
+    assert trial.pairs == (("specs/Limits.antt", "most = 64", "most = 65"), ("src/limits.rt", "64", "65"), ("src/limits.rt", "return kept;", ""))
     assert [isinstance(old, edits.Everywhere) for _, old, _ in trial.pairs] == [False, True, False]
     assert trial.tests == (("tests_system", "systems::limits::a_limit_holds"), ("tests_system", "systems::limits::none_is_none"))
     assert trial.fault() is None

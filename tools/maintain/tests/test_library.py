@@ -7,7 +7,7 @@ from pathlib import Path
 import pytest
 
 import loading
-from repository import Missing
+from repository import Missing, read_text
 
 library = loading.module("", "library")
 
@@ -34,8 +34,7 @@ def test_each_function_is_shown_in_its_version_and_nothing_else(tmp_path: Path, 
     symbols = tmp_path / "symbols"
     symbols.write_text(" LAG_0@LAG_0 0.1.0\n LAG_1@LAG_1 0.2.0\n lagffi_a@LAG_1 0.2.0\n lagffi_b@LAG_0 0.1.0\n", encoding="utf-8")
     monkeypatch.setattr(library, "SYMBOLS", str(symbols))
-    with open(library.version_script(str(tmp_path)), encoding="utf-8") as it:
-        words = it.read().split()
+    words = read_text(library.version_script(str(tmp_path))).split()
     assert words == ["LAG_0", "{", "global:", "lagffi_b;", "local:", "*;", "};", "LAG_1", "{", "global:", "lagffi_a;", "}", "LAG_0;"]
 
 

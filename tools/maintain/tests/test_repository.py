@@ -28,12 +28,7 @@ def listed(tmp_path: Path, monkeypatch: pytest.MonkeyPatch) -> None:
 
 
 def test_a_line_is_known_by_its_crate_without_its_comment(listed: None) -> None:
-    assert repository.lines() == {
-        "low": "low: bitflags",
-        "odd": "odd staticlib: clap low",
-        "other": "other:",
-        "high": "high: odd other arrayvec",
-    }
+    assert repository.lines() == {"low": "low: bitflags", "odd": "odd staticlib: clap low", "other": "other:", "high": "high: odd other arrayvec"}
 
 
 def test_a_crate_uses_those_of_the_repository(listed: None) -> None:

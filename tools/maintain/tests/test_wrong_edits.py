@@ -93,10 +93,7 @@ def test_the_tests_that_look_at_a_crate() -> None:
     assert named.looks(edits.Trial("lagsystem", "x", "it is 5", (), (("tests_world", "m::t"),))) == [("tests_world", ("m::t",))]
 
 
-EDITS = {
-    "one": (("src/a.rt", "1", "2"), ("src/a.rt", "return 3;", ""), ("specs/A.antt", "4", "5")),
-    "other": (("src/a.rt", "6", "7"),),
-}
+EDITS = {"one": (("src/a.rt", "1", "2"), ("src/a.rt", "return 3;", ""), ("specs/A.antt", "4", "5")), "other": (("src/a.rt", "6", "7"),)}
 TRIALS = [edits.Trial("captures", name, "", pairs) for name, pairs in EDITS.items()]
 
 

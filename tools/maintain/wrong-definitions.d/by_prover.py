@@ -13,9 +13,9 @@ import subprocess
 from typing import Iterator
 
 import prover
-from edits import DEFINITIONS, Trial, apply, copy_crates, read, write
+from edits import DEFINITIONS, Trial, apply, copy_crates, write
 from prover import Result
-from repository import RT
+from repository import RT, read_text
 
 CRATES = ("lagmodel", "lagnetwork", "lagfleet", "lagbeside", "lagprogress")
 ERROR = re.compile(r"(?:\./)?([^\s:]+):\d+:\d+: error: ")
@@ -48,7 +48,7 @@ def try_below(folder: str, trial: Trial) -> tuple[bool, str]:
 
 def try_counterexample(folder: str, trial: Trial, path: str) -> tuple[bool, str]:
     """Proves, under the wrong definition, that the law is false. The proof takes the place of the crate's own."""
-    head, _, proof = read(path).partition("---\n")
+    head, _, proof = read_text(path).partition("---\n")
     crate = os.path.join(copy_crates(folder, [trial.crate]), trial.crate)
     _, fault = apply(crate, trial.pairs)
     if fault:
