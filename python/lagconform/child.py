@@ -43,7 +43,7 @@ class Child:
         other.close()
         own.settimeout(CALL_SECONDS)
         self._socket: Optional[socket.socket] = own
-        kind, _, octets = self._receive("it was loaded")
+        kind, _, octets = self._receive("as it was loaded")
         if kind == BAD:
             self.close()
             raise Refused(octets.decode(errors="replace"))
