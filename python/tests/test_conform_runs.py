@@ -7,6 +7,7 @@ import os
 import re
 import shutil
 import subprocess
+import sys
 import xml.etree.ElementTree as xml
 from contextlib import ExitStack
 from dataclasses import replace
@@ -555,10 +556,20 @@ def broken(folder: Path, line: str, other: str) -> str:
     """The example in C with another line, as a shared library."""
     text = (EXAMPLES / "device.c").read_text()
     assert line in text
-    (folder / "broken.c").write_text(f"#include <unistd.h>\n{text.replace(line, other)}")
+    (folder / "broken.c").write_text(f"#include <stdio.h>\n#include <unistd.h>\n{text.replace(line, other)}")
     made = str(folder / "broken.so")
     subprocess.run(["cc", "-shared", "-fPIC", f"-I{HEADER}", f"-I{EXAMPLES}", "-o", made, str(folder / "broken.c"), os.environ["NIWHOPERA_LIBRARY"]], check=True)
     return made
+
+
+@needs_library
+def test_what_a_library_prints_stands_before_the_line_of_its_test(tmp_path: Path) -> None:
+    begin = "    uint8_t response[NIW_FRAME];\n"
+    made = broken(tmp_path, begin, f'{begin}    static int count;\n    if (count++ == 0)\n        puts("it takes a frame");\n')
+    given = {it: text for it, text in os.environ.items() if it != "PYTHONUNBUFFERED"}
+    line = [sys.executable, "-m", "lagconform", "--memory", made, "--only", "FM-01"]
+    ended = subprocess.run(line, env={**given, "PYTHONPATH": str(Path(__file__).parents[1])}, capture_output=True, text=True, timeout=60, check=False)
+    assert ended.returncode == 0 and ended.stdout.startswith("it takes a frame\n1 test on 3 links\npass "), ended
 
 
 @needs_library
@@ -585,6 +596,9 @@ def test_a_library_that_breaks_at_its_start_is_refused(fault: str, why: str, tmp
     made = str(tmp_path / "broken.so")
     subprocess.run(["cc", "-shared", "-fPIC", "-o", made, str(tmp_path / "broken.c")], check=True)
     assert command.main(["--memory", made]) == 2 and f"the stack {why}" in capfd.readouterr().err
+    (tmp_path / "broken.c").write_text(f"__attribute__((constructor)) static void begin(void) {{ {fault}; }}\n")
+    subprocess.run(["cc", "-shared", "-fPIC", "-o", made, str(tmp_path / "broken.c")], check=True)
+    assert command.main(["--memory", made]) == 2 and f"the stack {why.partition(' in ')[0]}" in (said := capfd.readouterr().err) and " as it was loaded" in said
     (tmp_path / "broken.c").write_text("void device_start(void) { }\n")
     subprocess.run(["cc", "-shared", "-fPIC", "-o", made, str(tmp_path / "broken.c")], check=True)
     assert command.main(["--memory", made]) == 2 and "has no device_take" in capfd.readouterr().err
