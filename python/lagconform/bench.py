@@ -29,6 +29,8 @@ QUIET = 35.0
 HOOK_SECONDS = 40.0
 # Words of the hook behind which the device has to begin anew, on a link or on all.
 ENDING = ("down", "stop", "reset")
+# What undoes which word.
+UNDOES = {"up": "down", "start": "stop"}
 # The first of the bench's systems: each one has another number in the three octets that are 0 here.
 BASE = Mac("02cf00000001")
 Holds = Callable[[Lacpdu], object]
@@ -72,6 +74,8 @@ class Bench:
         self.frames: list[Frame] = []
         # What was done to the device, and when: words of the hook.
         self.events: list[tuple[float, tuple[str, ...]]] = []
+        # What of it was not undone, as a link that is down still.
+        self.left: set[tuple[str, ...]] = set()
         # What the bench itself did wrong in a test: how late it was, and how many frames its links refused.
         self.late, self.refused = 0.0, 0
         # How late it was at most in all tests before.
@@ -240,8 +244,8 @@ class Bench:
         return frame
 
     def stuck(self, why: str, *links: int) -> Stuck:
-        """That no test can begin, by what the device does on these links."""
-        return (Stopped if all(self.links[it].carried for it in links) else Stuck)(why)
+        """That no test can begin, by what the device does on these links; it is not to blame where the bench had it end."""
+        return (Stopped if all(self.links[it].carried for it in links) and not self.left else Stuck)(why)
 
     def device(self, link: int = 1) -> Lacpdu:
         """The last LACPDU of the device on a link: `actor` is its end, and `partner` ours as it tells that. The test is inconclusive where none came."""
@@ -338,7 +342,15 @@ class Bench:
         began, answer = self.now(), self.ask(*words)
         if answer.status:
             raise (NotHere if answer.status == UNKNOWN else HookFailed)(answer.refusal(words))
+        self._did(began, words)
+
+    def _did(self, began: float, words: tuple[str, ...]) -> None:
+        """Notes what was done to the device, and what of it is to be undone."""
         self.events.append((began, words))
+        if words[0] in UNDOES:
+            self.left.discard((UNDOES[words[0]], *words[1:]))
+        elif words[0] in UNDOES.values():
+            self.left.add(words)
         if words[0] in ENDING:
             self.is_over(*(it for it in self.links if words[0] != "down" or str(it) in words[1:]))
 
@@ -383,9 +395,7 @@ class Bench:
             return
         began = self.now()
         self.wire.flap(link, up)
-        self.events.append((began, ("up" if up else "down", str(link))))
-        if not up:
-            self.is_over(link)
+        self._did(began, ("up" if up else "down", str(link)))
 
     # What a test claims.
 

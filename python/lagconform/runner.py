@@ -173,6 +173,7 @@ def revive(b: Bench, test: Test, broke: Broke) -> str:
     except Gone as why:
         return f"{str(why).partition(chr(10))[0]}; the last time in {test.id}: {str(broke).partition(chr(10))[0]}"
     b.events.append((b.now(), ("start",)))
+    b.left.clear()
     b.broke.append(test.id)
     return ""
 

@@ -27,6 +27,7 @@ from lagconform.edition import edition
 from lagconform.groups import TESTS
 from lagconform.model import CAVEAT, FAIL, INCONCLUSIVE, NOT_APPLICABLE, PASS, SKIPPED, SURE, Claim, Result
 from lagconform.runner import IN_TURN, CameToNothing, Flood, StoppedForGood, judge, meet, ordered, run_all, run_times
+from lagconform.wires import Answer
 
 BY_NAME = {it.id: it for it in TESTS}
 # What stands behind the counts in the last line.
@@ -403,6 +404,13 @@ class Full(World):
         return 3
 
 
+class NoStart(World):
+    """Its hook ends the device, and does not start it."""
+
+    def call(self, words: Sequence[str]) -> memory.Done:
+        return memory.Done(Answer(1, "no")) if words[0] == "start" else super().call(words)
+
+
 class Mute(Device):
     """Says nothing more once its links were up for a while."""
 
@@ -420,13 +428,14 @@ class Uncarrying(Device):
 @pytest.mark.parametrize("kind, world, ends, why", [
     (Mute, World, StoppedForGood, "no LACPDU of the device was heard|does not carry"), (Mute, Full, CameToNothing, ""),
     (Mute, Unplugged, CameToNothing, "There is no carrier on link1$"), (Uncarrying, World, CameToNothing, "does not carry"),
+    (Device, NoStart, CameToNothing, "no LACPDU of the device was heard on link 1 since it was taken down, or the device ended"),
 ])  # fmt: skip
 def test_only_a_device_that_carried_is_to_blame_for_tests_that_come_to_nothing(kind: Type[Device], world: Type[World], ends: Type[Exception], why: str) -> None:
     wire = world(kind())
     with beside(wire, wire) as b:
         meet(b)
         with pytest.raises(ends, match=why):
-            run_all(b, [BY_NAME[it] for it in ("FM-01", "RX-02", "RX-03", "RX-05", "RX-06", "RX-16", "RX-17", "RX-18", "RX-14")], lambda _: None)
+            run_all(b, [BY_NAME[it] for it in ("FM-01", "RX-15", "RX-02", "RX-03", "RX-05", "RX-06", "RX-16", "RX-17", "RX-18", "RX-14")], lambda _: None)
 
 
 @pytest.mark.skipif(not EXAMPLES.exists(), reason="no examples")
