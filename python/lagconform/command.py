@@ -27,7 +27,7 @@ from .options import MEMORY_LINKS, SEED, check_words, matches, reader, selected
 from .pdus import number_of
 from .refusals import MOST_LINKS, Refused, check_interfaces
 from .report import Run
-from .resume import beside, check, conditions, earlier, taken
+from .resume import check, conditions, earlier, kept, taken
 from .runner import CameToNothing, NoDevice, StoppedForGood, meet, ordered, run_all
 from .shadow import Shadow, compare
 from .sockets import Command, PacketWire
@@ -239,7 +239,7 @@ def finish(given: argparse.Namespace, run: Run, status: int, ended: bool) -> int
     if broke := [it.test.id for it in run.results if it.verdict == ERROR]:
         tell(f"lagconform: {', '.join(broke)} broke by a fault of the test, which says nothing of the device: mend it", to=sys.stderr)
     if status == FAILS:
-        tell(f"lagconform: the device ended the run, which is a fail of the device: status {FAILS}", to=sys.stderr)
+        tell("lagconform: the device ended the run, which is a fail of the device", to=sys.stderr)
     if status == INTERRUPTED:
         return status
     fails = status == FAILS or bool(known.new_fails(run.results))
@@ -266,7 +266,7 @@ def planned(given: argparse.Namespace) -> Plan:
     if not before:
         return Plan(tests, claimed, reasons, conditions(given, claimed))
     given.system = given.system or before.base  # the bench goes on with the system that it had
-    there = taken(before, tests) + beside(before, [it for it in TESTS if it not in tests and not matches(it, given.left_out)])
+    there = taken(before, tests) + kept(before, [it for it in TESTS if it not in tests and not matches(it, given.left_out)])
     whole = [*tests, *(it.test for it in there)]
     plan = Plan(ordered(it for it in TESTS if it in whole), claimed, reasons, conditions(given, claimed), there)
     check(before, plan.conditions)

@@ -94,7 +94,7 @@ def taken(before: Earlier, tests: Sequence[Test]) -> list[Result]:
     return of_records(before, stays, found)
 
 
-def beside(before: Earlier, others: Sequence[Test]) -> list[Result]:
+def kept(before: Earlier, others: Sequence[Test]) -> list[Result]:
     """The results of tests that this run was not asked for, whatever the earlier run says of them: no run loses what its file had."""
     found = {it["id"]: it for it in before.records if it["verdict"] in VERDICTS}
     return of_records(before, [it for it in others if it.id in found], found)
