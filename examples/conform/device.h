@@ -11,7 +11,7 @@ typedef void device_send(void *bench, unsigned link, const unsigned char *frame,
 void device_start(unsigned links, device_send *send, void *bench);
 /* A frame came on a link. */
 void device_take(unsigned link, const unsigned char *frame, size_t size);
-/* 100 ms pass. */
+/* 100 ms pass. The time of the stack is a count of these calls: the bench waits for no clock, so one of the system tells nothing here. */
 void device_tick(void);
 
 /* Ends: nothing is taken, sent or ticked until the next start. */

@@ -10,7 +10,7 @@ from typing import Callable, Iterator, Mapping, Optional, Sequence, cast
 from niwhopera import Lacpdu, Mac, MarkerKind, State
 
 from .floods import Meter
-from .model import Claim, Frame, NotHere, Result, Stop, Stuck
+from .model import Claim, Frame, NotHere, Result, Stop, Stopped, Stuck
 from .partner import PLACES, Partner, slow
 from .pdus import CARRIES, COUNT_AT, DATA, PAYLOAD, SENDERS, SLOW, end, read, told, value
 from .wires import UNKNOWN, Answer, Hook, Wire
@@ -27,6 +27,10 @@ REST = LIMIT + 0.1
 # How long a device may be quiet if it was asked for long timeouts, or is on defaults (6.4.4: 30 s).
 QUIET = 35.0
 HOOK_SECONDS = 40.0
+# Words of the hook behind which the device has to begin anew, on a link or on all.
+ENDING = ("down", "stop", "reset")
+# What undoes which word.
+UNDOES = {"up": "down", "start": "stop"}
 # The first of the bench's systems: each one has another number in the three octets that are 0 here.
 BASE = Mac("02cf00000001")
 Holds = Callable[[Lacpdu], object]
@@ -44,8 +48,21 @@ class Link:
         self.frame: Optional[Frame] = None
         # The last frame that has the subtype of LACP, whether it can be read or not.
         self.spoke: Optional[Frame] = None
+        # What has a packet number up to this one is of before the link was taken down, or the device ended.
+        self.over = 0
+        # Whether the device has carried here beside a right partner.
+        self.carried = False
         self.meter = Meter()
         self.partner = Partner(bench, number)
+
+    def current(self, frame: Optional[Frame]) -> Optional[Frame]:
+        """A frame, if it came since the link was taken down, or the device ended."""
+        return frame if frame and frame.number > self.over else None
+
+    @property
+    def is_quiet(self) -> bool:
+        """Whether the device has said something once, and nothing since the link was taken down, or the device ended."""
+        return self.frame is not None and not self.current(self.frame)
 
 
 class Bench:
@@ -57,6 +74,8 @@ class Bench:
         self.frames: list[Frame] = []
         # What was done to the device, and when: words of the hook.
         self.events: list[tuple[float, tuple[str, ...]]] = []
+        # What of it was not undone, as a link that is down still.
+        self.left: set[tuple[str, ...]] = set()
         # What the bench itself did wrong in a test: how late it was, and how many frames its links refused.
         self.late, self.refused = 0.0, 0
         # How late it was at most in all tests before.
@@ -214,11 +233,19 @@ class Bench:
         return self.links[link].partner
 
     def frame(self, link: int = 1) -> Frame:
-        """The last LACPDU of the device on a link, as a frame; the test is inconclusive where none came."""
-        frame, spoke = self.links[link].frame, self.links[link].spoke
+        """The last LACPDU of the device on a link, as a frame; the test is inconclusive where none came. What came before the link was taken down, or
+        the device ended, does not count."""
+        it = self.links[link]
+        frame, spoke = it.current(it.frame), it.current(it.spoke)
         if not frame:
-            raise Stuck(f"what the device sends on link {link} is no LACPDU: {spoke.fault}" if spoke else f"no LACPDU of the device was heard on link {link}")
+            since = " since it was taken down, or the device ended" if it.is_quiet else ""
+            silent = f"no LACPDU of the device was heard on link {link}{since}"
+            raise self.stuck(f"what the device sends on link {link} is no LACPDU: {spoke.fault}" if spoke else silent, link)
         return frame
+
+    def stuck(self, why: str, *links: int) -> Stuck:
+        """That no test can begin, by what the device does on these links; it is not to blame where the bench had it end."""
+        return (Stopped if all(self.links[it].carried for it in links) and not self.left else Stuck)(why)
 
     def device(self, link: int = 1) -> Lacpdu:
         """The last LACPDU of the device on a link: `actor` is its end, and `partner` ours as it tells that. The test is inconclusive where none came."""
@@ -231,12 +258,12 @@ class Bench:
         return self.device(link).actor.state
 
     def carries(self, link: int = 1) -> bool:
-        """Whether the device told last that it collects and distributes."""
-        return self.bits(link) & CARRIES == CARRIES
+        """Whether the device told last that it collects and distributes; it does not where it has said nothing since the link was taken down."""
+        return not self.links[link].is_quiet and self.bits(link) & CARRIES == CARRIES
 
     def names_us(self, link: int = 1) -> bool:
-        """Whether the device told our end last."""
-        return self.partner(link).is_named_by(self.device(link))
+        """Whether the device told our end last; it did not where it has said nothing since the link was taken down."""
+        return not self.links[link].is_quiet and self.partner(link).is_named_by(self.device(link))
 
     def begin(self, *links: int, same: bool = True, silent: bool = False) -> None:
         """New partners on these links; one system for all of them if `same`."""
@@ -257,7 +284,9 @@ class Bench:
             self.look_past(*links)
             left = [it for it in links if it not in heard or not self.carries(it) or not self.names_us(it)]
             if left:
-                raise Stuck(f"the device does not carry after {limit:g} s beside a right partner: {', '.join(map(self.stands, left))}")
+                raise self.stuck(f"the device does not carry after {limit:g} s beside a right partner: {', '.join(map(self.stands, left))}", *left)
+        for it in links:
+            self.links[it].carried = True
         self.until(1.5, lambda: all(self.partner(it).tells_carrying for it in links))
 
     def look_past(self, *links: int, mixed: bool = True) -> None:
@@ -282,7 +311,7 @@ class Bench:
 
     def is_up(self, link: int = 1) -> bool:
         """Whether the link of the last test still carries for a right partner with short timeouts."""
-        partner, frame = self.partner(link), self.links[link].frame
+        partner, frame = self.partner(link), self.links[link].current(self.links[link].frame)
         if not (frame and partner.is_right and partner.me.short and partner.me.active and partner.me.aggregatable):
             return False
         return self.now() - frame.time < 1.5 and self.carries(link) and self.names_us(link) and partner.tells_carrying
@@ -313,7 +342,24 @@ class Bench:
         began, answer = self.now(), self.ask(*words)
         if answer.status:
             raise (NotHere if answer.status == UNKNOWN else HookFailed)(answer.refusal(words))
+        self._did(began, words)
+
+    def _did(self, began: float, words: tuple[str, ...]) -> None:
+        """Notes what was done to the device, and what of it is to be undone."""
         self.events.append((began, words))
+        if words[0] in UNDOES:
+            self.left.discard((UNDOES[words[0]], *words[1:]))
+        elif words[0] in UNDOES.values():
+            self.left.add(words)
+        if words[0] in ENDING:
+            self.is_over(*(it for it in self.links if words[0] != "down" or str(it) in words[1:]))
+
+    def is_over(self, *links: int) -> None:
+        """What the device has told on these links until now says nothing of what it does from now on."""
+        for it in self.wire.wait(0):
+            self._take(*it)
+        for link in links:
+            self.links[link].over = len(self.frames)
 
     def ask(self, *words: str) -> Answer:
         """What the hook says to these words; the test is skipped where there is none, and inconclusive where it does not end."""
@@ -349,7 +395,7 @@ class Bench:
             return
         began = self.now()
         self.wire.flap(link, up)
-        self.events.append((began, ("up" if up else "down", str(link))))
+        self._did(began, ("up" if up else "down", str(link)))
 
     # What a test claims.
 

@@ -29,6 +29,7 @@ FRAME, END, BAD = 0, 1, 2
 LONGEST = 65535
 SEND = ctypes.CFUNCTYPE(None, ctypes.c_void_p, ctypes.c_uint, ctypes.POINTER(ctypes.c_ubyte), ctypes.c_size_t)
 DIES_WITH_PARENT = 1  # PR_SET_PDEATHSIG of prctl(2)
+BY_LINES = 1  # _IOLBF of setvbuf(3)
 
 
 class Child:
@@ -43,7 +44,7 @@ class Child:
         other.close()
         own.settimeout(CALL_SECONDS)
         self._socket: Optional[socket.socket] = own
-        kind, _, octets = self._receive("it was loaded")
+        kind, _, octets = self._receive("as it was loaded")
         if kind == BAD:
             self.close()
             raise Refused(octets.decode(errors="replace"))
@@ -122,6 +123,7 @@ def serve(path: str, bench: socket.socket) -> None:
         signal.signal(signal.SIGTERM, signal.SIG_DFL)
         own = ctypes.CDLL(None)
         own.prctl(DIES_WITH_PARENT, ctypes.c_ulong(signal.SIGKILL))
+        own.setvbuf(ctypes.c_void_p.in_dll(own, "stdout"), None, BY_LINES, ctypes.c_size_t(0))  # what it prints stands before the line of its test
         answer(path, bench)
         own.fflush(None)
     finally:

@@ -23,20 +23,20 @@ from .groups import GROUPS, TESTS
 from .listing import as_markdown, as_text
 from .memory import World, loaded
 from .model import CAVEAT, ERROR, FAIL, INCONCLUSIVE, PASS, Result, Test
-from .options import MEMORY_LINKS, SEED, check_words, reader, selected
+from .options import MEMORY_LINKS, SEED, check_words, matches, reader, selected
 from .pdus import number_of
 from .refusals import MOST_LINKS, Refused, check_interfaces
 from .report import Run
-from .resume import check, conditions, earlier, taken
-from .runner import CameToNothing, NoDevice, meet, run_all
+from .resume import check, conditions, earlier, kept, taken
+from .runner import CameToNothing, NoDevice, StoppedForGood, meet, ordered, run_all
 from .shadow import Shadow, compare
 from .sockets import Command, PacketWire
 from .wires import UNKNOWN, Gone
 
 # The statuses of a shell that cannot run a command.
 NO_COMMAND = {126: "may not run it", 127: "does not find it"}
-# The status of a run beside a device that never spoke.
-SILENT = 3
+# The status of a run that the device fails, of one that says nothing of it, of one beside a device that never spoke, and of one that a signal ended.
+FAILS, NO_VERDICT, SILENT, INTERRUPTED = 1, 2, 3, 130
 # What a report has the first system of the bench by.
 SYSTEM = "the bench's first system"
 
@@ -163,8 +163,8 @@ def prepare_device(given: argparse.Namespace, b: Bench) -> None:
 
 @dataclass
 class Plan:
-    """What is to run: the tests, what the device claims of itself, the reasons of known fails, what the verdicts depend on, and the results of an
-    earlier run."""
+    """What is to run: the tests, with those that an earlier run has, what the device claims of itself, the reasons of known fails, what the verdicts
+    depend on, and the results of the earlier run."""
 
     tests: Sequence[Test]
     claimed: dict[str, bool]
@@ -188,13 +188,15 @@ def run_tests(given: argparse.Namespace, b: Bench, plan: Plan) -> int:
         progress.show()
         run_all(b, left, say, plan.claimed, given.keep_going, given.repeat)
     except KeyboardInterrupt:
-        status, ended = 130, "interrupted"
+        status, ended = INTERRUPTED, "interrupted"
     except CameToNothing as why:
         status, ended = 0, str(why)
+    except StoppedForGood as why:
+        status, ended = FAILS, str(why)
     except Gone as why:
-        status, ended = 2, str(why)
+        status, ended = NO_VERDICT, str(why)
     except Exception as why:  # what was run is worth its reports
-        status, ended = 2, f"the run ended early: {type(why).__name__}: {why}"
+        status, ended = NO_VERDICT, f"the run ended early: {type(why).__name__}: {why}"
     shadow = compared(b) if given.shadow else None
     with undisturbed():
         if ended:
@@ -226,17 +228,24 @@ def compared(b: Bench) -> Optional[Shadow]:
 
 
 def finish(given: argparse.Namespace, run: Run, status: int, ended: bool) -> int:
-    """Writes and prints the reports; the status: of what ended the run, or of its tests."""
+    """Writes and prints the reports; the status: of what ended the run, or of its tests. A test that failed is a verdict on the device, also where
+    something else ended the run."""
     stand_there = write_all(given, run)
     gone = known.no_longer(run.results)
     tell(*(f"known fail {name} did not fail" for name in gone), *report.closing(run))
     if not status and not any(it.verdict in (PASS, FAIL) for it in run.results):
         tell("lagconform: no test came to pass or fail", to=sys.stderr)
-        status = 2
+        status = NO_VERDICT
     if broke := [it.test.id for it in run.results if it.verdict == ERROR]:
         tell(f"lagconform: {', '.join(broke)} broke by a fault of the test, which says nothing of the device: mend it", to=sys.stderr)
-    fails = bool(known.new_fails(run.results)) or run.strict and (bool(gone) or any(it.verdict in (ERROR, INCONCLUSIVE) for it in run.results))
-    return status or (1 if fails and stand_there else 2 if broke or ended or not stand_there else 0)
+    if status == FAILS:
+        tell("lagconform: the device ended the run, which is a fail of the device", to=sys.stderr)
+    if status == INTERRUPTED:
+        return status
+    fails = status == FAILS or bool(known.new_fails(run.results))
+    if run.strict and status != NO_VERDICT:
+        fails = fails or bool(gone) or any(it.verdict in (ERROR, INCONCLUSIVE) for it in run.results)
+    return FAILS if fails and stand_there else NO_VERDICT if status or broke or ended or not stand_there else 0
 
 
 def interrupt(*_: object) -> None:
@@ -257,7 +266,9 @@ def planned(given: argparse.Namespace) -> Plan:
     if not before:
         return Plan(tests, claimed, reasons, conditions(given, claimed))
     given.system = given.system or before.base  # the bench goes on with the system that it had
-    plan = Plan(tests, claimed, reasons, conditions(given, claimed), taken(before, tests))
+    there = taken(before, tests) + kept(before, [it for it in TESTS if it not in tests and not matches(it, given.left_out)])
+    whole = [*tests, *(it.test for it in there)]
+    plan = Plan(ordered(it for it in TESTS if it in whole), claimed, reasons, conditions(given, claimed), there)
     check(before, plan.conditions)
     return plan
 
@@ -297,7 +308,7 @@ def main(words: Optional[Sequence[str]] = None) -> int:
         return SILENT if isinstance(why, NoDevice) else 2
     except KeyboardInterrupt:
         write_nothing(given, "interrupted before the first test")
-        return 130
+        return INTERRUPTED
     except Exception as why:  # status 1 would tell of a device that fails
         traceback.print_exc()
         write_nothing(given, f"the bench has a fault: {type(why).__name__}: {why}")

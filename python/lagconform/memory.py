@@ -216,6 +216,10 @@ class World:
         self.came.clear()
         return came
 
+    def without_carrier(self) -> Sequence[str]:
+        """A link in memory has one."""
+        return ()
+
     def flap(self, link: int, up: bool) -> None:
         """Takes a link down or up."""
         self.device.link(link, up)

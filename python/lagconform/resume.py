@@ -13,7 +13,7 @@ from niwhopera import Mac
 from .bench import BASE
 from .edition import edition
 from .files import unread
-from .model import FAIL, NOT_APPLICABLE, PASS, WHOLE_RUN, Claim, Result, Test
+from .model import FAIL, NOT_APPLICABLE, PASS, VERDICTS, WHOLE_RUN, Claim, Result, Test
 from .options import MEMORY_LINKS
 from .refusals import Refused
 from .report import FORMAT
@@ -91,8 +91,19 @@ def taken(before: Earlier, tests: Sequence[Test]) -> list[Result]:
     found = {it["id"]: it for it in before.records if it["verdict"] in TAKEN}
     over = all(it.id in found for it in tests if it.group != WHOLE_RUN)
     stays = [it for it in tests if it.id in found and (over or it.group != WHOLE_RUN or found[it.id]["verdict"] == FAIL)]
+    return of_records(before, stays, found)
+
+
+def kept(before: Earlier, others: Sequence[Test]) -> list[Result]:
+    """The results of tests that this run was not asked for, whatever the earlier run says of them: no run loses what its file had."""
+    found = {it["id"]: it for it in before.records if it["verdict"] in VERDICTS}
+    return of_records(before, [it for it in others if it.id in found], found)
+
+
+def of_records(before: Earlier, tests: Sequence[Test], found: Mapping[str, Mapping[str, Any]]) -> list[Result]:
+    """The results of tests of their records."""
     try:
-        return [of_record(before.path, it, found[it.id]) for it in stays]
+        return [of_record(before.path, it, found[it.id]) for it in tests]
     except (ValueError, KeyError, TypeError) as why:
         raise Refused(f"{before.path} is no JSON of a run of lagconform: {type(why).__name__} {why}") from why
 

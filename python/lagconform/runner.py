@@ -12,7 +12,7 @@ from .bench import QUIET, SOON, Bench
 from .floods import FLOOD
 from .matrix import WORST
 from .model import ERROR, FAIL, INCONCLUSIVE, NOT_APPLICABLE, PASS, SKIPPED, SURE, WHOLE_RUN
-from .model import Claim, DoesNotApply, Frame, NotHere, Result, Stop, Stuck, Test
+from .model import Claim, DoesNotApply, Frame, NotHere, Result, Stop, Stopped, Stuck, Test
 from .pdus import number_of
 from .pics import ITEMS, lacking
 from .refusals import Refused
@@ -117,7 +117,8 @@ def run_one(b: Bench, test: Test, claimed: Optional[Mapping[str, bool]] = None) 
         result.first, result.begin = len(b.frames) + 1, b.now()
         test.run(b)
     except Stop as why:
-        result.verdict, result.why, result.stuck = why.verdict, str(why), isinstance(why, Stuck)
+        result.verdict, result.why = why.verdict, str(why)
+        result.stuck, result.stopped = isinstance(why, Stuck), isinstance(why, Stopped)
     except Broke as why:
         broke = why
         text, _, trace = str(why).partition("\n")
@@ -142,6 +143,7 @@ def run_one(b: Bench, test: Test, claimed: Optional[Mapping[str, bool]] = None) 
             link.partner.right()
     if broke:
         result.gone = revive(b, test, broke)
+        result.stopped = bool(result.gone)
     if test.group != WHOLE_RUN and result.verdict not in (SKIPPED, NOT_APPLICABLE):
         b.ran.add(test.id)
     b.result = None
@@ -164,11 +166,14 @@ def revive(b: Bench, test: Test, broke: Broke) -> str:
     """Starts a stack that broke in a test again, for the tests behind it; why that can't be, if so."""
     b.silence()
     b.events.append((b.now(), ("stop",)))
+    for link in b.links.values():
+        link.over = len(b.frames)
     try:
         broke.again()
     except Gone as why:
         return f"{str(why).partition(chr(10))[0]}; the last time in {test.id}: {str(broke).partition(chr(10))[0]}"
     b.events.append((b.now(), ("start",)))
+    b.left.clear()
     b.broke.append(test.id)
     return ""
 
@@ -189,6 +194,8 @@ def judge(b: Bench, result: Result, flood: Flood = Flood()) -> None:
     if flood.text:
         result.stuck = result.stuck or flood.hides
         result.notes.append(flood.text)
+    if result.stopped and excused(b, result, flood.text):
+        result.stopped = False
     if result.verdict == FAIL:
         blame(b, result, failed, flood.text if flood.hides else "")
         result.why += f". Beside it, {flood.text}" if flood.text and not flood.hides else ""
@@ -223,6 +230,10 @@ class CameToNothing(Exception):
     """Tests in turn came to nothing for one reason; the text says which."""
 
 
+class StoppedForGood(Exception):
+    """The device ends the run: it carried, and carries no more, or a stack in memory broke too often; the text says which."""
+
+
 # After so many tests in turn that can't begin, or in a flood, a run ends: each of them takes 9 s and more.
 IN_TURN = 5
 
@@ -233,20 +244,28 @@ def run_all(
     """Runs tests in order; `say` gets each result. Where an interface is gone, no other test is run; nor, unless it `goes_on`, behind IN_TURN that
     came to nothing, but for those that look at all frames of the run."""
     results: list[Result] = []
-    ends = ""
+    ends: Optional[Exception] = None
     for test in tests:
         if ends and test.group != WHOLE_RUN:
             continue
         results.append(run_times(b, test, claimed, repeat))
         say(results[-1])
         if results[-1].gone:
-            raise Gone(results[-1].gone)
+            raise (StoppedForGood if results[-1].stopped else Gone)(results[-1].gone)
         last = results[-IN_TURN:]
         if not goes_on and not ends and len(last) == IN_TURN and all(it.stuck for it in last):
-            ends = f"{IN_TURN} tests in turn came to nothing, and others would not go better (--keep-going runs them): {last[-1].why}"
+            ends = nothing_goes(b, last)
     if ends:
-        raise CameToNothing(ends)
+        raise ends
     return results
+
+
+def nothing_goes(b: Bench, last: Sequence[Result]) -> Exception:
+    """Why these tests in turn came to nothing: by the device, where it carried before, on links that are there still."""
+    text = f"{IN_TURN} tests in turn came to nothing, and others would not go better (--keep-going runs them): {last[-1].why}"
+    if dead := b.wire.without_carrier():
+        return CameToNothing(f"{text}. There is no carrier on {', '.join(dead)}")
+    return (StoppedForGood if all(it.stopped for it in last) else CameToNothing)(text)
 
 
 def run_times(b: Bench, test: Test, claimed: Optional[Mapping[str, bool]], repeat: int) -> Result:
@@ -255,7 +274,7 @@ def run_times(b: Bench, test: Test, claimed: Optional[Mapping[str, bool]], repea
     while len(found) < repeat and not (found and found[-1].gone):
         found.append(run_one(b, test, claimed))
     result = min(found, key=lambda it: WORST.index(it.verdict))
-    result.gone = found[-1].gone
+    result.gone, result.stopped = found[-1].gone, found[-1].stopped
     if len(found) > 1:
         result.times = {verdict: count for verdict in WORST if (count := sum(it.verdict == verdict for it in found))}
         result.notes.append(f"of {len(found)} runs: {', '.join(f'{count} {verdict}' for verdict, count in result.times.items())}")

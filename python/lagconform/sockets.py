@@ -20,7 +20,7 @@ from niwhopera import Mac
 
 from .model import NotHere
 from .pdus import BROADCAST_TYPE, DATA, GROUP, SENDERS, SLOW
-from .refusals import Refused, read_file
+from .refusals import Refused, asked, read_file
 from .wires import Answer, Arrival, Gone
 
 # Numbers of Linux that the socket module does not name.
@@ -198,6 +198,11 @@ class PacketWire:
                 seconds, nanoseconds = struct.unpack("=qq", stamp)
                 return min(now, max(now - 1.0, float(seconds) + float(nanoseconds) / 1e9 + ahead))
         return now
+
+    def without_carrier(self) -> Sequence[str]:
+        """The interfaces that are down, or without carrier, now."""
+        told = {name: asked(name) for name in self.names}
+        return [name for name, it in told.items() if not it or not it.is_up or not it.has_carrier]
 
     def flap(self, link: int, up: bool) -> None:
         """Takes our interface down or up, which wants CAP_NET_ADMIN."""

@@ -78,6 +78,9 @@ class Wire(Protocol):
     def received(self, link: int) -> int:
         """How many frames have come on a link since ever, those too that no test looks at."""
 
+    def without_carrier(self) -> Sequence[str]:
+        """The interfaces that are down, or without carrier, now."""
+
     def flap(self, link: int, up: bool) -> None:
         """Takes our own end of a link down or up."""
 

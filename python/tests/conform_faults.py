@@ -371,6 +371,106 @@ class LinkUnseen(Device):
         pass
 
 
+class Mute(Device):
+    """Says nothing, and hears nothing, on some ports for a time."""
+
+    def __init__(self) -> None:
+        super().__init__()
+        # By port, until when.
+        self.mute: dict[int, float] = {}
+
+    def is_mute(self, port: int) -> bool:
+        """Whether it says and hears nothing on a port now."""
+        return self.now < self.mute.get(port, 0.0)
+
+    def hears(self, port: int, frame: bytes) -> Iterable[bytes]:
+        yield from [] if self.is_mute(port) else [frame]
+
+    def says(self, port: int, frame: bytes) -> Iterable[bytes]:
+        yield from [] if self.is_mute(port) else [frame]
+
+
+class BackTooLate(Mute):
+    """Is mute for 12 s behind each time that link 1 comes up."""
+
+    finds = "RX-13"
+
+    def link(self, port: int, up: bool) -> None:
+        super().link(port, up)
+        if up and port == 1:
+            self.mute[port] = self.now + 12
+
+
+class NeverBack(Mute):
+    """Is mute for good on a link that was down."""
+
+    finds = "RX-13"
+
+    def link(self, port: int, up: bool) -> None:
+        super().link(port, up)
+        self.mute[port] = 1e9
+
+
+class StartsTooLate(Mute):
+    """Is mute for 60 s behind each start but the first one."""
+
+    finds = "RX-15"
+
+    def start(self) -> None:
+        super().start()
+        if self.now:
+            self.mute = {port: self.now + 60 for port in self.links}
+
+
+class SleepsOnDefaults(Mute):
+    """Is mute for 20 s each time that it falls back to defaults."""
+
+    finds = "MX-06"
+
+    def __init__(self) -> None:
+        super().__init__()
+        self.was_defaulted: dict[int, bool] = {}
+
+    def ticked(self) -> None:
+        for port in self.links:
+            if self.on.defaulted(port) and not self.was_defaulted.get(port, True):
+                self.mute[port] = self.now + 20
+            self.was_defaulted[port] = self.on.defaulted(port)
+
+
+class MuteBesideNew(Mute):
+    """Is mute for 6 s beside a partner that comes later, and is not in sync."""
+
+    finds = "RX-09"
+
+    def __init__(self) -> None:
+        super().__init__()
+        self.partner = b""
+
+    def took(self, port: int, frame: bytes) -> None:
+        new = part(frame, 6, 6)
+        if port == 1 and is_lacpdu(frame) and new != self.partner:
+            if self.partner and not frame[32] & SYNC:
+                self.mute[port] = self.now + 6
+            self.partner = new
+
+
+class MuteBesideTwo(Mute):
+    """Says nothing on any link for 12 s once its links have two partners."""
+
+    finds = "SL-03"
+
+    def __init__(self) -> None:
+        super().__init__()
+        self.partners: dict[int, bytes] = {}
+
+    def took(self, port: int, frame: bytes) -> None:
+        if is_lacpdu(frame):
+            self.partners[port] = part(frame, 6, 6)
+        if len(set(self.partners.values())) > 1 and not self.mute:
+            self.mute = dict.fromkeys(self.links, self.now + 12)
+
+
 ROWS += [
     *faults(
         FieldUnchecked, "field",

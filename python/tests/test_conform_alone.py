@@ -10,7 +10,7 @@ from typing import Iterator, Optional, Sequence, Type
 
 import pytest
 from conform_device import Device, World
-from conform_faults import SecondPartnerKey, WrongEcho
+from conform_faults import KeyUnchecked, NeverBack, SecondPartnerKey, StartsTooLate, WrongEcho
 from test_conform_kinds import Bridge, JoinsKeys
 from test_conform_right import NoIndividual
 
@@ -98,6 +98,26 @@ def test_a_run_that_is_resumed_comes_to_what_a_whole_one_does(run, whole: dict[s
     assert again >= {it.id for it in TESTS if it.group == WHOLE_RUN} | {"SL-03"} and "SL-01" not in again
 
 
+def test_a_resumed_run_keeps_the_verdicts_of_tests_that_it_was_not_asked_for(run, tmp_path: Path, capsys: pytest.CaptureFixture[str]) -> None:  # type: ignore[no-untyped-def]
+    assert run(KeyUnchecked, "--only", "FM-*", "--only", "RX-07c", "--only", "IV-0[23]", "--only", "RX-14", "--json", "r.json") == 1
+    capsys.readouterr()
+    assert run(KeyUnchecked, "--only", "MK-*", "--resume", "r.json", "--json", "r.json", "--junit", "r.xml") == 1
+    said = capsys.readouterr().out
+    assert said.startswith("13 tests on 3 links\nfail           RX-07c ") and "\n24 pass, 1 fail, 1 not applicable. " in said
+    told = json.loads((tmp_path / "r.json").read_text())
+    kept = [f"FM-0{it}" for it in range(1, 10)] + ["RX-07c", "RX-14"], ["IV-02", "IV-03"]
+    assert [it["id"] for it in told["tests"] if "of the run in r.json" in it["notes"]] == [*kept[0], *kept[1]]
+    assert len(told["tests"]) == 26 and told["tests"][-1]["id"] == "IV-03" and (tmp_path / "r.xml").read_text().count("<testcase ") == 26
+    assert run(KeyUnchecked, "--only", "MK-01", "--not", "RX-*", "--resume", "r.json", "--json", "s.json") == 0
+    assert len(json.loads((tmp_path / "s.json").read_text())["tests"]) == 24
+    told["tests"][0]["verdict"] = INCONCLUSIVE
+    (tmp_path / "r.json").write_text(json.dumps(told))
+    assert run(KeyUnchecked, "--only", "MK-01", "--not", "RX-07c", "--resume", "r.json", "--json", "s.json") == 0
+    assert json.loads((tmp_path / "s.json").read_text())["counts"][INCONCLUSIVE] == 1
+    assert run(KeyUnchecked, "--only", "FM-01", "--not", "RX-07c", "--resume", "r.json", "--json", "s.json") == 0
+    assert json.loads((tmp_path / "s.json").read_text())["counts"][INCONCLUSIVE] == 0
+
+
 def test_a_resumed_run_looks_at_its_own_frames_too(run, tmp_path: Path) -> None:  # type: ignore[no-untyped-def]
     assert run(Device, "--only", "IV-*", "--only", "FM-01", "--json", "one.json") == 0
     told = json.loads((tmp_path / "one.json").read_text())
@@ -155,6 +175,54 @@ def carries(b: Bench) -> None:
     b.up(limit=5)
     b.holds(b.carries(), "it carries", b.frame())
 '''
+
+
+# Two tests that take the link down and up, and ask what they know of it then.
+FLAPS = '''
+from lagconform.bench import Bench
+from lagconform.model import Group
+
+group = Group("LAB", "Of our lab", basis="our lab")
+
+
+def flap(b: Bench, down: str, up: str, *link: str) -> None:
+    b.up(1)
+    b.hook(down, *link)
+    b.wait(0.5)
+    b.hook(up, *link)
+    b.wait(0.5)
+
+
+@group.test("01", "6.4.12", "It carries again", "take the link down", rule="it carries again", takes=10, hooks=("down", "up"))
+def link(b: Bench) -> None:
+    """A link that comes back carries again."""
+    flap(b, "down", "up", "1")
+    b.until(8, lambda: b.carries(1) and b.names_us(1))
+    b.claim(b.carries(1), "it says that it carries")
+
+
+@group.test("02", "6.4.12", "It carries again behind a start", "have it start", rule="it carries again", takes=10, hooks=("stop", "start"))
+def start(b: Bench) -> None:
+    """A device that starts anew carries again."""
+    flap(b, "stop", "start")
+    b.until(8, lambda: b.carries(1) and b.names_us(1))
+    b.claim(b.carries(1), "it says that it carries")
+
+
+@group.test("03", "6.4.12", "The link is up still", "take the link down", rule="it carries again", takes=10, hooks=("down", "up"))
+def stays(b: Bench) -> None:
+    """What is up still carries beside a right partner."""
+    flap(b, "down", "up", "1")
+    b.still_up()
+    b.claim(b.carries(1), "it says that it carries")
+'''
+
+
+@pytest.mark.parametrize("kind, status, verdicts", [(Device, 0, [PASS] * 3), (NeverBack, 1, [FAIL, INCONCLUSIVE, INCONCLUSIVE]), (StartsTooLate, 1, [PASS, FAIL, INCONCLUSIVE])])
+def test_what_a_device_told_before_its_link_went_down_is_no_answer(run, kind: Type[Device], status: int, verdicts: list[str], tmp_path: Path) -> None:  # type: ignore[no-untyped-def]
+    (tmp_path / "lab.py").write_text(FLAPS)
+    assert run(kind, "--tests", "lab.py", "--only", "LAB-*", "--json", "r.json") == status
+    assert [it["verdict"] for it in json.loads((tmp_path / "r.json").read_text())["tests"]] == verdicts
 
 
 def test_tests_of_ones_own_run_beside_those_of_the_bench(run, tmp_path: Path, capsys: pytest.CaptureFixture[str]) -> None:  # type: ignore[no-untyped-def]

@@ -18,7 +18,7 @@ from typing import Any, Iterator, Sequence, Type
 
 import pytest
 from conform_device import Device, Individual, LongTimeouts, World, beside
-from conform_faults import KeyUnchecked, NoWait, SystemUnchecked
+from conform_faults import CutOff, KeyUnchecked, NoWait, SystemUnchecked
 from conform_frames import NoMarkers
 from niwhopera import __version__
 
@@ -175,6 +175,7 @@ def test_a_run_that_breaks_reports_what_ran(run, why: Exception, tmp_path: Path,
 
     monkeypatch.setattr(report, "line", line)
     assert run(Device, "--only", "FM-*", "--json", "r.json") == 2
+    assert run(CutOff, "--only", "FM-*") == 1  # FM-02 failed before
     assert "it broke; the reports have what was run" in capsys.readouterr().err
     assert json.loads((tmp_path / "r.json").read_text())["counts"]["pass"] == 3
 

@@ -7,12 +7,13 @@ import os
 import re
 import shutil
 import subprocess
+import sys
 import xml.etree.ElementTree as xml
 from contextlib import ExitStack
 from dataclasses import replace
 from pathlib import Path
 from textwrap import dedent, indent
-from typing import Iterable, Iterator, Type
+from typing import Iterable, Iterator, Sequence, Type
 
 import pytest
 from conform_device import Device, World, beside, put
@@ -25,7 +26,8 @@ from lagconform.bench import Bench
 from lagconform.edition import edition
 from lagconform.groups import TESTS
 from lagconform.model import CAVEAT, FAIL, INCONCLUSIVE, NOT_APPLICABLE, PASS, SKIPPED, SURE, Claim, Result
-from lagconform.runner import IN_TURN, CameToNothing, Flood, judge, meet, ordered, run_all, run_times
+from lagconform.runner import IN_TURN, CameToNothing, Flood, StoppedForGood, judge, meet, ordered, run_all, run_times
+from lagconform.wires import Answer
 
 BY_NAME = {it.id: it for it in TESTS}
 # What stands behind the counts in the last line.
@@ -368,11 +370,72 @@ def test_a_stack_that_raises_fails_the_test_and_begins_again(stack, tmp_path: Pa
 def test_a_stack_that_breaks_too_often_ends_its_run(stack, tmp_path: Path, monkeypatch: pytest.MonkeyPatch, capsys: pytest.CaptureFixture[str]) -> None:  # type: ignore[no-untyped-def]
     monkeypatch.setattr(memory, "MOST_STARTS", 2)
     words = [*(f"--only={it}" for it in ("FM-01", "VN-11", "VN-12", "VN-14", "MK-*")), "--junit", "r.xml", "--repeat", "2"]
-    assert stack("def hears(self, port, frame):\n    assert frame[17] == 20\n    return super().hears(port, frame)\n", *words) == 2
+    assert stack("def hears(self, port, frame):\n    assert frame[17] == 20\n    return super().hears(port, frame)\n", *words) == 1
     said = capsys.readouterr()
+    assert said.err.endswith("lagconform: the device ended the run, which is a fail of the device\n")
     assert "the stack broke 3 times, and is not started again; the last time in" in said.err and "the reports have what was run" in said.err
     suites = xml.parse(tmp_path / "r.xml").getroot()
     assert [it.get("type") for it in suites.iter("error")] == ["the run ended early"] and suites.get("failures") == "2"
+
+
+# Says nothing more from its second 20 on.
+ENDS = "def says(self, port, frame):\n    yield from [frame] if self.now < 20 else []\n"
+
+
+def test_a_device_that_stops_for_good_fails_its_run(stack, tmp_path: Path, capsys: pytest.CaptureFixture[str]) -> None:  # type: ignore[no-untyped-def]
+    assert stack(ENDS, "--only", "FM-*", "--only", "RX-0[1-9]*", "--json", "r.json", "--tap", "r.tap") == 1
+    said, told = capsys.readouterr(), json.loads((tmp_path / "r.json").read_text())
+    assert said.err.endswith("lagconform: the device ended the run, which is a fail of the device\n")
+    assert "5 tests in turn came to nothing" in told["about"]["incomplete"], told["about"]
+    assert told["counts"]["fail"] == 0 and told["counts"]["pass"] > 0, told["counts"]
+
+
+class Unplugged(World):
+    """Its link has no carrier in the end."""
+
+    def without_carrier(self) -> Sequence[str]:
+        return ["link1"]
+
+
+class Full(World):
+    """A machine that drops frames."""
+
+    def drops(self) -> int:
+        return 3
+
+
+class NoStart(World):
+    """Its hook ends the device, and does not start it."""
+
+    def call(self, words: Sequence[str]) -> memory.Done:
+        return memory.Done(Answer(1, "no")) if words[0] == "start" else super().call(words)
+
+
+class Mute(Device):
+    """Says nothing more once its links were up for a while."""
+
+    def may_send(self) -> bool:
+        return self.now < 10
+
+
+class Uncarrying(Device):
+    """Never carries."""
+
+    def says(self, port: int, frame: bytes) -> Iterable[bytes]:
+        yield put(frame, 18, bytes([frame[32] & 0x0F]))
+
+
+@pytest.mark.parametrize("kind, world, ends, why", [
+    (Mute, World, StoppedForGood, "no LACPDU of the device was heard|does not carry"), (Mute, Full, CameToNothing, ""),
+    (Mute, Unplugged, CameToNothing, "There is no carrier on link1$"), (Uncarrying, World, CameToNothing, "does not carry"),
+    (Device, NoStart, CameToNothing, "no LACPDU of the device was heard on link 1 since it was taken down, or the device ended"),
+])  # fmt: skip
+def test_only_a_device_that_carried_is_to_blame_for_tests_that_come_to_nothing(kind: Type[Device], world: Type[World], ends: Type[Exception], why: str) -> None:
+    wire = world(kind())
+    with beside(wire, wire) as b:
+        meet(b)
+        with pytest.raises(ends, match=why):
+            run_all(b, [BY_NAME[it] for it in ("FM-01", "RX-15", "RX-02", "RX-03", "RX-05", "RX-06", "RX-16", "RX-17", "RX-18", "RX-14")], lambda _: None)
 
 
 @pytest.mark.skipif(not EXAMPLES.exists(), reason="no examples")
@@ -461,7 +524,7 @@ HANGS = """def {name}(self, *words):
 def test_a_stack_in_python_that_goes_on_to_hang_ends_its_run(stack, name: str, when: str, why: str, tmp_path: Path, capsys: pytest.CaptureFixture[str], monkeypatch: pytest.MonkeyPatch) -> None:  # type: ignore[no-untyped-def]
     monkeypatch.setattr(child, "CALL_SECONDS", 0.5)
     monkeypatch.setattr(memory, "MOST_STARTS", 1)
-    assert stack(HANGS.format(name=name, when=when), "--only", "FM-*", "--only", "RX-*", "--junit", "r.xml", "--tap", "r.tap") == 2
+    assert stack(HANGS.format(name=name, when=when), "--only", "FM-*", "--only", "RX-*", "--junit", "r.xml", "--tap", "r.tap") == (2 if name == "start" else 1)
     said = capsys.readouterr()
     assert f"the stack hangs {why}: no return in 0.5 s" in said.err
     assert name == "start" or f"the stack hangs {why}: no return in 0.5 s; has to go on" in said.out
@@ -502,10 +565,20 @@ def broken(folder: Path, line: str, other: str) -> str:
     """The example in C with another line, as a shared library."""
     text = (EXAMPLES / "device.c").read_text()
     assert line in text
-    (folder / "broken.c").write_text(f"#include <unistd.h>\n{text.replace(line, other)}")
+    (folder / "broken.c").write_text(f"#include <stdio.h>\n#include <unistd.h>\n{text.replace(line, other)}")
     made = str(folder / "broken.so")
     subprocess.run(["cc", "-shared", "-fPIC", f"-I{HEADER}", f"-I{EXAMPLES}", "-o", made, str(folder / "broken.c"), os.environ["NIWHOPERA_LIBRARY"]], check=True)
     return made
+
+
+@needs_library
+def test_what_a_library_prints_stands_before_the_line_of_its_test(tmp_path: Path) -> None:
+    begin = "    uint8_t response[NIW_FRAME];\n"
+    made = broken(tmp_path, begin, f'{begin}    static int count;\n    if (count++ == 0)\n        puts("it takes a frame");\n')
+    given = {it: text for it, text in os.environ.items() if it != "PYTHONUNBUFFERED"}
+    line = [sys.executable, "-m", "lagconform", "--memory", made, "--only", "FM-01"]
+    ended = subprocess.run(line, env={**given, "PYTHONPATH": str(Path(__file__).parents[1])}, capture_output=True, text=True, timeout=60, check=False)
+    assert ended.returncode == 0 and ended.stdout.startswith("it takes a frame\n1 test on 3 links\npass "), ended
 
 
 @needs_library
@@ -532,6 +605,9 @@ def test_a_library_that_breaks_at_its_start_is_refused(fault: str, why: str, tmp
     made = str(tmp_path / "broken.so")
     subprocess.run(["cc", "-shared", "-fPIC", "-o", made, str(tmp_path / "broken.c")], check=True)
     assert command.main(["--memory", made]) == 2 and f"the stack {why}" in capfd.readouterr().err
+    (tmp_path / "broken.c").write_text(f"__attribute__((constructor)) static void begin(void) {{ {fault}; }}\n")
+    subprocess.run(["cc", "-shared", "-fPIC", "-o", made, str(tmp_path / "broken.c")], check=True)
+    assert command.main(["--memory", made]) == 2 and f"the stack {why.partition(' in ')[0]}" in (said := capfd.readouterr().err) and " as it was loaded" in said
     (tmp_path / "broken.c").write_text("void device_start(void) { }\n")
     subprocess.run(["cc", "-shared", "-fPIC", "-o", made, str(tmp_path / "broken.c")], check=True)
     assert command.main(["--memory", made]) == 2 and "has no device_take" in capfd.readouterr().err

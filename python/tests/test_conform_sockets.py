@@ -89,8 +89,9 @@ try:
 except NotHere as told:
     assert str(told) == "--flap wants CAP_NET_ADMIN and ip"
 os.environ["PATH"] = path
+assert wire.without_carrier() == []
 wire.flap(1, False)
-assert not wire.send(1, frame)
+assert not wire.send(1, frame) and wire.without_carrier() == ["one", "two"]
 wire.wait(0.1)
 held = socket.socket(socket.AF_PACKET, socket.SOCK_RAW, socket.htons(0x8809))
 held.bind(("two", 0x8809))

@@ -135,6 +135,9 @@ def wait_together(b: Bench) -> None:
         return pdu.partner.system == b.partner(1).me.system and pdu.actor.state & State.SYNCHRONIZATION != 0
 
     one, two = b.first(1, mark, ours, 6), b.first(2, mark, ours, 4)
+    if silent := [it for it in (1, 2) if not next(b.heard(it, mark), None)]:
+        b.claim(False, f"no LACPDU came on link {' and '.join(map(str, silent))} beside a partner that speaks; both have to be synchronized")
+        return
     if not one or not two:
         raise Stop(f"not both links are synchronized: {bool(one)}, {bool(two)}")
     b.timed("link 1 is synchronized", sent, one, 3.5, 3.5, timer=True)

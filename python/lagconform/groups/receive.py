@@ -7,7 +7,7 @@ from typing import Any
 
 from niwhopera import Info, Lacpdu, Mac, PortId, State, SystemId
 
-from ..bench import PROMPT, SOON, TIMERS, Bench
+from ..bench import PROMPT, QUIET, SOON, TIMERS, Bench
 from ..model import DoesNotApply, Group, Run, Stop
 from ..pdus import CARRIES, NOBODY, SIX, end, other, other_octet, six
 
@@ -118,7 +118,8 @@ def out_of_sync(b: Bench) -> None:
     b.wait(5)
     wrong = list(b.heard(1, mark, lambda pdu: pdu.partner.system == partner.me.system and pdu.actor.state & CARRIES))
     b.holds(not wrong, "it neither collects nor distributes", *wrong[:3])
-    b.holds(b.bits() & State.SYNCHRONIZATION, "it is synchronized itself", b.frame())
+    last = [*b.heard(1, mark)][-1:]
+    b.holds(last and b.bits() & State.SYNCHRONIZATION, "it is synchronized itself", *last)
 
 
 @group.test("10", "6.4.9 (recordPDU)", "A passive partner that knows that the device is active",
@@ -252,6 +253,10 @@ def other_bits(b: Bench) -> None:
             b.until(4, lambda: b.carries() and b.names_us())
 
 
+# So many seconds a device is given to carry again behind a link that was down.
+AGAIN = 6
+
+
 @group.test("13", "6.4.12 (PORT_DISABLED)", "The link goes down and comes back", "carry", "take the link down for 1.5 s (--flap, or the hook)",
             rule="the first LACPDU after it neither collects nor distributes, and is Expired or Defaulted if the device speaks first; it carries again within 6 s",
             takes=5, hooks=("down", "up"), causes=("RX-02",))  # fmt: skip
@@ -264,17 +269,19 @@ def link_down(b: Bench) -> None:
     b.silence()
     mark = b.mark()
     b.link_goes(1, True)
+    up = b.now()
     seen = first = b.first(1, mark, lambda _: True, 4)
     b.partner().speak()
     if not first:  # a passive device speaks when it is spoken to
-        seen = b.first(1, mark, lambda _: True, 4)
+        seen = b.first(1, mark, lambda _: True, AGAIN)
     if not seen or not seen.lacpdu:
-        raise Stop("no LACPDU after the link came back")
+        b.claim(False, f"no LACPDU came in {b.now() - up:.0f} s after the link came back; has to carry again within {AGAIN} s")
+        return
     told = seen.lacpdu.actor
     b.holds(not told.state & CARRIES, f"the first one does not carry: {end(told)}", seen)
     if first:
         b.holds(told.state & (State.EXPIRED | State.DEFAULTED), "and is Expired (or on defaults)", seen)
-    again = b.first(1, mark, carries, 6)
+    again = b.first(1, mark, carries, AGAIN)
     b.holds(again, "it carries again", again)
 
 
@@ -290,9 +297,10 @@ def begins(b: Bench) -> None:
         b.wait(0.3)
     mark = b.mark()
     b.hook("start")
-    first = b.first(1, mark, lambda _: True, 35)
+    first = b.first(1, mark, lambda _: True, QUIET)
     if not first or not first.lacpdu:
-        raise Stop("no LACPDU after the start")
+        b.claim(False, f"no LACPDU came in {QUIET:g} s after the start; has to carry within 9 s")
+        return
     b.until(9, lambda: b.carries() and b.names_us())
     after = [it for it in b.heard(1, mark) if it.time <= first.time + 1]
     wrong = [it for it in after if it.lacpdu and it.lacpdu.actor.state & (State.SYNCHRONIZATION | CARRIES)]

@@ -88,7 +88,7 @@ def apart(b: Bench, seconds: float = PARTED, one: bool = True) -> None:
         told = "; ".join(f"link {it}: {end(b.device(it).actor)}" for it in (1, 2))
         b.claim(True, f"after {seconds:g} s it does not carry on both: {told}", *frames)
         if one:
-            b.holds(b.carries(1) or b.carries(2), "it carries on one", *frames)
+            b.holds(any(b.carries(it) and b.names_us(it) for it in (1, 2)), "it carries on one", *frames)
         return
     b.note("both links carry by their LACPDUs: in one aggregator, or in two")
     try:
