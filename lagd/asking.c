@@ -8,6 +8,7 @@
 #define PATIENCE 2000 /* milliseconds that a daemon may take for its answer */
 #define MOST_DAEMONS 256
 #define MOST_ANSWERED 8388608 /* octets of the answer of each */
+#define PART_OF_ANSWER 65536  /* for which room is made at a time */
 
 struct daemon {
     char path[512];
@@ -97,17 +98,18 @@ static bool is_refusal(struct process *process, const char *path, const char *te
 
 /* Reads until the daemon ends the connection; NULL where it does not in time, or refuses, as a line says. */
 static char *read_answer(struct process *process, int fd, const char *path) {
-    char *whole = malloc(MOST_ANSWERED + 1);
-    size_t used = 0;
+    size_t size = PART_OF_ANSWER, used = 0;
+    char *whole = malloc(size + 1);
     ssize_t got = 1;
-    if (!whole) stop(REFUSED, "no memory", "for an answer");
-    while (got > 0 && used < MOST_ANSWERED && poll(&(struct pollfd){fd, POLLIN, 0}, 1, PATIENCE) == 1) {
-        got = recv(fd, whole + used, MOST_ANSWERED - used, 0);
+    while (whole && got > 0 && used < MOST_ANSWERED && poll(&(struct pollfd){fd, POLLIN, 0}, 1, PATIENCE) == 1) {
+        got = recv(fd, whole + used, size - used, 0);
         if (got > 0) used += (size_t)got;
+        if (used == size) whole = realloc(whole, (size += PART_OF_ANSWER) + 1);
     }
+    if (!whole) stop(REFUSED, "no memory", "for an answer");
     whole[used] = 0;
     bool refused = is_refusal(process, path, whole);
-    if (!refused && got == 0 && used > 0) return realloc(whole, used + 1);
+    if (!refused && got == 0 && used > 0) return whole;
     if (!refused) complain(process, "%s: its daemon does not answer", path);
     free(whole);
     return NULL;

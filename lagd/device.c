@@ -165,12 +165,10 @@ static void set_up(struct device *own, const uint8_t *mac) {
     CALL(own->plane->passing->set_up_device, own->number);
 }
 
-/* Takes the device that the last daemon left with the manager of services, whatever an administrator named it since, and the frames that
- * wait there unless they are old; answers whether there is one. */
+/* Takes the device that the last daemon left with the manager of services, whatever an administrator named it since; answers whether there is one. */
 static bool take_stored(struct device *own, const char *name) {
     const struct inherited *inherited = own->process->inherited;
     struct ifreq device = {0};
-    uint8_t scrap[ETH_HLEN];
     int fd = claim_stored(own->process->store, "tap", 0);
     if (fd < 0) return false;
     own->number = is_here(fd, &device) ? (int)if_nametoindex(device.ifr_name) : 0;
@@ -179,7 +177,6 @@ static bool take_stored(struct device *own, const char *name) {
         return false;
     }
     own->tap = fd;
-    for (unsigned i = 0; !was_away_briefly(inherited) && i < 2 * HOST_QUEUE && read(fd, scrap, sizeof scrap) > 0; i++) continue;
     return true;
 }
 
@@ -206,14 +203,17 @@ static bool make_tap(struct device *own, const char *name) {
     return before == (unsigned)own->number && own->number == inherited->tap;
 }
 
-/* Opens the device. Its carrier stays where the data of the last daemon goes on. */
+/* Opens the device. Its carrier stays where the data of the last daemon goes on, and so do frames that wait there, unless they are old. */
 int open_tap(struct device *own, const char *name, const uint8_t *mac) {
     own->asker = socket(AF_UNIX, SOCK_DGRAM | SOCK_CLOEXEC, 0);
     if (own->asker < 0) stop(REFUSED, "no TAP device", strerror(errno));
-    bool was_stored = take_stored(own, name);
-    bool goes_on = was_stored ? own->number == own->process->inherited->tap : make_tap(own, name);
+    const struct inherited *inherited = own->process->inherited;
+    uint8_t scrap[ETH_HLEN];
+    bool was_stored = take_stored(own, name), goes_on = was_stored ? own->number == inherited->tap : make_tap(own, name);
     own->carrier = true; /* which older kernels set of a device that is made */
     if (!was_stored || !goes_on || !own->process->resuming) set_carrier(own, false);
+    bool is_old = was_stored && !was_away_briefly(inherited);
+    for (unsigned i = 0; is_old && i < 2 * HOST_QUEUE && read(own->tap, scrap, sizeof scrap) > 0; i++) continue;
     if (goes_on)
         go_on_with_tap(own);
     else

@@ -42,7 +42,7 @@ enum { /* the statuses of a port: those of the library, and from here on what it
 enum { DONE = 0, REFUSED = 1, WRONG_WORD = 2 }; /* how the program ends */
 
 #define MOST_TAKEN 64 /* frames, or messages of the kernel, that are taken of a socket in a turn, so that no flood stops the clock */
-#define MOST_LINES 10 /* of a port, or of the bundle, that time and frames cause, beside one for each change of a link; one more each second */
+#define MOST_LINES 10 /* of a port, or of the bundle, that time and frames may cause at once; one more each second. Each change of a link has its line */
 #define SECOND 10     /* in ticks */
 #define MOST_LACPDUS 3 /* of a port within a second (IEEE 802.1AX-2014, 6.4.16) */
 #define TIMER_SLACK 1 /* nanoseconds too long that the kernel may let the daemon sleep: hardly longer than frames are to gather (main.c) */

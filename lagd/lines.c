@@ -6,7 +6,7 @@
 #include <sys/un.h>
 
 #define LONGEST_LINE 512 /* a pipe with room has at least so many octets of it */
-#define LONGEST_TEXT 400 /* of a line, as it is written */
+#define LONGEST_TEXT 400 /* octets of the text of a line */
 
 #define KIND_ID(kind, value, id) [(value) / ABOUT_PORT] = id,
 static const char *const MESSAGE_IDS[KINDS / ABOUT_PORT + 1] = {EACH_KIND(KIND_ID)};

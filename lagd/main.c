@@ -17,8 +17,8 @@
 
 #define MOST_EVENTS TAGS /* of a turn */
 #define MOST_TICKS 10    /* that are made up after a stall: what comes in then is new, and time goes on from there */
-#define MANY 32          /* after a turn with so many frames the next ones gather */
-#define GATHERS 50000    /* for so many nanoseconds */
+#define MANY 32          /* frames of a turn, after which the next ones gather */
+#define GATHERS 50000    /* nanoseconds for which they do */
 #define END_TICKS 15     /* for which the peers are told of the end at most */
 
 /* Waits for a file descriptor, too; answers whether the kernel takes it. */

@@ -4,7 +4,7 @@
 #include <sys/un.h>
 
 #define MOST_OF_USER 24  /* connections of one user, so that none takes all of them */
-#define MOST_WATCHERS 16 /* of these, so that the others can ask */
+#define MOST_WATCHERS 16 /* connections of one user that watch, so that the others can ask */
 #define ROOTS_OWN 24     /* connections of all are for root alone */
 #define MOST_IN_TICK 20  /* connections are taken between two ticks, so that no flood takes the processor; the others wait in their order */
 #define LONGEST_NAME 64  /* of a bundle in the name of its socket: an address has no more room */

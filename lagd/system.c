@@ -111,7 +111,7 @@ void send_due(struct protocol *protocol) {
         if (due >> i & 1) send_due_of(protocol, &protocol->ports->links[i]);
 }
 
-/* Follows calls that may have changed anything of ports. */
+/* After calls that may have changed ports: what is due goes out, their views are read, and the plane looks at them again. */
 void settle_calls(struct protocol *protocol) {
     send_due(protocol);
     read_views(protocol);
