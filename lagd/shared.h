@@ -54,7 +54,8 @@ enum {
     GRE_OTHER = 0x4c07, /* another version, or bits with which the header may have another form */
 };
 
-/* A table of each: a row of a conversation, an entry of a member, and what is of the host. A daemon of another version may have made them. */
+/* A table of each: a row of a conversation, an entry of a member, and what is of the host. A daemon of another version may have made them. What is
+ * passed, passed up, overflowed, uncollected, unfit or of a wrong length is counted since the daemon took the count. */
 struct fast_row {
     uint64_t word;   /* below: the interface that the kernel sends on, or 0; above: segments that were left to the daemon, beyond which
                         a count runs over into nothing */

@@ -9,7 +9,9 @@
 #include <poll.h>
 #include <signal.h>
 #include <sys/file.h>
+#include <limits.h>
 #include <sys/prctl.h>
+#include <sys/syscall.h>
 
 /* It rises with each change of the file, and of what programs of the kernel share with the daemon. */
 #define FORM_VERSION 3
@@ -24,7 +26,7 @@
 #define COPIED_EVERY 10000
 /* How long a daemon that ends waits for who writes a copy, for the kernel to make who writes the last one, and for that one, in milliseconds. */
 #define MOST_COPYING 500
-/* The daemon has fewer files open. */
+/* The files of the daemon have lower numbers; one of whoever started it may have a higher one. */
 #define MOST_OPENED 4096
 /* A fault of a copy: who writes it waits for the disk. */
 #define HANGS (-ETIME)
@@ -223,6 +225,9 @@ static _Noreturn void run_copier(struct state *own, int told, pid_t daemon) {
     if (prctl(PR_SET_PDEATHSIG, SIGKILL) < 0 || getppid() != daemon) _exit(REFUSED);
     for (int fd = STDERR_FILENO + 1; fd < MOST_OPENED; fd++)
         if (fd != own->copy_folder && fd != told) close(fd);
+#ifdef SYS_close_range /* of Linux 5.9 */
+    (void)syscall(SYS_close_range, MOST_OPENED, UINT_MAX, 0);
+#endif
     sigemptyset(&none);
     sigprocmask(SIG_SETMASK, &none, NULL);
     remove_new(own);

@@ -130,7 +130,7 @@ static __always_inline int leave(struct fast_row *row, struct fast_host *host, c
     if (__sync_fetch_and_add(&host->left, 1) < MOST_LEFT) return GO_ON;
     __sync_fetch_and_add(&host->left, -1);
     add_to(&host->overflowed, 1);
-    add_to(&row->overflowed, counted->segments >> 32); /* the daemon takes it off: what only rises is the same where none came */
+    add_to(&row->overflowed, counted->segments >> 32); /* the daemon subtracts it from the word */
     if (counted->opaque) add_to(&row->opaque, -1ull);
     return LOSE;
 }

@@ -88,6 +88,6 @@ size_t make_team_hash(const struct settings *settings, struct sock_filter steps[
         memcpy(steps + count, part->steps, part->octets);
         count += part->octets / sizeof *steps;
     }
-    if (settings->hash != HASH_LAYER2) steps[0].k ^= settings->hash_seed;
+    if (count > 0 && settings->hash != HASH_LAYER2) steps[0].k ^= settings->hash_seed;
     return count;
 }
