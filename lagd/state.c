@@ -5,11 +5,11 @@
 #include "team/team.h"
 
 #include <dirent.h>
+#include <limits.h>
 #include <net/if.h>
 #include <poll.h>
 #include <signal.h>
 #include <sys/file.h>
-#include <limits.h>
 #include <sys/prctl.h>
 #include <sys/syscall.h>
 
