@@ -43,9 +43,10 @@ out/lib/liblag.so.0: c/lag.c $(HEADER) tools/library tools/library.py out/lib/ta
 	CC="$(CC)" CFLAGS="$(CFLAGS)" $(PYTHON) tools/library --from-c out/lib
 endif
 
-# The folder that the library is taken from, or none: another one makes it anew.
+# What the library is of: the folder that it is taken from, or a compiler and its words. Another one makes it anew.
+made_of := $(or $(LAG_FOLDER),$(CC) $(CFLAGS))
 out/lib/taken-from: FORCE
-	@mkdir -p out/lib; echo "$(LAG_FOLDER)" | cmp -s - $@ || echo "$(LAG_FOLDER)" > $@
+	@mkdir -p out/lib; echo "$(made_of)" | cmp -s - $@ || echo "$(made_of)" > $@
 
 FORCE:
 

@@ -31,8 +31,8 @@ def functions(path: str) -> list[tuple[int, str]]:
 class Built:
     """What is built, and where."""
 
-    def __init__(self, sources: Sources, folder: str, beside: bool) -> None:
-        self.sources, self.folder, self.beside = sources, folder, beside
+    def __init__(self, sources: Sources, folder: str, beside: bool, teamd: str = "") -> None:
+        self.sources, self.folder, self.beside, self.teamd = sources, folder, beside, teamd
         self.trees: dict[str, str] = {}
 
     def cache(self) -> list[str]:

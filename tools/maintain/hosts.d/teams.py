@@ -108,7 +108,9 @@ def judge(script: str, told: str) -> None:
 
 
 def program(built: Built, own: bool = False, **environment: str) -> str:
-    """The program, built once and copied: the next build takes the place of its tree."""
+    """The program, built once and copied: the next build takes the place of its tree; or the one that the command names."""
+    if built.teamd and not own and not environment:
+        return built.teamd
     kept = f"{built.folder}/teamd-{own}-{len(environment)}"
     if not os.path.exists(kept):
         told = built.tool("teamd", "--own" if own else "--program", **environment)
