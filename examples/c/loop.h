@@ -27,8 +27,9 @@ struct loop {
     struct { uint32_t when[RESPONSES]; unsigned oldest; } responses[PORTS + 1];
 };
 
-/* What the program gives. `chip_next`: the oldest frame to 01-80-C2-00-00-02 that waits, without its FCS and the tag of the chip; or NULL. Its octets stay
- * until the next `chip_next`. A port that is blocked passes control frames alone. `chip_flush` forgets what was learned on a LAG. */
+/* What the program gives. `chip_next`: the oldest frame to 01-80-C2-00-00-02 of subtype 1 or 2 (LACP, Marker) that waits, without its FCS and the tag of the
+ * chip; or NULL. Its octets stay until the next `chip_next`. A port that is blocked passes control frames alone. `chip_flush` forgets what was learned on a
+ * LAG. */
 static const uint8_t *chip_next(struct loop *here, uint16_t *port, size_t *length);
 static void chip_send(struct loop *here, uint16_t port, const uint8_t *frame, size_t length);
 static void chip_block(struct loop *here, uint32_t ports, bool blocked);
