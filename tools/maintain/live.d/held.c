@@ -2,6 +2,7 @@
  * conversation that gets many more frames than it may hold leaves room for the others. Each frame comes out with its octets and its time.
  *
  * It prints a line for each check that fails, and then 'held: N passed, M failed'; status 1 if one failed. */
+#define _GNU_SOURCE
 #include <stdio.h>
 #include <stdlib.h>
 #include <string.h>

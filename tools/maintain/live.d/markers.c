@@ -2,6 +2,7 @@
  * responses it takes, and what it says of a peer that answers late, or never.
  *
  * It prints a line for each check that fails, and then 'markers: N passed, M failed'; status 1 if one failed. */
+#define _GNU_SOURCE
 #include <net/ethernet.h>
 #include <stdio.h>
 #include <stdlib.h>

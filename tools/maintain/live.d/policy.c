@@ -8,6 +8,7 @@
  *     policy EVENTS SEED
  *
  * It prints a line for each kind of check that fails, and then 'policy: N passed, M failed'; status 1 if one failed. */
+#define _GNU_SOURCE
 #include <linux/if_packet.h>
 #include <stdio.h>
 #include <stdlib.h>
