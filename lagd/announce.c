@@ -17,37 +17,16 @@
 /* Of a neighbour advertisement with one option, and its parts. */
 enum { ADVERTISED_OCTETS = 32, HOP_LIMIT = 255, ADVERTISEMENT = 136, FROM_ROUTER = 0x80, OVERRIDES = 0x20, TARGET_LINK_ADDRESS = 2 };
 
-/* The most interfaces above the device: VLANs, those with MAC addresses of their own, and bridges of which one of these is a port. */
-#define MOST_ABOVE 64
 /* How many of these stand one above the other at most. */
 #define MOST_LEVELS 4
 
-/* An interface whose addresses are announced. The first one is the device. */
-struct place {
-    int index;
-    int bridge; /* the one of which it is a port, or what else has it, or 0 */
-    uint8_t mac[ETH_ALEN];
-    bool is_known, is_router; /* whether the kernel told what its IPv6 is, and that it is a router */
-};
-
-struct announce_private {
-    int sender; /* while it is announced */
-    struct place places[1 + MOST_ABOVE];
-    unsigned place_count;
-    unsigned announced; /* how many frames this announcement has so far */
-    unsigned times; /* how often it is still announced */
-    unsigned wait_ticks; /* until it is announced next */
-};
-
-MAKES_ROOM(announce)
-
 /* Sends a frame by an interface, as the host does: it comes from the device with the others. One that is not taken is lost, as on a wire. */
-static void send_from(struct announce_private *own, const struct place *place, const uint8_t *frame, size_t length) {
+static void send_from(struct announce *own, const struct announced_place *place, const uint8_t *frame, size_t length) {
     struct sockaddr_ll to = {.sll_family = AF_PACKET, .sll_ifindex = place->index};
     if (own->announced++ < MOST_ANNOUNCED) (void)sendto(own->sender, frame, length, 0, (struct sockaddr *)&to, sizeof to);
 }
 
-static void begin_frame(uint8_t *frame, const uint8_t *to, const struct place *from, uint16_t type) {
+static void begin_frame(uint8_t *frame, const uint8_t *to, const struct announced_place *from, uint16_t type) {
     memcpy(frame, to, ETH_ALEN);
     memcpy(frame + ETH_ALEN, from->mac, ETH_ALEN);
     frame[12] = (uint8_t)(type >> 8);
@@ -55,7 +34,7 @@ static void begin_frame(uint8_t *frame, const uint8_t *to, const struct place *f
 }
 
 /* A request for an address by who has it. */
-static void announce_ipv4(struct announce_private *own, const struct place *place, const uint8_t *address) {
+static void announce_ipv4(struct announce *own, const struct announced_place *place, const uint8_t *address) {
     static const uint8_t all[ETH_ALEN] = {0xff, 0xff, 0xff, 0xff, 0xff, 0xff}, request[] = {0, 1, 8, 0, ETH_ALEN, 4, 0, 1};
     uint8_t frame[ETH_HLEN + ARP_OCTETS] = {0}, *at = frame + ETH_HLEN;
     begin_frame(frame, all, place, ETH_P_ARP);
@@ -67,7 +46,7 @@ static void announce_ipv4(struct announce_private *own, const struct place *plac
 }
 
 /* An advertisement of an address to all nodes, which overrides what they know. */
-static void announce_ipv6(struct announce_private *own, const struct place *place, const uint8_t *address) {
+static void announce_ipv6(struct announce *own, const struct announced_place *place, const uint8_t *address) {
     static const uint8_t all[ETH_ALEN] = {0x33, 0x33, 0, 0, 0, 1}, all_nodes[16] = {0xff, 2, [15] = 1};
     static const uint8_t head[] = {0x60, 0, 0, 0, 0, ADVERTISED_OCTETS, IPPROTO_ICMPV6, HOP_LIMIT};
     uint8_t frame[ETH_HLEN + IPV6_OCTETS + ADVERTISED_OCTETS] = {0}, *ip = frame + ETH_HLEN, *at = ip + IPV6_OCTETS;
@@ -87,14 +66,14 @@ static void announce_ipv6(struct announce_private *own, const struct place *plac
     send_from(own, place, frame, sizeof frame);
 }
 
-static struct place *place_of(struct announce_private *own, int index) {
+static struct announced_place *place_of(struct announce *own, int index) {
     for (unsigned i = 0; i < own->place_count; i++)
         if (own->places[i].index == index) return &own->places[i];
     return NULL;
 }
 
 /* Whether an interface stands on one that is announced: what it sends goes by that. One of another namespace does not count. */
-static bool is_above(struct announce_private *own, const struct interface *interface) {
+static bool is_above(struct announce *own, const struct interface *interface) {
     bool on_one = strcmp(interface->kind, "vlan") == 0 || strcmp(interface->kind, "macvlan") == 0;
     if (on_one) return !interface->elsewhere && place_of(own, interface->below);
     for (unsigned i = 0; i < own->place_count; i++)
@@ -104,12 +83,12 @@ static bool is_above(struct announce_private *own, const struct interface *inter
 
 /* The kernel told of an interface, which may stand on those that are known. */
 static void read_place(const struct nlmsghdr *message, void *into) {
-    struct announce_private *own = into;
+    struct announce *own = into;
     struct interface interface = read_interface(message);
-    struct place *place = place_of(own, interface.index);
+    struct announced_place *place = place_of(own, interface.index);
     if (!place && interface.has_mac && own->place_count < 1 + MOST_ABOVE && is_above(own, &interface)) {
         place = &own->places[own->place_count++];
-        *place = (struct place){.index = interface.index};
+        *place = (struct announced_place){.index = interface.index};
     }
     if (!place) return;
     place->bridge = interface.master;
@@ -118,10 +97,10 @@ static void read_place(const struct nlmsghdr *message, void *into) {
 
 /* The kernel told whether an interface is one of a router: hosts forget a router whose advertisement says that it is none. */
 static void read_forwarding(const struct nlmsghdr *message, void *into) {
-    struct announce_private *own = into;
+    struct announce *own = into;
     const int *index = value_of(attribute_of(message, sizeof(struct netconfmsg), NETCONFA_IFINDEX), sizeof *index);
     const int *forwarding = value_of(attribute_of(message, sizeof(struct netconfmsg), NETCONFA_FORWARDING), sizeof *forwarding);
-    struct place *place = index && forwarding ? place_of(own, *index) : NULL;
+    struct announced_place *place = index && forwarding ? place_of(own, *index) : NULL;
     if (!place) return;
     place->is_known = true;
     place->is_router = *forwarding != 0;
@@ -129,13 +108,13 @@ static void read_forwarding(const struct nlmsghdr *message, void *into) {
 
 /* The kernel told of an address. One of IPv6 that may be another host's is not announced. */
 static void read_address(const struct nlmsghdr *message, void *into) {
-    struct announce_private *own = into;
+    struct announce *own = into;
     const struct ifaddrmsg *about = mnl_nlmsg_get_payload(message);
     if (mnl_nlmsg_get_payload_len(message) < sizeof *about) return;
     size_t octets = about->ifa_family == AF_INET ? 4 : 16;
     const uint8_t *address = value_of(attribute_of(message, sizeof *about, IFA_LOCAL), octets);
     if (!address && about->ifa_family == AF_INET6) address = value_of(attribute_of(message, sizeof *about, IFA_ADDRESS), octets);
-    const struct place *place = place_of(own, (int)about->ifa_index);
+    const struct announced_place *place = place_of(own, (int)about->ifa_index);
     if (!address || !place) return;
     if (about->ifa_family == AF_INET) announce_ipv4(own, place, address);
     if (about->ifa_family == AF_INET6 && place->is_known && !(about->ifa_flags & (IFA_F_TENTATIVE | IFA_F_DADFAILED)))
@@ -143,14 +122,14 @@ static void read_address(const struct nlmsghdr *message, void *into) {
 }
 
 /* Has the kernel tell all that it has of a kind; answers whether it did. The head of an interface is longer than what other kinds want. */
-static bool ask_all(struct announce_private *own, uint16_t what, uint8_t family, message_reader read_one) {
+static bool ask_all(struct announce *own, uint16_t what, uint8_t family, message_reader read_one) {
     union message question = message_of(what, NLM_F_DUMP, &(struct ifinfomsg){.ifi_family = family}, sizeof(struct ifinfomsg));
     return ask_list(NETLINK_ROUTE, &question, read_one, own, 0);
 }
 
 /* Finds the device, and what stands above it, level by level. */
 static void find_places(struct carry *carry) {
-    struct announce_private *own = carry->announce;
+    struct announce *own = &carry->announce;
     unsigned before = 0;
     memset(own->places, 0, sizeof own->places);
     own->places[0].index = tap_index(carry->device);
@@ -164,7 +143,7 @@ static void find_places(struct carry *carry) {
 /* Announces the addresses of the device, and of what stands above it. Where the kernel has no IPv6, it does not tell who is a router, and has
  * no address. */
 static void announce(struct carry *carry) {
-    struct announce_private *own = carry->announce;
+    struct announce *own = &carry->announce;
     bool done = false;
     own->sender = socket(AF_PACKET, SOCK_RAW | SOCK_NONBLOCK | SOCK_CLOEXEC, 0);
     own->announced = own->place_count = 0;
@@ -179,14 +158,14 @@ static void announce(struct carry *carry) {
     if (own->sender >= 0) close(own->sender);
 }
 
-void announce_soon(struct announce_private *own) {
+void announce_soon(struct announce *own) {
     own->times = TIMES;
     own->wait_ticks = 0;
 }
 
 /* 100 ms passed. While the device has no carrier, nothing that is sent there goes. */
 void pass_announcing_tick(struct carry *carry) {
-    struct announce_private *own = carry->announce;
+    struct announce *own = &carry->announce;
     if (own->times == 0 || !has_carrier(carry->device)) return;
     if (own->wait_ticks > 0 && --own->wait_ticks > 0) return;
     announce(carry);

@@ -1,16 +1,9 @@
 /* The bundle as a whole: up where all its links carry, degraded where some do, down where fewer than min-links do. */
 #include "lagd.h"
 
-struct bundle_private {
-    unsigned lines; /* how many changes may still be told */
-    bool told; /* whether the first state was */
-};
-
-MAKES_WITH(bundle, .lines = MOST_LINES)
-
 /* One more change may be told: another second passed. */
-void allow_bundle_line(struct bundle_private *own) {
-    if (own->lines < MOST_LINES) own->lines++;
+void allow_bundle_line(struct bundle *bundle) {
+    if (bundle->lines < MOST_LINES) bundle->lines++;
 }
 
 static void enter(struct protocol *protocol, const struct bundle *now) {
@@ -30,19 +23,18 @@ static void enter(struct protocol *protocol, const struct bundle *now) {
 
 /* Looks at the ports, and tells what became of the bundle. What changes too often is told later, but not that its device is down. */
 void look_at_bundle(struct protocol *protocol) {
-    struct bundle_private *own = protocol->bundle_private;
     struct bundle now = protocol->bundle;
-    if (!protocol->process->has_started || (own->lines == 0 && !is_halted(protocol->halt))) return;
+    if (!protocol->process->has_started || (now.lines == 0 && !protocol->halt.down)) return;
     choose_aggregator(protocol, &now);
     now.links = count_links(protocol->ports);
     uint16_t limit = protocol->settings->config.max_links, most = limit > 0 && limit < now.links ? limit : now.links;
     now.state = now.carrying < protocol->settings->min_links ? BUNDLE_DOWN : now.carrying < most ? BUNDLE_DEGRADED : BUNDLE_UP;
-    if (own->told && now.state == protocol->bundle.state && now.links == protocol->bundle.links && now.carrying == protocol->bundle.carrying
+    if (now.reported && now.state == protocol->bundle.state && now.links == protocol->bundle.links && now.carrying == protocol->bundle.carrying
         && now.aggregator == protocol->bundle.aggregator)
         return;
     if (protocol->bundle.changed_at == 0) protocol->bundle.changed_at = time(NULL);
-    own->told = true;
-    if (own->lines > 0) own->lines--;
+    now.reported = true;
+    if (now.lines > 0) now.lines--;
     enter(protocol, &now);
 }
 

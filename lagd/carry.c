@@ -83,7 +83,7 @@ void choose_ports(struct plane *plane) {
     if ((before == 0) != (carry->active == 0))
         (void)say(carry->process, LOG_NOTICE | ABOUT_CARRIER, "carry %s: carrier %s", carry->settings->carry, carry->active ? "on" : "off");
     if (before != carry->active) forget_heard(carry);
-    if (before != carry->active && carry->active != 0) announce_soon(carry->announce);
+    if (before != carry->active && carry->active != 0) announce_soon(&carry->announce);
     CALL(plane->carrying->tell_host, plane);
 }
 

@@ -34,9 +34,33 @@ struct conversation {
 #define EACH_CONVERSATION(conversation, of) \
     for (struct conversation *conversation = (of)->conversations; conversation < (of)->conversations + CONVERSATIONS; conversation++)
 
+struct probe {
+    enum answering peer, reported;
+    bool asking;       /* whether a marker waits for its response: a peer that answers none stays MUTE meanwhile */
+    uint16_t asked_on; /* the port that had the last marker, or 0 */
+    uint64_t asked_at, sent_at; /* the times when the marker went first, and last */
+    struct system_id partner;   /* of the active aggregator */
+    uint16_t partner_key;
+};
+
+/* The most interfaces above the device: VLANs, those with MAC addresses of their own, and bridges of which one of these is a port. */
+#define MOST_ABOVE 64
+struct announce {
+    int sender; /* while it is announced */
+    struct announced_place { /* an interface whose addresses are announced; the first one is the device */
+        int index;
+        int bridge; /* the one of which it is a port, or what else has it, or 0 */
+        uint8_t mac[6];
+        bool is_known, is_router; /* whether the kernel told what its IPv6 is, and that it is a router */
+    } places[1 + MOST_ABOVE];
+    unsigned place_count;
+    unsigned announced;  /* how many frames this announcement has so far */
+    unsigned times;      /* how often it is still announced */
+    unsigned wait_ticks; /* until it is announced next */
+};
+
 /* Times are milliseconds of CLOCK_MONOTONIC. Ticks are made up after a stall, in which a frame may have been sent just before: they do not
  * tell for how long nothing was. */
-#define EACH_FILE_OF_CARRY(DO) DO(announce, announce) DO(probe, probe)
 struct carry {
     PARTS
     struct state *state;
@@ -58,16 +82,15 @@ struct carry {
     unsigned on_defaults[NIW_MOST_PORTS]; /* ticks for which a port ran on defaults */
     unsigned wakes_after[NIW_MOST_PORTS]; /* how many of them it may */
     uint64_t counts[CARRY_COUNTS];
-    EACH_FILE_OF_CARRY(KEEPS)
+    struct announce announce;
+    struct probe probe;
 };
-EACH_FILE_OF_CARRY(MAKES)
 
 /* probe.c */
 void note_response(struct plane *plane, const struct link *link);
 void go_on_answering(struct carry *carry, enum answering last);
-enum answering peer_answering(const struct probe_private *own);
 void look_at_partner(struct carry *carry);
-void suspect_partner(struct probe_private *own);
+void suspect_partner(struct probe *own);
 
 /* resume.c */
 void resume_conversations(struct plane *plane, bool goes_on);
@@ -95,7 +118,7 @@ bool empty_port(struct plane *plane, uint16_t port);
 void balance(struct carry *carry);
 
 /* announce.c */
-void announce_soon(struct announce_private *own);
+void announce_soon(struct announce *own);
 void pass_announcing_tick(struct carry *carry);
 
 #endif

@@ -4,13 +4,13 @@
 static const struct count_text CARRY_COUNTERS[] = {EACH_CARRY_COUNT(COUNT_TEXT)};
 static const struct count_text MEMBER_COUNTERS[] = {EACH_MEMBER_COUNT(COUNT_TEXT)};
 
-static const char *answering_text(const struct probe_private *own) {
+static const char *answering_text(enum answering peer) {
     static const char *const texts[] = {[NOT_ASKED] = "not asked", [ASKED] = "asked", [ANSWERS] = "answered", [MUTE] = "not answered"};
-    return texts[peer_answering(own)];
+    return texts[peer];
 }
 
 void show_markers(struct control *control) {
-    add(control->report, "markers %s, ", answering_text(control->carry->probe));
+    add(control->report, "markers %s, ", answering_text(control->carry->probe.peer));
 }
 
 /* What waits in the daemon, and what does not come there. */
@@ -22,8 +22,8 @@ void show_frames_waiting(struct control *control, enum form form) {
     switch (form) {
     case AS_TEXT: add(control->report, "\n  waiting: %" PRIu64 ", conversations of the kernel: %u\n", waiting, fast); break;
     case AS_JSON:
-        add(control->report, "\"markers\":\"%s\",\"waiting\":%" PRIu64 ",\"fast_conversations\":%u", answering_text(control->carry->probe), waiting,
-            fast);
+        add(control->report, "\"markers\":\"%s\",\"waiting\":%" PRIu64 ",\"fast_conversations\":%u", answering_text(control->carry->probe.peer),
+            waiting, fast);
         break;
     case AS_METRICS:
         add_bundle_value(control, "carry_waiting", "gauge", "how many frames wait", waiting);
@@ -43,13 +43,13 @@ void show_waiting_buckets(struct control *control, enum form form) {
 }
 
 void show_queues(struct control *control, const struct link *link, enum form form) {
-    add(control->report, form == AS_JSON ? ",\"queues\":%u" : " queues %u", member_queues(control->tap->members, link->settings.number));
+    add(control->report, form == AS_JSON ? ",\"queues\":%u" : " queues %u", member_queues(&control->tap->members[link->settings.number - 1]));
 }
 
 static void write_text_of_carry(struct control *control) {
     const struct carrying *carrying = control->plane->carrying;
     const struct settings *settings = control->settings;
-    const char *carrier = has_carrier(control->device) ? "on" : is_halted(control->protocol->halt) ? "off, the device is down" : "off";
+    const char *carrier = has_carrier(control->device) ? "on" : control->protocol->halt.down ? "off, the device is down" : "off";
     unsigned told = 0;
     add(control->report, "  carry: %s, carrier %s, hash %s, flight %u ms, ", settings->carry, carrier, hash_text(settings->hash), settings->flight);
     CALL(carrying->show_markers, control);
@@ -64,7 +64,7 @@ static void write_json_of_carry(struct control *control) {
     add(control->report, "\"carry\":{\"device\":");
     add_string(control->report, control->settings->carry);
     add(control->report, ",\"up\":%s,\"carrier\":%s,\"aggregator\":%u,\"hash\":\"%s\",\"flight\":%u,\"way\":\"%s\",",
-        is_halted(control->protocol->halt) ? "false" : "true", has_carrier(control->device) ? "true" : "false", control->carry->active,
+        control->protocol->halt.down ? "false" : "true", has_carrier(control->device) ? "true" : "false", control->carry->active,
         hash_text(control->settings->hash), control->settings->flight, way_text(control->settings));
     CALL(carrying->show_waiting, control, AS_JSON);
     for (unsigned i = carrying->first_count; i < carrying->end_count; i++)
@@ -86,7 +86,7 @@ static void write_metrics_of_carry(struct control *control) {
         snprintf(name, sizeof name, "port_%s_total", MEMBER_COUNTERS[i].name);
         add_head(control->report, name, "counter", MEMBER_COUNTERS[i].help);
         EACH_LINK(link, control->ports)
-            if (link->used) add_port_value(control, name, link, member_counts(control->tap->members, link->settings.number)[i]);
+            if (link->used) add_port_value(control, name, link, control->tap->members[link->settings.number - 1].counts[i]);
     }
 }
 
@@ -108,7 +108,7 @@ void show_member(struct control *control, const struct link *link, enum form for
     add(control->report, form == AS_JSON ? ",\"data\":{\"busy_conversations\":%u" : "  data: busy_conversations %u", busy);
     for (unsigned i = 0; i < control->plane->carrying->member_counts; i++)
         add(control->report, form == AS_JSON ? ",\"%s\":%" PRIu64 : " %s %" PRIu64, MEMBER_COUNTERS[i].name,
-            member_counts(control->tap->members, link->settings.number)[i]);
+            control->tap->members[link->settings.number - 1].counts[i]);
     CALL(control->plane->queueing->show, control, link, form);
     add(control->report, form == AS_JSON ? "}" : "\n");
 }

@@ -13,21 +13,9 @@
 #define PATIENCE 10000
 #define MOST_ASKED 1000
 
-struct changes_private {
-    struct mnl_socket *route; /* NULL: none is open yet */
-    uint32_t asked; /* the number of the last question */
-    bool asking; /* whether the answer is not whole yet */
-    bool interrupted; /* whether interfaces changed while the kernel answered */
-    bool ask_again; /* whether something was missed */
-    bool suspected; /* whether a carrier may have gone */
-    bool tap_named; /* whether the answer that is being read named the TAP device */
-};
-
-MAKES_ROOM(changes)
-
 /* Asks for an interface, or with 0 for all of them; answers whether the kernel took the question, and else it is asked again. The answer comes as
  * changes do. */
-static bool ask_for(struct changes_private *own, int index, uint32_t number) {
+static bool ask_for(struct changes *own, int index, uint32_t number) {
     union message question = message_of_interface(RTM_GETLINK, index == 0 ? NLM_F_DUMP : 0, index);
     question.head.nlmsg_seq = number;
     mnl_attr_put_u32(&question.head, IFLA_EXT_MASK, RTEXT_FILTER_SKIP_STATS);
@@ -71,7 +59,7 @@ static bool take_up(struct protocol *protocol, struct link *link, const struct i
         link->puts_in = false;
         return true;
     }
-    if (protocol->process->has_started) protocol->changes->ask_again = true;
+    if (protocol->process->has_started) protocol->changes.ask_again = true;
     if (protocol->process->has_started || link->left_over) return false;
     if (link->trouble != EADDRINUSE) stop(REFUSED, link->name, strerror(link->trouble));
     snprintf(what, sizeof what, "another lagd has the interface, %s", holder_of(protocol->ports, link->index, holder));
@@ -80,7 +68,7 @@ static bool take_up(struct protocol *protocol, struct link *link, const struct i
 
 /* The interface of a port does not do what it has to: it is taken up anew. */
 void lose_member(struct protocol *protocol, struct link *link) {
-    protocol->changes->ask_again = true;
+    protocol->changes.ask_again = true;
     lose_link(protocol, link);
 }
 
@@ -112,7 +100,7 @@ static void follow_link(struct protocol *protocol, struct link *link, const stru
         set_link(protocol, port, false);
     }
     if ((lost && !spared) || !carrier) forget_carrier(link);
-    bool up = carrier && !is_silent(protocol->halt) && is_restored(protocol, link);
+    bool up = carrier && !protocol->halt.silent && is_restored(protocol, link);
     if (up && !link->up) fit_queue(protocol->plane, link);
     if (up) apply_speed(protocol, link);
     if (up) CALL(protocol->plane->carrying->follow_speed, protocol->plane, link);
@@ -129,7 +117,7 @@ static void lose_interface(struct protocol *protocol, struct link *link) {
 static void follow_present(struct protocol *protocol, const struct interface *interface) {
     bool known = false;
     if (interface->index == tap_index(protocol->device)) {
-        protocol->changes->tap_named = true;
+        protocol->changes.tap_named = true;
         protocol->plane->changed = true;
         follow_tap(protocol->device, interface->carrier, interface->discipline);
         follow_device(protocol, (interface->flags & IFF_UP) != 0);
@@ -167,13 +155,13 @@ static void note_discipline(struct protocol *protocol, const struct tcmsg *info)
         link->has_new_queues = true;
         ours = true;
     }
-    if (ours && info->tcm_parent == TC_H_ROOT) (void)ask_for(protocol->changes, info->tcm_ifindex, 0);
+    if (ours && info->tcm_parent == TC_H_ROOT) (void)ask_for(&protocol->changes, info->tcm_ifindex, 0);
 }
 
 /* The answer to the last question has ended. What a whole one did not name is gone. One that ends with an error ends the program at
  * the start; later the kernel is asked again. */
 static void end_answer(struct protocol *protocol, int error) {
-    struct changes_private *own = protocol->changes;
+    struct changes *own = &protocol->changes;
     bool whole = error == 0 && !own->interrupted;
     if (error < 0 && !protocol->process->has_started) stop(REFUSED, "the kernel does not tell of interfaces", strerror(-error));
     own->asking = false;
@@ -185,7 +173,7 @@ static void end_answer(struct protocol *protocol, int error) {
 
 /* Takes one message. A bridge tells of its ports in messages of its own family, which say nothing of their links. */
 static void parse_change(struct protocol *protocol, const struct nlmsghdr *message) {
-    struct changes_private *own = protocol->changes;
+    struct changes *own = &protocol->changes;
     const struct ifinfomsg *info = mnl_nlmsg_get_payload(message);
     const struct tcmsg *discipline = mnl_nlmsg_get_payload(message);
     size_t length = mnl_nlmsg_get_payload_len(message);
@@ -209,7 +197,7 @@ void read_messages(struct protocol *protocol, const void *messages, size_t lengt
 /* Takes what the kernel told, up to its end. Where it had no room for some, it says so, and all is asked again, and queues are seen anew. Any program
  * of the machine may send to this socket, too: what does not come from the kernel is not looked at. */
 void receive_changes(struct protocol *protocol) {
-    struct changes_private *own = protocol->changes;
+    struct changes *own = &protocol->changes;
     _Alignas(struct nlmsghdr) uint8_t room[ROOM];
     for (int turn = 0; turn < MOST_TAKEN; turn++) {
         struct sockaddr_nl from = {0};
@@ -233,7 +221,7 @@ void receive_changes(struct protocol *protocol) {
 
 /* Asks for all interfaces again, where something was missed, or could not be taken up; once a second. */
 void watch_changes(struct protocol *protocol) {
-    struct changes_private *own = protocol->changes;
+    struct changes *own = &protocol->changes;
     if (!own->ask_again || own->asking) return;
     EACH_LINK(link, protocol->ports) link->present = false;
     own->tap_named = own->ask_again = own->interrupted = false;
@@ -243,37 +231,32 @@ void watch_changes(struct protocol *protocol) {
 
 /* Interfaces are to be taken up as soon as can be. */
 void ask_now(struct protocol *protocol) {
-    protocol->changes->ask_again = true;
+    protocol->changes.ask_again = true;
     watch_changes(protocol);
-}
-
-/* Something could not be sent: a carrier may have gone. */
-void suspect_carriers(struct changes_private *own) {
-    own->suspected = true;
 }
 
 void ask_links(struct protocol *protocol) {
     EACH_LINK(link, protocol->ports)
-        if (link->socket >= 0) (void)ask_for(protocol->changes, link->index, 0);
+        if (link->socket >= 0) (void)ask_for(&protocol->changes, link->index, 0);
 }
 
 /* Looks at carriers, at each tick and where one is suspected: the kernel counts at once that one came or went, but tells of those that go
  * once a second, over all interfaces. It is asked then, and answers at once. */
 void watch_carriers(struct protocol *protocol, bool all) {
-    struct changes_private *own = protocol->changes;
+    struct changes *own = &protocol->changes;
     bool any = false;
     if (!all && !own->suspected) return;
     own->suspected = false;
     EACH_LINK(link, protocol->ports) {
         bool changed = link->socket >= 0 && has_new_carrier(link);
         if (!changed && link->up && !link->away) note_carrier(protocol->settings, link);
-        if (changed || (link->socket >= 0 && has_waited(protocol, link))) any = ask_for(protocol->changes, link->index, 0) || any;
+        if (changed || (link->socket >= 0 && has_waited(protocol, link))) any = ask_for(&protocol->changes, link->index, 0) || any;
     }
     if (any) receive_changes(protocol);
 }
 
 int open_changes(struct protocol *protocol) {
-    struct changes_private *own = protocol->changes;
+    struct changes *own = &protocol->changes;
     own->route = mnl_socket_open2(NETLINK_ROUTE, SOCK_NONBLOCK | SOCK_CLOEXEC);
     if (!own->route || mnl_socket_bind(own->route, RTMGRP_LINK | RTMGRP_TC, MNL_SOCKET_AUTOPID) < 0)
         stop(REFUSED, "no changes of interfaces", strerror(errno));

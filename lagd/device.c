@@ -60,8 +60,8 @@ void set_speed(struct device *own, uint32_t megabits) {
     if (own->speed == megabits || own->number == 0) return;
     own->speed = megabits;
     errno = EOPNOTSUPP; /* where the kernel tells none, either */
-    if (write_speed(own->asker, own->number, megabits) || own->told) return;
-    own->told = true;
+    if (write_speed(own->asker, own->number, megabits) || own->speed_reported) return;
+    own->speed_reported = true;
     (void)say(own->process, LOG_WARNING | ABOUT_CARRIER, "carry %s: its speed stays: %s", own->process->settings->carry, strerror(errno));
 }
 
@@ -169,11 +169,11 @@ static void set_up(struct device *own, const uint8_t *mac) {
 static bool take_stored(struct device *own, const char *name) {
     const struct inherited *inherited = own->process->inherited;
     struct ifreq device = {0};
-    int fd = claim_stored(own->process->store, "tap", 0);
+    int fd = claim_stored(&own->process->store, "tap", 0);
     if (fd < 0) return false;
     own->number = is_here(fd, &device) ? (int)if_nametoindex(device.ifr_name) : 0;
     if (own->number == 0 || (inherited->tap == 0 ? strcmp(device.ifr_name, name) != 0 : own->number != inherited->tap)) {
-        close_stored(own->process->store, "tap", 0, fd);
+        close_stored(&own->process->store, "tap", 0, fd);
         return false;
     }
     own->tap = fd;
@@ -218,7 +218,7 @@ int open_tap(struct device *own, const char *name, const uint8_t *mac) {
         go_on_with_tap(own);
     else
         set_up(own, mac);
-    put_stored(own->process->store, "tap", 0, own->tap);
+    put_stored(&own->process->store, "tap", 0, own->tap);
     return own->tap;
 }
 

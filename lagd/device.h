@@ -17,7 +17,7 @@ struct device {
     uint32_t set_mtu; /* what was set last */
     uint32_t speed; /* in Mb/s, as it was to be last; 0: as the kernel made the device */
     bool refused; /* of set_carrier */
-    bool told; /* of set_speed */
+    bool speed_reported; /* whether a line said that its speed stays */
 };
 
 /* device.c */

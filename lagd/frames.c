@@ -152,12 +152,12 @@ void tell_strangers(struct protocol *protocol, struct link *link) {
     struct strangers *strangers = &link->strangers;
     uint64_t foreign = link->counts[FOREIGN_RECEIVED], changes = link->counts[PARTNER_CHANGES];
     char system[32], source[32];
-    if (foreign + changes == strangers->told || ticks_passed(protocol->system) < strangers->tell_at) return;
+    if (foreign + changes == strangers->reported || protocol->ticks < strangers->tell_at) return;
     if (!say(protocol->process, LOG_WARNING | ABOUT_STRANGER,
         "port %u %s: another system speaks, last %s from %s: %" PRIu64 " LACPDUs not taken, %" PRIu64
             " changes of the partner", link->settings.number, link->name, system_text(&strangers->system, system),
             mac_text(strangers->source, source), foreign, changes))
         return;
-    strangers->told = foreign + changes;
-    strangers->tell_at = ticks_passed(protocol->system) + STRANGERS_TICKS;
+    strangers->reported = foreign + changes;
+    strangers->tell_at = protocol->ticks + STRANGERS_TICKS;
 }

@@ -5,29 +5,13 @@
 /* How many ticks peers are told at most. Where three LACPDUs went within a second, the next one waits. */
 #define MOST_TICKS 15
 
-struct halt_private {
-    bool down;      /* whether the device is down */
-    bool silent;    /* whether peers were told, and the links are down for the library, too */
-    unsigned ticks; /* for how long peers are told */
-};
-
-MAKES_ROOM(halt)
-
-bool is_halted(const struct halt_private *own) {
-    return own->down;
-}
-
-bool is_silent(const struct halt_private *own) {
-    return own->silent;
-}
-
 static void hold_or_release_ports(struct protocol *protocol) {
     for (uint16_t port = 1; port <= protocol->ports->count; port++)
         if (!apply_hold(protocol, port)) return;
 }
 
 static void fall_silent(struct protocol *protocol) {
-    protocol->halt->silent = true;
+    protocol->halt.silent = true;
     for (uint16_t port = 1; port <= protocol->ports->count; port++) set_link(protocol, port, false);
 }
 
@@ -37,20 +21,20 @@ static void begin_halt(struct protocol *protocol) {
     hold_or_release_ports(protocol);
     send_due(protocol);
     read_views(protocol);
-    protocol->halt->ticks = 0;
+    protocol->halt.ticks = 0;
     if (end_is_told(protocol->ports)) fall_silent(protocol);
 }
 
 /* The ports go on as new ones, once the kernel told of their interfaces. */
 static void end_halt(struct protocol *protocol) {
     hold_or_release_ports(protocol);
-    protocol->halt->silent = false;
+    protocol->halt.silent = false;
     ask_links(protocol);
 }
 
 /* The kernel told of the device, which is up or down. At the start the ports of the last daemon go on first, so that their peers can be told. */
 void follow_device(struct protocol *protocol, bool up) {
-    struct halt_private *own = protocol->halt;
+    struct halt *own = &protocol->halt;
     if (own->down == !up) return;
     own->down = !up;
     if (!protocol->process->has_started) return;
@@ -67,21 +51,21 @@ void follow_device(struct protocol *protocol, bool up) {
 
 /* The device was opened. Where no port goes on, no peer has to be told. */
 void start_halt(struct protocol *protocol) {
-    protocol->halt->down = tap_index(protocol->device) != 0 && !is_tap_up(protocol->device);
-    protocol->halt->silent = protocol->halt->down && !protocol->process->resuming;
+    protocol->halt.down = tap_index(protocol->device) != 0 && !is_tap_up(protocol->device);
+    protocol->halt.silent = protocol->halt.down && !protocol->process->resuming;
 }
 
 /* The ports of the last daemon went on. */
 void halt_if_down(struct protocol *protocol) {
-    if (protocol->halt->down)
+    if (protocol->halt.down)
         (void)say(protocol->process, LOG_NOTICE | ABOUT_CARRIER, "carry %s: the device is down: LACP begins once it is up",
             protocol->settings->carry);
-    if (protocol->halt->down && !protocol->halt->silent) begin_halt(protocol);
-    if (!protocol->halt->down && protocol->halt->silent) end_halt(protocol);
+    if (protocol->halt.down && !protocol->halt.silent) begin_halt(protocol);
+    if (!protocol->halt.down && protocol->halt.silent) end_halt(protocol);
 }
 
 void pass_halt_tick(struct protocol *protocol) {
-    struct halt_private *own = protocol->halt;
+    struct halt *own = &protocol->halt;
     if (!own->down || own->silent) return;
     if (++own->ticks >= MOST_TICKS || end_is_told(protocol->ports)) fall_silent(protocol);
 }

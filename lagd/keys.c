@@ -10,24 +10,8 @@
 #define MOST_SPEEDS 4
 #define MOST_WORDS 127
 
-/* A key that aggregators have: the first one of a given key is that key itself. */
-struct speed_key {
-    uint16_t given; /* the key that the administrator gave */
-    uint16_t key;
-    bool used; /* whether `speed` is a speed of some port */
-    struct speed speed;
-};
-
-struct keys_private {
-    struct speed_key known[2 * NIW_MOST_PORTS]; /* of each key of a port, and of the bundle */
-    uint16_t known_count;
-    uint16_t speeds; /* how many speeds of one key have aggregators */
-};
-
-MAKES_ROOM(keys)
-
 /* Whether aggregators of a key were made, for ports to which it was given. */
-bool has_aggregator(const struct keys_private *own, uint16_t given) {
+bool has_aggregator(const struct keys *own, uint16_t given) {
     for (uint16_t i = 0; i < own->known_count; i++)
         if (own->known[i].given == given) return true;
     return false;
@@ -35,7 +19,7 @@ bool has_aggregator(const struct keys_private *own, uint16_t given) {
 
 /* Whether a key is one of aggregators, or of a port that is not this one. */
 static bool is_key_of_any(struct protocol *protocol, uint16_t key, const struct link *but) {
-    struct keys_private *own = protocol->keys;
+    struct keys *own = &protocol->keys;
     for (uint16_t i = 0; i < own->known_count; i++)
         if (own->known[i].key == key || own->known[i].given == key) return true;
     EACH_LINK(link, protocol->ports)
@@ -52,27 +36,27 @@ uint16_t free_key(struct protocol *protocol, uint16_t behind, const struct link 
 
 /* Chooses how many speeds of one key have aggregators, by how many ports there are, and how many ports there may be. */
 void choose_slots(struct protocol *protocol) {
-    struct keys_private *own = protocol->keys;
+    struct keys *own = &protocol->keys;
     uint16_t fit = (uint16_t)(NIW_MOST_PORTS / (protocol->settings->port_count > 0 ? protocol->settings->port_count : 1));
     own->speeds = !protocol->settings->key_by_speed ? 1 : fit < MOST_SPEEDS ? fit : MOST_SPEEDS;
     protocol->ports->slots = (uint16_t)(NIW_MOST_PORTS / own->speeds);
 }
 
 /* A key of aggregators, for ports to which this one was given: the first one is that one itself. */
-static uint16_t key_for(const struct keys_private *own, uint16_t given, uint16_t number) {
+static uint16_t key_for(const struct keys *own, uint16_t given, uint16_t number) {
     for (uint16_t i = 0; i < own->known_count; i++)
         if (own->known[i].given == given && number-- == 0) return own->known[i].key;
     return given;
 }
 
-static void add_key(struct keys_private *own, uint16_t given, uint16_t key) {
+static void add_key(struct keys *own, uint16_t given, uint16_t key) {
     own->known[own->known_count++] = (struct speed_key){.given = given, .key = key};
 }
 
 /* Makes the keys of the aggregators: in the order of ports, of which those that are to come have the key of the bundle, one of the key of each,
  * and then as many of each further key that a speed may have. */
 void make_keys(struct protocol *protocol, uint16_t keys[static NIW_MOST_PORTS]) {
-    struct keys_private *own = protocol->keys;
+    struct keys *own = &protocol->keys;
     for (uint16_t i = 0; i < protocol->ports->slots; i++)
         if (!has_aggregator(own, protocol->ports->links[i].key)) add_key(own, protocol->ports->links[i].key, protocol->ports->links[i].key);
     for (uint16_t i = 0, given = own->known_count; i < given; i++)
@@ -94,7 +78,7 @@ static bool is_in_use(const struct ports *ports, const struct speed_key *key) {
 
 /* Chooses the key of a port: that of its speed, else one whose speed no port has any more, else one without an aggregator. */
 uint16_t choose_key(struct protocol *protocol, const struct link *link) {
-    struct keys_private *own = protocol->keys;
+    struct keys *own = &protocol->keys;
     struct speed_key *unused = NULL;
     if (!protocol->settings->key_by_speed || !link->has_speed) return link->key;
     for (uint16_t i = 0; i < own->known_count; i++) {

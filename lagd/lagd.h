@@ -47,10 +47,6 @@ enum { DONE = 0, REFUSED = 1, WRONG_WORD = 2 }; /* how the program ends */
 #define MOST_LACPDUS 3 /* of a port within a second (IEEE 802.1AX-2014, 6.4.16) */
 #define TIMER_SLACK 1 /* nanoseconds too long that the kernel may let the daemon sleep: hardly longer than frames are to gather (main.c) */
 
-/* What a file keeps for a daemon, which it alone knows, and the field by which it is found; and who makes that. */
-#define KEEPS(file, field) struct file##_private *field;
-#define MAKES(file, field) struct file##_private *make_##file##_private(void);
-
 struct facts { /* what is printed of a port */
     uint8_t status; /* NIW_PORT_STATUS_.., or MISSING and so on */
     uint16_t aggregator;
@@ -63,7 +59,7 @@ struct facts { /* what is printed of a port */
 struct strangers { /* the other systems that speak on a link */
     struct system_id system; /* the last one */
     uint8_t source[6];       /* of its frame */
-    uint64_t told;           /* how many frames and changes of the partner a line told of */
+    uint64_t reported;       /* how many frames and changes of the partner a line told of */
     uint64_t tell_at;        /* the tick at which the next line may come */
     bool seen;
 };
@@ -78,7 +74,7 @@ struct answered {
 struct markers { /* Marker PDUs that come on a link */
     struct answered answered;
     uint8_t source[6]; /* of the last one that was not taken, or not answered */
-    uint64_t told;     /* of how many of these a line told */
+    uint64_t reported; /* of how many of these a line told */
     uint64_t tell_at;  /* the tick at which the next line may come */
 };
 
@@ -151,7 +147,7 @@ struct link {
     uint64_t counts[COUNTS];
     struct niw_view view; /* as the library last told it */
     bool changed;         /* whether there may be something to print */
-    bool told;            /* whether a line was printed */
+    bool reported;        /* whether a line was printed */
     struct facts printed; /* last */
     bool watched;         /* whether watchers were told */
     struct facts shown;   /* to them, last */
@@ -167,6 +163,8 @@ struct bundle {
     uint16_t links;      /* how many ports the bundle has */
     time_t changed_at;   /* when the state changed, in seconds since 1970 */
     uint64_t counts[BUNDLE_STATES];
+    unsigned lines; /* how many changes may still be told */
+    bool reported;  /* whether the first state was */
 };
 
 enum action { RUN_BUNDLE, CHECK, SHOW, SHOW_CONFIG, WATCH, METRICS, ORDER };
@@ -180,8 +178,39 @@ struct options {
     struct settings settings;
 };
 
+#define MOST_CALLERS 64
+#define QUESTION_ROOM 256 /* a question has a name of an interface at most, with its words */
+/* Who asks. */
+struct status {
+    struct caller {
+        int fd; /* -1: none */
+        uid_t user;
+        unsigned ticks; /* that are left for the question */
+        bool watches, json;
+        size_t length;
+        char question[QUESTION_ROOM];
+        char *rest; /* what is still to be sent of its answer, behind `sent` octets; or NULL */
+        size_t sent, answer_length;
+    } callers[MOST_CALLERS];
+    int listener;
+    unsigned left_in_tick;
+    bool listens;
+    char own_name[NAME_ROOM + 32];
+};
+
+#define NAME_OF_FILE 64
+#define MOST_STORED 512 /* as the unit lets the manager keep */
+/* The files that the last daemon left. */
+struct store {
+    struct stored {
+        char name[NAME_OF_FILE];
+        int fd;    /* -1: it is taken, or closed */
+        int taken; /* the same, once it is taken, until the manager keeps it no more; else -1 */
+    } stored[MOST_STORED];
+    size_t count;
+};
+
 /* The program: how far it is, its lines, the files that it has open, and what it was given. */
-#define EACH_FILE_OF_PROCESS(DO) DO(status, status) DO(store, store)
 struct process {
     const struct settings *settings;
     struct inherited *inherited; /* what the last daemon left; all 0 where there is nothing */
@@ -193,9 +222,9 @@ struct process {
     int folder;     /* of the status socket, and of what members had */
     int output, journal; /* what lines are written to, once there were some, or -1 */
     struct words words;
-    EACH_FILE_OF_PROCESS(KEEPS)
+    struct status status;
+    struct store store;
 };
-EACH_FILE_OF_PROCESS(MAKES)
 
 /* The ports, and what is known of the interface of each. */
 struct ports {
@@ -207,10 +236,42 @@ struct ports {
 #define EACH_LINK(link, of) for (struct link *link = (of)->links; link < (of)->links + (of)->count; link++)
 #define EACH_LINK_AS_IS(link, of) for (const struct link *link = (of)->links; link < (of)->links + (of)->count; link++)
 
+/* The keys that aggregators have: each of a port, and of the bundle. */
+struct keys {
+    struct speed_key {
+        uint16_t given; /* the key that the administrator gave */
+        uint16_t key;   /* the first one of a given key is that key itself */
+        bool used;      /* whether `speed` is a speed of some port */
+        struct speed speed;
+    } known[2 * NIW_MOST_PORTS];
+    uint16_t known_count;
+    uint16_t speeds; /* how many speeds of one key have aggregators */
+};
+
+/* How the kernel is asked for interfaces. */
+struct changes {
+    struct mnl_socket *route; /* NULL: none is open yet */
+    uint32_t asked;           /* the number of the last question */
+    bool asking;              /* whether the answer is not whole yet */
+    bool interrupted;         /* whether interfaces changed while the kernel answered */
+    bool ask_again;           /* whether something was missed */
+    bool suspected;           /* whether a carrier may have gone, since something could not be sent */
+    bool tap_named;           /* whether the answer that is being read named the TAP device */
+};
+
+struct halt {
+    bool down;      /* whether the device is down */
+    bool silent;    /* whether peers were told, and the links are down for the library, too */
+    unsigned ticks; /* for how long peers are told */
+};
+
+/* Of the aggregator that carries. */
+struct choice {
+    uint16_t last;     /* what choose_aggregator answered last, or 0 */
+    uint16_t followed; /* an aggregator in which the peer alone sends, whatever this end prefers, or 0 */
+};
+
 /* LACP: the system of the library, what the kernel tells of interfaces, and which ports the bundle has. */
-#define EACH_FILE_OF_PROTOCOL(DO) \
-    DO(bundle, bundle_private) DO(changes, changes) DO(halt, halt) DO(keys, keys) \
-    DO(select, selection) DO(system, system)
 struct protocol {
     struct process *process;
     struct settings *settings; /* those that hold now */
@@ -222,9 +283,14 @@ struct protocol {
     uint16_t aggregator_count;
     struct bundle bundle;
     uint64_t resumed_at; /* when it went on from the last daemon, in milliseconds of CLOCK_BOOTTIME as that one had it */
-    EACH_FILE_OF_PROTOCOL(KEEPS)
+    uint64_t began; /* in milliseconds */
+    uint64_t ticks; /* since then */
+    uint16_t aggregator_keys[NIW_MOST_PORTS];
+    struct keys keys;
+    struct changes changes;
+    struct halt halt;
+    struct choice choice;
 };
-EACH_FILE_OF_PROTOCOL(MAKES)
 
 /* What each part above the protocol knows: data, its planes, and who asks. These are its own fields, and one that is given as a whole. */
 #define PARTS \
@@ -235,22 +301,13 @@ EACH_FILE_OF_PROTOCOL(MAKES)
     struct device *device; \
     struct plane *plane;
 
-/* Room for what a file keeps, of zeros. There is no daemon without it. */
+/* Room of zeros. There is no daemon without it. */
 static inline void *make_room(size_t octets) {
     void *made = calloc(1, octets);
     if (made) return made;
     (void)fputs("lagd: no memory\n", stderr);
     exit(REFUSED);
 }
-
-/* What a file keeps begins as zeros, but for these fields. */
-#define MAKES_ROOM(file) MAKES_WITH(file, 0)
-#define MAKES_WITH(file, ...) \
-    struct file##_private *make_##file##_private(void) { \
-        struct file##_private *made = make_room(sizeof *made); \
-        *made = (struct file##_private){__VA_ARGS__}; \
-        return made; \
-    }
 
 /* -errno of what failed just now, which is never 0. */
 static inline int last_fault(void) {
@@ -361,7 +418,6 @@ void receive_changes(struct protocol *protocol);
 void read_messages(struct protocol *protocol, const void *messages, size_t length);
 void watch_changes(struct protocol *protocol);
 void lose_member(struct protocol *protocol, struct link *link);
-void suspect_carriers(struct changes_private *own);
 void ask_links(struct protocol *protocol);
 void ask_now(struct protocol *protocol);
 void watch_carriers(struct protocol *protocol, bool all);
@@ -369,7 +425,7 @@ void watch_carriers(struct protocol *protocol, bool all);
 /* keys.c */
 void choose_slots(struct protocol *protocol);
 void make_keys(struct protocol *protocol, uint16_t keys[static NIW_MOST_PORTS]);
-bool has_aggregator(const struct keys_private *own, uint16_t given);
+bool has_aggregator(const struct keys *own, uint16_t given);
 uint16_t free_key(struct protocol *protocol, uint16_t behind, const struct link *but);
 uint16_t choose_key(struct protocol *protocol, const struct link *link);
 bool ask_driver(int index, void *value);
@@ -389,8 +445,7 @@ void send_due(struct protocol *protocol);
 void settle_calls(struct protocol *protocol);
 void send_again(struct protocol *protocol);
 bool pass_system_tick(struct protocol *protocol);
-uint64_t ticks_passed(const struct system_private *own);
-uint64_t seconds_passed(const struct system_private *own);
+uint64_t seconds_since(uint64_t began);
 uint64_t milliseconds_of(clockid_t clock);
 uint64_t milliseconds(void);
 void expect_lacpdu(struct link *link);
@@ -419,8 +474,6 @@ bool accept_name(struct protocol *protocol, const struct link *link, const struc
 void answer_order(struct protocol *protocol, char *order, char answer[static ORDER_ROOM]);
 
 /* halt.c */
-bool is_halted(const struct halt_private *own);
-bool is_silent(const struct halt_private *own);
 void follow_device(struct protocol *protocol, bool up);
 void start_halt(struct protocol *protocol);
 void halt_if_down(struct protocol *protocol);
@@ -446,14 +499,13 @@ struct worth { /* of an aggregator, by the ports that carry there */
 struct worth worth_of(struct protocol *protocol, uint16_t aggregator);
 uint64_t patience_with(struct protocol *protocol, uint16_t active, uint16_t other);
 void follow_peer(struct protocol *protocol, uint16_t aggregator);
-bool is_following(const struct select_private *own);
-void go_on_selecting(struct select_private *own, uint16_t aggregator, bool follows);
+void go_on_selecting(struct choice *own, uint16_t aggregator, bool follows);
 void choose_aggregator(struct protocol *protocol, struct bundle *now);
 bool is_as_good_as_any(struct protocol *protocol, uint16_t aggregator);
 
 /* bundle.c */
 void look_at_bundle(struct protocol *protocol);
-void allow_bundle_line(struct bundle_private *own);
+void allow_bundle_line(struct bundle *bundle);
 void end_bundle(struct protocol *protocol);
 
 /* hook.c */
@@ -489,22 +541,21 @@ void notify(const char *what);
 void notify_bundle(const struct bundle *bundle, const char *what);
 void open_store(struct process *process);
 bool has_store(void);
-void put_stored(struct store_private *own, const char *kind, int number, int fd);
-int claim_stored(struct store_private *own, const char *kind, int number);
-void return_stored(struct store_private *own, const char *kind, int number, int fd);
-void drop_stored(struct store_private *own, const char *kind, int number);
-void close_stored(struct store_private *own, const char *kind, int number, int fd);
-void drop_unclaimed(struct store_private *own);
+void put_stored(struct store *own, const char *kind, int number, int fd);
+int claim_stored(struct store *own, const char *kind, int number);
+void return_stored(struct store *own, const char *kind, int number, int fd);
+void drop_stored(struct store *own, const char *kind, int number);
+void close_stored(struct store *own, const char *kind, int number, int fd);
+void drop_unclaimed(struct store *own);
 bool is_bound(int fd, int index);
 int packet_socket(struct process *process, const char *kind, int of, int index, int type);
-int attach_stored(struct store_private *own, const char *kind, int program, int index, bool egress);
-void detach_stored(struct store_private *own, const char *kind, int index, int attached);
+int attach_stored(struct store *own, const char *kind, int program, int index, bool egress);
+void detach_stored(struct store *own, const char *kind, int index, int attached);
 
 /* possible.c */
 int fault_of_programs(const struct settings *settings);
 
 /* main.c */
-#define MOST_CALLERS 64
 enum {
     SIGNALS = NIW_MOST_PORTS + 1,
     CLOCK,
@@ -523,13 +574,13 @@ void await_no_more(int epoll_file, int fd);
 /* options.c */
 const char *read_port(struct words *words, char *text, struct settings *settings, const char **found);
 
-/* status.c */
 #define QUESTION_ROOM 256 /* a question has a name of an interface at most, with its words */
+/* status.c */
 #define REFUSAL "refused: " /* begins the answer to who has no place */
 void open_status(struct process *process, const char *folder);
 void accept_callers(struct process *process);
 void pass_tick_of_callers(struct process *process);
-void tell_watchers(struct status_private *own, const char *text, size_t length, bool json);
+void tell_watchers(struct status *own, const char *text, size_t length, bool json);
 void tell_watchers_of(struct control *control, const struct link *link);
 
 /* state.c, resume.c */

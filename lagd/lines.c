@@ -108,7 +108,7 @@ static bool say_text(struct process *process, int level, const char *text) {
     struct timespec now;
     clock_gettime(CLOCK_REALTIME, &now);
     int used = snprintf(line, sizeof line, "%s.%03ldZ %s\n", time_text(now.tv_sec, time), now.tv_nsec / 1000000, text);
-    if (!(level & WATCHED)) tell_watchers(process->status, line, (size_t)used, false);
+    if (!(level & WATCHED)) tell_watchers(&process->status, line, (size_t)used, false);
     if (in_journal()) {
         int fault = tell_journal(process, level, text);
         if (fault == 0 || fault == EAGAIN) return fault == 0; /* one that is elsewhere reads standard output */

@@ -23,7 +23,7 @@ static int open_socket(struct process *process, int index) {
     if (setsockopt(opened, SOL_PACKET, PACKET_AUXDATA, &(int){1}, sizeof(int)) == 0 && bind(opened, (struct sockaddr *)&address, sizeof address) == 0
         && setsockopt(opened, SOL_PACKET, PACKET_ADD_MEMBERSHIP, &member, sizeof member) == 0)
         return opened;
-    close_stored(process->store, "lacp", index, opened);
+    close_stored(&process->store, "lacp", index, opened);
     return last_fault();
 }
 
@@ -85,7 +85,7 @@ bool has_new_carrier(struct link *link) {
     return true;
 }
 
-static void close_files(struct store_private *store, struct link *link) {
+static void close_files(struct store *store, struct link *link) {
     if (link->socket >= 0) close_stored(store, "lacp", link->index, link->socket);
     if (link->lock >= 0) close_stored(store, "lock", link->index, link->lock);
     if (link->carrier_file >= 0) close(link->carrier_file);
@@ -107,21 +107,21 @@ static int open_files(struct protocol *protocol, struct link *link, int index) {
 bool open_link(struct protocol *protocol, struct link *link, int index) {
     link->trouble = -open_files(protocol, link, index);
     bool taken = link->trouble == 0;
-    if (taken) put_stored(protocol->process->store, "lock", index, link->lock);
-    if (taken) put_stored(protocol->process->store, "lacp", index, link->socket);
+    if (taken) put_stored(&protocol->process->store, "lock", index, link->lock);
+    if (taken) put_stored(&protocol->process->store, "lacp", index, link->socket);
     link->carrier_file = open_carrier(index);
     link->carrier_changes[0] = 0;
     link->trouble_ticks = TROUBLE_TICKS;
     link->unsent = link->queued = false;
     link->changed = true;
-    if (!taken) close_files(protocol->process->store, link);
+    if (!taken) close_files(&protocol->process->store, link);
     return taken;
 }
 
 void close_link(struct protocol *protocol, struct link *link) {
     CALL(protocol->plane->carrying->remove, protocol->plane, link);
     CALL(protocol->plane->carrying->follow_mtu, protocol->plane, link, 0);
-    close_files(protocol->process->store, link);
+    close_files(&protocol->process->store, link);
     link->unsent = false;
     link->changed = true;
 }
@@ -149,7 +149,7 @@ void send_frame(struct protocol *protocol, struct link *link, const uint8_t *fra
         return;
     }
     link->counts[FAILED_SENT]++;
-    suspect_carriers(protocol->changes);
+    protocol->changes.suspected = true;
     if (errno == ENETDOWN || errno == ENXIO) return; /* of a link that is down the kernel tells, too */
     link->trouble = errno;
     link->trouble_ticks = TROUBLE_TICKS;

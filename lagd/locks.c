@@ -49,7 +49,7 @@ int lock_interface(struct process *process, int index) {
     fault = bind(opened, (struct sockaddr *)&address, sizeof address) < 0 ? last_fault() : find_lock(index, opened, &other);
     if (fault == 0 && other.inode == 0) fault = find_lock(index, opened, &other);
     if (fault == 0 && other.inode == 0) return opened;
-    close_stored(process->store, "lock", index, opened);
+    close_stored(&process->store, "lock", index, opened);
     return fault == 0 ? -EADDRINUSE : fault;
 }
 

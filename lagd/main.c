@@ -101,7 +101,7 @@ static void pass_second(struct lagd *lagd) {
         if (link->lines < MOST_LINES) link->lines++;
     }
     look_for_twins(&lagd->protocol);
-    allow_bundle_line(lagd->protocol.bundle_private);
+    allow_bundle_line(&lagd->protocol.bundle);
     pass_revert_second(&lagd->protocol);
     watch_changes(&lagd->protocol);
     (void)save_state(lagd->state, false);
@@ -113,7 +113,7 @@ static void pass_tick(struct lagd *lagd) {
     pass_halt_tick(&lagd->protocol);
     pass_leaving_tick(&lagd->protocol);
     pass_carry_tick(&lagd->protocol);
-    if (ticks_passed(lagd->protocol.system) % SECOND == 0) pass_second(lagd);
+    if (lagd->protocol.ticks % SECOND == 0) pass_second(lagd);
 }
 
 /* Makes up the ticks that passed, and then sends once. */

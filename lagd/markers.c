@@ -57,11 +57,11 @@ bool may_answer(struct protocol *protocol, struct link *link, const struct arriv
 void tell_markers(struct protocol *protocol, struct link *link) {
     uint64_t foreign = link->counts[FOREIGN_RESPONSES], unanswered = link->counts[RESPONSES_UNSENT];
     char source[32];
-    if (foreign + unanswered == link->markers.told || ticks_passed(protocol->system) < link->markers.tell_at) return;
+    if (foreign + unanswered == link->markers.reported || protocol->ticks < link->markers.tell_at) return;
     if (!say(protocol->process, LOG_WARNING | ABOUT_MARKERS,
             "port %u %s: Marker PDUs, last from %s: %" PRIu64 " responses that are not the partner's, %" PRIu64 " markers not answered",
             link->settings.number, link->name, mac_text(link->markers.source, source), foreign, unanswered))
         return;
-    link->markers.told = foreign + unanswered;
-    link->markers.tell_at = ticks_passed(protocol->system) + LINE_TICKS;
+    link->markers.reported = foreign + unanswered;
+    link->markers.tell_at = protocol->ticks + LINE_TICKS;
 }

@@ -285,7 +285,7 @@ static const char *fault_of(struct protocol *protocol, const char *name) {
         if (link->used && link->socket >= 0 && link->index == interface.index) return "it is a port by another name";
     int lock = lock_interface(protocol->process, interface.index);
     if (lock < 0) return lock == -EADDRINUSE ? "another lagd has it" : strerror(-lock);
-    close_stored(protocol->process->store, "lock", interface.index, lock);
+    close_stored(&protocol->process->store, "lock", interface.index, lock);
     return NULL;
 }
 
@@ -303,7 +303,7 @@ static const char *add_by_words(struct protocol *protocol, char *text, uint16_t 
     const char *fault = known ? NULL : fault_of(protocol, settings->name);
     if (known && !known->leaving) return "it is a port already";
     if (fault) return fault;
-    if (!known && settings->key != AS_BUNDLE && !has_aggregator(protocol->keys, (uint16_t)settings->key))
+    if (!known && settings->key != AS_BUNDLE && !has_aggregator(&protocol->keys, (uint16_t)settings->key))
         return "no port had this key at the start: a restart of this bundle makes aggregators of it";
     if (!link) return "there is no room for one more port: a restart of this bundle makes it";
     *port = link->settings.number;

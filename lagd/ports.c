@@ -5,7 +5,7 @@
 static uint8_t status_of(struct protocol *protocol, const struct link *link) {
     uint8_t status = link->view.port_status;
     if (link->socket < 0) return link->outside ? OUTSIDE : MISSING;
-    if (is_halted(protocol->halt)) return DEVICE_DOWN;
+    if (protocol->halt.down) return DEVICE_DOWN;
     if (link->leaving) return LEAVES;
     if (link->waits) return RESTORING;
     if (status != NIW_PORT_STATUS_DISTRIBUTING) return status;
@@ -88,7 +88,7 @@ static bool print_facts(struct protocol *protocol, const struct link *link, cons
 /* Looks at a port, and prints it if it changed; answers whether it did. What could not be printed is looked at again. */
 bool print_change(struct protocol *protocol, struct link *link) {
     struct facts facts = facts_of(protocol, link);
-    bool same = link->told && is_same(&facts, &link->printed), watched = link->watched && is_same(&facts, &link->shown);
+    bool same = link->reported && is_same(&facts, &link->printed), watched = link->watched && is_same(&facts, &link->shown);
     if (!protocol->process->has_started || !link->used) return false;
     if (!same && !watched) {
         link->changed_at = time(NULL);
@@ -98,7 +98,7 @@ bool print_change(struct protocol *protocol, struct link *link) {
     link->shown = facts;
     link->changed = !same && !print_facts(protocol, link, &facts, watched);
     if (same || link->changed) return false;
-    link->told = true;
+    link->reported = true;
     link->printed = facts;
     return true;
 }

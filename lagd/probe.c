@@ -6,37 +6,22 @@
 #define AGAIN 200
 #define LATER 60000
 
-struct probe_private {
-    enum answering peer, told;
-    bool asking; /* whether a marker waits for its response: one that answers none stays MUTE meanwhile */
-    uint16_t asked_on; /* the port that had the last marker, or 0 */
-    uint64_t asked_at, sent_at; /* the times when the marker went first, and last */
-    struct system_id partner; /* of the active aggregator */
-    uint16_t partner_key;
-};
-
-MAKES_WITH(probe, .peer = NOT_ASKED, .told = NOT_ASKED)
-
-enum answering peer_answering(const struct probe_private *own) {
-    return own->peer;
-}
-
 /* The last daemon found that out of this partner. */
 void go_on_answering(struct carry *carry, enum answering last) {
-    struct probe_private *own = carry->probe;
+    struct probe *own = &carry->probe;
     if (carry->active == 0 || (last != ANSWERS && last != MUTE)) return;
     look_at_partner(carry);
-    own->peer = own->told = last;
+    own->peer = own->reported = last;
 }
 
 /* The peer did not answer a marker in time. */
-void suspect_partner(struct probe_private *own) {
+void suspect_partner(struct probe *own) {
     if (own->peer == ANSWERS) own->peer = NOT_ASKED;
 }
 
 /* Another partner may answer markers where the last one did not. */
 void look_at_partner(struct carry *carry) {
-    struct probe_private *own = carry->probe;
+    struct probe *own = &carry->probe;
     if (carry->active == 0) return;
     const struct niw_view *view = &carry->ports->links[carry->active_ports[0] - 1].view;
     struct system_id partner = {.priority = view->partner_priority};
@@ -44,14 +29,14 @@ void look_at_partner(struct carry *carry) {
     if (view->partner_key == own->partner_key && memcmp(&partner, &own->partner, sizeof partner) == 0) return;
     own->partner_key = view->partner_key;
     own->partner = partner;
-    own->peer = own->told = NOT_ASKED;
+    own->peer = own->reported = NOT_ASKED;
     own->asking = false;
     own->asked_on = 0;
 }
 
 /* Sends a marker behind the data of a port of the active aggregator. There is none while no identifier is left, or the link is down. */
 static void ask_peer(struct carry *carry) {
-    struct probe_private *own = carry->probe;
+    struct probe *own = &carry->probe;
     uint8_t marker[NIW_FRAME];
     struct niw_sent asked = niw_probe(&carry->protocol->own_system, carry->active_ports[0], marker, sizeof marker);
     if (!is_done(carry->process, asked.status, "niw_probe") || !asked.is) return;
@@ -64,11 +49,11 @@ static void ask_peer(struct carry *carry) {
 
 /* It is known whether the peer answers: says so, if that is new. */
 static void judge(struct carry *carry, enum answering now) {
-    struct probe_private *own = carry->probe;
+    struct probe *own = &carry->probe;
     own->asking = false;
     own->peer = now;
-    if (own->peer == own->told) return;
-    own->told = own->peer;
+    if (own->peer == own->reported) return;
+    own->reported = own->peer;
     if (own->peer == ANSWERS)
         (void)say(carry->process, LOG_NOTICE | ABOUT_MARKERS, "carry %s: the peer answers markers", carry->settings->carry);
     else
@@ -82,13 +67,13 @@ void note_response(struct plane *plane, const struct link *link) {
     struct carry *carry = plane->carry;
     uint16_t port = link->settings.number;
     uint64_t answers;
-    if (carry->probe->asked_on != port || !is_told(carry->process, niw_answers(&carry->protocol->own_system, port), "niw_answers", &answers)) return;
+    if (carry->probe.asked_on != port || !is_told(carry->process, niw_answers(&carry->protocol->own_system, port), "niw_answers", &answers)) return;
     if (answers == NIW_ANSWERS_ANSWERED) judge(carry, ANSWERS);
 }
 
 void pass_probe_tick(struct tap_plane *tap) {
     struct carry *carry = tap->carry;
-    struct probe_private *own = carry->probe;
+    struct probe *own = &carry->probe;
     if (own->asking && carry->ports->links[own->asked_on - 1].view.port_status != NIW_PORT_STATUS_DISTRIBUTING) {
         own->asking = false; /* its link went: the peer is asked by another one */
         own->peer = NOT_ASKED;

@@ -6,7 +6,7 @@ static const char *restart_for(struct protocol *protocol, const struct settings 
     for (const struct key *key = BUNDLE_KEYS; key->name; key++)
         if (key->restart && !is_same_value(key, wanted, protocol->settings)) return key->restart;
     for (uint16_t port = 1; port <= wanted->port_count; port++)
-        if (wanted->ports[port - 1].name[0] && !has_aggregator(protocol->keys, port_of(wanted, port).key))
+        if (wanted->ports[port - 1].name[0] && !has_aggregator(&protocol->keys, port_of(wanted, port).key))
             return "a key that no port had at the start";
     return NULL;
 }
@@ -18,7 +18,7 @@ static bool change_port(struct protocol *protocol, uint16_t port, const struct s
     struct niw_port *now = &link->settings, next = port_of(wanted, port);
     struct niw_change change = {.priority = next.priority, .aggregatable = next.aggregatable};
     bool hold = wants_hold(wanted, port);
-    if (has_aggregator(protocol->keys, next.key)) link->key = next.key;
+    if (has_aggregator(&protocol->keys, next.key)) link->key = next.key;
     change.key = choose_key(protocol, link);
     struct niw_truth answer = niw_configure(&protocol->own_system, port, &change);
     bool changed = is_done(protocol->process, answer.status, "niw_configure") && answer.is;
@@ -57,7 +57,7 @@ static void change_policy(struct protocol *protocol, const struct settings *want
 static bool apply_port(struct protocol *protocol, uint16_t port, const struct settings *wanted) {
     struct link *link = &protocol->ports->links[port - 1];
     bool was_leaving = link->leaving, is_wanted = wanted->ports[port - 1].name[0] != 0;
-    if (!link->used && (!is_wanted || !has_aggregator(protocol->keys, port_of(wanted, port).key))) return false;
+    if (!link->used && (!is_wanted || !has_aggregator(&protocol->keys, port_of(wanted, port).key))) return false;
     if (!link->used) {
         join_port(protocol, link, &wanted->ports[port - 1]);
         return true;
@@ -85,7 +85,7 @@ static unsigned apply_settings(struct protocol *protocol, const struct settings 
     now->active = wanted->active;
     now->short_timeout = wanted->short_timeout;
     now->port_priority = wanted->port_priority;
-    if (has_aggregator(protocol->keys, wanted->key)) now->key = wanted->key;
+    if (has_aggregator(&protocol->keys, wanted->key)) now->key = wanted->key;
     for (uint16_t port = 1; port <= protocol->ports->slots; port++) changed += apply_port(protocol, port, wanted);
     limit_links(protocol, wanted->config.max_links);
     change_policy(protocol, wanted);

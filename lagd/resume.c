@@ -155,13 +155,13 @@ void resume_data(struct protocol *protocol, unsigned count) {
     if (goes_on) { /* which is no change of the bundle */
         protocol->bundle.state = inherited->bundle.state;
         protocol->bundle.changed_at = inherited->bundle.changed_at;
-        go_on_selecting(protocol->selection, inherited->bundle.aggregator, inherited->follows);
+        go_on_selecting(&protocol->choice, inherited->bundle.aggregator, inherited->follows);
     }
     CALL(protocol->plane->carrying->resume, protocol->plane, goes_on);
 }
 
 void end_resuming(struct protocol *protocol) {
     CALL(protocol->plane->carrying->end_resuming, protocol->plane);
-    drop_unclaimed(protocol->process->store);
+    drop_unclaimed(&protocol->process->store);
 }
 

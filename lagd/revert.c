@@ -71,7 +71,7 @@ void limit_links(struct protocol *protocol, uint16_t most) {
 /* A second passed. One port gives way at most: it leaves its aggregator, and comes back to stand by. What is on its way there leaves it behind a
  * marker. */
 void pass_revert_second(struct protocol *protocol) {
-    if (!protocol->settings->revert || is_halted(protocol->halt)) return;
+    if (!protocol->settings->revert || protocol->halt.down) return;
     read_views(protocol);
     for (uint16_t aggregator = 1; aggregator <= protocol->aggregator_count; aggregator++) {
         struct link *next = next_of(protocol->ports, aggregator), *last = last_beyond(protocol->ports, aggregator, 0);

@@ -6,13 +6,6 @@
 /* For how long the peer may send in another aggregator alone, in milliseconds of ticks in which a frame came there. */
 #define PATIENCE 3000
 
-struct select_private {
-    uint16_t chosen_last; /* what choose_aggregator answered last, or 0 */
-    uint16_t followed; /* one in which the peer alone sends, whatever this end prefers, or 0 */
-};
-
-MAKES_ROOM(select)
-
 /* A system as a number: the lower one is the better one (IEEE 802.1AX-2014, 6.3.2). */
 static uint64_t number_of(uint16_t priority, const uint8_t *mac) {
     uint64_t number = priority;
@@ -82,11 +75,11 @@ static uint16_t aggregator_after(struct protocol *protocol, uint16_t before) {
  * is the one with the least group, so that the other end chooses it, too. Otherwise best_after chooses, and one in which the peer alone sends is
  * chosen as long as it carries. */
 void choose_aggregator(struct protocol *protocol, struct bundle *now) {
-    struct select_private *own = protocol->selection;
+    struct choice *own = &protocol->choice;
     struct worth followed = worth_of(protocol, own->followed);
     bool stays = protocol->settings->select == SELECT_PRIORITY_STABLE || ASK(protocol->plane->carrying->keeps_aggregator, true, protocol->plane);
     if (protocol->settings->select == SELECT_COUNT || !followed.has_partner || followed.links < protocol->settings->min_links) own->followed = 0;
-    own->chosen_last = now->aggregator = own->followed != 0 ? own->followed : aggregator_after(protocol, stays ? own->chosen_last : 0);
+    own->last = now->aggregator = own->followed != 0 ? own->followed : aggregator_after(protocol, stays ? own->last : 0);
     now->carrying = worth_of(protocol, now->aggregator).links;
 }
 
@@ -107,8 +100,8 @@ uint64_t patience_with(struct protocol *protocol, uint16_t active, uint16_t othe
 
 /* The peer sends in an aggregator that this end does not prefer, and in no other one: both ends go by it, or no data would arrive. */
 void follow_peer(struct protocol *protocol, uint16_t aggregator) {
-    struct select_private *own = protocol->selection;
-    own->chosen_last = aggregator;
+    struct choice *own = &protocol->choice;
+    own->last = aggregator;
     own->followed = aggregator_after(protocol, 0) == aggregator ? 0 : aggregator;
     if (own->followed == 0)
         (void)say(protocol->process, LOG_NOTICE | ABOUT_BUNDLE, "bundle %s: the peer sends in aggregator %u: it carries",
@@ -118,12 +111,8 @@ void follow_peer(struct protocol *protocol, uint16_t aggregator) {
             protocol->settings->name, aggregator, selection_text(protocol->settings->select));
 }
 
-bool is_following(const struct select_private *own) {
-    return own->followed != 0;
-}
-
 /* The aggregator is that of the last daemon, which may have followed the peer there. */
-void go_on_selecting(struct select_private *own, uint16_t aggregator, bool follows) {
-    own->chosen_last = aggregator;
+void go_on_selecting(struct choice *own, uint16_t aggregator, bool follows) {
+    own->last = aggregator;
     own->followed = follows ? aggregator : 0;
 }

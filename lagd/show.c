@@ -54,7 +54,7 @@ static void add_time(struct report *report, enum form form, time_t time) {
 static void add_selection(struct report *report, struct protocol *protocol) {
     enum selection by = protocol->settings->select;
     add(report, "  select: %s", selection_text(by));
-    if (is_following(protocol->selection))
+    if (protocol->choice.followed != 0)
         add(report, ", but it follows the peer, which sends in aggregator %u alone", protocol->bundle.aggregator);
     for (uint16_t aggregator = 1; aggregator <= protocol->aggregator_count; aggregator++) {
         struct worth worth = worth_of(protocol, aggregator);
@@ -81,7 +81,7 @@ static void add_bundle(struct control *control) {
     add_selection(control->report, control->protocol);
     add(control->report, "  partner: %s%s\n", partner_text(settings, text), settings->partner_required ? ", required" : "");
     add_time(control->report, AS_TEXT, bundle->changed_at);
-    add(control->report, "  uptime: %" PRIu64 " s, lagd %s\n", seconds_passed(control->protocol->system), VERSION);
+    add(control->report, "  uptime: %" PRIu64 " s, lagd %s\n", seconds_since(control->protocol->began), VERSION);
 }
 
 static void add_state(struct report *report, enum form form, uint64_t state) {
@@ -250,7 +250,7 @@ void write_json(struct control *control) {
     add(report, ",\"key\":%u,\"collector_max_delay\":%u", settings->key, settings->config.max_delay);
     add(report, ",\"min_links\":%u,\"max_links\":%u", settings->min_links, settings->config.max_links);
     add(report, ",\"select\":\"%s\",\"follows_peer\":%s,\"seconds\":%" PRIu64 ",", selection_text(settings->select),
-        is_following(control->protocol->selection) ? "true" : "false", seconds_passed(control->protocol->system));
+        control->protocol->choice.followed != 0 ? "true" : "false", seconds_since(control->protocol->began));
     CALL(control->plane->carrying->show, control, AS_JSON);
     add(report, "\"ports\":[");
     EACH_LINK(link, control->ports) {

@@ -96,10 +96,10 @@ static void write_state(struct state *own, FILE *file) {
     if (own->copy_folder >= 0) fprintf(file, "wall %" PRIu64 "\n", milliseconds_of(CLOCK_REALTIME));
     fprintf(file, "marker %" PRIu32 "\n", is_done(carry->process, marker.status, "niw_next_marker") && marker.left ? marker.id : 0);
     fprintf(file, "bundle %u %u %lld\n", protocol->bundle.state, protocol->bundle.aggregator, (long long)protocol->bundle.changed_at);
-    if (is_following(protocol->selection)) fputs("follows\n", file);
+    if (protocol->choice.followed != 0) fputs("follows\n", file);
     if (tap_index(carry->device) != 0)
         fprintf(file, "tap %d %d %" PRIu32 " %u\n", tap_index(carry->device), carry->plane->owns_device,
-            carry->device->less_mtu, peer_answering(carry->probe));
+            carry->device->less_mtu, carry->probe.peer);
     EACH_LINK(link, carry->ports)
         if (link->used) fprintf(file, "port %u %d %s\n", link->settings.number, link->socket >= 0 ? link->index : 0, link->name);
     EACH_LINK(link, carry->ports) {

@@ -10,27 +10,6 @@
 #define LONGEST_NAME 64  /* of a bundle in the name of its socket: an address has no more room */
 #define PATIENCE 20      /* ticks that a question may take, and that each part of an answer may wait for whoever asked */
 
-struct caller {
-    int fd; /* -1: none */
-    uid_t user;
-    unsigned ticks; /* that are left for the question */
-    bool watches, json;
-    size_t length;
-    char question[QUESTION_ROOM];
-    char *rest; /* what is still to be sent of its answer, behind `sent` octets; or NULL */
-    size_t sent, answer_length;
-};
-
-struct status_private {
-    struct caller callers[MOST_CALLERS];
-    int listener;
-    unsigned left_in_tick;
-    bool listens;
-    char own_name[NAME_ROOM + 32];
-};
-
-MAKES_WITH(status, .listener = -1, .left_in_tick = MOST_IN_TICK)
-
 #define EACH_CALLER(it, own) for (struct caller *it = (own)->callers; it < (own)->callers + MOST_CALLERS; it++)
 
 static void close_caller(struct caller *caller) {
@@ -40,7 +19,7 @@ static void close_caller(struct caller *caller) {
 }
 
 /* A free place for a user, or NULL, and why there is none. */
-static struct caller *place_for(struct status_private *own, uid_t user, const char **why) {
+static struct caller *place_for(struct status *own, uid_t user, const char **why) {
     struct caller *found = NULL;
     unsigned free_ones = 0, of_user = 0;
     EACH_CALLER(caller, own) {
@@ -67,9 +46,9 @@ static void accept_one(struct process *process, int fd) {
     struct ucred who = {0};
     socklen_t length = sizeof who;
     const char *why = NULL;
-    struct caller *place = getsockopt(fd, SOL_SOCKET, SO_PEERCRED, &who, &length) == 0 ? place_for(process->status, who.uid, &why) : NULL;
+    struct caller *place = getsockopt(fd, SOL_SOCKET, SO_PEERCRED, &who, &length) == 0 ? place_for(&process->status, who.uid, &why) : NULL;
     struct caller caller = {.fd = fd, .user = who.uid, .ticks = PATIENCE};
-    if (place && await_input(process->epoll_file, fd, CALLERS + (uint32_t)(place - process->status->callers))) {
+    if (place && await_input(process->epoll_file, fd, CALLERS + (uint32_t)(place - process->status.callers))) {
         *place = caller;
         return;
     }
@@ -80,7 +59,7 @@ static void accept_one(struct process *process, int fd) {
 
 /* Takes connections, in the order in which they came. Those for which there is no room now are taken at the next tick. */
 void accept_callers(struct process *process) {
-    struct status_private *own = process->status;
+    struct status *own = &process->status;
     while (own->left_in_tick > 0) {
         int fd = accept4(own->listener, NULL, NULL, SOCK_NONBLOCK | SOCK_CLOEXEC);
         if (fd < 0 && (errno == EAGAIN || errno == EINTR || errno == ECONNABORTED)) return;
@@ -101,7 +80,7 @@ static void send_rest(struct process *process, struct caller *caller) {
         caller->ticks = PATIENCE;
     }
     if (!waits || caller->sent == caller->answer_length
-        || !await_output(process->epoll_file, caller->fd, CALLERS + (uint32_t)(caller - process->status->callers)))
+        || !await_output(process->epoll_file, caller->fd, CALLERS + (uint32_t)(caller - process->status.callers)))
         close_caller(caller);
 }
 
@@ -113,7 +92,7 @@ static bool is_order(const char *asked) {
 }
 
 /* Lets a caller watch, if his user does not watch too often. */
-static void let_watch(struct status_private *own, struct caller *caller) {
+static void let_watch(struct status *own, struct caller *caller) {
     unsigned watching = 0;
     EACH_CALLER(other, own) watching += other->watches && other->user == caller->user;
     caller->json = strcmp(caller->question, "watch-json") == 0;
@@ -159,7 +138,7 @@ static void read_question(struct control *control, struct caller *caller) {
     }
     *end = 0;
     if (strcmp(caller->question, "watch") == 0 || strcmp(caller->question, "watch-json") == 0)
-        let_watch(control->process->status, caller);
+        let_watch(&control->process->status, caller);
     else if (is_order(caller->question))
         obey(control, caller);
     else
@@ -168,7 +147,7 @@ static void read_question(struct control *control, struct caller *caller) {
 
 /* Takes what somebody sends, or goes on with an answer. Who watches sends nothing more, but for the end. */
 void serve_caller(struct control *control, uint32_t number) {
-    struct caller *caller = &control->process->status->callers[number];
+    struct caller *caller = &control->process->status.callers[number];
     char scrap[64];
     if (caller->fd < 0) return;
     if (caller->rest)
@@ -181,7 +160,7 @@ void serve_caller(struct control *control, uint32_t number) {
 
 /* 100 ms passed: who asked nothing for 2 s is let go, and more may come. */
 void pass_tick_of_callers(struct process *process) {
-    struct status_private *own = process->status;
+    struct status *own = &process->status;
     EACH_CALLER(caller, own)
         if (caller->fd >= 0 && !caller->watches && --caller->ticks == 0) close_caller(caller);
     own->left_in_tick = MOST_IN_TICK;
@@ -189,7 +168,7 @@ void pass_tick_of_callers(struct process *process) {
 }
 
 /* Tells those who watch, by lines or in JSON; who does not keep up is let go. */
-void tell_watchers(struct status_private *own, const char *text, size_t length, bool json) {
+void tell_watchers(struct status *own, const char *text, size_t length, bool json) {
     EACH_CALLER(caller, own)
         if (caller->watches && caller->json == json && send(caller->fd, text, length, MSG_NOSIGNAL | MSG_DONTWAIT) != (ssize_t)length)
             close_caller(caller);
@@ -197,7 +176,7 @@ void tell_watchers(struct status_private *own, const char *text, size_t length, 
 
 /* Tells those who watch in JSON how a port is now, or the bundle, where `link` is null. */
 void tell_watchers_of(struct control *control, const struct link *link) {
-    struct status_private *own = control->process->status;
+    struct status *own = &control->process->status;
     bool any = false;
     EACH_CALLER(caller, own) any = any || (caller->watches && caller->json);
     if (!any) return;
@@ -208,7 +187,7 @@ void tell_watchers_of(struct control *control, const struct link *link) {
 
 static void remove_socket(int status UNUSED, void *given) {
     const struct process *process = given;
-    (void)unlinkat(process->folder, process->status->own_name, 0);
+    (void)unlinkat(process->folder, process->status.own_name, 0);
 }
 
 static bool is_taken(const struct sockaddr_un *address) {
@@ -221,8 +200,9 @@ static bool is_taken(const struct sockaddr_un *address) {
 /* The status socket, named for the namespace and the bundle: one that is left there, at which nobody listens, is nobody's. Its user and
  * group may ask, whatever the umask is. */
 void open_status(struct process *process, const char *folder) {
-    struct status_private *own = process->status;
+    struct status *own = &process->status;
     struct sockaddr_un address = {.sun_family = AF_UNIX};
+    own->left_in_tick = MOST_IN_TICK;
     EACH_CALLER(caller, own) caller->fd = -1;
     snprintf(own->own_name, sizeof own->own_name, "%lu.%.*s.sock", network_namespace(), LONGEST_NAME, process->settings->name);
     int length = snprintf(address.sun_path, sizeof address.sun_path, "/proc/self/fd/%d/%s", process->folder, own->own_name);

@@ -16,20 +16,6 @@
 #include <linux/if_packet.h>
 #include <netinet/in.h>
 
-#define NAME_OF_FILE 64
-/* What the unit lets it keep. */
-#define MOST_FILES 512
-
-struct store_private {
-    struct stored { /* a file that the last daemon left */
-        char name[NAME_OF_FILE];
-        int fd;    /* -1: it is taken, or closed */
-        int taken; /* the same, once it is taken, until the manager keeps it no more; else -1 */
-    } stored[MOST_FILES];
-    size_t count;
-};
-
-MAKES_ROOM(store)
 
 #define EACH_STORED(it, of) for (struct stored *it = (of)->stored; it < (of)->stored + (of)->count; it++)
 
@@ -58,7 +44,7 @@ bool has_store(void) {
 }
 
 /* The manager keeps a file, too, until drop_stored. Where the kernel cannot compare files (kcmp), it would keep one twice that it has already. */
-void put_stored(struct store_private *own, const char *kind, int number, int fd) {
+void put_stored(struct store *own, const char *kind, int number, int fd) {
     char name[NAME_OF_FILE];
     name_stored(kind, number, name);
     EACH_STORED(it, own)
@@ -66,7 +52,7 @@ void put_stored(struct store_private *own, const char *kind, int number, int fd)
     if (has_store()) tell_store("FDSTORE", name, fd);
 }
 
-void drop_stored(struct store_private *own, const char *kind, int number) {
+void drop_stored(struct store *own, const char *kind, int number) {
     char name[NAME_OF_FILE];
     name_stored(kind, number, name);
     EACH_STORED(it, own)
@@ -75,7 +61,7 @@ void drop_stored(struct store_private *own, const char *kind, int number) {
 }
 
 /* A file that the last daemon left, and that is taken, or not; or NULL. */
-static struct stored *find_stored(struct store_private *own, const char *kind, int number, bool taken) {
+static struct stored *find_stored(struct store *own, const char *kind, int number, bool taken) {
     char name[NAME_OF_FILE];
     name_stored(kind, number, name);
     EACH_STORED(it, own)
@@ -84,7 +70,7 @@ static struct stored *find_stored(struct store_private *own, const char *kind, i
 }
 
 /* Takes a file that the last daemon left; or -1. */
-int claim_stored(struct store_private *own, const char *kind, int number) {
+int claim_stored(struct store *own, const char *kind, int number) {
     struct stored *found = find_stored(own, kind, number, false);
     if (!found) return -1;
     found->taken = found->fd;
@@ -93,7 +79,7 @@ int claim_stored(struct store_private *own, const char *kind, int number) {
 }
 
 /* Gives back what was taken, for who takes it next. The manager closes what it is to keep no more a moment later, and a lock is held until then. */
-void return_stored(struct store_private *own, const char *kind, int number, int fd) {
+void return_stored(struct store *own, const char *kind, int number, int fd) {
     struct stored *found = find_stored(own, kind, number, true);
     if (!found) {
         close(fd);
@@ -104,7 +90,7 @@ void return_stored(struct store_private *own, const char *kind, int number, int 
 }
 
 /* Whether a file keeps a program that one in use keeps, too: the manager may hand over the same file twice. */
-static bool is_twin(struct store_private *own, int fd) {
+static bool is_twin(struct store *own, int fd) {
     uint32_t number = program_keeper(fd);
     EACH_STORED(it, own)
         if (number != 0 && it->taken >= 0 && program_keeper(it->taken) == number) return true;
@@ -112,7 +98,7 @@ static bool is_twin(struct store_private *own, int fd) {
 }
 
 /* What nobody took is kept no more. The manager forgets all files of a name: it keeps again what of them is in use. */
-void drop_unclaimed(struct store_private *own) {
+void drop_unclaimed(struct store *own) {
     EACH_STORED(it, own) {
         if (it->fd < 0) continue;
         tell_store("FDSTOREREMOVE", it->name, -1);
@@ -126,19 +112,19 @@ void drop_unclaimed(struct store_private *own) {
 
 /* The program ends, by whatever it is refused: nothing goes on without it, as the carrier of its device. */
 static void empty_store(int status UNUSED, void *given) {
-    const struct process *process = given;
+    struct process *process = given;
     if (process->has_left) return;
-    EACH_STORED(it, process->store) tell_store("FDSTOREREMOVE", it->name, -1);
+    EACH_STORED(it, &process->store) tell_store("FDSTOREREMOVE", it->name, -1);
 }
 
 void open_store(struct process *process) {
-    struct store_private *own = process->store;
+    struct store *own = &process->store;
     char **names = NULL;
     int found = sd_listen_fds_with_names(1, &names);
     for (int i = 0; i < found; i++) {
         int fd = SD_LISTEN_FDS_START + i;
         struct stored *stored = &own->stored[own->count];
-        if (own->count == MOST_FILES) {
+        if (own->count == MOST_STORED) {
             close(fd);
         } else {
             own->count++;
@@ -153,7 +139,7 @@ void open_store(struct process *process) {
 }
 
 /* Closes a file that the manager keeps, too, and leaves errno as it is. */
-void close_stored(struct store_private *own, const char *kind, int number, int fd) {
+void close_stored(struct store *own, const char *kind, int number, int fd) {
     int fault = errno;
     drop_stored(own, kind, number);
     close(fd);
@@ -170,15 +156,15 @@ bool is_bound(int fd, int index) {
 /* A packet socket for an interface, stored for a link with an index: the one that the last daemon left, with what came meanwhile unless that
  * is old, or a new one, which takes nothing before it is bound; or -errno. */
 int packet_socket(struct process *process, const char *kind, int of, int index, int type) {
-    int fd = claim_stored(process->store, kind, of);
+    int fd = claim_stored(&process->store, kind, of);
     if (fd >= 0 && is_bound(fd, index) && (type == SOCK_DGRAM || was_away_briefly(process->inherited))) return fd;
-    if (fd >= 0) close_stored(process->store, kind, of, fd);
+    if (fd >= 0) close_stored(&process->store, kind, of, fd);
     fd = socket(AF_PACKET, type | SOCK_NONBLOCK | SOCK_CLOEXEC, 0);
     return fd < 0 ? -errno : fd;
 }
 
 /* As attach_program, in the place of the program of the last daemon, where that left one; the manager of services keeps it, too. */
-int attach_stored(struct store_private *own, const char *kind, int program, int index, bool egress) {
+int attach_stored(struct store *own, const char *kind, int program, int index, bool egress) {
     int attached = claim_stored(own, kind, index);
     if (attached >= 0 && exchange_program(attached, program, index)) return attached;
     if (attached >= 0) detach_stored(own, kind, index, attached);
@@ -187,7 +173,7 @@ int attach_stored(struct store_private *own, const char *kind, int program, int 
     return attached;
 }
 
-void detach_stored(struct store_private *own, const char *kind, int index, int attached) {
+void detach_stored(struct store *own, const char *kind, int index, int attached) {
     detach_program(attached);
     close_stored(own, kind, index, attached);
 }

@@ -3,18 +3,6 @@
 
 #include <sys/random.h>
 
-struct system_private {
-    uint64_t ticks;
-    uint64_t began; /* in milliseconds */
-    uint16_t keys[NIW_MOST_PORTS]; /* of the aggregators */
-};
-
-MAKES_ROOM(system)
-
-uint64_t ticks_passed(const struct system_private *own) {
-    return own->ticks;
-}
-
 uint64_t milliseconds_of(clockid_t clock) {
     struct timespec now;
     clock_gettime(clock, &now);
@@ -25,9 +13,9 @@ uint64_t milliseconds(void) {
     return milliseconds_of(CLOCK_MONOTONIC);
 }
 
-/* How many seconds passed since the start, also while the daemon was stopped. */
-uint64_t seconds_passed(const struct system_private *own) {
-    return (milliseconds() - own->began) / 1000;
+/* Also while the daemon was stopped. */
+uint64_t seconds_since(uint64_t began) {
+    return (milliseconds() - began) / 1000;
 }
 
 /* An identifier for the first marker that nobody can guess. More than two thousand million are above it, of which none comes twice. */
@@ -42,7 +30,7 @@ static uint32_t random_marker(void) {
 /* Holds a port that nothing may use, whatever its link does, or lets it go; answers whether that is done. */
 bool apply_hold(struct protocol *protocol, uint16_t port) {
     const struct link *link = &protocol->ports->links[port - 1];
-    bool hold = ((link->held || link->leaving) && !link->emptying) || is_halted(protocol->halt);
+    bool hold = ((link->held || link->leaving) && !link->emptying) || protocol->halt.down;
     return is_done(protocol->process, niw_hold(&protocol->own_system, port, hold), "niw_hold");
 }
 
@@ -50,9 +38,11 @@ bool apply_hold(struct protocol *protocol, uint16_t port) {
 static struct niw_made put_system(struct protocol *protocol, const struct niw_saved *saved, size_t count) {
     const struct niw_config *config = &protocol->settings->config;
     struct niw_port ports[NIW_MOST_PORTS];
-    for (uint16_t i = 0; i < protocol->ports->slots; i++) ports[i] = protocol->ports->links[i].settings;
-    if (count == 0) return niw_new(&protocol->own_system, config, protocol->system->keys, protocol->aggregator_count, ports, protocol->ports->slots);
-    return niw_resume(&protocol->own_system, config, protocol->system->keys, protocol->aggregator_count, ports, protocol->ports->slots, saved, count);
+    struct niw_system *own = &protocol->own_system;
+    uint16_t slots = protocol->ports->slots;
+    for (uint16_t i = 0; i < slots; i++) ports[i] = protocol->ports->links[i].settings;
+    if (count == 0) return niw_new(own, config, protocol->aggregator_keys, protocol->aggregator_count, ports, slots);
+    return niw_resume(own, config, protocol->aggregator_keys, protocol->aggregator_count, ports, slots, saved, count);
 }
 
 static void hold_by_settings(struct protocol *protocol) {
@@ -77,7 +67,7 @@ size_t resume_system(struct protocol *protocol, struct niw_saved *saved, size_t 
 }
 
 void make_system(struct protocol *protocol) {
-    protocol->system->began = milliseconds();
+    protocol->began = milliseconds();
     protocol->settings->config.first_marker = first_marker_left(protocol->process->inherited);
     if (protocol->settings->config.first_marker == 0) protocol->settings->config.first_marker = random_marker();
     choose_slots(protocol);
@@ -85,7 +75,7 @@ void make_system(struct protocol *protocol) {
     for (uint16_t port = 1; port <= NIW_MOST_PORTS; port++) begin_link(protocol, port);
     keep_left_ports(protocol);
     protocol->ports->count = protocol->settings->port_count;
-    make_keys(protocol, protocol->system->keys);
+    make_keys(protocol, protocol->aggregator_keys);
     if (!is_done(protocol->process, put_system(protocol, NULL, 0).status, "niw_new")) return;
     hold_by_settings(protocol);
     read_views(protocol);
@@ -131,7 +121,7 @@ void set_link(struct protocol *protocol, uint16_t port, bool up) {
     link->unsent = false;
     link->changed = true;
     if (!up) {
-        if (!is_silent(protocol->halt) && !link->away) link->counts[LOSSES]++;
+        if (!protocol->halt.silent && !link->away) link->counts[LOSSES]++;
         link->away = false;
         forget_partner(protocol->settings, link);
         CALL(protocol->plane->carrying->lose, protocol->plane, port);
@@ -163,7 +153,7 @@ bool pass_system_tick(struct protocol *protocol) {
         link->trouble = 0;
         link->changed = true;
     }
-    protocol->system->ticks++;
+    protocol->ticks++;
     return taken;
 }
 

@@ -14,18 +14,6 @@
 /* For how long frames of the host are taken without a word of the daemon, in milliseconds: as long as the peer waits for an LACPDU. */
 #define OPEN_FOR 3000
 
-struct fast_private {
-    struct fast_row *rows;
-    struct fast_member *entries;
-    struct fast_host *host;
-    struct fast_place *places;
-    int receiver; /* the program of the members */
-    int sender, handover; /* what keeps its programs at the TAP device, or -1 */
-    bool queue_holds; /* whether its queueing discipline may hold frames */
-};
-
-MAKES_WITH(fast, .sender = -1, .handover = -1)
-
 /* Waits until each program that runs now, and what it does with its frame, is done; answers whether the kernel can. */
 static bool wait_for_programs(void) {
     return syscall(SYS_membarrier, MEMBARRIER_CMD_GLOBAL, 0, 0) == 0;
@@ -40,7 +28,7 @@ static int load(struct tap_plane *tap, const char *name, const struct fast_maps 
 
 /* Has a program run at the TAP device; answers what keeps it there. */
 static int keep_program(struct tap_plane *tap, const char *name, const struct fast_maps *maps, bool egress) {
-    int program = load(tap, name, maps), opened = attach_stored(tap->process->store, name, program, tap_index(tap->device), egress);
+    int program = load(tap, name, maps), opened = attach_stored(&tap->process->store, name, program, tap_index(tap->device), egress);
     if (opened < 0) stop(REFUSED, "fast: no program of an interface, which Linux has from 6.6 on", strerror(-opened));
     close(program);
     return opened;
@@ -49,13 +37,13 @@ static int keep_program(struct tap_plane *tap, const char *name, const struct fa
 /* A table that the programs share with the daemon: that of the last daemon, where that left one for this device, or a new one. */
 static void *open_map(struct tap_plane *tap, int number, uint32_t size, uint32_t count, int *map) {
     int left = tap->process->inherited->tap;
-    *map = claim_stored(tap->process->store, "map", number);
+    *map = claim_stored(&tap->process->store, "map", number);
     void *at = *map >= 0 && left != 0 && left == tap_index(tap->device) ? map_again(size, count, *map) : NULL;
     if (at) return at;
-    if (*map >= 0) close_stored(tap->process->store, "map", number, *map);
+    if (*map >= 0) close_stored(&tap->process->store, "map", number, *map);
     at = make_map(size, count, map);
     need(at != NULL, "fast: no table of the kernel");
-    put_stored(tap->process->store, "map", number, *map);
+    put_stored(&tap->process->store, "map", number, *map);
     return at;
 }
 
@@ -66,7 +54,7 @@ static uint64_t take(uint64_t *count) {
 
 /* What the kernel did for the last daemon is no count of this one, and ports that are no more collect nothing. */
 static void begin_counts(struct tap_plane *tap) {
-    struct fast_private *own = tap->fast;
+    struct fast_programs *own = &tap->fast;
     for (uint16_t number = 0; number < CONVERSATIONS; number++) own->rows[number].passed = own->rows[number].overflowed = 0;
     for (uint16_t i = 0; i < NIW_MOST_PORTS; i++) {
         struct fast_member *entry = &own->entries[i];
@@ -78,7 +66,7 @@ static void begin_counts(struct tap_plane *tap) {
 
 /* Loads all that the kernel is to run, while the daemon may. */
 void start_fast(struct tap_plane *tap) {
-    struct fast_private *own = tap->fast;
+    struct fast_programs *own = &tap->fast;
     struct fast_maps maps;
     need(wait_for_programs(), "fast: the kernel cannot wait for its programs (membarrier)");
     own->rows = open_map(tap, 0, sizeof *own->rows, CONVERSATIONS, &maps.rows);
@@ -99,16 +87,16 @@ static void clear_row(struct fast_row *row) {
 
 /* Nothing is passed on any more, from the first line on. */
 void end_fast(struct tap_plane *tap) {
-    struct fast_private *own = tap->fast;
+    struct fast_programs *own = &tap->fast;
     open_host(tap, false);
     for (uint16_t number = 0; number < CONVERSATIONS; number++) clear_row(&own->rows[number]);
     for (uint16_t i = 0; i < tap->ports->count; i++) __atomic_store_n(&own->entries[i].up_to, 0, __ATOMIC_SEQ_CST);
-    if (own->sender >= 0) detach_stored(tap->process->store, "sender", tap_index(tap->device), own->sender);
-    if (own->handover >= 0) detach_stored(tap->process->store, "handover", tap_index(tap->device), own->handover);
+    if (own->sender >= 0) detach_stored(&tap->process->store, "sender", tap_index(tap->device), own->sender);
+    if (own->handover >= 0) detach_stored(&tap->process->store, "handover", tap_index(tap->device), own->handover);
     own->sender = own->handover = -1;
 }
 
-static uint64_t *place_at(struct fast_private *own, const struct link *link) {
+static uint64_t *place_at(const struct fast_programs *own, const struct link *link) {
     return &own->places[member_place((uint32_t)link->index)].word;
 }
 
@@ -119,14 +107,14 @@ static uint64_t place_word(const struct link *link) {
 
 /* Has what comes at a member go up by the kernel, as long as the answer is open; or -errno, as where another member has its place. */
 int open_fast_receiver(struct tap_plane *tap, const struct link *wanted) {
-    uint64_t *place = place_at(tap->fast, wanted), taken = __atomic_load_n(place, __ATOMIC_SEQ_CST);
+    uint64_t *place = place_at(&tap->fast, wanted), taken = __atomic_load_n(place, __ATOMIC_SEQ_CST);
     EACH_LINK_AS_IS(link, tap->ports)
         if (link != wanted && link->socket >= 0 && place_word(link) == taken) return -EBUSY;
     __atomic_store_n(place, place_word(wanted), __ATOMIC_SEQ_CST);
-    return attach_stored(tap->process->store, "guard", tap->fast->receiver, wanted->index, false);
+    return attach_stored(&tap->process->store, "guard", tap->fast.receiver, wanted->index, false);
 }
 
-void close_fast_receiver(struct fast_private *own, const struct link *link) {
+void close_fast_receiver(const struct fast_programs *own, const struct link *link) {
     __atomic_store_n(place_at(own, link), 0, __ATOMIC_SEQ_CST);
 }
 
@@ -135,7 +123,7 @@ static uint16_t number_in(const struct carry *carry, const struct conversation *
 }
 
 static struct fast_row *row_of(struct tap_plane *tap, const struct conversation *conversation) {
-    return &tap->fast->rows[number_in(tap->carry, conversation)];
+    return &tap->fast.rows[number_in(tap->carry, conversation)];
 }
 
 static uint64_t word_of(const struct fast_row *row) {
@@ -157,7 +145,7 @@ static void subtract(struct tap_plane *tap, struct conversation *conversation, u
 static void count_passed(struct tap_plane *tap, struct conversation *conversation) {
     uint64_t passed = take(&row_of(tap, conversation)->passed);
     if (passed == 0 || conversation->fast.port == 0) return;
-    uint64_t *counts = member_counts(tap->members, conversation->fast.port);
+    uint64_t *counts = tap->members[conversation->fast.port - 1].counts;
     conversation->used = true;
     counts[DATA_SENT] += passed;
     counts[PASSED_ON] += passed;
@@ -166,8 +154,8 @@ static void count_passed(struct tap_plane *tap, struct conversation *conversatio
 
 /* Counts what the kernel handed up, or lost, of what came on a port. */
 static void count_handed_up(struct tap_plane *tap, uint16_t port) {
-    struct fast_member *entry = &tap->fast->entries[port - 1];
-    uint64_t *counts = member_counts(tap->members, port);
+    struct fast_member *entry = &tap->fast.entries[port - 1];
+    uint64_t *counts = tap->members[port - 1].counts;
     uint64_t passed_up = take(&entry->passed_up), uncollected = take(&entry->uncollected), wrong_length = take(&entry->wrong_length);
     counts[DATA_RECEIVED] += passed_up + uncollected + wrong_length;
     counts[PASSED_UP] += passed_up;
@@ -178,7 +166,7 @@ static void count_handed_up(struct tap_plane *tap, uint16_t port) {
 }
 
 void count_fast_frames(struct tap_plane *tap) {
-    uint64_t overflowed = take(&tap->fast->host->overflowed), unfit = take(&tap->fast->host->unfit);
+    uint64_t overflowed = take(&tap->fast.host->overflowed), unfit = take(&tap->fast.host->unfit);
     EACH_CONVERSATION(conversation, tap->carry) count_passed(tap, conversation);
     for (uint16_t port = 1; port <= tap->ports->count; port++) count_handed_up(tap, port);
     tap->carry->counts[FROM_HOST] += overflowed + unfit;
@@ -190,8 +178,8 @@ void count_fast_frames(struct tap_plane *tap) {
 static bool may_pass(struct tap_plane *tap, const struct conversation *conversation) {
     uint16_t port = conversation->port;
     struct niw_assignment state;
-    return tap->fast->sender >= 0 && !tap->fast->queue_holds && tap->carry->active != 0 && conversation->home == tap->carry->active
-        && has_fast_member(tap->members, port) && ask_state(tap->protocol, conversation->home, number_in(tap->carry, conversation), &state)
+    return tap->fast.sender >= 0 && !tap->fast.queue_holds && tap->carry->active != 0 && conversation->home == tap->carry->active
+        && is_fast(&tap->members[port - 1]) && ask_state(tap->protocol, conversation->home, number_in(tap->carry, conversation), &state)
         && state.what == NIW_CONVERSATION_ON && state.port == port;
 }
 
@@ -219,7 +207,7 @@ static void settle_cleared(struct tap_plane *tap) {
 }
 
 int fast_member_of(struct plane *plane, uint16_t number) {
-    const struct fast_row *rows = plane->tap->fast->rows;
+    const struct fast_row *rows = plane->tap->fast.rows;
     return rows ? (int)(uint32_t)word_of(&rows[number]) : 0;
 }
 
@@ -245,14 +233,14 @@ void withdraw(struct tap_plane *tap) {
     bool told = ask_ports(tap->protocol, tap->carry->active, tap->carry->port_of);
     EACH_CONVERSATION(conversation, tap->carry) {
         uint16_t port = conversation->fast.port, now = told ? tap->carry->port_of[number_in(tap->carry, conversation)] : 0;
-        if (port != 0 && (port != now || !has_fast_member(tap->members, port))) clear_row(row_of(tap, conversation));
+        if (port != 0 && (port != now || !is_fast(&tap->members[port - 1]))) clear_row(row_of(tap, conversation));
     }
     settle_cleared(tap);
 }
 
 /* The link of a port goes down, or its interface: before the library hears of it. */
 void withdraw_port(struct tap_plane *tap, uint16_t port) {
-    __atomic_store_n(&tap->fast->entries[port - 1].up_to, 0, __ATOMIC_SEQ_CST);
+    __atomic_store_n(&tap->fast.entries[port - 1].up_to, 0, __ATOMIC_SEQ_CST);
     EACH_CONVERSATION(conversation, tap->carry)
         if (conversation->fast.port == port) clear_row(row_of(tap, conversation));
     settle_cleared(tap);
@@ -263,7 +251,7 @@ void withdraw_port(struct tap_plane *tap, uint16_t port) {
 /* The TAP device has this queueing discipline now. One that may hold frames holds them behind the program that counts them, where nobody
  * sees them, and would not have what the kernel passes on: with it the daemon has all data. */
 void follow_host_queue(struct tap_plane *tap, const char *discipline) {
-    struct fast_private *own = tap->fast;
+    struct fast_programs *own = &tap->fast;
     bool holds = !keeps_order(discipline) && strcmp(discipline, "pfifo_fast") != 0
         && strcmp(discipline, "noop") != 0; /* it has that one until it is up */
     if (!discipline[0] || holds == own->queue_holds) return;
@@ -278,11 +266,11 @@ void follow_host_queue(struct tap_plane *tap, const char *discipline) {
 /* Frames go up by the kernel from the ports that collect in the active aggregator, while the TAP device is up: else the kernel would lose
  * markers, too, which go up behind the data. */
 void set_collecting(struct tap_plane *tap) {
-    struct fast_private *own = tap->fast;
+    struct fast_programs *own = &tap->fast;
     bool any_up = own->sender >= 0 && tap->carry->active != 0 && is_tap_up(tap->device);
     EACH_LINK_AS_IS(link, tap->ports) {
         bool up = any_up && link->view.aggregator == tap->carry->active && (link->view.state & NIW_STATE_COLLECTING) != 0
-            && has_fast_member(tap->members, link->settings.number);
+            && is_fast(&tap->members[link->settings.number - 1]);
         __atomic_store_n(&own->entries[link - tap->ports->links].up_to, up ? (uint64_t)tap_index(tap->device) : 0, __ATOMIC_SEQ_CST);
     }
 }
@@ -291,8 +279,8 @@ void set_collecting(struct tap_plane *tap) {
  * each frame, and a row that counted it would keep it; so they are lost before they are counted. Those of a host whose daemon is stopped go
  * nowhere once the peer may have given the links up. */
 void open_host(struct tap_plane *tap, bool open) {
-    if (!tap->fast->host) return; /* its tables are still to be made */
-    __atomic_store_n(&tap->fast->host->open_until, open ? (milliseconds() + OPEN_FOR) * 1000000 : 0, __ATOMIC_SEQ_CST);
+    if (!tap->fast.host) return; /* its tables are still to be made */
+    __atomic_store_n(&tap->fast.host->open_until, open ? (milliseconds() + OPEN_FOR) * 1000000 : 0, __ATOMIC_SEQ_CST);
 }
 
 /* Lets the kernel pass on a conversation of which nothing waits here, if nothing is on its way here. */
@@ -335,7 +323,7 @@ static void confirm_loss(struct tap_plane *tap, struct conversation *conversatio
  * no read takes it off: with MOST_LEFT of it no frame would ever come here again. What is taken off too early makes it less than 0, and is
  * put back. It only tells how many may wait, so a frame too many is lost by the kernel, which counts it. The order rests on the rows. */
 void note_read(struct tap_plane *tap, unsigned packets, bool drained) {
-    struct fast_private *own = tap->fast;
+    struct fast_programs *own = &tap->fast;
     if (tap->process->broken) return;
     int64_t left = __atomic_sub_fetch(&own->host->left, packets, __ATOMIC_SEQ_CST);
     if (drained && (left > MOST_BETWEEN || left < 0)) (void)__atomic_sub_fetch(&own->host->left, left, __ATOMIC_SEQ_CST);
@@ -366,11 +354,11 @@ static void withdraw_resting(struct tap_plane *tap) {
 
 void pass_fast_tick(struct tap_plane *tap) {
     bool any = false;
-    (void)read_tap_mac(tap->device, (uint8_t *)&tap->fast->host->mac);
+    (void)read_tap_mac(tap->device, (uint8_t *)&tap->fast.host->mac);
     withdraw(tap);
     open_host(tap, has_carrier(tap->device));
     count_fast_frames(tap);
-    if (peer_answering(tap->carry->probe) == MUTE) withdraw_resting(tap);
+    if (tap->carry->probe.peer == MUTE) withdraw_resting(tap);
     EACH_CONVERSATION(conversation, tap->carry) any = suspect(tap, conversation) || any;
     if (any) wait_or_end(tap);
 }

@@ -34,7 +34,7 @@ static void set_free(struct carry *carry, struct conversation *conversation, uin
     struct niw_system *system = &carry->protocol->own_system;
     uint32_t status = held ? niw_force(system, conversation->home, number) : niw_rest(system, conversation->home, number);
     if (!is_done(carry->process, status, held ? "niw_force" : "niw_rest")) return;
-    if (held && conversation->home == carry->active) suspect_partner(carry->probe);
+    if (held && conversation->home == carry->active) suspect_partner(&carry->probe);
     carry->counts[held ? FORCED : RESTED]++;
     carry->plane->changed = true;
     conversation->since = 0;
@@ -43,7 +43,7 @@ static void set_free(struct carry *carry, struct conversation *conversation, uin
 /* A conversation that is held for long goes on: nothing of it was sent since. It waits for a peer that answers markers, which may have
  * been stopped for a while, and for a flight else. What is held on a port that does not distribute is for watch_port. */
 static void watch_held(struct carry *carry, struct conversation *conversation, uint16_t number, const struct niw_assignment *state) {
-    bool held = is_held(state), answered = held && peer_answering(carry->probe) != MUTE && carry->settings->flight < UNANSWERED;
+    bool held = is_held(state), answered = held && carry->probe.peer != MUTE && carry->settings->flight < UNANSWERED;
     if (conversation->since == 0) conversation->since = carry->time;
     if (carry->time - conversation->since < (answered ? UNANSWERED : carry->settings->flight)) return;
     if (held && !distributes(carry->protocol, state->port, true)) return;
@@ -67,7 +67,7 @@ static void watch_conversation(struct tap_plane *tap, uint16_t number, uint64_t 
     }
     conversation->since = 0;
     /* Towards a peer that answers no markers, what is still for a flight may go elsewhere, once the kernel passes nothing of it. */
-    if (peer_answering(tap->carry->probe) == MUTE && state.what == NIW_CONVERSATION_ON && conversation->fast.port == 0
+    if (tap->carry->probe.peer == MUTE && state.what == NIW_CONVERSATION_ON && conversation->fast.port == 0
         && tap->carry->time - conversation->last >= tap->settings->flight)
         set_free(tap->carry, conversation, number, false);
 }

@@ -143,7 +143,7 @@ static const char *fault_of_fast(const struct link *link, const struct guard *gu
 
 /* Keeps data from the stack of an interface: by TCX, or, where the kernel has none, by a classifier. */
 void keep_from_stack(struct tap_plane *tap, const struct link *link, struct guard *guard) {
-    if (tap->dropper >= 0) guard->opened = attach_stored(tap->process->store, "guard", tap->dropper, link->index, false);
+    if (tap->dropper >= 0) guard->opened = attach_stored(&tap->process->store, "guard", tap->dropper, link->index, false);
     if (tap->dropper >= 0 && guard->opened < 0) guard->classifier = set_classifier(tap->dropper, link->index);
     if (guard->classifier == CLASSIFIER_BEHIND_OTHERS)
         warn_of(tap->process, link, "it has a clsact already", "its own network stack has what filters there accept");
@@ -198,8 +198,8 @@ static void run_programs(struct tap_plane *tap, const struct link *link, struct 
 }
 
 static void stop_programs(struct tap_plane *tap, const struct link *link, struct guard *guard) {
-    if (guard->opened >= 0) detach_stored(tap->process->store, "guard", link->index, guard->opened);
-    if (guard->fast) close_fast_receiver(tap->fast, link);
+    if (guard->opened >= 0) detach_stored(&tap->process->store, "guard", link->index, guard->opened);
+    if (guard->fast) close_fast_receiver(&tap->fast, link);
     if (guard->classifier != NO_CLASSIFIER) drop_classifier(link->index);
     guard->opened = -1;
     guard->classifier = NO_CLASSIFIER;
@@ -234,7 +234,7 @@ void open_guard(struct tap_plane *tap, struct link *link, struct guard *guard) {
 void close_guard(struct tap_plane *tap, const struct link *link, struct guard *guard) {
     struct kept *before = &guard->before;
     stop_programs(tap, link, guard);
-    stop_spreading(tap->process->store, link, guard);
+    stop_spreading(&tap->process->store, link, guard);
     bool done = part_queues(link->index, &before->queues);
     gather_back(tap->process->folder, link, done);
     if (before->joins != 0) set_joins(link->index, before->joins);
@@ -250,10 +250,10 @@ void put_back(struct tap_plane *tap, int index, const uint8_t *mac) {
     struct guard guard = {.classifier = CLASSIFIER_ALONE};
     int lock = lock_interface(tap->process, index);
     if (lock < 0) return;
-    guard.opened = claim_stored(tap->process->store, "guard", index);
-    guard.chooser = claim_stored(tap->process->store, "queues", index);
+    guard.opened = claim_stored(&tap->process->store, "guard", index);
+    guard.chooser = claim_stored(&tap->process->store, "queues", index);
     memcpy(link.mac, mac, sizeof link.mac);
     recall_settings(tap->process->folder, &link, &guard.before);
     close_guard(tap, &link, &guard);
-    return_stored(tap->process->store, "lock", index, lock);
+    return_stored(&tap->process->store, "lock", index, lock);
 }

@@ -22,25 +22,11 @@ struct slot {
     uint8_t packet[];
 };
 
-struct held_private {
-    struct pool {
-        uint8_t *slots;
-        size_t octets;       /* of a slot */
-        uint32_t idle;       /* the first slot that was used and is not in use */
-        uint32_t used, most; /* how many were ever used, and how many there are */
-    } small, large;
-    uint32_t leaving; /* the first of those that are in use until they were sent */
-    struct niw_queue queues;
-    size_t octets; /* of all slots, while the queues are there */
-};
-
-MAKES_WITH(held, .leaving = NONE)
-
-static struct pool *pool_of(struct held_private *own, uint32_t at) {
+static struct pool *pool_of(struct held *own, uint32_t at) {
     return at & LARGE ? &own->large : &own->small;
 }
 
-static struct slot *slot_of(struct held_private *own, uint32_t at) {
+static struct slot *slot_of(struct held *own, uint32_t at) {
     const struct pool *pool = pool_of(own, at);
     return (struct slot *)(void *)(pool->slots + (size_t)((at & ~LARGE) - 1) * pool->octets);
 }
@@ -51,7 +37,7 @@ static size_t slot_octets(size_t room) {
 
 /* Takes all memory. Its pages are in use once they are written. */
 void start_held(struct tap_plane *tap) {
-    struct held_private *own = tap->held;
+    struct held *own = &tap->held;
     own->small = (struct pool){.octets = slot_octets(SMALL_ROOM), .most = MOST_WAIT};
     own->large = (struct pool){.octets = slot_octets(packet_room()), .most = MOST_LARGE};
     size_t before = own->small.octets * MOST_WAIT, behind = own->large.octets * MOST_LARGE;
@@ -64,13 +50,13 @@ void start_held(struct tap_plane *tap) {
 
 /* The daemon ends: once the library has no number of a slot, the memory goes back. */
 void end_held(struct tap_plane *tap) {
-    struct held_private *own = tap->held;
+    struct held *own = &tap->held;
     if (own->octets == 0 || !is_done(tap->process, niw_queue_free(&own->queues), "niw_queue_free")) return;
     (void)munmap(own->small.slots, own->octets);
     own->octets = 0;
 }
 
-static uint32_t claim_slot(struct held_private *own, struct pool *pool) {
+static uint32_t claim_slot(struct held *own, struct pool *pool) {
     uint32_t at = pool->idle;
     if (at != NONE)
         pool->idle = slot_of(own, at)->next;
@@ -79,7 +65,7 @@ static uint32_t claim_slot(struct held_private *own, struct pool *pool) {
     return at;
 }
 
-static void free_slot(struct held_private *own, uint32_t at) {
+static void free_slot(struct held *own, uint32_t at) {
     struct pool *pool = pool_of(own, at);
     slot_of(own, at)->next = pool->idle;
     pool->idle = at;
@@ -88,7 +74,7 @@ static void free_slot(struct held_private *own, uint32_t at) {
 /* Writes how many frames of a conversation wait; answers whether that is known. While no frame waits at all, the library is not asked. */
 bool count_held(struct tap_plane *tap, uint16_t number, uint64_t *waiting) {
     *waiting = 0;
-    return !tap->carry->waiting || is_told(tap->process, niw_queue_waiting(&tap->held->queues, number), "niw_queue_waiting", waiting);
+    return !tap->carry->waiting || is_told(tap->process, niw_queue_waiting(&tap->held.queues, number), "niw_queue_waiting", waiting);
 }
 
 bool none_held(struct tap_plane *tap, uint16_t number) {
@@ -97,7 +83,7 @@ bool none_held(struct tap_plane *tap, uint16_t number) {
 }
 
 bool count_all_held(struct tap_plane *tap, uint64_t *waiting) {
-    struct niw_counts counts = niw_queue_counts(&tap->held->queues);
+    struct niw_counts counts = niw_queue_counts(&tap->held.queues);
     *waiting = counts.waiting;
     return is_done(tap->process, counts.status, "niw_queue_counts");
 }
@@ -115,15 +101,15 @@ static uint32_t slot_told(struct process *process, const struct niw_queued *queu
 /* Writes the time at which the oldest frame of a conversation came; answers whether one waits. */
 bool oldest_held(struct tap_plane *tap, uint16_t number, uint64_t *came) {
     if (!tap->carry->waiting) return false;
-    struct niw_queued queued = niw_queue_oldest(&tap->held->queues, number);
+    struct niw_queued queued = niw_queue_oldest(&tap->held.queues, number);
     uint32_t at = slot_told(tap->process, &queued, "niw_queue_oldest");
-    if (at != NONE) *came = slot_of(tap->held, at)->came;
+    if (at != NONE) *came = slot_of(&tap->held, at)->came;
     return at != NONE;
 }
 
 /* Puts a packet behind those of its conversation; answers whether there was room. */
 bool put_held(struct tap_plane *tap, uint16_t number, const uint8_t *packet, size_t length) {
-    struct held_private *own = tap->held;
+    struct held *own = &tap->held;
     uint32_t at = claim_slot(own, length > SMALL_ROOM ? &own->large : &own->small);
     if (at == NONE) return false;
     uint32_t status = niw_queue_put(&own->queues, number, at);
@@ -141,17 +127,17 @@ bool put_held(struct tap_plane *tap, uint16_t number, const uint8_t *packet, siz
 
 /* Loses the oldest frame of a conversation; answers whether one waits. */
 bool drop_held(struct tap_plane *tap, uint16_t number, enum carry_count why) {
-    struct niw_queued queued = niw_queue_drop(&tap->held->queues, number);
+    struct niw_queued queued = niw_queue_drop(&tap->held.queues, number);
     uint32_t at = slot_told(tap->process, &queued, "niw_queue_drop");
     if (at == NONE) return false;
-    free_slot(tap->held, at);
+    free_slot(&tap->held, at);
     tap->carry->counts[why]++;
     return true;
 }
 
 /* Takes the oldest frame of a conversation out, to be sent; answers NULL where none is told. Its packet stays there until free_left. */
 uint8_t *remove_held(struct tap_plane *tap, uint16_t number, size_t *length) {
-    struct held_private *own = tap->held;
+    struct held *own = &tap->held;
     struct niw_queued queued = niw_queue_next(&own->queues, number);
     uint32_t at = slot_told(tap->process, &queued, "niw_queue_next");
     if (at == NONE) return NULL;
@@ -163,7 +149,7 @@ uint8_t *remove_held(struct tap_plane *tap, uint16_t number, size_t *length) {
 }
 
 /* All that was on its way was sent. */
-void free_left(struct held_private *own) {
+void free_left(struct held *own) {
     while (own->leaving != NONE) {
         uint32_t at = own->leaving;
         own->leaving = slot_of(own, at)->next;

@@ -1,59 +1,36 @@
 /* The host's end of data: the TAP device, whose frames are read and written here. */
 #include "tap.h"
 
-#include <sys/uio.h>
-
 /* The most segments of a packet that is cut at once: more than one of a usual stream has. */
 #define MOST_AT_ONCE 128
 /* How many segments of the others are taken in a turn, so that data of other conversations and LACP go on meanwhile. */
 #define MOST_CUT 256
-/* How many packets may wait to be cut, or behind such a one of their conversation; and how many of one conversation. */
-#define MOST_WAITING BATCH
+/* How many packets of one conversation may wait to be cut, or behind such a one. */
 #define MOST_OF_ONE 16
-
-/* A packet that waits to be cut, or behind one. */
-struct uncut {
-    uint16_t number; /* of its conversation */
-    size_t length;
-    struct cut cut; /* of no segments where it is whole */
-    uint32_t next;  /* the segment that follows */
-};
-
-struct host_private {
-    int tap;
-    uint8_t *packets;  /* for the packets of a batch */
-    uint8_t *segments; /* for those into which one of them is cut */
-    uint8_t *rooms;    /* for those that wait, from `first` on round and round */
-    struct uncut waiting[MOST_WAITING];
-    unsigned first, count;
-    unsigned of_one[CONVERSATIONS]; /* how many of each conversation wait */
-};
-
-MAKES_WITH(host, .tap = -1)
 
 /* The device is gone, or it is in another namespace, where interfaces of others have the numbers of our members: first of all nothing
  * is passed on any more. Then the peers are told, and the daemon ends, so that whoever started it starts it again, with a new device. */
 void lose_device(struct plane *plane) {
     struct tap_plane *tap = plane->tap;
-    struct host_private *own = tap->host;
+    struct host *own = &tap->host;
     if (tap->process->broken) return;
     tap->process->broken = true;
     CALL(plane->passing->end, tap);
     tap->device->number = 0;
     tap->device->carrier = false;
-    drop_stored(tap->process->store, "tap", 0);
+    drop_stored(&tap->process->store, "tap", 0);
     if (own->tap >= 0) await_no_more(tap->process->epoll_file, own->tap);
     (void)say(tap->process, LOG_ERR | ABOUT_CARRIER, "carry %s: the device was deleted, or moved to another namespace; "
         "the peers are told, and the daemon ends", tap->settings->carry);
 }
 
 bool is_cutting(struct tap_plane *tap) {
-    return tap->host->count > 0 && !tap->process->broken;
+    return tap->host.count > 0 && !tap->process->broken;
 }
 
 /* Takes up to `most` segments of a packet from this one on; answers how many. */
 static unsigned cut_segments(struct tap_plane *tap, const struct cut *cut, uint32_t from, unsigned most) {
-    struct host_private *own = tap->host;
+    struct host *own = &tap->host;
     unsigned taken = 0;
     for (; taken < most && from + taken < cut->count && !tap->process->broken; taken++) {
         uint8_t *packet = room_at(own->segments, taken % BATCH);
@@ -66,11 +43,11 @@ static unsigned cut_segments(struct tap_plane *tap, const struct cut *cut, uint3
 
 /* Has a packet wait behind those that do. Where there is no room for it, it is lost. */
 static void wait_uncut(struct tap_plane *tap, const uint8_t *packet, size_t length, uint16_t number) {
-    struct host_private *own = tap->host;
-    unsigned place = (own->first + own->count) % MOST_WAITING;
+    struct host *own = &tap->host;
+    unsigned place = (own->first + own->count) % BATCH;
     struct uncut *uncut = &own->waiting[place];
     uint8_t *room = room_at(own->rooms, place);
-    if (own->count == MOST_WAITING || own->of_one[number] == MOST_OF_ONE) {
+    if (own->count == BATCH || own->of_one[number] == MOST_OF_ONE) {
         tap->carry->counts[FROM_HOST]++;
         tap->carry->counts[QUEUE_FULL]++;
         return;
@@ -98,7 +75,7 @@ static unsigned accept_whole(struct tap_plane *tap, uint8_t *packet, size_t leng
 
 /* Takes of the packets that wait, the oldest ones first, so many segments at most. */
 static void cut_waiting(struct tap_plane *tap, unsigned most) {
-    struct host_private *own = tap->host;
+    struct host *own = &tap->host;
     for (unsigned taken = 0; taken < most && is_cutting(tap);) {
         struct uncut *uncut = &own->waiting[own->first];
         if (uncut->cut.count > 0 && uncut->next == 0) tap->carry->counts[SEGMENTED]++;
@@ -108,7 +85,7 @@ static void cut_waiting(struct tap_plane *tap, unsigned most) {
         taken += now;
         if (uncut->next < uncut->cut.count) continue;
         own->of_one[uncut->number]--;
-        own->first = (own->first + 1) % MOST_WAITING;
+        own->first = (own->first + 1) % BATCH;
         own->count--;
     }
 }
@@ -123,7 +100,7 @@ static unsigned accept_in_turn(struct tap_plane *tap, uint8_t *packet, size_t le
     if (!is_long && !is_cutting(tap)) return accept_whole(tap, packet, length);
     struct niw_number told = conversation_of(tap->protocol, packet + head, length - head);
     uint16_t number = (uint16_t)(told.number % CONVERSATIONS);
-    if (told.status != NIW_OK || (!is_long && tap->host->of_one[number] == 0)) return accept_whole(tap, packet, length);
+    if (told.status != NIW_OK || (!is_long && tap->host.of_one[number] == 0)) return accept_whole(tap, packet, length);
     wait_uncut(tap, packet, length, number);
     return 1;
 }
@@ -131,7 +108,7 @@ static unsigned accept_in_turn(struct tap_plane *tap, uint8_t *packet, size_t le
 /* Takes one packet of the TAP device; answers how many frames it has, or 0 where there is none. */
 static unsigned read_next(struct tap_plane *tap, uint8_t *packet) {
     if (tap->process->broken) return 0;
-    ssize_t length = read(tap->host->tap, packet, packet_room());
+    ssize_t length = read(tap->host.tap, packet, packet_room());
     if (length < 0 && (errno == EBADFD || errno == EIO || errno == ENODEV)) lose_device(tap->plane);
     if (length < 0 && (tap->process->broken || errno == EAGAIN || errno == EINTR)) return 0;
     if (length >= (ssize_t)head_octets() && !tap->plane->segments) return accept_in_turn(tap, packet, (size_t)length);
@@ -143,7 +120,7 @@ static unsigned read_next(struct tap_plane *tap, uint8_t *packet) {
 void read_host(struct tap_plane *tap) {
     unsigned got = 0, left = BATCH;
     for (; left > 0; got++) {
-        unsigned frames = read_next(tap, room_at(tap->host->packets, got));
+        unsigned frames = read_next(tap, room_at(tap->host.packets, got));
         if (frames == 0) break;
         tap->carry->taken += frames;
         left -= frames < left ? frames : left;
@@ -158,7 +135,7 @@ void read_host(struct tap_plane *tap) {
 
 /* Hands a packet up, which lies in parts; answers whether the device took it. */
 bool give_host(struct tap_plane *tap, const struct iovec *parts, unsigned count, size_t length) {
-    return !tap->process->broken && writev(tap->host->tap, parts, (int)count) == (ssize_t)length;
+    return !tap->process->broken && writev(tap->host.tap, parts, (int)count) == (ssize_t)length;
 }
 
 /* Serves what is ready: a member, or the TAP device, whose frames come after what was released. */
@@ -176,12 +153,12 @@ void serve_data(struct tap_plane *tap, uint32_t tag) {
 void lose_data(struct plane *plane, uint16_t port) {
     struct tap_plane *tap = plane->tap;
     CALL(plane->passing->withdraw_port, tap, port);
-    forget_answers(tap->answers, port);
+    tap->answers[port - 1].count = 0; /* whoever asked there asks again */
 }
 
 void open_tap_plane(struct plane *plane) {
     struct tap_plane *tap = plane->tap;
-    struct host_private *own = tap->host;
+    struct host *own = &tap->host;
     own->packets = make_rooms();
     own->segments = make_rooms();
     own->rooms = make_rooms();
@@ -198,7 +175,7 @@ void open_tap_plane(struct plane *plane) {
 
 void end_tap_plane(struct plane *plane) {
     struct tap_plane *tap = plane->tap;
-    await_no_more(tap->process->epoll_file, tap->host->tap);
+    await_no_more(tap->process->epoll_file, tap->host.tap);
     set_carrier(tap->device, false);
     remove_all_members(tap->protocol);
     CALL(plane->passing->end, tap);

@@ -5,39 +5,13 @@
 #include <linux/if_packet.h>
 #include <linux/virtio_net.h>
 #include <netinet/in.h>
-#include <sys/uio.h>
 
 /* Of the frames that wait in a socket. */
 #define SOCKET_ROOM (8 << 20)
 /* How many batches of a member are taken before its port is held. */
 #define MOST_DRAINED 64
 
-/* The sockets of a member: for data and its markers, of which it only sends where the kernel hands up what comes; and there one for the markers
- * that it hands up to the TAP device behind the data, and one for those that come while no data goes up. */
-enum socket_kind { DATA, MARKERS, DIRECT, SOCKETS };
 static const char *const SOCKET_NAMES[SOCKETS] = {"data", "markers", "direct"};
-
-struct members_private {
-    struct member {
-        int sockets[SOCKETS]; /* -1 where there is none, as while the interface is missing */
-        struct guard guard;
-        uint32_t mtu;      /* 0: not known */
-        uint32_t megabits; /* a second, or 0: not known */
-        bool has_marker;   /* whether one was sent */
-        uint8_t marker[NIW_FRAME];
-        uint64_t counts[MEMBER_COUNTS];
-        unsigned out; /* frames that wait to be sent */
-        struct iovec parts[BATCH];
-        struct mmsghdr messages[BATCH];
-    } members[NIW_MOST_PORTS];
-};
-
-struct members_private *make_members_private(void) {
-    struct members_private *made = make_room(sizeof *made);
-    for (unsigned i = 0; i < NIW_MOST_PORTS; i++)
-        for (enum socket_kind kind = DATA; kind < SOCKETS; kind++) made->members[i].sockets[kind] = -1;
-    return made;
-}
 
 /* Whether the interface of a member is taken up. */
 static bool is_open(const struct member *member) {
@@ -45,11 +19,7 @@ static bool is_open(const struct member *member) {
 }
 
 static struct member *member_of(struct tap_plane *tap, const struct link *link) {
-    return &tap->members->members[link - tap->ports->links];
-}
-
-uint64_t *member_counts(struct members_private *own, uint16_t port) {
-    return own->members[port - 1].counts;
+    return &tap->members[link - tap->ports->links];
 }
 
 static bool attach(int fd, struct sock_filter *code, unsigned short count) {
@@ -134,16 +104,16 @@ static int open_socket(struct tap_plane *tap, const struct link *link, const str
     if (filtered && (kind != DATA || set_up_data(fd, index, guard)) && set_packet(fd, PACKET_AUXDATA, 1)
         && bind(fd, (struct sockaddr *)&address, sizeof address) == 0
         && (only_sends || await_input(tap->process->epoll_file, fd, MEMBERS + link->settings.number - 1u))) {
-        put_stored(tap->process->store, SOCKET_NAMES[kind], link->index, fd);
+        put_stored(&tap->process->store, SOCKET_NAMES[kind], link->index, fd);
         return fd;
     }
-    close_stored(tap->process->store, SOCKET_NAMES[kind], link->index, fd);
+    close_stored(&tap->process->store, SOCKET_NAMES[kind], link->index, fd);
     return last_fault();
 }
 
 static void close_sockets(struct tap_plane *tap, const struct link *link, struct member *member) {
     for (enum socket_kind kind = DATA; kind < SOCKETS; kind++) {
-        if (member->sockets[kind] >= 0) close_stored(tap->process->store, SOCKET_NAMES[kind], link->index, member->sockets[kind]);
+        if (member->sockets[kind] >= 0) close_stored(&tap->process->store, SOCKET_NAMES[kind], link->index, member->sockets[kind]);
         member->sockets[kind] = -1;
     }
 }
@@ -162,7 +132,7 @@ static int open_sockets(struct tap_plane *tap, const struct link *link, struct m
         release_member(tap, link, member);
         return opened;
     }
-    begin_queues(tap->queues, link->settings.number, member->guard.queues);
+    begin_queues(&tap->queues[link->settings.number - 1], member->guard.queues);
     return 0;
 }
 
@@ -240,26 +210,26 @@ bool follow_member_queues(struct tap_plane *tap, struct link *link) {
 
 /* Each second a member is taken up anew whose queues others changed, or that has the number of queues of the others by now. */
 void watch_queues(struct tap_plane *tap) {
-    if (ticks_passed(tap->protocol->system) % SECOND != 0) return;
+    if (tap->protocol->ticks % SECOND != 0) return;
     EACH_LINK(link, tap->ports) {
         const struct member *member = member_of(tap, link);
         if (!is_open(member)) continue;
-        bool changed = is_spread_anew(tap->protocol->system, link, &member->guard);
+        bool changed = is_spread_anew(seconds_since(tap->protocol->began), link, &member->guard);
         if (!changed && !(member->guard.unusual && has_usual_queues(tap, &member->guard))) continue;
         if (!(changed ? renew_changed(tap, link) : renew_member(tap, link))) lose_member(tap->protocol, link);
     }
 }
 
-unsigned member_queues(const struct members_private *own, uint16_t port) {
-    return is_open(&own->members[port - 1]) ? own->members[port - 1].guard.queues : 0;
+unsigned member_queues(const struct member *member) {
+    return is_open(member) ? member->guard.queues : 0;
 }
 
-bool has_fast_member(const struct members_private *own, uint16_t port) {
-    return is_open(&own->members[port - 1]) && own->members[port - 1].guard.fast;
+bool is_fast(const struct member *member) {
+    return is_open(member) && member->guard.fast;
 }
 
 void count_losses(struct tap_plane *tap) {
-    for (uint16_t i = 0; i < tap->ports->count; i++) count_loss(&tap->members->members[i]);
+    for (uint16_t i = 0; i < tap->ports->count; i++) count_loss(&tap->members[i]);
 }
 
 void close_member(struct plane *plane, struct link *link) {
@@ -272,7 +242,7 @@ void close_member(struct plane *plane, struct link *link) {
 }
 
 void forget_member(struct plane *plane, uint16_t port) {
-    struct member *member = &plane->tap->members->members[port - 1];
+    struct member *member = &plane->tap->members[port - 1];
     memset(member->counts, 0, sizeof member->counts);
     member->mtu = member->megabits = 0;
     member->has_marker = false;
@@ -294,7 +264,7 @@ void follow_member_mtu(struct plane *plane, struct link *link, uint32_t mtu) {
     if (member_of(tap, link)->mtu == mtu) return;
     member_of(tap, link)->mtu = mtu;
     for (uint16_t i = 0; i < tap->ports->count; i++) {
-        uint32_t most = tap->members->members[i].mtu;
+        uint32_t most = tap->members[i].mtu;
         if (most > 0 && most < least) least = most;
     }
     if (least != UINT32_MAX) limit_mtu(tap->device, least);
@@ -309,7 +279,7 @@ void follow_speed(struct plane *plane, const struct link *link) {
 /* How fast the ports that carry are together, in Mb/s. One whose speed is not known counts nothing; where none is, that is SPEED_UNKNOWN. */
 uint32_t sum_speeds(struct tap_plane *tap) {
     uint64_t sum = 0;
-    for (uint16_t i = 0; i < tap->carry->active_count; i++) sum += tap->members->members[tap->carry->active_ports[i] - 1].megabits;
+    for (uint16_t i = 0; i < tap->carry->active_count; i++) sum += tap->members[tap->carry->active_ports[i] - 1].megabits;
     if (sum == 0) return (uint32_t)SPEED_UNKNOWN;
     return sum < INT32_MAX ? (uint32_t)sum : INT32_MAX;
 }
@@ -319,7 +289,7 @@ static void flush_member(struct tap_plane *tap, struct member *member) {
     for (unsigned at = 0; at < member->out;) {
         int sent = is_open(member) ? sendmmsg(member->sockets[DATA], member->messages + at, member->out - at, 0) : -1;
         if (sent < 0 && is_open(member) && errno == EINTR) continue;
-        if (sent < 0) suspect_carriers(tap->protocol->changes);
+        if (sent < 0) tap->protocol->changes.suspected = true;
         member->counts[sent > 0 ? DATA_SENT : DATA_UNSENT] += sent > 0 ? (unsigned)sent : 1;
         at += sent > 0 ? (unsigned)sent : 1;
     }
@@ -328,12 +298,12 @@ static void flush_member(struct tap_plane *tap, struct member *member) {
 
 void flush_data(struct tap_plane *tap) {
     EACH_LINK(link, tap->ports) flush_member(tap, member_of(tap, link));
-    free_left(tap->held);
+    free_left(&tap->held);
 }
 
 /* Puts a packet of a conversation behind those that wait for a port. It stays where it is until flush_data. */
 void put_data(struct tap_plane *tap, uint16_t port, uint16_t number, uint8_t *packet, size_t length) {
-    struct member *member = &tap->members->members[port - 1];
+    struct member *member = &tap->members[port - 1];
     if (member->out == BATCH) flush_member(tap, member);
     member->parts[member->out] = (struct iovec){packet, length};
     member->messages[member->out].msg_hdr = (struct msghdr){.msg_iov = &member->parts[member->out], .msg_iovlen = 1};
@@ -378,7 +348,7 @@ void send_new_marker(struct plane *plane, struct link *link, const uint8_t *fram
 
 /* Sends the last marker of a port again: a cable may repeat control frames, and may lose one. Answers whether it went. */
 bool send_marker_again(struct tap_plane *tap, uint16_t port) {
-    const struct member *member = &tap->members->members[port - 1];
+    const struct member *member = &tap->members[port - 1];
     return member->has_marker && send_marker(tap, &tap->ports->links[port - 1], member->marker, true);
 }
 
@@ -390,7 +360,7 @@ void accept_only_response(struct tap_plane *tap, struct link *link, const struct
 void accept_response_of_queue(struct tap_plane *tap, struct link *link, const struct arrival *arrival, uint32_t id) {
     uint8_t frame[NIW_FRAME];
     struct arrival last = {frame, sizeof frame, arrival->packet_type, arrival->index, arrival->tagged};
-    if (!ends_flight(tap->queues, link, &id)) {
+    if (!ends_flight(&tap->queues[link->settings.number - 1], &id)) {
         uint32_t status = niw_count_received(&link->counters, arrival->frame, arrival->length, NIW_RECEIVED_RELEASED);
         (void)!is_done(tap->process, status, "niw_count_received");
         return;
@@ -447,7 +417,7 @@ static void accept_packet(struct tap_plane *tap, struct link *link, struct mmsgh
  * a link went is not handed up before it. */
 static void receive_packets(struct tap_plane *tap, uint16_t port, enum socket_kind kind) {
     struct link *link = &tap->ports->links[port - 1];
-    struct member *member = &tap->members->members[port - 1];
+    struct member *member = &tap->members[port - 1];
     struct mmsghdr messages[BATCH];
     struct iovec parts[BATCH];
     struct sockaddr_ll from[BATCH];
@@ -458,7 +428,7 @@ static void receive_packets(struct tap_plane *tap, uint16_t port, enum socket_ki
             .msg_iov = &parts[i], .msg_iovlen = 1, .msg_control = controls[i], .msg_controllen = sizeof controls[i]};
     }
     int got = recvmmsg(member->sockets[kind], messages, BATCH, MSG_DONTWAIT, NULL);
-    if (kind == DATA) note_unread(tap->answers, port, got > 0 ? (unsigned)got : 0, got >= 0 ? got < BATCH : errno == EAGAIN);
+    if (kind == DATA) note_unread(&tap->answers[port - 1], got > 0 ? (unsigned)got : 0, got >= 0 ? got < BATCH : errno == EAGAIN);
     if (got < 0 && errno == EINVAL) { /* the kernel has a frame of segments that it cannot describe: it is lost */
         member->counts[DATA_RECEIVED]++;
         member->counts[WRONG_LENGTH]++;
@@ -474,7 +444,7 @@ static void receive_packets(struct tap_plane *tap, uint16_t port, enum socket_ki
 /* Takes all that waits at a member, but for a flood, before its port is held: what came before that is collected. */
 void drain_member(struct plane *plane, uint16_t port) {
     struct tap_plane *tap = plane->tap;
-    bool more = is_open(&tap->members->members[port - 1]);
+    bool more = is_open(&tap->members[port - 1]);
     for (unsigned turn = 0; more && turn < MOST_DRAINED && !tap->process->broken; turn++) {
         tap->carry->more_waits = false;
         receive_data(tap, port);
@@ -483,7 +453,7 @@ void drain_member(struct plane *plane, uint16_t port) {
 }
 
 void receive_data(struct tap_plane *tap, uint16_t port) {
-    const struct member *member = &tap->members->members[port - 1];
+    const struct member *member = &tap->members[port - 1];
     for (enum socket_kind kind = member->sockets[MARKERS] < 0 ? DATA : MARKERS; kind < SOCKETS; kind++)
         if (member->sockets[kind] >= 0) receive_packets(tap, port, kind);
 }

@@ -57,7 +57,7 @@ bool can_empty(struct plane *plane, uint16_t port) {
     struct carry *carry = plane->carry;
     unsigned others = 0;
     for (uint16_t i = 0; i < carry->active_count; i++) others += carry->active_ports[i] != port;
-    return others > 0 && peer_answering(carry->probe) == ANSWERS && carry->active != 0
+    return others > 0 && carry->probe.peer == ANSWERS && carry->active != 0
         && carry->ports->links[port - 1].view.aggregator == carry->active;
 }
 
@@ -84,7 +84,7 @@ bool empty_port(struct plane *plane, uint16_t port) {
 void balance(struct carry *carry) {
     EACH_LINK_AS_IS(link, carry->ports)
         if (link->emptying) return;
-    if (carry->active_count < 2 || peer_answering(carry->probe) != ANSWERS || !none_moves(carry)
+    if (carry->active_count < 2 || carry->probe.peer != ANSWERS || !none_moves(carry)
         || !ask_ports(carry->protocol, carry->active, carry->port_of))
         return;
     if (move_asked(carry) || level(carry)) send_due(carry->protocol);

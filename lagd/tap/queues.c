@@ -7,37 +7,14 @@
 #define IDENTIFIER_AT (ETH_HLEN + 12)
 #define QUEUE_SHIFT 28
 #define IDENTIFIER_BITS ((1u << QUEUE_SHIFT) - 1)
-/* The most markers of a port whose responses are waited for: the library sends another one in the place of one that is 3 s old. */
-#define MOST_FLIGHTS 4
 #define LONGEST_FLIGHT 3500
-
-/* A marker whose responses are waited for. */
-struct flight {
-    uint32_t id;      /* that the library gave it */
-    uint32_t waiting; /* the queues of which none came, a bit for each; 0: there is no marker */
-    uint64_t since;
-    uint64_t place; /* which one it is of all that were sent */
-};
-
-struct queues_private {
-    struct queues {
-        unsigned count; /* by how many the data of the member goes */
-        uint32_t dirty; /* those that have frames behind which no marker went, a bit for each */
-        struct flight flights[MOST_FLIGHTS];
-    } ports[NIW_MOST_PORTS];
-    _Alignas(struct cmsghdr) uint8_t marks[MOST_QUEUES][CMSG_SPACE(sizeof(uint32_t))]; /* of mark_queue */
-    uint64_t all; /* of send_by_queues */
-};
-
-MAKES_ROOM(queues)
 
 static uint32_t all_of(unsigned count) {
     return (1u << count) - 1;
 }
 
 /* A member is taken up: nobody knows what its queues have. */
-void begin_queues(struct queues_private *own, uint16_t port, unsigned count) {
-    struct queues *queues = &own->ports[port - 1];
+void begin_queues(struct queues *queues, unsigned count) {
     queues->count = count;
     queues->dirty = all_of(count);
     for (size_t i = 0; i < MOST_FLIGHTS; i++)
@@ -45,11 +22,11 @@ void begin_queues(struct queues_private *own, uint16_t port, unsigned count) {
 }
 
 /* Has a frame go by a queue of a member, if there are several. */
-static void mark_queue(struct queues_private *own, const struct queues *queues, unsigned queue, struct msghdr *message) {
+static void mark_queue(struct queues *queues, unsigned queue, struct msghdr *message) {
     uint32_t mark = QUEUE_MARK | (queue + 1);
     if (queues->count < 2) return;
-    message->msg_control = own->marks[queue];
-    message->msg_controllen = sizeof own->marks[queue];
+    message->msg_control = queues->marks[queue];
+    message->msg_controllen = sizeof queues->marks[queue];
     struct cmsghdr *head = CMSG_FIRSTHDR(message);
     head->cmsg_len = CMSG_LEN(sizeof mark);
     head->cmsg_level = SOL_SOCKET;
@@ -59,10 +36,10 @@ static void mark_queue(struct queues_private *own, const struct queues *queues, 
 
 /* Has a frame of a conversation go by its queue, as the programs of the kernel have it. */
 void mark_conversation(struct tap_plane *tap, uint16_t port, uint16_t number, struct msghdr *message) {
-    struct queues *queues = &tap->queues->ports[port - 1];
+    struct queues *queues = &tap->queues[port - 1];
     unsigned queue = number % MOST_QUEUES % queues->count;
     queues->dirty |= 1u << queue;
-    mark_queue(tap->queues, queues, queue, message);
+    mark_queue(queues, queue, message);
 }
 
 void set_identifier(uint8_t *frame, uint32_t id) {
@@ -71,7 +48,7 @@ void set_identifier(uint8_t *frame, uint32_t id) {
 
 /* Sends the marker of a flight by each queue that has no response yet; answers whether all went. */
 static bool send_flight(struct tap_plane *tap, struct link *link, const uint8_t *marker, const struct flight *flight) {
-    const struct queues *queues = &tap->queues->ports[link->settings.number - 1];
+    struct queues *queues = &tap->queues[link->settings.number - 1];
     uint8_t frame[NIW_FRAME];
     bool done = true;
     memcpy(frame, marker, sizeof frame);
@@ -79,7 +56,7 @@ static bool send_flight(struct tap_plane *tap, struct link *link, const uint8_t 
         struct msghdr message = {0};
         if (!(flight->waiting >> queue & 1)) continue;
         set_identifier(frame, (flight->id & IDENTIFIER_BITS) | (uint32_t)queue << QUEUE_SHIFT);
-        mark_queue(tap->queues, queues, queue, &message);
+        mark_queue(queues, queue, &message);
         done = give_marker(tap, link, frame, &message) && done;
     }
     return done;
@@ -98,11 +75,11 @@ static struct flight *next_flight(struct queues *queues) {
 
 /* The queues with frames of which no response has told yet. Where the kernel passes frames on, that is any: how many there are is seen
  * anew, since it goes by as many as there are now. */
-static uint32_t unanswered(struct members_private *own, const struct link *link, struct queues *queues) {
+static uint32_t unanswered(const struct member *member, int index, struct queues *queues) {
     uint32_t found = queues->dirty;
     for (size_t i = 0; i < MOST_FLIGHTS; i++) found |= queues->flights[i].waiting;
-    if (has_fast_member(own, link->settings.number)) {
-        unsigned now = count_sending_queues(link->index);
+    if (is_fast(member)) {
+        unsigned now = count_sending_queues(index);
         if (now > MOST_QUEUES) now = MOST_QUEUES;
         if (now > queues->count && queues->count > 1) queues->count = now;
         found = all_of(queues->count);
@@ -112,7 +89,7 @@ static uint32_t unanswered(struct members_private *own, const struct link *link,
 
 /* Sends again what has no response, of each marker that may still get one; answers whether all of it went. */
 static bool send_again_by_queues(struct tap_plane *tap, struct link *link, const uint8_t *marker) {
-    struct queues *queues = &tap->queues->ports[link->settings.number - 1];
+    struct queues *queues = &tap->queues[link->settings.number - 1];
     bool done = true;
     for (size_t i = 0; i < MOST_FLIGHTS; i++) {
         struct flight *flight = &queues->flights[i];
@@ -127,10 +104,11 @@ static bool send_again_by_queues(struct tap_plane *tap, struct link *link, const
 
 /* Sends a marker by each queue that may have frames before it, or again by those that have no response; answers whether all of it went. */
 bool send_by_queues(struct tap_plane *tap, struct link *link, const uint8_t *marker, bool again) {
-    struct queues_private *own = tap->queues;
-    struct queues *queues = &own->ports[link->settings.number - 1];
+    uint16_t port = link->settings.number;
+    struct queues *queues = &tap->queues[port - 1];
     if (again) return send_again_by_queues(tap, link, marker);
-    struct flight flight = {read32(marker + IDENTIFIER_AT), unanswered(tap->members, link, queues), tap->carry->time, own->all++};
+    uint32_t waiting = unanswered(&tap->members[port - 1], link->index, queues);
+    struct flight flight = {read32(marker + IDENTIFIER_AT), waiting, tap->carry->time, queues->sent++};
     struct flight *place = next_flight(queues);
     queues->dirty = 0;
     *place = flight;
@@ -138,8 +116,7 @@ bool send_by_queues(struct tap_plane *tap, struct link *link, const uint8_t *mar
 }
 
 /* A response to the marker of a queue came: answers whether it is the last one that was missing, and gives back the identifier of the library. */
-bool ends_flight(struct queues_private *own, const struct link *link, uint32_t *id) {
-    struct queues *queues = &own->ports[link->settings.number - 1];
+bool ends_flight(struct queues *queues, uint32_t *id) {
     uint32_t bit = 1u << (*id >> QUEUE_SHIFT);
     for (size_t i = 0; i < MOST_FLIGHTS; i++) {
         struct flight *flight = &queues->flights[i];

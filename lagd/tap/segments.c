@@ -4,8 +4,6 @@
  * and what cannot go up so goes up frame by frame. */
 #include "segments.h"
 
-#include <sys/uio.h>
-
 #define MOST_HEADERS 256
 #define LONGEST_IP 65535
 /* Of the octets of IPV4_FRAGMENT: a packet that is no fragment, and becomes none. */
@@ -13,16 +11,6 @@
 
 /* The least octets of a segment with its options of TCP: Linux sends none that is shorter (TCP_MIN_SND_MSS), but for the last one. */
 #define LEAST_SEGMENT 48
-
-struct gro_private {
-    unsigned count; /* packets that wait to go up; they stay where they are */
-    struct iovec packets[BATCH];
-    struct tcp_packet all; /* what they are together, with the headers of the first one */
-    uint32_t next; /* the number of the octet of the stream that follows */
-    bool open;     /* whether one more may follow */
-};
-
-MAKES_ROOM(gro)
 
 /* Writes into a packet the length that it has in its header of IP, and the checksum of that. */
 static void write_length(uint8_t *packet, const struct tcp_packet *tcp) {
@@ -151,7 +139,7 @@ static bool has_same_headers(const uint8_t *one, const uint8_t *other, const str
         && is_same(one, other, at + TCP_URGENT, tcp->payload);
 }
 
-static bool continues_stream(const struct gro_private *own, const uint8_t *packet, const struct tcp_packet *tcp) {
+static bool continues_stream(const struct gro *own, const uint8_t *packet, const struct tcp_packet *tcp) {
     const uint8_t *first = own->packets[0].iov_base;
     struct tcp_packet alone = own->all;
     alone.length = own->packets[0].iov_len;
@@ -163,7 +151,7 @@ static bool continues_stream(const struct gro_private *own, const uint8_t *packe
 
 /* Hands up as one what waits; answers whether the device took it. */
 static bool give_all(struct tap_plane *tap) {
-    struct gro_private *own = tap->gro;
+    struct gro *own = &tap->gro;
     const struct tcp_packet *all = &own->all;
     const uint8_t *first = own->packets[0].iov_base, *last = own->packets[own->count - 1].iov_base;
     bool six = has_ipv6(first, all);
@@ -186,7 +174,7 @@ static bool give_all(struct tap_plane *tap) {
 }
 
 void flush_host(struct tap_plane *tap) {
-    struct gro_private *own = tap->gro;
+    struct gro *own = &tap->gro;
     unsigned given = own->count > 1 && give_all(tap) ? own->count : 0, first = given;
     for (unsigned i = first; i < own->count; i++) given += give_host(tap, &own->packets[i], 1, own->packets[i].iov_len);
     tap->carry->counts[HANDED_UP] += given;
@@ -196,7 +184,7 @@ void flush_host(struct tap_plane *tap) {
 
 /* Puts a packet behind those that wait to go up. It stays where it is until flush_host. */
 void put_host(struct tap_plane *tap, uint8_t *packet, size_t length) {
-    struct gro_private *own = tap->gro;
+    struct gro *own = &tap->gro;
     struct tcp_packet tcp;
     bool joins = read_tcp(packet, length, &tcp);
     if (own->count > 0 && !(joins && continues_stream(own, packet, &tcp))) flush_host(tap);

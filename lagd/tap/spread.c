@@ -236,30 +236,30 @@ void spread(struct tap_plane *tap, const struct link *link, struct guard *guard)
     const char *fault = fault_of_spreading(tap->process->folder, link, guard, count);
     guard->queues = fault ? 1 : count < MOST_QUEUES ? count : MOST_QUEUES;
     if (guard->queues > 1 && guard->chooser < 0) /* a program chooses the queue of each frame that the daemon sends there */
-        guard->chooser = attach_stored(tap->process->store, "queues", tap->chooser, link->index, true);
+        guard->chooser = attach_stored(&tap->process->store, "queues", tap->chooser, link->index, true);
     if (guard->queues > 1 && guard->chooser < 0) fault = strerror(-guard->chooser);
     guard->spread = !fault;
     if (!fault) return;
     guard->queues = 1;
-    stop_spreading(tap->process->store, link, guard);
+    stop_spreading(&tap->process->store, link, guard);
     warn_of(tap->process, link, "it gets one queue", fault);
 }
 
 /* Frames of the daemon go by any queue again. */
-void stop_spreading(struct store_private *store, const struct link *link, struct guard *guard) {
+void stop_spreading(struct store *store, const struct link *link, struct guard *guard) {
     if (guard->chooser >= 0) detach_stored(store, "queues", link->index, guard->chooser);
     guard->chooser = -1;
     guard->spread = false;
 }
 
 /* Whether somebody else changed the queues of a member, or what chooses them. Each time another queue is looked at. */
-bool is_spread_anew(const struct system_private *own, const struct link *link, const struct guard *guard) {
+bool is_spread_anew(uint64_t seconds, const struct link *link, const struct guard *guard) {
     char name[NAME_OCTETS], now[PROCESSORS_ROOM], mask[16];
     unsigned channels = channels_of(link->index);
     if (channels == 0) return false;
     if (channels != guard->channels) return true;
     for (enum setting setting = 0; guard->spread && setting < SETTINGS; setting++) {
-        unsigned queue = (unsigned)seconds_passed(own) % (setting == TAKEN_BY ? channels & 0xffff : channels >> 16);
+        unsigned queue = (unsigned)seconds % (setting == TAKEN_BY ? channels & 0xffff : channels >> 16);
         name_setting(setting, queue, name);
         if (read_line(link->index, name, now) && wanted_of(link, setting, queue, now, mask)) return true;
     }
@@ -270,7 +270,7 @@ bool is_spread_anew(const struct system_private *own, const struct link *link, c
  * member. How many these have, the first one tells of which it passes data on. */
 bool has_usual_queues(struct tap_plane *tap, const struct guard *guard) {
     bool any = false;
-    for (uint16_t port = 1; port <= tap->ports->count; port++) any = any || has_fast_member(tap->members, port);
+    for (uint16_t port = 1; port <= tap->ports->count; port++) any = any || is_fast(&tap->members[port - 1]);
     if (!any) tap->usual_queues = guard->queues;
     return guard->queues == tap->usual_queues;
 }

@@ -6,14 +6,141 @@
 
 #include <linux/ethtool.h>
 #include <net/ethernet.h>
+#include <sys/uio.h>
 
 /* The library takes a frame of so many octets at most: of a longer one it is shown the beginning. */
 #define LONGEST_SHOWN (ETH_HLEN + ETH_DATA_LEN + TAG_OCTETS)
 /* Frames that are sent by one call of the kernel, or taken of a socket in a turn: a marker on another one waits for no more. */
 #define BATCH 64
-#define EACH_FILE_OF_TAP(DO) \
-    DO(answers, answers) DO(fast, fast) DO(gro, gro) DO(held, held) DO(host, host) \
-    DO(members, members) DO(queues, queues)
+/* What an interface had before it was a member. */
+#define PROCESSORS_LENGTH "2399" /* of the mask of the 8192 processors that Linux knows */
+#define PROCESSORS_ROOM 2400
+struct kept {
+    unsigned joins;                 /* what of GRO and LRO was wanted, as guard.c has it */
+    char steered[PROCESSORS_ROOM];  /* the processors that RPS named, or empty where that was one, or is not changed */
+    struct ethtool_channels queues; /* what there was; all 0 where there was one queue */
+};
+
+/* What keeps the data of a member from the stack of its interface. */
+enum classifier { NO_CLASSIFIER, CLASSIFIER_ALONE, CLASSIFIER_BEHIND_OTHERS };
+struct guard {
+    int opened;                 /* what keeps data from the stack of the interface, or below 0 */
+    enum classifier classifier; /* what does so where the kernel has no TCX */
+    bool in_order;      /* whether the queueing discipline of the interface keeps the order */
+    bool fast;          /* whether the kernel may pass on what goes and comes there */
+    bool unusual;       /* whether it may not, as it has another number of queues than those where it may */
+    struct kept before; /* what the interface had */
+    bool spread;        /* whether it keeps all its queues */
+    unsigned queues;    /* by how many of them data goes */
+    unsigned channels;  /* how many it has, as spread.c has it */
+    int chooser;        /* what keeps the program there by which a frame of the daemon goes by its queue, or -1 */
+};
+
+/* The sockets of a member: for data and its markers, of which it only sends where the kernel hands up what comes; and there one for the markers
+ * that it hands up to the TAP device behind the data, and one for those that come while no data goes up. */
+enum socket_kind { DATA, MARKERS, DIRECT, SOCKETS };
+struct member {
+    int sockets[SOCKETS]; /* -1 where there is none, as while the interface is missing */
+    struct guard guard;
+    uint32_t mtu;      /* 0: not known */
+    uint32_t megabits; /* a second, or 0: not known */
+    bool has_marker;   /* whether one was sent */
+    uint8_t marker[NIW_FRAME];
+    uint64_t counts[MEMBER_COUNTS];
+    unsigned out; /* frames that wait to be sent */
+    struct iovec parts[BATCH];
+    struct mmsghdr messages[BATCH];
+};
+
+/* The most markers of a port whose responses are waited for: the library sends another one in the place of one that is 3 s old. */
+#define MOST_FLIGHTS 4
+/* The queues of a member by which its data goes. */
+struct queues {
+    unsigned count;
+    uint32_t dirty; /* those that have frames behind which no marker went, a bit for each */
+    struct flight { /* a marker whose responses are waited for */
+        uint32_t id;      /* that the library gave it */
+        uint32_t waiting; /* the queues of which none came, a bit for each; 0: there is no marker */
+        uint64_t since;
+        uint64_t place; /* which one it is of all that were sent */
+    } flights[MOST_FLIGHTS];
+    uint64_t sent; /* markers */
+    _Alignas(struct cmsghdr) uint8_t marks[MOST_QUEUES][CMSG_SPACE(sizeof(uint32_t))]; /* of mark_queue */
+};
+
+/* The most responses that wait for a port. */
+#define MOST_ANSWERS 64
+/* Responses of a port that wait, in a ring, in the order in which they came. */
+struct answers {
+    unsigned first, count;
+    struct answer {
+        uint64_t due;    /* the milliseconds at which it may go */
+        unsigned unread; /* how many packets its socket may have that came before that */
+        uint8_t frame[NIW_FRAME];
+    } waiting[MOST_ANSWERS];
+};
+
+/* Where a packet of TCP has its headers of IP and TCP, and the payload behind them; and how long it is. */
+struct tcp_packet {
+    size_t network, transport, payload, length;
+};
+
+/* A packet that is cut into `count` segments, each with so many octets of payload but for the last one. */
+struct cut {
+    const uint8_t *packet;
+    struct tcp_packet whole;
+    size_t size;
+    uint32_t count;
+};
+
+/* Packets of one stream that wait to go up. */
+struct gro {
+    unsigned count;
+    struct iovec packets[BATCH]; /* they stay where they are */
+    struct tcp_packet all;       /* what they are together, with the headers of the first one */
+    uint32_t next;               /* the number of the octet of the stream that follows */
+    bool open;                   /* whether one more may follow */
+};
+
+struct host {
+    int tap;
+    uint8_t *packets;  /* for the packets of a batch */
+    uint8_t *segments; /* for those into which one of them is cut */
+    uint8_t *rooms;    /* for those that wait, from `first` on round and round */
+    struct uncut { /* a packet that waits to be cut, or behind such a one of its conversation */
+        uint16_t number; /* of its conversation */
+        size_t length;
+        struct cut cut; /* of no segments where it is whole */
+        uint32_t next;  /* the segment that follows */
+    } waiting[BATCH];
+    unsigned first, count;
+    unsigned of_one[CONVERSATIONS]; /* how many of each conversation wait */
+};
+
+/* Frames of conversations that are held. */
+struct held {
+    struct pool {
+        uint8_t *slots;
+        size_t octets;       /* of a slot */
+        uint32_t idle;       /* the first slot that was used and is not in use */
+        uint32_t used, most; /* how many were ever used, and how many there are */
+    } small, large;
+    uint32_t leaving; /* the first of those that are in use until they were sent */
+    struct niw_queue queues;
+    size_t octets; /* of all slots, while the queues are there */
+};
+
+/* The programs of the kernel, and the tables that they share with the daemon. */
+struct fast_programs {
+    struct fast_row *rows;
+    struct fast_member *entries;
+    struct fast_host *host;
+    struct fast_place *places;
+    int receiver;         /* the program of the members */
+    int sender, handover; /* what keeps its programs at the TAP device, or -1 */
+    bool queue_holds;     /* whether its queueing discipline may hold frames */
+};
+
 struct tap_plane {
     PARTS
     struct carry *carry;
@@ -22,9 +149,15 @@ struct tap_plane {
     unsigned usual_queues; /* by how many the kernel passes data on, while it does so of any member */
     uint8_t *rooms; /* for the packets of a batch that members receive */
     uint64_t silent_since[NIW_MOST_PORTS]; /* the time since which a port holds conversations and does not distribute, or 0 */
-    EACH_FILE_OF_TAP(KEEPS)
+    struct member members[NIW_MOST_PORTS];
+    struct queues queues[NIW_MOST_PORTS];
+    struct answers answers[NIW_MOST_PORTS];
+    int answer_timer;
+    struct gro gro;
+    struct host host;
+    struct held held;
+    struct fast_programs fast;
 };
-EACH_FILE_OF_TAP(MAKES)
 
 /* data.c */
 uint64_t frames_handed_up(struct plane *plane, bool counts_now);
@@ -41,9 +174,9 @@ void pass_probe_tick(struct tap_plane *tap);
 void pass_flight_tick(struct tap_plane *tap);
 
 /* queues.c: by which queue of its member a conversation goes, and the markers of each queue */
-bool ends_flight(struct queues_private *own, const struct link *link, uint32_t *id);
+bool ends_flight(struct queues *queues, uint32_t *id);
 void set_identifier(uint8_t *frame, uint32_t id);
-void begin_queues(struct queues_private *own, uint16_t port, unsigned count);
+void begin_queues(struct queues *queues, unsigned count);
 void mark_conversation(struct tap_plane *tap, uint16_t port, uint16_t number, struct msghdr *message);
 bool send_by_queues(struct tap_plane *tap, struct link *link, const uint8_t *marker, bool again);
 
@@ -52,17 +185,9 @@ bool answer_at_once(struct tap_plane *tap, struct link *link, const uint8_t *res
 bool answer_later(struct tap_plane *tap, struct link *link, const uint8_t *response);
 void start_answers(struct tap_plane *tap);
 void serve_answers(struct tap_plane *tap);
-void note_unread(struct answers_private *own, uint16_t port, unsigned packets, bool drained);
-void forget_answers(struct answers_private *own, uint16_t port);
+void note_unread(struct answers *answers, unsigned packets, bool drained);
 
 /* kept.c */
-#define PROCESSORS_LENGTH "2399" /* of the mask of the 8192 processors that Linux knows */
-#define PROCESSORS_ROOM 2400
-struct kept {
-    unsigned joins;                 /* what of GRO and LRO was wanted, as guard.c has it */
-    char steered[PROCESSORS_ROOM];  /* the processors that RPS named, or empty where that was one, or is not changed */
-    struct ethtool_channels queues; /* what there was; all 0 where there was one queue */
-};
 FILE *read_kept(int folder, const struct link *link, const char *kind);
 FILE *begin_kept(int folder, const struct link *link, const char *kind);
 bool end_kept(int folder, const struct link *link, const char *kind, FILE *file, bool done);
@@ -75,7 +200,6 @@ void recall_settings(int folder, const struct link *link, struct kept *kept);
 void lose_device(struct plane *plane);
 void serve_data(struct tap_plane *tap, uint32_t tag);
 void lose_data(struct plane *plane, uint16_t port);
-struct iovec;
 void open_tap_plane(struct plane *plane);
 void end_tap_plane(struct plane *plane);
 void read_host(struct tap_plane *tap);
@@ -83,7 +207,6 @@ bool is_cutting(struct tap_plane *tap);
 bool give_host(struct tap_plane *tap, const struct iovec *parts, unsigned count, size_t length);
 
 /* traffic.c: queueing disciplines and classifiers of members */
-enum classifier { NO_CLASSIFIER, CLASSIFIER_ALONE, CLASSIFIER_BEHIND_OTHERS };
 bool keeps_order(const char *discipline);
 bool read_discipline(int index, char name[static DISCIPLINE_ROOM]);
 bool have_order(int index);
@@ -96,18 +219,6 @@ enum classifier set_classifier(int program, int index);
 void drop_classifier(int index);
 
 /* guard.c */
-struct guard {
-    int opened;                 /* what keeps data from the stack of the interface, or below 0 */
-    enum classifier classifier; /* what does so where the kernel has no TCX */
-    bool in_order;      /* whether the queueing discipline of the interface keeps the order */
-    bool fast;          /* whether the kernel may pass on what goes and comes there */
-    bool unusual;       /* whether it may not, as it has another number of queues than those where it may */
-    struct kept before; /* what the interface had */
-    bool spread;        /* whether it keeps all its queues */
-    unsigned queues;    /* by how many of them data goes */
-    unsigned channels;  /* how many it has, as spread.c has it */
-    int chooser;        /* what keeps the program there by which a frame of the daemon goes by its queue, or -1 */
-};
 /* Why an interface is no member such as others. */
 #define DISORDER "its queueing discipline is neither noqueue, bfifo nor pfifo"
 #define STACKED "it stands on another interface, whose queues are not seen"
@@ -136,9 +247,9 @@ bool follow_member_queues(struct tap_plane *tap, struct link *link);
 bool send_by_one_queue(struct tap_plane *tap, struct link *link, const uint8_t *marker, bool again);
 bool give_marker(struct tap_plane *tap, struct link *link, const uint8_t *marker, struct msghdr *message);
 void watch_queues(struct tap_plane *tap);
-unsigned member_queues(const struct members_private *own, uint16_t port);
+unsigned member_queues(const struct member *member);
 void put_back_members(int status, void *given);
-bool has_fast_member(const struct members_private *own, uint16_t port);
+bool is_fast(const struct member *member);
 uint32_t sum_speeds(struct tap_plane *tap);
 void put_data(struct tap_plane *tap, uint16_t port, uint16_t number, uint8_t *packet, size_t length);
 void flush_data(struct tap_plane *tap);
@@ -147,7 +258,6 @@ bool send_marker_again(struct tap_plane *tap, uint16_t port);
 void accept_only_response(struct tap_plane *tap, struct link *link, const struct arrival *arrival, uint32_t id);
 void accept_response_of_queue(struct tap_plane *tap, struct link *link, const struct arrival *arrival, uint32_t id);
 void count_losses(struct tap_plane *tap);
-uint64_t *member_counts(struct members_private *own, uint16_t port);
 
 /* hash.c */
 struct niw_number conversation_of(struct protocol *protocol, const uint8_t *frame, size_t length);
@@ -165,23 +275,12 @@ size_t tag_octets(const uint8_t *frame, size_t length, size_t most);
 bool has_right_length(const uint8_t *packet, size_t length, uint32_t mtu);
 uint8_t *put_tag(uint8_t *packet, uint16_t type, uint16_t tag);
 
-/* Where a packet of TCP has its headers of IP and TCP, and the payload behind them; and how long it is. */
-struct tcp_packet {
-    size_t network, transport, payload, length;
-};
-
 /* sums.c */
 uint64_t add_octets(uint64_t sum, const uint8_t *octets, size_t length);
 uint16_t fold(uint64_t sum);
 void put_sum(uint8_t *octets, size_t length, size_t field);
 
-/* segments.c: a packet that is cut into `count` of them, each with so many octets of payload but for the last one */
-struct cut {
-    const uint8_t *packet;
-    struct tcp_packet whole;
-    size_t size;
-    uint32_t count;
-};
+/* segments.c */
 bool read_cut(const uint8_t *packet, size_t length, struct cut *cut);
 size_t put_segment(const struct cut *cut, uint32_t number, uint8_t *packet);
 void finish_sum(uint8_t *packet, size_t length);
@@ -199,7 +298,7 @@ const char *program_fault(void);
 void start_fast(struct tap_plane *tap);
 void end_fast(struct tap_plane *tap);
 int open_fast_receiver(struct tap_plane *tap, const struct link *link);
-void close_fast_receiver(struct fast_private *own, const struct link *link);
+void close_fast_receiver(const struct fast_programs *own, const struct link *link);
 void pass_on(struct tap_plane *tap);
 void withdraw(struct tap_plane *tap);
 void withdraw_port(struct tap_plane *tap, uint16_t port);
@@ -223,9 +322,9 @@ bool steer_back(int index, const char *mask);
 void gather(struct process *process, int index);
 void start_all_queues(struct tap_plane *tap);
 void spread(struct tap_plane *tap, const struct link *link, struct guard *guard);
-void stop_spreading(struct store_private *store, const struct link *link, struct guard *guard);
+void stop_spreading(struct store *store, const struct link *link, struct guard *guard);
 bool has_usual_queues(struct tap_plane *tap, const struct guard *guard);
-bool is_spread_anew(const struct system_private *own, const struct link *link, const struct guard *guard);
+bool is_spread_anew(uint64_t seconds, const struct link *link, const struct guard *guard);
 void move_former(struct process *process, struct link *link, const uint8_t *mac);
 void gather_back(int folder, const struct link *link, bool whole);
 bool may_spread(int folder, const struct link *link);
@@ -241,6 +340,6 @@ bool oldest_held(struct tap_plane *tap, uint16_t number, uint64_t *came);
 bool put_held(struct tap_plane *tap, uint16_t number, const uint8_t *packet, size_t length);
 bool drop_held(struct tap_plane *tap, uint16_t number, enum carry_count why);
 uint8_t *remove_held(struct tap_plane *tap, uint16_t number, size_t *length);
-void free_left(struct held_private *own);
+void free_left(struct held *own);
 
 #endif

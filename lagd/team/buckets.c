@@ -216,7 +216,7 @@ void pass_tick_of_team(struct plane *plane) {
     unsigned waiting = count_waiting_buckets(team);
     if (team->carry->time - team->looked_at >= (waiting > 0 ? LOOKED_WAITING : LOOKED_EVERY)) look_at_driver(team);
     if (waiting > 0) rest_still(team);
-    if (ticks_passed(team->protocol->system) % SECOND == 0) give_team_addresses(team);
+    if (team->protocol->ticks % SECOND == 0) give_team_addresses(team);
     note_heard(team->carry);
     end_carry_tick(team->carry);
 }

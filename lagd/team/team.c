@@ -42,7 +42,7 @@ static void lock_device(struct team_plane *team, int index) {
     }
     if (team->lock < 0) stop(REFUSED, team->settings->carry, strerror(-team->lock));
     team->locked = index;
-    put_stored(team->process->store, "lock", index, team->lock);
+    put_stored(&team->process->store, "lock", index, team->lock);
 }
 
 static bool has_own_ports(const struct settings *settings, const struct team_now *now) {
@@ -78,8 +78,8 @@ static void adopt_device(struct team_plane *team, const struct interface *device
 /* Finds the device of the last daemon, whatever an administrator named it since, or else one of this name; answers whether there is one. A
  * TAP device of the last daemon goes. */
 static bool find_device(struct process *process, const char *name, struct interface *device) {
-    int tap = claim_stored(process->store, "tap", 0);
-    if (tap >= 0) close_stored(process->store, "tap", 0, tap);
+    int tap = claim_stored(&process->store, "tap", 0);
+    if (tap >= 0) close_stored(&process->store, "tap", 0, tap);
     if (process->inherited->tap != 0 && ask_interface(process->inherited->tap, NULL, device) && strcmp(device->kind, TEAM_KIND) == 0)
         return true;
     for (int tries = 0; ask_interface(0, name, device); tries++) {
@@ -196,7 +196,7 @@ void leave_team(struct team_plane *team, int index, bool with_device) {
     if (held < 0) return;
     free_inherited_ports(team->process->inherited, index);
     if (with_device) (void)remove_device(index);
-    close_stored(team->process->store, "lock", index, held);
+    close_stored(&team->process->store, "lock", index, held);
 }
 
 /* The program ends, and no other one goes on: its ports are free, also those that a start did not come to, and the device goes if a daemon made
@@ -207,7 +207,7 @@ static void end_team(int status UNUSED, void *given) {
     EACH_LINK(link, team->ports) close_team_port(team->plane, link);
     if (tap_index(team->device) != 0) free_inherited_ports(team->process->inherited, tap_index(team->device));
     if (team->plane->owns_device && tap_index(team->device) != 0) (void)remove_device(tap_index(team->device));
-    if (team->lock >= 0) close_stored(team->process->store, "lock", team->locked, team->lock);
+    if (team->lock >= 0) close_stored(&team->process->store, "lock", team->locked, team->lock);
     team->opened = false;
 }
 

@@ -1,5 +1,6 @@
 /* Prints the conversations of frames: `conversations HASH SEED`, by the number of a hash of settings.h, 1 is layer2+3. Standard input has a
  * frame in each line, in hexadecimal digits. */
+#define _GNU_SOURCE
 #include <stdio.h>
 #include <stdlib.h>
 #include <string.h>

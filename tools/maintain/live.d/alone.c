@@ -1,4 +1,5 @@
 /* What stands in for lagd/lines.c where sources of the daemon run alone: what the library refuses, and whatever stops a daemon, ends the program. */
+#define _GNU_SOURCE
 #include <stdio.h>
 #include <stdlib.h>
 

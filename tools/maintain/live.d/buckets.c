@@ -134,7 +134,6 @@ bool read_team(const struct team_plane *team, int index, struct team_now *now) {
 
 /* What the daemon has beside. */
 ANSWERS(uint64_t milliseconds, lagd->carry.time, void)
-ANSWERS(uint64_t ticks_passed, lagd->carry.time / TICK, const struct system_private *own)
 ANSWERS(int tap_index, DEVICE, const struct device *own)
 NOTHING(give_team_addresses, struct team_plane *team)
 NOTHING(begin_carry_tick, struct carry *carry)

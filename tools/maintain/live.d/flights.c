@@ -28,7 +28,7 @@ static unsigned sent, by_mark, answered, entries = 4;
 static uint32_t ids[64], marks[64];
 
 ANSWERS(uint64_t milliseconds, now, void)
-ANSWERS(bool has_fast_member, is_fast_member, const struct members_private *own, uint16_t port)
+ANSWERS(bool is_fast, is_fast_member, const struct member *member)
 ANSWERS(unsigned count_sending_queues, entries, int index)
 ANSWERS(bool await_input, fd >= 0 && tag == RESPONSES, int epoll_file, int fd, uint32_t tag)
 NOTHING(receive_data, struct tap_plane *tap, uint16_t port)
@@ -70,11 +70,11 @@ static unsigned ask(uint32_t id, bool again) {
 
 /* A response comes; answers the identifier that the library gets, or 0 where it gets none. */
 static uint32_t hear(uint32_t id) {
-    return ends_flight(lagd->tap.queues, &lagd->ports.links[PORT - 1], &id) ? id : 0;
+    return ends_flight(&lagd->tap.queues[PORT - 1], &id) ? id : 0;
 }
 
 static void try_one_flight(void) {
-    begin_queues(lagd->tap.queues, PORT, 4);
+    begin_queues(&lagd->tap.queues[PORT - 1], 4);
     check(ask(0x51234567, false) == 4, __func__, "nobody knows what a new member has in its queues: a marker goes by each");
     check(ids[0] == 0x01234567 && ids[1] == 0x11234567 && ids[3] == 0x31234567, __func__, "its identifier has the queue");
     check(marks[0] == (QUEUE_MARK | 1) && marks[3] == (QUEUE_MARK | 4), __func__, "its mark has the queue, from 1 on");
@@ -105,10 +105,10 @@ static void try_dirty(void) {
 }
 
 static void try_many(void) {
-    begin_queues(lagd->tap.queues, PORT, 1);
+    begin_queues(&lagd->tap.queues[PORT - 1], 1);
     for (uint32_t id = 21; id < 27; id++) check(ask(id, false) == 1 && by_mark == 0, __func__, "by one queue a marker has no mark");
     check(hear(21) == 0 && hear(22) == 0 && hear(23) == 23 && hear(26) == 26, __func__, "the last four markers may be answered");
-    begin_queues(lagd->tap.queues, PORT, 16);
+    begin_queues(&lagd->tap.queues[PORT - 1], 16);
     check(ask(30, false) == 16 && ids[15] == 0xf000001e, __func__, "there are sixteen queues at most");
 }
 
@@ -123,29 +123,27 @@ static void try_answers(void) {
     now += AFTER + 1;
     serve_answers(&lagd->tap);
     check(answered == 0, __func__, "nor while its socket may have what came before");
-    note_unread(lagd->tap.answers, PORT, 64, false);
+    note_unread(&lagd->tap.answers[PORT - 1], 64, false);
     serve_answers(&lagd->tap);
     check(answered == 0, __func__, "or was not read to its end");
-    note_unread(lagd->tap.answers, PORT, 3, true);
+    note_unread(&lagd->tap.answers[PORT - 1], 3, true);
     serve_answers(&lagd->tap);
     check(answered == 64, __func__, "then all go");
     check(answer_later(&lagd->tap, &lagd->ports.links[PORT - 1], frame), __func__, "there is room again");
-    forget_answers(lagd->tap.answers, PORT);
+    lagd->tap.answers[PORT - 1].count = 0;
     now += 10 * AFTER;
-    note_unread(lagd->tap.answers, PORT, 0, true);
+    note_unread(&lagd->tap.answers[PORT - 1], 0, true);
     serve_answers(&lagd->tap);
     check(answered == 64, __func__, "with the link down none goes");
     check(answer_later(&lagd->tap, &lagd->ports.links[PORT - 1], frame), __func__, "there is room then");
     now += AFTER + 1;
-    for (unsigned read = 0; read < 32768; read += 64) note_unread(lagd->tap.answers, PORT, 64, false);
+    for (unsigned read = 0; read < 32768; read += 64) note_unread(&lagd->tap.answers[PORT - 1], 64, false);
     serve_answers(&lagd->tap);
     check(answered == 65, __func__, "a flood of data does not hold a response for ever");
 }
 
 int main(void) {
     join_parts(lagd);
-    lagd->tap.answers = make_answers_private();
-    lagd->tap.queues = make_queues_private();
     lagd->settings.answer_after = AFTER;
     lagd->ports.count = PORT;
     for (uint16_t i = 0; i < lagd->ports.count; i++) lagd->ports.links[i].settings.number = (uint16_t)(i + 1);

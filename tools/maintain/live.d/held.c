@@ -2,6 +2,7 @@
  * conversation that gets many more frames than it may hold leaves room for the others. Each frame comes out with its octets and its time.
  *
  * It prints a line for each check that fails, and then 'held: N passed, M failed'; status 1 if one failed. */
+#define _GNU_SOURCE
 #include <stdio.h>
 #include <stdlib.h>
 #include <string.h>
@@ -85,7 +86,7 @@ static void check_order(void) {
             CHECK(drop_held(&lagd->tap, 7, HELD_TOO_LONG));
     }
     CHECK(lagd->carry.counts[HELD_TOO_LONG] == 2 && waits(7, 0));
-    free_left(lagd->tap.held);
+    free_left(&lagd->tap.held);
 }
 
 /* A full conversation gets many frames more: each is refused, or the oldest one is lost for it. Then there is room for as many frames of
@@ -101,7 +102,7 @@ static void check_refused(bool loses) {
     for (uint16_t number = 1; number < ALL / EACH; number++) others += put_many(number, EACH + 1, SMALL_OCTETS);
     CHECK(others == ALL - EACH && all_wait(ALL) && put_many(ALL / EACH, MANY, SMALL_OCTETS) == 0);
     CHECK(take(0, SMALL_OCTETS) == (loses ? MANY : 0));
-    free_left(lagd->tap.held);
+    free_left(&lagd->tap.held);
     CHECK(put(0, 0, SMALL_OCTETS) && lose(CONVERSATIONS) == ALL && all_wait(0));
 }
 
@@ -110,13 +111,12 @@ static void check_large(void) {
     CHECK(put_many(0, EACH, SMALL_OCTETS) == EACH && put_many(0, MANY, LARGE_OCTETS) == 0);
     CHECK(put_many(1, EACH, LARGE_OCTETS) == LARGE_FRAMES && put_many(2, 1, LARGE_OCTETS) == 0 && put_many(2, 1, SMALL_OCTETS) == 1);
     CHECK(take(1, LARGE_OCTETS) == 0 && put_many(2, 1, LARGE_OCTETS) == 0);
-    free_left(lagd->tap.held);
+    free_left(&lagd->tap.held);
     CHECK(put_many(2, 2, LARGE_OCTETS) == 1 && lose(CONVERSATIONS) == EACH + LARGE_FRAMES + 1);
 }
 
 int main(void) {
     join_parts(lagd);
-    lagd->tap.held = make_held_private();
     start_held(&lagd->tap);
     check_order();
     for (unsigned times = 0; times < 2; times++) {

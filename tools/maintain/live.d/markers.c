@@ -2,6 +2,7 @@
  * responses it takes, and what it says of a peer that answers late, or never.
  *
  * It prints a line for each check that fails, and then 'markers: N passed, M failed'; status 1 if one failed. */
+#define _GNU_SOURCE
 #include <net/ethernet.h>
 #include <stdio.h>
 #include <stdlib.h>
@@ -32,7 +33,6 @@ static bool answered; /* whether the response to the last marker came */
 static const uint8_t OWN[6] = {2, 0, 0, 0, 0, 0xaa}, PARTNER[6] = {2, 0, 0, 0, 0, 0xbb}, STRANGER[6] = {2, 0, 0, 0, 0, 0xcc};
 
 ANSWERS(uint64_t milliseconds, now, void)
-ANSWERS(uint64_t ticks_passed, now / TICK, const struct system_private *own)
 bool say(struct process *process, int level, const char *format, ...) {
     lines++;
     return true;
@@ -110,43 +110,43 @@ static void begin(void) {
     lagd->ports.links[0].view.partner_key = (uint16_t)now;
     look_at_partner(&lagd->carry);
     sent = again = lines = 0;
-    CHECK(peer_answering(lagd->carry.probe) == NOT_ASKED);
+    CHECK(lagd->carry.probe.peer == NOT_ASKED);
 }
 
 /* A peer that answers after three ticks answers markers, and nothing else is said meanwhile. */
 static void check_slow(void) {
     begin();
     pass(4);
-    CHECK(peer_answering(lagd->carry.probe) == ASKED && lines == 0 && sent == 1 && again == 1);
-    CHECK(respond(PARTNER, 1, last_id) && peer_answering(lagd->carry.probe) == ANSWERS && lines == 1);
+    CHECK(lagd->carry.probe.peer == ASKED && lines == 0 && sent == 1 && again == 1);
+    CHECK(respond(PARTNER, 1, last_id) && lagd->carry.probe.peer == ANSWERS && lines == 1);
     pass(1200);
-    CHECK(peer_answering(lagd->carry.probe) == ANSWERS && lines == 1 && sent == 1);
+    CHECK(lagd->carry.probe.peer == ANSWERS && lines == 1 && sent == 1);
 }
 
 /* A peer that never answers is told of once, and is not taken for another one while it is asked again, each minute. */
 static void check_mute(void) {
     begin();
     pass(12);
-    CHECK(peer_answering(lagd->carry.probe) == MUTE && lines == 1 && sent == 1);
+    CHECK(lagd->carry.probe.peer == MUTE && lines == 1 && sent == 1);
     for (unsigned tick = 0; tick < 2400; tick++) {
         pass(1);
-        CHECK(peer_answering(lagd->carry.probe) == MUTE);
+        CHECK(lagd->carry.probe.peer == MUTE);
     }
     CHECK(lines == 1 && sent == 4 + 1);
-    CHECK(respond(PARTNER, 1, last_id) && peer_answering(lagd->carry.probe) == ANSWERS && lines == 2);
+    CHECK(respond(PARTNER, 1, last_id) && lagd->carry.probe.peer == ANSWERS && lines == 2);
 }
 
 /* No response of another one, of another port or of another number makes a mute peer one that answers; a late one does. */
 static void check_forged(void) {
     begin();
     pass(12);
-    CHECK(!respond(STRANGER, 1, last_id) && !respond(PARTNER, 2, last_id) && !respond(STRANGER, 0, 0) && peer_answering(lagd->carry.probe) == MUTE);
-    for (uint32_t id = 0; id < 1000; id++) CHECK(respond(PARTNER, 1, id) && peer_answering(lagd->carry.probe) == MUTE);
+    CHECK(!respond(STRANGER, 1, last_id) && !respond(PARTNER, 2, last_id) && !respond(STRANGER, 0, 0) && lagd->carry.probe.peer == MUTE);
+    for (uint32_t id = 0; id < 1000; id++) CHECK(respond(PARTNER, 1, id) && lagd->carry.probe.peer == MUTE);
     CHECK(lines == 1 && lagd->ports.links[0].counts[FOREIGN_RESPONSES] == 3);
     tell_markers(&lagd->protocol, &lagd->ports.links[0]);
     tell_markers(&lagd->protocol, &lagd->ports.links[0]);
     CHECK(lines == 2);
-    CHECK(respond(PARTNER, 1, last_id) && peer_answering(lagd->carry.probe) == ANSWERS);
+    CHECK(respond(PARTNER, 1, last_id) && lagd->carry.probe.peer == ANSWERS);
 }
 
 /* Markers come each `step` milliseconds for a minute; the most that were answered within any second, and how many in all. */
@@ -199,7 +199,6 @@ static void check_budgets(void) {
 
 int main(void) {
     join_parts(lagd);
-    lagd->carry.probe = make_probe_private();
     lagd->plane.queueing = &ONE_QUEUE;
     memcpy(lagd->settings.config.mac, OWN, sizeof OWN);
     check_slow();

@@ -8,6 +8,7 @@
  *     policy EVENTS SEED
  *
  * It prints a line for each kind of check that fails, and then 'policy: N passed, M failed'; status 1 if one failed. */
+#define _GNU_SOURCE
 #include <linux/if_packet.h>
 #include <stdio.h>
 #include <stdlib.h>
@@ -157,7 +158,6 @@ static void put_slow(struct end *end, uint16_t port, uint8_t *frame) {
 
 /* What the policy asks of the rest of the daemon: the clock, */
 ANSWERS(uint64_t milliseconds, now, void)
-ANSWERS(uint64_t ticks_passed, now / TICK, const struct system_private *own)
 ANSWERS(uint64_t boottime, now, void)
 /* data and markers, */
 void put_data(struct tap_plane *tap, uint16_t port, uint16_t number, uint8_t *packet, size_t length) {
@@ -172,7 +172,7 @@ void flush_data(struct tap_plane *tap) {
     struct end *end = end_of(tap);
     for (unsigned i = 0; i < end->out_count; i++) (void)put_on_wire(end, end->out[i].port, end->out[i].packet, OCTETS);
     end->out_count = 0;
-    free_left(tap->held);
+    free_left(&tap->held);
 }
 void send_new_marker(struct plane *plane, struct link *link, const uint8_t *frame) {
     struct end *end = end_of(plane);
@@ -273,12 +273,11 @@ static void accept_any(struct tap_plane *tap, struct link *link, const struct ar
 NOTHING(count_losses, struct tap_plane *tap)
 NOTHING(pass_announcing_tick, struct carry *carry)
 NOTHING(pass_tap_tick, struct device *device)
-NOTHING(announce_soon, struct announce_private *own)
+NOTHING(announce_soon, struct announce *own)
 ANSWERS(uint32_t sum_speeds, 1000, struct tap_plane *tap)
 NOTHING(set_speed, struct device *device, uint32_t megabits)
 NOTHING(run_hook, struct protocol *protocol, const char *path, enum bundle_state before)
 /* The device is up here, and no port comes or goes. */
-ANSWERS(bool is_halted, false, const struct halt_private *own)
 ANSWERS(uint16_t count_links, PORTS, const struct ports *ports)
 NOTHING(tell_watchers_of, struct control *control, const struct link *link)
 /* The plane: frames come here alone, and members have one queue. */
@@ -308,10 +307,6 @@ static void make_end(struct end *end, uint8_t which) {
     lagd->device = &end->device;
     end->device.most_mtu = ETH_DATA_LEN;
     join_parts(lagd);
-    lagd->protocol.bundle_private = make_bundle_private();
-    lagd->protocol.selection = make_select_private();
-    lagd->tap.held = make_held_private();
-    lagd->carry.probe = make_probe_private();
     lagd->plane.carrying = &FRAMES;
     lagd->plane.passing = &BY_DAEMON;
     lagd->plane.queueing = &ONE_QUEUE;
@@ -458,10 +453,11 @@ static void pass_time(struct end *end, unsigned ticks) {
     struct lagd *lagd = &end->lagd;
     for (; ticks > 0; ticks--) {
         CHECK(niw_tick(&lagd->protocol.own_system) == NIW_OK);
+        lagd->protocol.ticks++;
         read_views(&lagd->protocol);
         pass_carry_tick(&lagd->protocol);
         end_emptying(end);
-        if (now / 1000 != (now - TICK) / 1000) allow_bundle_line(lagd->protocol.bundle_private);
+        if (now / 1000 != (now - TICK) / 1000) allow_bundle_line(&lagd->protocol.bundle);
         events++;
     }
     check_waiting(end);

@@ -9,6 +9,7 @@
  * reads frames in hexadecimal, one a line, and prints two conversations for each: that of hash.c, and that whose row the sender counted it in.
  * The latter is -1 where the kernel takes no test frame of that form. A frame with a tag is sent a second time with it beside the frame,
  * where -2 says that this was another conversation. The status is 3 where the kernel takes no program. */
+#define _GNU_SOURCE
 #include <bpf/bpf.h>
 #include <errno.h>
 #include <linux/if_packet.h>

@@ -293,7 +293,6 @@ static void check_rubbish(void) {
 
 int main(void) {
     join_parts(lagd);
-    lagd->tap.gro = make_gro_private();
     for (unsigned i = 0; i < 2 * BATCH; i++) rooms[i] = malloc(MOST);
     for (unsigned round = 0; round < ROUNDS; round++) check_round();
     check_differences();
