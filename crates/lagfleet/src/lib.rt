@@ -79,8 +79,8 @@ ghost use Rattle.lagfleet.specs.BesideAnyPeer.{EachRestartBesideAnyPeer, EachSet
 //    (`Fits`); a restart loses what is on the cables; a takeover is by a system that may follow (`IsSuccessor` of lagmodel), and has the
 //    identifier, the keys of aggregators and the ports of the one before (`IsAlikeSetup`)
 /// One system beside peers of any kind and number, however they are wired, as `order_with_any_peer` of `lagmodel` has it of definitions:
-/// after every list of calls, octets received, with those of hosts, settings and takeovers. One premise: on a cable a Marker Response
-/// answers the marker that has come there first (6.2.4, 6.4.9, 6.4.14, 6.5.4; profile).
+/// after every list of calls, octets received, with those of hosts, settings and takeovers. Two premises for order: on a cable a Marker
+/// Response answers the marker that has come there first, and data is handed up once, as it comes (6.2.4, 6.4.9, 6.4.14, 6.5.4; profile).
 pub fn beside_any_peer<F: Fn(u16, usize) -> usize>()
     ensures one_partner { (algorithm : F) → HoldsBesideAnyPeer (F.post algorithm) (λ w. OnePartner w.view) }
     ensures took_synchronized { (algorithm : F) → HoldsBesideAnyPeer (F.post algorithm) TookInSync }

@@ -127,7 +127,7 @@ scene_of x w s = record {
   forced = w.forced s;
 }
 
--- A port of any system that distributes, not on defaults, took an LACPDU, and the last one said IN_SYNC and names it.
+-- A port of any system that distributes, not on defaults, took an LACPDU, and the last one said IN_SYNC, and names it or is of an individual link.
 abbrev pub EachTookInSync : NetworkSetup → Network → Type 0
 EachTookInSync x w = (s : ℕ) → TookInSync (scene_of x w s)
 
