@@ -32,7 +32,7 @@ void look_at_bundle(struct protocol *protocol) {
     if (now.reported && now.state == protocol->bundle.state && now.links == protocol->bundle.links && now.carrying == protocol->bundle.carrying
         && now.aggregator == protocol->bundle.aggregator)
         return;
-    if (protocol->bundle.changed_at == 0) protocol->bundle.changed_at = time(NULL);
+    if (now.changed_at == 0) now.changed_at = time(NULL);
     now.reported = true;
     if (now.lines > 0) now.lines--;
     enter(protocol, &now);
