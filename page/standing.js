@@ -19,11 +19,22 @@ const isPassive = (it) => !(it.state & ACTIVITY_BIT);
 
 /* ---- Facts: a name, ports, a title and what to do; one without ports is none ---- */
 
+/* A command of each port. */
+const eachDone = (ports, commandOf) => ports.map(({ name }) => commandOf(name)).join("; ");
+const setUp = (ports) => eachDone(ports, (name) => `ip link set ${name} up`);
+const OF_CABLE = "look at the cable and at the other end's port.";
+
 function linkFacts({ name, told, ports, hash }) {
-    const down = ports.filter((it) => it.link === false && !it.isWaiting && !it.isOff), off = ports.filter((it) => it.isOff), waiting = ports.filter((it) => it.isWaiting), up = ports.filter((it) => isLinked(it) && it.aggregator !== null), linked = ports.filter(isLinked);
+    const dead = ports.filter((it) => it.link === false && !it.isWaiting && !it.isOff), setDown = dead.filter((it) => it.isSetDown), down = dead.filter((it) => !it.isSetDown);
+    const held = ports.filter((it) => it.isHeld), isSetUp = down.every((it) => it.isSetDown === false);
+    const off = ports.filter((it) => it.isOff), waiting = ports.filter((it) => it.isWaiting), up = ports.filter((it) => isLinked(it) && it.aggregator !== null), linked = ports.filter(isLinked);
     const parts = [...new Set(up.map((it) => it.aggregator))], standing = ports.filter((it) => it.standsBy), away = ports.filter((it) => it.isAway);
     return [
-        { name: "link-down", ports: down, title: `the link of ${namesIn(down)} is down`, advice: "Nothing of LACP is to be judged there: look at the cable and at the other end's port." },
+        { name: "link-set-down", ports: setDown, title: `the link of ${namesIn(setDown)} is set down here`, advice: setUp(setDown) },
+        { name: "link-down", ports: down, title: `the link of ${namesIn(down)} is down`,
+            advice: `Nothing of LACP is to be judged there: ${isSetUp ? "" : `if it is set down here, ${setUp(down)}; else `}${OF_CABLE}` },
+        { name: "held", ports: held, title: `the host holds ${namesIn(held)} out of use`,
+            advice: `${eachDone(held, (name) => `lagd --release ${name}`)}. If the file of the bundle has hold=yes, take that out, too.` },
         { name: "device-down", ports: off, title: `the device of ${told} is down: LACP has ended on ${namesIn(off)}`,
             advice: "Set it up: ip link set DEVICE up (the status names it behind `carry:`)." },
         { name: "away", ports: away, title: `the carrier of ${namesIn(away)} is away, and LACP takes the link as up (delay-down): it passes nothing now`,
@@ -132,7 +143,7 @@ export function factsIn(texts) {
 /* ---- Causes ---- */
 
 /* What explains the rest comes first: facts by name, rules by number. */
-const RANKS = ["no-lacp", "no-state", "no-root", "set-down", 30, "own-address", "never-heard", "copied", 29, 15, "apart", "device-down", "link-down", "speeds", "stands-by", 5, "passive-unheard", 14, "deaf-there", 12, 22, 17, 2, 3, 4, "too-few"];
+const RANKS = ["no-lacp", "no-state", "no-root", "set-down", 30, "own-address", "never-heard", "copied", 29, 15, "apart", "device-down", "link-set-down", "link-down", "held", "speeds", "stands-by", 5, "passive-unheard", 14, "deaf-there", 12, 22, 17, 2, 3, 4, "too-few", "no-links"];
 const isUnheard = ({ rank }) => rank === 12;
 /* What calls for nothing by itself. */
 const ASIDE = ["away", "waiting", "aggregators", "same-partner-port", "one-system", "several", "note", "said"];
@@ -186,6 +197,9 @@ function inOrder(all, bundles) {
     return [first, ...others.filter((it) => !isEffect(it))];
 }
 
+/* Whether somebody holds the link of a finding, at either end: then it says nothing that it is not attached. */
+const isOfHeld = ({ rule, port }) => [17, 22].includes(rule) && (port.said.isHeld || port.isHeldThere);
+
 /* The causes of texts, the first one first; of a text that is cut none is named. What the hashes mean is said where all links of a bundle carry. */
 export function causesOfTexts(texts, { found, left }) {
     const bundles = texts.flatMap((it) => it.bundles), aside = (rank) => ASIDE.includes(rank) ? REMARK : FAULT;
@@ -195,7 +209,7 @@ export function causesOfTexts(texts, { found, left }) {
     if (texts.some(isCutIn)) return [...notes, ...said];
     const facts = factsIn(texts).map((it) => causeOf({ rank: it.name, title: it.title, advice: it.advice, ports: it.ports, kind: aside(it.name) }));
     const isCopied = facts.some(({ rank }) => rank === "copied");
-    const rules = causesOfRules(found.filter((it) => !(it.rule === 17 && isDenied(it.port.said)) && !(isCopied && COMPARING.includes(it.rule))), texts[0]);
+    const rules = causesOfRules(found.filter((it) => !(it.rule === 17 && isDenied(it.port.said)) && !isOfHeld(it) && !(isCopied && COMPARING.includes(it.rule))), texts[0]);
     const causes = inOrder([...notes, ...facts, ...rules].filter((it) => it.kind === FAULT), texts[0].bundles);
     const whole = causes.length ? [] : texts[0].bundles.filter(({ ports }) => ports.length > 1 && ports.every(saysCarry));
     const hashes = hashesSaid(whole).map((it) => causeOf({ rank: "hash", kind: REMARK, ...it }));
@@ -230,10 +244,11 @@ function whyDetached(port, { ports }) {
 function whyIdle(port, bundle) {
     if (port.isOff) return "the device is down";
     if (port.isWaiting) return "its link is back, and waits for wait-to-restore";
-    if (port.link === false) return "its link is down";
+    if (port.link === false) return port.isSetDown ? "its link is set down here" : "its link is down";
     if (port.isAway) return "its carrier is away now";
     if (port.standsBy) return `it stands by: ${bundle.hash.join(" is ")}`;
     if (!port.actor) return "the text has nothing of its LACPDUs";
+    if (port.isHeld) return "the host holds it out of use";
     if (!port.partner) return "it hears nobody";
     const used = bundle.ports.find((it) => it.isUsed), state = bitsOf(port.partner.state);
     if (used && used.aggregator !== null && port.aggregator !== null && used.aggregator !== port.aggregator) {

@@ -3,10 +3,10 @@
  *
  * A text gives `{ form, bundles, notes }`. A bundle has a name, how it is told, ports, `hash` (what names it, and its words; null: not said), and
  * whether the text is cut in it (`cut` says where, if that is known). A port has `name`, `link` (true, false or null: not said), `source`, `actor`
- * and `partner`, `aggregator`, `isUsed` (whether the text says that it carries data; null: not said), `isAlone` (whether it does so without a
- * partner), `isLasting` (whether an end has not been synchronized for 60 s), `speed`, and `facts`, texts of what no LACPDU has. A note has what is
- * so, and what to do. A party has `priority`, `system`, `key`, `portPriority`, `port` and `state`; what the text does not have is null; `partner`
- * is null where none is heard. */
+ * and `partner`, `aggregator`, `isSetDown` (null: not said), `isUsed` (whether the text says that it carries data; null: not said), `isAlone`
+ * (whether it does so without a partner), `isLasting` (whether an end has not been synchronized for 60 s), `speed`, and `facts`, texts of what no
+ * LACPDU has. A note has what is so, and what to do. A party has `priority`, `system`, `key`, `portPriority`, `port` and `state`; what the text does
+ * not have is null; `partner` is null where none is heard. */
 
 export const NO_ADDRESS = "00:00:00:00:00:00";
 /* What programs call the bits of a state, from the first. */
@@ -50,12 +50,15 @@ const tooFew = (told, carrying, least, option) => ({
     advice: `Mend the other links, or set ${option} lower.`,
 });
 
+/* That a whole text of lagd has a bundle without a port. */
+const noLinks = (told) => ({ name: "no-links", text: `${told} has no links`, advice: "lagd --add IFACE gives it one; with members=follow: ip link set IFACE master DEVICE." });
+
 /* A bundle with what a form has of it. */
 const bundleOfText = (name, told, ports, given) => ({ name, told, ports, hash: null, isCut: false, cut: "", ...given });
 
 /* A port with what a form has of it. */
 const portOfText = (given) => ({
-    link: null, isAway: false, isWaiting: false, isOff: false, source: "", actor: null, partner: null, aggregator: null, isUsed: null, isAlone: false, isLasting: false, speed: "", facts: [], ...given,
+    link: null, isAway: false, isWaiting: false, isOff: false, isHeld: false, isSetDown: null, source: "", actor: null, partner: null, aggregator: null, isUsed: null, isAlone: false, isLasting: false, speed: "", facts: [], ...given,
 });
 
 const times = (number) => Number(number) === 1 ? "once" : `${number} times`;
@@ -157,7 +160,7 @@ function memberOfIp(it, { linkinfo: { info_data: said }, address }) {
     const partner = isActive ? { priority: 0, system: macOf(active.partner_mac), key: active.partner_key ?? null, portPriority: 0, port: null, state }
         : { priority: null, system: null, key: null, portPriority: 0, port: null, state };
     return portOfText({
-        name: it.ifname, link: data.mii_status === "UP", source: macOf(it.address), actor, partner: knownPartner(actor, partner), aggregator: data.ad_aggregator_id,
+        name: it.ifname, link: data.mii_status === "UP", isSetDown: it.flags ? !it.flags.includes("UP") : null, source: macOf(it.address), actor, partner: knownPartner(actor, partner), aggregator: data.ad_aggregator_id,
         isUsed: isActive && (isAlone || isDistributing(actor)), isAlone, facts: data.link_failure_count ? [`its link failed ${times(data.link_failure_count)}`] : [],
     });
 }
@@ -167,7 +170,7 @@ const isMemberWhole = ({ linkinfo: { info_slave_data: data } }) => [data.ad_aggr
 function ipLink(links) {
     const bonds = links.filter((it) => it.linkinfo?.info_kind === "bond"), lacp = bonds.filter((it) => it.linkinfo.info_data?.mode === "802.3ad");
     const notes = lacp.length ? [{ name: "note", text: "ip has no port numbers, and one partner alone: /proc/net/bonding/NAME, read as root, has more" }]
-        : [bonds.length ? noLacp("no bond of this text speaks LACP", bonds[0].linkinfo.info_data?.mode) : { name: "no-lacp", text: "no bond is in this text" }];
+        : [bonds.length ? noLacp("no bond of this text speaks LACP", bonds[0].linkinfo.info_data?.mode) : { name: "no-state", text: "no bond is in this text" }];
     const bundles = lacp.map((bond) => {
         const members = links.filter((it) => it.master === bond.ifname && it.linkinfo?.info_slave_kind === "bond"), whole = members.filter(isMemberWhole);
         const ports = whole.map((it) => memberOfIp(it, bond)), carrying = ports.filter((it) => it.isUsed).length, least = bond.linkinfo.info_data.min_links ?? 0;
@@ -280,6 +283,8 @@ const isChurning = (churns) => churns.includes("CHURN");
 
 /* What lagd says of each port while the device that carries its data is down: LACP has ended there. */
 const DEVICE_DOWN = "the device is down";
+/* What it says of a port that its administrator holds, whose link is up. */
+const HELD = "the host holds it";
 
 /* The link of a port, as lagd says it: with `away` LACP takes it as up (delay-down), and nothing passes; with `waiting` it is back, and LACP takes it as
  * down (wait-to-restore). */
@@ -291,7 +296,7 @@ function memberOfShow(part, active) {
     const of = said.has("link") ? linkOfLagd(said.get("link")) : {};
     const isUsed = mayEnable === undefined ? null : mayEnable === "true" && !of.isAway && (active === null || aggregator === active), known = knownPartner(actor, partner);
     return portOfText({
-        name, ...of, isOff: said.get("status") === DEVICE_DOWN, source: macOf(said.get("address") ?? said.get("actor sys_id")), actor, partner: known,
+        name, ...of, isOff: said.get("status") === DEVICE_DOWN, isHeld: said.get("status") === HELD, source: macOf(said.get("address") ?? said.get("actor sys_id")), actor, partner: known,
         aggregator, isUsed, isAlone: isUsed === true && actor !== null && !known, isLasting: isChurning([said.get("actor_churn"), said.get("partner_churn")]),
         facts: factsOfShow(part, said, receive, actor), isWhole: actor !== null && partner !== null,
     });
@@ -315,11 +320,13 @@ function bundleOfShow(part) {
     const [head, ...parts] = part.split(/^(?=(?:member|slave): )/m), said = valuesIn(head), active = numberOf(said.get("aggregator")), isOfLagd = said.has("uptime");
     const ports = parts.map((it) => memberOfShow(it, active)), hash = /^ *carry: .*, hash ([^, ]+),/m.exec(part)?.[1];
     const name = /^---- (.*) ----/.exec(head)[1], carrying = /^down, ([1-9]\d*) of /.exec(said.get("status") ?? "")?.[1], told = `${isOfLagd ? "the bundle" : "the bond"} ${name}`;
+    const isEmpty = isOfLagd && !ports.length && said.get("status")?.endsWith(", 0 of 0 links carry");
     const notes = [
+        ...isEmpty ? [noLinks(told)] : [],
         ...said.get("status") === "off" ? [{ name: "no-lacp", text: `LACP of ${told} is off`, advice: `ovs-vsctl set port ${name} lacp=active` }] : [],
         ...carrying ? [tooFew(told, carrying, said.get("min_links"), "min-links")] : [],
     ];
-    return bundleOfText(name, told, ports, { isOfLagd, isCut: !ports.length || ports.some((it) => !it.isWhole), notes, hash: hash ? ["hash", hash] : null });
+    return bundleOfText(name, told, ports, { isOfLagd, isCut: (!ports.length && !isEmpty) || ports.some((it) => !it.isWhole), notes, hash: hash ? ["hash", hash] : null });
 }
 
 function showOf(text) {
@@ -339,7 +346,7 @@ function memberOfLagd(bundle, port) {
     const actor = partyOf(port.actor, bundle.system, bundle.system_priority), known = knownPartner(actor, partyOf(port.partner, port.partner.system, port.partner.system_priority));
     const of = linkOfLagd(port.link), isUsed = port.carries && !of.isAway && port.aggregator === bundle.aggregator;
     return portOfText({
-        name: port.interface, ...of, isOff: port.status === DEVICE_DOWN, source: macOf(port.address), actor, partner: known, aggregator: port.aggregator,
+        name: port.interface, ...of, isOff: port.status === DEVICE_DOWN, isHeld: port.status === HELD, source: macOf(port.address), actor, partner: known, aggregator: port.aggregator,
         isUsed, isAlone: isUsed && !known, isLasting: isChurning([port.actor_churn, port.partner_churn]),
         facts: [...port.status !== "it distributes" ? [`lagd says: ${port.status}`] : [], ...port.other_system ? [`another system speaks: ${port.other_system.system}`] : [], ...countsSaid(port.counters ?? {})],
     });
@@ -348,7 +355,10 @@ function memberOfLagd(bundle, port) {
 const lagdJson = (lines) => ({
     form: "lagd",
     bundles: lines.map((it) => bundleOfText(it.bundle, `the bundle ${it.bundle}`, it.ports.map((port) => memberOfLagd(it, port)), { hash: it.carry?.hash ? ["hash", it.carry.hash] : null })),
-    notes: lines.filter((it) => it.state === "down" && it.carrying > 0).map((it) => tooFew(`the bundle ${it.bundle}`, it.carrying, it.min_links, "min-links")),
+    notes: [
+        ...lines.filter((it) => !it.ports.length).map((it) => noLinks(`the bundle ${it.bundle}`)),
+        ...lines.filter((it) => it.state === "down" && it.carrying > 0).map((it) => tooFew(`the bundle ${it.bundle}`, it.carrying, it.min_links, "min-links")),
+    ],
 });
 
 /* ---- Any of them ---- */

@@ -60,13 +60,14 @@ async function opened(path) {
     if (!octets) accessSync(path, constants.R_OK); // it says which error it is
     const file = Object.assign(octets ? new Blob([octets]) : await openAsBlob(path), { name: octets ? "standard input" : basename(path) });
     const text = file.size > MOST_TEXT ? "\0" : (octets ?? readFileSync(path)).toString("utf8");
-    return { file, status: text.includes("\0") ? null : statusIn(text), isText: !text.includes("\0") && text.trim() !== "" };
+    return { file, status: text.includes("\0") ? null : statusIn(text), isText: !text.includes("\0") && text.trim() !== "", isEmpty: text.trim() === "" };
 }
 
 async function main(paths) {
     if (!paths.length) throw new Error("lagtool explain FILE..: captures, or what systems print of LACP; of both ends the other one second");
     const lagtool = await Lagtool.of(Buffer.from(MODULE.exec(readFileSync(PAGE, "latin1"))[1], "base64")), files = [];
     for (const path of paths) files.push(await opened(path).catch((error) => { throw new Error(`cannot read ${path}: ${ERRORS[error.code] ?? error.message}`); }));
+    if (files.every((it) => it.isEmpty)) throw new Error("the input is empty: did the command before it fail?");
     const texts = files.map((it) => it.status).filter(Boolean), unknown = files.findIndex((it) => !it.status && it.isText);
     if (unknown >= 0) throw new Error(`cannot read ${paths[unknown]}: neither a capture nor a known status`);
     const of = (isText) => paths.filter((_, number) => Boolean(files[number].status) === isText).join(" ");

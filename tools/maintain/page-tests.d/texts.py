@@ -139,6 +139,62 @@ def of_a_device_that_is_down(tests: Tests) -> None:
         tests.same(f"a device that is down, as {form}", [first.startswith(word), first.endswith(told), "cable" in first], [True, True, False])
 
 
+def of_held(tests: Tests) -> None:
+    """A link that lagd holds is said to be held, and not that it waits, or that the other end is ahead of it."""
+    text, line = read_text(os.path.join(STATUS, "healthy-lagd.txt")), read_text(os.path.join(STATUS, "healthy-lagd-json.json"))
+    bits = {"aggregation synchronization collecting distributing": "aggregation", '"aggregation","synchronization","collecting","distributing"': '"aggregation"'}
+
+    def held(part: str) -> str:
+        """The part of a port as it is while lagd holds that: its own state is the first."""
+        for was, now in {"it distributes": "the host holds it", "may_enable: true": "may_enable: false", '"carries":true': '"carries":false', "  aggregator: 1": "  aggregator: 0",
+                         '"aggregator":1': '"aggregator":0', **bits}.items():  # fmt: skip
+            part = part.replace(was, now, 1)
+        return part.replace("collecting distributing", "").replace(',"collecting","distributing"', "")
+
+    for form, it, between in ("text", text, "member: "), ("JSON", line, '{"port":'):
+        head, first, second = it.split(between)[:3]
+        rest = it.split(between)[3:]
+        one, both = (between.join([head, *parts, *rest]) for parts in ([first, held(second)], [held(first), held(second)]))
+        for count, shown, who in ("1 of 2 links carries", one, ["p2"]), ("0 of 2 links carry", both, ["p1", "p2"]):
+            ended, said = told_of(shown)
+            found = [ended, said.partition("\n")[0], "; ".join(f"lagd --release {name}" for name in who) + ". If" in said, "Look again" in said, "it waits" in said]
+            tests.same(f"{len(who)} of 2 held, as {form}", found, [1, f"{count}. The host holds {', '.join(who)} out of use.", True, False, False])
+
+
+def of_set_down(tests: Tests) -> None:
+    """A link that is set down here is to be set up first; where the text does not tell that, both are said; a link that is up by its flags has its cable."""
+    cable, both = "there: look at the cable", "there: if it is set down here, ip link set p2 up; else look at the cable"
+    shown = read_text(os.path.join(STATUS, "minlinksdown-ip-text.txt"))
+    links = json.loads(read_text(os.path.join(STATUS, "healthy-ip.json")))
+    data = links[2]["linkinfo"]["info_slave_data"]
+    data["mii_status"], links[2]["flags"] = "DOWN", ["BROADCAST", "MULTICAST", "SLAVE"]
+    data["ad_actor_oper_port_state"] = data["ad_partner_oper_port_state"] = 7
+    for form, text in ("text", shown.replace("<NO-CARRIER,BROADCAST,MULTICAST,SLAVE,UP>", "<BROADCAST,MULTICAST,SLAVE>")), ("JSON", json.dumps(links)):
+        ended, said = told_of(text)
+        wanted = [1, "1 of 2 links carries. The link of p2 is set down here.", "p2: does not carry: its link is set down here", True, False]
+        found = [ended, *(it.strip() for it in said.split("\n")[:2]), "\n   ip link set p2 up\n" in said, "cable" in said]
+        tests.same(f"a link that is set down, as ip's {form}", found, wanted)
+    for name, word in ("minlinksdown-ip-text.txt", cable), ("down-lagd.txt", both), ("down-bonding.txt", both):
+        tests.same(f"{name}: what is looked at first", word in told_of(read_text(os.path.join(STATUS, name)))[1], True)
+
+
+def of_nothing(tests: Tests) -> None:
+    """A bundle of lagd without links is whole; a text without a bond, and one that is empty, have nothing to read."""
+    head = read_text(os.path.join(STATUS, "healthy-lagd.txt")).split("member: ")[0].replace("up, 2 of 2", "down, 0 of 0")
+    line = json.loads(read_text(os.path.join(STATUS, "healthy-lagd-json.json")))
+    empty = json.dumps({**line, "state": "down", "links": 0, "carrying": 0, "aggregator": 0, "ports": []}, separators=(",", ":"))
+    for form, text in ("text", head), ("JSON", empty):
+        ended, said = told_of(text)
+        tests.same(f"a bundle without links, as {form}", [ended, said.partition("\n")[0]], [1, "The bundle p1 has no links."])
+    tests.same("one that is cut behind its head is cut", told_of(head.replace("0 of 0", "0 of 2"))[0], 2)
+    alone = json.dumps(json.loads(read_text(os.path.join(STATUS, "healthy-ip.json")))[:1])
+    ended, said = told_of(alone)
+    tests.same("a text without a bond", [ended, said.partition("\n")[0]], [2, "No bond is in this text."])
+    for text in "", "\n":
+        run = subprocess.run(["node", EXPLAIN, "-"], input=text, capture_output=True, text=True)
+        tests.same(f"an input of {len(text)} octets", [run.returncode, run.stdout, run.stderr], [2, "", "lagtool: the input is empty: did the command before it fail?\n"])
+
+
 def of_speeds(tests: Tests) -> None:
     """Where keys differ because speeds do, the speeds come first, and the keys below them; else the keys."""
     text = read_text(os.path.join(STATUS, "speeds-bonding.txt"))
@@ -254,7 +310,7 @@ def of_texts(tests: Tests, browser: Browser) -> None:
     of_ways(tests, browser)
     of_cuts(tests, browser)
     of_explain(tests, browser)
-    for it in of_words, of_endings, of_programs, of_away, of_a_device_that_is_down, of_waiting, of_speeds, of_partners, of_partner_states, of_one_file, of_hashes:
+    for it in of_words, of_endings, of_programs, of_away, of_a_device_that_is_down, of_waiting, of_held, of_set_down, of_nothing, of_speeds, of_partners, of_partner_states, of_one_file, of_hashes:
         it(tests)
     passive = read_text(os.path.join(STATUS, "healthy-bonding.txt")).replace("port state: 63", "port state: 62")
     tests.same("two passive ends do not carry, as in a capture", pasted(browser, passive)[0], "0 of 2 links carry. Both ends are passive: p1, p2.")
