@@ -56,7 +56,7 @@ class Meters:
     """The meters of a link: data of the device's client, and all else that tests look at."""
 
     def __init__(self) -> None:
-        self.data, self.other = Meter("data of the device's client", DATA_KEPT), Meter("LACPDUs, markers and broadcasts", KEPT)
+        self.data, self.other = Meter("data of the device's client", DATA_KEPT), Meter("Slow Protocols and broadcasts", KEPT)
 
     def sent(self, when: float) -> None:
         """The bench sent a frame, which may be answered."""

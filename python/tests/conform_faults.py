@@ -80,7 +80,7 @@ class SecondTimeout(SecondPort):
 class SecondFallsSilent(Device):
     """Says nothing more on port 2 from a second on."""
 
-    finds, silent_from = "MX-06", 8.0
+    finds, silent_from = "MX-06", 5.0
 
     def says(self, port: int, frame: bytes) -> Iterable[bytes]:
         if port != 2 or self.now < self.silent_from:
