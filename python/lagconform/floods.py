@@ -10,7 +10,8 @@ from .pdus import SLOW, is_data, mac
 KEPT = 1000
 # From so many frames a second on a link is flooded, those too that no test looks at.
 FLOOD = 5000
-# So many frames of a second are kept of the device's client, which a hook makes it send: 64 flows at 10 a second are 640, and 1,280 if each comes twice.
+# So many frames of a second are kept of the device's client, which a hook makes it send: 64 flows at 10 a second are 640 frames, and 1,280 where each
+# comes twice.
 DATA_KEPT = FLOOD
 
 

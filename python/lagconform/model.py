@@ -54,7 +54,7 @@ class Frame:
 @dataclass(frozen=True)
 class Claim:
     """One thing that was looked at, and the packets that show it. A machine that is up to `bears` seconds late, or loses frames, does not make
-    it false. `late` is by how many seconds something came too late. One that is denied `in_flood` is denied by frames that came, whatever a flood hid."""
+    it false. `late` is by how many seconds something came too late. A flood does not make it false either, if `in_flood`."""
 
     holds: bool
     text: str
