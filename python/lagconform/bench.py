@@ -9,10 +9,10 @@ from typing import Callable, Iterator, Mapping, Optional, Sequence, cast
 
 from niwhopera import Lacpdu, Mac, MarkerKind, State
 
-from .floods import Meter
+from .floods import Meters
 from .model import Claim, Frame, NotHere, Result, Stop, Stopped, Stuck
 from .partner import PLACES, Partner, slow
-from .pdus import CARRIES, COUNT_AT, DATA, PAYLOAD, SENDERS, SLOW, end, read, told, value
+from .pdus import CARRIES, COUNT_AT, PAYLOAD, SLOW, end, is_data, read, told, value
 from .wires import UNKNOWN, Answer, Hook, Wire
 
 # 6.4.4: each timer may be wrong by so much. What is due at once has to be seen so soon: the standard has no number for that, but its
@@ -50,9 +50,9 @@ class Link:
         self.spoke: Optional[Frame] = None
         # What has a packet number up to this one is of before the link was taken down, or the device ended.
         self.over = 0
-        # Whether the device has carried here beside a right partner.
+        # Whether the device has told that it carries here, beside a partner of ours that it names.
         self.carried = False
-        self.meter = Meter()
+        self.meters = Meters()
         self.partner = Partner(bench, number)
 
     def current(self, frame: Optional[Frame]) -> Optional[Frame]:
@@ -144,19 +144,20 @@ class Bench:
     def send_raw(self, link: int, octets: bytes) -> Frame:
         """Sends a frame; answers it as the log has it."""
         frame = self.log(link, self.now(), True, octets)
-        self.links[link].meter.sent(frame.time)
+        self.links[link].meters.sent(frame.time)
         self.refused += not self.wire.send(link, octets)
         return frame
 
     def _take(self, link: int, when: float, octets: bytes) -> None:
         it = self.links[link]
-        if not it.meter.takes(when, octets):
+        if not it.meters.takes(when, octets):
             return
         frame = self.log(link, when, False, octets)
         if is_lacp(octets):
             it.spoke = frame
         if frame.lacpdu:
             it.frame = frame
+            it.carried |= frame.lacpdu.actor.state & CARRIES == CARRIES and it.partner.is_named_by(frame.lacpdu)
         it.partner.take(frame)
 
     def until(self, seconds: float, stop: Optional[Callable[[], object]] = None) -> bool:
@@ -215,14 +216,14 @@ class Bench:
     def data(self, mark: int, link: int) -> int:
         """How many flows of the device's client came on a link since a mark."""
         came = (it.octets for it in self.frames[mark:] if not it.out and it.link == link)
-        return len({it[:12] + it[26:38] for it in came if it[12:14] == DATA and it[26:28] == SENDERS})
+        return len({it[:12] + it[26:38] for it in came if is_data(it)})
 
     def flows(self, mark: int) -> dict[bytes, list[Frame]]:
         """The frames of each flow of the device's client since a mark, on all links, in the order of their times."""
         found: dict[bytes, list[Frame]] = {}
         for it in self.frames[mark:]:
             octets = it.octets
-            if not it.out and octets[12:14] == DATA and octets[26:28] == SENDERS and any(octets[COUNT_AT : COUNT_AT + 4]):
+            if not it.out and is_data(octets) and any(octets[COUNT_AT : COUNT_AT + 4]):
                 found.setdefault(octets[:12] + octets[26:38], []).append(it)
         return {key: sorted(those, key=lambda it: it.time) for key, those in found.items()}
 
@@ -285,8 +286,6 @@ class Bench:
             left = [it for it in links if it not in heard or not self.carries(it) or not self.names_us(it)]
             if left:
                 raise self.stuck(f"the device does not carry after {limit:g} s beside a right partner: {', '.join(map(self.stands, left))}", *left)
-        for it in links:
-            self.links[it].carried = True
         self.until(1.5, lambda: all(self.partner(it).tells_carrying for it in links))
 
     def look_past(self, *links: int, mixed: bool = True) -> None:
@@ -399,11 +398,11 @@ class Bench:
 
     # What a test claims.
 
-    def claim(self, holds: object, text: str, *frames: Optional[Frame], bears: float = 0.0, late: Optional[float] = None) -> bool:
+    def claim(self, holds: object, text: str, *frames: Optional[Frame], bears: float = 0.0, late: Optional[float] = None, in_flood: bool = False) -> bool:
         """Claims that something holds, as these frames show; answers whether it does. A bench that is up to `bears` seconds late, or loses frames,
-        makes it no less true."""
+        makes it no less true; nor, `in_flood`, does a flood."""
         assert self.result
-        self.result.claims.append(Claim(bool(holds), text, tuple(it.number for it in frames if it), bears, late))
+        self.result.claims.append(Claim(bool(holds), text, tuple(it.number for it in frames if it), bears, late, in_flood))
         return bool(holds)
 
     def holds(self, holds: object, statement: str, *frames: Optional[Frame], bears: float = 0.0) -> bool:

@@ -239,7 +239,7 @@ def finish(given: argparse.Namespace, run: Run, status: int, ended: bool) -> int
     if broke := [it.test.id for it in run.results if it.verdict == ERROR]:
         tell(f"lagconform: {', '.join(broke)} broke by a fault of the test, which says nothing of the device: mend it", to=sys.stderr)
     if status == FAILS:
-        tell("lagconform: the device ended the run, which is a fail of the device", to=sys.stderr)
+        tell(f"lagconform: the device {'stopped in' if given.keep_going else 'ended'} the run, which is a fail of the device", to=sys.stderr)
     if status == INTERRUPTED:
         return status
     fails = status == FAILS or bool(known.new_fails(run.results))

@@ -54,13 +54,14 @@ class Frame:
 @dataclass(frozen=True)
 class Claim:
     """One thing that was looked at, and the packets that show it. A machine that is up to `bears` seconds late, or loses frames, does not make
-    it false. `late` is by how many seconds something came too late."""
+    it false. `late` is by how many seconds something came too late. A flood does not make it false either, if `in_flood`."""
 
     holds: bool
     text: str
     packets: tuple[int, ...]
     bears: float = 0.0
     late: Optional[float] = None
+    in_flood: bool = False
 
 
 # So late a machine may be where its lateness makes nothing false, as four LACPDUs in a second, whose times are the kernel's. One that stands still

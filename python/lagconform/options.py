@@ -129,7 +129,7 @@ def add_tests(it: argparse.ArgumentParser) -> None:
     it.add_argument("--repeat", metavar="N", type=times, default=1, help="run each test N times; its verdict is the worst of them")
     it.add_argument("--resume", metavar="FILE", help="take verdicts over from the JSON of a run of this device and build, and run the other tests")
     it.add_argument("--strict", action="store_true", help="a test without an answer, and a known fail that passes, count as fails, in JUnit and TAP, too")
-    it.add_argument("--keep-going", action="store_true", help="go on where five tests in turn came to nothing")
+    it.add_argument("--keep-going", action="store_true", help="run the others where five tests in turn came to nothing; the status stays as without it")
     it.add_argument("--shadow", action="store_true", help="tell where the engine would have sent another LACPDU in the device's place")
     it.add_argument("--seed", type=int, help=f"the seed of random frames ({SEED}, or that of the run that --resume names)")
     it.add_argument("--slack", metavar="SECONDS", type=seconds, default=0.15, help="so late this machine and the link may be (0.15)")

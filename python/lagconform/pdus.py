@@ -78,6 +78,11 @@ def is_of_lag(frame: bytes) -> bool:
     return frame[12:14] == SLOW and frame[PAYLOAD : PAYLOAD + 1] in (b"\1", b"\2")
 
 
+def is_data(frame: bytes) -> bool:
+    """Whether a frame is one that a hook makes the client of the device's aggregator send."""
+    return frame[12:14] == DATA and frame[26:28] == SENDERS
+
+
 def read(frame: bytes) -> tuple[Optional[Pdu], str]:
     """The PDU of a frame; or none, and why its payload is refused, if it has the EtherType of Slow Protocols."""
     if frame[12:14] != SLOW:

@@ -61,18 +61,18 @@ class Traffic:
         self.b, self.begin = b, b.now()
         self.before = {number: b.wire.received(number) for number in b.links}
         for link in b.links.values():
-            link.meter.spilled()
+            link.meters.spilled()
 
     def flood(self) -> Flood:
         """Which link is flooded, and by what."""
         seconds = max(1.0, self.b.now() - self.begin)
         for number, link in self.b.links.items():
             rate = (self.b.wire.received(number) - self.before[number]) / seconds
-            spilled = link.meter.spilled()
+            spilled = link.meters.spilled()
             if spilled or rate >= FLOOD:
-                told = "; ".join(filter(None, (f"{rate:.0f} frames came a second" if rate >= 1 else "", spilled)))
+                told = "; ".join(filter(None, (f"{rate:.0f} frames a second came on average" if rate >= 1 else "", spilled)))
                 text = f"link {number} ({link.name}) is flooded: {told}. The usual causes: a loop behind the device, or traffic of others on this port"
-                return Flood(text, spilled is not None)
+                return Flood(text, bool(spilled))
         return Flood()
 
 
@@ -198,7 +198,7 @@ def judge(b: Bench, result: Result, flood: Flood = Flood()) -> None:
         result.stopped = False
     if result.verdict == FAIL:
         blame(b, result, failed, flood.text if flood.hides else "")
-        result.why += f". Beside it, {flood.text}" if flood.text and not flood.hides else ""
+        result.why += f". Beside it, {flood.text}" if flood.text and (result.verdict == FAIL or not flood.hides) else ""
     elif result.verdict == INCONCLUSIVE and flood.text or result.verdict == PASS and flood.hides:
         result.verdict, result.why = INCONCLUSIVE, f"{flood.text}. Seen: {result.why or 'what came between was right'}"
 
@@ -206,10 +206,10 @@ def judge(b: Bench, result: Result, flood: Flood = Flood()) -> None:
 def blame(b: Bench, result: Result, failed: Sequence[Claim], flood: str) -> None:
     """Takes a fail back that the bench, its links or a flood may have made. One that no late bench and no lost frame makes stays."""
     excuse = excused(b, result, flood)
-    sure = [] if flood or result.gone else [it for it in failed if it.bears and it.bears >= result.late]
+    sure = [] if result.gone else [it for it in failed if it.bears and it.bears >= result.late and (it.in_flood or not flood)]
     if sure and excuse:
         result.why = sure[0].text
-        result.notes.append(f"{excuse}; this fail does not come of that")
+        result.notes += [f"{excuse}; this fail does not come of that"] if excuse != flood else []
     elif excuse:
         result.verdict, result.why = INCONCLUSIVE, f"{excuse}. Seen: {result.why}"
 
@@ -242,27 +242,28 @@ def run_all(
     b: Bench, tests: Iterable[Test], say: Callable[[Result], None], claimed: Optional[Mapping[str, bool]] = None, goes_on: bool = False, repeat: int = 1
 ) -> list[Result]:  # fmt: skip
     """Runs tests in order; `say` gets each result. Where an interface is gone, no other test is run; nor, unless it `goes_on`, behind IN_TURN that
-    came to nothing, but for those that look at all frames of the run."""
+    came to nothing, but for those that look at all frames of the run. That tests came to nothing is raised in the end, also where it went on."""
     results: list[Result] = []
     ends: Optional[Exception] = None
     for test in tests:
-        if ends and test.group != WHOLE_RUN:
+        if ends and not goes_on and test.group != WHOLE_RUN:
             continue
         results.append(run_times(b, test, claimed, repeat))
         say(results[-1])
         if results[-1].gone:
             raise (StoppedForGood if results[-1].stopped else Gone)(results[-1].gone)
         last = results[-IN_TURN:]
-        if not goes_on and not ends and len(last) == IN_TURN and all(it.stuck for it in last):
-            ends = nothing_goes(b, last)
+        if not ends and len(last) == IN_TURN and all(it.stuck for it in last):
+            ends = nothing_goes(b, last, goes_on)
     if ends:
         raise ends
     return results
 
 
-def nothing_goes(b: Bench, last: Sequence[Result]) -> Exception:
+def nothing_goes(b: Bench, last: Sequence[Result], goes_on: bool) -> Exception:
     """Why these tests in turn came to nothing: by the device, where it carried before, on links that are there still."""
-    text = f"{IN_TURN} tests in turn came to nothing, and others would not go better (--keep-going runs them): {last[-1].why}"
+    others = "the run went on (--keep-going)" if goes_on else "others would not go better (--keep-going runs them)"
+    text = f"{IN_TURN} tests in turn came to nothing, {last[0].test.id} to {last[-1].test.id}, and {others}: {last[-1].why}"
     if dead := b.wire.without_carrier():
         return CameToNothing(f"{text}. There is no carrier on {', '.join(dead)}")
     return (StoppedForGood if all(it.stopped for it in last) else CameToNothing)(text)

@@ -77,6 +77,35 @@ class SecondTimeout(SecondPort):
         return set_bits(frame, 18, 0x02, bool(self.count % 2))
 
 
+class SecondFallsSilent(Device):
+    """Says nothing more on port 2 from a second on."""
+
+    finds, silent_from = "MX-06", 5.0
+
+    def says(self, port: int, frame: bytes) -> Iterable[bytes]:
+        if port != 2 or self.now < self.silent_from:
+            yield frame
+
+
+class SecondSaysTwice(Device):
+    """Sends each LACPDU twice on port 2."""
+
+    finds = "TX-01 IV-05"
+
+    def says(self, port: int, frame: bytes) -> Iterable[bytes]:
+        yield from [frame] * (2 if port == 2 else 1)
+
+
+class DataTwice(Device):
+    """Sends each frame of its client twice."""
+
+    finds, copies = "SL-17", 2
+
+    def put_data(self, port: int, frame: bytes) -> None:
+        for _ in range(self.copies):
+            self.world.emit(port, frame)
+
+
 class CutOff(Says):
     """Sends 60 octets: the least length of a frame."""
 

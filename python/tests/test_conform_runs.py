@@ -17,7 +17,7 @@ from typing import Iterable, Iterator, Sequence, Type
 
 import pytest
 from conform_device import Device, World, beside, put
-from conform_faults import CutOff, KeyUnchecked, PartnerLength, RestartsOnChange, SecondPartnerKey, WrongEcho
+from conform_faults import CutOff, DataTwice, KeyUnchecked, PartnerLength, RestartsOnChange, SecondFallsSilent, SecondPartnerKey, WrongEcho
 from conform_frames import OtherId, VersionChecked
 from conform_machines import NoNtt
 
@@ -72,12 +72,13 @@ class BesideALoop(Loop):
 def test_a_flood_is_told_and_ends_the_run(bench, kind: Type[Device]) -> None:  # type: ignore[no-untyped-def]
     b, results = bench(kind), list[Result]()
     meet(b)
-    with pytest.raises(CameToNothing, match=f"{IN_TURN} tests in turn came to nothing.*link 1 .link1. is flooded: .* frames came a second"):
+    with pytest.raises(CameToNothing, match=f"{IN_TURN} tests in turn came to nothing.*link 1 .link1. is flooded: [0-9]+ frames a second came on average"):
         run_all(b, [BY_NAME[it] for it in ("RX-01", "RX-02", "RX-04", "RX-06", "RX-09", "RX-10", "TX-01", "MX-07")], results.append)
     assert b.now() < 120 and len(b.frames) < 2 * floods.KEPT * b.now()
     assert not any(it.verdict == FAIL for it in results)
     told = [it for it in results if "is flooded" in it.why]
-    assert told and "frames beyond 1000 a second, as one of subtype 1 from" in told[-1].why and "The usual causes: a loop" in told[-1].why
+    assert told and re.search("came at up to 6[0-9]{3} a second: [0-9]+ beyond 1000 a second were not kept, as one of subtype 1 from", told[-1].why)
+    assert "The usual causes: a loop" in told[-1].why
 
 
 class BesideAShortLoop(BesideALoop):
@@ -105,18 +106,41 @@ def test_a_fail_beside_the_traffic_of_others_stays_and_tells_of_it() -> None:
     with beside(world, world) as b:
         meet(b)
         fails, passes = (run_times(b, BY_NAME[it], None, 1) for it in ("RX-07c", "FM-01"))
-        assert fails.verdict == FAIL and "has to be at most 0.65 s. Beside it, link 1 (link1) is flooded: 20000 frames came a second" in fails.why
+        assert fails.verdict == FAIL and "has to be at most 0.65 s. Beside it, link 1 (link1) is flooded: 20000 frames a second came on average" in fails.why
         assert passes.verdict == PASS and not fails.stuck
 
 
 def test_a_device_that_answers_all_of_a_storm_is_no_flood() -> None:
-    meter = floods.Meter()
+    meters = floods.Meters()
     for _ in range(2000):
-        meter.sent(1.0)
-    assert all(meter.takes(1.2, bytes(20)) for _ in range(5000)) and meter.takes(2.0, bytes(20))
-    assert meter.spilled() is None
-    assert not all(meter.takes(3.0, bytes(20)) for _ in range(1001))
-    assert "1 frames beyond" in str(meter.spilled()) and meter.spilled() is None
+        meters.sent(1.0)
+    assert all(meters.takes(1.2, bytes(20)) for _ in range(5000)) and meters.takes(2.0, bytes(20))
+    assert not meters.spilled()
+    assert not all(meters.takes(3.0, bytes(20)) for _ in range(1001))
+    assert "came at up to 1001 a second: 1 beyond 1000 a second were not kept" in meters.spilled() and not meters.spilled()
+
+
+def test_data_that_a_hook_asks_for_is_no_flood_of_lacpdus() -> None:
+    meters = floods.Meters()
+    assert all(meters.takes(1.2, memory.flow(it % 64, 1)) for it in range(floods.DATA_KEPT)) and not meters.takes(1.3, memory.flow(0, 1))
+    assert all(meters.takes(1.4, bytes(20)) for _ in range(floods.KEPT))
+    assert "data of the device's client came at up to 5001 a second: 1 beyond 5000 a second were not kept, as one of type 0800" in meters.spilled()
+
+
+class DataManyTimes(DataTwice):
+    """Sends more copies than the bench keeps."""
+
+    copies = 20
+
+
+@pytest.mark.parametrize("kind, flooded", [(DataTwice, False), (DataManyTimes, True)])
+def test_data_that_comes_twice_is_a_fail_also_in_a_flood(bench, kind: Type[Device], flooded: bool) -> None:  # type: ignore[no-untyped-def]
+    b, results = bench(kind), list[Result]()
+    meet(b)
+    run_all(b, [BY_NAME[it] for it in ("SL-01", "SL-17", "IV-05")], results.append)
+    one, twice, rate = results
+    assert twice.verdict == FAIL and " came twice; has to be none" in twice.why and ("Beside it, link 1 (link1) is flooded" in twice.why) == flooded
+    assert one.verdict == rate.verdict == (INCONCLUSIVE if flooded else PASS), (one.why, rate.why)
 
 
 def test_one_number_that_is_told_wrong_costs_no_other_test(bench) -> None:  # type: ignore[no-untyped-def]
@@ -180,6 +204,11 @@ def test_a_late_bench_excuses_no_count_of_lacpdus(bench) -> None:  # type: ignor
     b.late = 0.0
     judge(b, flooded, Flood("link 1 is flooded", True))
     assert flooded.verdict == INCONCLUSIVE
+    for late, verdict in (0.3, FAIL), (1.3, INCONCLUSIVE):
+        twice = Result(BY_NAME["SL-17"], claims=[Claim(False, "3 came twice", (), SURE, in_flood=True)])
+        b.late = late
+        judge(b, twice, Flood("link 1 is flooded", True))
+        assert twice.verdict == verdict and "link 1 is flooded" in twice.why
 
 
 def test_status_junit_and_tap_agree_on_what_has_no_answer(stack, tmp_path: Path) -> None:  # type: ignore[no-untyped-def]
@@ -388,6 +417,36 @@ def test_a_device_that_stops_for_good_fails_its_run(stack, tmp_path: Path, capsy
     assert said.err.endswith("lagconform: the device ended the run, which is a fail of the device\n")
     assert "5 tests in turn came to nothing" in told["about"]["incomplete"], told["about"]
     assert told["counts"]["fail"] == 0 and told["counts"]["pass"] > 0, told["counts"]
+
+
+def test_a_run_that_goes_on_has_the_status_of_one_that_ends(run, stack, tmp_path: Path, capsys: pytest.CaptureFixture[str]) -> None:  # type: ignore[no-untyped-def]
+    words = ["--only", "FM-*", "--only", "RX-0[1-9]*", "--keep-going", "--json", "r.json"]
+    for status, play, device, last in (1, stack, ENDS, "the device stopped in the run, which is a fail of the device\n"), (2, run, Uncarrying, "; the reports have what was run\n"):
+        assert play(device, *words) == status
+        said, told = capsys.readouterr().err, json.loads((tmp_path / "r.json").read_text())
+        assert "5 tests in turn came to nothing, " in said and "the run went on (--keep-going)" in said and said.endswith(last), said
+        count = sum(it.id.startswith(("FM-", "RX-0")) for it in TESTS)
+        assert len(told["tests"]) == count and told["about"]["incomplete"].endswith(f"{count} of {count} tests ran")
+
+
+class LateSilence(SecondFallsSilent):
+    """Its second link falls silent once it has carried."""
+
+    finds, silent_from = "", 100.0
+
+
+class LateKey(Device):
+    """Tells another key on its second link from a second on: a partner that tells it back is out of sync for it, so that the link no longer carries."""
+
+    def says(self, port: int, frame: bytes) -> Iterable[bytes]:
+        yield put(frame, 12, b"\0\x77") if port == 2 and self.now > 600 else frame
+
+
+@pytest.mark.parametrize("kind, words, fails", [(LateSilence, ["--not", "MX-06"], 0), (LateSilence, [], 1), (LateKey, [], 0)])
+def test_a_second_link_that_carried_and_stops_fails_its_run(run, kind: Type[Device], words: Sequence[str], fails: int, tmp_path: Path, capsys: pytest.CaptureFixture[str]) -> None:  # type: ignore[no-untyped-def]
+    assert run(kind, "--json", "r.json", *words) == 1
+    assert capsys.readouterr().err.endswith("lagconform: the device ended the run, which is a fail of the device\n")
+    assert json.loads((tmp_path / "r.json").read_text())["counts"]["fail"] == fails
 
 
 class Unplugged(World):

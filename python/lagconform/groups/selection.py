@@ -292,7 +292,7 @@ def in_order(b: Bench) -> None:
     twice = [it for those in flows_seen.values() for one, it in zip(those, those[1:]) if counted(it) == counted(one)]
     behind = [it for those in flows_seen.values() for one, it in zip(those, those[1:]) if counted(it) < counted(one)]
     total = sum(map(len, flows_seen.values()))
-    b.claim(not twice, f"of {total} frames of {len(flows_seen)} flows, {len(twice)} came twice; has to be none", *twice[:3], bears=1.0)
+    b.claim(not twice, f"of {total} frames of {len(flows_seen)} flows, {len(twice)} came twice; has to be none", *twice[:3], bears=1.0, in_flood=True)
     b.claim(not behind, f"of {total} frames of {len(flows_seen)} flows, {len(behind)} came behind a later one; has to be none", *behind[:3], bears=1.0)
 
 
