@@ -37,19 +37,18 @@ def copy_crates(folder: str, crates: Iterable[str]) -> str:
 
 @dataclass(frozen=True)
 class Trial:
-    """An edit as it is tried: what it says, its replacements, and the tests that it names as pairs of a crate and a test of it."""
+    """An edit as it is tried: its name says what it makes of the crate; its replacements, and the tests that it names as pairs of a crate and a
+    test of it."""
 
     crate: str
     name: str
-    says: str
     pairs: tuple[Pair, ...]
     tests: tuple[tuple[str, str], ...] = ()
 
     def fault(self) -> str | None:
         """Why this is no wrong definition; None if it is one. One that names tests may be a body alone, of which no contract speaks."""
-        makes_wrong = any("specs/" in file or self.tests for file, _, _ in self.pairs)
-        if not (self.says and makes_wrong):
-            return "the edit has no line `says:`, or makes no definition wrong"
+        if not any("specs/" in file or self.tests for file, _, _ in self.pairs):
+            return "the edit makes no definition wrong"
         return "the edit names tests of two crates" if len({crate for crate, _ in self.tests}) > 1 else None
 
 
@@ -59,14 +58,12 @@ class Everywhere(str):
 
 def read_trial(crate: str, name: str, rows: Iterable[str]) -> Trial:
     """The edit that these lines are."""
-    says = file = old = ""
+    file = old = ""
     pairs: list[Pair] = []
     tests: list[tuple[str, str]] = []
     for line in rows:
         word, _, text = line.partition(": ")
-        if word == "says":
-            says = text
-        elif word == "refused-by":
+        if word == "refused-by":
             of, test = text.split()
             tests.append((of, test))
         elif word == "file":
@@ -79,7 +76,7 @@ def read_trial(crate: str, name: str, rows: Iterable[str]) -> Trial:
             pairs.append((file, old, text))
         elif line:
             raise Missing(f"{crate}/{name}: not a line of an edit: {line}")
-    return Trial(crate, name, says, tuple(pairs), tuple(tests))
+    return Trial(crate, name, tuple(pairs), tuple(tests))
 
 
 def stored_in(top: str, crate: str) -> list[Trial]:

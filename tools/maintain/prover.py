@@ -70,8 +70,7 @@ def ran(folder: str) -> list[str]:
 
 def result(trial: Trial, is_right: bool, text: str) -> Result:
     """What became of an edit, as it is printed."""
-    said = f": {trial.says}" if trial.says else ""
-    return trial, is_right, f"{text}{said}" if is_right else f"FAILED {text}"
+    return trial, is_right, text if is_right else f"FAILED {text}"
 
 
 def judged(text: str | None) -> tuple[bool, str]:

@@ -10,8 +10,7 @@ import loading  # noqa: F401  (tools/ is looked up)
 import edits
 from repository import Missing, crates
 
-EDIT = """says: the limit is one more
-refused-by: tests_system systems::limits::a_limit_holds
+EDIT = """refused-by: tests_system systems::limits::a_limit_holds
 refused-by: tests_system systems::limits::none_is_none
 file: specs/Limits.antt
 old: most = 64
@@ -34,7 +33,6 @@ def crate(tmp_path: Path) -> Path:
 
 def test_an_edit_says_what_it_replaces() -> None:
     trial = edits.read_trial("lagsystem", "limit", EDIT.splitlines())
-    assert trial.says == "the limit is one more"
     assert trial.pairs == (("specs/Limits.antt", "most = 64", "most = 65"), ("src/limits.rt", "64", "65"), ("src/limits.rt", "return kept;", ""))
     assert [isinstance(old, edits.Everywhere) for _, old, _ in trial.pairs] == [False, True, False]
     assert trial.tests == (("tests_system", "systems::limits::a_limit_holds"), ("tests_system", "systems::limits::none_is_none"))
@@ -50,7 +48,7 @@ def test_a_file_has_edits_one_behind_the_other(tmp_path: Path) -> None:
     (tmp_path / "lagsystem.edits").write_text(f"edit: limit\n{EDIT}\nedit: other\nfile: src/a.rt\nold: 1\nnew: 2\n")
     first, second = edits.stored_in(str(tmp_path), "lagsystem")
     assert first == edits.read_trial("lagsystem", "limit", EDIT.splitlines())
-    assert (second.name, second.says, second.pairs) == ("other", "", (("src/a.rt", "1", "2"),))
+    assert (second.name, second.pairs) == ("other", (("src/a.rt", "1", "2"),))
     assert edits.stored_in(str(tmp_path), "selection") == []
 
 
@@ -76,17 +74,16 @@ def test_a_file_of_no_crate_is_refused(tmp_path: Path) -> None:
 
 
 @pytest.mark.parametrize(
-    ("says", "file", "tests", "is_edit"),
+    ("file", "tests", "is_edit"),
     [
-        ("it is 3", "specs/A.antt", (), True),
-        ("it is 4", "src/a.rt", (), False),
-        ("it is 5", "src/a.rt", (("tests_system", "a::b"),), True),
-        ("", "specs/A.antt", (("tests_system", "a::b"),), False),
-        ("it is 6", "src/a.rt", (("tests_system", "a::b"), ("tests_parts", "c::d")), False),
+        ("specs/A.antt", (), True),
+        ("src/a.rt", (), False),
+        ("src/a.rt", (("tests_system", "a::b"),), True),
+        ("src/a.rt", (("tests_system", "a::b"), ("tests_parts", "c::d")), False),
     ],
 )
-def test_a_wrong_definition_says_something_of_a_definition(says: str, file: str, tests: tuple[tuple[str, str], ...], is_edit: bool) -> None:
-    assert (edits.Trial("lagsystem", "x", says, ((file, "1", "2"),), tests).fault() is None) == is_edit
+def test_a_wrong_definition_makes_a_definition_wrong(file: str, tests: tuple[tuple[str, str], ...], is_edit: bool) -> None:
+    assert (edits.Trial("lagsystem", "x", ((file, "1", "2"),), tests).fault() is None) == is_edit
 
 
 def test_what_is_put_in_is_taken_out(crate: Path) -> None:

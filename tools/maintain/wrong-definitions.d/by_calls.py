@@ -79,7 +79,7 @@ def try_edit(words: list[str], crate: str, trial: Trial) -> tuple[bool, str]:
     missing = [function for function in wanted if function not in failed]
     if missing:
         others = ", ".join(dict.fromkeys(failed)) or "nothing"
-        return False, f"{', '.join(missing)} does not refuse, but {others}: {trial.says}"
+        return False, f"{', '.join(missing)} does not refuse, but {others}"
     return True, f"refused by {', '.join(wanted)} of calls.c"
 
 
