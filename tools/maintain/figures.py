@@ -174,7 +174,7 @@ def rules_found(page: str, stored: Callable[[str], str]) -> list[str]:
 def lines_to_read(page: str, read: Callable[[str], str]) -> list[str]:
     """Where a row of ASSURANCE that says what to read of specs/ has another number of lines that are not empty."""
     wrong = []
-    for told, number in re.findall(r"^\|[^|]*\|(`\w+`: [^|]*)\|([\d,]+)\|$", page, re.M):
+    for told, number in re.findall(r"^\|[^|]*\|[^|]*\|(`\w+`: [^|]*)\|([\d,]+)\|$", page, re.M):
         files = [f"crates/{crate}/specs/{name}.antt" for crate, names in re.findall(r"`(\w+)`: ([^;]*)", told) for name in re.findall(r"`(\w+)`", names)]
         lines = sum(bool(line.strip()) for path in files for line in read(path).splitlines())
         if number != f"{lines:,}":

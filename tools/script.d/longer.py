@@ -1,12 +1,11 @@
 """What tools/script does: rounds, waits and repeats of a shorter script become the entries of a script."""
 
 import re
-import subprocess
 import tomllib
 from collections.abc import Iterator
 from typing import Any
 
-from repository import PROGRAM
+from playing import Play
 
 MOST_ROUNDS = 1000
 # How often each end of a cable is asked in a round: an LACPDU goes before a marker.
@@ -29,7 +28,8 @@ class Refused(Exception):
 class Longer:
     """A shorter script: the text before its events, the events so far, and its tables."""
 
-    def __init__(self, text: str) -> None:
+    def __init__(self, text: str, play: Play) -> None:
+        self.play = play
         try:
             table = tomllib.loads(text)
         except tomllib.TOMLDecodeError as why:
@@ -82,10 +82,10 @@ class Longer:
     def report(self, events: list[str]) -> list[str]:
         """The lines of the report of these events."""
         text = f"events = [{', '.join(chr(34) + it + chr(34) for it in events)}]\n{self.tables}"
-        ran = subprocess.run([PROGRAM, "replay", "-"], input=text, capture_output=True, text=True)
-        if ran.returncode:
-            raise Refused(ran.stderr.strip())
-        return ran.stdout.splitlines()
+        played = self.play(text)
+        if played.status:
+            raise Refused(played.said.strip().rpartition("\n")[2].removeprefix("lagtool: "))
+        return played.printed.splitlines()
 
     def acting(self, more: list[str]) -> list[str]:
         """Those of more events, played behind the others, that do something."""

@@ -2,14 +2,19 @@
 
 from __future__ import annotations
 
+import os
+import shutil
 from collections.abc import Callable
 
 import pytest
 
 import loading
+from repository import read_text
 
 pytest.importorskip("tomllib")
+playing = loading.module("script.d", "playing")
 longer = loading.module("script.d", "longer")
+EXAMPLES = os.path.join(os.path.dirname(loading.TOOLS), "examples")
 
 TABLES = """[[system]]
 mac = "02:00:00:00:00:a1"
@@ -23,7 +28,12 @@ REPLIES = {"tick": "ticked", "emit 1": "lacpdu 3d sent", "emit 2": "nothing", "d
 
 
 def read(events: str) -> longer.Longer:  # type: ignore[name-defined]
-    return longer.Longer(f"# A title\nevents = {events}\n{TABLES}")
+    return longer.Longer(f"# A title\nevents = {events}\n{TABLES}", refuses)
+
+
+def refuses(_: str) -> object:
+    """A program that takes no script."""
+    return playing.Played(2, "", "the module answers\nlagtool: script: event 3: word\n")
 
 
 def played(agrees_after: int) -> Callable[[object, list[str]], list[str]]:
@@ -101,8 +111,28 @@ def test_what_is_no_form_is_refused_with_its_place(monkeypatch: pytest.MonkeyPat
 )
 def test_what_is_no_script_is_refused(text: str, why: str) -> None:
     with pytest.raises(longer.Refused) as refused:
-        longer.Longer(text)
+        longer.Longer(text, refuses)
     assert str(refused.value) == why
+
+
+def test_a_refusal_of_the_program_is_told() -> None:
+    with pytest.raises(longer.Refused) as refused:
+        read("[]").add("round 1", "event 1")
+    assert str(refused.value) == "script: event 3: word"
+
+
+@pytest.mark.skipif(not shutil.which("node"), reason="there is no node")
+def test_node_plays_one_script_after_another() -> None:
+    with playing.by_module() as play:
+        for name in ("a-link-dies-silently", "a-dead-link-holds-the-aggregator"):
+            assert longer.Longer(read_text(os.path.join(EXAMPLES, f"{name}.short")), play).script() == read_text(os.path.join(EXAMPLES, f"{name}.toml"))
+        assert play("events = 3").status == 2
+
+
+def test_without_node_a_line_says_what_to_do(monkeypatch: pytest.MonkeyPatch) -> None:
+    monkeypatch.setenv("PATH", "")
+    with pytest.raises(playing.Missing, match="--prove"), playing.by_module():
+        pass
 
 
 def test_ticks_in_turn_are_one_entry_of_each_system() -> None:
