@@ -17,7 +17,6 @@ class Device(Stack):
     """The stack."""
 
     def __init__(self) -> None:
-        super().__init__()
         self.system: Optional[System] = None
         self.sends_data, self.count = False, 0
         self.answered: list[tuple[float, int]] = []

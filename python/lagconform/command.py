@@ -9,7 +9,7 @@ import signal
 import sys
 import time
 import traceback
-from dataclasses import dataclass
+from dataclasses import dataclass, replace
 from typing import Callable, Optional, Sequence
 
 from niwhopera import __version__
@@ -39,6 +39,8 @@ NO_COMMAND = {126: "may not run it", 127: "does not find it"}
 FAILS, NO_VERDICT, SILENT, INTERRUPTED = 1, 2, 3, 130
 # What a report has the first system of the bench by.
 SYSTEM = "the bench's first system"
+# What reports say while a run goes on, and so behind SIGKILL; its JSON gets the verdicts so far, not again before so many seconds have passed.
+UNENDED, KEEPS = "the run did not come to its end", 1.0
 
 
 class Progress:
@@ -106,9 +108,9 @@ def write_all(given: argparse.Namespace, run: Run) -> bool:
     return all([written(path, make) for path, make in files if path])
 
 
-def write_nothing(given: argparse.Namespace, why: str, over: bool = False) -> None:
-    """Has the reports say that no test ran: what stands there of a run before would pass for this one. With `over` only those that are there do.
-    A file that --resume reads stays, and so do captures."""
+def write_nothing(given: argparse.Namespace, why: str) -> None:
+    """Has the reports say that no test ran: what stands there of a run before would pass for this one. A file that --resume reads stays, and so do
+    captures. Before the run, what is no regular file does: a pipe gets the report alone."""
     told = {"device": given.device, **edition(), "begun": moment(time.time()), "incomplete": why}
     reports: list[tuple[Optional[str], Callable[[], bytes]]] = [
         (given.json, lambda: report.json_of_nothing(told).encode()),
@@ -118,12 +120,13 @@ def write_nothing(given: argparse.Namespace, why: str, over: bool = False) -> No
         (given.report, lambda: page.of_nothing(given.device, why).encode("utf-8", "replace")),
     ]
     for path, make in reports:
-        if not path or not os.path.isdir(os.path.dirname(os.path.realpath(path))) or os.path.isdir(path) or over and not os.path.isfile(path):
+        if not path or not os.path.isdir(os.path.dirname(os.path.realpath(path))) or os.path.isdir(path):
             continue
-        if not given.resume or not are_same(path, given.resume):
+        if given.resume and are_same(path, given.resume):
+            if why != UNENDED:
+                tell(f"lagconform: {path} stays as it was: --resume names it", to=sys.stderr)
+        elif why != UNENDED or os.path.isfile(path) or not os.path.exists(path):
             written(path, make)
-        elif not over:
-            tell(f"lagconform: {path} stays as it was: --resume names it", to=sys.stderr)
 
 
 def stand(given: argparse.Namespace) -> Bench:
@@ -176,12 +179,16 @@ class Plan:
 def run_tests(given: argparse.Namespace, b: Bench, plan: Plan) -> int:
     """Runs the tests that no earlier run has, and reports all, whatever ends the run; the status."""
     left = [it for it in plan.tests if it not in [one.test for one in plan.before]]
-    progress, status, ended = Progress(left, given.repeat, not given.memory), 0, ""
+    progress, status, ended, kept = Progress(left, given.repeat, not given.memory), 0, "", time.monotonic()
     known.mark(plan.before, plan.reasons)
 
     def say(it: Result) -> None:
+        nonlocal kept
         known.mark([it], plan.reasons)
         progress.add(it)
+        if given.json and os.path.isfile(given.json) and time.monotonic() >= kept + KEEPS:
+            written(given.json, lambda: report.as_json(so_far(given, b, plan, progress.results, UNENDED), TESTS).encode())
+            kept = time.monotonic()
 
     try:
         print(beginning(given, left, len(b.links)), *taken_over(given, plan.before), sep="\n", flush=True)
@@ -201,9 +208,14 @@ def run_tests(given: argparse.Namespace, b: Bench, plan: Plan) -> int:
     with undisturbed():
         if ended:
             tell(f"\nlagconform: {ended}; the reports have what was run", to=sys.stderr)
-        results = sorted([*plan.before, *progress.results], key=lambda it: plan.tests.index(it.test))
-        told = {**about(given, b, results), **({"incomplete": f"{ended}; {len(results)} of {len(plan.tests)} tests ran"} if ended else {})}
-        return finish(given, Run(b, told, plan.conditions, results, shadow, given.strict), status, bool(ended))
+        return finish(given, replace(so_far(given, b, plan, progress.results, ended), shadow=shadow), status, bool(ended))
+
+
+def so_far(given: argparse.Namespace, b: Bench, plan: Plan, ran: Sequence[Result], ended: str) -> Run:
+    """The run with these results beside those of the earlier one, and what ended it, if something did."""
+    results = sorted([*plan.before, *ran], key=lambda it: plan.tests.index(it.test))
+    told = {**about(given, b, results), **({"incomplete": f"{ended}; {len(results)} of {len(plan.tests)} tests ran"} if ended else {})}
+    return Run(b, told, plan.conditions, results, strict=given.strict)
 
 
 def beginning(given: argparse.Namespace, tests: Sequence[Test], links: int) -> str:
@@ -298,7 +310,7 @@ def main(words: Optional[Sequence[str]] = None) -> int:
         plan = planned(given)
         gc.disable()  # no pauses
         functions()  # without the library no stack is to blame
-        write_nothing(given, "the run did not come to its end", over=True)
+        write_nothing(given, UNENDED)
         b = stand(given)
     except (Refused, NoDevice, pics.BadPics, known.BadKnown, Gone, ImportError, OSError) as why:
         file = given.pics if isinstance(why, pics.BadPics) else given.known if isinstance(why, known.BadKnown) else None

@@ -68,14 +68,34 @@ def are_same(path: str, other: str) -> bool:
 def written(path: str, make: Callable[[], bytes]) -> bool:
     """Writes what is made into a file; answers whether it stands there. What keeps it from that is told."""
     try:
-        octets = make()
-        with open(path, "wb") as out:
-            out.write(octets)
+        put(path, make())
     except Exception as why:  # another file may go well
         reason = why.strerror if isinstance(why, OSError) else f"{type(why).__name__}: {why}"
         tell(f"lagconform: {path} was not written: {reason}", to=sys.stderr)
         return False
     return True
+
+
+def put(path: str, octets: bytes) -> None:
+    """Puts octets into a file. Another one, with its owner and rights, takes the place of a regular one at once: whoever ends this process leaves all
+    of the old octets there, or all of the new ones. Where none may be made beside it, they go into the file itself."""
+    place = os.path.realpath(path)
+    beside = f"{place}.lagconform"
+    with suppress(OSError):
+        now = os.stat(place)
+        if stat.S_ISREG(now.st_mode):
+            try:
+                with open(beside, "wb") as out:
+                    os.fchown(out.fileno(), now.st_uid, now.st_gid)
+                    os.fchmod(out.fileno(), stat.S_IMODE(now.st_mode))
+                    out.write(octets)
+                os.replace(beside, place)
+                return
+            finally:
+                with suppress(OSError):
+                    os.unlink(beside)
+    with open(path, "wb") as out:
+        out.write(octets)
 
 
 def tell(*lines: str, to: Optional[TextIO] = None) -> None:

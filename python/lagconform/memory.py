@@ -11,7 +11,7 @@ import runpy
 import traceback
 from collections import deque
 from contextlib import contextmanager, nullcontext, suppress
-from typing import Any, Deque, Iterator, Optional, Sequence
+from typing import Any, Callable, Deque, Iterator, Optional, Sequence
 
 from niwhopera import Mac
 
@@ -21,8 +21,8 @@ from .pdus import COUNT_AT, DATA, SENDERS
 from .refusals import Refused
 from .wires import UNKNOWN, Answer, Arrival, Broke, Gone
 
-# A frame takes so long from one end of a link to the other.
-WIRE_SECONDS = 0.0005
+# A frame takes so long from one end of a link to the other, and the first tick comes so long behind a start.
+WIRE_SECONDS, PHASE = 0.0005, 0.037
 # Flows of the device's client, each of which is sent once between two ticks.
 FLOWS = 64
 # A stack that broke is started again so many times in a run, and not before what it sent is so old that no limit of 6.4.16 counts it.
@@ -37,31 +37,27 @@ def flow(number: int, count: int = 0) -> bytes:
 
 
 class Stack:
-    """A stack of LACP with a port at each link. What a maker's does not know stays out of its class: the tests that want it are skipped."""
+    """A stack of LACP with a port at each link. What a maker's does not know stays out of its class: the tests that want it are skipped. All names but
+    those that stand here are the maker's."""
 
     # So often `tick` is called.
     tick_seconds = 0.1
-    # Whether it runs in the process of the bench.
-    is_inside = True
-
-    def __init__(self) -> None:
-        self.world: World
-        # When time passes for it the next time.
-        self.due = 0.037
+    # Where it runs, from its first start on.
+    _lagconform: World
 
     @property
     def now(self) -> float:
         """Seconds since the start of the run."""
-        return self.world.clock
+        return self._lagconform.clock
 
     @property
     def links(self) -> range:
         """The numbers of its links."""
-        return range(1, len(self.world.names) + 1)
+        return range(1, len(self._lagconform.names) + 1)
 
     def send(self, link: int, frame: bytes) -> None:
         """Puts a frame on a link: addresses, type and payload, without the FCS."""
-        self.world.emit(link, frame)
+        self._lagconform.emit(link, frame)
 
     # What a stack does.
 
@@ -90,51 +86,6 @@ class Stack:
         those with 2."""
         raise NotImplementedError
 
-    # What the world calls.
-
-    def leave(self) -> None:
-        """The run is over, and nothing is called any more."""
-
-    def again(self) -> Stack:
-        """Another stack of this kind, for one that broke."""
-        return type(self)()
-
-    def pass_time(self) -> None:
-        """A tick is due."""
-        self.due += self.tick_seconds
-        self.tick()
-
-    def do(self, words: Sequence[str]) -> Answer:
-        """Does what a hook is asked for."""
-        name = {"up": "link", "down": "link"}.get(words[0], words[0])
-        try:
-            if name == "stop":
-                self.stop()
-            elif name == "start":
-                self.start()
-            elif name == "link":
-                self.link(int(words[1]), words[0] == "up")
-            elif name == "data":
-                self.data(words[1] == "start")
-            elif name != "reset":
-                return Answer(UNKNOWN, "", "stack")
-        except NotImplementedError:
-            return Answer(UNKNOWN, f"it has no function `{name}`", "stack")
-        return Answer(0, "", "stack")
-
-
-@contextmanager
-def calling(device: Stack, name: str) -> Iterator[None]:
-    """Tells what a stack raises, or that it hangs: it is no fault of the bench, and no test goes on without the stack."""
-    try:
-        with limited(f"in {name}") if device.is_inside else nullcontext():
-            yield
-    except Gone as why:
-        raise Broke(str(why), device.world.again) from why
-    except Exception as why:
-        text = " ".join(str(why).split())
-        raise Broke(f"the stack broke by {type(why).__name__} in {name}: {text}\n{traceback.format_exc(limit=-3)}", device.world.again) from why
-
 
 class World:
     """The wire of the bench, and its hook: what it sends the stack gets at once, and time passes where the bench waits."""
@@ -149,14 +100,31 @@ class World:
         self._start()
 
     def _start(self) -> None:
-        self.device.world = self
-        self.device.due += self.clock
+        self.device._lagconform = self
+        # When time passes for the stack the next time.
+        self.due = self.clock + PHASE
         try:
-            with calling(self.device, "start"):
+            with self._calling("start"):
                 self.device.start()
         except BaseException:
-            self.device.leave()
+            self._leave()
             raise
+
+    def _leave(self) -> None:
+        if isinstance(self.device, Library):
+            self.device.leave()
+
+    @contextmanager
+    def _calling(self, name: str) -> Iterator[None]:
+        """Tells what the stack raises, or that it hangs: it is no fault of the bench, and no test goes on without the stack."""
+        try:
+            with nullcontext() if isinstance(self.device, Library) else limited(f"in {name}"):
+                yield
+        except Gone as why:
+            raise Broke(str(why), self.again) from why
+        except Exception as why:
+            text = " ".join(str(why).split())
+            raise Broke(f"the stack broke by {type(why).__name__} in {name}: {text}\n{traceback.format_exc(limit=-3)}", self.again) from why
 
     def again(self) -> None:
         """Starts another stack in the place of one that broke, some time later."""
@@ -166,8 +134,8 @@ class World:
         self.close()
         self.clock += DOWN_SECONDS
         self.came.clear()
-        with calling(self.device, "its place"):
-            self.device = self.device.again()
+        with self._calling("its place"):
+            self.device = self.device.again() if isinstance(self.device, Library) else type(self.device)()
         self._start()
 
     @property
@@ -185,7 +153,7 @@ class World:
 
     def send(self, link: int, octets: bytes) -> bool:
         """Hands a frame to the stack."""
-        with calling(self.device, "take"):
+        with self._calling("take"):
             self.device.take(link, octets)
         return True
 
@@ -199,19 +167,20 @@ class World:
 
     def close(self) -> None:
         """Ends the stack, if it can."""
-        with suppress(Exception), calling(self.device, "stop"):
+        with suppress(Exception), self._calling("stop"):
             self.device.stop()
-        self.device.leave()
+        self._leave()
 
     def wait(self, seconds: float) -> list[Arrival]:
         """Moves the clock to the next frame, or so far."""
         limit = self.clock + seconds
         while not self.came and self.clock < limit:
-            due = max(self.clock, self.device.due)
+            due = max(self.clock, self.due)
             self.clock = min(limit, due)
             if due <= limit:
-                with calling(self.device, "tick"):
-                    self.device.pass_time()
+                with self._calling("tick"):
+                    self.due += self.device.tick_seconds
+                    self.device.tick()
         came = list(self.came)
         self.came.clear()
         return came
@@ -232,8 +201,20 @@ class World:
 
     def call(self, words: Sequence[str]) -> Done:
         """The hook."""
-        with calling(self.device, words[0]):
-            return Done(self.device.do(words))
+        name = {"up": "link", "down": "link"}.get(words[0], words[0])
+        device = self.device
+        does: dict[str, Callable[[], None]] = {
+            "reset": lambda: None, "stop": device.stop, "start": device.start, "link": lambda: device.link(int(words[1]), words[0] == "up"),
+            "data": lambda: device.data(words[1] == "start"),
+        }  # fmt: skip
+        if name not in does:
+            return Done(Answer(UNKNOWN, "", "stack"))
+        with self._calling(words[0]):
+            try:
+                does[name]()
+            except NotImplementedError:
+                return Done(Answer(UNKNOWN, f"it has no function `{name}`", "stack"))
+        return Done(Answer(0, "", "stack"))
 
 
 class Done:
@@ -253,10 +234,7 @@ class Done:
 class Library(Stack):
     """A stack in a shared library, with the functions of examples/conform/device.h, in a process of its own."""
 
-    is_inside = False
-
     def __init__(self, path: str) -> None:
-        super().__init__()
         self._path = path
         self._child = Child(path)
         self._on = False
@@ -306,25 +284,27 @@ class Library(Stack):
         """Ends the process."""
         self._child.close()
 
-    def again(self) -> Stack:
+    def again(self) -> Library:
         """The library in another process."""
         return Library(self._path)
 
 
 def loaded(path: str) -> Stack:
     """The stack of a file: the class `Device` of a file of Python, or a shared library."""
+    where = "where it is loaded"
     try:
         if not path.endswith(".py"):
             return Library(path)
-        with limited("where it is loaded"):
+        with limited(where):
             kind: Optional[Any] = runpy.run_path(path).get("Device")
+        if not isinstance(kind, type) or not issubclass(kind, Stack):
+            raise Refused(f"{path} has no class Device below lagconform.memory.Stack")
+        where = "where its Device is made"
+        with limited(where):
+            return kind()
     except OSError as why:
         raise Refused(f"{path}: {why}") from why
     except (Refused, Gone):
         raise
     except Exception as why:
-        raise Refused(f"{path} breaks where it is loaded, by {type(why).__name__}: {why}") from why
-    if not isinstance(kind, type) or not issubclass(kind, Stack):
-        raise Refused(f"{path} has no class Device below lagconform.memory.Stack")
-    with limited("where it is made"):
-        return kind()
+        raise Refused(f"{path} breaks {where}, by {type(why).__name__}: {why}") from why

@@ -4,7 +4,6 @@ from __future__ import annotations
 
 import argparse
 import fnmatch
-import math
 import os
 from typing import Optional, Sequence
 
@@ -14,7 +13,7 @@ from . import pics
 from .bench import BASE
 from .files import check_writable
 from .groups import TESTS
-from .model import LONG, Test
+from .model import LONG, SURE, Test
 from .refusals import MOST_LINKS, Refused
 from .runner import ordered
 
@@ -25,10 +24,10 @@ SEED = 1
 ABOUT = """Tests a device which runs LACP at the far end of one to four cables, by frames alone.
 
 It prints a line for each test, and in the end the count of each verdict. The status is 0 if nothing failed but what --known has, 1 if
-something did (with --strict also if a test came to no answer, or a known fail passes), 2 if the bench could not run to its end, a test
-broke by a fault of its own, a report could not be written, or no test came to pass or fail, 3 if the device sent no LACPDU before the
-first test, and 130 after SIGINT. It wants CAP_NET_RAW, and the interfaces for itself: in no bond, in no bridge, and with no other program
-that speaks LACP there.
+something did (with --strict also if a test broke or came to no answer, or a known fail passes), 2 if the bench could not run to its end, a
+test broke by a fault of its own, a report could not be written, or, also with --strict, no test came to pass or fail, 3 if the device sent
+no LACPDU before the first test, and 130 after SIGINT. It wants CAP_NET_RAW, and the interfaces for itself: in no bond, in no bridge, and with
+no other program that speaks LACP there.
 
 With --memory it wants none of these: the device is a stack in a file, and a run of all tests, the long ones too, takes seconds.
 
@@ -63,8 +62,8 @@ def system(text: str) -> Mac:
 def seconds(text: str) -> float:
     """A time of the command line."""
     number = float(text)
-    if not math.isfinite(number) or number < 0:
-        raise argparse.ArgumentTypeError(f"a number of seconds, from 0 on, and not {text}")
+    if not 0 <= number <= SURE:
+        raise argparse.ArgumentTypeError(f"a number of seconds from 0 to {SURE:g}, and not {text}")
     return number
 
 
@@ -132,7 +131,7 @@ def add_tests(it: argparse.ArgumentParser) -> None:
     it.add_argument("--keep-going", action="store_true", help="run the others where five tests in turn came to nothing; the status stays as without it")
     it.add_argument("--shadow", action="store_true", help="tell where the engine would have sent another LACPDU in the device's place")
     it.add_argument("--seed", type=int, help=f"the seed of random frames ({SEED}, or that of the run that --resume names)")
-    it.add_argument("--slack", metavar="SECONDS", type=seconds, default=0.15, help="so late this machine and the link may be (0.15)")
+    it.add_argument("--slack", metavar="SECONDS", type=seconds, default=0.15, help="so late this machine and the link may be (0.15); more hides faults")
     it.add_argument("--list", action="store_true", help="print the tests, and end")
     it.add_argument("--markdown", action="store_true", help="with --list: as tables")
 

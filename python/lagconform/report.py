@@ -9,7 +9,7 @@ from typing import Mapping, Optional, Sequence
 from . import causes, matrix
 from .bench import Bench
 from .edition import edition
-from .model import CAVEAT, CRASH, FAIL, PROFILE, VERDICTS, Result, Test
+from .model import CAVEAT, CRASH, FAIL, PASS, PROFILE, VERDICTS, Result, Test
 from .pdus import end, mac
 from .shadow import Shadow
 
@@ -139,4 +139,7 @@ def closing(run: Run) -> list[str]:
         out.append(f"shadow: {run.shadow.text}")
         for it in run.shadow.differences[:5]:
             out.append(f"shadow: packet {it.frame.number}: {it.what}")
+    if late := [it for it in run.results if it.verdict == PASS and it.late > run.bench.slack]:
+        told = f"the bench was up to {max(it.late for it in late):.2f} s late, more than --slack {run.bench.slack:g}, in what passed"
+        out.append(f"late: {told}: {', '.join(it.test.id for it in late)}")
     return [*out, f"{summary(run.results)}. {CAVEAT}"]

@@ -201,6 +201,8 @@ def judge(b: Bench, result: Result, flood: Flood = Flood()) -> None:
         result.why += f". Beside it, {flood.text}" if flood.text and (result.verdict == FAIL or not flood.hides) else ""
     elif result.verdict == INCONCLUSIVE and flood.text or result.verdict == PASS and flood.hides:
         result.verdict, result.why = INCONCLUSIVE, f"{flood.text}. Seen: {result.why or 'what came between was right'}"
+    elif result.verdict == PASS and (told := dropped(b)):
+        result.verdict, result.why = INCONCLUSIVE, f"{told}. Seen: what came between was right"
 
 
 def blame(b: Bench, result: Result, failed: Sequence[Claim], flood: str) -> None:
@@ -220,10 +222,16 @@ def excused(b: Bench, result: Result, flood: str) -> str:
         return result.gone or flood
     if result.late > b.slack:
         return f"this machine is too busy for a verdict: the bench was {result.late:.2f} s late, more than --slack {b.slack:g}"
-    if drops := b.wire.drops():
-        return f"this machine is too busy for a verdict: it dropped {drops} frames that came"
+    if told := dropped(b):
+        return told
     flaps = any(when >= result.begin and words[0] in ("down", "up") for when, words in b.events)
     return f"the link refused {b.refused} frames" if b.refused and not flaps else ""
+
+
+def dropped(b: Bench) -> str:
+    """That this machine lost frames that came, since that was asked last; nothing where it lost none."""
+    drops = b.wire.drops()
+    return f"this machine is too busy for a verdict: it dropped {number_of(drops, 'frame')} that came" if drops else ""
 
 
 class CameToNothing(Exception):

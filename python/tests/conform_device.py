@@ -53,7 +53,6 @@ class Device(Stack):
     long = False
 
     def __init__(self) -> None:
-        super().__init__()
         self.system: Optional[System] = None
         self.sends_data, self.count = False, 0
         self.responses: DefaultDict[int, Deque[float]] = defaultdict(deque)
@@ -99,7 +98,7 @@ class Device(Stack):
         if len(sent) < self.most_responses:
             sent.append(self.now)
             for to, it in self.responds(port, marker, response):
-                self.world.emit(to, it)
+                self.send(to, it)
 
     def tick(self) -> None:
         if not self.system:
@@ -120,7 +119,7 @@ class Device(Stack):
             return
         for port, sent in self.on.transmissions():
             for it in self.says(port, sent.frame) if is_lacpdu(sent.frame) else [sent.frame]:
-                self.world.emit(port, it)
+                self.send(port, it)
 
     def link(self, port: int, up: bool) -> None:
         if self.system:
@@ -155,7 +154,7 @@ class Device(Stack):
 
     def put_data(self, port: int, frame: bytes) -> None:
         """A frame of the client goes out on a port."""
-        self.world.emit(port, frame)
+        self.send(port, frame)
 
     def port_of(self, frame: bytes) -> Optional[int]:
         """The port of a frame of the client."""
@@ -242,19 +241,19 @@ def faults(base: Type[Device], attribute: str, *rows: Row) -> list[Type[Device]]
 
 
 @contextmanager
-def beside(world: World, hook: Optional[Hook] = None, flaps: bool = False) -> Iterator[Bench]:
+def beside(world: World, hook: Optional[Hook] = None, flaps: bool = False, slack: float = 0.15) -> Iterator[Bench]:
     """A bench beside the device of a world, which ends with it."""
-    b = Bench(world, hook, flaps=flaps)
+    b = Bench(world, hook, slack, flaps=flaps)
     try:
         yield b
     finally:
         b.close()
 
 
-def play(world: World, tests: Sequence[Case]) -> list[Result]:
+def play(world: World, tests: Sequence[Case], slack: float = 0.15) -> list[Result]:
     """Runs tests beside the device of a world, whose hook is there."""
     results: list[Result] = []
-    with beside(world, world) as b:
+    with beside(world, world, slack=slack) as b:
         meet(b)
         run_all(b, ordered(tests), results.append)
     return results

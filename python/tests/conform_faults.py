@@ -103,7 +103,7 @@ class DataTwice(Device):
 
     def put_data(self, port: int, frame: bytes) -> None:
         for _ in range(self.copies):
-            self.world.emit(port, frame)
+            self.send(port, frame)
 
 
 class CutOff(Says):

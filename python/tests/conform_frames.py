@@ -162,7 +162,7 @@ class AnswersMore(Device):
     def took(self, port: int, frame: bytes) -> None:
         payload = self.answers(frame) if frame[12:15] == SLOW + b"\2" else b""
         if payload:
-            self.world.emit(port, frame[:6] + bytes([2, 0, 0, 0, 0xBB, port]) + SLOW + payload)
+            self.send(port, frame[:6] + bytes([2, 0, 0, 0, 0xBB, port]) + SLOW + payload)
 
 
 class MarkersWhenCollecting(Device):
@@ -287,7 +287,7 @@ class SendsTwice(Device):
 
     def put_data(self, port: int, frame: bytes) -> None:
         for it in (1, 2) if frame[45] % 10 == 0 and self.on.distributes(3 - port) else (port,):
-            self.world.emit(it, frame)
+            self.send(it, frame)
 
 
 class KeepsBack(Device):
@@ -303,12 +303,12 @@ class KeepsBack(Device):
         if port == 2:
             self.kept.append(frame)
         else:
-            self.world.emit(port, frame)
+            self.send(port, frame)
 
     def ticked(self) -> None:
         if self.count % 5 == 0:
             for it in self.kept:
-                self.world.emit(2, it)
+                self.send(2, it)
             self.kept = []
 
 

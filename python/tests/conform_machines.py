@@ -167,7 +167,7 @@ class Chatty(Device):
             told = partner.system.priority.to_bytes(2, "big") + partner.system.mac + partner.key.to_bytes(2, "big")
             told += partner.port.priority.to_bytes(2, "big") + partner.port.number.to_bytes(2, "big") + bytes([int(partner.state)])
             payload = b"\1\1\1\x14" + own + bytes(3) + b"\2\x14" + told + bytes(3) + b"\3\x10" + bytes(66)
-            self.world.emit(port, b"\x01\x80\xc2\0\0\2" + bytes([2, 0, 0, 0, 0xBB, port]) + SLOW + payload)
+            self.send(port, b"\x01\x80\xc2\0\0\2" + bytes([2, 0, 0, 0, 0xBB, port]) + SLOW + payload)
 
 
 class NoNtt(Device):
@@ -250,7 +250,7 @@ class SharedLimit(Device):
         for port in self.on.due():
             if len(self.sent) < 3 and (sent := self.on.transmit(port)):
                 self.sent.append(self.now)
-                self.world.emit(port, sent.frame)
+                self.send(port, sent.frame)
 
 
 class SilentOnDefaults(Device):

@@ -256,6 +256,7 @@ def test_a_test_that_breaks_is_an_error_that_no_known_fail_hides(run, tmp_path: 
         assert "| error | LAB-01 (error), " in (tmp_path / "r.md").read_text() and f"It carries in time: {why.partition(' type')[0]}" in (tmp_path / "r.html").read_text()
     assert run(Device, *words, "--resume", "r.json", "--repeat", "2") == 2 and "repeat was 1 there, and is 2 now" in capsys.readouterr().err
     assert run(Device, *words, "--resume", "r.json") == 2 and capsys.readouterr().out.startswith("1 test on 3 links\nerror          LAB-01")
+    assert run(Device, "--only", "LAB-01", "--strict") == 2 and "no test came to pass or fail\n" in capsys.readouterr().err
 
 
 def test_a_test_that_breaks_in_one_run_of_several_is_an_error(run, tmp_path: Path, capsys: pytest.CaptureFixture[str]) -> None:  # type: ignore[no-untyped-def]

@@ -240,8 +240,16 @@ def test_a_report_that_can_not_be_written_is_refused_before_the_run(run, path: s
 
 
 def test_a_run_without_an_answer_is_no_success(run, capsys: pytest.CaptureFixture[str]) -> None:  # type: ignore[no-untyped-def]
-    assert run(Device, "--only", "RX-14") == 2  # it asks for short timeouts
-    assert "no test came to pass or fail" in capsys.readouterr().err
+    for strict in (), ("--strict",):
+        assert run(Device, "--only", "RX-14", *strict) == 2  # it asks for short timeouts
+        assert "no test came to pass or fail" in capsys.readouterr().err
+
+
+def test_a_strict_run_without_an_answer_has_the_same_status(run, tmp_path: Path, capsys: pytest.CaptureFixture[str]) -> None:  # type: ignore[no-untyped-def]
+    """Whatever its tests came to: with one that has an answer, --strict makes it 1."""
+    for only, status in (["--only", "SL-06"], 2), (["--only", "SL-06", "--only", "FM-01"], 1):
+        assert run(NoData, *only, "--strict") == status
+        assert ("no test came to pass or fail" in capsys.readouterr().err) == (status == 2)
 
 
 def test_a_long_test_runs_by_its_name() -> None:
@@ -249,7 +257,7 @@ def test_a_long_test_runs_by_its_name() -> None:
     assert not any(it.is_long for it in options.selected(["RX-*"], False, 1))
 
 
-@pytest.mark.parametrize("text", ["nan", "inf", "-0.1", "soon"])
+@pytest.mark.parametrize("text", ["nan", "inf", "-0.1", "soon", "1.1", "100"])
 def test_slack_is_a_time(text: str, capsys: pytest.CaptureFixture[str]) -> None:
     with pytest.raises(SystemExit, match="2"):
         command.main(["lo", f"--slack={text}"])
@@ -327,7 +335,27 @@ def test_a_run_that_is_killed_leaves_no_report_of_another(tmp_path: Path, monkey
 
     monkeypatch.setattr(command, "stand", stand)
     assert command.main(["link1", *WORDS]) == command.SILENT
-    assert [*seen[0]] == ["r.json"] and json.loads(seen[0]["r.json"])["about"]["incomplete"] == "the run did not come to its end"
+    assert {*seen[0]} == {*REPORTS.values()} and json.loads(seen[0]["r.json"])["about"]["incomplete"] == command.UNENDED
+    assert all(command.UNENDED in it for it in seen[0].values())
+
+
+def test_a_report_takes_the_place_of_one_at_once(tmp_path: Path, monkeypatch: pytest.MonkeyPatch) -> None:
+    own, link = tmp_path / "own", tmp_path / "link"
+    own.write_text("of the run before")
+    own.chmod(0o640)
+    link.symlink_to(own)
+    before = own.open()
+    files.put(str(link), b"new")
+    assert link.is_symlink() and own.read_text() == "new" and own.stat().st_mode & 0o777 == 0o640
+    assert before.read() == "of the run before"  # whoever reads it reads one of both
+    before.close()
+
+    def busy(*_: object) -> None:
+        raise OSError(16, "a file system of its own")
+
+    monkeypatch.setattr(os, "replace", busy)
+    files.put(str(link), b"newer")
+    assert own.read_text() == "newer" and sorted(it.name for it in tmp_path.iterdir()) == ["link", "own"]
 
 
 def test_a_run_that_never_began_leaves_what_it_was_to_resume(run, tmp_path: Path, capsys: pytest.CaptureFixture[str], monkeypatch: pytest.MonkeyPatch) -> None:  # type: ignore[no-untyped-def]

@@ -15,7 +15,7 @@ import pytest
 from conform_device import Device, LongTimeouts, World, play
 
 from lagconform.groups import TESTS
-from lagconform.model import FAIL, INCONCLUSIVE, PASS, Result
+from lagconform.model import FAIL, INCONCLUSIVE, PASS, SURE, Result
 from lagconform.model import Test as Case
 
 MODULES = conform_faults, conform_machines, conform_frames
@@ -24,9 +24,9 @@ FAULTS: list[Type[Device]] = [*CLASSES, *(it for module in MODULES for it in mod
 BY_NAME = {it.id: it for it in TESTS}
 
 
-def found_by(kind: Type[Device], tests: Sequence[Case]) -> list[Result]:
+def found_by(kind: Type[Device], tests: Sequence[Case], slack: float = 0.15) -> list[Result]:
     """What tests find beside a device of a kind, on as many links as they want."""
-    return play(World(kind(), max(2, *(it.links for it in tests), 2)), tests)
+    return play(World(kind(), max(2, *(it.links for it in tests), 2)), tests, slack)
 
 
 def told(results: Sequence[Result]) -> list[str]:
@@ -53,6 +53,23 @@ def test_the_page_has_how_many_faults_there_are() -> None:
 def test_each_test_has_a_fault_that_it_finds() -> None:
     found = {name for it in FAULTS for name in it.finds.split()}
     assert found == set(BY_NAME)
+
+
+# From which --slack on the tests of a fault do not find it, of those of the page; its largest one hides no other fault.
+SLACKS = (0.15, 0.3, 0.5, 0.75, SURE)
+HIDDEN = {"LooksOnceASecond": 0.3, "LateUnderData": 0.3, "NoNtt": 0.5, "SlowClock": 0.75, "ReturnsSlowly": SURE}
+
+
+@pytest.mark.parametrize("kind", FAULTS, ids=[it.__name__ for it in FAULTS])
+def test_a_larger_slack_hides_faults_as_the_page_says(kind: Type[Device]) -> None:
+    from_there_on = HIDDEN.get(kind.__name__, 2 * SURE)
+    at = SLACKS.index(min(SURE, from_there_on))
+    for slack in SLACKS[at - (kind.__name__ in HIDDEN) : at + 1]:
+        found = found_by(kind, [BY_NAME[it] for it in kind.finds.split()], slack)
+        assert any(it.verdict == FAIL for it in found) == (slack < from_there_on), (slack, told(found))
+    page = Path(__file__).parents[2] / "docs" / "CONFORM.md"
+    rows = [it for it in (page.read_text() if page.exists() else "").splitlines() if it.startswith(f"|{from_there_on:g} s|")]
+    assert not page.exists() or from_there_on > SURE or f"|{', '.join(kind.finds.split())}|" in "".join(rows)
 
 
 @pytest.mark.parametrize("kind", FAULTS, ids=[it.__name__ for it in FAULTS])

@@ -115,9 +115,9 @@ KINDS = [LongTimeouts, Passive, SpokenTo, PassiveOfLongTimeouts, Individual, Ind
 
 def found_by(kind: Type[Device], tests: Sequence[Case], phase: float = 0.037) -> list[Result]:
     """What tests find beside a device of a kind, whose clock has a phase."""
-    device = kind()
-    device.due = phase
-    return play(World(device), tests)
+    world = World(kind())
+    world.due = phase
+    return play(world, tests)
 
 
 @pytest.mark.parametrize("kind", KINDS, ids=[it.__name__ for it in KINDS])
@@ -147,7 +147,7 @@ class Bridge(Device):
         if frame[:6] == b"\xff" * 6 and self.aggregator(port):
             for other in (1, 2):
                 if self.aggregator(other) and self.aggregator(other) != self.aggregator(port):
-                    self.world.emit(other, frame)
+                    self.send(other, frame)
 
 
 class JoinsKeys(Bridge):

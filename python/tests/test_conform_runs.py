@@ -57,7 +57,7 @@ class Loop(Device):
 
     def ticked(self) -> None:
         for _ in range(600 if self.now > 0.5 else 0):
-            self.world.emit(1, self.octets)
+            self.send(1, self.octets)
 
 
 class BesideALoop(Loop):
@@ -183,6 +183,18 @@ def test_lacpdus_that_can_not_be_read_get_a_report(run, kind: Type[Device], fail
     assert [it["id"] for it in told["tests"] if it["verdict"] == "fail"] == fails
     assert "5 tests in turn came to nothing" in told["about"]["incomplete"] and "is no LACPDU" in capsys.readouterr().err
     assert len(told["tests"]) < 20 and [it for it in told["causes"] if it not in ("FM-02", "FM-03")] == [] and xml.parse(tmp_path / "r.xml").getroot().get("failures") == str(len(fails))
+
+
+def test_a_pass_stands_beside_a_late_bench_and_is_told(bench, monkeypatch: pytest.MonkeyPatch) -> None:  # type: ignore[no-untyped-def]
+    b, found = bench(Device), Result(BY_NAME["FM-01"], claims=[Claim(True, "it is right", ())])
+    b.late = 2.48
+    judge(b, found)
+    assert (found.verdict, found.late) == (PASS, 2.48)
+    lines = report.closing(report.Run(b, {}, {}, [found, Result(BY_NAME["FM-02"], late=0.1), Result(BY_NAME["FM-03"], FAIL, late=0.3)]))
+    assert lines[:-1] == ["late: the bench was up to 2.48 s late, more than --slack 0.15, in what passed: FM-01"]
+    monkeypatch.setattr(b.wire, "drops", lambda: 1)
+    judge(b, lost := Result(BY_NAME["FM-01"], claims=[Claim(True, "it is right", ())]))
+    assert (lost.verdict, lost.why) == (INCONCLUSIVE, "this machine is too busy for a verdict: it dropped 1 frame that came. Seen: what came between was right")
 
 
 def test_a_late_bench_excuses_no_count_of_lacpdus(bench) -> None:  # type: ignore[no-untyped-def]
@@ -321,6 +333,30 @@ def test_a_run_goes_on_where_another_one_ended(run, tmp_path: Path, capsys: pyte
     assert run(Device, "--only", "FM-01", "--resume", "nothing.json") == 0
 
 
+KILLED = """def ticked(self):
+    import os
+    if self.now > 20 and 'KILLED' in os.environ:
+        os.kill(os.getpid(), 9)
+"""
+
+
+def test_a_run_goes_on_where_another_one_was_killed(stack, tmp_path: Path) -> None:  # type: ignore[no-untyped-def]
+    words = ["--only", "FM-*", "--only", "RX-0*", "--only", "IV-05", "--json", "r.json"]
+    assert stack(KILLED, "--only", "FM-01") == 0
+    line = f"import sys\nfrom lagconform import command\ncommand.KEEPS = 0\nsys.exit(command.main({['--memory', 'device.py', *words, '--tap', 'r.tap']}))"
+    paths = os.pathsep.join([str(Path(__file__).parent), str(Path(__file__).parents[1])])
+    ended = subprocess.run([sys.executable, "-c", line], cwd=tmp_path, env={**os.environ, "PYTHONPATH": paths, "KILLED": "1"}, stdout=subprocess.PIPE, text=True, timeout=300, check=False)
+    told, count = json.loads((tmp_path / "r.json").read_text()), sum(it.id.startswith(("FM-", "RX-0", "IV-05")) for it in TESTS)
+    ran = [it["id"] for it in told["tests"]]
+    assert ended.returncode == -9 and 3 <= len(ran) < count and ran == re.findall(r"^pass +(\S+)", ended.stdout, re.M)
+    assert told["about"]["incomplete"] == f"{command.UNENDED}; {len(ran)} of {count} tests ran"
+    assert (tmp_path / "r.tap").read_text() == f"TAP version 14\nBail out! {command.UNENDED}\n"
+    assert stack(KILLED, *words, "--resume", "r.json") == 0
+    told = json.loads((tmp_path / "r.json").read_text())
+    over = [it["id"] for it in told["tests"] if "of the run in r.json" in it["notes"]]
+    assert over == ran and "incomplete" not in told["about"] and told["counts"]["pass"] == len(told["tests"])
+
+
 def test_the_page_begins_with_what_failed(run, tmp_path: Path) -> None:  # type: ignore[no-untyped-def]
     assert run(NoNtt, "--only", "TX-*", "--only", "FM-01", "--report", "r.html") == 1
     said = (tmp_path / "r.html").read_text()
@@ -382,6 +418,24 @@ def test_a_stack_that_is_none_is_refused(words: list[str], why: str, capsys: pyt
     assert command.main(words) == 2 and why in capsys.readouterr().err
     (tmp_path / "empty.py").write_text("Device = 7\n")
     assert command.main(["--memory", "empty.py"]) == 2 and "no class Device below lagconform.memory.Stack" in capsys.readouterr().err
+
+
+def test_the_names_of_a_stack_are_its_makers(stack, capsys: pytest.CaptureFixture[str]) -> None:  # type: ignore[no-untyped-def]
+    """All but those that the page has: a method of another name has no part in the run, and `__init__` need not call that of the base."""
+    own = ("_child", "again", "clock", "do", "due", "emit", "is_inside", "leave", "pass_time", "starts", "wait", "world")
+    lines = "".join(f"def {it}(self):\n    raise ValueError\n" for it in own)
+    init = "def __init__(self):\n    from collections import defaultdict, deque\n    self.system, self.sends_data, self.count = None, False, 0\n    self.responses = defaultdict(deque)\n"
+    assert stack(lines + init, "--only", "FM-01", "--only", "RX-13", "--only", "RX-15") == 0
+    assert f"\n3 pass, 0 fail{LAST}" in capsys.readouterr().out
+    names = {it for it in (*vars(memory.Stack), *memory.Stack.__annotations__) if not it.startswith("__")}
+    assert names == {"_lagconform", "data", "link", "links", "now", "send", "start", "stop", "take", "tick", "tick_seconds"}
+    told = PAGE.read_text().partition("The stack is a class `Device`")[2].partition("\n### ")[0] if PAGE.exists() else ""
+    assert not told or not [it for it in names if not re.search(rf"`(self\.)?{it}[`(]", told)]
+
+
+def test_a_stack_that_can_not_be_made_is_no_fault_of_the_bench(stack, capsys: pytest.CaptureFixture[str]) -> None:  # type: ignore[no-untyped-def]
+    assert stack("def __init__(self):\n    self.ports = list(self.links)\n") == 2
+    assert capsys.readouterr().err == "lagconform: device.py breaks where its Device is made, by AttributeError: 'Device' object has no attribute '_lagconform'\n"
 
 
 def test_a_stack_that_raises_fails_the_test_and_begins_again(stack, tmp_path: Path, capsys: pytest.CaptureFixture[str]) -> None:  # type: ignore[no-untyped-def]
