@@ -28,6 +28,9 @@ static void chip_send(struct loop *loop, uint16_t port, const uint8_t *octets, s
 static void chip_block(struct loop *loop, uint32_t which, bool blocked) { (void)loop, (void)which, (void)blocked; }
 static void chip_set_trunk(struct loop *loop, uint16_t lag, uint32_t which) { (void)loop, (void)lag, (void)which; }
 static void chip_flush(struct loop *loop, uint16_t lag) { (void)loop, (void)lag; }
+static void heard(struct loop *loop, uint16_t port, const uint8_t *octets, size_t length, uint32_t what) {
+    (void)loop, (void)port, (void)octets, (void)length, (void)what;
+}
 
 static uint16_t keys[LAGS];
 static struct niw_config config = {.priority = 32768, .mac = {2}, .first_marker = 1, .conversations = NIW_FEW_CONVERSATIONS};
