@@ -10,6 +10,8 @@
 
 #include "rows.h"
 
+_Static_assert(sizeof(struct rows) == 2308 + 1028 * LAGS + 4 * PORTS, "docs/FIRMWARE.md tells this size");
+
 struct packet {
     uint32_t arrives;
     bool is_data;

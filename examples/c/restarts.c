@@ -31,7 +31,8 @@ struct box {
     bool forwards, dead;           /* `dead`: the chip is in its reset, and passes nothing */
     bool failed;                   /* a write failed, and `chip_again` was not called since */
     bool strayed, lied;
-    unsigned fails; /* of 100 writes to the chip */
+    unsigned fails;  /* of 100 writes to the chip */
+    unsigned writes; /* that reached it */
     struct niw_counters counters[PORTS];
     struct niw_churn churn[PORTS];
     struct trapped wait[PORTS][QUEUE];
@@ -56,6 +57,7 @@ static unsigned drawn(void) {
 static bool writes(struct box *box) {
     bool goes = !box->failed && !box->dead && drawn() >= box->fails;
     box->failed = box->failed || !goes;
+    box->writes += goes;
     return goes;
 }
 
@@ -321,8 +323,9 @@ static void show_restart(bool warm, uint32_t away) {
         run(1, ALL & ~silent);
         empty += !carry(ALL & ~silent);
     }
+    unsigned before = one.writes;
     uint32_t status = warm ? resume(&one, away) : start(&one);
-    printf("a %s start after %u ticks: %s", warm ? "warm" : "cold", (unsigned)away, niw_status_text(status));
+    printf("a %s start after %u ticks: %s, with %u writes to the chip", warm ? "warm" : "cold", (unsigned)away, niw_status_text(status), one.writes - before);
     if (status == NIW_STALE) start(&one);
     for (unsigned passed = 0; passed < 100; passed++) {
         run(1, ALL & ~silent);

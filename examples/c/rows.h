@@ -2,7 +2,8 @@
  * of the trunk change, behind markers, if the peer answers them. A program includes this file in place of loop.h, and gives two functions more. One aggregator
  * a LAG will do, as there. hash_buckets.c is such a program.
  *
- * `chip_send` sends behind the data that rows sent on its port: it waits until each queue of the port is empty, or takes the same queue. */
+ * `chip_send` sends behind the data that rows sent on its port: it waits until each queue of the port is empty, or takes the same queue. Before `begin` the
+ * struct is all zero, and so are the rows of the chip. */
 #ifndef ROWS_H
 #define ROWS_H
 
@@ -13,12 +14,10 @@
 #define WORST_DELAY 50 /* ticks that a frame can be on its way at most */
 
 struct rows {
-    uint16_t port[LAGS][ROWS]; /* what the chip has: the port of each row, or 0, with which it drops the frames */
-    uint32_t level[LAGS];      /* the ports that have their shares, or 0 */
-    uint64_t held[PORTS + 1];  /* how many rows of a port wait for a response */
-    uint32_t since[PORTS + 1]; /* the tick at which the last of them began to */
-    uint32_t asked[PORTS + 1]; /* the tick of the last probe */
-    uint32_t distributing;
+    uint16_t port[LAGS][ROWS];  /* what the chip has: the port of each row, or 0, with which it drops the frames */
+    uint16_t since[LAGS][ROWS]; /* the tick at which a row was cleared, its low 16 bits */
+    uint32_t level[LAGS];       /* the ports that have their shares, or 0 */
+    uint32_t asked[PORTS + 1];  /* the tick of the last probe */
     struct niw_carried carried[ROWS]; /* of one call, as is `changed` */
     bool changed[ROWS];
 };
@@ -29,20 +28,8 @@ static void chip_set_row(struct loop *here, uint16_t lag, uint16_t row, uint16_t
 
 static void set_row(struct loop *here, uint16_t lag, uint16_t row, uint16_t port) {
     rows_of(here)->port[lag - 1][row] = port;
+    rows_of(here)->since[lag - 1][row] = (uint16_t)here->ticks;
     chip_set_row(here, lag, row, port);
-}
-
-/* What waits on a port for longer than frames can be on their way is freed without a response: the link died silently, or the peer answers none. */
-static void free_held(struct loop *here) {
-    struct rows *rows = rows_of(here);
-    for (uint16_t port = 1; port <= PORTS; port++) {
-        uint64_t held = niw_held(&here->system, port).number;
-        bool distributes = niw_distributes(&here->system, port).is;
-        if (held > rows->held[port] || distributes != ((rows->distributing & bit_of(port)) != 0)) rows->since[port] = here->ticks;
-        rows->held[port] = held;
-        rows->distributing = distributes ? rows->distributing | bit_of(port) : rows->distributing & ~bit_of(port);
-        if (held > 0 && here->ticks - rows->since[port] > WORST_DELAY) niw_force_port(&here->system, port);
-    }
 }
 
 /* Whether the peer answers markers on each port; one that did not is asked each second. */
@@ -83,13 +70,20 @@ static void level(struct loop *here, uint16_t lag) {
 /* Before anything is sent: `port` is what the chip's rows hold, also those that were offered. */
 static void clear_rows(struct loop *here) {
     struct rows *rows = rows_of(here);
-    free_held(here);
     for (uint16_t lag = 1; lag <= LAGS; lag++) {
         niw_conversation_ports(&here->system, lag, rows->port[lag - 1], ROWS, rows->changed, ROWS);
         for (uint16_t row = 0; row < ROWS; row++)
-            if (rows->changed[row]) chip_set_row(here, lag, row, rows->port[lag - 1][row]);
+            if (rows->changed[row]) set_row(here, lag, row, rows->port[lag - 1][row]);
         if (rows->level[lag - 1] != here->trunk[lag - 1]) level(here, lag);
     }
+}
+
+/* Offers a bucket. One that waits for longer than its frames can be on their way is freed without a response: the link died silently, or the peer answers none. */
+static struct niw_number offer(struct loop *here, uint16_t lag, uint16_t row) {
+    struct niw_number port = niw_offer_conversation(&here->system, lag, row);
+    if (port.status != NIW_HELD || (uint16_t)(here->ticks - rows_of(here)->since[lag - 1][row]) <= WORST_DELAY) return port;
+    niw_force(&here->system, lag, row);
+    return niw_offer_conversation(&here->system, lag, row);
 }
 
 /* Offers each bucket whose row is clear; the answered port goes into the row. */
@@ -99,7 +93,7 @@ static void fill_rows(struct loop *here) {
         if (here->trunk[lag - 1] == 0) continue;
         for (uint16_t row = 0; row < ROWS; row++) {
             if (rows->port[lag - 1][row] != 0) continue;
-            struct niw_number port = niw_offer_conversation(&here->system, lag, row);
+            struct niw_number port = offer(here, lag, row);
             if (port.status != NIW_OK) continue;
             set_row(here, lag, row, (uint16_t)port.number);
             rows->level[lag - 1] = 0;
