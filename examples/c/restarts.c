@@ -174,7 +174,7 @@ static void keep(struct box *box) {
     box->kept.loop = box->loop;
 }
 
-/* Another start: what was kept, `away` ticks ago, goes on, and the chip is not written. Ports that did not carry begin anew. On a refusal start from nothing. */
+/* Another start: what was kept `away` ticks ago goes on, and the chip is not written. Ports that did not carry begin anew. If refused, start from nothing. */
 static uint32_t resume(struct box *box, uint32_t away) {
     const struct loop *old = &box->kept.loop;
     struct loop *here = &box->loop;

@@ -78,7 +78,8 @@ static void clear_rows(struct loop *here) {
     }
 }
 
-/* Offers a bucket. One that waits for longer than its frames can be on their way is freed without a response: the link died silently, or the peer answers none. */
+/* Offers a bucket. One that waits for longer than its frames can be on their way is freed without a response: its link died silently, or its peer answers
+ * none. */
 static struct niw_number offer(struct loop *here, uint16_t lag, uint16_t row) {
     struct niw_number port = niw_offer_conversation(&here->system, lag, row);
     if (port.status != NIW_HELD || (uint16_t)(here->ticks - rows_of(here)->since[lag - 1][row]) <= WORST_DELAY) return port;
