@@ -52,7 +52,7 @@ FORCE:
 
 examples: $(addprefix out/bin/,$(EXAMPLES))
 
-out/bin/%: examples/c/%.c out/lib/liblag.so.0 | out/bin
+out/bin/%: examples/c/%.c $(wildcard examples/c/*.h) out/lib/liblag.so.0 | out/bin
 	$(CC) $(CFLAGS) -Iout/lib -o $@ $< out/lib/liblag.a
 
 # The library by -DNIW_POOL is of this program alone.

@@ -1,104 +1,195 @@
-/* A chip that spreads frames over 256 hash buckets, each with a row that names a port: the rows follow the library, and a port is drained
- * before its link is taken away. The chip is an array here, and the peer a second system at the end of two cables. */
+/* A chip that spreads frames over 256 hash buckets, each with a row that names a port, by rows.h: one aggregator for the LAG, in which a port that hears nobody
+ * is held. A port leaves, a cable is pulled, and one falls silent; each comes back, and gets its share of the rows. Two such switches are joined by a cable at
+ * each port, and their chips are played here. Each row sends a frame a tick, on cables of unlike delay: none of a bucket may come late or twice. */
 #include <stdio.h>
 
-#include "lag.h"
+#define PORTS 4
+#define LAGS 1
+#define DEPTH 2048 /* frames on a cable */
+#define TRAPPED 64
 
-#define PORTS 2
-#define BUCKETS NIW_FEW_CONVERSATIONS
+#include "rows.h"
 
-static struct niw_system here, peer;
-static uint16_t rows[BUCKETS]; /* of the chip: the port of each bucket, or 0, with which it drops the frames */
-static unsigned markers;
+_Static_assert(sizeof(struct rows) == 2308 + 1028 * LAGS + 4 * PORTS, "docs/FIRMWARE.md tells this size");
 
-static bool make(struct niw_system *end, uint8_t number) {
-    struct niw_config config = {.priority = 32768, .mac = {2, 0, 0, 0, 0, number}, .first_marker = 1, .conversations = BUCKETS};
-    struct niw_port ports[PORTS] = {0};
-    const uint16_t key = 7;
-    for (uint16_t i = 0; i < PORTS; i++)
-        ports[i] = (struct niw_port){(uint16_t)(i + 1), 128, {2, 0, 0, 0, 1, number}, key, true, true, false};
-    *end = (struct niw_system)NIW_EMPTY;
-    return niw_new(end, &config, &key, 1, ports, PORTS).status == NIW_OK && niw_set_link(end, 1, true) == NIW_OK
-        && niw_set_link(end, 2, true) == NIW_OK;
+struct packet {
+    uint32_t arrives;
+    bool is_data;
+    uint16_t row; /* of data, and its number */
+    uint32_t serial;
+    size_t length;
+    uint8_t octets[NIW_FRAME];
+};
+
+/* A switch, and the cables that lead to it. */
+struct box {
+    struct loop loop;
+    struct rows rows;
+    uint32_t trunk, blocked;
+    uint16_t row[ROWS]; /* of the chip */
+    uint32_t sent[ROWS], collected[ROWS];
+    struct packet cables[PORTS][DEPTH];
+    unsigned first[PORTS], count[PORTS];
+    struct { uint16_t port; struct packet packet; } trapped[TRAPPED];
+    unsigned next, waiting;
+};
+
+static struct box one, two;
+static const uint32_t DELAYS[PORTS] = {1, 3, 1, 4};
+static uint32_t now, silent;
+static unsigned late, twice, markers;
+
+static struct box *box_of(const struct loop *loop) {
+    return loop == &one.loop ? &one : &two;
 }
 
-/* Clears the rows whose bucket is no longer on its port: before anything is sent. */
-static void clear_rows(void) {
-    uint16_t ports[BUCKETS];
-    bool changed[BUCKETS];
-    memcpy(ports, rows, sizeof ports);
-    niw_conversation_ports(&here, 1, ports, BUCKETS, changed, BUCKETS);
-    for (unsigned bucket = 0; bucket < BUCKETS; bucket++)
-        if (changed[bucket]) rows[bucket] = 0;
+static struct rows *rows_of(struct loop *here) {
+    return &box_of(here)->rows;
 }
 
-/* Offers each bucket whose row is clear; the answered port goes into the row. */
-static void fill_rows(void) {
-    for (uint16_t bucket = 0; bucket < BUCKETS; bucket++) {
-        struct niw_number port;
-        if (rows[bucket] != 0) continue;
-        port = niw_offer_conversation(&here, 1, bucket);
-        if (port.status == NIW_OK) rows[bucket] = (uint16_t)port.number;
-    }
+/* Puts a packet on the cable of a port; data and control frames take one queue, so a marker is behind the data. */
+static void put(struct box *from, uint16_t port, struct packet packet) {
+    struct box *to = from == &one ? &two : &one;
+    unsigned at = port - 1u;
+    packet.arrives = now + DELAYS[at];
+    if (silent & bit_of(port) || to->count[at] == DEPTH) return;
+    to->cables[at][(to->first[at] + to->count[at]++) % DEPTH] = packet;
 }
 
-/* Sends what is due. A chip waits until the queue of the port is empty before a marker, and before an LACPDU of a port that is held: its
- * peer drops what comes behind that. */
-static void send_due(struct niw_system *from, struct niw_system *to) {
-    uint8_t frame[NIW_FRAME], response[NIW_FRAME];
+static const uint8_t *chip_next(struct loop *here, uint16_t *port, size_t *length) {
+    struct box *box = box_of(here);
+    if (box->next == box->waiting) box->next = box->waiting = 0;
+    if (box->waiting == 0) return NULL;
+    *port = box->trapped[box->next].port, *length = box->trapped[box->next].packet.length;
+    return box->trapped[box->next++].packet.octets;
+}
+
+static void chip_send(struct loop *here, uint16_t port, const uint8_t *frame, size_t length) {
+    struct packet packet = {.length = length};
+    memcpy(packet.octets, frame, length);
+    markers += here == &one.loop && frame[14] == NIW_SUBTYPE_MARKER && frame[16] == NIW_MARKER_INFORMATION;
+    put(box_of(here), port, packet);
+}
+
+static void chip_block(struct loop *here, uint32_t ports, bool blocked) {
+    struct box *box = box_of(here);
+    box->blocked = blocked ? box->blocked | ports : box->blocked & ~ports;
+}
+
+static void chip_set_trunk(struct loop *here, uint16_t lag, uint32_t ports) {
+    (void)lag;
+    box_of(here)->trunk = ports;
+}
+
+static void chip_set_row(struct loop *here, uint16_t lag, uint16_t row, uint16_t port) {
+    (void)lag;
+    box_of(here)->row[row] = port;
+}
+
+static void chip_flush(struct loop *here, uint16_t lag) {
+    (void)here, (void)lag; /* this chip learns nothing */
+}
+
+static void heard(struct loop *here, uint16_t port, const uint8_t *frame, size_t length, uint32_t what) {
+    (void)here, (void)port, (void)frame, (void)length, (void)what;
+}
+
+/* The chip collects data of the ports of the trunk. */
+static void collect(struct box *box, uint16_t port, const struct packet *packet) {
+    uint32_t *last = &box->collected[packet->row];
+    if (!(box->trunk & ~box->blocked & bit_of(port))) return;
+    late += packet->serial < *last;
+    twice += packet->serial == *last;
+    *last = packet->serial;
+}
+
+static void arrive(struct box *box) {
     for (uint16_t port = 1; port <= PORTS; port++)
-        for (struct niw_sent due = niw_transmit(from, port, frame, sizeof frame); due.is; due = niw_transmit(from, port, frame, sizeof frame)) {
-            markers += due.what == NIW_SENT_MARKER;
-            if (niw_receive(to, port, frame, sizeof frame, response, sizeof response).what == NIW_RECEIVED_RESPOND)
-                niw_receive(from, port, response, sizeof response, frame, sizeof frame);
+        for (unsigned at = port - 1u; box->count[at] > 0 && box->cables[at][box->first[at]].arrives <= now; box->count[at]--) {
+            const struct packet *packet = &box->cables[at][box->first[at]];
+            box->first[at] = (box->first[at] + 1) % DEPTH;
+            if (packet->is_data) collect(box, port, packet);
+            else if (box->waiting < TRAPPED) box->trapped[box->waiting].port = port, box->trapped[box->waiting++].packet = *packet;
         }
 }
 
-/* 100 ms, with the steps that a chip wants after each call. */
-static void pass(void) {
-    niw_tick(&here);
-    clear_rows();
-    send_due(&here, &peer);
-    fill_rows();
-    niw_tick(&peer);
-    send_due(&peer, &here);
+static void forward(struct box *box) {
+    for (uint16_t row = 0; row < ROWS; row++)
+        if (box->row[row] != 0) put(box, box->row[row], (struct packet){.is_data = true, .row = row, .serial = ++box->sent[row]});
+}
+
+static void run(unsigned ticks) {
+    struct box *boxes[] = {&one, &two};
+    for (; ticks > 0; ticks--) {
+        now++;
+        for (unsigned i = 0; i < 2; i++) {
+            arrive(boxes[i]);
+            turn(&boxes[i]->loop, 1);
+            forward(boxes[i]);
+        }
+    }
+}
+
+static bool make(struct box *box, uint8_t number) {
+    struct niw_config config = {.priority = 32768, .mac = {2, 0, 0, 0, 0, number}, .first_marker = 1, .conversations = ROWS};
+    struct niw_port ports[PORTS];
+    for (uint16_t i = 0; i < PORTS; i++)
+        ports[i] = (struct niw_port){(uint16_t)(i + 1), 128, {2, 0, 0, 0, (uint8_t)(i + 1), number}, 0, true, true, true};
+    if (begin(&box->loop, &config, ports) != NIW_OK) return false;
+    for (uint16_t port = 1; port <= PORTS; port++) {
+        join(&box->loop, port, 1);
+        set_link(&box->loop, port, true);
+    }
+    return true;
+}
+
+static void set_links(uint16_t port, bool up) {
+    one.count[port - 1] = two.count[port - 1] = 0; /* what is on a cable that is pulled is lost */
+    set_link(&one.loop, port, up);
+    set_link(&two.loop, port, up);
 }
 
 static void show(const char *what) {
     unsigned counts[PORTS + 1] = {0};
-    for (unsigned bucket = 0; bucket < BUCKETS; bucket++) counts[rows[bucket]]++;
-    printf("%s: %u buckets on port 1, %u on port 2, %u clear\n", what, counts[1], counts[2], counts[0]);
-}
-
-/* Takes a port out of use: its buckets leave it behind a marker, new ones go elsewhere, and its peer stops. A peer that answers no marker
- * does not hold it up for longer than frames can be on their way. */
-static void drain(uint16_t port) {
-    int ticks = 30;
-    niw_hold(&here, port, true);
-    clear_rows();
-    show("port 1 is held");
-    for (; niw_load(&here, port).number > 0 && ticks > 0; ticks--) pass();
-    if (ticks == 0) niw_force_port(&here, port);
-    fill_rows();
+    for (unsigned row = 0; row < ROWS; row++) counts[one.row[row]]++;
+    printf("%s: rows of ports 1 to 4: %u %u %u %u; clear: %u\n", what, counts[1], counts[2], counts[3], counts[4], counts[0]);
 }
 
 int main(void) {
-    if (!make(&here, 1) || !make(&peer, 2)) return 1;
-    for (int tick = 0; tick < 50; tick++) pass();
-    show("both links carry");
-    drain(1);
-    show("it is drained");
-    printf("%u marker\n", markers);
-    niw_set_link(&here, 1, false);
-    niw_set_link(&peer, 1, false);
-    for (int tick = 0; tick < 50; tick++) pass();
-    show("its link is down");
-    niw_set_link(&here, 1, true);
-    niw_set_link(&peer, 1, true);
-    niw_hold(&here, 1, false);
-    for (int tick = 0; tick < 50; tick++) pass();
-    printf("its link is up, and it is let go: port 1 %s\n", niw_distributes(&here, 1).is ? "carries" : "does not carry");
-    niw_free(&here);
-    niw_free(&peer);
-    return 0;
+#ifdef NIW_POOL
+    static _Alignas(16) uint8_t room[2 * NIW_MEMORY(PORTS, LAGS, ROWS)];
+    niw_give_memory(room, sizeof room);
+#endif
+    silent = bit_of(4);
+    if (!make(&one, 1) || !make(&two, 2)) return 1;
+    run(100);
+    show("port 4 hears nobody");
+    silent = 0;
+    run(350);
+    show("it is heard");
+    leave(&one.loop, 1);
+    show("port 1 leaves");
+    run(20);
+    show("2 s later");
+    join(&one.loop, 1, 1);
+    run(350);
+    show("it joins again");
+    set_links(2, false);
+    run(20);
+    show("cable 2 is pulled");
+    set_links(2, true);
+    run(60);
+    show("it is put in again");
+    silent = bit_of(3);
+    run(31);
+    show("cable 3 carries nothing for 3 s");
+    run(60);
+    show("for 9 s");
+    silent = 0;
+    run(350);
+    show("it carries again");
+    printf("markers: %u; frames of a bucket that came late: %u, twice: %u\n", markers, late, twice);
+    niw_free(&one.loop.system);
+    niw_free(&two.loop.system);
+    return late + twice > 0;
 }

@@ -1,6 +1,7 @@
 /* The loop of a switch whose chip spreads frames by a hash of its own: LACP over lag.h, and nothing of a board. No conversation is offered and no marker
  * sent. A LAG has its number as key, and one aggregator, which has room for one partner. A program defines PORTS (32 at most) and LAGS, includes this file,
- * and gives the functions of its chip. One task calls what stands here, or each task that holds one lock; no interrupt does. pool.c is such a program. */
+ * and gives the functions of its chip. One task calls what stands here, or each task that holds one lock; no interrupt does. pool.c and restarts.c are such
+ * programs. A chip with a row for each conversation takes rows.h, which includes this file. */
 #ifndef LOOP_H
 #define LOOP_H
 
@@ -35,6 +36,17 @@ static void chip_send(struct loop *here, uint16_t port, const uint8_t *frame, si
 static void chip_block(struct loop *here, uint32_t ports, bool blocked);
 static void chip_set_trunk(struct loop *here, uint16_t lag, uint32_t ports);
 static void chip_flush(struct loop *here, uint16_t lag);
+
+/* This, too: a frame was handed to the library, which answered `what`. For counts, a capture and a warm start; empty without these. */
+static void heard(struct loop *here, uint16_t port, const uint8_t *frame, size_t length, uint32_t what);
+
+/* By rows.h: clears the rows of the chip whose conversation is no longer on its port, and fills those that are clear. */
+static void clear_rows(struct loop *here);
+static void fill_rows(struct loop *here);
+#ifndef HAS_ROWS
+static void clear_rows(struct loop *here) { (void)here; }
+static void fill_rows(struct loop *here) { (void)here; }
+#endif
 
 static uint32_t bit_of(uint16_t port) {
     return UINT32_C(1) << (port - 1);
@@ -80,10 +92,12 @@ static void tell_chip(struct loop *here) {
 static void settle(struct loop *here) {
     uint8_t frame[NIW_FRAME];
     hold_ports(here);
+    clear_rows(here);
     tell_chip(here);
     uint64_t due = niw_due(&here->system).number;
     for (uint16_t port = 1; port <= PORTS; port++)
         if (due >> (port - 1) & 1 && niw_transmit(&here->system, port, frame, sizeof frame).is) chip_send(here, port, frame, sizeof frame);
+    fill_rows(here);
 }
 
 /* Whether the port has answered fewer than ten markers within a second; it notes this one, then. */
@@ -99,6 +113,7 @@ static bool may_respond(struct loop *here, uint16_t port) {
 static void take(struct loop *here, uint16_t port, const uint8_t *frame, size_t length) {
     uint8_t response[NIW_FRAME];
     struct niw_received received = niw_receive(&here->system, port, frame, length, response, sizeof response);
+    heard(here, port, frame, length, received.what);
     if (received.what == NIW_RECEIVED_RESPOND && may_respond(here, port)) chip_send(here, port, response, received.number);
 }
 

@@ -84,6 +84,10 @@ static void chip_flush(struct loop *here, uint16_t lag) {
     (void)here, (void)lag; /* this chip learns nothing */
 }
 
+static void heard(struct loop *here, uint16_t port, const uint8_t *frame, size_t length, uint32_t what) {
+    (void)here, (void)port, (void)frame, (void)length, (void)what; /* it counts nothing */
+}
+
 static uint32_t make(struct box *box, uint8_t number, uint16_t conversations) {
     struct niw_config config = {.priority = 32768, .mac = {2, 0, 0, 0, 0, number}, .first_marker = 1, .conversations = conversations};
     struct niw_port ports[PORTS];

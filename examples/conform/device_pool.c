@@ -47,6 +47,10 @@ static void chip_flush(struct loop *here, uint16_t lag) {
     (void)here, (void)lag; /* this chip learns nothing */
 }
 
+static void heard(struct loop *here, uint16_t port, const uint8_t *frame, size_t length, uint32_t what) {
+    (void)here, (void)port, (void)frame, (void)length, (void)what; /* it counts nothing */
+}
+
 void device_start(unsigned count, device_send *send_by, void *to) {
     struct niw_config config = {.priority = 32768, .mac = {2, 0, 0, 0, 0, 0xbb}, .first_marker = 1, .conversations = NIW_FEW_CONVERSATIONS};
     struct niw_port ports[PORTS];

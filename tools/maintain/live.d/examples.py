@@ -27,14 +27,15 @@ def check_example(folder: str, libraries: list[str]) -> None:
 
 def check_programs(folder: str, libraries: list[str]) -> None:
     """Each program of examples/c that has a text beside it prints that text; what it measures goes to standard error. pool.c has a library of its own, and
-    prints the same of a larger switch."""
+    prints the same of a larger switch; restarts.c prints the same by both libraries."""
     pooled = ["-DNIW_POOL", library.PORTABLE]
+    ways = {"pool": [pooled, [*pooled, *LARGER]], "restarts": [libraries, pooled]}
     for text in sorted(glob.glob(f"{EXAMPLES}/*.txt")):
         name = os.path.basename(text).removesuffix(".txt")
         wanted = read_text(text)
-        for linked in [pooled, [*pooled, *LARGER]] if name == "pool" else [libraries]:
+        for linked in ways.get(name, [libraries]):
             told = ran(build(os.path.join(folder, name), [os.path.join(EXAMPLES, f"{name}.c")], linked, *STRICT))
-            named = " ".join([f"examples/c/{name}.c", *(LARGER if LARGER[0] in linked else [])])
+            named = " ".join([f"examples/c/{name}.c", *(it for it in linked if it.startswith("-D"))])
             check(told.returncode == 0 and told.stdout == wanted, f"{named} prints what stands beside it", told.stdout + told.stderr)
 
 

@@ -1,7 +1,11 @@
 /* The calls whose instructions tools/maintain/sizes counts, each between count_from and count_to, in the order of its rows: PORTS ports in LAGS LAGs, each
- * of one aggregator and 256 conversations, which carry to a second system. What settles is the loop of examples/c/loop.h, over a chip that does nothing.
- * The status is 0 if each call did what its row says. */
+ * of one aggregator and 256 conversations, which carry to a second system. What settles is the loop of examples/c/loop.h, over a chip that does nothing; by
+ * -DROWS_OF_A_CHIP that of rows.h, and then each `settle` alone is counted. The status is 0 if each call did what its row says. */
+#ifdef ROWS_OF_A_CHIP
+#include "../../../examples/c/rows.h"
+#else
 #include "../../../examples/c/loop.h"
+#endif
 
 enum { ACTOR_STATE = 32 }; /* where a frame has it */
 
@@ -28,6 +32,27 @@ static void chip_send(struct loop *loop, uint16_t port, const uint8_t *octets, s
 static void chip_block(struct loop *loop, uint32_t which, bool blocked) { (void)loop, (void)which, (void)blocked; }
 static void chip_set_trunk(struct loop *loop, uint16_t lag, uint32_t which) { (void)loop, (void)lag, (void)which; }
 static void chip_flush(struct loop *loop, uint16_t lag) { (void)loop, (void)lag; }
+static void heard(struct loop *loop, uint16_t port, const uint8_t *octets, size_t length, uint32_t what) {
+    (void)loop, (void)port, (void)octets, (void)length, (void)what;
+}
+
+#ifdef ROWS_OF_A_CHIP
+static struct rows rows;
+static struct rows *rows_of(struct loop *loop) { return (void)loop, &rows; }
+static void chip_set_row(struct loop *loop, uint16_t lag, uint16_t row, uint16_t port) { (void)loop, (void)lag, (void)row, (void)port; }
+
+/* Whether each row of each LAG has a port, and each port its share. */
+static bool level_rows(void) {
+    bool has = true;
+    for (uint16_t lag = 0; lag < LAGS; lag++) {
+        has = has && rows.level[lag] != 0 && rows.level[lag] == here.trunk[lag];
+        for (uint16_t row = 0; row < ROWS; row++) has = has && rows.port[lag][row] != 0;
+    }
+    return has;
+}
+#else
+static bool level_rows(void) { return true; }
+#endif
 
 static uint16_t keys[LAGS];
 static struct niw_config config = {.priority = 32768, .mac = {2}, .first_marker = 1, .conversations = NIW_FEW_CONVERSATIONS};
@@ -67,6 +92,11 @@ static void come_up(void) {
 static void pass_until_one_is_left(void) { niw_ticks(&here.system, niw_ticks_until_due(&here.system).ticks - 1u); }
 
 #define COUNT(call) (count_from(), (void)(call), count_to())
+#ifdef ROWS_OF_A_CHIP
+#define COUNT_ALONE(call) (void)(call)
+#else
+#define COUNT_ALONE COUNT
+#endif
 
 int main(void) {
     peer = (struct niw_system)NIW_EMPTY; /* a program without start-up code has what its file has where zeros should be */
@@ -75,7 +105,7 @@ int main(void) {
     niw_new(&peer, &config, keys, LAGS, ports, PORTS);
     describe(1);
     here = (struct loop){.up = (uint32_t)all};
-    COUNT(niw_new(&here.system, &config, keys, LAGS, ports, PORTS));
+    COUNT_ALONE(niw_new(&here.system, &config, keys, LAGS, ports, PORTS));
     for (uint16_t port = 1; port <= PORTS; port++) {
         niw_set_link(&here.system, port, true);
         niw_set_link(&peer, port, true);
@@ -83,32 +113,37 @@ int main(void) {
     come_up();
     if (distributing() != PORTS || niw_due(&here.system).number || niw_ticks_until_due(&here.system).ticks < 3) return 1;
     settle(&here);
-    COUNT(niw_tick(&here.system));
+    settle(&here);
+    if (!level_rows()) return 13;
+    COUNT_ALONE(niw_tick(&here.system));
     COUNT(settle(&here));
     pass_until_one_is_left();
     if (niw_due(&here.system).number) return 2;
-    COUNT(niw_tick(&here.system));
+    COUNT_ALONE(niw_tick(&here.system));
     if (niw_due(&here.system).number != all) return 3;
     COUNT(settle(&here));
     if (niw_due(&here.system).number) return 4;
+#ifdef ROWS_OF_A_CHIP
+    return level_rows() ? 0 : 14;
+#endif
     pass_until_one_is_left();
     niw_tick(&here.system);
     if (niw_due(&here.system).number != all) return 5;
-    COUNT(niw_transmit(&here.system, PORTS, frame, sizeof frame));
+    COUNT_ALONE(niw_transmit(&here.system, PORTS, frame, sizeof frame));
     if (niw_due(&here.system).number != all >> 1) return 6;
-    COUNT(receive(PORTS));
+    COUNT_ALONE(receive(PORTS));
     if (distributing() != PORTS) return 7;
     came[PORTS][ACTOR_STATE] ^= NIW_STATE_SYNCHRONIZATION;
-    COUNT(receive(PORTS));
+    COUNT_ALONE(receive(PORTS));
     if (distributing() != PORTS - 1) return 8;
     came[PORTS][ACTOR_STATE] ^= NIW_STATE_SYNCHRONIZATION;
     for (uint16_t port = 1; port <= PORTS; port++) receive(port);
     niw_ticks(&here.system, 59);
     if (niw_defaulted(&here.system, 1).is || niw_defaulted(&here.system, PORTS).is) return 9;
-    COUNT(niw_tick(&here.system));
+    COUNT_ALONE(niw_tick(&here.system));
     if (!niw_defaulted(&here.system, 1).is || !niw_defaulted(&here.system, PORTS).is) return 10;
     come_up();
     if (distributing() != PORTS) return 11;
-    COUNT(niw_set_link(&here.system, PORTS, false));
+    COUNT_ALONE(niw_set_link(&here.system, PORTS, false));
     return distributing() == PORTS - 1 ? 0 : 12;
 }

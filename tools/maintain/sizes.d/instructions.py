@@ -37,6 +37,9 @@ CALLS = [
     "`niw_tick` at which all ports lose their partner",
     "`niw_set_link`: the link of a port goes down that distributes",
 ]
+# Those of a program with rows.
+WITH_ROWS = ["-DROWS_OF_A_CHIP"]
+ROWS_CALLS = [SETTLED, SENDS]
 NOTHING: dict[str, str] = {}
 # What the functions of C libraries begin with that copy and fill memory: glibc's memmove calls others.
 MEMORY = (b"mem", b"_wordcopy")
@@ -92,8 +95,8 @@ def between(told: Iterable[bytes]) -> Iterator[tuple[int, int]]:
             memory += function.startswith(MEMORY)
     
 
-def counts(it: Counted, words: list[str]) -> list[list[tuple[int, int]]]:
-    """Of each layout the counts of the calls, on a processor. The environment and the path of a program move its stack, and memcpy takes
+def counts(it: Counted, words: list[str], calls: list[str]) -> list[list[tuple[int, int]]]:
+    """Of each layout the counts of these calls, on a processor. The environment and the path of a program move its stack, and memcpy takes
     other ways where a struct is aligned otherwise: so each run has none, and one path."""
     found, emulator = [], shutil.which(it.runs[0]) or it.runs[0]
     with tempfile.TemporaryDirectory() as folder:
@@ -107,25 +110,33 @@ def counts(it: Counted, words: list[str]) -> list[list[tuple[int, int]]]:
             called = board.command([emulator, "-singlestep", "-d", "exec,nochain", *it.runs[1:]], os.path.basename(made))
             with subprocess.Popen(called, cwd=folder, env=NOTHING, stdin=subprocess.DEVNULL, stdout=subprocess.DEVNULL, stderr=subprocess.PIPE) as ran:
                 found.append(list(between(ran.stderr or ())))
-            if ran.returncode or len(found[-1]) != len(CALLS):
-                raise Missing(f"{it.name}: sizes.d/calls.c of {ports} ports ended with {ran.returncode} after {len(found[-1])} of {len(CALLS)} calls")
+            if ran.returncode or len(found[-1]) != len(calls):
+                raise Missing(f"{it.name}: sizes.d/calls.c of {ports} ports ended with {ran.returncode} after {len(found[-1])} of {len(calls)} calls")
     return found
 
 
-def of_a_second(ports: int, told: list[tuple[int, int]]) -> int:
+def of_a_second(ports: int, took: dict[str, int]) -> int:
     """What the loop takes in a second of so many ports that all distribute, with short timeouts: ten ticks, at one of which all send, and an
     LACPDU comes on each port, no two in one turn; settle follows each of these."""
-    took = {call: whole for call, (whole, _) in zip(CALLS, told)}
     return 9 * (took[TICK] + took[SETTLED]) + took[DUE] + took[SENDS] + ports * (took[TAKEN] + took[SETTLED])
 
 
+def taken(calls: list[str], told: list[tuple[int, int]]) -> dict[str, int]:
+    return {call: whole for call, (whole, _) in zip(calls, told)}
+
+
 def table(words: list[str]) -> str:
-    """The table: by -Os and these words, of each call, and each layout, the instructions; what a second takes; at last how many of them copy and
-    fill memory."""
-    found = [counts(it, words) for it in COUNTED]
-    rows = [[call, *("; ".join(f"{its[place][0]:,}" for its in of) for of in found)] for place, call in enumerate(CALLS)]
-    seconds = ["; ".join(f"{of_a_second(ports, its):,}" for (ports, _), its in zip(LAYOUTS, of)) for of in found]
-    rows.append(["**a second of the loop**, all ports distribute", *seconds])
-    shares = [[round(100 * memory / whole) for its in of for whole, memory in its] for of in found]
-    rows.append(["of 100 of these in `memcpy`, `memmove`, `memset`", *(f"{min(it)} to {max(it)}" for it in shares)])
-    return HEAD + "".join("|" + "|".join(row) + "|\n" for row in rows)
+    """The table: by -Os and these words, of each call, and each layout, the instructions; what a second takes, also with rows; at last how many of them copy
+    and fill memory."""
+    counted = [counts(it, words, CALLS) for it in COUNTED]
+    found = [[taken(CALLS, its) for its in of] for of in counted]
+    rows_found = [[taken(ROWS_CALLS, its) for its in counts(it, [*words, *WITH_ROWS], ROWS_CALLS)] for it in COUNTED]
+    seconds = [[of_a_second(ports, its) for (ports, _), its in zip(LAYOUTS, of)] for of in found]
+    rows_seconds = [[of_a_second(ports, {**its, **rows}) for (ports, _), its, rows in zip(LAYOUTS, of, with_rows)] for of, with_rows in zip(found, rows_found)]
+    told = [(call, [[its[call] for its in of] for of in found]) for call in CALLS] + [("**a second of the loop**, all ports distribute", seconds)]
+    told += [(f"{call}, with rows", [[its[call] for its in of] for of in rows_found]) for call in ROWS_CALLS]
+    told.append(("**a second of the loop**, with rows", rows_seconds))
+    lines = [[name, *("; ".join(f"{whole:,}" for whole in of) for of in values)] for name, values in told]
+    shares = [[round(100 * memory / whole) for its in of for whole, memory in its] for of in counted]
+    lines.append(["of 100 of these in `memcpy`, `memmove`, `memset`, without rows", *(f"{min(it)} to {max(it)}" for it in shares)])
+    return HEAD + "".join("|" + "|".join(line) + "|\n" for line in lines)

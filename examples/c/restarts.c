@@ -1,0 +1,388 @@
+/* What a switch by loop.h meets: its chip resets, writes to the chip fail, and its firmware starts again while the chip forwards, warm or cold. Two switches of
+ * 8 ports in 2 LAGs are joined by a cable at each port; their chips are played here, and some cables are silent. It counts the LACPDUs of a port, and tries
+ * long timeouts for an hour of ticks.
+ *
+ * By -DNIW_POOL, beside c/lag.c, its memory is one buffer: it runs on the board of pool.c, with 64 kB. */
+#include <stdio.h>
+
+#define PORTS 8
+#define LAGS 2
+#define ALL ((UINT32_C(1) << PORTS) - 1)
+#define FIRST UINT32_C(0x0f) /* the ports of LAG 1 */
+#define QUEUE 4              /* frames of a port that may wait */
+
+#include "loop.h"
+
+struct trapped { size_t length; uint8_t octets[NIW_FRAME]; };
+
+/* What a reset of the processor keeps, or what flash has: the last LACPDU of each port, with the tick at which it came, and the loop as it was told last. */
+struct kept {
+    struct niw_saved last[PORTS];
+    struct niw_port ports[PORTS];
+    struct loop loop;
+};
+
+struct box {
+    struct loop loop;
+    struct kept kept;
+    uint8_t number;
+    uint32_t trunk[LAGS], blocked; /* the registers of the chip, which stay while the firmware starts again */
+    uint32_t by_itself;            /* the ports that the chip forwards on as on any port */
+    bool forwards, dead;           /* `dead`: the chip is in its reset, and passes nothing */
+    bool failed;                   /* a write failed, and `chip_again` was not called since */
+    bool strayed, lied;
+    unsigned fails;  /* of 100 writes to the chip */
+    unsigned writes; /* that reached it */
+    struct niw_counters counters[PORTS];
+    struct niw_churn churn[PORTS];
+    struct trapped wait[PORTS][QUEUE];
+    unsigned first[PORTS], waiting[PORTS];
+    uint16_t lent; /* the port whose oldest frame the loop reads, or 0 */
+};
+
+static struct box one = {.number = 1}, two = {.number = 2};
+static uint32_t silent, chance = 1;
+
+static struct box *box_of(const struct loop *loop) {
+    return loop == &one.loop ? &one : &two;
+}
+
+/* A number below 100, the same on each processor. */
+static unsigned drawn(void) {
+    chance = chance * UINT32_C(1664525) + UINT32_C(1013904223);
+    return (chance >> 16) % 100;
+}
+
+/* Whether a write reaches the chip. */
+static bool writes(struct box *box) {
+    bool goes = !box->failed && !box->dead && drawn() >= box->fails;
+    box->failed = box->failed || !goes;
+    box->writes += goes;
+    return goes;
+}
+
+static uint32_t passes(const struct box *box) {
+    return (box->trunk[0] | box->trunk[1]) & ~box->blocked;
+}
+
+static const uint8_t *chip_next(struct loop *here, uint16_t *port, size_t *length) {
+    struct box *box = box_of(here);
+    if (box->lent) {
+        box->first[box->lent - 1] = (box->first[box->lent - 1] + 1) % QUEUE;
+        box->waiting[box->lent - 1]--;
+    }
+    for (box->lent = 1; box->lent <= PORTS; box->lent++) {
+        const struct trapped *oldest = &box->wait[box->lent - 1][box->first[box->lent - 1]];
+        if (box->waiting[box->lent - 1] == 0) continue;
+        *port = box->lent, *length = oldest->length;
+        return oldest->octets;
+    }
+    box->lent = 0;
+    return NULL;
+}
+
+/* A chip whose registers are not what the loop has says nothing to the peer. */
+static void chip_send(struct loop *here, uint16_t port, const uint8_t *frame, size_t length) {
+    struct box *box = box_of(here), *to = box == &one ? &two : &one;
+    struct niw_pdu pdu;
+    uint16_t at = (uint16_t)(port - 1);
+    if (box->failed || box->dead) return;
+    niw_count_sent(&box->counters[at], frame, length);
+    if (niw_decode(frame + 14, length - 14, &pdu).status == NIW_OK && pdu.subtype == NIW_SUBTYPE_LACPDU)
+        box->lied = box->lied || (pdu.actor.state & (NIW_STATE_COLLECTING | NIW_STATE_DISTRIBUTING) && !(passes(box) & bit_of(port)));
+    if (to->dead || silent & bit_of(port) || to->waiting[at] == QUEUE) return;
+    struct trapped *last = &to->wait[at][(to->first[at] + to->waiting[at]++) % QUEUE];
+    last->length = length;
+    memcpy(last->octets, frame, length);
+}
+
+static void chip_block(struct loop *here, uint32_t ports, bool blocked) {
+    struct box *box = box_of(here);
+    if (!writes(box)) return;
+    box->blocked = blocked ? box->blocked | ports : box->blocked & ~ports;
+    box->by_itself = blocked ? box->by_itself & ~ports : box->by_itself | (ports & here->alone);
+}
+
+static void chip_set_trunk(struct loop *here, uint16_t lag, uint32_t ports) {
+    struct box *box = box_of(here);
+    if (writes(box)) box->trunk[lag - 1] = ports;
+}
+
+static void chip_flush(struct loop *here, uint16_t lag) {
+    (void)lag, (void)writes(box_of(here));
+}
+
+/* Counts the frame, and keeps the last LACPDU. */
+static void heard(struct loop *here, uint16_t port, const uint8_t *frame, size_t length, uint32_t what) {
+    struct box *box = box_of(here);
+    struct niw_saved *last = &box->kept.last[port - 1];
+    niw_count_received(&box->counters[port - 1], frame, length, what);
+    if (what != NIW_RECEIVED_TOOK_LACPDU) return;
+    *last = (struct niw_saved){.port = port, .age = here->ticks};
+    memcpy(last->frame, frame, length < NIW_FRAME ? length : NIW_FRAME);
+}
+
+/* Tells the chip all of it anew. */
+static void chip_again(struct loop *here) {
+    const uint32_t all = UINT32_MAX >> (32 - PORTS);
+    chip_block(here, all, true);
+    for (uint16_t lag = 1; lag <= LAGS; lag++) {
+        here->trunk[lag - 1] = 0;
+        chip_set_trunk(here, lag, 0);
+        chip_flush(here, lag);
+    }
+    chip_block(here, all & here->alone, false);
+    settle(here);
+}
+
+static struct niw_config config_of(const struct box *box) {
+    return (struct niw_config){.priority = 32768, .mac = {2, 0, 0, 0, 0, box->number}, .first_marker = 1, .conversations = NIW_FEW_CONVERSATIONS};
+}
+
+static struct niw_port port_of(const struct box *box, uint16_t port) {
+    return (struct niw_port){port, 128, {2, 0, 0, 0, (uint8_t)port, box->number}, 0, true, true, true};
+}
+
+/* A start of the firmware from nothing: its ports join their LAGs, and their links are up. */
+static uint32_t start(struct box *box) {
+    struct niw_config config = config_of(box);
+    struct niw_port ports[PORTS];
+    for (uint16_t port = 1; port <= PORTS; port++) ports[port - 1] = port_of(box, port);
+    box->forwards = false;
+    uint32_t status = begin(&box->loop, &config, ports);
+    if (status != NIW_OK) return status;
+    for (uint16_t port = 1; port <= PORTS; port++) join(&box->loop, port, bit_of(port) & FIRST ? 1 : 2);
+    for (uint16_t port = 1; port <= PORTS; port++) set_link(&box->loop, port, true);
+    box->forwards = true;
+    return NIW_OK;
+}
+
+/* Notes what a warm start wants, before a planned restart; behind each turn, where a crash is to be one. What `join` and niw_set_mode gave a port the library
+ * knows, and which ports carry, with a partner, in which aggregator. */
+static void keep(struct box *box) {
+    struct niw_system *system = &box->loop.system;
+    for (uint16_t port = 1; port <= PORTS; port++) {
+        struct niw_actor own = niw_party(system, port);
+        uint64_t state = niw_state(system, port).number;
+        bool carries = niw_distributes(system, port).is && !niw_defaulted(system, port).is;
+        struct niw_port *kept = &box->kept.ports[port - 1];
+        *kept = port_of(box, port);
+        kept->priority = own.port_priority, kept->key = own.key, kept->aggregatable = own.aggregatable;
+        kept->active = state & NIW_STATE_ACTIVITY, kept->short_timeout = state & NIW_STATE_TIMEOUT;
+        box->kept.last[port - 1].aggregator = carries ? (uint16_t)niw_choice(system, port).number : 0;
+    }
+    box->kept.loop = box->loop;
+}
+
+/* Another start: what was kept `away` ticks ago goes on, and the chip is not written. Ports that did not carry begin anew. If refused, start from nothing. */
+static uint32_t resume(struct box *box, uint32_t away) {
+    const struct loop *old = &box->kept.loop;
+    struct loop *here = &box->loop;
+    struct niw_config config = config_of(box);
+    struct niw_saved saved[PORTS];
+    uint16_t keys[LAGS];
+    size_t count = 0;
+    for (uint16_t lag = 1; lag <= LAGS; lag++) keys[lag - 1] = lag;
+    for (uint16_t port = 1; port <= PORTS; port++) {
+        const struct niw_saved *last = &box->kept.last[port - 1];
+        if (last->aggregator == 0) continue;
+        saved[count] = *last;
+        saved[count++].age = old->ticks - last->age + away;
+    }
+    *here = (struct loop){.system = NIW_EMPTY, .ticks = SECOND, .up = old->up, .alone = old->alone, .leaving = old->leaving, .other_speed = old->other_speed};
+    memcpy(here->trunk, old->trunk, sizeof here->trunk);
+    memcpy(here->least, old->least, sizeof here->least);
+    for (uint16_t port = 1; port <= PORTS; port++) {
+        here->left[port] = here->ticks;
+        box->kept.last[port - 1].age = here->ticks - (old->ticks - box->kept.last[port - 1].age + away);
+    }
+    uint32_t status = niw_resume(&here->system, &config, keys, LAGS, box->kept.ports, PORTS, saved, count).status;
+    if (status != NIW_OK) return status;
+    for (uint16_t port = 1; port <= PORTS; port++)
+        if (here->up & ~here->alone & bit_of(port) && !niw_is_up(&here->system, port).is) niw_set_link(&here->system, port, true);
+    settle(here);
+    return NIW_OK;
+}
+
+/* Notes a port that passes data outside a trunk; one that was alone and joined does so until a write goes. */
+static void look(struct box *box) {
+    uint32_t may = box->trunk[0] | box->trunk[1] | box->loop.alone | (box->failed ? box->by_itself : 0);
+    if (box->forwards && ALL & ~box->blocked & ~may) box->strayed = true;
+}
+
+/* A tick of one end: its task, and what it owes a chip whose write failed. */
+static void pass_one(struct box *box) {
+    static struct niw_view views[NIW_MOST_PORTS];
+    if (!box->loop.system.live) return; /* the firmware is away */
+    turn(&box->loop, 1);
+    if (box->failed && !box->dead) {
+        box->failed = false;
+        chip_again(&box->loop);
+    }
+    niw_views(&box->loop.system, views, NIW_MOST_PORTS);
+    for (uint16_t i = 0; i < PORTS; i++) niw_churn_tick(&box->churn[i], views[i].up, views[i].state, views[i].partner_state);
+    look(box);
+}
+
+static bool carry(uint32_t ports) {
+    return (passes(&one) & passes(&two)) == ports;
+}
+
+/* So many ticks of 100 ms; answers after how many both chips pass these ports, and no others, from then on; else 0. */
+static unsigned run(unsigned ticks, uint32_t wanted) {
+    unsigned first = 0;
+    for (unsigned passed = 1; passed <= ticks; passed++) {
+        pass_one(&one);
+        pass_one(&two);
+        for (unsigned turns = 0; turns < 2; turns++) {
+            if (one.loop.system.live) turn(&one.loop, 0);
+            if (two.loop.system.live) turn(&two.loop, 0);
+        }
+        if (!carry(wanted) || passes(&one) != passes(&two)) first = 0;
+        else if (!first) first = passed;
+    }
+    return first;
+}
+
+/* The chip of the first switch is reset for so long. Each port would forward by itself behind it: it is kept from that until it is told all of it. */
+static void show_reset(unsigned ticks) {
+    unsigned out = 0;
+    one.dead = true, one.forwards = false;
+    for (unsigned passed = 1; passed <= ticks; passed++) {
+        run(1, 0);
+        if (!out && !passes(&two)) out = passed;
+    }
+    one.dead = one.failed = false;
+    one.trunk[0] = one.trunk[1] = one.blocked = one.by_itself = 0;
+    chip_again(&one.loop);
+    one.forwards = true;
+    if (out) printf("the chip resets for %u ticks: the peer has no port after %u; all carry", ticks, out);
+    else printf("the chip resets for %u ticks: the peer keeps its ports; all carry", ticks);
+    printf(" %u ticks behind it\n", run(400, ALL));
+}
+
+/* Each write of the first switch fails while the link of port 1 changes: nothing of LAG 2 was to be written. */
+static void show_failing(unsigned ticks) {
+    unsigned out = 0;
+    one.fails = 100;
+    set_link(&one.loop, 1, false);
+    for (unsigned passed = 1; passed <= ticks; passed++) {
+        run(1, 0);
+        if (!out && !two.trunk[1]) out = passed;
+    }
+    one.fails = 0;
+    set_link(&one.loop, 1, true);
+    if (out) printf("all writes fail for %u ticks: LAG 2, which did not change, is out at the peer after %u; all carry", ticks, out);
+    else printf("all writes fail for %u ticks: LAG 2 stays; all carry", ticks);
+    printf(" %u ticks behind it\n", run(400, ALL));
+}
+
+/* Links go and come, and ports leave and join, while so many of 100 writes of each switch fail; answers after how many ticks all carry behind it. */
+static unsigned mix(unsigned fails) {
+    one.fails = two.fails = fails;
+    for (unsigned passed = 0; passed < 300; passed++) {
+        struct loop *loop = drawn() % 2 ? &one.loop : &two.loop;
+        uint16_t port = (uint16_t)(1 + drawn() % PORTS);
+        unsigned what = drawn();
+        if (what < 5) set_link(loop, port, !(loop->up & bit_of(port)));
+        else if (what < 8) leave(loop, port);
+        else if (what < 12) join(loop, port, bit_of(port) & FIRST ? 1 : 2);
+        run(1, 0);
+    }
+    one.fails = two.fails = 0;
+    for (uint16_t port = 1; port <= PORTS; port++) {
+        struct loop *ends[] = {&one.loop, &two.loop};
+        for (unsigned end = 0; end < 2; end++) {
+            set_link(ends[end], port, true);
+            if ((ends[end]->alone | ends[end]->leaving) & bit_of(port)) join(ends[end], port, bit_of(port) & FIRST ? 1 : 2);
+        }
+    }
+    return run(400, ALL);
+}
+
+static void show_mixed(void) {
+    unsigned longest = 0, all = 0;
+    for (unsigned times = 0; times < 200; times++) {
+        unsigned ticks = mix(times % 70);
+        all += ticks > 0;
+        if (ticks > longest) longest = ticks;
+    }
+    printf("up to 69 of 100 writes fail at both ends, 200 times for 300 ticks: %u times all carry behind it, after %u ticks at most\n", all, longest);
+}
+
+/* The firmware of the first switch is away for so long. Port 8 hears nobody before it. Answers in how many ticks from then on not all others carried. */
+static void show_restart(bool warm, uint32_t away) {
+    unsigned empty = 0;
+    silent = bit_of(8);
+    run(100, ALL & ~silent);
+    keep(&one);
+    niw_free(&one.loop.system);
+    memset(one.waiting, 0, sizeof one.waiting);
+    one.lent = 0;
+    for (uint32_t passed = 0; passed < away; passed++) {
+        run(1, ALL & ~silent);
+        empty += !carry(ALL & ~silent);
+    }
+    unsigned before = one.writes;
+    uint32_t status = warm ? resume(&one, away) : start(&one);
+    printf("a %s start after %u ticks: %s, with %u writes to the chip", warm ? "warm" : "cold", (unsigned)away, niw_status_text(status), one.writes - before);
+    if (status == NIW_STALE) start(&one);
+    for (unsigned passed = 0; passed < 100; passed++) {
+        run(1, ALL & ~silent);
+        empty += !carry(ALL & ~silent);
+    }
+    silent = 0;
+    printf("; in %u ticks not all the others carried; port 8 is heard again: all carry after %u\n", empty, run(400, ALL));
+}
+
+static void show_long_timeouts(void) {
+    unsigned without = 0;
+    set_link(&one.loop, 1, false);
+    for (uint16_t port = 1; port <= PORTS; port++) {
+        niw_set_mode(&one.loop.system, port, true, false);
+        niw_set_mode(&two.loop.system, port, true, false);
+    }
+    run(10, 0);
+    set_link(&one.loop, 1, true);
+    printf("long timeouts: all carry after %u ticks", run(100, ALL));
+    for (unsigned passed = 0; passed < 36000; passed++) {
+        run(1, ALL);
+        without += !carry(ALL);
+    }
+    silent = 1;
+    printf("; not in %u ticks of an hour; port 1 falls silent: the others after %u", without, run(1000, ALL & ~silent));
+    silent = 0;
+    printf("; it is heard again: all after %u\n", run(1000, ALL));
+}
+
+static void show_counts(void) {
+    const struct niw_counters *of = &one.counters[1];
+    uint64_t received = of->lacpdus_received, sent = of->lacpdus_sent;
+    run(100, ALL);
+    printf("port 2 in 100 ticks: %u LACPDUs received, %u sent", (unsigned)(of->lacpdus_received - received), (unsigned)(of->lacpdus_sent - sent));
+    printf("; churn detection: %s\n", niw_churn_state_text(one.churn[1].actor.state));
+}
+
+int main(void) {
+#ifdef NIW_POOL
+    static _Alignas(16) uint8_t room[2 * NIW_MEMORY(PORTS, LAGS, NIW_FEW_CONVERSATIONS)];
+    niw_give_memory(room, sizeof room);
+#endif
+    if (start(&one) != NIW_OK || start(&two) != NIW_OK) return 1;
+    printf("two LAGs of 4 ports: all carry after %u ticks\n", run(100, ALL));
+    show_counts();
+    show_reset(5);
+    show_reset(50);
+    show_failing(20);
+    show_failing(40);
+    show_mixed();
+    show_restart(true, 10);
+    show_restart(true, 40);
+    show_restart(false, 10);
+    show_long_timeouts();
+    printf("%s\n", one.strayed || two.strayed ? "a port passed data outside a trunk" : "no port of a LAG passed data outside its trunk");
+    printf("%s\n", one.lied || two.lied ? "an LACPDU said what the chip had not" : "no LACPDU said Collecting or Distributing of a port that the chip had out");
+    niw_free(&one.loop.system);
+    niw_free(&two.loop.system);
+    return one.strayed || two.strayed || one.lied || two.lied;
+}

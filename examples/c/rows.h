@@ -1,0 +1,105 @@
+/* loop.h for a chip that looks up the port of a frame in a table, with a row for each hash bucket of each LAG. Frames of a bucket stay in order when the ports
+ * of the trunk change, behind markers, if the peer answers them. A program includes this file in place of loop.h, and gives two functions more. One aggregator
+ * a LAG will do, as there. hash_buckets.c is such a program.
+ *
+ * `chip_send` sends behind the data that rows sent on its port: it waits until each queue of the port is empty, or takes the same queue. Before `begin` the
+ * struct is all zero, and so are the rows of the chip. */
+#ifndef ROWS_H
+#define ROWS_H
+
+#define HAS_ROWS
+#include "loop.h"
+
+#define ROWS NIW_FEW_CONVERSATIONS
+#define WORST_DELAY 50 /* ticks that a frame can be on its way at most */
+
+struct rows {
+    uint16_t port[LAGS][ROWS];  /* what the chip has: the port of each row, or 0, with which it drops the frames */
+    uint16_t since[LAGS][ROWS]; /* the tick at which a row was cleared, its low 16 bits */
+    uint32_t level[LAGS];       /* the ports that have their shares, or 0 */
+    uint32_t asked[PORTS + 1];  /* the tick of the last probe */
+    struct niw_carried carried[ROWS]; /* of one call, as is `changed` */
+    bool changed[ROWS];
+};
+
+/* What the program gives besides. */
+static struct rows *rows_of(struct loop *here);
+static void chip_set_row(struct loop *here, uint16_t lag, uint16_t row, uint16_t port);
+
+static void set_row(struct loop *here, uint16_t lag, uint16_t row, uint16_t port) {
+    rows_of(here)->port[lag - 1][row] = port;
+    rows_of(here)->since[lag - 1][row] = (uint16_t)here->ticks;
+    chip_set_row(here, lag, row, port);
+}
+
+/* Whether the peer answers markers on each port; one that did not is asked each second. */
+static bool all_answer(struct loop *here, const uint16_t *ports, size_t count) {
+    uint32_t *asked = rows_of(here)->asked;
+    uint8_t frame[NIW_FRAME];
+    bool all = true;
+    for (size_t i = 0; i < count; i++) {
+        if (niw_answers(&here->system, ports[i]).number == NIW_ANSWERS_ANSWERED) continue;
+        all = false;
+        if (here->ticks - asked[ports[i]] < SECOND || !niw_probe(&here->system, ports[i], frame, sizeof frame).is) continue;
+        asked[ports[i]] = here->ticks;
+        chip_send(here, ports[i], frame, sizeof frame);
+    }
+    return all;
+}
+
+/* Moves rows until each port of the trunk has its share. While a row is clear nothing moves: it counts for no port in `carried`. */
+static void level(struct loop *here, uint16_t lag) {
+    struct rows *rows = rows_of(here);
+    uint16_t ports[PORTS], count = 0;
+    for (uint16_t row = 0; row < ROWS; row++) {
+        if (rows->port[lag - 1][row] == 0) return;
+        rows->carried[row] = (struct niw_carried){.port = rows->port[lag - 1][row], .load = 1};
+    }
+    for (uint16_t port = 1; port <= PORTS; port++)
+        if (here->trunk[lag - 1] & bit_of(port)) ports[count++] = port;
+    struct niw_move move = niw_next_move(ports, count, rows->carried, ROWS);
+    if (move.status == NIW_OK && !move.is) rows->level[lag - 1] = here->trunk[lag - 1];
+    if (!move.is || !all_answer(here, ports, count)) return;
+    while (move.is && niw_move_conversation(&here->system, lag, move.conversation, move.port) == NIW_OK) {
+        rows->carried[move.conversation].port = move.port;
+        set_row(here, lag, move.conversation, 0);
+        move = niw_next_move(ports, count, rows->carried, ROWS);
+    }
+}
+
+/* Before anything is sent: `port` is what the chip's rows hold, also those that were offered. */
+static void clear_rows(struct loop *here) {
+    struct rows *rows = rows_of(here);
+    for (uint16_t lag = 1; lag <= LAGS; lag++) {
+        niw_conversation_ports(&here->system, lag, rows->port[lag - 1], ROWS, rows->changed, ROWS);
+        for (uint16_t row = 0; row < ROWS; row++)
+            if (rows->changed[row]) set_row(here, lag, row, rows->port[lag - 1][row]);
+        if (rows->level[lag - 1] != here->trunk[lag - 1]) level(here, lag);
+    }
+}
+
+/* Offers a bucket. One that waits for longer than its frames can be on their way is freed without a response: its link died silently, or its peer answers
+ * none. */
+static struct niw_number offer(struct loop *here, uint16_t lag, uint16_t row) {
+    struct niw_number port = niw_offer_conversation(&here->system, lag, row);
+    if (port.status != NIW_HELD || (uint16_t)(here->ticks - rows_of(here)->since[lag - 1][row]) <= WORST_DELAY) return port;
+    niw_force(&here->system, lag, row);
+    return niw_offer_conversation(&here->system, lag, row);
+}
+
+/* Offers each bucket whose row is clear; the answered port goes into the row. */
+static void fill_rows(struct loop *here) {
+    struct rows *rows = rows_of(here);
+    for (uint16_t lag = 1; lag <= LAGS; lag++) {
+        if (here->trunk[lag - 1] == 0) continue;
+        for (uint16_t row = 0; row < ROWS; row++) {
+            if (rows->port[lag - 1][row] != 0) continue;
+            struct niw_number port = offer(here, lag, row);
+            if (port.status != NIW_OK) continue;
+            set_row(here, lag, row, (uint16_t)port.number);
+            rows->level[lag - 1] = 0;
+        }
+    }
+}
+
+#endif
