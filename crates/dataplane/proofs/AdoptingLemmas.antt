@@ -21,8 +21,7 @@ pub record Fits (s : SystemState) (agg : AggId) (conv port : ℕ) : Type 0 where
 abbrev Tests : Bool → Bool → Bool → Bool → Bool → Type 0
 Tests a b c d m = (a ≡ true) × (b ≡ true) × (c ≡ true) × (d ≡ true) × (m ≡ false)
 
-pub fits : (s : SystemState) (agg : AggId) (conv port : ℕ) → IsFreeIn s agg conv → adopt_result s agg conv port ≡ Ok (On port)
-    → Fits s agg conv port
+pub fits : (s : SystemState) (agg : AggId) (conv port : ℕ) → IsFreeIn s agg conv → adopt_result s agg conv port ≡ Ok (On port) → Fits s agg conv port
 fits s agg conv port free e = grind (arith, nat_tests)
 
 -- with other conversations, and the same next marker
@@ -30,8 +29,7 @@ still_fits : (s t : SystemState) (agg : AggId) (conv port c : ℕ) (a : Assignme
     → Fits t agg conv port
 still_fits s t agg conv port c a h f = grind (arith, nat_tests)
 
-pub now_in : (s t : SystemState) (agg : AggId) (conv : ℕ) (a : Assignment) → GivesAssignment agg conv a s t
-    → assignment_of t.table agg.0 conv ≡ a
+pub now_in : (s t : SystemState) (agg : AggId) (conv : ℕ) (a : Assignment) → GivesAssignment agg conv a s t → assignment_of t.table agg.0 conv ≡ a
 now_in s t agg conv a h = grind (arith, nat_tests)
 
 twice : (x : Bool) (a b r : Assignment) → cond x b (cond x a r) ≡ cond x b r
@@ -59,17 +57,15 @@ pub as_preferred : (gives : ℕ → ℕ → ℕ → Type 0) (agg : AggId) (conv 
 as_preferred gives agg conv port p s t f free h = grind (arith, nat_tests)
 
 -- a move from another port is accepted
-pub is_moved : (agg : AggId) (conv port p : ℕ) (s : SystemState) (answer : Result Unit SystemFault) (t : SystemState)
-    → Fits s agg conv port → assignment_of s.table agg.0 conv ≡ On p → (p ≡ port → ⊥)
-    → GivesOrRefuses agg conv (system_move_result s agg conv port) s answer t
+pub is_moved : (agg : AggId) (conv port p : ℕ) (s : SystemState) (answer : Result Unit SystemFault) (t : SystemState) → Fits s agg conv port
+    → assignment_of s.table agg.0 conv ≡ On p → (p ≡ port → ⊥) → GivesOrRefuses agg conv (system_move_result s agg conv port) s answer t
     → (answer ≡ Ok tt) × GivesAssignment agg conv (Wanted p (Some port)) s t
 is_moved agg conv port p s answer t f on differs h = grind (arith, nat_tests)
 
 -- a force of what waits is accepted
-pub is_forced : (agg : AggId) (conv port p : ℕ) (s : SystemState) (answer : Result Unit SystemFault) (t : SystemState)
-    → Fits s agg conv port → assignment_of s.table agg.0 conv ≡ Wanted p (Some port)
-    → GivesOrRefuses agg conv (system_force_result s agg conv) s answer t
-    → (answer ≡ Ok tt) × GivesAssignment agg conv (Free (Some port)) s t
+pub is_forced : (agg : AggId) (conv port p : ℕ) (s : SystemState) (answer : Result Unit SystemFault)
+    (t : SystemState) → Fits s agg conv port → assignment_of s.table agg.0 conv ≡ Wanted p (Some port)
+    → GivesOrRefuses agg conv (system_force_result s agg conv) s answer t → (answer ≡ Ok tt) × GivesAssignment agg conv (Free (Some port)) s t
 is_forced agg conv port p s answer t f on h = grind (arith, nat_tests)
 
 -- what is free in both is the same to the model
@@ -135,8 +131,7 @@ first_fits : (gives : ℕ → ℕ → ℕ → Type 0) (agg : AggId) (conv port p
 first_fits gives agg conv port p s t o = grind (arith, nat_tests)
 
 then_moved : (gives : ℕ → ℕ → ℕ → Type 0) (agg : AggId) (conv port p : ℕ) (s t u : SystemState) (moved : Result Unit SystemFault)
-    → Offered gives agg conv port p s t → Moved agg conv port t moved u
-    → (moved ≡ Ok tt) × GivesAssignment agg conv (Wanted p (Some port)) t u
+    → Offered gives agg conv port p s t → Moved agg conv port t moved u → (moved ≡ Ok tt) × GivesAssignment agg conv (Wanted p (Some port)) t u
 then_moved gives agg conv port p s t u moved o m = grind (arith, nat_tests, is_moved, first_fits, now_in, first_given)
 
 then_forced : (gives : ℕ → ℕ → ℕ → Type 0) (agg : AggId) (conv port p : ℕ) (s t u v : SystemState) (moved forced : Result Unit SystemFault)
@@ -174,22 +169,18 @@ pub placed_at_once : (gives : ℕ → ℕ → ℕ → Type 0) (agg : AggId) (con
     → p ≡ port → IsPlaced agg conv port s t
 placed_at_once gives agg conv port p s t free e o each same =
     let f = fits s agg conv port free e in
-    placed gives agg conv port s s t refl refl f
-    (subst (λ q. GivesAssignment agg conv (On q) s t) same (is_given gives agg conv port p s t f o))
+    placed gives agg conv port s s t refl refl f (subst (λ q. GivesAssignment agg conv (On q) s t) same (is_given gives agg conv port p s t f o))
     (subst (λ q. OffersEach gives agg conv s (Ok q) t) same each)
 
 pub placed_behind : (gives later : ℕ → ℕ → ℕ → Type 0) (agg : AggId) (conv port p q : ℕ) (s t u v w : SystemState)
     (moved forced : Result Unit SystemFault) → Offered gives agg conv port p s t → Moved agg conv port t moved u
-    → Forced agg conv u forced v → OffersConversation later agg conv v (Ok q) w → OffersEach later agg conv v (Ok q) w
-    → IsPlaced agg conv port s w
+    → Forced agg conv u forced v → OffersConversation later agg conv v (Ok q) w → OffersEach later agg conv v (Ok q) w → IsPlaced agg conv port s w
 placed_behind gives later agg conv port p q s t u v w moved forced o m h l each =
     let a = then_moved gives agg conv port p s t u moved o m in
     let b = then_forced gives agg conv port p s t u v moved forced o m h in
     let there : q ≡ port = as_preferred later agg conv port q v w b.2 (now_in u v agg conv (Free (Some port)) b.1) l in
-    let freed : GivesAssignment agg conv (Free (Some port)) s v =
-    both s u v agg conv (Wanted p (Some port)) (Free (Some port))
-    (both s t u agg conv (On p) (Wanted p (Some port)) (first_given gives agg conv port p s t o) a.1) b.1 in
+    let freed : GivesAssignment agg conv (Free (Some port)) s v = both s u v agg conv (Wanted p (Some port))
+    (Free (Some port)) (both s t u agg conv (On p) (Wanted p (Some port)) (first_given gives agg conv port p s t o) a.1) b.1 in
     let given = subst (λ n. GivesAssignment agg conv (On n) v w) there (is_given later agg conv port q v w b.2 l) in
     placed later agg conv port s v w freed.1 (same_flows s.table v.table agg.0 conv o.0.0 (Some port) freed.0 o.0.1) b.2
-    (both s v w agg conv (Free (Some port)) (On port) freed given)
-    (subst (λ n. OffersEach later agg conv v (Ok n) w) there each)
+    (both s v w agg conv (Free (Some port)) (On port) freed given) (subst (λ n. OffersEach later agg conv v (Ok n) w) there each)

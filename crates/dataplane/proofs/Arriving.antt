@@ -14,8 +14,7 @@ in_turn (x ∷ xs) (y ∷ ys) [] a b = absurd b
 in_turn (x ∷ xs) (y ∷ ys) (z ∷ zs) a (inl q) = elim a [ inl p ↦ inl (p.0 ∙ q.0, in_turn xs ys zs p.1 q.1) | inr r ↦ inr (in_turn (x ∷ xs) ys zs r q.1) ]
 in_turn (x ∷ xs) (y ∷ ys) (z ∷ zs) a (inr q) = inr (in_turn (x ∷ xs) (y ∷ ys) zs a q)
 
-both : {X : Type 0} (xs ys : List X) (a b : Option X) → a ≡ b → IsSubsequence xs ys
-    → IsSubsequence (option_to_list a ++ xs) (option_to_list b ++ ys)
+both : {X : Type 0} (xs ys : List X) (a b : Option X) → a ≡ b → IsSubsequence xs ys → IsSubsequence (option_to_list a ++ xs) (option_to_list b ++ ys)
 both xs ys a b e h = grind arith
 
 more : {X : Type 0} (xs ys : List X) (b : Option X) → IsSubsequence xs ys → IsSubsequence xs (option_to_list b ++ ys)

@@ -14,8 +14,7 @@ names now s agg r e = grind arith
 -- the best of the aggregators up to number n
 abbrev pub BestOf : Option AggId → SystemState → ℕ → Option Rank → Type 0
 BestOf now s n None = (agg : AggId) → IsAggregator s agg → agg.0 ≤ n → rank_in now s agg ≡ None
-BestOf now s n (Some r) =
-    IsAggregator s r.agg × (rank_in now s r.agg ≡ Some r) × (r.agg.0 ≤ n)
+BestOf now s n (Some r) = IsAggregator s r.agg × (rank_in now s r.agg ≡ Some r) × (r.agg.0 ≤ n)
     × ((other : AggId) (q : Rank) → IsAggregator s other → other.0 ≤ n → other ≢ r.agg → rank_in now s other ≡ Some q → is_before r q ≡ true)
 
 at_most : (other : AggId) (n : ℕ) → other.0 ≤ n + 1 → (other.0 ≤ n) ⊎ (other ≡ aggregator_numbered (n + 1))

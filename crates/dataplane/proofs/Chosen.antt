@@ -60,5 +60,4 @@ pub stays : (s : SystemState) (now g : AggId) (r q : Rank) → Carries (Some now
 stays s now g r q a apart is er eq =
     let same : a.1 ≡ r = same_Some a.1 r (sym a.2 ∙ er) in
     let before = subst (λ z. is_before z q ≡ true) same (a.3 now q is (λ e. apart (sym e)) eq) in
-    has_more r q ((names (Some now) s g r er).1 ∙ another g now (now.0 == g.0) refl apart)
-    ((names (Some now) s now q eq).1 ∙ itself now) before
+    has_more r q ((names (Some now) s g r er).1 ∙ another g now (now.0 == g.0) refl apart) ((names (Some now) s now q eq).1 ∙ itself now) before

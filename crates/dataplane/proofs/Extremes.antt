@@ -5,11 +5,10 @@ use Rattle.dataplane.proofs.Sums.{IsAmong, among}
 
 pub contained : (ports : List ℕ) (p : ℕ) → IsAmong p ports → Contains ports p
 contained [] p i = absurd i
-contained (q ∷ ports) p i =
-    elim i [
-      | inl e ↦ (0, omega arith, sym e)
-      | inr b ↦ let c : Contains ports p = contained ports p b in (suc c.0, omega (arith, c.1), c.2)
-    ]
+contained (q ∷ ports) p i = elim i [
+  | inl e ↦ (0, omega arith, sym e)
+  | inr b ↦ let c : Contains ports p = contained ports p b in (suc c.0, omega (arith, c.1), c.2)
+]
 
 -- a port of the most
 most_of : (f : ℕ → ℕ) (q : ℕ) (ports : List ℕ) → (a : ℕ) × IsAmong a (q ∷ ports) × ((p : ℕ) → IsAmong p (q ∷ ports) → f p ≤ f a)
@@ -59,8 +58,7 @@ far_apart q ports carried p r c none i j l =
     let k : (k : ℕ) × (k < length carried) × ((conversation_at carried k).port ≡ a.0) = on_port carried a.0 c (omega (arith, high, l)) in
     let one : (conversation_at carried k.0).load ≡ 1 = one_at carried k.0 c k.1 in
     let same : f (conversation_at carried k.0).port ≡ f a.0 = ap f k.2 in
-    none (record { conversation = k.0; port = b.0 })
-    (record {
+    none (record { conversation = k.0; port = b.0 }) (record {
       there = k.1;
       from = rw k.2 (contained (q ∷ ports) a.0 a.1);
       most = λ p h. let x : f p ≤ f a.0 = a.2 p (among (q ∷ ports) p h) in omega (arith, x, same);
@@ -73,11 +71,10 @@ far_apart q ports carried p r c none i j l =
 pub alike : (ports : List ℕ) (carried : List Carried) (p q : ℕ) → CountsOne carried → ((m : Move) → IsMove ports carried m → ⊥)
     → Contains ports p → Contains ports q → load_on p carried ≤ load_on q carried + 1
 alike [] carried p q c none i j = absurd (omega (arith, i.1))
-alike (r ∷ ports) carried p q c none i j =
-    elim (cases_lt (load_on q carried + 1) (load_on p carried)) [
-      | inl l ↦ absurd (far_apart r ports carried p q c none (among (r ∷ ports) p i) (among (r ∷ ports) q j) l)
-      | inr l ↦ l
-    ]
+alike (r ∷ ports) carried p q c none i j = elim (cases_lt (load_on q carried + 1) (load_on p carried)) [
+  | inl l ↦ absurd (far_apart r ports carried p q c none (among (r ∷ ports) p i) (among (r ∷ ports) q j) l)
+  | inr l ↦ l
+]
 
 pub none : (ports : List ℕ) (carried : List Carried) (m : Move) → CountsOne carried
     → ((p q : ℕ) → Contains ports p → Contains ports q → load_on p carried ≤ load_on q carried + 1) → IsMove ports carried m → ⊥

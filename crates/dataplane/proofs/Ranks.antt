@@ -26,8 +26,7 @@ total_groups = then_total (on_total (λ (g : Group). g.lower) total_ends) (on_to
 
 total_ranks : IsTotalOrder rank_cmp
 total_ranks = then_total (on_total (λ (r : Rank). r.on_defaults) bool_cmp_total)
-    (then_total (on_total (λ (r : Rank). r.ports.0) (back_total nat_cmp_total))
-    (then_total (on_total (λ (r : Rank). r.is_other) bool_cmp_total)
+    (then_total (on_total (λ (r : Rank). r.ports.0) (back_total nat_cmp_total)) (then_total (on_total (λ (r : Rank). r.is_other) bool_cmp_total)
     (then_total (on_total (λ (r : Rank). r.group) total_groups) (on_total (λ (r : Rank). r.agg.0) nat_cmp_total))))
 
 abbrev pick : Ordering → End → End → Group
@@ -42,11 +41,10 @@ exact_ends x y e =
     grind (arith, pick)
 
 exact_groups : (g h : Group) → group_cmp g h ≡ Equal → g ≡ h
-exact_groups g h e =
-    λ i. record {
-      lower = exact_ends g.lower h.lower (first_equal (end_cmp g.lower h.lower) (end_cmp g.upper h.upper) e) i;
-      upper = exact_ends g.upper h.upper (second_equal (end_cmp g.lower h.lower) (end_cmp g.upper h.upper) e) i;
-    }
+exact_groups g h e = λ i. record {
+  lower = exact_ends g.lower h.lower (first_equal (end_cmp g.lower h.lower) (end_cmp g.upper h.upper) e) i;
+  upper = exact_ends g.upper h.upper (second_equal (end_cmp g.lower h.lower) (end_cmp g.upper h.upper) e) i;
+}
 
 exact_flags : (a b : Bool) → bool_cmp a b ≡ Equal → a ≡ b
 exact_flags a b e = grind arith
@@ -97,9 +95,8 @@ not_greater : (o e : Ordering) → is_lt (ordering_then o e) ≡ true → o ≡ 
 not_greater o e h g = grind arith
 
 total_all : IsTotalOrder by_all
-total_all = then_total (on_total (λ (r : Rank). r.on_defaults) bool_cmp_total)
-    (then_total (on_total (λ (r : Rank). r.ports.0) (back_total nat_cmp_total))
-    (then_total (on_total (λ (r : Rank). r.is_other) bool_cmp_total) (on_total (λ (r : Rank). r.group) total_groups)))
+total_all = then_total (on_total (λ (r : Rank). r.on_defaults) bool_cmp_total) (then_total (on_total (λ (r : Rank). r.ports.0)
+    (back_total nat_cmp_total)) (then_total (on_total (λ (r : Rank). r.is_other) bool_cmp_total) (on_total (λ (r : Rank). r.group) total_groups)))
 
 -- ranks of which each comes before the other, but for its number, are equal but for their numbers
 pub alike : (r q p n : Rank) → p ≡ record r { agg = p.agg } → n ≡ record q { agg = n.agg } → is_before q p ≡ true → is_before r n ≡ true

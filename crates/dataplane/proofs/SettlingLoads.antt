@@ -36,11 +36,10 @@ falls_short f m b (p ∷ ports) h i l =
 
 term_within : (f : ℕ → ℕ) (a : ℕ) (ports : List ℕ) → IsAmong a ports → f a ≤ sum_by f ports
 term_within f a [] i = absurd i
-term_within f a (p ∷ ports) i =
-    elim i [
-      | inl e ↦ let s : f a ≡ f p = ap f e in rw (sum_by-cons f p ports) (omega (arith, s))
-      | inr c ↦ let rest : f a ≤ sum_by f ports = term_within f a ports c in rw (sum_by-cons f p ports) (omega (arith, rest))
-    ]
+term_within f a (p ∷ ports) i = elim i [
+  | inl e ↦ let s : f a ≡ f p = ap f e in rw (sum_by-cons f p ports) (omega (arith, s))
+  | inr c ↦ let rest : f a ≤ sum_by f ports = term_within f a ports c in rw (sum_by-cons f p ports) (omega (arith, rest))
+]
 
 no_sum : (f : ℕ → ℕ) (ports : List ℕ) → ((p : ℕ) → IsAmong p ports → f p ≡ 0) → sum_by f ports ≡ 0
 no_sum f ports h = let m : sum_by f ports ≤ 0 * length ports = at_most f 0 ports (λ p i. let z : f p ≡ 0 = h p i in omega (arith, z)) in omega (arith, m)
@@ -117,9 +116,9 @@ run ports carried (m ∷ ms) q n d c r enough few hi lo =
     let one : (conversation_at carried m.conversation).load ≡ 1 = one_at carried m.conversation c is.there in
     let f : ℕ → ℕ = λ p. load_on p carried in
     let g : ℕ → ℕ = λ p. load_on p (moved carried m) in
-    let s : Shift f g (conversation_at carried m.conversation).port m.port (conversation_at carried m.conversation).load = shift_of ports carried m is in
-    let u : Unequal f g (conversation_at carried m.conversation).port m.port q ports =
-    record {
+    let s : Shift f g (conversation_at carried m.conversation).port m.port (conversation_at carried m.conversation).load =
+    shift_of ports carried m is in
+    let u : Unequal f g (conversation_at carried m.conversation).port m.port q ports = record {
       differ = d;
       from = among ports (conversation_at carried m.conversation).port is.from;
       to = among ports m.port is.to;
@@ -133,9 +132,8 @@ run ports carried (m ∷ ms) q n d c r enough few hi lo =
     let total : sum_by g ports ≡ sum_by f ports = same_number f g (conversation_at carried m.conversation).port m.port q ports u in
     let ha : above q g ports + 1 ≤ n = above_falls f g (conversation_at carried m.conversation).port m.port q n ports u hi lo in
     let hb : below q g ports + 1 ≤ n = below_falls f g (conversation_at carried m.conversation).port m.port q n ports u hi lo in
-    let rest : length ms ≤ n - 1 =
-    run ports (moved carried m) ms q (n - 1) d (one_moved carried m.conversation m.port c) r.1 (omega (arith, total, enough)) (omega (arith, total, few))
-    (omega (arith, ha)) (omega (arith, hb)) in
+    let rest : length ms ≤ n - 1 = run ports (moved carried m) ms q (n - 1) d (one_moved carried m.conversation m.port c) r.1
+    (omega (arith, total, enough)) (omega (arith, total, few)) (omega (arith, ha)) (omega (arith, hb)) in
     omega (arith, rest, ha)
 
 plus : (f g : ℕ → ℕ) (ports : List ℕ) → sum_by (λ p. f p + g p) ports ≡ sum_by f ports + sum_by g ports
@@ -155,15 +153,14 @@ not_new port (p ∷ ports) n =
 
 on_one_port : (port : ℕ) (ports : List ℕ) → AllDiffer ports → sum_by (λ p. cond (eqb port p) 1 0) ports ≤ 1
 on_one_port port [] d = omega arith
-on_one_port port (p ∷ ports) d =
-    elim (eqb_tells port p) [
-      | inl s ↦ let z = hits port p 1 s.1 in
-          let rest : sum_by (λ p. cond (eqb port p) 1 0) ports ≡ 0 = rw s.1 (not_new p ports d.0) in
-          rw (sum_by-cons (λ p. cond (eqb port p) 1 0) p ports) (omega (arith, rest, z))
-      | inr s ↦ let z = misses port p 1 s.1 in
-          let rest : sum_by (λ p. cond (eqb port p) 1 0) ports ≤ 1 = on_one_port port ports d.1 in
-          rw (sum_by-cons (λ p. cond (eqb port p) 1 0) p ports) (omega (arith, rest, z))
-    ]
+on_one_port port (p ∷ ports) d = elim (eqb_tells port p) [
+  | inl s ↦ let z = hits port p 1 s.1 in
+      let rest : sum_by (λ p. cond (eqb port p) 1 0) ports ≡ 0 = rw s.1 (not_new p ports d.0) in
+      rw (sum_by-cons (λ p. cond (eqb port p) 1 0) p ports) (omega (arith, rest, z))
+  | inr s ↦ let z = misses port p 1 s.1 in
+      let rest : sum_by (λ p. cond (eqb port p) 1 0) ports ≤ 1 = on_one_port port ports d.1 in
+      rw (sum_by-cons (λ p. cond (eqb port p) 1 0) p ports) (omega (arith, rest, z))
+]
 
 -- each conversation is on one of the ports or on none
 all_loads : (ports : List ℕ) (carried : List Carried) → AllDiffer ports → CountsOne carried → sum_by (λ p. load_on p carried) ports ≤ length carried
@@ -171,9 +168,8 @@ all_loads ports [] d c = let z : sum_by (λ p. load_on p []) ports ≡ 0 = no_su
 all_loads ports (one ∷ carried) d c =
     let rest : sum_by (λ p. load_on p carried) ports ≤ length carried = all_loads ports carried d c.1 in
     let first : sum_by (λ p. cond (eqb one.port p) 1 0) ports ≤ 1 = on_one_port one.port ports d in
-    let split : sum_by (λ p. cond (eqb one.port p) 1 0 + load_on p carried) ports
-    ≡ sum_by (λ p. cond (eqb one.port p) 1 0) ports + sum_by (λ p. load_on p carried) ports =
-    plus (λ p. cond (eqb one.port p) 1 0) (λ p. load_on p carried) ports in
+    let split : sum_by (λ p. cond (eqb one.port p) 1 0 + load_on p carried) ports ≡ sum_by (λ p. cond (eqb one.port p) 1 0) ports + sum_by
+    (λ p. load_on p carried) ports = plus (λ p. cond (eqb one.port p) 1 0) (λ p. load_on p carried) ports in
     let same : sum_by (λ p. load_on p (one ∷ carried)) ports ≡ sum_by (λ p. cond (eqb one.port p) 1 0 + load_on p carried) ports =
     same_sum (λ p. load_on p (one ∷ carried)) (λ p. cond (eqb one.port p) 1 0 + load_on p carried) ports
     (λ p i. sum_by-cons (λ x. cond (eqb x.port p) x.load 0) one carried ∙ ap (λ w. cond (eqb one.port p) w 0 + load_on p carried) c.0) in

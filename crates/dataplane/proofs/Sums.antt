@@ -32,17 +32,16 @@ new_not_among p q (r ∷ ports) n a = elim a [ inl e ↦ (λ s. n.0 (sym s ∙ e
 pub one_differs : (f g : ℕ → ℕ) (a : ℕ) (ports : List ℕ) → AllDiffer ports → IsAmong a ports → ((p : ℕ) → p ≢ a → f p ≡ g p)
     → sum_by g ports + f a ≡ sum_by f ports + g a
 one_differs f g a [] d i h = absurd i
-one_differs f g a (p ∷ ports) d i h =
-    elim i [
-      | inl e ↦ let rest : sum_by f ports ≡ sum_by g ports = same_sum f g ports (λ q b. h q (λ s. new_not_among p q ports d.0 b (s ∙ e))) in
-          let fp : f p ≡ f a = ap f (sym e) in
-          let gp : g p ≡ g a = ap g (sym e) in
-          rw (sum_by-cons f p ports, sum_by-cons g p ports) (omega (arith, rest, fp, gp))
-      | inr b ↦ let rest : sum_by g ports + f a ≡ sum_by f ports + g a = one_differs f g a ports d.1 b h in
-          let ne : p ≢ a = λ s. new_not_among p a ports d.0 b (sym s) in
-          let one : f p ≡ g p = h p ne in
-          rw (sum_by-cons f p ports, sum_by-cons g p ports) (omega (arith, rest, one))
-    ]
+one_differs f g a (p ∷ ports) d i h = elim i [
+  | inl e ↦ let rest : sum_by f ports ≡ sum_by g ports = same_sum f g ports (λ q b. h q (λ s. new_not_among p q ports d.0 b (s ∙ e))) in
+      let fp : f p ≡ f a = ap f (sym e) in
+      let gp : g p ≡ g a = ap g (sym e) in
+      rw (sum_by-cons f p ports, sum_by-cons g p ports) (omega (arith, rest, fp, gp))
+  | inr b ↦ let rest : sum_by g ports + f a ≡ sum_by f ports + g a = one_differs f g a ports d.1 b h in
+      let ne : p ≢ a = λ s. new_not_among p a ports d.0 b (sym s) in
+      let one : f p ≡ g p = h p ne in
+      rw (sum_by-cons f p ports, sum_by-cons g p ports) (omega (arith, rest, one))
+]
 
 -- and but for two
 pub two_differ : (f g : ℕ → ℕ) (a b : ℕ) (ports : List ℕ) → AllDiffer ports → IsAmong a ports → IsAmong b ports → a ≢ b

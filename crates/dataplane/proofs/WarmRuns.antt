@@ -57,14 +57,11 @@ pub runs_all : {A : Type 0} (gives : ℕ → ℕ → ℕ → Type 0) (old new : 
 runs_all gives old new f xs i l h = subst (λ ys. Runs gives old (map f ys) new) (take_all i xs l) h
 
 -- the calls of one more item of a list
-pub flat_on : {A : Type 0} (gives : ℕ → ℕ → ℕ → Type 0) (old mid new : SystemState) (f : A → List Call) (xs : List A) (i : ℕ) (d : A)
-    → i < length xs → Runs gives old (flat_map f (take i xs)) mid → Runs gives mid (f (get_or xs i d)) new
-    → Runs gives old (flat_map f (take (i + 1) xs)) new
+pub flat_on : {A : Type 0} (gives : ℕ → ℕ → ℕ → Type 0) (old mid new : SystemState) (f : A → List Call) (xs : List A) (i : ℕ) (d : A) → i < length xs
+    → Runs gives old (flat_map f (take i xs)) mid → Runs gives mid (f (get_or xs i d)) new → Runs gives old (flat_map f (take (i + 1) xs)) new
 flat_on gives old mid new f xs i d l h made =
-    let more : flat_map f (take (i + 1) xs) ≡ flat_map f (take i xs) ++ f (get_or xs i d) =
-    ap (flat_map f) (take_more xs i d l)
-    ∙ (flat_map-append f (take i xs) (get_or xs i d ∷ [])
-    ∙ ap (λ calls. flat_map f (take i xs) ++ calls) (append-nil (f (get_or xs i d)))) in
+    let more : flat_map f (take (i + 1) xs) ≡ flat_map f (take i xs) ++ f (get_or xs i d) = ap (flat_map f) (take_more xs i d l)
+    ∙ (flat_map-append f (take i xs) (get_or xs i d ∷ []) ∙ ap (λ calls. flat_map f (take i xs) ++ calls) (append-nil (f (get_or xs i d)))) in
     subst (λ calls. Runs gives old calls new) (sym more) (runs_joined gives old mid new (flat_map f (take i xs)) (f (get_or xs i d)) h made)
 
 -- those of all
@@ -92,6 +89,5 @@ pub passing_on : (gives : ℕ → ℕ → ℕ → Type 0) (old mid next new : Sy
     → Runs gives next (heard (Before (ticks - n - 1)) saved) new → Runs gives old (passing saved ticks (n + 1)) new
 passing_on gives old mid next new saved ticks n h tick more =
     let rest = heard (Before (ticks - n - 1)) saved in
-    subst (λ m. Runs gives old (passing saved ticks m) new) (sym (one_more n))
-    (runs_joined gives old mid new (passing saved ticks n) (Tick ∷ rest) h
-    (runs_joined gives mid next new (Tick ∷ []) rest (one_call gives mid next Tick reply.Tick tick) more))
+    subst (λ m. Runs gives old (passing saved ticks m) new) (sym (one_more n)) (runs_joined gives old mid new (passing saved ticks n)
+    (Tick ∷ rest) h (runs_joined gives mid next new (Tick ∷ []) rest (one_call gives mid next Tick reply.Tick tick) more))

@@ -41,8 +41,7 @@ drives_frame : (gives : ℕ → ℕ → ℕ → Type 0) (old new : SystemState) 
 drives_frame gives old new [] [] h = subst (Frames old) (sym h) refl
 drives_frame gives old new [] (answer ∷ answers) h = absurd h
 drives_frame gives old new (call ∷ calls) [] h = absurd h
-drives_frame gives old new (call ∷ calls) (answer ∷ answers) h =
-    drives_frame gives h.0 new calls answers h.2
+drives_frame gives old new (call ∷ calls) (answer ∷ answers) h = drives_frame gives h.0 new calls answers h.2
     ∙ ap (λ (z : SystemState). with_table (with_system_ports z new.system_ports) new.table) (Step-frame gives old call answer h.0 h.1.step)
 
 drives_sound : (gives : ℕ → ℕ → ℕ → Type 0) (old new : SystemState) (calls : List Call) (answers : List Reply)
@@ -81,11 +80,8 @@ some_ticks : (long : Bool) → 0 < (if long then 920 else 60)
 some_ticks long = grind arith
 
 some_calls : (keys : List Key) (ports : List PortConfig) (saved : List SavedPort) → warm_calls keys ports saved ≡ [] → ⊥
-some_calls keys ports saved =
-    behind (map link_up ports) _
-    (behind (occupied saved keys ports (length keys)) _
-    (behind (others_starting saved ports) (passing saved (duration ports) (duration ports))
-    (ticks_pass saved (duration ports) (duration ports) (some_ticks _))))
+some_calls keys ports saved = behind (map link_up ports) _ (behind (occupied saved keys ports (length keys)) _ (behind (others_starting saved ports)
+    (passing saved (duration ports) (duration ports)) (ticks_pass saved (duration ports) (duration ports) (some_ticks _))))
 
 -- the first state of a run that ends in an accepted configuration is sound, and so is the last one
 sound_through : (gives : ℕ → ℕ → ℕ → Type 0) (first s : SystemState) (calls : List Call) (answers : List Reply) → IsFirst first
@@ -102,8 +98,7 @@ untouched left rest n e = grind arith
 
 module _ (s : SystemState) (system : SystemId) (saved : List SavedPort) where
   left_at : (ports : List PortConfig) (p : ℕ) (c : PortConfig) → first_touched s system saved ports ≡ None
-      → find_number configured_number ports p ≡ Some c
-      → (c.number ≡ p) × (is_left_at saved system c (machines_of c.number s) ≡ true)
+      → find_number configured_number ports p ≡ Some c → (c.number ≡ p) × (is_left_at saved system c (machines_of c.number s) ≡ true)
   left_at [] p c e f = absurd (none-some c f)
   left_at (x ∷ xs) p c e f =
       let l = untouched (is_left_at saved system x (machines_of x.number s)) (first_touched s system saved xs) x.number e in
@@ -122,8 +117,7 @@ module _ (s : SystemState) (system : SystemId) (saved : List SavedPort) where
     pub party : machines.party ≡ configured_party system c
     pub start : is_saved saved p ≡ false → is_at_start machines ≡ true
 
-  left_machines : (p : ℕ) (c : PortConfig) (o : Option Machines) → machines_of p s ≡ o → c.number ≡ p → is_left_at saved system c o ≡ true
-      → Left p c
+  left_machines : (p : ℕ) (c : PortConfig) (o : Option Machines) → machines_of p s ≡ o → c.number ≡ p → is_left_at saved system c o ≡ true → Left p c
   left_machines p c None there number e = absurd (false≢true e)
   left_machines p c (Some m) there number e =
       let both = and_parts (same_party m.party (configured_party system c)) (is_saved saved c.number || is_at_start m) e in
@@ -138,8 +132,7 @@ module _ (s : SystemState) (system : SystemId) (saved : List SavedPort) where
       → find_number configured_number ports p ≡ Some c → Left p c
   left_port ports p c e f =
       let l = left_at ports p c e f in
-      left_machines p c (machines_of p s) refl l.0
-      (subst (λ n. is_left_at saved system c (machines_of n s) ≡ true) l.0 l.1)
+      left_machines p c (machines_of p s) refl l.0 (subst (λ n. is_left_at saved system c (machines_of n s) ≡ true) l.0 l.1)
 
 -- a port that was saved, and what holds of each saved one
 both_hold : (P Q : SavedPort → Type 0) (saved : List SavedPort) → AllByRecursion P saved → AllByRecursion Q saved
@@ -223,13 +216,10 @@ module _ (gives : ℕ → ℕ → ℕ → Type 0) (config : Config) (saved : Lis
 
   left_of : (p : ℕ) (c : PortConfig) → find_number configured_number s.ports p ≡ Some c → Left s config.system saved p c
   left_of p c e =
-      left_port s config.system saved config.ports.items p c r.warmed.left
-      (subst (λ l. find_number configured_number l p ≡ Some c) own_ports e)
+      left_port s config.system saved config.ports.items p c r.warmed.left (subst (λ l. find_number configured_number l p ≡ Some c) own_ports e)
 
-  configured_at : (p : ℕ) (a : PortFacts) → (model_view s).port p ≡ Some a
-      → (c : PortConfig) × (find_number configured_number s.ports p ≡ Some c)
-  configured_at p a e =
-      mapped_there (configured_party s.system) (find_number configured_number s.ports p)
+  configured_at : (p : ℕ) (a : PortFacts) → (model_view s).port p ≡ Some a → (c : PortConfig) × (find_number configured_number s.ports p ≡ Some c)
+  configured_at p a e = mapped_there (configured_party s.system) (find_number configured_number s.ports p)
       (sym (sound.members.configured p) ∙ ap is_some e)
 
   heard_last : (taken : ℕ → Option TakenLacpdu) → AllByRecursion (WasTakenLast taken) saved → (p : ℕ) (a : PortFacts)
@@ -313,9 +303,8 @@ waits_if : (b : Bool) (port p n : ℕ) (a : Assignment) → (model_conversation 
 waits_if b port p n a h e = grind arith
 
 still_none : (a : Adoption) (old new : SystemState) → IsAdopted a old new → NoneWaits old → NoneWaits new
-still_none a old new o h g k p n e =
-    waits_if (eqb a.agg.0 g && eqb a.conv k) a.port p n (assignment_of old.table g k) (h g k p n)
-    (sym (ap model_conversation (o.given.0.states g k)) ∙ e)
+still_none a old new o h g k p n e = waits_if (eqb a.agg.0 g && eqb a.conv k) a.port p n (assignment_of old.table g k)
+    (h g k p n) (sym (ap model_conversation (o.given.0.states g k)) ∙ e)
 
 free_waits : (p n : ℕ) → model_conversation (Free None) ≡ Flushing p n → ⊥
 free_waits p n e = absurd cc
@@ -323,9 +312,8 @@ free_waits p n e = absurd cc
 -- So it is with all of them.
 adopts_frame : (old new : SystemState) (adoptions : List Adoption) → Adopts old adoptions new → new ≡ with_table old new.table
 adopts_frame old new [] h = subst (λ (z : SystemState). z ≡ with_table old z.table) (sym h) refl
-adopts_frame old new (a ∷ more) h =
-    adopts_frame h.0 new more h.2
-    ∙ ap (λ (z : SystemState). with_table z new.table) (is_adopted a old h.0 h.1).given.1
+adopts_frame old new (a ∷ more) h = adopts_frame h.0 new more h.2 ∙ ap (λ (z : SystemState). with_table z new.table)
+    (is_adopted a old h.0 h.1).given.1
 
 adopts_next : (old new : SystemState) (adoptions : List Adoption) → Adopts old adoptions new → new.table.next ≡ old.table.next
 adopts_next old new [] h = ap (λ (z : SystemState). z.table.next) h
@@ -333,21 +321,18 @@ adopts_next old new (a ∷ more) h = adopts_next h.0 new more h.2 ∙ (is_adopte
 
 adopts_none : (old new : SystemState) (adoptions : List Adoption) → Adopts old adoptions new → NoneWaits old → NoneWaits new
 adopts_none old new [] h none = subst NoneWaits (sym h) none
-adopts_none old new (a ∷ more) h none =
-    adopts_none h.0 new more h.2 (still_none a old h.0 (is_adopted a old h.0 h.1) none)
+adopts_none old new (a ∷ more) h none = adopts_none h.0 new more h.2 (still_none a old h.0 (is_adopted a old h.0 h.1) none)
 
 adopts_on : (old new : SystemState) (adoptions : List Adoption) → Adopts old adoptions new → (g k p : ℕ) → assignment_of old.table g k ≡ On p
     → assignment_of new.table g k ≡ On p
 adopts_on old new [] h g k p on = subst (λ (z : SystemState). assignment_of z.table g k ≡ On p) (sym h) on
-adopts_on old new (a ∷ more) h g k p on =
-    adopts_on h.0 new more h.2 g k p (still_on a old h.0 (is_adopted a old h.0 h.1) g k p on)
+adopts_on old new (a ∷ more) h g k p on = adopts_on h.0 new more h.2 g k p (still_on a old h.0 (is_adopted a old h.0 h.1) g k p on)
 
 each_on : (old new : SystemState) (adoptions : List Adoption) → Adopts old adoptions new → (a : Adoption) (i : ℕ) → i < length adoptions
     → slice_index_or adoptions i a ≡ a → assignment_of new.table a.agg.0 a.conv ≡ On a.port
 each_on old new [] h a i l e = absurd (omega (arith, l))
 each_on old new (b ∷ more) h a zero l e =
-    adopts_on h.0 new more h.2 a.agg.0 a.conv a.port
-    (subst (λ (z : Adoption). assignment_of h.0.table z.agg.0 z.conv ≡ On z.port) e
+    adopts_on h.0 new more h.2 a.agg.0 a.conv a.port (subst (λ (z : Adoption). assignment_of h.0.table z.agg.0 z.conv ≡ On z.port) e
     (now_in old h.0 b.agg b.conv (On b.port) (is_adopted b old h.0 h.1).given))
 each_on old new (b ∷ more) h a (suc i) l e = each_on h.0 new more h.2 a i (omega (arith, l)) e
 
@@ -385,23 +370,19 @@ module _ (gives : ℕ → ℕ → ℕ → Type 0) (before : View) (taken : ℕ �
 
   pub may_follow : (setup : SystemSetup) → IsAlikeSetup setup (model_setup new) → IsSuccessor setup before taken (model_view new)
   may_follow setup alike = record {
-    members = before_alike setup (model_setup new) (model_view new).port alike
-        (subst (λ (z : SystemState). Members (model_setup z) (model_view z).port) (sym stays)
-        (sound gives w.config w.saved w.resumed w.resumes).members);
+    members = before_alike setup (model_setup new) (model_view new).port alike (subst
+        (λ (z : SystemState). Members (model_setup z) (model_view z).port) (sym stays) (sound gives w.config w.saved w.resumed w.resumes).members);
     heard = λ p a e. heard_last gives w.config w.saved w.resumed w.resumes taken w.last p a (at_port p a e);
     on = λ g k p e. let c = w.each g k p e in
         ap model_conversation (each_on w.resumed new w.adoptions w.adopts (record { agg = record { 0 = g }; conv = k; port = p }) c.0 c.1 c.2);
-    waits = adopts_none w.resumed new w.adoptions w.adopts
-        (λ g k p n e. free_waits p n (sym (ap model_conversation (w.resumes.unused.free g k)) ∙ e));
-    next = subst (λ n. before.flows.next ≤ n)
-        (sym (adopts_next w.resumed new w.adoptions w.adopts ∙ w.resumes.unused.marker)) w.marker;
+    waits =
+        adopts_none w.resumed new w.adoptions w.adopts (λ g k p n e. free_waits p n (sym (ap model_conversation (w.resumes.unused.free g k)) ∙ e));
+    next = subst (λ n. before.flows.next ≤ n) (sym (adopts_next w.resumed new w.adoptions w.adopts ∙ w.resumes.unused.marker)) w.marker;
   }
 
   pub keeps_parties : ((p : ℕ) → party_at before p ≡ (model_setup new).party p) → KeepsParties before (model_view new)
-  keeps_parties own p =
-      subst (λ (z : SystemState). party_at (model_view z) p ≡ (model_setup z).party p) (sym stays)
-      (own_party gives w.config w.saved w.resumed w.resumes p)
-      ∙ sym (own p)
+  keeps_parties own p = subst (λ (z : SystemState). party_at (model_view z) p ≡ (model_setup z).party p)
+      (sym stays) (own_party gives w.config w.saved w.resumed w.resumes p) ∙ sym (own p)
 
   pub stays_apart : (p : ℕ) (a : PortFacts) → (model_view new).port p ≡ Some a → IsSome a.aggregator → a.partner.system ≢ a.party.system
   stays_apart p a e = apart_from gives w.config w.saved w.resumed w.resumes p a (at_port p a e)

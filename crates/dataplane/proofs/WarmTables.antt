@@ -46,8 +46,7 @@ drives_free : (gives : ℕ → ℕ → ℕ → Type 0) (marker : ℕ) (old new :
 drives_free gives marker old new [] [] w h f = subst (λ (s : SystemState). IsFree marker s.table) (sym h) f
 drives_free gives marker old new [] (answer ∷ answers) w h f = absurd h
 drives_free gives marker old new (call ∷ calls) [] w h f = absurd h
-drives_free gives marker old new (call ∷ calls) (answer ∷ answers) w h f =
-    drives_free gives marker h.0 new calls answers w.1 h.2
+drives_free gives marker old new (call ∷ calls) (answer ∷ answers) w h f = drives_free gives marker h.0 new calls answers w.1 h.2
     (Step-preserves gives old (StaysFree marker old) (call_frees gives marker old) call answer h.0 h.1.step w.0 f)
 
 warm_of_each : {A : Type 0} (f : A → List Call) → ((x : A) → AllByRecursion IsWarmCall (f x)) → (xs : List A)
@@ -72,10 +71,9 @@ filled_warm saved below key agg ports = grind (arith, warm_of_each, filled_by, w
 occupied_warm : (saved : List SavedPort) (keys : List Key) (ports : List PortConfig) (n : ℕ)
     → AllByRecursion IsWarmCall (occupied saved keys ports n)
 occupied_warm saved keys ports zero = tt
-occupied_warm saved keys ports (suc n) =
-    all-append IsWarmCall (occupied saved keys ports n) _ (occupied_warm saved keys ports n)
-    (all-append IsWarmCall (heard (Leading (n + 1)) saved) _ (heard_warm (Leading (n + 1)) saved)
-    (filled_warm saved (take n keys) (get_or keys n (record { 0 = 0 })) (n + 1) ports))
+occupied_warm saved keys ports (suc n) = all-append IsWarmCall (occupied saved keys ports n) _
+    (occupied_warm saved keys ports n) (all-append IsWarmCall (heard (Leading (n + 1)) saved) _
+    (heard_warm (Leading (n + 1)) saved) (filled_warm saved (take n keys) (get_or keys n (record { 0 = 0 })) (n + 1) ports))
 
 start_unless : (so : Bool) (c : PortConfig) → AllByRecursion IsWarmCall (if so then [] else starting_again c)
 start_unless so c = grind arith

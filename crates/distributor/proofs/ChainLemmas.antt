@@ -55,10 +55,9 @@ path_join next prev a [] i zs b h k = (h, k)
 path_join next prev a (y ∷ ys) i zs b h k = (h.0, path_join next prev y ys i zs b h.1 k)
 
 -- links that are written elsewhere
-pub path_kept : (next prev next' prev' : List ℕ) (a : ℕ) (xs : List ℕ) (b : ℕ)
-    → ((k : ℕ) → 0 < occurs k (a ∷ xs) → get_or next' k 0 ≡ get_or next k 0)
-    → ((k : ℕ) → 0 < occurs k (b ∷ xs) → get_or prev' k 0 ≡ get_or prev k 0)
-    → Path next prev a xs b → Path next' prev' a xs b
+pub path_kept : (next prev next' prev' : List ℕ)
+    (a : ℕ) (xs : List ℕ) (b : ℕ) → ((k : ℕ) → 0 < occurs k (a ∷ xs) → get_or next' k 0 ≡ get_or next k 0)
+    → ((k : ℕ) → 0 < occurs k (b ∷ xs) → get_or prev' k 0 ≡ get_or prev k 0) → Path next prev a xs b → Path next' prev' a xs b
 path_kept next prev next' prev' a [] b n p h = (n a (omega (arith, one_same a)) ∙ h.0, p b (omega (arith, one_same b)) ∙ h.1)
 path_kept next prev next' prev' a (x ∷ xs) b n p h = (
   (n a (omega (arith, one_same a)) ∙ h.0.0, p x (omega (arith, one_same x)) ∙ h.0.1),
@@ -79,25 +78,16 @@ retarget next prev a (y ∷ ys) i q h u v few none =
 bypass : (next prev : List ℕ) (e : ℕ) (ys : List ℕ) (i : ℕ) (zs : List ℕ) → Path next prev e ys i → Path next prev i zs e
     → ((k : ℕ) → occurs k (e ∷ (ys ++ i ∷ zs)) ≤ 1) → last_of e ys < length next → first_of zs e < length prev
     → Path (set next (last_of e ys) (first_of zs e)) (set prev (first_of zs e) (last_of e ys)) e (ys ++ zs) e
-bypass next prev e ys i [] h t few u v =
-    subst (λ l. Path (set next (last_of e ys) e) (set prev e (last_of e ys)) e l e) (sym (append-nil ys))
-    (retarget next prev e ys i e h u v (λ k. omega (arith, few k, occurs_append k ys (i ∷ [])))
+bypass next prev e ys i [] h t few u v = subst (λ l. Path (set next (last_of e ys) e) (set prev e (last_of e ys)) e l e)
+    (sym (append-nil ys)) (retarget next prev e ys i e h u v (λ k. omega (arith, few k, occurs_append k ys (i ∷ [])))
     (omega (arith, few e, one_same e, occurs_append e ys (i ∷ []))))
 bypass next prev e ys i (z ∷ zs) h t few u v =
     let p = last_of e ys in
     let joined = retarget next prev e ys i z h u v (λ k. omega (arith, few k, occurs_append k ys (i ∷ z ∷ zs)))
     (omega (arith, few z, one_same z, occurs_append z ys (i ∷ z ∷ zs))) in
-    let n : (k : ℕ) → 0 < occurs k (z ∷ zs) → get_or (set next p z) k 0 ≡ get_or next k 0 =
-    λ k l. get_or-set_other next p k z 0 (λ (m : k ≡ p). omega (
-      arith,
-      l,
-      few p,
-      last_occurs e ys,
-      occurs_append p ys (i ∷ z ∷ zs),
-      ap (λ j. occurs j (z ∷ zs)) m,
-    )) in
-    let b : (k : ℕ) → 0 < occurs k (e ∷ zs) → get_or (set prev z p) k 0 ≡ get_or prev k 0 =
-    λ k l. get_or-set_other prev z k p 0
+    let n : (k : ℕ) → 0 < occurs k (z ∷ zs) → get_or (set next p z) k 0 ≡ get_or next k 0 = λ k l. get_or-set_other next p k z 0
+    (λ (m : k ≡ p). omega (arith, l, few p, last_occurs e ys, occurs_append p ys (i ∷ z ∷ zs), ap (λ j. occurs j (z ∷ zs)) m)) in
+    let b : (k : ℕ) → 0 < occurs k (e ∷ zs) → get_or (set prev z p) k 0 ≡ get_or prev k 0 = λ k l. get_or-set_other prev z k p 0
     (λ (m : k ≡ z). omega (arith, l, few z, one_same z, occurs_append z ys (i ∷ z ∷ zs), ap (λ j. occurs j (e ∷ zs)) m)) in
     path_join _ _ e ys z zs e joined (path_kept next prev _ _ z zs e n b t.1)
 
@@ -114,9 +104,8 @@ insert next prev e i [] h few none u v w z = grind (arith, one_same, one, get_or
 insert next prev e i (x ∷ xs) h few none u v w z = grind (arith, one_same, one, occurs, get_or, set, get_or-set_other, get_or-set_same, length-set, path_kept)
 
 -- a slot is put right after the end of a ring
-pub path_in : (next prev : List ℕ) (e i : ℕ) (xs : List ℕ) → Path next prev e xs e
-    → ((k : ℕ) → occurs k (e ∷ xs) ≤ 1) → occurs i (e ∷ xs) ≡ 0
-    → i < length next → e < length next → i < length prev → get_or next e 0 < length prev
+pub path_in : (next prev : List ℕ) (e i : ℕ) (xs : List ℕ) → Path next prev e xs e → ((k : ℕ) → occurs k (e ∷ xs) ≤ 1)
+    → occurs i (e ∷ xs) ≡ 0 → i < length next → e < length next → i < length prev → get_or next e 0 < length prev
     → Path (set (set next i (get_or next e 0)) e i) (set (set prev i e) (get_or next e 0) i) e (i ∷ xs) e
 path_in next prev e i xs h few none u v w z =
     let after : get_or next e 0 ≡ first_of xs e = path_first next prev e xs e h in
@@ -136,10 +125,8 @@ put_chain chains c xs d = cond (eqb c d) xs (chains d)
 -- a number that comes in a list splits it
 pub split_at : (i : ℕ) (xs : List ℕ) → 0 < occurs i xs → (ys : List ℕ) × (zs : List ℕ) × (xs ≡ ys ++ i ∷ zs)
 split_at i [] l = absurd (omega (arith, l))
-split_at i (x ∷ xs) l = ⊎_elim
-    (λ (e : i ≡ x). ([], xs, ap (λ y. y ∷ xs) (sym e)))
-    (λ (n : i ≡ x → ⊥). (let r = split_at i xs (omega (arith, l, one_other i x n)) in (x ∷ r.0, r.1, ap (λ ws. x ∷ ws) r.2)))
-    (cases_eq i x)
+split_at i (x ∷ xs) l = ⊎_elim (λ (e : i ≡ x). ([], xs, ap (λ y. y ∷ xs) (sym e)))
+    (λ (n : i ≡ x → ⊥). (let r = split_at i xs (omega (arith, l, one_other i x n)) in (x ∷ r.0, r.1, ap (λ ws. x ∷ ws) r.2))) (cases_eq i x)
 
 -- each slot is once in the chain of its state, also after one has got another state
 pub homes_set : (states : List Assignment) (i : ℕ) (s : Assignment) (d : ℕ) (xs : List ℕ) → i < length states
@@ -170,9 +157,8 @@ module _ (count : ℕ) (states : List Assignment) (next prev : List ℕ) (h : Is
 
   pub member_below : (c k : ℕ) → 0 < occurs k (h.chains c) → k < count
   member_below c k l =
-      let past : count ≤ k
-      → ⊥ = λ m. false≢true (ap (is_in_chain c) (sym (get_or_past states k (Free None) (omega (arith, m, h.states_len))))
-      ∙ member_stands c k l) in
+      let past : count ≤ k → ⊥ =
+      λ m. false≢true (ap (is_in_chain c) (sym (get_or_past states k (Free None) (omega (arith, m, h.states_len)))) ∙ member_stands c k l) in
       omega (arith, past)
 
   end_apart : (c k : ℕ) → k ≡ count + c → occurs k (h.chains c) ≡ 0
@@ -181,33 +167,25 @@ module _ (count : ℕ) (states : List Assignment) (next prev : List ℕ) (h : Is
       omega (arith, no)
 
   pub few_on : (c k : ℕ) → occurs k ((count + c) ∷ h.chains c) ≤ 1
-  few_on c k = ⊎_elim
-      (λ (m : k ≡ count + c). omega (arith, end_apart c k m, cond_few (eqb k (count + c))))
-      (λ (n : k ≡ count + c → ⊥). omega (arith, one_other k (count + c) n, h.homes c k, cond_few (is_in_chain c (slot_state states k))))
-      (cases_eq k (count + c))
+  few_on c k = ⊎_elim (λ (m : k ≡ count + c). omega (arith, end_apart c k m, cond_few (eqb k (count + c)))) (λ (n : k ≡ count + c → ⊥). omega
+      (arith, one_other k (count + c) n, h.homes c k, cond_few (is_in_chain c (slot_state states k)))) (cases_eq k (count + c))
 
   -- a place is on one ring at most
   on_once : (c d k : ℕ) → 0 < occurs k ((count + c) ∷ h.chains c) → 0 < occurs k ((count + d) ∷ h.chains d) → c ≡ d
-  on_once c d k l m = ⊎_elim
-      (λ (e : k ≡ count + c). ⊎_elim
-      (λ (f : k ≡ count + d). omega (arith, e, f))
+  on_once c d k l m = ⊎_elim (λ (e : k ≡ count + c). ⊎_elim (λ (f : k ≡ count + d). omega (arith, e, f))
       (λ (g : k ≡ count + d → ⊥). absurd (omega (arith, e, member_below d k (omega (arith, m, one_other k (count + d) g)))))
-      (cases_eq k (count + d)))
-      (λ (n : k ≡ count + c → ⊥). (let low = member_below c k (omega (arith, l, one_other k (count + c) n)) in
+      (cases_eq k (count + d))) (λ (n : k ≡ count + c → ⊥). (let low = member_below c k (omega (arith, l, one_other k (count + c) n)) in
       let g : k ≡ count + d → ⊥ = λ f. omega (arith, f, low) in
       stands_once c d (slot_state states k) (member_stands c k (omega (arith, l, one_other k (count + c) n)))
-      (member_stands d k (omega (arith, m, one_other k (count + d) g)))))
-      (cases_eq k (count + c))
+      (member_stands d k (omega (arith, m, one_other k (count + d) g))))) (cases_eq k (count + c))
 
   off : (c d x k : ℕ) → eqb c d ≡ false → 0 < occurs x ((count + c) ∷ h.chains c) → 0 < occurs k ((count + d) ∷ h.chains d) → k ≡ x → ⊥
   off c d x k f l m e = false≢true (sym f ∙ eq-eqb c d (on_once c d k (subst (λ y. 0 < occurs y ((count + c) ∷ h.chains c)) (sym e) l) m))
 
   -- a place on a ring is a place
   pub on_below : (c k : ℕ) → c < 64 → 0 < occurs k ((count + c) ∷ h.chains c) → k < count + 64
-  on_below c k lt l = ⊎_elim
-      (λ (m : k ≡ count + c). omega (arith, m, lt))
-      (λ (n : k ≡ count + c → ⊥). omega (arith, member_below c k (omega (arith, l, one_other k (count + c) n))))
-      (cases_eq k (count + c))
+  on_below c k lt l = ⊎_elim (λ (m : k ≡ count + c). omega (arith, m, lt))
+      (λ (n : k ≡ count + c → ⊥). omega (arith, member_below c k (omega (arith, l, one_other k (count + c) n)))) (cases_eq k (count + c))
 
   module _ (c i : ℕ) (ys zs : List ℕ) (lt : c < 64) (split : h.chains c ≡ ys ++ i ∷ zs) where
     ring : Path next prev (count + c) (ys ++ i ∷ zs) (count + c)
@@ -220,17 +198,15 @@ module _ (count : ℕ) (states : List Assignment) (next prev : List ℕ) (h : Is
     before_on =
         let e : get_or prev i 0 ≡ last_of (count + c) ys = path_last next prev (count + c) ys i
         (path_split next prev (count + c) ys i zs (count + c) ring).0 in
-        subst (λ l. 0 < occurs (get_or prev i 0) ((count + c) ∷ l)) (sym split)
-        (subst (λ x. 0 < occurs x ((count + c) ∷ (ys ++ i ∷ zs))) (sym e)
-        (omega (arith, last_occurs (count + c) ys, occurs_append (last_of (count + c) ys) ys (i ∷ zs))))
+        subst (λ l. 0 < occurs (get_or prev i 0) ((count + c) ∷ l)) (sym split) (subst (λ x. 0 < occurs x ((count + c) ∷ (ys ++ i ∷ zs)))
+        (sym e) (omega (arith, last_occurs (count + c) ys, occurs_append (last_of (count + c) ys) ys (i ∷ zs))))
 
     pub after_on : 0 < occurs (get_or next i 0) ((count + c) ∷ h.chains c)
     after_on =
         let e : get_or next i 0 ≡ first_of zs (count + c) = path_first next prev i zs (count + c)
         (path_split next prev (count + c) ys i zs (count + c) ring).1 in
-        subst (λ l. 0 < occurs (get_or next i 0) ((count + c) ∷ l)) (sym split)
-        (subst (λ x. 0 < occurs x ((count + c) ∷ (ys ++ i ∷ zs))) (sym e)
-        (omega (arith, first_occurs zs (count + c), occurs_append (first_of zs (count + c)) ys (i ∷ zs))))
+        subst (λ l. 0 < occurs (get_or next i 0) ((count + c) ∷ l)) (sym split) (subst (λ x. 0 < occurs x ((count + c) ∷ (ys ++ i ∷ zs)))
+        (sym e) (omega (arith, first_occurs zs (count + c), occurs_append (first_of zs (count + c)) ys (i ∷ zs))))
 
     member : 0 < occurs i (h.chains c)
     member = subst (λ l. 0 < occurs i l) (sym split) (omega (arith, one_same i, occurs_append i ys (i ∷ zs)))
@@ -309,9 +285,8 @@ module _ (count : ℕ) (states : List Assignment) (next prev : List ℕ) (h : Is
     missed : (d k : ℕ) → 0 < occurs k ((count + d) ∷ h.chains d) → k ≡ i → ⊥
     missed d k l e = omega (arith, l, nowhere d, ap (λ x. occurs x ((count + d) ∷ h.chains d)) e)
 
-    pub in_joined : (d : ℕ) → d < 64
-        → Path (set (set next i (get_or next (count + c) 0)) (count + c) i) (set (set prev i (count + c)) (get_or next (count + c) 0) i)
-        (count + d) (put_chain h.chains c (i ∷ h.chains c) d) (count + d)
+    pub in_joined : (d : ℕ) → d < 64 → Path (set (set next i (get_or next (count + c) 0)) (count + c) i)
+        (set (set prev i (count + c)) (get_or next (count + c) 0) i) (count + d) (put_chain h.chains c (i ∷ h.chains c) d) (count + d)
     in_joined d l = chosen (λ xs. Path N P (count + d) xs (count + d)) (eqb c d) _ _
         (λ e. subst (λ x. Path N P (count + x) (i ∷ h.chains c) (count + x)) (eqb-true c d e)
         (path_in next prev (count + c) i (h.chains c) (h.joined c lt) (few_on c) (nowhere c) (omega (arith, inside, h.next_len))
@@ -351,8 +326,7 @@ module _ (count : ℕ) (states : List Assignment) (next prev : List ℕ) (h : Is
     put_in = record {
       few = h.few;
       states_len = length-set states i s ∙ h.states_len;
-      next_len = length-set (set next i (get_or next (count + c) 0)) (count + c) i
-          ∙ length-set next i (get_or next (count + c) 0) ∙ h.next_len;
+      next_len = length-set (set next i (get_or next (count + c) 0)) (count + c) i ∙ length-set next i (get_or next (count + c) 0) ∙ h.next_len;
       prev_len = length-set (set prev i (count + c)) (get_or next (count + c) 0) i ∙ length-set prev i (count + c) ∙ h.prev_len;
       chains = put_chain h.chains c (i ∷ h.chains c);
       joined = in_joined;

@@ -21,9 +21,8 @@ elsewhere : (change : Change) (c d : ℕ) (s : Assignment) → (d ≡ c → ⊥)
 elsewhere change c d s n h = grind arith
 
 -- a chain is changed, and its flags say what was found there
-pub change_flagged : (change : Change) (chain : ℕ) (olds states : List Assignment) (wanted flushing : List Bool) (w f : Bool)
-    → chain < 64 → IsFlagged olds wanted flushing
-    → ((k : ℕ) → slot_state states k ≡ changed_in_chain chain (after_change change) (slot_state olds k))
+pub change_flagged : (change : Change) (chain : ℕ) (olds states : List Assignment) (wanted flushing : List Bool) (w f : Bool) → chain < 64
+    → IsFlagged olds wanted flushing → ((k : ℕ) → slot_state states k ≡ changed_in_chain chain (after_change change) (slot_state olds k))
     → ((k : ℕ) → is_in_chain chain (slot_state states k) ≡ true → is_flagged w f (slot_state states k) ≡ true)
     → IsFlagged states (set wanted chain w) (set flushing chain f)
 change_flagged change chain olds states wanted flushing w f lt h changed finds = grind (arith, length-set, get_or-set_same, get_or-set_other)
@@ -50,8 +49,7 @@ flag_clear flags chain d flag lt long read same e = grind arith
 -- what passes nowhere is counted 0 times
 pub none_counted : (p : Assignment → Bool) (states : List Assignment) (count : ℕ) → ((k : ℕ) → p (slot_state states k) ≡ false)
     → 0 ≡ sum_below (λ k. bit (p (slot_state states k))) count
-none_counted p states count none = sym (same_sum (λ k. bit (p (slot_state states k))) (λ k. 0) count (λ k lt. ap bit (none k))
-    ∙ none_sum count)
+none_counted p states count none = sym (same_sum (λ k. bit (p (slot_state states k))) (λ k. 0) count (λ k lt. ap bit (none k)) ∙ none_sum count)
 
 -- where the flag 'Flushing' of a chain is clear, a response changes nothing in it
 released_none : (chain port n : ℕ) (w f : Bool) → f ≡ false → (s : Assignment) → (is_in_chain chain s ≡ true → is_flagged w f s ≡ true)

@@ -28,10 +28,9 @@ may_send : (agg conv port : ℕ) (ports : List ℕ) (s : Assignment) → MaySend
     → ((model_conversation s ≡ Conversation.Free) × OnlyListedDistribute agg ports agg port) ⊎ (model_conversation s ≡ Conversation.On port)
 may_send agg conv port ports s h = grind arith
 
-pub send_moves : (mac : List ℕ) (call : ModelCall) (t u : Table) (agg conv port : ℕ) (ports : List ℕ) → replies_frame call ≡ true
-    → MaySend ports (assignment_of t agg conv) port → SetsAssignment t u agg conv (state.On port)
-    → DistributorMoves mac call (OnlyListedDistribute agg ports) (model_distributor t) (Act.Sends_frame port agg conv
-    ∷ []) (model_distributor u)
+pub send_moves : (mac : List ℕ) (call : ModelCall) (t u : Table) (agg conv port : ℕ) (ports : List ℕ)
+    → replies_frame call ≡ true → MaySend ports (assignment_of t agg conv) port → SetsAssignment t u agg conv (state.On port)
+    → DistributorMoves mac call (OnlyListedDistribute agg ports) (model_distributor t) (Act.Sends_frame port agg conv ∷ []) (model_distributor u)
 send_moves mac call t u agg conv port ports r m h = (
   DistributorMove.Send agg conv port ∷ [],
   ((r, may_send agg conv port ports (assignment_of t agg conv) m), tt),
@@ -41,16 +40,10 @@ send_moves mac call t u agg conv port ports r m h = (
 
 -- a conversation changes while nothing is sent
 one_moves : (mac : List ℕ) (call : ModelCall) (t u : Table) (agg conv : ℕ) (s : Assignment) (m : ConversationMove)
-    → ConversationMoveAllowed mac call agg conv m (model_conversation (assignment_of t agg conv))
-    → model_conversation s ≡ conversation_after m → SetsAssignment t u agg conv s
-    → DistributorMoves mac call NoneDistributes (model_distributor t) [] (model_distributor u)
-one_moves mac call t u agg conv s m a e h = (
-  DistributorMove.Become agg conv m
-      ∷ [],
-  (a, tt),
-  refl,
-  seen_after t u agg conv s (conversation_after m) h e,
-)
+    → ConversationMoveAllowed mac call agg conv m (model_conversation (assignment_of t agg conv)) → model_conversation s ≡ conversation_after m
+    → SetsAssignment t u agg conv s → DistributorMoves mac call NoneDistributes (model_distributor t) [] (model_distributor u)
+one_moves mac call t u agg conv s m a e h =
+    (DistributorMove.Become agg conv m ∷ [], (a, tt), refl, seen_after t u agg conv s (conversation_after m) h e)
 
 -- what a move makes of a conversation
 pub is_moved : (next : Option ℕ) (ports : List ℕ) (to : ℕ) (old new : Assignment) → move_result next ports to old ≡ Ok new → (p : ℕ)
@@ -100,14 +93,12 @@ pub is_forced : (old new : Assignment) → force_result old ≡ Ok new → model
 is_forced old new h = grind arith
 
 pub force_moves : (mac : List ℕ) (t u : Table) (agg conv : ℕ) (s : Assignment) → force_result (assignment_of t agg conv) ≡ Ok s
-    → SetsAssignment t u agg conv s
-    → DistributorMoves mac (ModelCall.Force agg conv) NoneDistributes (model_distributor t) [] (model_distributor u)
+    → SetsAssignment t u agg conv s → DistributorMoves mac (ModelCall.Force agg conv) NoneDistributes (model_distributor t) [] (model_distributor u)
 force_moves mac t u agg conv s e h = one_moves mac (ModelCall.Force agg conv) t u agg conv s ConversationMove.Forced refl
     (is_forced (assignment_of t agg conv) s e) h
 
 pub rest_moves : (mac : List ℕ) (t u : Table) (agg conv : ℕ) (s : Assignment) → rest_result (assignment_of t agg conv) ≡ Ok s
-    → SetsAssignment t u agg conv s
-    → DistributorMoves mac (ModelCall.Force agg conv) NoneDistributes (model_distributor t) [] (model_distributor u)
+    → SetsAssignment t u agg conv s → DistributorMoves mac (ModelCall.Force agg conv) NoneDistributes (model_distributor t) [] (model_distributor u)
 rest_moves mac t u agg conv s e h = force_moves mac t u agg conv s (is_rested (assignment_of t agg conv) s e) h
 
 -- Every conversation changes alike.
@@ -118,13 +109,9 @@ keys_of w (suc n) = (n / w + 1, n % w) ∷ keys_of w n
 among_keys : (w g k n : ℕ) → 0 < g → k < w → slot_index w g k < n → IsAmong g k (keys_of w n)
 unfolding keys_of
 among_keys w g k zero p l lt = absurd (omega arith)
-among_keys w g k (suc n) p l lt = ⊎_elim
-    (λ (e : slot_index w g k ≡ n). inl (
-      omega (arith, p, sym (div-mul-add (g - 1) w k l) ∙ ap (λ x. x / w) e),
-      sym (mod-mul-add (g - 1) w k l) ∙ ap (λ x. x % w) e,
-    ))
-    (λ (m : slot_index w g k ≡ n → ⊥). inr (among_keys w g k n p l (omega (arith, m))))
-    (cases_eq (slot_index w g k) n)
+among_keys w g k (suc n) p l lt = ⊎_elim (λ (e : slot_index w g k ≡ n). inl
+    (omega (arith, p, sym (div-mul-add (g - 1) w k l) ∙ ap (λ x. x / w) e), sym (mod-mul-add (g - 1) w k l) ∙ ap (λ x. x % w) e))
+    (λ (m : slot_index w g k ≡ n → ⊥). inr (among_keys w g k n p l (omega (arith, m)))) (cases_eq (slot_index w g k) n)
 
 in_states : (t : Table) (g k : ℕ) → (assignment_of t g k ≡ state.Free None) ⊎ IsAmong g k (keys_of t.conversations (length t.states))
 in_states t g k =
@@ -132,20 +119,17 @@ in_states t g k =
     elim (cases_Bool (ltb 0 g && ltb k w)) [
       | inl e ↦ (let p = and_parts (ltb 0 g) (ltb k w) e in
           elim (cases_Bool (ltb (slot_index w g k) (length t.states))) [
-            | inl x ↦ inr (among_keys w g k (length t.states) (ltb-true 0 g p.0) (ltb-true k w p.1)
-                (ltb-true (slot_index w g k) (length t.states) x))
-            | inr y ↦ inl (cond-true (ltb 0 g && ltb k w) _ _ e
-                ∙ get_or_past t.states (slot_index w g k) (state.Free None) (ltb-false (slot_index w g k) (length t.states) y))
+            | inl x ↦ inr (among_keys w g k (length t.states) (ltb-true 0 g p.0) (ltb-true k w p.1) (ltb-true (slot_index w g k) (length t.states) x))
+            | inr y ↦ inl (cond-true (ltb 0 g && ltb k w) _ _ e ∙ get_or_past t.states (slot_index w g k)
+                (state.Free None) (ltb-false (slot_index w g k) (length t.states) y))
           ])
       | inr f ↦ inl (cond-false (ltb 0 g && ltb k w) _ _ f)
     ]
 
 -- what one conversation makes of itself
 abbrev pub Makes : List ℕ → ModelCall → ℕ → ℕ → Assignment → Assignment → Type 0
-Makes mac call g k old new =
-    (model_conversation new ≡ model_conversation old)
-    ⊎ ((m : ConversationMove) × ConversationMoveAllowed mac call g k m (model_conversation old)
-    × (model_conversation new ≡ conversation_after m))
+Makes mac call g k old new = (model_conversation new ≡ model_conversation old)
+    ⊎ ((m : ConversationMove) × ConversationMoveAllowed mac call g k m (model_conversation old) × (model_conversation new ≡ conversation_after m))
 
 -- each conversation makes what it makes of itself, by its aggregator and number
 pub each_moves : (mac : List ℕ) (call : ModelCall) (t u : Table) (change : ℕ → ℕ → Assignment → Assignment)
@@ -200,10 +184,9 @@ down_moves mac t u port h = all_moves mac (ModelCall.Set_link port false) t u (a
 
 makes_release : (mac : List ℕ) (port id g k : ℕ) (s : Assignment)
     → Makes mac (ModelCall.Receive port (Some (ControlMessage.Response mac port id))) g k s (after_release port id s)
-makes_release mac port id g k (state.Flushing p n preferred age) = chosen
-    (Makes mac (ModelCall.Receive port (Some (ControlMessage.Response mac port id))) g k (state.Flushing p n preferred age))
-    (eqb p port && eqb n id) _ _
-    (λ t. let b = and_parts (eqb p port) (eqb n id) t in inr (
+makes_release mac port id g k (state.Flushing p n preferred age) =
+    chosen (Makes mac (ModelCall.Receive port (Some (ControlMessage.Response mac port id))) g k (state.Flushing p n preferred age))
+    (eqb p port && eqb n id) _ _ (λ t. let b = and_parts (eqb p port) (eqb n id) t in inr (
       ConversationMove.Answered port id,
       (refl, ap (λ q. Conversation.Flushing q n) (eqb-true p port b.0) ∙ ap (λ i. Conversation.Flushing port i) (eqb-true n id b.1)),
       refl,
@@ -217,9 +200,8 @@ release_moves mac t u port id h = all_moves mac (ModelCall.Receive port (Some (C
     (after_release port id) refl (makes_release mac port id) h
 
 makes_tick : (mac : List ℕ) (call : ModelCall) (g k : ℕ) (s : Assignment) → Makes mac call g k s (after_tick s)
-makes_tick mac call g k (state.Flushing p n preferred age) =
-    chosen (Makes mac call g k (state.Flushing p n preferred age)) (ltb (age + 1) 30) _ _ (λ t. inl refl)
-    (λ f. inr (ConversationMove.Retry p n, refl, refl))
+makes_tick mac call g k (state.Flushing p n preferred age) = chosen (Makes mac call g k (state.Flushing p n preferred age))
+    (ltb (age + 1) 30) _ _ (λ t. inl refl) (λ f. inr (ConversationMove.Retry p n, refl, refl))
 makes_tick mac call g k s = inl refl
 
 pub tick_moves : (mac : List ℕ) (call : ModelCall) (t u : Table) → ChangesAssignments t u after_tick
@@ -231,17 +213,12 @@ is_flushed : (port id n : ℕ) (s : Assignment) → id ≡ n → model_conversat
 is_flushed port id n s e = grind arith
 
 pub mark_moves : (mac : List ℕ) (call : ModelCall) (t u : Table) (port id : ℕ) → replies_frame call ≡ true → id < 2 ^ 32 → Marks t u port id
-    → DistributorMoves mac call NoneDistributes (model_distributor t) (Act.Sends port (ControlMessage.Marker mac port id)
-    ∷ []) (model_distributor u)
+    → DistributorMoves mac call NoneDistributes (model_distributor t) (Act.Sends port (ControlMessage.Marker mac port id) ∷ []) (model_distributor u)
 mark_moves mac call t u port id r lt h = (
   DistributorMove.Mark port ∷ [],
   ((r, subst (λ n. n < 2 ^ 32) h.sent lt), tt),
   ap (λ n. Act.Sends port (ControlMessage.Marker mac port n) ∷ []) (sym h.sent),
-  λ i. record {
-    state = λ g k. (ap model_conversation (h.states g k) ∙ is_flushed port id t.next (assignment_of t g k) h.sent) i;
-    next =
-        h.next i;
-  },
+  λ i. record { state = λ g k. (ap model_conversation (h.states g k) ∙ is_flushed port id t.next (assignment_of t g k) h.sent) i; next = h.next i },
 )
 
 -- nothing changes

@@ -56,10 +56,9 @@ place_state t a c m = grind arith
 pub fold_places : {X : Type 0} {join : X → X → X} {unit : X} {fold : (ℕ → X) → ℕ → X} (h : IsFold join unit fold) (g : Assignment → X)
     (t : Table) {count : ℕ} {u : Table} → count ≡ t.aggs * t.conversations → t ≡ u → fold (λ k. g (slot_state t.states k)) count
     ≡ fold (λ a. fold (λ c. g (assignment_of u (a + 1) c)) u.conversations) u.aggs
-fold_places {fold} h g t e v =
-    ap (fold (λ k. g (slot_state t.states k))) e ∙ sym (fold_rows h (λ k. g (slot_state t.states k)) t.conversations t.aggs)
-    ∙ fold_same h _ _ t.aggs (λ a l. fold_same h _ _ t.conversations (λ c m. ap g (place_state t a c m)))
-    ∙ ap (λ u. fold (λ a. fold (λ c. g (assignment_of u (a + 1) c)) u.conversations) u.aggs) v
+fold_places {fold} h g t e v = ap (fold (λ k. g (slot_state t.states k))) e
+    ∙ sym (fold_rows h (λ k. g (slot_state t.states k)) t.conversations t.aggs) ∙ fold_same h _ _ t.aggs (λ a l. fold_same h _ _ t.conversations
+    (λ c m. ap g (place_state t a c m))) ∙ ap (λ u. fold (λ a. fold (λ c. g (assignment_of u (a + 1) c)) u.conversations) u.aggs) v
 
 -- the count over aggregators and numbers is that over the places
 pub counted_places : (passes : Assignment → Bool) (t : Table) {count : ℕ} {u : Table} → count ≡ t.aggs * t.conversations → t ≡ u

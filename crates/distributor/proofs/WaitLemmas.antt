@@ -52,10 +52,8 @@ pub soonest_member : (f : ℕ → Option ℕ) (n k : ℕ) → k < n → is_by (s
 unfolding soonest_below
 soonest_member f zero k lt = absurd (omega arith)
 soonest_member f (suc n) k lt = ⊎_elim
-    (λ (e : k ≡ n). by_right (soonest_below f n) (f n) (f k)
-    (subst (λ m. is_by (f n) (f m) ≡ true) (sym e) (by_itself (f n))))
-    (λ (a : k ≡ n → ⊥). (let low : k < n = omega (arith, lt, a) in by_left (soonest_below f n) (f n) (f k) (soonest_member f n k low)))
-    (cases_eq k n)
+    (λ (e : k ≡ n). by_right (soonest_below f n) (f n) (f k) (subst (λ m. is_by (f n) (f m) ≡ true) (sym e) (by_itself (f n)))) (λ (a : k ≡ n → ⊥).
+    (let low : k < n = omega (arith, lt, a) in by_left (soonest_below f n) (f n) (f k) (soonest_member f n k low))) (cases_eq k n)
 
 pub soonest_all : (f : ℕ → Option ℕ) (n : ℕ) (x : Option ℕ) → ((k : ℕ) → k < n → is_by x (f k) ≡ true) → is_by x (soonest_below f n) ≡ true
 unfolding soonest_below
@@ -108,11 +106,9 @@ module _ {chain count : ℕ} {states : List Assignment} {next prev : List ℕ} {
   seeking_on n here found' place is e read = subst (λ x. Seeking chain count states next prev end place x) (sym e) (record {
     standing = stand_next h.standing n place read;
     taken = taken_sooner count states found here h.taken (taken_here count states here at (walk_below h.standing n) is);
-    soonest = λ k none stands. ⊎_elim
-        (λ (m : k ≡ at). by_right found here (ticks_until_wanted (slot_state states k))
+    soonest = λ k none stands. ⊎_elim (λ (m : k ≡ at). by_right found here (ticks_until_wanted (slot_state states k))
         (subst (λ x. is_by here x ≡ true) (is ∙ ap (λ j. ticks_until_wanted (slot_state states j)) (sym m)) (by_itself here)))
-        (λ (m : k ≡ at → ⊥). by_left found here (ticks_until_wanted (slot_state states k))
-        (h.soonest k (less_rest h.standing n k m ∙ none) stands))
+        (λ (m : k ≡ at → ⊥). by_left found here (ticks_until_wanted (slot_state states k)) (h.soonest k (less_rest h.standing n k m ∙ none) stands))
         (cases_eq k at);
   })
 
@@ -121,13 +117,11 @@ module _ {chain count : ℕ} {states : List Assignment} {next prev : List ℕ} {
 -- the soonest of the chains below this one was found
 pub record SeekingChains (chain count : ℕ) (states : List Assignment) (found : Option ℕ) : Type 0 where
   pub taken : IsTaken count states found
-  pub soonest : (c k : ℕ) → c < chain → is_in_chain c (slot_state states k) ≡ true
-      → is_by found (ticks_until_wanted (slot_state states k)) ≡ true
+  pub soonest : (c k : ℕ) → c < chain → is_in_chain c (slot_state states k) ≡ true → is_by found (ticks_until_wanted (slot_state states k)) ≡ true
 
-pub chains_walked : (chain count : ℕ) (states : List Assignment) (found here found' : Option ℕ)
-    → SeekingChains chain count states found → found' ≡ sooner found here → IsTaken count states here
-    → ((k : ℕ) → is_in_chain chain (slot_state states k) ≡ true → is_by here (ticks_until_wanted (slot_state states k)) ≡ true)
-    → SeekingChains (chain + 1) count states found'
+pub chains_walked : (chain count : ℕ) (states : List Assignment) (found here found' : Option ℕ) → SeekingChains chain count states found
+    → found' ≡ sooner found here → IsTaken count states here → ((k : ℕ) → is_in_chain chain (slot_state states k) ≡ true
+    → is_by here (ticks_until_wanted (slot_state states k)) ≡ true) → SeekingChains (chain + 1) count states found'
 chains_walked chain count states found here found' h e taken soonest = grind arith
 
 pub chains_passed : (chain count : ℕ) (states : List Assignment) (wanted flushing : List Bool) (found : Option ℕ)

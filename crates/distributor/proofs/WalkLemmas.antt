@@ -79,8 +79,7 @@ few_long xs n once below = omega (arith, length_sum xs n below, small_sum (λ k.
 
 -- ---- changes
 
-pub stands_alike : (d : ℕ) (s t : Assignment) (o : Option ℕ) → assignment_port s ≡ o → assignment_port t ≡ o
-    → is_in_chain d s ≡ is_in_chain d t
+pub stands_alike : (d : ℕ) (s t : Assignment) (o : Option ℕ) → assignment_port s ≡ o → assignment_port t ≡ o → is_in_chain d s ≡ is_in_chain d t
 stands_alike d s t o h k = grind arith
 
 path_drop : (next prev : List ℕ) (a : ℕ) (ys rest : List ℕ) (b : ℕ) → Path next prev a (ys ++ rest) b → Path next prev (last_of a ys) rest b
@@ -128,10 +127,8 @@ module _ {chain count : ℕ} {states : List Assignment} {next prev : List ℕ} {
       (subst (λ l. Path next prev (count + chain) l (count + chain)) w.split (w.chained.joined chain w.lt))
 
   pub steps_left : steps next end count at ≡ length w.rest
-  steps_left =
-      ap (steps next end count) w.here
-      ∙ steps_path next prev (last_of end w.front) w.rest end count (path_drop next prev end w.front w.rest end ring) no_end
-      (few_long w.rest count few_rest rest_below)
+  steps_left = ap (steps next end count) w.here ∙ steps_path next prev (last_of end w.front) w.rest end count
+      (path_drop next prev end w.front w.rest end ring) no_end (few_long w.rest count few_rest rest_below)
 
   pub walk_over : at ≡ end → w.rest ≡ []
   walk_over e = over w.rest w.here no_end
@@ -167,22 +164,18 @@ module _ {chain count : ℕ} {states : List Assignment} {next prev : List ℕ} {
     read_state s r = get_or_read states at s (omega (arith, walk_below, w.chained.states_len)) r (Free None)
 
     pub read_next : (place : ℕ) → place ≡ get_or next at place → place ≡ first_of (after_first w.rest) end
-    read_next place r = get_or_read next at place (omega (arith, walk_below, w.chained.next_len)) r 0
-        ∙ path_first next prev at (after_first w.rest) end
-        (path_split next prev end w.front at (after_first w.rest) end
-        (subst (λ l. Path next prev end (w.front ++ l) end) on ring)).1
+    read_next place r =
+        get_or_read next at place (omega (arith, walk_below, w.chained.next_len)) r 0 ∙ path_first next prev at (after_first w.rest) end
+        (path_split next prev end w.front at (after_first w.rest) end (subst (λ l. Path next prev end (w.front ++ l) end) on ring)).1
 
     pub stands_here : is_in_chain chain (slot_state states at) ≡ true
-    stands_here = member_stands _ _ _ _ w.chained chain at
-        (omega (arith, comes, ap (occurs at) w.split, occurs_append at w.front w.rest))
+    stands_here = member_stands _ _ _ _ w.chained chain at (omega (arith, comes, ap (occurs at) w.split, occurs_append at w.front w.rest))
 
     pub walk_after : get_or next at 0 < count + 64
-    walk_after = on_below _ _ _ _ w.chained chain _ w.lt
-        (after_on _ _ _ _ w.chained chain at w.front (after_first w.rest) w.lt walk_split)
+    walk_after = on_below _ _ _ _ w.chained chain _ w.lt (after_on _ _ _ _ w.chained chain at w.front (after_first w.rest) w.lt walk_split)
 
     pub walk_before : get_or prev at 0 < count + 64
-    walk_before = on_below _ _ _ _ w.chained chain _ w.lt
-        (before_on _ _ _ _ w.chained chain at w.front (after_first w.rest) w.lt walk_split)
+    walk_before = on_below _ _ _ _ w.chained chain _ w.lt (before_on _ _ _ _ w.chained chain at w.front (after_first w.rest) w.lt walk_split)
 
     module _ (place : ℕ) (read : place ≡ get_or next at place) where
       -- the walk goes on, and nothing changes
@@ -270,11 +263,9 @@ module _ {chain : ℕ} {f : Assignment → Assignment} {count : ℕ} {olds state
   walk_found e k = w.noted k (ap (occurs k) (walk_over w.standing e))
 
   pub walk_ends : at ≡ end → states ≡ map (changed_in_chain chain f) olds
-  walk_ends e = ext_get_or (Free None) states (map (changed_in_chain chain f) olds) (w.standing.chained.states_len ∙ sym w.olds_len
-      ∙ sym (length-map olds (changed_in_chain chain f)))
-      (λ k lt. walk_all e k
-      ∙ sym (get_or-map (changed_in_chain chain f) olds k (Free None) (Free None)
-      (omega (arith, lt, w.standing.chained.states_len, w.olds_len))))
+  walk_ends e = ext_get_or (Free None) states (map (changed_in_chain chain f) olds)
+      (w.standing.chained.states_len ∙ sym w.olds_len ∙ sym (length-map olds (changed_in_chain chain f))) (λ k lt. walk_all e k
+      ∙ sym (get_or-map (changed_in_chain chain f) olds k (Free None) (Free None) (omega (arith, lt, w.standing.chained.states_len, w.olds_len))))
 
   -- the state at this place is changed
   abbrev pub walk_on : {new : Assignment} {next' prev' : List ℕ} {place : ℕ} (n : at ≡ end → ⊥)
@@ -368,9 +359,8 @@ module _ {chain : ℕ} {p : Assignment → Bool} {count : ℕ} {states : List As
   counting_few = omega (arith, h.counted, small_sum (seen p states h.standing.rest) count (seen_few p states h.standing.rest))
 
   pub counting_ends : at ≡ end → m ≡ sum_below (λ k. bit (p (slot_state states k))) count
-  counting_ends e = h.counted ∙ same_sum (seen p states h.standing.rest) (λ k. bit (p (slot_state states k))) count (λ k l.
-      ap bit (and_true (p (slot_state states k)) (eqb (occurs k h.standing.rest) 0)
-      (ap (λ xs. eqb (occurs k xs) 0) (walk_over h.standing e))))
+  counting_ends e = h.counted ∙ same_sum (seen p states h.standing.rest) (λ k. bit (p (slot_state states k))) count (λ k l. ap bit
+      (and_true (p (slot_state states k)) (eqb (occurs k h.standing.rest) 0) (ap (λ xs. eqb (occurs k xs) 0) (walk_over h.standing e))))
 
   module _ (n : at ≡ end → ⊥) where
     more : sum_below (seen p states (after_first h.standing.rest)) count ≡ bit (p (slot_state states at)) + sum_below
@@ -392,8 +382,7 @@ module _ {chain : ℕ} {p : Assignment → Bool} {count : ℕ} {states : List As
         → Counting chain p count states next prev end place m'
     counting_on b m' place e f read = record {
       standing = stand_next h.standing n place read;
-      counted = f ∙ ap (λ x. bit b + x) h.counted
-          ∙ sym (more ∙ ap (λ x. bit x + sum_below (seen p states h.standing.rest) count) e);
+      counted = f ∙ ap (λ x. bit b + x) h.counted ∙ sym (more ∙ ap (λ x. bit x + sum_below (seen p states h.standing.rest) count) e);
     }
 
 -- past the last slot a state reads as free
@@ -403,10 +392,8 @@ free_past count states long free k = grind (arith, get_or_past)
 
 -- if the end of every chain is a ring of its own and every slot is free, the slots are chained
 pub all_free : (count : ℕ) (states : List Assignment) (next prev : List ℕ) → count + 64 < 2 ^ 32 → length states ≡ count
-    → length next ≡ count + 64 → length prev ≡ count + 64
-    → ((k : ℕ) → count ≤ k → k < count + 64 → get_or next k 0 ≡ k) → ((k : ℕ) → count ≤ k → k < count + 64 → get_or prev k 0 ≡ k)
-    → ((k : ℕ) → k < count → slot_state states k ≡ Free None)
-    → IsChained count states next prev
+    → length next ≡ count + 64 → length prev ≡ count + 64 → ((k : ℕ) → count ≤ k → k < count + 64 → get_or next k 0 ≡ k) → ((k : ℕ)
+    → count ≤ k → k < count + 64 → get_or prev k 0 ≡ k) → ((k : ℕ) → k < count → slot_state states k ≡ Free None) → IsChained count states next prev
 all_free count states next prev few long nexts_long prevs_long nexts prevs free = record {
   few = few;
   states_len = long;

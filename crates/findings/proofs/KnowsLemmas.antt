@@ -102,9 +102,8 @@ many : (es : List LinkEnd) → length (take 64 es) ≡ 64 → 64 ≤ length es
 many es full = omega (arith, length-take 64 es)
 
 kept_known : (e : LinkEnd) (es : List LinkEnd) → is_among e (take 64 es) ≡ true → take 64 (with_end e es) ≡ take 64 es
-kept_known e es known =
-    ap (λ fs. take 64 fs)
-    (with_known e es (subst (λ fs. is_among e fs ≡ true) (take-append-drop 64 es) (among_more e (take 64 es) (drop 64 es) known)))
+kept_known e es known = ap
+    (λ fs. take 64 fs) (with_known e es (subst (λ fs. is_among e fs ≡ true) (take-append-drop 64 es) (among_more e (take 64 es) (drop 64 es) known)))
 
 kept_full : (e : LinkEnd) (es : List LinkEnd) → length (take 64 es) ≡ 64 → (b : Bool) → is_among e es ≡ b → take 64 (with_end e es) ≡ take 64 es
 kept_full e es full true known = ap (λ fs. take 64 fs) (with_known e es known)
@@ -144,8 +143,7 @@ known_end now h olds news was is left t known o k =
       sequence = o h k.sequence;
       exact = still_exact now h olds news t k.exact;
       ends = same_ends now olds news t ∙ (k.ends ∙ sym same);
-      counts = k.counts
-          ∙ ap (λ fs. counted (length fs)) (sym (ap (λ es. frames_beyond es (now ∷ h)) same ∙ beyond_known (first_ends h) now h among));
+      counts = k.counts ∙ ap (λ fs. counted (length fs)) (sym (ap (λ es. frames_beyond es (now ∷ h)) same ∙ beyond_known (first_ends h) now h among));
     }
 
 -- the frame is left out, since as many ends are kept as may be
@@ -181,19 +179,17 @@ new_end now h olds news was is w left t unknown room first o k =
     let kept : ends_of news ≡ first_ends h = same_ends now olds news t ∙ k.ends in
     let fewer : length (first_ends h) < 64 = subst (λ n. n < 64) (sym (length-map news (λ (w : KeptEnd). w.end)) ∙ ap length kept) room in
     let all : first_ends h ≡ firsts h = take_all 64 (firsts h) (omega (arith, few (firsts h) fewer)) in
-    let new : is_among (end_of now) (firsts h) ≡ false
-    = subst (λ es. is_among (end_of now) es ≡ false) all (among_first now h olds news was left false t unknown k) in
+    let new : is_among (end_of now) (firsts h) ≡ false = subst (λ es. is_among (end_of now) es ≡ false) all
+    (among_first now h olds news was left false t unknown k) in
     let longer : first_ends (now ∷ h) ≡ firsts h ++ end_of now ∷ [] = kept_new (end_of now) (firsts h) fewer new in
     let none : Unsent (end_of now) h = unsent (end_of now) (firsts h) h (covered h) new in
     record {
       sequence = o h k.sequence;
       exact = push_all (IsExact (now ∷ h)) news w (still_exact now h olds news t k.exact) (first.exact h (before_first (end_of now) h none));
       ends = pushed_ends news w ∙ (ap (λ es. es ++ w.end ∷ []) (kept ∙ all) ∙ (ap (λ e. firsts h ++ e ∷ []) first.end ∙ sym longer));
-      counts = k.counts
-          ∙ ap (λ fs. counted (length fs))
-          (ap (λ es. frames_beyond es h) all ∙ none_beyond (firsts h) h (covered h)
-          ∙ sym (ap (λ es. frames_beyond es (now ∷ h)) (longer ∙ sym (with_new (end_of now) (firsts h) new))
-          ∙ none_beyond (firsts (now ∷ h)) (now ∷ h) (covered (now ∷ h))));
+      counts = k.counts ∙ ap (λ fs. counted (length fs))
+          (ap (λ es. frames_beyond es h) all ∙ none_beyond (firsts h) h (covered h) ∙ sym (ap (λ es. frames_beyond es (now ∷ h))
+          (longer ∙ sym (with_new (end_of now) (firsts h) new)) ∙ none_beyond (firsts (now ∷ h)) (now ∷ h) (covered (now ∷ h))));
     }
 
 -- before the first frame

@@ -44,7 +44,6 @@ module _ (Sets : Setting → Type 0) (n : ℕ) (agg : AggId) (key : Key) (gives 
 
 pub comes_up_alone : (gives : ℕ → ℕ → ℕ → Type 0) → ComesUpAlone gives
 comes_up_alone gives u left agg old new calls replies states i x y s timed at served l c run alone each fed many there =
-    let key : key_of old.keys agg.0 ≡ Some u.own.key = s.occupants.key i agg.0 x at (ap occupied c)
-    ∙ ap (λ (p : Party). Some p.key) served.1 in
+    let key : key_of old.keys agg.0 ≡ Some u.own.key = s.occupants.key i agg.0 x at (ap occupied c) ∙ ap (λ (p : Party). Some p.key) served.1 in
     comes_up gives u left agg old new calls replies states i x y s timed at served l c run
     (alone_run (LeavesPort x.number) x.number agg u.own.key gives false old new calls replies states key run alone) each fed many there

@@ -29,9 +29,8 @@ same_number old new i x y s t e at there = grind (arith, nat_tests, port_numbers
 pub runs_ports : (Sets : Setting → Type 0) (gives : ℕ → ℕ → ℕ → Type 0) (old new : SystemState) (calls : List Call) (replies : List Reply)
     (states : List SystemState) → Runs Sets gives old calls replies states new → new.ports ≡ old.ports
 runs_ports Sets gives old new [] [] [] h = (asides_stand Sets old new h).1
-runs_ports Sets gives old new (call ∷ calls) (answer ∷ answers) (before ∷ states) h =
-    runs_ports Sets gives h.0 new calls answers states h.3 ∙ (ap (λ (s : SystemState). s.ports) (Step-frame gives before call answer h.0 h.2)
-    ∙ (asides_stand Sets old before h.1).1)
+runs_ports Sets gives old new (call ∷ calls) (answer ∷ answers) (before ∷ states) h = runs_ports Sets gives h.0 new calls answers states h.3
+    ∙ (ap (λ (s : SystemState). s.ports) (Step-frame gives before call answer h.0 h.2) ∙ (asides_stand Sets old before h.1).1)
 runs_ports Sets gives old new calls replies states h = absurd h
 
 -- the port after the calls

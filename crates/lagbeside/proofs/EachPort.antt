@@ -37,9 +37,8 @@ pub record KeptBySettling (P : ℕ → Machines → Type 0) : Type 0 where
 abbrev pub KeptByCall : (ℕ → Machines → Type 0) → Call → Reply → Type 0
 KeptByCall P Tick answer = (n : ℕ) (p q : Machines) → RunsToRest receive_rows (count_down p) q → P n p → P n q
 KeptByCall P (Set_link n up) answer = (max_links : Option ℕ) (p q : Machines) → SetsPortEnabled max_links up p q → P n p → P n q
-KeptByCall P (Receive n octets) answer = (v : Lacpdu) (p q : Machines) → answer ≡ reply.Receive (Ok TookLacpdu)
-    → IsFrame octets (Carries (pdu.Lacpdu v)) → ProcessesLacpdu v p q
-    → P n p → P n q
+KeptByCall P (Receive n octets) answer = (v : Lacpdu) (p q : Machines) → answer ≡ reply.Receive
+    (Ok TookLacpdu) → IsFrame octets (Carries (pdu.Lacpdu v)) → ProcessesLacpdu v p q → P n p → P n q
 KeptByCall P (Configure n change) answer = (p q : Machines) → ChangesParty change p q → P n p → P n q
 KeptByCall P Restart answer = (n : ℕ) (u : Setup) (q : Machines) → Starts (before_start u) q → P n q
 KeptByCall P (Transmit n) answer = (p : Machines) → reply_has_lacpdu n (Transmit n) answer ≡ true → P n p → P n (after_sending p)
@@ -90,8 +89,7 @@ detached_there : (m : MuxState) (c : Choice) (b : Bool) → is_unselected c ≡ 
     → (same_mux_state CollectingDistributing m && (not (is_selected c) || b)) ≡ false → m ≡ Detached
 detached_there m c b u w e f = grind (arith, nat_tests)
 
-mux_rested : (P : ℕ → Machines → Type 0) → KeptBySettling P → (n : ℕ) (p q : Machines) → RunsToRest (mux_rows false) p q → P n p
-    → AtRestAnd P n q
+mux_rested : (P : ℕ → Machines → Type 0) → KeptBySettling P → (n : ℕ) (p q : Machines) → RunsToRest (mux_rows false) p q → P n p → AtRestAnd P n q
 mux_rested P k n p q h a = (
   k.mux n false p q h a,
   λ e. unsynchronized q.mux (is_selected q.choice) (not (partner_synchronized q)) e h.2.1.1.1.0 h.2.1.1.1.1.1.0,
@@ -106,15 +104,13 @@ firsts : (P : ℕ → Machines → Type 0) (xs : List SystemPort) → OfEach (At
 firsts P [] a = tt
 firsts P (x ∷ xs) a = (a.0.0, firsts P xs a.1)
 
-given : (P : ℕ → Machines → Type 0) → Selects P → (s : SystemPort) (o : Option Choice)
-    → ((choice : Choice) → o ≡ Some choice → (is_selected s.port.choice ≡ false) × MayBeGiven choice s.port) → P s.number s.port
-    → P (with_choice s o).number (with_choice s o).port
+given : (P : ℕ → Machines → Type 0) → Selects P → (s : SystemPort) (o : Option Choice) → ((choice : Choice) → o ≡ Some choice
+    → (is_selected s.port.choice ≡ false) × MayBeGiven choice s.port) → P s.number s.port → P (with_choice s o).number (with_choice s o).port
 given P k s o h a = grind (arith, nat_tests)
 
-gives_one : (P : ℕ → Machines → Type 0) → Selects P → (l : List SystemPort) (i : ℕ) (s : SystemPort) (o : Option Choice)
-    → ((choice : Choice) → o ≡ Some choice → (is_selected s.port.choice ≡ false) × MayBeGiven choice s.port) → slice_get l i ≡ Some s
-    → OfEach P l
-    → OfEach P (slice_set l i (with_choice s o))
+gives_one : (P : ℕ → Machines → Type 0) → Selects P → (l : List SystemPort) (i : ℕ) (s : SystemPort)
+    (o : Option Choice) → ((choice : Choice) → o ≡ Some choice → (is_selected s.port.choice ≡ false) × MayBeGiven choice s.port)
+    → slice_get l i ≡ Some s → OfEach P l → OfEach P (slice_set l i (with_choice s o))
 gives_one P k l i s o h e a = grind (arith, nat_tests, all-set, with_choice, given, all-get)
 
 -- the port at the place is so
@@ -149,13 +145,11 @@ chooses_one P k aggs l i s e a =
 
 choosing_each : (P : ℕ → Machines → Type 0) → KeptBySettling P → (aggs : AggregatorsValue) (old new : List SystemPort)
     → ChoosesIn aggs old new → OfEach (AtRestAnd P) old → OfEach (AtRestAnd P) new
-choosing_each P k aggs old new h a =
-    subst (OfEach (AtRestAnd P)) (sym h.2) (choices_keep aggs (OfEach (AtRestAnd P)) (chooses_one P k aggs) (length h.0) h.0
-    (promotions_keep aggs (OfEach (AtRestAnd P)) (promotes_one P k aggs) (length aggs.keys) old h.0 h.1 a))
+choosing_each P k aggs old new h a = subst (OfEach (AtRestAnd P)) (sym h.2) (choices_keep aggs (OfEach (AtRestAnd P))
+    (chooses_one P k aggs) (length h.0) h.0 (promotions_keep aggs (OfEach (AtRestAnd P)) (promotes_one P k aggs) (length aggs.keys) old h.0 h.1 a))
 
-pub settling_each : (P : ℕ → Machines → Type 0) → KeptBySettling P → (old new : SystemState) → Settling old new
-    → OfEach P old.system_ports
-    → OfEach P new.system_ports
+pub settling_each : (P : ℕ → Machines → Type 0) → KeptBySettling P → (old new : SystemState)
+    → Settling old new → OfEach P old.system_ports → OfEach P new.system_ports
 settling_each P k old new h a =
     let one = h.0 in
     let two = h.2.0 in
@@ -163,32 +157,29 @@ settling_each P k old new h a =
     let four = h.2.2.2.0 in
     let five = h.2.2.2.2.0 in
     let ready = λ (p : Machines). ready_of three.keys (views three.system_ports) p.choice in
-    let a1 : OfEach (AtRestAnd P) one.system_ports =
-    zip_kept (RunsToRest (mux_rows false)) P (AtRestAnd P) (mux_rested P k) old.system_ports one.system_ports h.1.0 a in
-    let a2 : OfEach P two.system_ports = firsts P two.system_ports
-    (choosing_each P k (aggregators_value one) one.system_ports two.system_ports h.2.1.0 a1) in
+    let a1 : OfEach (AtRestAnd P) one.system_ports = zip_kept (RunsToRest (mux_rows false)) P
+    (AtRestAnd P) (mux_rested P k) old.system_ports one.system_ports h.1.0 a in
+    let a2 : OfEach P two.system_ports =
+    firsts P two.system_ports (choosing_each P k (aggregators_value one) one.system_ports two.system_ports h.2.1.0 a1) in
     let a3 : OfEach P three.system_ports = subst (λ (s : SystemState). OfEach P s.system_ports) (sym h.2.2.1) a2 in
-    let a4 : OfEach P four.system_ports = zip_kept (λ p q. RunsToRest (mux_rows (ready p)) p q) P P (λ n p. k.mux n (ready p) p)
-    three.system_ports four.system_ports h.2.2.2.1.0 a3 in
-    let a5 : OfEach P five.system_ports = zip_kept RunsPeriodic P P k.periodic four.system_ports five.system_ports h.2.2.2.2.1.0
-    a4 in
+    let a4 : OfEach P four.system_ports = zip_kept (λ p q. RunsToRest (mux_rows (ready p)) p q) P P
+    (λ n p. k.mux n (ready p) p) three.system_ports four.system_ports h.2.2.2.1.0 a3 in
+    let a5 : OfEach P five.system_ports = zip_kept RunsPeriodic P P k.periodic four.system_ports five.system_ports h.2.2.2.2.1.0 a4 in
     subst (OfEach P) (sym (last_slots old new h)) a5
 
 pub place_each : (P : ℕ → Machines → Type 0) (R : Machines → Machines → Type 0) (n : ℕ) → ((p q : Machines) → R p q → P n p → P n q)
     → (o : Option ℕ) (old new : List SystemPort) → port_index n old ≡ o → PortAtChangesBy R o old new → OfEach P old → OfEach P new
 place_each P R n k o old new e h a = grind (arith, nat_tests, found_place, all-get, OfEach, all-set)
 
-same_each : (P : ℕ → Machines → Type 0) (s t : SystemState) → t.system_ports ≡ s.system_ports → OfEach P s.system_ports
-    → OfEach P t.system_ports
+same_each : (P : ℕ → Machines → Type 0) (s t : SystemState) → t.system_ports ≡ s.system_ports → OfEach P s.system_ports → OfEach P t.system_ports
 same_each P s t e a = subst (OfEach P) (sym e) a
 
 is_told : (n : ℕ) (frame : List ℕ) → subtype frame ≡ 1 → ((n == n) && (subtype frame == 1)) ≡ true
 is_told n frame e = grind (arith, nat_tests)
 
 sends_each : (P : ℕ → Machines → Type 0) (n : ℕ) (up due : Bool) (i : ℕ) (x : SystemPort) (old : SystemState)
-    (answer : Option (List ℕ)) (new : SystemState) → KeptByCall P (Transmit n) (reply.Transmit (Ok answer))
-    → port_index n old.system_ports ≡ Some i → slice_get old.system_ports i ≡ Some x
-    → TransmitsIf up due i x old answer new → OfEach P old.system_ports → OfEach P new.system_ports
+    (answer : Option (List ℕ)) (new : SystemState) → KeptByCall P (Transmit n) (reply.Transmit (Ok answer)) → port_index n old.system_ports ≡ Some i
+    → slice_get old.system_ports i ≡ Some x → TransmitsIf up due i x old answer new → OfEach P old.system_ports → OfEach P new.system_ports
 sends_each P n false due i x old answer new k at e h a = same_each P old new (same_slots old new h.1) a
 sends_each P n true true i x old answer new k at e h a =
     let Q : SystemPort → Type 0 = λ y. P y.number y.port in
@@ -197,18 +188,15 @@ sends_each P n true true i x old answer new k at e h a =
     let told : reply_has_lacpdu n (Transmit n) (reply.Transmit (Ok answer)) ≡ true =
     ap (λ (o : Option (List ℕ)). reply_has_lacpdu n (Transmit n) (reply.Transmit (Ok o))) h.2 ∙ is_told n h.0 kind in
     let was : P n x.port = subst (λ m. P m x.port) numbered (all-get Q old.system_ports i x e a) in
-    subst (OfEach P) (sym (ap (λ (s : SystemState). s.system_ports) h.3))
-    (all-set Q old.system_ports i (record x { port = after_sending x.port }) a
-    (subst (λ m. P m (after_sending x.port)) (sym numbered) (k x.port told was)))
+    subst (OfEach P) (sym (ap (λ (s : SystemState). s.system_ports) h.3)) (all-set Q old.system_ports i
+    (record x { port = after_sending x.port }) a (subst (λ m. P m (after_sending x.port)) (sym numbered) (k x.port told was)))
 sends_each P n true false i x old answer new k at e h a = grind (arith, nat_tests)
 
-transmits_each : (P : ℕ → Machines → Type 0) (n : ℕ) (o : Option ℕ) (old : SystemState) (answer : Option (List ℕ)) (new :
-    SystemState)
-    → KeptByCall P (Transmit n) (reply.Transmit (Ok answer)) → port_index n old.system_ports ≡ o
+transmits_each : (P : ℕ → Machines → Type 0) (n : ℕ) (o : Option ℕ) (old : SystemState) (answer : Option (List ℕ))
+    (new : SystemState) → KeptByCall P (Transmit n) (reply.Transmit (Ok answer)) → port_index n old.system_ports ≡ o
     → TransmitsAt o old answer new → OfEach P old.system_ports → OfEach P new.system_ports
 transmits_each P n None old answer new k e h a = absurd h
-transmits_each P n (Some i) old answer new k e h a =
-    sends_each P n h.0.port.enabled (is_due h.0.port) i h.0 old answer new k e h.1 h.2 a
+transmits_each P n (Some i) old answer new k e h a = sends_each P n h.0.port.enabled (is_due h.0.port) i h.0 old answer new k e h.1 h.2 a
 
 -- what sending keeps of each port
 pub asked_each : (P : ℕ → Machines → Type 0) → ((n : ℕ) (p : Machines) → P n p → P n (after_sending p)) → (gives : ℕ → ℕ → ℕ → Type 0) (n : ℕ)
@@ -242,8 +230,7 @@ module _ (P : ℕ → Machines → Type 0) (s : KeptBySettling P) (n : ℕ) (oct
   by_frame (Faulty fault) f g = let d = subst (λ e. Performs e h.0.number (port_index n old.system_ports) old answer new) g h.4 in stays_so d.1
   by_frame (Carries (pdu.Lacpdu v)) f g =
       let d = subst (λ e. Performs e h.0.number (port_index n old.system_ports) old answer new) g h.4 in
-      settling_each P s d.1.0 new d.1.2
-      (place_each P (ProcessesLacpdu v) n (λ p q. k v p q (ap (λ (r : Received). reply.Receive (Ok r)) d.0) f)
+      settling_each P s d.1.0 new d.1.2 (place_each P (ProcessesLacpdu v) n (λ p q. k v p q (ap (λ (r : Received). reply.Receive (Ok r)) d.0) f)
       (port_index n old.system_ports) old.system_ports d.1.0.system_ports refl d.1.1.0 a)
   by_frame (Carries (pdu.Marker m)) f g = by_marker m (response_to m) g
 
@@ -287,39 +274,29 @@ module _ (index : Option ℕ) (octets : List ℕ) (old : SystemState) (new : Sys
   pub took : Took
   took = took_link h.0.port.enabled h.3
 
-pub first_each : (P : ℕ → Machines → Type 0) → KeptBySettling P
-    → ((n : ℕ) (u : Setup) (q : Machines) → Starts (before_start u) q → P n q) → (s : SystemState) → IsFirst s
-    → OfEach P s.system_ports
-first_each P k st s h =
-    settling_each P k (with_system_ports s h.0) s h.2
-    (zip_all (HasJustStarted s.system) (λ x. P x.number x.port) (λ c x m. st x.number (setup_of s.system c) x.port m.2) s.ports
-    h.0 h.1)
+pub first_each : (P : ℕ → Machines → Type 0) → KeptBySettling P → ((n : ℕ) (u : Setup) (q : Machines) → Starts (before_start u) q → P n q)
+    → (s : SystemState) → IsFirst s → OfEach P s.system_ports
+first_each P k st s h = settling_each P k (with_system_ports s h.0) s h.2
+    (zip_all (HasJustStarted s.system) (λ x. P x.number x.port) (λ c x m. st x.number (setup_of s.system c) x.port m.2) s.ports h.0 h.1)
 
 -- a tick
-pub Tick-each : (P Q : ℕ → Machines → Type 0) → KeptBySettling Q
-    → ((n : ℕ) (p q : Machines) → RunsToRest receive_rows (count_down p) q → P n p → Q n q)
-    → (gives : ℕ → ℕ → ℕ → Type 0) (old : SystemState) (answer : Reply) (new : SystemState) → Step gives old Tick answer new
-    → OfEach P old.system_ports → OfEach Q new.system_ports
+pub Tick-each : (P Q : ℕ → Machines → Type 0)
+    → KeptBySettling Q → ((n : ℕ) (p q : Machines) → RunsToRest receive_rows (count_down p) q → P n p → Q n q) → (gives : ℕ → ℕ → ℕ → Type 0)
+    (old : SystemState) (answer : Reply) (new : SystemState) → Step gives old Tick answer new → OfEach P old.system_ports → OfEach Q new.system_ports
 Tick-each P Q s k gives old reply.Tick new h a =
-    settling_each Q s h.0 new h.2 (zip_kept (λ p q. RunsToRest receive_rows (count_down p) q) P Q k old.system_ports
-    h.0.system_ports h.1.0 a)
+    settling_each Q s h.0 new h.2 (zip_kept (λ p q. RunsToRest receive_rows (count_down p) q) P Q k old.system_ports h.0.system_ports h.1.0 a)
 Tick-each P Q s k gives old answer new h a = absurd h
 
-pub Step-each : (P : ℕ → Machines → Type 0) → KeptBySettling P → (gives : ℕ → ℕ → ℕ → Type 0) (old : SystemState) (call : Call)
-    (answer : Reply) (new : SystemState) → KeptByCall P call answer → Step gives old call answer new → OfEach P old.system_ports
-    → OfEach P new.system_ports
+pub Step-each : (P : ℕ → Machines → Type 0) → KeptBySettling P → (gives : ℕ → ℕ → ℕ → Type 0) (old : SystemState) (call : Call) (answer : Reply)
+    (new : SystemState) → KeptByCall P call answer → Step gives old call answer new → OfEach P old.system_ports → OfEach P new.system_ports
 Step-each P s gives old Tick answer new k h a = Tick-each P P s k gives old answer new h a
-Step-each P s gives old (Set_link n up) (reply.SetLink (Ok done)) new k h a =
-    settling_each P s h.0 new h.2 (place_each P (SetsPortEnabled old.max_links up) n (k old.max_links) (port_index n
-    old.system_ports)
-    old.system_ports h.0.system_ports refl h.1.0 a)
+Step-each P s gives old (Set_link n up) (reply.SetLink (Ok done)) new k h a = settling_each P s h.0 new h.2 (place_each P
+    (SetsPortEnabled old.max_links up) n (k old.max_links) (port_index n old.system_ports) old.system_ports h.0.system_ports refl h.1.0 a)
 Step-each P s gives old (Set_link n up) (reply.SetLink (Err fault)) new k h a = same_each P old new (same_slots old new h.same) a
-Step-each P s gives old (Receive n octets) (reply.Receive (Ok answer)) new k h a =
-    receives_each P s n octets old answer new k h a
+Step-each P s gives old (Receive n octets) (reply.Receive (Ok answer)) new k h a = receives_each P s n octets old answer new k h a
 Step-each P s gives old (Receive n octets) (reply.Receive (Err fault)) new k h a = same_each P old new (same_slots old new h.same) a
-Step-each P s gives old (Configure n change) (reply.Configure (Ok true)) new k h a =
-    settling_each P s h.0 new h.2 (place_each P (ChangesParty change) n k (port_index n old.system_ports) old.system_ports
-    h.0.system_ports refl h.1.0 a)
+Step-each P s gives old (Configure n change) (reply.Configure (Ok true)) new k h a = settling_each P s h.0 new h.2
+    (place_each P (ChangesParty change) n k (port_index n old.system_ports) old.system_ports h.0.system_ports refl h.1.0 a)
 Step-each P s gives old (Configure n change) (reply.Configure (Ok false)) new k h a = same_each P old new (same_slots old new h.1) a
 Step-each P s gives old (Configure n change) (reply.Configure (Err fault)) new k h a = grind (arith, nat_tests)
 Step-each P s gives old Restart reply.Restart new k h a = first_each P s k new h.1

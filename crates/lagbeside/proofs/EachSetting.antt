@@ -12,8 +12,7 @@ abbrev pub KeptBySetting : (ℕ → Machines → Type 0) → Setting → Type 0
 KeptBySetting P (Setting.Hold_port n held) = (p : Machines) → P n p → P n (record p { choice = Unselected })
 KeptBySetting P (Setting.Set_mode n active short) = (p : Machines) → P n p → P n (with_mode active short p)
 KeptBySetting P (Setting.Set_max_delay max_delay) = Unit {0}
-KeptBySetting P (Setting.Set_max_links max_links) =
-    (n : ℕ) (p : Machines) → p.enabled ≡ false → P n p → P n (record p { choice = Unselected })
+KeptBySetting P (Setting.Set_max_links max_links) = (n : ℕ) (p : Machines) → p.enabled ≡ false → P n p → P n (record p { choice = Unselected })
 
 set_each : (P : ℕ → Machines → Type 0) → KeptBySettling P → (n : ℕ) (already : SystemPort → Bool) (change : SystemPort → SystemPort)
     → ((x : SystemPort) → x.number ≡ n → P x.number x.port → P (change x).number (change x).port) → (o : Option ℕ) (old new : SystemState)
@@ -35,9 +34,8 @@ link_kept : (P : Machines → Type 0) (max_links : Option ℕ) (up : Bool) (p : 
     → P p → P (record p { choice = choice_with_link max_links up p.choice })
 link_kept P max_links up p c a = grind arith
 
-pub Setting-each : (P : ℕ → Machines → Type 0) → KeptBySettling P → (old new : SystemState) (setting : Setting)
-    (answer : Result Unit SystemFault) → KeptBySetting P setting → SettingStep old setting answer new → OfEach P old.system_ports
-    → OfEach P new.system_ports
+pub Setting-each : (P : ℕ → Machines → Type 0) → KeptBySettling P → (old new : SystemState) (setting : Setting) (answer : Result Unit SystemFault)
+    → KeptBySetting P setting → SettingStep old setting answer new → OfEach P old.system_ports → OfEach P new.system_ports
 Setting-each P k old new (Setting.Hold_port n held) (Ok done) c h t = set_each P k n (is_held_so held) (with_held held)
     (held_kept P n held c) (port_index n old.system_ports) old new refl h t
 Setting-each P k old new (Setting.Hold_port n held) (Err fault) c h t = subst (λ (s : SystemState). OfEach P s.system_ports) (sym h.same) t
@@ -58,8 +56,7 @@ Stands old new = (new.keys ≡ old.keys) × (new.ports ≡ old.ports)
 stands_settled : (old mid new : SystemState) → Stands old mid → Settling mid new → Stands old new
 stands_settled old mid new a h = grind arith
 
-setting_stands : (old new : SystemState) (setting : Setting) (answer : Result Unit SystemFault) → SettingStep old setting answer new
-    → Stands old new
+setting_stands : (old new : SystemState) (setting : Setting) (answer : Result Unit SystemFault) → SettingStep old setting answer new → Stands old new
 setting_stands old new setting answer h = grind arith
 
 -- what stands between two calls

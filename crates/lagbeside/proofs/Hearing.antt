@@ -33,20 +33,17 @@ fires_keep : (P : Machines → Type 0) (rows : List Row) → EnabledKeep P rows 
 fires_keep P [] k p q h a = absurd h
 fires_keep P (row ∷ rows) k p q h a = elim h [ inl f ↦ subst P (sym f.1) (k.0 p f.0 a) | inr f ↦ fires_keep P rows k.1 p q f a ]
 
-pub times_keep : (P : Machines → Type 0) (rows : List Row) → EnabledKeep P rows → (n : ℕ) (p q : Machines)
-    → FiresTimes rows n p q → P p → P q
+pub times_keep : (P : Machines → Type 0) (rows : List Row) → EnabledKeep P rows → (n : ℕ) (p q : Machines) → FiresTimes rows n p q → P p → P q
 times_keep P rows k zero p q h a = subst P (sym h) a
 times_keep P rows k (suc n) p q h a = fires_keep P rows k h.0 q h.2 (times_keep P rows k n p h.0 h.1 a)
 
 pub no : false ≡ true → ⊥
 no e = cc
 
-not_initialize : (least most n : ℕ) (r : ReceiveState) (g : Bool) → (same_receive_state Initialize r && g) ≡ true
-    → Within least most r n → ⊥
+not_initialize : (least most n : ℕ) (r : ReceiveState) (g : Bool) → (same_receive_state Initialize r && g) ≡ true → Within least most r n → ⊥
 not_initialize least most n r g h w = grind (arith, nat_tests)
 
-not_disabled : (least most n : ℕ) (r : ReceiveState) (g : Bool) → (same_receive_state PortDisabled r && g) ≡ true
-    → Within least most r n → ⊥
+not_disabled : (least most n : ℕ) (r : ReceiveState) (g : Bool) → (same_receive_state PortDisabled r && g) ≡ true → Within least most r n → ⊥
 not_disabled least most n r g h w = grind (arith, nat_tests)
 
 pub not_down : (a up : Bool) → (a && not up) ≡ true → up ≡ true → ⊥
@@ -73,13 +70,11 @@ pub counts : (most n : ℕ) (r : ReceiveState) → Within 1 most r n → Within 
 counts most n r w = grind (arith, nat_tests)
 
 pub rested : (most n : ℕ) (r : ReceiveState) → (same_receive_state Expired r && (n == 0)) ≡ false
-    → (same_receive_state Current r && (n == 0)) ≡ false
-    → Within 0 most r n → Within 1 most r n
+    → (same_receive_state Current r && (n == 0)) ≡ false → Within 0 most r n → Within 1 most r n
 rested most n r e f w = grind (arith, nat_tests)
 
 tick_unheard : (most k : ℕ) (p q : Machines) → RunsToRest receive_rows (count_down p) q → AtRest periodic_rows p
-    → UnheardFor most k p
-    → UnheardFor (most - 1) (k + 1) q
+    → UnheardFor most k p → UnheardFor (most - 1) (k + 1) q
 tick_unheard most k p q h rest a =
     let b = receives 0 (most - 1) (count_down p) q h (a.0, counts most p.current_while p.receive a.1) in
     (b.0, rested (most - 1) q.current_while q.receive h.2.1.1.1.0 h.2.1.1.1.1.0 b.1)
@@ -98,9 +93,8 @@ stays_up b up h e = grind (arith, nat_tests)
 calls_unheard : (n most k : ℕ) (call : Call) (answer : Reply) → LeavesUnheard n call answer → (call ≡ Tick → ⊥)
     → KeptByCall (AtPort n (UnheardFor most k)) call answer
 calls_unheard n most k Tick answer u t = absurd (t refl)
-calls_unheard n most k (Set_link m up) answer u t = λ max_links p q h a e.
-    receives 1 most (record p { enabled = up; choice = choice_with_link max_links up p.choice }) q h
-    (stays_up (m == n) up u.0 (is_number m n e), (a e).1)
+calls_unheard n most k (Set_link m up) answer u t = λ max_links p q h a e. receives 1 most
+    (record p { enabled = up; choice = choice_with_link max_links up p.choice }) q h (stays_up (m == n) up u.0 (is_number m n e), (a e).1)
 calls_unheard n most k (Receive m octets) answer u t = grind (arith, nat_tests)
 calls_unheard n most k (Configure m change) answer u t = λ p q h a e. both (m == n) (is_number m n e) u.0
 calls_unheard n most k Restart answer u t = absurd (no (sym u.0))
@@ -133,9 +127,7 @@ is_noticed gives old new calls replies i x y s t at within up h u there =
     let most = timeout_time x.port.short + 30 in
     let first : UnheardFor most 0 x.port = (
       up,
-      begins x.port.receive x.port.short x.port.current_while
-          (when_up x.port.enabled (can_receive_in x.port.receive) up awake) timed.0 within,
+      begins x.port.receive x.port.short x.port.current_while (when_up x.port.enabled (can_receive_in x.port.receive) up awake) timed.0 within,
     ) in
-    let end = goes_on (LeavesUnheard x.number) UnheardFor gives most old new calls replies i x y (unheard_goes_on x.number) s at
-    first h u there in
+    let end = goes_on (LeavesUnheard x.number) UnheardFor gives most old new calls replies i x y (unheard_goes_on x.number) s at first h u there in
     grind (arith, nat_tests, tick_count, not_current, is_defaulted)

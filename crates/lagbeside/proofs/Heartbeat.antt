@@ -22,10 +22,8 @@ SilentAt n most k = AtPort n (Silent most k)
 
 silent_settles : (n most k : ℕ) → KeptBySettling (SilentAt n most k)
 silent_settles n most k = record {
-  mux = λ m ready p q h a e. (
-    mux_leaves IsLoud ready p q h (a e).0,
-    runs_keep (Sounds false most) (mux_rows ready) (mux_sounds false most ready) p q h (a e).1,
-  );
+  mux = λ m ready p q h a e.
+      (mux_leaves IsLoud ready p q h (a e).0, runs_keep (Sounds false most) (mux_rows ready) (mux_sounds false most ready) p q h (a e).1);
   periodic = λ m p q h a e. (periodic_leaves IsLoud p q h (a e).0, periodic_runs false most p q h (loud p (a e).0) (a e).1);
   select = λ m choice p none may a e. a e;
 }

@@ -64,8 +64,7 @@ module _ (gives : ℕ → ℕ → ℕ → Type 0) (P : SystemState → Type 0)
   forces_one port agg conv old true new h w = k old new (Force agg conv) (reply.Force (Ok tt)) h.1.step w
   forces_one port agg conv old false new h w = subst P (sym h.1) w
 
-  forces_in : (port : ℕ) (agg : AggId) (c : ℕ) (old : SystemState) (n : ℕ) (new : SystemState) → ForcesIn gives port agg c old n new
-      → P old → P new
+  forces_in : (port : ℕ) (agg : AggId) (c : ℕ) (old : SystemState) (n : ℕ) (new : SystemState) → ForcesIn gives port agg c old n new → P old → P new
   forces_in port agg zero old n new h w = subst P (sym h.0) w
   forces_in port agg (suc c) old n new h w = forces_one port agg c h.0 h.2 new h.4 (forces_in port agg c old h.1 h.0 h.3 w)
 
@@ -86,8 +85,7 @@ Host-waits gives old new (host.LeaveConversation agg conv) (told.LeaveConversati
     turned old new (gives_turn Stays stays agg conv (system_leave_result old agg conv) old answer new
     (λ s x w. left (next_identifier old.table) (assignment_of old.table agg.0 conv) s (left_to _ _ _ s x)) h.0) w
 Host-waits gives old new (host.Probe port) (told.Probe answer) h w = probes port old answer new h.0 w
-Host-waits gives old new (host.Rest agg conv) (told.Rest (Ok done)) h w =
-    Step-waits gives old new (Force agg conv) (reply.Force (Ok tt)) h.1.step w
+Host-waits gives old new (host.Rest agg conv) (told.Rest (Ok done)) h w = Step-waits gives old new (Force agg conv) (reply.Force (Ok tt)) h.1.step w
 Host-waits gives old new (host.Rest agg conv) (told.Rest (Err fault)) h w = grind (arith, nat_tests)
 Host-waits gives old new (host.ForcePort port) (told.ForcePort answer) h w = grind (arith, nat_tests)
 Host-waits gives old new call answer h w = absurd h

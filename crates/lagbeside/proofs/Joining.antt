@@ -180,9 +180,8 @@ kind_ticks : (key : Key) (t w v : ℕ) (o : Option Party) (p q : Machines) → 1
 kind_ticks key t w v None p q l m h a = runs_keep (OtherKey key) receive_rows (key_rows key) (count_down p) q h a
 kind_ticks key t w v (Some who) p q l m h a = ticked who t w v p q l m h a
 
-kind_link : (key : Key) (t w : ℕ) (o : Option Party) (up : Bool) → ((who : Party) → o ≡ Some who → up ≡ false) → (most : Option ℕ)
-    (p q : Machines) → RunsToRest receive_rows (record p { enabled = up; choice = choice_with_link most up p.choice }) q → Kind key t w o p
-    → Kind key t w o q
+kind_link : (key : Key) (t w : ℕ) (o : Option Party) (up : Bool) → ((who : Party) → o ≡ Some who → up ≡ false) → (most : Option ℕ) (p q : Machines)
+    → RunsToRest receive_rows (record p { enabled = up; choice = choice_with_link most up p.choice }) q → Kind key t w o p → Kind key t w o q
 kind_link key t w None up down most p q h a =
     runs_keep (OtherKey key) receive_rows (key_rows key) (record p { enabled = up; choice = choice_with_link most up p.choice }) q h a
 kind_link key t w (Some who) up down most p q h a =
@@ -267,15 +266,13 @@ module _ (key : Key) (hears : ℕ → Option Party) (n : ℕ) where
   begins_no_kind : (agg : AggId) (keys : List Key) (y : SystemPort) (t : ℕ) (o : Option Party) → key_of keys agg.0 ≡ Some key
       → (occupied y.port.choice ≡ Some agg.0 → key_of keys agg.0 ≡ Some y.port.party.key) → Kind key t 19 o y.port → begins_in agg y ≡ false
   begins_no_kind agg keys y t None k agree a = begins_not agg key keys y (begins_in agg y) refl k agree a
-  begins_no_kind agg keys y t (Some who) k agree a =
-      begins_not_joined agg y.port.choice y.port.mux y.port.wait_while (begins_in agg y) a.0 refl
+  begins_no_kind agg keys y t (Some who) k agree a = begins_not_joined agg y.port.choice y.port.mux y.port.wait_while (begins_in agg y) a.0 refl
 
   other_number : (m : ℕ) → (m == n) ≡ false → m ≢ n
   other_number m f e = both (m == n) (is_number m n e) f
 
   none_begin : (agg : AggId) (keys : List Key) (t : ℕ) (ports : List SystemPort) → key_of keys agg.0 ≡ Some key
-      → ((j : ℕ) (y : SystemPort) → slice_get ports j ≡ Some y → occupied y.port.choice ≡ Some agg.0
-      → key_of keys agg.0 ≡ Some y.port.party.key)
+      → ((j : ℕ) (y : SystemPort) → slice_get ports j ≡ Some y → occupied y.port.choice ≡ Some agg.0 → key_of keys agg.0 ≡ Some y.port.party.key)
       → OfEach (Others t 19) ports → AllByRecursion (λ (y : SystemPort). (y.number == n) ≡ false → begins_in agg y ≡ false) ports
   none_begin agg keys t [] k agree a = tt
   none_begin agg keys t (y ∷ ys) k agree a = (

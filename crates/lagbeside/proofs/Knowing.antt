@@ -27,8 +27,7 @@ never_fires (row ∷ rows) p q r h = elim h [ inl f ↦ no (sym r.0 ∙ f.0) | i
 
 pub rests_still : (rows : List Row) (n : ℕ) (p q : Machines) → AtRest rows p → FiresTimes rows n p q → q ≡ p
 rests_still rows zero p q r run = run
-rests_still rows (suc n) p q r run =
-    absurd (never_fires rows run.0 q (subst (AtRest rows) (sym (rests_still rows n p run.0 r run.1)) r) run.2)
+rests_still rows (suc n) p q r run = absurd (never_fires rows run.0 q (subst (AtRest rows) (sym (rests_still rows n p run.0 r run.1)) r) run.2)
 
 -- no row of the receive machine is enabled while there are ticks left
 
@@ -58,9 +57,8 @@ tick_known v most k p q h rest a = receives v (most - 1) (k + 1) (count_down p) 
 calls_known : (v : Lacpdu) (n most k : ℕ) (call : Call) (answer : Reply) → LeavesUnheard n call answer → (call ≡ Tick → ⊥)
     → KeptByCall (AtPort n (Known v most k)) call answer
 calls_known v n most k Tick answer u t = absurd (t refl)
-calls_known v n most k (Set_link m up) answer u t = λ max_links p q h a e.
-    receives v most k (record p { enabled = up; choice = choice_with_link max_links up p.choice }) q h
-    (stays_up (m == n) up u.0 (is_number m n e), (a e).1)
+calls_known v n most k (Set_link m up) answer u t = λ max_links p q h a e. receives v most k
+    (record p { enabled = up; choice = choice_with_link max_links up p.choice }) q h (stays_up (m == n) up u.0 (is_number m n e), (a e).1)
 calls_known v n most k (Receive m octets) answer u t = grind (arith, nat_tests)
 calls_known v n most k (Configure m change) answer u t = λ p q h a e. both (m == n) (is_number m n e) u.0
 calls_known v n most k Restart answer u t = absurd (no (sym u.0))
@@ -78,10 +76,7 @@ starts_with short = grind (arith, nat_tests)
 pub asleep : (c b : Bool) → b ≡ true → (if b then c else true) ≡ true → (c && b) ≡ false → ⊥
 asleep c b e a k = grind (arith, nat_tests)
 
-pub decoded : (t : Bool) (info : Info) → bits_of (with_synchronization t info.state) ≡ record (bits_of info.state) {
-  synchronization
-      = t;
-}
+pub decoded : (t : Bool) (info : Info) → bits_of (with_synchronization t info.state) ≡ record (bits_of info.state) { synchronization = t }
 decoded t info = encode_then_decode (record (bits_of info.state) { synchronization = t })
 
 pub recorded : (v : Lacpdu) (p q : Machines) → p.enabled ≡ true → can_receive p ≡ true → ProcessesLacpdu v p q
@@ -122,27 +117,25 @@ begins_settles v n short = settling_leaves (AtPort n (Begins v short))
 
 begins : (old mid : SystemState) (v : Lacpdu) (i : ℕ) (w x : SystemPort) → IsSound old → slice_get old.system_ports i ≡ Some w
     → w.port.enabled ≡ true → ThenSettles (OnlyPortChangesBy (Some i) (ProcessesLacpdu v)) old mid
-    → slice_get mid.system_ports i ≡ Some x
-    → Known v (timeout_time x.port.short) 0 x.port
+    → slice_get mid.system_ports i ≡ Some x → Known v (timeout_time x.port.short) 0 x.port
 begins old mid v i w x s at up h there =
     let z = h.1.0.0 in
     let q = h.1.0.1 in
     let same : w ≡ z = same_Some w z (sym at ∙ h.1.0.2) in
-    let awake = can_receive_at_rest z.port
-    (all-get (λ (c : SystemPort). none_enabled receive_rows c.port ≡ true) old.system_ports i z h.1.0.2 s.rested.0) in
+    let awake =
+    can_receive_at_rest z.port (all-get (λ (c : SystemPort). none_enabled receive_rows c.port ≡ true) old.system_ports i z h.1.0.2 s.rested.0) in
     let first = recorded v z.port q (subst (λ (c : SystemPort). c.port.enabled ≡ true) same up) awake h.1.0.3 in
     let after : SystemPort = record z { port = q } in
-    let rises : Rises 0 (port_numbers h.0.system_ports) =
-    subst (Rises 0) (sym (keeps_place (ProcessesLacpdu v) (Some i) old h.0 h.1).same) (ports_rise old s.ports) in
-    let here : slice_get h.0.system_ports i ≡ Some after =
-    subst (λ l. slice_get l i ≡ Some after) (sym h.1.0.4) (placed old.system_ports i z after h.1.0.2) in
+    let rises : Rises 0 (port_numbers h.0.system_ports) = subst (Rises 0) (sym (keeps_place (ProcessesLacpdu v) (Some i) old h.0 h.1).same)
+    (ports_rise old s.ports) in
+    let here : slice_get h.0.system_ports i ≡ Some after = subst (λ l. slice_get l i ≡ Some after)
+    (sym h.1.0.4) (placed old.system_ports i z after h.1.0.2) in
     let each = at_number (Begins v q.short) 0 h.0.system_ports i after rises here ((first.0, λ l. first.1), refl) in
     let settled = settling_each (AtPort z.number (Begins v q.short)) (begins_settles v z.number q.short) h.0 mid h.2 each in
-    let numbers = (keeps_settled (OnlyPortChangesBy (Some i) (ProcessesLacpdu v)) old mid
-    (λ m o. keeps_place (ProcessesLacpdu v) (Some i) old m o) h).same in
+    let numbers =
+    (keeps_settled (OnlyPortChangesBy (Some i) (ProcessesLacpdu v)) old mid (λ m o. keeps_place (ProcessesLacpdu v) (Some i) old m o) h).same in
     let number = same_place old.system_ports mid.system_ports i z x numbers h.1.0.2 there in
-    let known = all-get (λ (c : SystemPort). AtPort z.number (Begins v q.short) c.number c.port) mid.system_ports i x there
-    settled number in
+    let known = all-get (λ (c : SystemPort). AtPort z.number (Begins v q.short) c.number c.port) mid.system_ports i x there settled number in
     subst (λ b. Known v (timeout_time b) 0 x.port) (sym known.1) known.0
 
 pub is_known : (gives : ℕ → ℕ → ℕ → Type 0) → IsKnown gives
@@ -161,14 +154,13 @@ takes_each Q old new x k z sound at does settles h =
     let y = h.1.0.0 in
     let q = h.1.0.1 in
     let same : z ≡ y = same_Some z y (sym at ∙ h.1.0.2) in
-    let awake = can_receive_at_rest z.port
-    (all-get (λ (c : SystemPort). none_enabled receive_rows c.port ≡ true) old.system_ports k z at sound.rested.0) in
+    let awake =
+    can_receive_at_rest z.port (all-get (λ (c : SystemPort). none_enabled receive_rows c.port ≡ true) old.system_ports k z at sound.rested.0) in
     let first = does q awake (subst (λ (c : SystemPort). ProcessesLacpdu x c.port q) (sym same) h.1.0.3) in
     let after : SystemPort = record y { port = q } in
-    let rises : Rises 0 (port_numbers h.0.system_ports) =
-    subst (Rises 0) (sym (keeps_place (ProcessesLacpdu x) (Some k) old h.0 h.1).same) (ports_rise old sound.ports) in
-    let here : slice_get h.0.system_ports k ≡ Some after =
-    subst (λ l. slice_get l k ≡ Some after) (sym h.1.0.4) (placed old.system_ports k y after h.1.0.2) in
+    let rises : Rises 0 (port_numbers h.0.system_ports) = subst (Rises 0) (sym (keeps_place (ProcessesLacpdu x) (Some k) old h.0 h.1).same)
+    (ports_rise old sound.ports) in
+    let here : slice_get h.0.system_ports k ≡ Some after = subst (λ l. slice_get l k ≡ Some after)
+    (sym h.1.0.4) (placed old.system_ports k y after h.1.0.2) in
     let each = at_number Q 0 h.0.system_ports k after rises here first in
-    settling_each (AtPort z.number Q) settles h.0 new h.2 (subst (λ (c : SystemPort). OfEach (AtPort c.number Q) h.0.system_ports)
-    (sym same) each)
+    settling_each (AtPort z.number Q) settles h.0 new h.2 (subst (λ (c : SystemPort). OfEach (AtPort c.number Q) h.0.system_ports) (sym same) each)

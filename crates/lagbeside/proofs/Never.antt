@@ -48,8 +48,7 @@ lonely_takes own may v p q out h a = elim h [
         let is : t ≡ false = less_sync p.active may (bits_of v.actor.state).synchronization (bits_of v.actor.state).activity
         (bits_of v.partner.state).activity (same_party (party_of v.partner) p.party || not (bits_of v.actor.state).aggregation) a.1
         (subst (λ o. in_sync o may v ≡ false) (sym a.0) out) in
-        subst (Lonely own may) (sym g.1)
-        (a.0, a.1, λ e. ap (λ (b : StateBits). b.synchronization) (decoded t v.actor) ∙ is))
+        subst (Lonely own may) (sym g.1) (a.0, a.1, λ e. ap (λ (b : StateBits). b.synchronization) (decoded t v.actor) ∙ is))
     | inr g ↦ absurd g
   ]
   | inr r ↦ subst (Lonely own may) (sym r.1) a
@@ -58,9 +57,8 @@ lonely_takes own may v p q out h a = elim h [
 lonely_calls : (own : Party) (may : Bool) (n : ℕ) (call : Call) (answer : Reply) → LeavesUnanswered own may n call answer
     → (call ≡ Tick → ⊥) → KeptByCall (AtPort n (Lonely own may)) call answer
 lonely_calls own may n Tick answer u t = absurd (t refl)
-lonely_calls own may n (Set_link m up) answer u t = λ max_links p q h a e.
-    runs_keep (Lonely own may) receive_rows (lonely_rows own may)
-    (record p { enabled = up; choice = choice_with_link max_links up p.choice }) q h (a e)
+lonely_calls own may n (Set_link m up) answer u t = λ max_links p q h a e. runs_keep (Lonely own may) receive_rows
+    (lonely_rows own may) (record p { enabled = up; choice = choice_with_link max_links up p.choice }) q h (a e)
 lonely_calls own may n (Receive m octets) answer u t = λ v p q took f h a e.
     lonely_takes own may v p q (subst (Brings (λ w. in_sync own may w ≡ false) n (Receive m octets)) took u e v f) h (a e)
 lonely_calls own may n (Configure m change) answer u t = λ p q h a e. absurd (u e)
@@ -71,8 +69,7 @@ lonely_calls own may n call answer u t = tt
 lonely_settles : (own : Party) (may : Bool) (n : ℕ) → KeptBySettling (AtPort n (Lonely own may))
 lonely_settles own may n = settling_leaves (AtPort n (Lonely own may))
 
-lonely_sets : (own : Party) (may : Bool) (n : ℕ) (setting : Setting) → ActiveOnlyIf may n setting
-    → KeptBySetting (AtPort n (Lonely own may)) setting
+lonely_sets : (own : Party) (may : Bool) (n : ℕ) (setting : Setting) → ActiveOnlyIf may n setting → KeptBySetting (AtPort n (Lonely own may)) setting
 lonely_sets own may n setting v = grind (arith, nat_tests)
 
 aside_lonely : (own : Party) (may : Bool) (n : ℕ) (old new : SystemState) → Asides (ActiveOnlyIf may n) old new
@@ -81,15 +78,13 @@ aside_lonely own may n old new h a =
     asides_each (ActiveOnlyIf may n) (AtPort n (Lonely own may)) (lonely_settles own may n) (lonely_sets own may n) old new h a
 
 lonely_run : (own : Party) (may : Bool) (n : ℕ) (gives : ℕ → ℕ → ℕ → Type 0) (old new : SystemState) (calls : List Call) (replies : List Reply)
-    (states : List SystemState) → OfEach (AtPort n (Lonely own may)) old.system_ports
-    → Runs (ActiveOnlyIf may n) gives old calls replies states new
+    (states : List SystemState) → OfEach (AtPort n (Lonely own may)) old.system_ports → Runs (ActiveOnlyIf may n) gives old calls replies states new
     → EachCall (LeavesUnanswered own may n) calls replies → IsSound new × OfEach (AtPort n (Lonely own may)) new.system_ports
 lonely_run own may n gives old new [] [] [] a h u = (asides_sound (ActiveOnlyIf may n) old new h, aside_lonely own may n old new h a)
 lonely_run own may n gives old new (Tick ∷ calls) (answer ∷ answers) (before ∷ states) a h u =
-    lonely_run own may n gives h.0 new calls answers states
-    (Tick-each (AtPort n (Lonely own may)) (AtPort n (Lonely own may)) (lonely_settles own may n)
-    (λ m p q r b e. runs_keep (Lonely own may) receive_rows (lonely_rows own may) (count_down p) q r (b e)) gives before answer h.0 h.2
-    (aside_lonely own may n old before h.1 a)) h.3 u.1
+    lonely_run own may n gives h.0 new calls answers states (Tick-each (AtPort n (Lonely own may))
+    (AtPort n (Lonely own may)) (lonely_settles own may n) (λ m p q r b e. runs_keep (Lonely own may) receive_rows
+    (lonely_rows own may) (count_down p) q r (b e)) gives before answer h.0 h.2 (aside_lonely own may n old before h.1 a)) h.3 u.1
 lonely_run own may n gives old new (call ∷ calls) (answer ∷ answers) (before ∷ states) a h u =
     lonely_run own may n gives h.0 new calls answers states
     (Step-each (AtPort n (Lonely own may)) (lonely_settles own may n) gives before call answer h.0

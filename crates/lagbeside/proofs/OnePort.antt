@@ -17,8 +17,7 @@ abbrev without_mux : Machines → Machines
 without_mux p = record p { mux = Detached; wait_while = 0; ntt = false }
 
 -- a property that does not read what the mux machine changes
-pub mux_leaves : (P : Machines → Type 0) (ready : Bool) (p q : Machines) → RunsToRest (mux_rows ready) p q → P (without_mux p)
-    → P (without_mux q)
+pub mux_leaves : (P : Machines → Type 0) (ready : Bool) (p q : Machines) → RunsToRest (mux_rows ready) p q → P (without_mux p) → P (without_mux q)
 mux_leaves P ready p q h a = runs_keep (λ r. P (without_mux r)) (mux_rows ready)
     (λ p a. a, (λ p a. a, (λ p a. a, (λ p a. a, (λ p a. a, (λ p a. a, tt)))))) p q h a
 
@@ -43,10 +42,8 @@ settling_leaves P = record {
 -- P of port n, with so many ticks to go and so many gone, goes on over calls that are so
 pub record GoesOn (Is : Call → Reply → Type 0) (P : ℕ → ℕ → Machines → Type 0) (n : ℕ) : Type 0 where
   pub settles : (most k : ℕ) → KeptBySettling (AtPort n (P most k))
-  pub ticks : (most k : ℕ) (p q : Machines) → RunsToRest receive_rows (count_down p) q → AtRest periodic_rows p → P most k p
-      → P (most - 1) (k + 1) q
-  pub calls : (most k : ℕ) (call : Call) (answer : Reply) → Is call answer → (call ≡ Tick → ⊥)
-      → KeptByCall (AtPort n (P most k)) call answer
+  pub ticks : (most k : ℕ) (p q : Machines) → RunsToRest receive_rows (count_down p) q → AtRest periodic_rows p → P most k p → P (most - 1) (k + 1) q
+  pub calls : (most k : ℕ) (call : Call) (answer : Reply) → Is call answer → (call ≡ Tick → ⊥) → KeptByCall (AtPort n (P most k)) call answer
 
 pub with_rest : (P : ℕ → Machines → Type 0) (ports : List SystemPort) → OfEach P ports → AllByRecursion PeriodicIsSettled ports
     → OfEach (λ m p. P m p × AtRest periodic_rows p) ports
@@ -61,18 +58,15 @@ none_passed : (P : ℕ → ℕ → Machines → Type 0) (n most k : ℕ) (ports 
 none_passed P n most k ports a = grind (arith, nat_tests)
 
 one_more : (P : ℕ → ℕ → Machines → Type 0) (n most k ticks : ℕ) (ports : List SystemPort)
-    → OfEach (AtPort n (P (most - 1 - ticks) (k + 1 + ticks))) ports → OfEach (AtPort n (P (most - (ticks + 1)) (k + (ticks +
-    1)))) ports
+    → OfEach (AtPort n (P (most - 1 - ticks) (k + 1 + ticks))) ports → OfEach (AtPort n (P (most - (ticks + 1)) (k + (ticks + 1)))) ports
 one_more P n most k ticks ports a = grind (arith, nat_tests)
 
 module _ (Is : Call → Reply → Type 0) (P : ℕ → ℕ → Machines → Type 0) (n : ℕ) (g : GoesOn Is P n) (gives : ℕ → ℕ → ℕ → Type 0) where
-  ends : (most k : ℕ) (old new : SystemState) (calls : List Call) (replies : List Reply) → IsSound old
-      → OfEach (AtPort n (P most k)) old.system_ports → TableRun gives old calls replies new → EachCall Is calls replies
-      → Ends P n most k (tick_count calls) new
+  ends : (most k : ℕ) (old new : SystemState) (calls : List Call) (replies : List Reply) → IsSound old → OfEach (AtPort n
+      (P most k)) old.system_ports → TableRun gives old calls replies new → EachCall Is calls replies → Ends P n most k (tick_count calls) new
   ends most k old new [] [] s a h u = (
     subst IsSound (sym h) s,
-    subst (λ (t : SystemState). OfEach (AtPort n (P (most - 0) (k + 0))) t.system_ports) (sym h) (none_passed P n most k
-        old.system_ports a),
+    subst (λ (t : SystemState). OfEach (AtPort n (P (most - 0) (k + 0))) t.system_ports) (sym h) (none_passed P n most k old.system_ports a),
   )
   ends most k old new (Tick ∷ calls) (answer ∷ answers) s a h u =
       let rest = with_rest (AtPort n (P most k)) old.system_ports a s.quiet.1 in
@@ -80,8 +74,7 @@ module _ (Is : Call → Reply → Type 0) (P : ℕ → ℕ → Machines → Type
       (g.settles (most - 1) (k + 1)) (λ m p q r b e. g.ticks most k p q r b.1 (b.0 e)) gives old answer h.0 h.1 rest in
       let end = ends (most - 1) (k + 1) h.0 new calls answers (Step-sound gives old Tick answer h.0 h.1 s) mid h.2 u.1 in
       (end.0, one_more P n most k (tick_count calls) new.system_ports end.1)
-  ends most k old new (call ∷ calls) (answer ∷ answers) s a h u =
-      ends most k h.0 new calls answers (Step-sound gives old call answer h.0 h.1 s)
+  ends most k old new (call ∷ calls) (answer ∷ answers) s a h u = ends most k h.0 new calls answers (Step-sound gives old call answer h.0 h.1 s)
       (Step-each (AtPort n (P most k)) (g.settles most k) gives old call answer h.0 (g.calls most k call answer u.0 (λ e. cc)) h.1 a) h.2 u.1
   ends most k old new calls replies s a h u = absurd h
 
@@ -90,13 +83,11 @@ module _ (Is : Call → Reply → Type 0) (P : ℕ → ℕ → Machines → Type
 wrong_number : (m n : ℕ) → m < n → m ≡ n → ⊥
 wrong_number m n l e = omega (arith, l, e)
 
-above : (S : Machines → Type 0) (low n : ℕ) (xs : List SystemPort) → Rises low (port_numbers xs) → n ≤ low
-    → OfEach (λ m p. m ≡ n → S p) xs
+above : (S : Machines → Type 0) (low n : ℕ) (xs : List SystemPort) → Rises low (port_numbers xs) → n ≤ low → OfEach (λ m p. m ≡ n → S p) xs
 above S low n [] r l = tt
 above S low n (y ∷ ys) r l = grind (arith, nat_tests, wrong_number, above S y.number n ys r.1 (omega (arith, r.0, l)))
 
-pub higher : (low : ℕ) (xs : List SystemPort) (i : ℕ) (x : SystemPort) → Rises low (port_numbers xs) → slice_get xs i ≡ Some x
-    → low < x.number
+pub higher : (low : ℕ) (xs : List SystemPort) (i : ℕ) (x : SystemPort) → Rises low (port_numbers xs) → slice_get xs i ≡ Some x → low < x.number
 higher low [] i x r e = absurd (none-some x e)
 higher low (y ∷ ys) zero x r e = subst (λ (z : SystemPort). low < z.number) (same_Some y x e) r.0
 higher low (y ∷ ys) (suc i) x r e = omega (arith, higher y.number ys i x r.1 e, r.0)
@@ -125,8 +116,7 @@ pub calls_each : (gives : ℕ → ℕ → ℕ → Type 0) (P : SystemState → T
     → ((old new : SystemState) (call : Call) (answer : Reply) → Step gives old call answer new → P old → P new)
     → (old new : SystemState) (calls : List Call) (replies : List Reply) → TableRun gives old calls replies new → P old → P new
 calls_each gives P k old new [] [] h p = subst P (sym h) p
-calls_each gives P k old new (call ∷ calls) (answer ∷ answers) h p =
-    calls_each gives P k h.0 new calls answers h.2 (k old h.0 call answer h.1 p)
+calls_each gives P k old new (call ∷ calls) (answer ∷ answers) h p = calls_each gives P k h.0 new calls answers h.2 (k old h.0 call answer h.1 p)
 calls_each gives P k old new calls replies h p = absurd h
 
 pub same_ports : (gives : ℕ → ℕ → ℕ → Type 0) (old new : SystemState) (calls : List Call) (replies : List Reply)
@@ -135,11 +125,10 @@ same_ports gives old new calls replies h = calls_each gives (λ s. s.ports ≡ o
     (λ s t call answer step e. ap (λ (u : SystemState). u.ports) (Step-frame gives s call answer t step) ∙ e) old new calls replies h refl
 
 -- the port at a place, after the calls
-pub goes_on : (Is : Call → Reply → Type 0) (P : ℕ → ℕ → Machines → Type 0) (gives : ℕ → ℕ → ℕ
-    → Type 0) (most : ℕ) (old new : SystemState)
-    (calls : List Call) (replies : List Reply) (i : ℕ) (x y : SystemPort) → GoesOn Is P x.number → IsSound old
-    → slice_get old.system_ports i ≡ Some x → P most 0 x.port → TableRun gives old calls replies new → EachCall Is calls replies
-    → slice_get new.system_ports i ≡ Some y → IsSound new × P (most - tick_count calls) (0 + tick_count calls) y.port
+pub goes_on : (Is : Call → Reply → Type 0) (P : ℕ → ℕ → Machines → Type 0) (gives : ℕ → ℕ → ℕ → Type 0)
+    (most : ℕ) (old new : SystemState) (calls : List Call) (replies : List Reply) (i : ℕ) (x y : SystemPort)
+    → GoesOn Is P x.number → IsSound old → slice_get old.system_ports i ≡ Some x → P most 0 x.port → TableRun gives old calls replies new
+    → EachCall Is calls replies → slice_get new.system_ports i ≡ Some y → IsSound new × P (most - tick_count calls) (0 + tick_count calls) y.port
 goes_on Is P gives most old new calls replies i x y g s at p h u there =
     let first = at_number (P most 0) 0 old.system_ports i x (ports_rise old s.ports) at p in
     let end = ends Is P x.number g gives most 0 old new calls replies s first h u in

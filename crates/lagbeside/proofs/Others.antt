@@ -81,9 +81,8 @@ not_begun : (agg : AggId) (c : Choice) (m : MuxState) (w : ℕ) → occupies agg
     → (occupies agg c && (same_mux_state Waiting m && (w == 20))) ≡ false → ⊥
 not_begun agg c m w o e f h = grind (arith, nat_tests)
 
-harden : (n : ℕ) (agg : AggId) (t : ℕ) (ports : List SystemPort)
-    → AllByRecursion (λ (y : SystemPort). (y.number == n) ≡ false → begins_in agg y ≡ false) ports
-    → OfEach (Beside n (Soft agg t)) ports → OfEach (Beside n (Hard agg t)) ports
+harden : (n : ℕ) (agg : AggId) (t : ℕ) (ports : List SystemPort) → AllByRecursion (λ (y : SystemPort). (y.number == n) ≡ false
+    → begins_in agg y ≡ false) ports → OfEach (Beside n (Soft agg t)) ports → OfEach (Beside n (Hard agg t)) ports
 harden n agg t [] k a = tt
 harden n agg t (x ∷ xs) k a = (
   λ e o w. elim (a.0 e o w) [
@@ -121,8 +120,7 @@ bounded_takes v p q h a = takes_keep Bounded v (λ p a. a, tt) p q h a
 module _ (Sets : Setting → Type 0) (n : ℕ) (agg : AggId) (gives : ℕ → ℕ → ℕ → Type 0) where
   aside_soft : (t : ℕ) (old new : SystemState) → Asides Sets old new → OfEach (Beside n (Soft agg t)) old.system_ports
       → OfEach (Beside n (Soft agg t)) new.system_ports
-  aside_soft t old new h a =
-      asides_each Sets (Beside n (Soft agg t)) (soft_settles n agg t) (λ setting v. soft_sets n agg t setting) old new h a
+  aside_soft t old new h a = asides_each Sets (Beside n (Soft agg t)) (soft_settles n agg t) (λ setting v. soft_sets n agg t setting) old new h a
 
   more_gone : (t ticks : ℕ) (ports : List SystemPort) → OfEach (Beside n (Hard agg (t - 1 - ticks))) ports
       → OfEach (Beside n (Hard agg (t - (ticks + 1)))) ports
@@ -141,15 +139,13 @@ module _ (Sets : Setting → Type 0) (n : ℕ) (agg : AggId) (gives : ℕ → �
   others_run ticked t old new [] [] [] e a h none = subst (λ m. OfEach (Beside n (Hard agg m)) new.system_ports) (omega arith)
       (now_hard ticked t new e none (aside_soft t old new h a))
   others_run ticked t old new (Tick ∷ calls) (answer ∷ answers) (before ∷ states) e a h none =
-      let mid = Tick-each (Beside n (Hard agg t)) (Beside n (Soft agg (t - 1))) (soft_settles n agg (t - 1))
-      (λ m p q r b f. soft_ticks agg t p q r (b f)) gives before answer h.0 h.2
-      (now_hard ticked t before e none.0 (aside_soft t old before h.1 a)) in
-      more_gone t (tick_count calls) new.system_ports
-      (others_run true (t - 1) h.0 new calls answers states (λ f. absurd (no (sym f))) mid h.3 none.1)
+      let mid = Tick-each (Beside n (Hard agg t)) (Beside n (Soft agg (t - 1))) (soft_settles n agg (t - 1)) (λ m p q r b f. soft_ticks agg t p q r
+      (b f)) gives before answer h.0 h.2 (now_hard ticked t before e none.0 (aside_soft t old before h.1 a)) in
+      more_gone t
+      (tick_count calls) new.system_ports (others_run true (t - 1) h.0 new calls answers states (λ f. absurd (no (sym f))) mid h.3 none.1)
   others_run ticked t old new (call ∷ calls) (answer ∷ answers) (before ∷ states) e a h none =
-      others_run ticked t h.0 new calls answers states e
-      (Step-each (Beside n (Soft agg t)) (soft_settles n agg t) gives before call answer h.0 (soft_calls n agg t call answer (λ f. cc)) h.2
-      (aside_soft t old before h.1 a)) h.3 none.1
+      others_run ticked t h.0 new calls answers states e (Step-each (Beside n (Soft agg t))
+      (soft_settles n agg t) gives before call answer h.0 (soft_calls n agg t call answer (λ f. cc)) h.2 (aside_soft t old before h.1 a)) h.3 none.1
   others_run ticked t old new calls replies states e a h none = absurd h
 
 -- a member at rest that has not waited is synchronized
@@ -167,8 +163,7 @@ fine_ports : (u : Service) (c : Choice) (n : ℕ) (agg : AggId) (keys : List Key
 fine_ports u c n agg keys all t r e f [] q a b = tt
 fine_ports u c n agg keys all t r e f (x ∷ xs) q a b = (
   λ chosen lags. (let o = chosen_occupies agg x.port.choice chosen in
-      lag_waits x.port.mux x.port.wait_while (is_unselected x.port.choice) o.1 q.0.mux.0
-      (λ w. elim (cases_Bool (x.number == n)) [
+      lag_waits x.port.mux x.port.wait_while (is_unselected x.port.choice) o.1 q.0.mux.0 (λ w. elim (cases_Bool (x.number == n)) [
         | inl is ↦ (let l = a.0 (eqb-true x.number n is) w in omega (arith, e, l))
         | inr other ↦ (let l = b.0 other o.0 w in omega (arith, f, l))
       ]) lags),

@@ -55,12 +55,11 @@ enough k ports first [] h = omega arith
 enough k ports first (key ∷ keys) h =
     let wider : (x : SystemPort) → is_from k (first + 1) x ≡ true → is_from k first x ≡ true =
     λ x. from_less k first (first + 1) (place x.port.choice) x.port.party.key.0 (omega arith) in
-    one_enough (key.0 == k) (count (λ (key : Key). key.0 == k) keys) (count (is_from k (first + 1)) ports) (count (is_from k
-    first) ports)
+    one_enough (key.0 == k) (count (λ (key : Key). key.0 == k) keys) (count (is_from k (first + 1)) ports) (count (is_from k first) ports)
     (enough k ports (first + 1) keys h.1) (count_less_of (is_from k (first + 1)) (is_from k first) ports (λ j x g. wider x))
     (λ e. let o = h.0 e in
-    count_more_of (is_from k (first + 1)) (is_from k first) ports (λ j x g. wider x) o.index o.port o.there
-    (not_from k first (place o.port.port.choice) o.port.port.party.key.0 o.number)
+    count_more_of (is_from k (first + 1)) (is_from k first) ports
+    (λ j x g. wider x) o.index o.port o.there (not_from k first (place o.port.port.choice) o.port.port.party.key.0 o.number)
     (from_here k first (place o.port.port.choice) o.port.port.party.key.0 o.key o.number))
 
 -- who occupies an aggregator
@@ -88,17 +87,15 @@ has_one : (a b : Bool) → a ≡ true → (a && not b) ≡ false → b ≡ true
 has_one a b e h = grind (arith, nat_tests)
 
 -- each aggregator of the key has an occupant with the key, if none is found without one
-all_occupied : (keys : List Key) (ports : List SystemPort) (k first : ℕ) (rest : List Key) → OccupantsAgree keys ports
-    → ((j : ℕ) (key : Key) → slice_get rest j ≡ Some key → key_of keys (first + j) ≡ Some key)
-    → find (λ (row : ℕ × Key). (row.1.0 == k) && has_no_occupant (views ports) (aggregator_of_entry row)) (enumerate_from first
-    rest) ≡ None
-    → AllOccupied k ports first rest
+all_occupied : (keys : List Key) (ports : List SystemPort) (k first : ℕ) (rest : List Key)
+    → OccupantsAgree keys ports → ((j : ℕ) (key : Key) → slice_get rest j ≡ Some key → key_of keys (first + j) ≡ Some key)
+    → find (λ (row : ℕ × Key). (row.1.0 == k) && has_no_occupant (views ports) (aggregator_of_entry row))
+    (enumerate_from first rest) ≡ None → AllOccupied k ports first rest
 all_occupied keys ports k first [] a at h = tt
 all_occupied keys ports k first (key ∷ rest) a at h =
     let agg : AggId = record { 0 = first } in
-    let both = passed ((key.0 == k) && has_no_occupant (views ports) agg) (first, key)
-    (find (λ (row : ℕ × Key). (row.1.0 == k) && has_no_occupant (views ports) (aggregator_of_entry row)) (enumerate_from (first +
-    1) rest)) h in (
+    let both = passed ((key.0 == k) && has_no_occupant (views ports) agg) (first, key) (find
+    (λ (row : ℕ × Key). (row.1.0 == k) && has_no_occupant (views ports) (aggregator_of_entry row)) (enumerate_from (first + 1) rest)) h in (
       λ e.
           let o = somebody agg ports (has_one (key.0 == k) (list_any (λ w. occupies agg w.choice) (views ports)) e both.0) in
           let is = occupies_is agg o.1.port.choice o.3 in
@@ -111,20 +108,17 @@ all_occupied keys ports k first (key ∷ rest) a at h =
             key = sym (ap (λ (y : Key). y.0) same) ∙ eqb-true key.0 k e;
             number = is.1;
           },
-      all_occupied keys ports k (first + 1) rest a (λ j y e. subst (λ n. key_of keys n ≡ Some y) (omega arith) (at (suc j) y e))
-          both.1,
+      all_occupied keys ports k (first + 1) rest a (λ j y e. subst (λ n. key_of keys n ≡ Some y) (omega arith) (at (suc j) y e)) both.1,
     )
 
 -- an UNSELECTED port that wants an aggregator is eligible
 
-is_detached_at : (m : MuxState) (w : ℕ) (c : Choice) (z : Bool) → is_unselected c ≡ true
-    → (same_mux_state Waiting m && is_unselected c) ≡ false
-    → (same_mux_state Attached m && not (is_selected c)) ≡ false
-    → (same_mux_state CollectingDistributing m && (not (is_selected c) || z)) ≡ false → is_detached (stage_of m w) ≡ true
+is_detached_at : (m : MuxState) (w : ℕ) (c : Choice) (z : Bool) → is_unselected c ≡ true → (same_mux_state Waiting m && is_unselected c) ≡ false
+    → (same_mux_state Attached m && not (is_selected c)) ≡ false → (same_mux_state CollectingDistributing m && (not (is_selected c) || z)) ≡ false
+    → is_detached (stage_of m w) ≡ true
 is_detached_at m w c z u a b d = grind (arith, nat_tests)
 
-is_known : (r : ReceiveState) → (r ≡ Current) ⊎ (r ≡ Defaulted) → (same_receive_state Current r || same_receive_state Defaulted
-    r) ≡ true
+is_known : (r : ReceiveState) → (r ≡ Current) ⊎ (r ≡ Defaulted) → (same_receive_state Current r || same_receive_state Defaulted r) ≡ true
 is_known r h = elim h [ inl e ↦ rw e refl | inr e ↦ rw e refl ]
 
 all_five : (a b c d e : Bool) → a ≡ true → b ≡ true → c ≡ true → d ≡ true → e ≡ false → ((((a && b) && c) && d) && not e) ≡ true
@@ -176,30 +170,21 @@ finds_none s i x h e w free u =
     when_is (may_choose x) (is_eligible v) (chosen_if_eligible s.keys (views s.system_ports) v) (free_may (is_eligible v) x.held able free) able
     (sym (takes_is s.keys s.system_ports i x (ports_rise s h.ports) e) ∙ settled.apart)
 
-never_unselected : (s : SystemState) (i : ℕ) (x : SystemPort) → IsSound s → slice_get s.system_ports i ≡ Some x
-    → WantsAggregator x.port → x.held ≡ false
-    → ports_with x.port.party.key s ≤ aggregators_with x.port.party.key s → is_unselected x.port.choice ≡ true → ⊥
+never_unselected : (s : SystemState) (i : ℕ) (x : SystemPort) → IsSound s → slice_get s.system_ports i ≡ Some x → WantsAggregator x.port
+    → x.held ≡ false → ports_with x.port.party.key s ≤ aggregators_with x.port.party.key s → is_unselected x.port.choice ≡ true → ⊥
 never_unselected s i x h e w free many u =
     let k = x.port.party.key.0 in
     let v = selection_view x in
     let seen = views s.system_ports in
     let none = finds_none s i x h e w free u in
-    let without : find (λ (row : ℕ × Key). (row.1.0 == k) && has_no_occupant seen (aggregator_of_entry row)) (enumerate_from 1
-    s.keys) ≡ None =
-    no_entry _ (second_none (lowest s.keys x.port.party.key (occupants_share_group seen v)) _ none) in
-    let full = enough k s.system_ports 1 s.keys (all_occupied s.keys s.system_ports k 1 s.keys h.occupants
-    (λ j key g. from_first s.keys j key g) without) in
-    let least = count_more_of (is_from k 1) (λ (y : SystemPort). y.port.party.key.0 == k) s.system_ports
-    (λ j y g. from_any k (place y.port.choice) y.port.party.key.0) i x e
-    (not_first k (place x.port.choice) k (unselected_at x.port.choice u)) (itself k) in
-    crowded (count (λ (y : SystemPort). y.port.party.key.0 == k) s.system_ports) (count (is_from k 1) s.system_ports)
-    (omega (
-      arith,
-      full,
-      many,
-      counted (λ (y : SystemPort). y.port.party.key.0 == k) s.system_ports,
-      counted (λ (y : Key). y.0 == k) s.keys,
-    )) least
+    let without : find (λ (row : ℕ × Key). (row.1.0 == k) && has_no_occupant seen (aggregator_of_entry row))
+    (enumerate_from 1 s.keys) ≡ None = no_entry _ (second_none (lowest s.keys x.port.party.key (occupants_share_group seen v)) _ none) in
+    let full = enough k s.system_ports 1 s.keys
+    (all_occupied s.keys s.system_ports k 1 s.keys h.occupants (λ j key g. from_first s.keys j key g) without) in
+    let least = count_more_of (is_from k 1) (λ (y : SystemPort). y.port.party.key.0 == k) s.system_ports (λ j y g. from_any k
+    (place y.port.choice) y.port.party.key.0) i x e (not_first k (place x.port.choice) k (unselected_at x.port.choice u)) (itself k) in
+    crowded (count (λ (y : SystemPort). y.port.party.key.0 == k) s.system_ports) (count (is_from k 1) s.system_ports) (omega
+    (arith, full, many, counted (λ (y : SystemPort). y.port.party.key.0 == k) s.system_ports, counted (λ (y : Key). y.0 == k) s.keys)) least
 
 -- a STANDBY port waits for room
 
@@ -273,15 +258,13 @@ kept_all : (test : PortView → Bool) (b : Bool) (w : PortView) (rest : List Por
     → list_all test rest ≡ true → list_all test (cond b (w ∷ rest) rest) ≡ true
 kept_all test b w rest h k = grind (arith, nat_tests)
 
-share_all : (v : PortView) (agg : AggId) (ports : List SystemPort)
-    → ((j : ℕ) (y : SystemPort) → slice_get ports j ≡ Some y → occupies agg y.port.choice ≡ true → has_group_of v (selection_view y) ≡ true)
-    → list_all (has_group_of v) (occupants agg (views ports)) ≡ true
+share_all : (v : PortView) (agg : AggId) (ports : List SystemPort) → ((j : ℕ) (y : SystemPort) → slice_get ports j ≡ Some y
+    → occupies agg y.port.choice ≡ true → has_group_of v (selection_view y) ≡ true) → list_all (has_group_of v) (occupants agg (views ports)) ≡ true
 share_all v agg [] h = refl
 share_all v agg (y ∷ ys) h = kept_all (has_group_of v) (occupies agg y.port.choice) (selection_view y) (occupants agg (views ys))
     (h zero y refl) (share_all v agg ys (λ j z e. h (suc j) z e))
 
-none_share : (b alone some all : Bool) → b ≡ true → alone ≡ false → some ≡ true → all ≡ true
-    → (b && ((not alone && some) && all)) ≡ false → ⊥
+none_share : (b alone some all : Bool) → b ≡ true → alone ≡ false → some ≡ true → all ≡ true → (b && ((not alone && some) && all)) ≡ false → ⊥
 none_share b alone some all e f g h k = grind (arith, nat_tests)
 
 not_unselected : (agg : AggId) (c : Choice) → occupies agg c ≡ true → c ≡ Unselected → ⊥
@@ -313,14 +296,11 @@ always_shares s i x h e w free one shares u =
     same_key : (a b : Key) → (a.0 == b.0) ≡ true → a ≡ b
     same_key a b t = ap (λ n. record { 0 = n }) (eqb-true a.0 b.0 t)
 
-pub shares_aggregator : (s : SystemState) (i : ℕ) (x : SystemPort) → IsSound s → slice_get s.system_ports i ≡ Some x
-    → WantsAggregator x.port → x.held ≡ false
-    → 1 ≤ aggregators_with x.port.party.key s → SharesGroup s x → (is_selected x.port.choice ≡ true) ⊎ StandsByFull s x.port
-shares_aggregator s i x h e w free one shares =
-    selected_or_stands s i x x.port.choice refl h e (always_shares s i x h e w free one shares)
+pub shares_aggregator : (s : SystemState) (i : ℕ) (x : SystemPort) → IsSound s → slice_get s.system_ports i ≡ Some x → WantsAggregator x.port
+    → x.held ≡ false → 1 ≤ aggregators_with x.port.party.key s → SharesGroup s x → (is_selected x.port.choice ≡ true) ⊎ StandsByFull s x.port
+shares_aggregator s i x h e w free one shares = selected_or_stands s i x x.port.choice refl h e (always_shares s i x h e w free one shares)
 
 pub finds_aggregator : (s : SystemState) (i : ℕ) (x : SystemPort) → IsSound s → slice_get s.system_ports i ≡ Some x
-    → WantsAggregator x.port → x.held ≡ false
-    → ports_with x.port.party.key s ≤ aggregators_with x.port.party.key s
+    → WantsAggregator x.port → x.held ≡ false → ports_with x.port.party.key s ≤ aggregators_with x.port.party.key s
     → (is_selected x.port.choice ≡ true) ⊎ StandsByFull s x.port
 finds_aggregator s i x h e w free many = selected_or_stands s i x x.port.choice refl h e (never_unselected s i x h e w free many)

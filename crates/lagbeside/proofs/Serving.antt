@@ -121,8 +121,7 @@ climbs_takes u c may left t v p q serves awake a h =
 
 -- so of the port with this number
 pub takes_at : (P Q : Machines → Type 0) (m : ℕ) (old new : SystemState) (v : Lacpdu) (o : Option ℕ) → IsSound old
-    → port_index m old.system_ports ≡ o
-    → ((p q : Machines) → can_receive p ≡ true → P p → ProcessesLacpdu v p q → Q q) → KeptBySettling (AtPort m Q)
+    → port_index m old.system_ports ≡ o → ((p q : Machines) → can_receive p ≡ true → P p → ProcessesLacpdu v p q → Q q) → KeptBySettling (AtPort m Q)
     → ThenSettles (OnlyPortChangesBy o (ProcessesLacpdu v)) old new → OfEach (AtPort m P) old.system_ports → OfEach (AtPort m Q) new.system_ports
 takes_at P Q m old new v None sound e does settles h a = absurd h.1.0
 takes_at P Q m old new v (Some k) sound e does settles h a =
@@ -130,8 +129,7 @@ takes_at P Q m old new v (Some k) sound e does settles h a =
     let at = h.1.0.2 in
     let number : z.number ≡ m = found_place m old.system_ports k z e at in
     let was : P z.port = all-get (λ (c : SystemPort). AtPort m P c.number c.port) old.system_ports k z at a number in
-    subst (λ j. OfEach (AtPort j Q) new.system_ports) number
-    (takes_each Q old new v k z sound at (λ q awake d. does z.port q awake was d)
+    subst (λ j. OfEach (AtPort j Q) new.system_ports) number (takes_each Q old new v k z sound at (λ q awake d. does z.port q awake was d)
     (subst (λ j. KeptBySettling (AtPort j Q)) (sym number) settles) h)
 
 -- the calls
@@ -187,8 +185,7 @@ module _ (u : Service) (c : Choice) (sel : is_selected c ≡ true) (n : ℕ) (gi
       let e : m ≡ n = eqb-true m n is in
       let serves = v.1 e z.0 z.1 in
       let b = takes_at (Climbs u c may left t) (Climbs u c may (timeout_time u.short) t) m old mid z.0 (port_index m old.system_ports) sound refl
-      (λ p q awake was d. climbs_takes u c may left t z.0 p q serves awake was d)
-      (climbs_settles m u c may (timeout_time u.short) t sel) z.2
+      (λ p q awake was d. climbs_takes u c may left t z.0 p q serves awake was d) (climbs_settles m u c may (timeout_time u.short) t sel) z.2
       (subst (λ j. OfEach (AtPort j (Climbs u c may left t)) old.system_ports) (sym e) a) in
       subst (λ j. OfEach (AtPort j (Climbs u c may (timeout_time u.short) t)) mid.system_ports) e b
   processed may left t call answer old mid sound v is h a = absurd (no is)
@@ -205,11 +202,10 @@ module _ (u : Service) (c : Choice) (sel : is_selected c ≡ true) (n : ℕ) (gi
       → OfEach (AtPort n (Climbs u c may (if processed_on n call answer then timeout_time u.short else left) t)) mid.system_ports
   served_call may left t l call answer old mid sound v none h a =
       let b = processed_on n call answer in elim (cases_Bool b) [
-        | inl is ↦ climbs_to may (timeout_time u.short) (if b then timeout_time u.short else left) t mid (if_so b (timeout_time u.short) left is)
-            (processed may left t call answer old mid sound v is h a)
-        | inr f ↦ climbs_to may left (if b then timeout_time u.short else left) t mid (if_not b (timeout_time u.short) left f)
-            (Step-each (AtPort n (Climbs u c may left t)) (climbs_settles n u c may left t sel) gives old call answer mid
-            (kept may left t l call answer v none f) h a)
+        | inl is ↦ climbs_to may (timeout_time u.short) (if b then timeout_time u.short else left) t mid
+            (if_so b (timeout_time u.short) left is) (processed may left t call answer old mid sound v is h a)
+        | inr f ↦ climbs_to may left (if b then timeout_time u.short else left) t mid (if_not b (timeout_time u.short) left f) (Step-each (AtPort n
+            (Climbs u c may left t)) (climbs_settles n u c may left t sel) gives old call answer mid (kept may left t l call answer v none f) h a)
       ]
 
   weaker : (may : Bool) (left t : ℕ) → 1 ≤ left → (ports : List SystemPort) → OfEach (AtPort n (Climbs u c may left t)) ports

@@ -43,12 +43,10 @@ unordered a b h = grind (arith, nat_tests)
 -- rows that are tried in their order, each where none before it is enabled
 abbrev OrderedKeep : (Machines → Type 0) → (Machines → Bool) → List Row → Type 0
 OrderedKeep P earlier [] = Unit {0}
-OrderedKeep P earlier (row ∷ rows) =
-    ((p : Machines) → earlier p ≡ false → row.enabled p ≡ true → P p → P (row.effect p))
+OrderedKeep P earlier (row ∷ rows) = ((p : Machines) → earlier p ≡ false → row.enabled p ≡ true → P p → P (row.effect p))
     × OrderedKeep P (λ p. earlier p || row.enabled p) rows
 
-ordered : (P : Machines → Type 0) (earlier : Machines → Bool) (rows : List Row) → OrderedKeep P earlier rows
-    → EnabledKeep P (in_order earlier rows)
+ordered : (P : Machines → Type 0) (earlier : Machines → Bool) (rows : List Row) → OrderedKeep P earlier rows → EnabledKeep P (in_order earlier rows)
 ordered P earlier [] k = tt
 ordered P earlier (row ∷ rows) k = grind (arith, nat_tests, unordered, ordered P (λ p. earlier p || row.enabled p) rows k.1)
 
@@ -84,8 +82,7 @@ periodic_near fast most p q h c s =
     grind (arith, nat_tests, rests, Near, NextIn, unclear, timer_expired, partner_short)
 
 pub periodic_runs : (fast : Bool) (most : ℕ) (p q : Machines) → RunsPeriodic p q → Calm fast p → Sounds fast most p → Sounds fast most q
-periodic_runs fast most p q h c s =
-    (periodic_near fast most p q h c s.0, subst (AllByRecursion (Leaves most)) (sym (periodic-ages p q h)) s.1)
+periodic_runs fast most p q h c s = (periodic_near fast most p q h c s.0, subst (AllByRecursion (Leaves most)) (sym (periodic-ages p q h)) s.1)
 
 pub mux_sounds : (fast : Bool) (most : ℕ) (ready : Bool) → RowsKeep (Sounds fast most) (mux_rows ready)
 mux_sounds fast most ready = grind (arith, nat_tests)

@@ -33,10 +33,8 @@ happens_within n s t w h = elim h [
     | inr k ↦ (let timed = all-get (λ (y : SystemPort). IsTimed y.port) s.system_ports i x there t in
         elim k [ inl a ↦ timer_within n s x.port timed a | inr a ↦ window_within n s x.port timed a ])
   ]
-  | inr (g, k, port, id, age, preferred, is, e, f) ↦ (let short : age < 30 = subst IsAwaited e (w g k) in (
-    omega (arith, f),
-    λ z. absurd (omega (arith, z, f, short)),
-  ))
+  | inr (g, k, port, id, age, preferred, is, e, f) ↦
+      (let short : age < 30 = subst IsAwaited e (w g k) in (omega (arith, f), λ z. absurd (omega (arith, z, f, short))))
 ]
 
 first_is : (s : SystemState) (n : ℕ) (r : Option ℕ) → r ≡ Some n → IsFirstToHappen s r → HappensIn n s

@@ -43,8 +43,7 @@ fault_of_word cables Octets w = made_err (hex_word w) _
 
 -- One word more: its fault if it has one, else what the words behind it give.
 one_more : {A B : Type 0} (r : Result A EntryFault) (rest : A → Result B EntryFault) (fault : Option EntryFault) (at : ℕ → Option EntryFault)
-    (place : ℕ) (behind : Option ℕ) → fault ≡ result_err r → at place ≡ fault
-    → ((x : A) → result_err (rest x) ≡ option_and_then at behind)
+    (place : ℕ) (behind : Option ℕ) → fault ≡ result_err r → at place ≡ fault → ((x : A) → result_err (rest x) ≡ option_and_then at behind)
     → result_err (r >>= rest) ≡ option_and_then at (if is_some fault then Some place else behind)
 one_more {A} r rest fault at place behind e here h =
     subst (λ o. result_err (r >>= rest) ≡ option_and_then at (if is_some o then Some place else behind)) (sym e) (on r (here ∙ e) h)
@@ -85,11 +84,8 @@ fault_of_words cables (kind ∷ kinds) [] same = absurd (omega (arith, same))
 fault_of_words cables (kind ∷ kinds) (w ∷ ws) same =
     let at = fault_at cables (kind ∷ kinds) (w ∷ ws) in
     one_more (word_value cables kind w) _ (word_fault cables kind w) at 0 (first_wrong cables (kind ∷ kinds) 1 ws)
-    (fault_of_word cables kind w) refl
-    (λ said. sym (made_err (words_said cables kinds ws) _)
-    ∙ fault_of_words cables kinds ws (omega (arith, same))
-    ∙ sym (behind_one at (first_wrong cables kinds 0 ws))
-    ∙ sym (ap (option_and_then at) (moved cables kind kinds 0 ws)))
+    (fault_of_word cables kind w) refl (λ said. sym (made_err (words_said cables kinds ws) _) ∙ fault_of_words cables kinds ws
+    (omega (arith, same)) ∙ sym (behind_one at (first_wrong cables kinds 0 ws)) ∙ sym (ap (option_and_then at) (moved cables kind kinds 0 ws)))
 
 reads_form : (cables : ℕ) (f : EntryForm) → ReadsKinds cables f.kinds (event_of_form cables f)
 reads_form cables f = (counts, faults)

@@ -11,8 +11,7 @@ abbrev pub NearestSoFar : List ℕ → List (List ℕ) → ℕ → Option (List 
 NearestSoFar word names fewest None = (fewest ≡ 3) × All (λ name. 3 ≤ edits_between word name) names
 NearestSoFar word names fewest (Some found) = (fewest ≡ edits_between word found) × IsNearest word names found
 
-fewest_at_most_3 : (word : List ℕ) (names : List (List ℕ)) (fewest : ℕ) (found : Option (List ℕ)) → NearestSoFar word names fewest found
-    → fewest ≤ 3
+fewest_at_most_3 : (word : List ℕ) (names : List (List ℕ)) (fewest : ℕ) (found : Option (List ℕ)) → NearestSoFar word names fewest found → fewest ≤ 3
 fewest_at_most_3 word names fewest None h = omega (arith, h.0)
 fewest_at_most_3 word names fewest (Some found) h = let near = h.1.near in omega (arith, h.0, near)
 
@@ -20,17 +19,14 @@ least_so_far : (word : List ℕ) (names : List (List ℕ)) (fewest : ℕ) (found
     → All (λ name. fewest ≤ edits_between word name) names
 least_so_far word names fewest None h = subst (λ n. All (λ name. n ≤ edits_between word name) names) (sym h.0) h.1
 least_so_far word names fewest (Some found) h = let found_is = h.0 in
-    subst (All (λ other. fewest ≤ edits_between word other)) (sym h.1.among)
-    (All-append (λ other. fewest ≤ edits_between word other) h.1.before (found ∷ h.1.behind)
-    (All-weaker (λ other. edits_between word found < edits_between word other) (λ other. fewest ≤ edits_between word other)
-    (λ other k. omega (arith, k, found_is)) h.1.before h.1.first)
-    (All-cons (λ other. fewest ≤ edits_between word other) found h.1.behind (omega (arith, found_is))
-    (All-weaker (λ other. edits_between word found ≤ edits_between word other) (λ other. fewest ≤ edits_between word other)
-    (λ other k. omega (arith, k, found_is)) h.1.behind h.1.least)))
+    subst (All (λ other. fewest ≤ edits_between word other)) (sym h.1.among) (All-append (λ other. fewest ≤ edits_between word other) h.1.before
+    (found ∷ h.1.behind) (All-weaker (λ other. edits_between word found < edits_between word other) (λ other. fewest ≤ edits_between word other)
+    (λ other k. omega (arith, k, found_is)) h.1.before h.1.first) (All-cons (λ other. fewest ≤ edits_between word other) found h.1.behind
+    (omega (arith, found_is)) (All-weaker (λ other. edits_between word found ≤ edits_between word other)
+    (λ other. fewest ≤ edits_between word other) (λ other k. omega (arith, k, found_is)) h.1.behind h.1.least)))
 
-nearer : (word : List ℕ) (names : List (List ℕ)) (fewest : ℕ) (found : Option (List ℕ)) (name : List ℕ)
-    → NearestSoFar word names fewest found → edits_between word name < fewest
-    → NearestSoFar word (names ++ name ∷ []) (edits_between word name) (Some name)
+nearer : (word : List ℕ) (names : List (List ℕ)) (fewest : ℕ) (found : Option (List ℕ)) (name : List ℕ) → NearestSoFar word names fewest found
+    → edits_between word name < fewest → NearestSoFar word (names ++ name ∷ []) (edits_between word name) (Some name)
 nearer word names fewest found name h less =
     let high = fewest_at_most_3 word names fewest found h in
     let few : edits_between word name ≤ 2 = omega (arith, high, less) in (
@@ -48,10 +44,7 @@ nearer word names fewest found name h less =
 
 no_nearer : (word : List ℕ) (names : List (List ℕ)) (fewest : ℕ) (found : Option (List ℕ)) (name : List ℕ)
     → NearestSoFar word names fewest found → fewest ≤ edits_between word name → NearestSoFar word (names ++ name ∷ []) fewest found
-no_nearer word names fewest None name h far = (
-  h.0,
-  All-push (λ other. 3 ≤ edits_between word other) names name h.1 (omega (arith, h.0, far)),
-)
+no_nearer word names fewest None name h far = (h.0, All-push (λ other. 3 ≤ edits_between word other) names name h.1 (omega (arith, h.0, far)))
 no_nearer word names fewest (Some found) name h far =
     let found_is = h.0 in
     let more : edits_between word found ≤ edits_between word name = omega (arith, found_is, far) in (

@@ -14,9 +14,8 @@ called R N {o} {n} {g} {w} {k} {z} eo en r = subst (λ o. CallsHeldSystem o n R 
 
 -- here and below: what the box of the block gave a place in is what the block kept
 pub called_with_notes : (R : SystemState → SystemState → List MarkerNote → List MarkerNote → Type 0) (N : Type 0) {o n : Option HeldValue}
-    {b d : Stored} {v : List MarkerNote} {k z : SystemState}
-    → o ≡ Some (record { state = k; algorithm = b.algorithm; answering = b.answering }) → d ≡ b
-    → n ≡ Some (record { state = z; algorithm = d.algorithm; answering = v }) → R k z d.answering v → NotesHeldSystem o n R N
+    {b d : Stored} {v : List MarkerNote} {k z : SystemState} → o ≡ Some (record { state = k; algorithm = b.algorithm; answering = b.answering })
+    → d ≡ b → n ≡ Some (record { state = z; algorithm = d.algorithm; answering = v }) → R k z d.answering v → NotesHeldSystem o n R N
 called_with_notes R N {o} {n} {b} {d} {v} {k} {z} eo same en r =
     let od : o ≡ Some (record { state = k; algorithm = d.algorithm; answering = d.answering }) = subst
     (λ (x : Stored). o ≡ Some (record { state = k; algorithm = x.algorithm; answering = x.answering })) (sym same) eo in
@@ -36,5 +35,4 @@ asked T N {o} {n} {g} {w} {k} eo en t = subst (λ o. ReadsHeldSystem o n T N) (s
 pub asked_of_notes : (T : SystemState → List MarkerNote → Type 0) (N : Type 0) {o n : Option HeldValue} {b d : Stored} {k : SystemState}
     → o ≡ Some (record { state = k; algorithm = b.algorithm; answering = b.answering }) → d ≡ b
     → n ≡ Some (record { state = k; algorithm = b.algorithm; answering = b.answering }) → T k d.answering → ReadsNotes o n T N
-asked_of_notes T N {o} {n} {b} {d} {k} eo same en t = subst (λ o. ReadsNotes o n T N) (sym eo)
-    (subst (λ (x : Stored). T k x.answering) same t, en)
+asked_of_notes T N {o} {n} {b} {d} {k} eo same en t = subst (λ o. ReadsNotes o n T N) (sym eo) (subst (λ (x : Stored). T k x.answering) same t, en)

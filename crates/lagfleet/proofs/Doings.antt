@@ -48,8 +48,7 @@ moved : {c d : ModelCall} {seen shown : List Act} (old new : SystemState) → d 
 moved {c} {d} {seen} {shown} old new e f h = grind (arith, nat_tests)
 
 abbrev IsLawful : ModelCall → List Act → SystemState → SystemState → Type 0
-IsLawful law acts old new =
-    LawfulMoves (model_setup old) law (model_view old) acts (model_view new) × (model_setup new ≡ model_setup old)
+IsLawful law acts old new = LawfulMoves (model_setup old) law (model_view old) acts (model_view new) × (model_setup new ≡ model_setup old)
 
 -- an offer that is answered with a port names an aggregator and a conversation that there are; one that is refused changes nothing
 offered_there : (there known : Bool) (gives : ℕ → ℕ → ℕ → Type 0) (agg : AggId) (conv : ℕ) (old : SystemState) (port : ℕ)
@@ -61,10 +60,8 @@ offer_refused : (there known : Bool) (gives : ℕ → ℕ → ℕ → Type 0) (a
 offer_refused there known gives agg conv old fault new h = grind (arith, nat_tests)
 
 offer_lawful : (gives : ℕ → ℕ → ℕ → Type 0) (agg : AggId) (conv : ℕ) (answer : Result ℕ SystemFault) (old new : SystemState)
-    → OffersConversation gives agg conv old answer new
-    → ((octets : List ℕ) → MayBeOffered octets → number_of_conversation old octets ≡ conv
-    → CallPromise gives old (Call.Offer agg octets) (reply.Offer answer) new)
-    → IsLawful ModelCall.Offer (offered agg conv answer) old new
+    → OffersConversation gives agg conv old answer new → ((octets : List ℕ) → MayBeOffered octets → number_of_conversation old octets ≡ conv
+    → CallPromise gives old (Call.Offer agg octets) (reply.Offer answer) new) → IsLawful ModelCall.Offer (offered agg conv answer) old new
 offer_lawful gives agg conv (Ok port) old new h asked =
     let e = offered_there (has_aggregator old agg) (nat_lt conv (conversation_count old)) gives agg conv old port new h in
     let small : conv < conversation_count old = grind (arith, nat_tests) in
@@ -78,10 +75,8 @@ pub does_lawfully : (gives : ℕ → ℕ → ℕ → Type 0) (doing : Doing) (la
     → Does gives doing law acts old new
     → LawfulMoves (model_setup old) law (model_view old) acts (model_view new) × (model_setup new ≡ model_setup old)
 does_lawfully gives (Makes call answer) law acts old new x =
-    let m = x.0.moves in (
-      told_lawful (model_setup old) m.0 law (model_view old) (model_view new) acts x.1 (moved old new refl x.2 m.4),
-      x.0.configured,
-    )
+    let m =
+    x.0.moves in (told_lawful (model_setup old) m.0 law (model_view old) (model_view new) acts x.1 (moved old new refl x.2 m.4), x.0.configured)
 does_lawfully gives (Forces agg conv) law acts old new x = grind (arith, nat_tests)
 does_lawfully gives (Offers agg conv answer) law acts old new x = grind (arith, nat_tests, offer_lawful, moved)
 does_lawfully gives (Leaves agg conv answer) law acts old new x = (moved old new (sym x.1) (sym x.2) x.0.1.moves, x.0.1.configured)

@@ -39,8 +39,7 @@ module _ (gives : FleetAlgorithms) (far : ℕ → ℕ → Option Place) (s : ℕ
       record w { count = counted old.net w }
 
   answers : (doing : Doing) (law : ModelCall) (stamp : ℕ) (acts : List Act) (before : Network)
-      → Does (gives s) doing law acts (old.systems s) after
-      → Answers gives far s doing law stamp accepts old before systems (left stamp acts before)
+      → Does (gives s) doing law acts (old.systems s) after → Answers gives far s doing law stamp accepts old before systems (left stamp acts before)
   answers doing law stamp acts before does = record {
     acts = acts;
     does = subst (λ n. Does (gives s) doing law acts (old.systems s) n) (sym is_after) does;
@@ -128,11 +127,8 @@ module _ (gives : FleetAlgorithms) (far : ℕ → ℕ → Option Place) (s : ℕ
       let before : Network = record old.net { forced = at_system old.net.forced s (at_two (old.net.forced s) agg.0 k true) } in
       (fleet_after (left 0 [] before), answers (Forces agg k) (ModelCall.Force agg.0 k) 0 [] before (promise, refl, refl), refl)
   each_call (Call.Force agg k) (reply.Force (Err fault)) h promise =
-      let same = refused_same agg k (system_force_result (old.systems s) agg k) fault (old.systems s) after promise.step in (
-        old,
-        (subst (CallPromise (gives s) (old.systems s) (Call.Force agg k) (reply.Force (Err fault))) same promise, refl),
-        same_again same,
-      )
+      let same = refused_same agg k (system_force_result (old.systems s) agg k) fault (old.systems s) after promise.step in
+      (old, (subst (CallPromise (gives s) (old.systems s) (Call.Force agg k) (reply.Force (Err fault))) same promise, refl), same_again same)
   each_call (Call.Force agg k) answer h promise = absurd (let x = promise.step in x)
 
   each_host_call : (call : HostCall) (answer : HostReply) → IsOther call → HostPromise (gives s) (old.systems s) call answer after
@@ -142,25 +138,16 @@ module _ (gives : FleetAlgorithms) (far : ℕ → ℕ → Option Place) (s : ℕ
     answers (Offers agg conv answer) ModelCall.Offer 0 (offered agg conv answer) old.net (promise, refl, refl),
     refl,
   )
-  each_host_call (host.LeaveConversation agg conv) (told.LeaveConversation answer) h promise = (
-    fleet_after (left 0 [] old.net),
-    answers (Leaves agg conv answer) ModelCall.Move_conversation 0 [] old.net (promise, refl, refl),
-    refl,
-  )
-  each_host_call (host.Probe port) (told.Probe answer) h promise = (
-    fleet_after (left 0 promise.1.0 old.net),
-    answers (Probes port answer) ModelCall.Transmit 0 promise.1.0 old.net (promise, refl, refl),
-    refl,
-  )
+  each_host_call (host.LeaveConversation agg conv) (told.LeaveConversation answer) h promise =
+      (fleet_after (left 0 [] old.net), answers (Leaves agg conv answer) ModelCall.Move_conversation 0 [] old.net (promise, refl, refl), refl)
+  each_host_call (host.Probe port) (told.Probe answer) h promise =
+      (fleet_after (left 0 promise.1.0 old.net), answers (Probes port answer) ModelCall.Transmit 0 promise.1.0 old.net (promise, refl, refl), refl)
   each_host_call (host.Rest agg conv) (told.Rest (Ok done)) h promise =
       let before : Network = record old.net { forced = at_system old.net.forced s (at_two (old.net.forced s) agg.0 conv true) } in
       (fleet_after (left 0 [] before), answers (Rests agg conv) (ModelCall.Force agg.0 conv) 0 [] before (promise, refl, refl), refl)
   each_host_call (host.Rest agg conv) (told.Rest (Err fault)) h promise =
-      let same = refused_same agg conv (system_rest_result (old.systems s) agg conv) fault (old.systems s) after promise.0 in (
-        old,
-        (subst (HostPromise (gives s) (old.systems s) (host.Rest agg conv) (told.Rest (Err fault))) same promise, refl),
-        same_again same,
-      )
+      let same = refused_same agg conv (system_rest_result (old.systems s) agg conv) fault (old.systems s) after promise.0 in
+      (old, (subst (HostPromise (gives s) (old.systems s) (host.Rest agg conv) (told.Rest (Err fault))) same promise, refl), same_again same)
   each_host_call (host.ForcePort port) (told.ForcePort (Ok count)) h promise = (
     fleet_after (record old.net {
       view = at_system old.net.view s (model_view (systems s));
@@ -174,11 +161,8 @@ module _ (gives : FleetAlgorithms) (far : ℕ → ℕ → Option Place) (s : ℕ
     refl,
   )
   each_host_call (host.ForcePort port) (told.ForcePort (Err fault)) h promise =
-      let same = promise.1.same in (
-        old,
-        (subst (HostPromise (gives s) (old.systems s) (host.ForcePort port) (told.ForcePort (Err fault))) same promise, refl),
-        same_again same,
-      )
+      let same = promise.1.same in
+      (old, (subst (HostPromise (gives s) (old.systems s) (host.ForcePort port) (told.ForcePort (Err fault))) same promise, refl), same_again same)
   each_host_call (host.Call call) answer h promise = absurd h
   each_host_call call answer h promise = absurd promise
 

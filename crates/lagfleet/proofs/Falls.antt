@@ -73,17 +73,12 @@ falls_to_rest most p q rest up h = grind (arith, disabled, choice_with_link, cla
 
 -- the mux and periodic machines leave the partner
 mux_same : (ready : Bool) (p q : Machines) → RunsToRest (mux_rows ready) p q → partner_synchronized q ≡ partner_synchronized p
-mux_same ready p q h = Reaches-keeps partner_synchronized (mux_rows ready) (
-  (λ p. refl),
-  ((λ p. refl), ((λ p. refl), ((λ p. refl), ((λ p. refl), ((λ p. refl), tt))))),
-) h.0 p q h.1
+mux_same ready p q h = Reaches-keeps partner_synchronized
+    (mux_rows ready) ((λ p. refl), ((λ p. refl), ((λ p. refl), ((λ p. refl), ((λ p. refl), ((λ p. refl), tt)))))) h.0 p q h.1
 
 periodic_same : (p q : Machines) → RunsPeriodic p q → partner_synchronized q ≡ partner_synchronized p
-periodic_same p q h = ap partner_synchronized h.2
-    ∙ Reaches-keeps partner_synchronized periodic_rows (
-      (λ p. refl),
-      ((λ p. refl), ((λ p. refl), ((λ p. refl), ((λ p. refl), ((λ p. refl), ((λ p. refl), tt)))))),
-    ) h.1.0 p h.0 h.1.1
+periodic_same p q h = ap partner_synchronized h.2 ∙ Reaches-keeps partner_synchronized periodic_rows
+    ((λ p. refl), ((λ p. refl), ((λ p. refl), ((λ p. refl), ((λ p. refl), ((λ p. refl), ((λ p. refl), tt))))))) h.1.0 p h.0 h.1.1
 
 -- the first port with this number, if there is one, is out of sync
 abbrev DownIn : ℕ → List SystemPort → Type 0
@@ -96,10 +91,8 @@ down_zip R same p [] [] h d = tt
 down_zip R same p [] (y ∷ ys) h d = absurd h
 down_zip R same p (x ∷ xs) [] h d = absurd h
 down_zip R same p (x ∷ xs) (y ∷ ys) h d =
-    let number : y.number ≡ x.number = ap (λ (s : SystemPort). s.number) h.0.0 in (
-      (λ e. same x.port y.port h.0.1 ∙ d.0 (ap (eqb p) (sym number) ∙ e)),
-      (λ e. down_zip R same p xs ys h.1 (d.1 (ap (eqb p) (sym number) ∙ e))),
-    )
+    let number : y.number ≡ x.number = ap (λ (s : SystemPort). s.number) h.0.0 in
+    ((λ e. same x.port y.port h.0.1 ∙ d.0 (ap (eqb p) (sym number) ∙ e)), (λ e. down_zip R same p xs ys h.1 (d.1 (ap (eqb p) (sym number) ∙ e))))
 
 down_set : (p : ℕ) (xs : List SystemPort) (i : ℕ) (s t : SystemPort) → slice_get xs i ≡ Some s → t.number ≡ s.number
     → partner_synchronized t.port ≡ partner_synchronized s.port → DownIn p xs → DownIn p (slice_set xs i t)
@@ -116,13 +109,11 @@ down_settled p old new h d =
     down_zip RunsPeriodic periodic_same p s.four new.system_ports s.paces
     (down_zip (RunsReady old.keys (views s.two)) (λ m n r. mux_same (ready_of old.keys (views s.two) m.choice) m n r) p s.two s.four s.runs
     (choosing_keeps (DownIn p) (λ l i s o e d. down_set p l i s (with_choice s o) e (given_number s o) (given_partner s o) d)
-    (aggregators_value old) s.one s.two s.chooses
-    (down_zip (RunsToRest (mux_rows false)) (mux_same false) p old.system_ports s.one s.stops d)))
+    (aggregators_value old) s.one s.two s.chooses (down_zip (RunsToRest (mux_rows false)) (mux_same false) p old.system_ports s.one s.stops d)))
 
 -- the first port with the number is set
-first_set : (p : ℕ) (xs : List SystemPort) (i : ℕ) (s t : SystemPort) → slice_get xs i ≡ Some s
-    → ((k : ℕ) → k < i → ((get_or xs k s).number == p) ≡ false) → (t.number == p) ≡ true → partner_synchronized t.port ≡ false
-    → DownIn p (slice_set xs i t)
+first_set : (p : ℕ) (xs : List SystemPort) (i : ℕ) (s t : SystemPort) → slice_get xs i ≡ Some s → ((k : ℕ)
+    → k < i → ((get_or xs k s).number == p) ≡ false) → (t.number == p) ≡ true → partner_synchronized t.port ≡ false → DownIn p (slice_set xs i t)
 first_set p [] i s t e before n d = tt
 first_set p (x ∷ xs) zero s t e before n d = grind arith
 first_set p (x ∷ xs) (suc i) s t e before n d = (
@@ -138,11 +129,9 @@ down_made most p xs ys (Some i) x e rest at up z =
     let s = z.0 in
     let same : s.port ≡ x = same_Some s.port x (sym (ap (option_map (λ (x : SystemPort). x.port)) z.2) ∙ at) in
     let first = position-Some (λ (s : SystemPort). s.number == p) xs i s e in
-    let numbered : (s.number == p) ≡ true =
-    ap (λ (s : SystemPort). s.number == p) (sym (get_or_from_slice_get xs i s s z.2)) ∙ first.1 in
-    subst (DownIn p) (sym z.4) (first_set p xs i s (record s { port = z.1 }) z.2 first.2 numbered
-    (falls_to_rest most s.port z.1 (all-get (λ x. none_enabled receive_rows x.port ≡ true) xs i s z.2 rest)
-    (ap (λ (m : Machines). m.enabled) same ∙ up) z.3))
+    let numbered : (s.number == p) ≡ true = ap (λ (s : SystemPort). s.number == p) (sym (get_or_from_slice_get xs i s s z.2)) ∙ first.1 in
+    subst (DownIn p) (sym z.4) (first_set p xs i s (record s { port = z.1 }) z.2 first.2 numbered (falls_to_rest most s.port z.1
+    (all-get (λ x. none_enabled receive_rows x.port ≡ true) xs i s z.2 rest) (ap (λ (m : Machines). m.enabled) same ∙ up) z.3))
 
 -- as the law has it
 down_of : (a b : Bool) → b ≡ false → cond a Moved_down (cond b Moved_up Moved_down) ≡ Moved_down
@@ -152,11 +141,9 @@ shows_down : (p : ℕ) (xs : List SystemPort) → DownIn p xs → moved_of (port
 shows_down p [] d = refl
 shows_down p (x ∷ xs) d = elim (cases_Bool (eqb p x.number)) [
   | inl e ↦ ap (λ (o : Option SystemPort). moved_of (option_map model_port_of o))
-      (cond_true (eqb p x.number) (Some x) (find_number number_of_port xs p) e)
-      ∙ down_of x.port.defaulted (partner_synchronized x.port) (d.0 e)
+      (cond_true (eqb p x.number) (Some x) (find_number number_of_port xs p) e) ∙ down_of x.port.defaulted (partner_synchronized x.port) (d.0 e)
   | inr e ↦ ap (λ (o : Option SystemPort). moved_of (option_map model_port_of o))
-      (cond_false (eqb p x.number) (Some x) (find_number number_of_port xs p) e)
-      ∙ shows_down p xs (d.1 e)
+      (cond_false (eqb p x.number) (Some x) (find_number number_of_port xs p) e) ∙ shows_down p xs (d.1 e)
 ]
 
 pub falls_seen : (gives : ℕ → ℕ → ℕ → Type 0) → EachFallIsSeen gives

@@ -55,15 +55,12 @@ one_by_one old new s P e here others t = grind arith
 
 module _ (gives : FleetAlgorithms) (x : NetworkSetup) where
   -- one system is another, and the network shows it
-  seen : (s : ℕ) (old : Fleet) (systems : ℕ → SystemState) (net : Network) → Shown x.setup old.systems old.net
-      → systems ≡ at_system old.systems s (systems s) → net.view ≡ at_system old.net.view s (model_view (systems s))
-      → (t : ℕ) → net.view t ≡ model_view (systems t)
-  seen s old systems net i others view t = ap (λ (f : ℕ → View). f t) view
-      ∙ is_or_not (at_system old.net.view s (model_view (systems s)) t ≡ model_view (systems t)) t s
-      (λ e. subst (λ t. at_system old.net.view s (model_view (systems s)) t ≡ model_view (systems t)) (sym e)
-      (there old.net.view s (model_view (systems s))))
-      (λ ne. elsewhere old.net.view s (model_view (systems s)) t ne ∙ i.view t
-      ∙ ap model_view (sym (ap (λ (f : ℕ → SystemState). f t) others ∙ elsewhere old.systems s (systems s) t ne)))
+  seen : (s : ℕ) (old : Fleet) (systems : ℕ → SystemState) (net : Network) → Shown x.setup old.systems old.net → systems ≡ at_system old.systems s
+      (systems s) → net.view ≡ at_system old.net.view s (model_view (systems s)) → (t : ℕ) → net.view t ≡ model_view (systems t)
+  seen s old systems net i others view t = ap (λ (f : ℕ → View). f t) view ∙ is_or_not (at_system old.net.view s
+      (model_view (systems s)) t ≡ model_view (systems t)) t s (λ e. subst (λ t. at_system old.net.view s (model_view (systems s)) t ≡ model_view
+      (systems t)) (sym e) (there old.net.view s (model_view (systems s)))) (λ ne. elsewhere old.net.view s (model_view (systems s)) t ne
+      ∙ i.view t ∙ ap model_view (sym (ap (λ (f : ℕ → SystemState). f t) others ∙ elsewhere old.systems s (systems s) t ne)))
 
   -- of the same configuration
   placed : (s : ℕ) (old : Fleet) (systems : ℕ → SystemState) (net : Network) → Shown x.setup old.systems old.net
@@ -92,14 +89,11 @@ module _ (gives : FleetAlgorithms) (x : NetworkSetup) where
       let both = does_lawfully (gives s) doing law a.acts (old.systems s) (systems s) a.does in
       let shown : View = model_view (systems s) in
       let lawful : LawfulMoves (x.setup s) law (before.view s) a.acts shown =
-      subst (λ (v : View). LawfulMoves (x.setup s) law v a.acts shown)
-      (sym (ap (λ (f : ℕ → View). f s) same ∙ i.view s))
+      subst (λ (v : View). LawfulMoves (x.setup s) law v a.acts shown) (sym (ap (λ (f : ℕ → View). f s) same ∙ i.view s))
       (subst (λ (u : SystemSetup). LawfulMoves u law (model_view (old.systems s)) a.acts shown) (i.setup s) both.0) in (
         calls_from x s law stamp old.net before after shown a.acts accepts a.count lawful a.counts a.leaves,
-        placed s old systems after i a.others both.1
-            (ap (λ (w : Network). w.view) a.leaves
-            ∙ acts_view (fleet_setup x.far old.systems) s stamp accepts a.acts shown before
-            ∙ ap (λ (v : ℕ → View). at_system v s shown) same),
+        placed s old systems after i a.others both.1 (ap (λ (w : Network). w.view) a.leaves
+            ∙ acts_view (fleet_setup x.far old.systems) s stamp accepts a.acts shown before ∙ ap (λ (v : ℕ → View). at_system v s shown) same),
       )
 
   still : (old new : Fleet) → Shown x.setup old.systems old.net → new.systems ≡ old.systems → new.net.view ≡ old.net.view
@@ -124,8 +118,7 @@ module _ (gives : FleetAlgorithms) (x : NetworkSetup) where
   abbrev IsPlayed : Fleet → Fleet → Type 0
   IsPlayed old new = PlaysTo (Unit {0}) x old new
 
-  one : (e : NetworkEvent) (old new : Fleet)
-      → NetworkHappens x e old.net new.net × Shown (recabled x e).setup new.systems new.net
+  one : (e : NetworkEvent) (old new : Fleet) → NetworkHappens x e old.net new.net × Shown (recabled x e).setup new.systems new.net
       → PlaysTo (CablesStay (e ∷ [])) (recabled x e) old new
   one e old new h = (e ∷ [], (new.net, h.0, refl), refl, h.1, λ c. c)
 
@@ -136,8 +129,7 @@ module _ (gives : FleetAlgorithms) (x : NetworkSetup) where
       → x.far s p ≡ o → old.net.towards s p ≡ line → Shown x.setup old.systems old.net
       → FleetReceives gives x.far s p octets answer accepts o line old new → IsPlayed old new
   received s p octets answer accepts None line old new e f i z =
-      let a = answered s (Makes (Call.Receive p octets) answer) (ModelCall.Receive p z.0) z.1 accepts old old.net new.systems new.net i refl
-      z.3 in
+      let a = answered s (Makes (Call.Receive p octets) answer) (ModelCall.Receive p z.0) z.1 accepts old old.net new.systems new.net i refl z.3 in
       one (Hear s p z.0 z.1) old new ((e, a.0), a.1)
   received s p octets answer accepts (Some place) [] old new e f i z = absurd z
   received s p octets answer accepts (Some place) (Control pdu stamp ∷ ms) old new e f i z =
@@ -163,9 +155,8 @@ module _ (gives : FleetAlgorithms) (x : NetworkSetup) where
       same (Some h) = refl
       same None = refl
 
-  repeated : (s p : ℕ) (octets : List ℕ) (answer : Reply) (accepts : Act → Bool) (line : List Message) (old new : Fleet)
-      → old.net.towards s p ≡ line → Shown x.setup old.systems old.net
-      → FleetRepeats gives x.far s p octets answer accepts line old new → IsPlayed old new
+  repeated : (s p : ℕ) (octets : List ℕ) (answer : Reply) (accepts : Act → Bool) (line : List Message) (old new : Fleet) → old.net.towards s p ≡ line
+      → Shown x.setup old.systems old.net → FleetRepeats gives x.far s p octets answer accepts line old new → IsPlayed old new
   repeated s p octets answer accepts [] old new f i z = absurd z
   repeated s p octets answer accepts (Data origin g k serial ∷ ms) old new f i z = absurd z
   repeated s p octets answer accepts (Control pdu stamp ∷ ms) old new f i z =
@@ -182,20 +173,15 @@ module _ (gives : FleetAlgorithms) (x : NetworkSetup) where
 
   restarts : (s : ℕ) (old new : Fleet) → Shown x.setup old.systems old.net → Restarts gives x.far s old new → IsPlayed old new
   restarts s old new i z =
-      let first : model_view (new.systems s) ≡ first_view (x.setup s) =
-      first_shows (new.systems s) z.promise.step.1 ∙ ap first_view (z.promise.configured ∙ i.setup s) in
+      let first : model_view (new.systems s) ≡ first_view (x.setup s) = first_shows (new.systems s) z.promise.step.1
+      ∙ ap first_view (z.promise.configured ∙ i.setup s) in
       one (Restart s) old new (
         (
           z.count,
-          subst (λ (v : View). CountsNetworkChanges old.net (record old.net {
-            view = at_system old.net.view s v;
-            towards = λ t q. cond (ends_at x s t q) [] (old.net.towards t q);
-          }) z.count) first z.counts,
-          z.leaves ∙ ap (λ (v : View). record old.net {
-            view = at_system old.net.view s v;
-            towards = λ t q. cond (ends_at x s t q) [] (old.net.towards t q);
-            count = z.count;
-          }) first,
+          subst (λ (v : View). CountsNetworkChanges old.net (record old.net
+              { view = at_system old.net.view s v; towards = λ t q. cond (ends_at x s t q) [] (old.net.towards t q) }) z.count) first z.counts,
+          z.leaves ∙ ap (λ (v : View). record old.net
+              { view = at_system old.net.view s v; towards = λ t q. cond (ends_at x s t q) [] (old.net.towards t q); count = z.count }) first,
         ),
         placed s old new.systems new.net i z.others z.promise.configured (ap (λ (w : Network). w.view) z.leaves),
       )
@@ -212,9 +198,8 @@ module _ (gives : FleetAlgorithms) (x : NetworkSetup) where
   calls s Call.Tick answer accepts old new i z = one (Tick s 1) old new (plain s (Makes Call.Tick answer) ModelCall.Tick z.0 accepts old new i z.1 z.2)
   calls s (Call.Transmit p) answer accepts old new i z = one (Emit s p) old new
       (plain s (Makes (Call.Transmit p) answer) ModelCall.Transmit z.0 accepts old new i z.1 z.2)
-  calls s (Call.Set_link p up) answer accepts old new i z = one (Sense s p) old new
-      (plain s (Makes (Call.Set_link p up) answer) (ModelCall.Set_link p (old.net.whole s p)) (ModelCall.Set_link p up) accepts old new i
-      (ap (ModelCall.Set_link p) z.0) z.1)
+  calls s (Call.Set_link p up) answer accepts old new i z = one (Sense s p) old new (plain s (Makes (Call.Set_link p up) answer)
+      (ModelCall.Set_link p (old.net.whole s p)) (ModelCall.Set_link p up) accepts old new i (ap (ModelCall.Set_link p) z.0) z.1)
   calls s (Call.Receive p octets) answer accepts old new i z =
       received s p octets answer accepts (x.far s p) (old.net.towards s p) old new refl refl i z
   calls s (Call.Configure p to) answer accepts old new i z =
@@ -236,10 +221,8 @@ module _ (gives : FleetAlgorithms) (x : NetworkSetup) where
       let both = held_freed port (old.systems s) (new.systems s) z.promise.0 z.promise.2 in
       let seen : model_view (new.systems s) ≡ freed_view test (old.net.view s) = both.0 ∙ ap (freed_view test) (sym (i.view s)) in
       one (Frees s test) old new (
-        z.leaves ∙ ap (λ (v : View). record old.net {
-          view = at_system old.net.view s v;
-          forced = at_system old.net.forced s (also_forced test (old.net.forced s));
-        }) seen,
+        z.leaves ∙ ap (λ (v : View).
+            record old.net { view = at_system old.net.view s v; forced = at_system old.net.forced s (also_forced test (old.net.forced s)) }) seen,
         placed s old new.systems new.net i z.others both.1 (ap (λ (w : Network). w.view) z.leaves),
       )
 
@@ -258,8 +241,7 @@ module _ (gives : FleetAlgorithms) (x : NetworkSetup) where
   asks s call answer accepts old new i z = absurd z
 
   -- what happens on cables leaves the views
-  cables_view : (e : NetworkEvent) (old new : Network) → IsOnCables e → NetworkHappens x e old new
-      → new.view ≡ old.view
+  cables_view : (e : NetworkEvent) (old new : Network) → IsOnCables e → NetworkHappens x e old new → new.view ≡ old.view
   cables_view (Lose s p) old new h z = ap (λ (w : Network). w.view) z
   cables_view (Cut s p) old new h z = ap (λ (w : Network). w.view) z
   cables_view (Join s p) old new h z = ap (λ (w : Network). w.view) z
@@ -295,8 +277,7 @@ module _ (gives : FleetAlgorithms) (x : NetworkSetup) where
   steps (Asks_call s call answer accepts) old new i z = asks s call answer accepts old new i z
   steps (Changes_setting s setting answer) old new i z = one (Tick s 0) old new
       (plain s (Sets setting answer) ModelCall.Tick ModelCall.Tick (λ a. true) old new i refl z)
-  steps (Hears_again s p octets answer accepts) old new i z =
-      repeated s p octets answer accepts (old.net.towards s p) old new refl i z
+  steps (Hears_again s p octets answer accepts) old new i z = repeated s p octets answer accepts (old.net.towards s p) old new refl i z
   steps (Gives_way s setup) old new i z =
       let y = z.2.1 in
       one (Succeed s setup (model_view (new.systems s))) old new (
@@ -348,10 +329,8 @@ fleet_runs : (gives : FleetAlgorithms) (far : ℕ → ℕ → Option Place) (es 
     × (FleetCablesStay es → CablesStay events)
     × ((s : ℕ) → end.net.view s ≡ model_view (end.systems s))
 fleet_runs gives far es start end f z =
-    let i : Shown (fleet_setup far start.systems).setup start.systems start.net = record {
-      setup = λ t. refl;
-      view = λ t. ap (λ (w : Network). w.view t) f.1 ∙ sym (first_shows (start.systems t) (f.0 t));
-    } in
+    let i : Shown (fleet_setup far start.systems).setup start.systems start.net =
+    record { setup = λ t. refl; view = λ t. ap (λ (w : Network). w.view t) f.1 ∙ sym (first_shows (start.systems t) (f.0 t)) } in
     grind (arith, runs, fleet_setup)
 
 fleet_setup_is : (far : ℕ → ℕ → Option Place) (systems : ℕ → SystemState) → IsCabled far → IsNetworkSetup (fleet_setup far systems)

@@ -64,8 +64,7 @@ acts_view ends stamp accepts (a ∷ more) v w = acts_view ends stamp accepts mor
 })
 
 -- what happens outside leaves the view
-outside_view : (u : SystemSetup) (ends : ℕ → Option ℕ) (e : Happening) (old new : Scene) → IsOutside e → Comes u ends e old new
-    → new.view ≡ old.view
+outside_view : (u : SystemSetup) (ends : ℕ → Option ℕ) (e : Happening) (old new : Scene) → IsOutside e → Comes u ends e old new → new.view ≡ old.view
 outside_view u ends e old new h z = grind arith
 
 module _ (gives : ℕ → ℕ → ℕ → Type 0) (u : SystemSetup) (ends : ℕ → Option ℕ) (f : IsSystemSetup u)
@@ -104,12 +103,9 @@ module _ (gives : ℕ → ℕ → ℕ → Type 0) (u : SystemSetup) (ends : ℕ 
       let both = held_freed port old.system new.system z.promise.0 z.promise.2 in
       let seen : model_view new.system ≡ freed_view test old.scene.view = both.0 ∙ ap (freed_view test) (sym i.view) in
       record {
-        kept = subst (Kept u ends) (sym (z.leaves
-            ∙ ap (λ (v : View). record old.scene { view = v; forced = also_forced test old.scene.forced }) seen)) (record {
-              lanes = lanes_freed i.kept.lanes test;
-              members = i.kept.members;
-              heard = i.kept.heard;
-            });
+        kept =
+            subst (Kept u ends) (sym (z.leaves ∙ ap (λ (v : View). record old.scene { view = v; forced = also_forced test old.scene.forced }) seen))
+            (record { lanes = lanes_freed i.kept.lanes test; members = i.kept.members; heard = i.kept.heard });
         counts = unsent old.scene new.scene (ap (λ (w : Scene). w.sent) z.leaves) i.counts;
         setup = both.1 ∙ i.setup;
         view = ap (λ (w : Scene). w.view) z.leaves;
@@ -132,8 +128,7 @@ module _ (gives : ℕ → ℕ → ℕ → Type 0) (u : SystemSetup) (ends : ℕ 
         view = ap (λ (w : Scene). w.view) z.1;
       }
   keeps (Forces_conversation agg conv answer) old new n i z = forces agg conv (Doing.Forces agg conv) answer old new i z
-  keeps (Offers_conversation agg conv answer accepts) old new n i z =
-      plain (Doing.Offers agg conv answer) ModelCall.Offer 0 accepts old new i z
+  keeps (Offers_conversation agg conv answer accepts) old new n i z = plain (Doing.Offers agg conv answer) ModelCall.Offer 0 accepts old new i z
   keeps (Leaves_conversation agg conv answer) old new n i z =
       plain (Doing.Leaves agg conv answer) ModelCall.Move_conversation 0 takes_all old new i z
   keeps (Probes_port port answer accepts) old new n i z = plain (Doing.Probes port answer) ModelCall.Transmit 0 accepts old new i z
@@ -173,8 +168,7 @@ module _ (gives : ℕ → ℕ → ℕ → Type 0) (u : SystemSetup) (ends : ℕ 
 runs : (gives : ℕ → ℕ → ℕ → Type 0) (ends : ℕ → Option ℕ) → ((c d p : ℕ) → ends c ≡ Some p → ends d ≡ Some p → c ≡ d) → (es : List StageEvent)
     (old new : Stage) → Stood ends old → StageRun gives ends es old new → Stood ends new
 runs gives ends one [] old new i z = subst (Stood ends) (sym z) i
-runs gives ends one (e ∷ es) old new i z =
-    runs gives ends one es z.0 new (steps gives i.0 ends i.1 one e old z.0 i.2 z.1) z.2
+runs gives ends one (e ∷ es) old new i z = runs gives ends one es z.0 new (steps gives i.0 ends i.1 one e old z.0 i.2 z.1) z.2
 
 stood : (gives : ℕ → ℕ → ℕ → Type 0) (ends : ℕ → Option ℕ) (events : List StageEvent) (start end : Stage)
     → ((c d p : ℕ) → ends c ≡ Some p → ends d ≡ Some p → c ≡ d) → IsFirst start.system
@@ -214,11 +208,7 @@ counts_beside gives ends events start end one first e z = grind (arith, stood)
 pub calls_beside : (gives : ℕ → ℕ → ℕ → Type 0) → EachCallBesideAnyPeer gives
 calls_beside gives ends old call answer accepts after stamp promise fits = (
   record { system = after; scene = scene_after_acts ends stamp accepts promise.moves.1 (model_view after) old.scene },
-  (
-    promise.moves.0,
-    promise.moves.2,
-    record { acts = promise.moves.1; does = (promise, inl refl, refl); fits = fits; leaves = refl },
-  ),
+  (promise.moves.0, promise.moves.2, record { acts = promise.moves.1; does = (promise, inl refl, refl); fits = fits; leaves = refl }),
   refl,
   refl,
 )
@@ -277,13 +267,9 @@ module _ (gives : ℕ → ℕ → ℕ → Type 0) (ends : ℕ → Option ℕ) (o
       quiet (Doing.Offers agg conv answer) ModelCall.Offer accepts (offered agg conv answer) refl refl (promise, refl, refl)
   each_host_call (host.LeaveConversation agg conv) (told.LeaveConversation answer) accepts h promise =
       quiet (Doing.Leaves agg conv answer) ModelCall.Move_conversation takes_all [] refl refl (promise, refl, refl)
-  each_host_call (host.Probe port) (told.Probe answer) accepts h promise = (
-    promise.1.0,
-    promise.1.1,
-    quiet (Doing.Probes port answer) ModelCall.Transmit accepts promise.1.0 refl refl (promise, refl, refl),
-  )
-  each_host_call (host.Rest agg conv) (told.Rest (Ok done)) accepts h promise =
-      forced agg conv (Doing.Rests agg conv) done (promise, refl, refl)
+  each_host_call (host.Probe port) (told.Probe answer) accepts h promise =
+      (promise.1.0, promise.1.1, quiet (Doing.Probes port answer) ModelCall.Transmit accepts promise.1.0 refl refl (promise, refl, refl))
+  each_host_call (host.Rest agg conv) (told.Rest (Ok done)) accepts h promise = forced agg conv (Doing.Rests agg conv) done (promise, refl, refl)
   each_host_call (host.Rest agg conv) (told.Rest (Err fault)) accepts h promise =
       let same = refused_same agg conv (system_rest_result old.system agg conv) fault old.system after promise.0 in
       (subst (HostPromise gives old.system (host.Rest agg conv) (told.Rest (Err fault))) same promise, unchanged same)

@@ -30,14 +30,11 @@ lanes_kept u ends w i v e f l = grind arith
 moves_kept : (u : SystemSetup) (ends : ℕ → Option ℕ) (call : ModelCall) (stamp : ℕ) (ms : List (Move × Bool)) (old new : Scene)
     → Within call stamp ends old.back old.whole old.forced → Kept u ends old → Moves u ends call stamp ms old new → Kept u ends new
 moves_kept u ends call stamp [] old new w i z = subst (Kept u ends) (sym z) i
-moves_kept u ends call stamp (m ∷ ms) old new w i z =
-    moves_kept u ends call stamp ms (scene_after u ends stamp m old) new w
-    (record {
-      lanes = lanes_own One ends old.whole old.collected old.forced old.back u call stamp (λ p. 0) m.1 old.view m.0 old.out old.sent z.0 w
-          i.lanes;
-      members = members_own u call old.view m.0 z.0 w.running i.members;
-      heard = heard_own u call stamp old.view m.0 old.taken z.0 w.running i.heard;
-    }) z.1
+moves_kept u ends call stamp (m ∷ ms) old new w i z = moves_kept u ends call stamp ms (scene_after u ends stamp m old) new w (record {
+  lanes = lanes_own One ends old.whole old.collected old.forced old.back u call stamp (λ p. 0) m.1 old.view m.0 old.out old.sent z.0 w i.lanes;
+  members = members_own u call old.view m.0 z.0 w.running i.members;
+  heard = heard_own u call stamp old.view m.0 old.taken z.0 w.running i.heard;
+}) z.1
 
 pub only_there : (c d : ℕ) → only c d ≡ Some 0 → d ≡ c
 only_there c d h = grind arith
@@ -54,10 +51,9 @@ comes_kept u ends (Calls call stamp moves) old new f one i z = grind (arith, mov
 comes_kept u ends (Gone c m ms) old new f one i z =
     subst (Kept u ends) (sym z.1) (lanes_kept u ends old i _ refl refl (lanes_back_taken i.lanes c m ms z.0))
 comes_kept u ends (Says c kept m) old new f one i z = grind (arith, lanes_kept, lanes_back_plain, only, below_none, answers_none)
-comes_kept u ends (Answers c kept mac p n stamp ms) old new f one i z =
-    subst (Kept u ends) (sym z.1) (lanes_kept u ends old i _ refl refl
-    (lanes_back_response One ends old.whole old.sent old.collected old.forced old.view.flows old.out old.back (only c) kept 0 mac p n stamp
-    (λ d h. (ms, subst (λ d. old.out d ≡ Control (Marker mac p n) stamp ∷ ms) (sym (only_there c d h)) z.0)) i.lanes))
+comes_kept u ends (Answers c kept mac p n stamp ms) old new f one i z = subst (Kept u ends) (sym z.1)
+    (lanes_kept u ends old i _ refl refl (lanes_back_response One ends old.whole old.sent old.collected old.forced old.view.flows old.out old.back
+    (only c) kept 0 mac p n stamp (λ d h. (ms, subst (λ d. old.out d ≡ Control (Marker mac p n) stamp ∷ ms) (sym (only_there c d h)) z.0)) i.lanes))
 comes_kept u ends (HandsUp c g k n ms) old new f one i z = grind (arith, lanes_kept, lanes_handed)
 comes_kept u ends (Takes c m ms) old new f one i z =
     subst (Kept u ends) (sym z.1) (lanes_kept u ends old i _ refl refl (lanes_out_taken i.lanes c m ms z.0))
@@ -91,13 +87,7 @@ pub took_from_any_peer : HoldsWithAnyPeer TookInSync
 took_from_any_peer u ends es w f one z p a h d n =
     let i = kept u ends es w f one z in
     let r = i.heard p a h n in
-    let y = r.3 ((i.members.member p a h d).1) in (
-      r.0,
-      r.1,
-      r.2,
-      y.0,
-      y.1,
-    )
+    let y = r.3 ((i.members.member p a h d).1) in (r.0, r.1, r.2, y.0, y.1)
 
 -- ---- each lawful call is a happening that leaves what its visible acts leave
 
@@ -121,8 +111,7 @@ module _ (u : SystemSetup) (ends : ℕ → Option ℕ) (call : ModelCall) (stamp
   one_shown : (o : Option Act) (seen : List Act) (v on_the_way : View) (w : Scene)
       → scene_after_acts ends stamp accepts seen v (shown o on_the_way w) ≡ scene_after_acts ends stamp accepts (option_to_list o ++ seen) v w
   one_shown None seen v on_the_way w = view_over ends stamp accepts seen v on_the_way w
-  one_shown (Some a) seen v on_the_way w =
-      view_over ends stamp accepts seen v on_the_way (scene_after_act ends stamp (accepts a) (Some a) w)
+  one_shown (Some a) seen v on_the_way w = view_over ends stamp accepts seen v on_the_way (scene_after_act ends stamp (accepts a) (Some a) w)
 
   all_moves : (ms : List Move) (w : Scene) → AllAllowed u call w.view ms → (moves : List (Move × Bool))
       × Moves u ends call stamp moves w (scene_after_acts ends stamp accepts (acts u ms w.view) (view_after_all u ms w.view) w)
@@ -145,8 +134,7 @@ each_call_is_one u ends call stamp accepts seen old v h fits =
       (
         fits,
         subst (λ (seen : List Act). Moves u ends call stamp r.0 old (scene_after_acts ends stamp accepts seen v old)) h.2
-            (subst (λ (v : View). Moves u ends call stamp r.0 old (scene_after_acts ends stamp accepts (acts u h.0 old.view) v old)) (sym h.3)
-            r.1),
+            (subst (λ (v : View). Moves u ends call stamp r.0 old (scene_after_acts ends stamp accepts (acts u h.0 old.view) v old)) (sym h.3) r.1),
       ),
     )
 

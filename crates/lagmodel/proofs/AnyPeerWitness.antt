@@ -91,8 +91,7 @@ before₀ = Says 1 true m₀ ∷ Calls (Receive 1 (Some (Lacp pdu₃))) 0 joins�
     ∷ HandsUp 1 1 48 0 (marker₀ ∷ []) ∷ []
 
 abbrev after₀ : List Happening
-after₀ = Calls (Receive 1 (Some response₀)) 0 again₀ ∷ Gone 1 (Control response₀ 0) [] ∷ Takes 1 marker₀ (frame₁ ∷ []) ∷ HandsUp 1 1 48 1 []
-    ∷ []
+after₀ = Calls (Receive 1 (Some response₀)) 0 again₀ ∷ Gone 1 (Control response₀ 0) [] ∷ Takes 1 marker₀ (frame₁ ∷ []) ∷ HandsUp 1 1 48 1 [] ∷ []
 
 below : 1 < 2 ^ 32
 below = omega arith

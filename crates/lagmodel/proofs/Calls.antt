@@ -10,8 +10,7 @@ use Rattle.lagmodel.proofs.Ports.{members_kept, members_first}
 pub members_moves : (u : SystemSetup) (call : ModelCall) (moves : List Move) (v : View) → IsSystemSetup u → AllAllowed u call v moves
     → Members u v.port → Members u (view_after_all u moves v).port
 members_moves u call [] v s h i = i
-members_moves u call (Port p m ∷ ms) v s h i = members_moves u call ms (view_after u (Port p m) v) s h.1
-    (members_kept u call v.port p m h.0 i)
+members_moves u call (Port p m ∷ ms) v s h i = members_moves u call ms (view_after u (Port p m) v) s h.1 (members_kept u call v.port p m h.0 i)
 members_moves u call (Flow m ∷ ms) v s h i = members_moves u call ms (view_after u (Flow m) v) s h.1 i
 members_moves u call (Restart ∷ ms) v s h i = members_moves u call ms (first_view u) s h.1 (members_first u s)
 

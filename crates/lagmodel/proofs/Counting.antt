@@ -15,8 +15,7 @@ one_more xs h i lt = grind (arith, cases_lt, get_or_append_left, length-append, 
 pub counted_act : (o : Option Act) (sent : ℕ → ℕ → List ℕ) → ((g k : ℕ) → IsCount (sent g k)) → (g k : ℕ) → IsCount (sent_after o sent g k)
 counted_act o sent h g k = grind (arith, two_cases, IsCount, one_more)
 
-counted_move : (x : WorldSetup) (s : Side) (stamp : ℕ) (m : Move × Bool) (w : World) → CountsFromZero w
-    → CountsFromZero (world_after x s stamp m w)
+counted_move : (x : WorldSetup) (s : Side) (stamp : ℕ) (m : Move × Bool) (w : World) → CountsFromZero w → CountsFromZero (world_after x s stamp m w)
 counted_move x s stamp m w h i g k = grind (arith, counted_act, act)
 
 counted_all : (x : WorldSetup) (s : Side) (stamp : ℕ) (ms : List (Move × Bool)) (w : World) → CountsFromZero w

@@ -17,8 +17,7 @@ use Rattle.lagmodel.proofs.Worlds.{Half, HalfFacing, Lawful, Calling, calling_al
 
 -- what is left on the cables: all, or all but the first message of one
 abbrev pub Popped : (ℕ → List Message) → (ℕ → List Message) → Type 0
-Popped towards base = (towards ≡ base) ⊎ ((c : ℕ) × (m : Message) × (ms : List Message) × (towards c ≡ m ∷ ms)
-    × (base ≡ at_cable towards c ms))
+Popped towards base = (towards ≡ base) ⊎ ((c : ℕ) × (m : Message) × (ms : List Message) × (towards c ≡ m ∷ ms) × (base ≡ at_cable towards c ms))
 
 module _ {u : SystemSetup} {me : Side} {ends theirs : ℕ → Option ℕ} {v : View} {party : ℕ → Option Party} {count : ℕ → ℕ}
     {out back : ℕ → List Message} {whole : ℕ → Bool} {sent collected : ℕ → ℕ → List ℕ} {forced : ℕ → ℕ → Bool}
@@ -52,8 +51,7 @@ module _ {u : SystemSetup} {me : Side} {ends theirs : ℕ → Option ℕ} {v : V
   }
 
   -- the change counts at the end of an event
-  half_counted : (new : ℕ → ℕ)
-      → ((p : ℕ) → ((party_at v p ≡ party p) × (new p ≡ count p)) ⊎ ((party_at v p ≢ party p) × (new p ≡ suc (count p))))
+  half_counted : (new : ℕ → ℕ) → ((p : ℕ) → ((party_at v p ≡ party p) × (new p ≡ count p)) ⊎ ((party_at v p ≢ party p) × (new p ≡ suc (count p))))
       → Half u me ends theirs v (party_at v) new out back whole sent collected forced taken their_taken
   half_counted new h = record {
     members = i.members;
@@ -64,9 +62,8 @@ module _ {u : SystemSetup} {me : Side} {ends theirs : ℕ → Option ℕ} {v : V
 
   -- the first message is taken away, and handed up
   half_handed : (c g k n : ℕ) (ms : List Message) → ((c d p : ℕ) → ends c ≡ Some p → ends d ≡ Some p → c ≡ d)
-      → out c ≡ Data me g k n ∷ ms
-      → Half u me ends theirs v party count (at_cable out c ms) back whole sent (at_two collected g k (collected g k ++ n ∷ []))
-      forced taken their_taken
+      → out c ≡ Data me g k n ∷ ms → Half u me ends theirs v party count (at_cable out c ms) back whole sent
+      (at_two collected g k (collected g k ++ n ∷ [])) forced taken their_taken
   half_handed c g k n ms one e = record {
     members = i.members;
     heard = i.heard;
@@ -87,8 +84,7 @@ module _ {u : SystemSetup} {me : Side} {ends theirs : ℕ → Option ℕ} {v : V
   half_emptied : Half u me ends theirs v party count (λ c. []) (λ c. []) whole sent collected forced taken their_taken
   half_emptied = record { members = i.members; heard = i.heard; lanes = lanes_emptied i.lanes; stamps = stamps_emptied i.stamps }
 
-  half_forced : (g k : ℕ)
-      → Half u me ends theirs v party count out back whole sent collected (at_two forced g k true) taken their_taken
+  half_forced : (g k : ℕ) → Half u me ends theirs v party count out back whole sent collected (at_two forced g k true) taken their_taken
   half_forced g k = record { members = i.members; stamps = i.stamps; heard = i.heard; lanes = lanes_forced i.lanes g k }
 
 -- the halves of a system and of its peer
@@ -103,10 +99,9 @@ across x One w i = i Two
 across x Two w i = i One
 
 -- the end of a call
-ended : (x : WorldSetup) (s : Side) (call : ModelCall) (stamp : ℕ) (party : Side → ℕ → Option Party) (old new : Side → ℕ
-    → ℕ) (towards base : ℕ → List Message) (w : World)
-    → Popped towards base → ((t : Side) (p : ℕ) → ((party_at (w.view t) p ≡ party t p) × (new t p ≡ old t p))
-    ⊎ ((party_at (w.view t) p ≢ party t p) × (new t p ≡ suc (old t p))))
+ended : (x : WorldSetup) (s : Side) (call : ModelCall) (stamp : ℕ) (party : Side → ℕ → Option Party)
+    (old new : Side → ℕ → ℕ) (towards base : ℕ → List Message) (w : World) → Popped towards base → ((t : Side) (p : ℕ)
+    → ((party_at (w.view t) p ≡ party t p) × (new t p ≡ old t p)) ⊎ ((party_at (w.view t) p ≢ party t p) × (new t p ≡ suc (old t p))))
     → Calling x s call stamp party old towards base w → Lawful x (record w { count = new })
 ended x s call stamp party old new towards base w p h i =
     both x s (record w { count = new }) (half_counted (half_back i.own (w.on_cable s) there) (new s) (rises s))
@@ -121,11 +116,9 @@ ended x s call stamp party old new towards base w p h i =
         ⊎ ((party_at (w.view t) p ≢ party t p) × (new t p ≡ suc (n t p)))) (sym i.counts) (h t)
 
 -- a whole call
-call_kept : (x : WorldSetup) (s : Side) (call : ModelCall) (stamp : ℕ) (party : Side → ℕ → Option Party) (old : Side → ℕ
-    → ℕ) (towards base : ℕ → List Message) (mid new : World)
-    → Popped towards base → Calling x s call stamp party old towards base mid
-    → (moves : List (Move × Bool)) → AllMoves x s call stamp moves mid
-    → (count : Side → ℕ → ℕ)
+call_kept : (x : WorldSetup) (s : Side) (call : ModelCall) (stamp : ℕ) (party : Side → ℕ → Option Party)
+    (old : Side → ℕ → ℕ) (towards base : ℕ → List Message) (mid new : World) → Popped towards base
+    → Calling x s call stamp party old towards base mid → (moves : List (Move × Bool)) → AllMoves x s call stamp moves mid → (count : Side → ℕ → ℕ)
     → ((t : Side) (p : ℕ) → ((party_at ((world_after_all x s stamp moves mid).view t) p ≡ party t p) × (count t p ≡ old t p))
     ⊎ ((party_at ((world_after_all x s stamp moves mid).view t) p ≢ party t p) × (count t p ≡ suc (old t p))))
     → new ≡ record (world_after_all x s stamp moves mid) { count = count } → Lawful x new
@@ -134,9 +127,8 @@ call_kept x s call stamp party old towards base mid new p i moves a count h e =
     (calling_all x s call stamp party old towards base moves mid a i))
 
 -- the start of a call, at which nothing was taken away
-started : (x : WorldSetup) (s : Side) (call : ModelCall) (stamp : ℕ) (w : World) → Lawful x w
-    → Within call stamp (end_at x.cables s) (w.on_cable s) w.whole (w.forced s)
-    → Calling x s call stamp (λ t. party_at (w.view t)) w.count (w.on_cable s) (w.on_cable s) w
+started : (x : WorldSetup) (s : Side) (call : ModelCall) (stamp : ℕ) (w : World) → Lawful x w → Within call stamp (end_at x.cables s)
+    (w.on_cable s) w.whole (w.forced s) → Calling x s call stamp (λ t. party_at (w.view t)) w.count (w.on_cable s) (w.on_cable s) w
 started x s call stamp w i h = record { within = h; parties = λ r p. refl; own = i s; other = across x s w i; counts = refl; rest = refl }
 
 -- a call that brings no control PDU, takes no link down and forces nothing
@@ -175,10 +167,9 @@ link_force p g k a e = cc
 force_parts : (g k h j : ℕ) → Force g k ≡ Force h j → (g ≡ h) × (k ≡ j)
 force_parts g k h j e = (cc, cc)
 
-within_receive : (p : ℕ) (pdu : ControlMessage) (stamp : ℕ) (ends : ℕ → Option ℕ) (back : ℕ → List Message) (whole : ℕ → Bool) (forced : ℕ
-    → ℕ → Bool) (c : ℕ) (ms : List Message)
-    → ((c d p : ℕ) → ends c ≡ Some p → ends d ≡ Some p → c ≡ d) → ends c ≡ Some p → back c ≡ Control pdu stamp ∷ ms
-    → Within (Receive p (Some pdu)) stamp ends back whole forced
+within_receive : (p : ℕ) (pdu : ControlMessage) (stamp : ℕ) (ends : ℕ → Option ℕ) (back : ℕ → List Message)
+    (whole : ℕ → Bool) (forced : ℕ → ℕ → Bool) (c : ℕ) (ms : List Message) → ((c d p : ℕ) → ends c ≡ Some p → ends d ≡ Some p → c ≡ d)
+    → ends c ≡ Some p → back c ≡ Control pdu stamp ∷ ms → Within (Receive p (Some pdu)) stamp ends back whole forced
 within_receive p pdu stamp ends back whole forced c ms one there first = record {
   running = refl;
   came = λ q other e d h.
@@ -201,16 +192,14 @@ lawful_popped x w c Two m ms e i =
 
 -- and handed up
 lawful_handed : (x : WorldSetup) (w : World) (c : ℕ) (to : Side) (g k n : ℕ) (ms : List Message) → IsWorldSetup x
-    → w.on_cable to c ≡ Data (peer to) g k n ∷ ms → Lawful x w
-    → Lawful x (handed_up true (Data (peer to) g k n) (with_messages w c to ms))
+    → w.on_cable to c ≡ Data (peer to) g k n ∷ ms → Lawful x w → Lawful x (handed_up true (Data (peer to) g k n) (with_messages w c to ms))
 lawful_handed x w c One g k n ms f e i = both x One (handed_up true (Data Two g k n) (with_messages w c One ms))
     (half_back (i One) _ (inr (c, Data Two g k n, ms, e, refl))) (half_handed (i Two) c g k n ms (f.cables Two) e)
 lawful_handed x w c Two g k n ms f e i = both x Two (handed_up true (Data One g k n) (with_messages w c Two ms))
     (half_back (i Two) _ (inr (c, Data One g k n, ms, e, refl))) (half_handed (i One) c g k n ms (f.cables One) e)
 
 lawful_up : (x : WorldSetup) (w : World) (c : ℕ) (to origin : Side) (g k n : ℕ) (ms : List Message) → IsWorldSetup x → origin ≡ peer to
-    → w.on_cable to c ≡ Data origin g k n ∷ ms → Lawful x w
-    → Lawful x (handed_up true (Data origin g k n) (with_messages w c to ms))
+    → w.on_cable to c ≡ Data origin g k n ∷ ms → Lawful x w → Lawful x (handed_up true (Data origin g k n) (with_messages w c to ms))
 lawful_up x w c to origin g k n ms f o e i = grind (arith, handed_up, with_messages, lawful_handed)
 
 -- frames come from the peer
@@ -244,9 +233,8 @@ pub comes_kept : (x : WorldSetup) (c : ℕ) (to : Side) (port : Option ℕ) (on_
     → Lawful x old → end_at x.cables to c ≡ port → old.on_cable to c ≡ on_cable → DeliversFirst x c to port on_cable old new → Lawful x new
 comes_kept x c to port [] old new f i h e z = subst (Lawful x) (sym z) i
 comes_kept x c to None (m ∷ ms) old new f i h e z = absurd z
-comes_kept x c to (Some p) (Control pdu stamp ∷ ms) old new f i h e z =
-    call_kept x to (Receive p (Some pdu)) stamp (λ t. party_at (old.view t)) old.count (old.on_cable to) (at_cable (old.on_cable to) c ms)
-    (with_messages old c to ms) new
+comes_kept x c to (Some p) (Control pdu stamp ∷ ms) old new f i h e z = call_kept x to (Receive p (Some pdu)) stamp
+    (λ t. party_at (old.view t)) old.count (old.on_cable to) (at_cable (old.on_cable to) c ms) (with_messages old c to ms) new
     (inr (c, Control pdu stamp, ms, e, refl)) (started_popped x old c to p pdu stamp ms f h e i) z.0 z.1 z.2.0 z.2.1 z.2.2
 comes_kept x c to (Some p) (Data origin g k n ∷ ms) old new f i h e z = go z.0 z.1
   where
@@ -268,10 +256,9 @@ pub comes_again_kept : (x : WorldSetup) (c : ℕ) (to : Side) (port : Option ℕ
 comes_again_kept x c to port [] old new f i h e z = subst (Lawful x) (sym z) i
 comes_again_kept x c to port (Data origin g k n ∷ ms) old new f i h e z = subst (Lawful x) (sym z) i
 comes_again_kept x c to None (Control pdu stamp ∷ ms) old new f i h e z = absurd z
-comes_again_kept x c to (Some p) (Control pdu stamp ∷ ms) old new f i h e z =
-    call_kept x to (Receive p (Some pdu)) stamp (λ t. party_at (old.view t)) old.count (old.on_cable to) (old.on_cable to) old new
-    (inl refl) (started x to (Receive p (Some pdu)) stamp old i (within_receive p pdu stamp _ _ _ _ c ms (f.cables to) h e))
-    z.0 z.1 z.2.0 z.2.1 z.2.2
+comes_again_kept x c to (Some p) (Control pdu stamp ∷ ms) old new f i h e z = call_kept x to
+    (Receive p (Some pdu)) stamp (λ t. party_at (old.view t)) old.count (old.on_cable to) (old.on_cable to) old new (inl refl)
+    (started x to (Receive p (Some pdu)) stamp old i (within_receive p pdu stamp _ _ _ _ c ms (f.cables to) h e)) z.0 z.1 z.2.0 z.2.1 z.2.2
 
 lost_kept : (x : WorldSetup) (c : ℕ) (to : Side) (on_cable : List Message) (old new : World) → Lawful x old → old.on_cable to c ≡ on_cable
     → LosesFirst c to on_cable old new → Lawful x new
@@ -281,9 +268,8 @@ lost_kept x c to (m ∷ ms) old new i e z = subst (Lawful x) (sym z) (lawful_pop
 -- a call that needs nothing known
 quiet_kept : (x : WorldSetup) (s : Side) (call : ModelCall) (old new : World) → quiet call ≡ true → Lawful x old
     → CallHappens x s call 0 old old new → Lawful x new
-quiet_kept x s call old new q i z =
-    call_kept x s call 0 (λ t. party_at (old.view t)) old.count (old.on_cable s) (old.on_cable s) old new (inl refl)
-    (started x s call 0 old i (within_quiet call 0 _ _ _ _ q)) z.0 z.1 z.2.0 z.2.1 z.2.2
+quiet_kept x s call old new q i z = call_kept x s call 0 (λ t. party_at (old.view t)) old.count
+    (old.on_cable s) (old.on_cable s) old new (inl refl) (started x s call 0 old i (within_quiet call 0 _ _ _ _ q)) z.0 z.1 z.2.0 z.2.1 z.2.2
 
 -- an end senses its cable
 senses_kept : (x : WorldSetup) (c : ℕ) (s : Side) (port : Option ℕ) (up : Bool) (old new : World) → IsWorldSetup x → Lawful x old
@@ -346,8 +332,7 @@ happens_kept x (Event.Tick s n) old new f i z = quiet_kept x s Tick old new refl
 happens_kept x (Event.Emit s p) old new f i z = quiet_kept x s Transmit old new refl i z
 happens_kept x (Event.Deliver c to) old new f i z = comes_kept x c to (end_at x.cables to c) (old.on_cable to c) old new f i refl refl z
 happens_kept x (Event.Lose c to) old new f i z = lost_kept x c to (old.on_cable to c) old new i refl z
-happens_kept x (Event.Repeat c to) old new f i z = comes_again_kept x c to (end_at x.cables to c)
-    (old.on_cable to c) old new f i refl refl z
+happens_kept x (Event.Repeat c to) old new f i z = comes_again_kept x c to (end_at x.cables to c) (old.on_cable to c) old new f i refl refl z
 happens_kept x (Event.Cut c) old new f i z = subst (Lawful x) (sym z) (lawful_cut x old c i)
 happens_kept x (Event.Join c) old new f i z = subst (Lawful x) (sym z) (lawful_joined x old c i)
 happens_kept x (Event.Sense c s) old new f i z = senses_kept x c s (end_at x.cables s c) (old.whole c) old new f i refl refl z

@@ -75,24 +75,21 @@ on_its_cable_holds x w i Two g k c u =
 pub flushed_by_marker_holds : (x : WorldSetup) (w : World) → IsWorldSetup x → Lawful x w → FlushedByMarker x w
 flushed_by_marker_holds x w f i s g k p n c u st e =
     let o = (i s).lanes.orderly g k c u in (
-      (λ front back stamp h.
-          behind_split s g k n front (Control (Marker (x.setup s).system.mac p n) stamp) back (eq-eqb n n refl)
-          (subst (NoneBehind s g k n) h (o.behind p n st e))),
+      (λ front back stamp h. behind_split s g k n front (Control (Marker (x.setup s).system.mac p n) stamp) back
+          (eq-eqb n n refl) (subst (NoneBehind s g k n) h (o.behind p n st e))),
       (λ d stamp h. elim (((i s).lanes.orderly g k d u).place) [
         | inl y ↦ y
         | inr y ↦ (let same : c ≡ d = f.cables s c d p e (y.1 ∙ sym y.2 ∙ ap conversation_port st) in
-            let here = every_contains (λ m. answers n m ≡ true → serials s g k (w.on_cable (peer s) c) ≡ []) (w.on_cable s c)
-            (Control (Response (x.setup s).system.mac p n) stamp) (o.answered p n st e) h in
+            let here = every_contains (λ m. answers n m ≡ true → serials s g k (w.on_cable (peer s) c) ≡ [])
+            (w.on_cable s c) (Control (Response (x.setup s).system.mac p n) stamp) (o.answered p n st e) h in
             subst (λ d. serials s g k (w.on_cable (peer s) d) ≡ []) same (here (eq-eqb n n refl)))
       ]),
     )
 
 pub below_next_holds : (x : WorldSetup) (w : World) → Lawful x w → BelowNext w
 below_next_holds x w i s c p n stamp mac = (
-  (λ h. every_contains (MarkerBelow (w.view s).flows.next) (w.on_cable (peer s) c) (Control (Marker mac p n) stamp)
-      ((i s).lanes.markers c) h),
-  (λ h. every_contains (ResponseBelow (w.view s).flows.next) (w.on_cable s c) (Control (Response mac p n) stamp)
-      ((i s).lanes.responses c) h),
+  (λ h. every_contains (MarkerBelow (w.view s).flows.next) (w.on_cable (peer s) c) (Control (Marker mac p n) stamp) ((i s).lanes.markers c) h),
+  (λ h. every_contains (ResponseBelow (w.view s).flows.next) (w.on_cable s c) (Control (Response mac p n) stamp) ((i s).lanes.responses c) h),
 )
 
 pub collected_then_in_flight_holds : (x : WorldSetup) (w : World) → Lawful x w → CollectedThenInFlight w

@@ -15,8 +15,7 @@ every_swapped P [] a b back h = (h.1.0, (h.0, h.1.1))
 every_swapped P (m ∷ front) a b back h = (h.0, every_swapped P front a b back h.1)
 
 -- an LACPDU is no frame
-serials_by : (s : Side) (g k : ℕ) (a b : Message) (back : List Message) → IsLacpdu b
-    → serials s g k (b ∷ a ∷ back) ≡ serials s g k (a ∷ b ∷ back)
+serials_by : (s : Side) (g k : ℕ) (a b : Message) (back : List Message) → IsLacpdu b → serials s g k (b ∷ a ∷ back) ≡ serials s g k (a ∷ b ∷ back)
 serials_by s g k a b back is = grind arith
 
 serials_swapped : (s : Side) (g k : ℕ) (front : List Message) (a b : Message) (back : List Message) → IsLacpdu b
@@ -83,8 +82,7 @@ module _ (me : Side) (ends : ℕ → Option ℕ) (f : DistributorFacts) (whole :
     origin = at_cable_each (λ d l. Every (IsFrom me) l) out c ms (every_overtaken o _ (i.origin c)) (λ d n. i.origin d);
     cut = at_cable_each (λ d l. whole d ≡ false → l ≡ []) out c ms (λ e. overtaken_none o (i.cut c e)) (λ d n. i.cut d);
     orderly = λ g k d u. at_cable_each (λ d l. Orderly me g k (ends d) (f.state g k) l (back d) (sent g k) (collected g k)) out c ms
-        (orderly_out o me g k (ends c) (f.state g k) (back c) (sent g k) (collected g k) (i.orderly g k c u))
-        (λ d n. i.orderly g k d u) d;
+        (orderly_out o me g k (ends c) (f.state g k) (back c) (sent g k) (collected g k) (i.orderly g k c u)) (λ d n. i.orderly g k d u) d;
   }
 
   -- on a cable towards it
@@ -93,11 +91,9 @@ module _ (me : Side) (ends : ℕ → Option ℕ) (f : DistributorFacts) (whole :
   lanes_back_overtaken out back c ms o i = record {
     waits = i.waits;
     markers = i.markers;
-    responses = at_cable_each (λ d l. Every (ResponseBelow f.next) l) back c ms (every_overtaken o _ (i.responses c))
-        (λ d n. i.responses d);
+    responses = at_cable_each (λ d l. Every (ResponseBelow f.next) l) back c ms (every_overtaken o _ (i.responses c)) (λ d n. i.responses d);
     origin = i.origin;
     cut = i.cut;
     orderly = λ g k d u. at_cable_each (λ d l. Orderly me g k (ends d) (f.state g k) (out d) l (sent g k) (collected g k)) back c ms
-        (orderly_back o me g k (ends c) (f.state g k) (out c) (sent g k) (collected g k) (i.orderly g k c u))
-        (λ d n. i.orderly g k d u) d;
+        (orderly_back o me g k (ends c) (f.state g k) (out c) (sent g k) (collected g k) (i.orderly g k c u)) (λ d n. i.orderly g k d u) d;
   }

@@ -14,9 +14,8 @@ pub individual_along : (a b c d : Party) → SamePair (pair_of a b) (pair_of c d
 individual_along a b c d e h = grind arith
 
 -- a port after a change of port p is the changed one, or was there before
-pub changed_port : (ports : ℕ → Option PortFacts) (p q : ℕ) (f : PortFacts → PortFacts) (a b : PortFacts) → ports p ≡ Some a
-    → at_port ports p f q ≡ Some b
-    → ((q ≡ p) × (f a ≡ b)) ⊎ ((q ≡ p → ⊥) × (ports q ≡ Some b))
+pub changed_port : (ports : ℕ → Option PortFacts) (p q : ℕ) (f : PortFacts → PortFacts) (a b : PortFacts)
+    → ports p ≡ Some a → at_port ports p f q ≡ Some b → ((q ≡ p) × (f a ≡ b)) ⊎ ((q ≡ p → ⊥) × (ports q ≡ Some b))
 changed_port ports p q f a b h e = grind arith
 
 -- a change of one port leaves which ports are there
@@ -51,12 +50,11 @@ changed u ports p f a h i o = record {
   group = λ g q r b c ne eb ec mb mc. elim (changed_port ports p q f a b h eb) [
     | inl x ↦ elim (changed_port ports p r f a c h ec) [
       | inl y ↦ absurd (ne (x.0 ∙ sym y.0))
-      | inr y ↦ subst (λ (b : PortFacts). b.aggregator ≡ Some g → SamePair (pair_at b) (pair_at c) × (individual b.party b.partner ≡ false))
-          x.1 (λ m. o.group g r c y.0 y.1 m mc) mb
+      | inr y ↦ subst (λ (b : PortFacts). b.aggregator ≡ Some g → SamePair (pair_at b) (pair_at c) × (individual b.party b.partner ≡ false)) x.1
+          (λ m. o.group g r c y.0 y.1 m mc) mb
     ]
     | inr x ↦ elim (changed_port ports p r f a c h ec) [
-      | inl y ↦ subst (λ (c : PortFacts). c.aggregator ≡ Some g → SamePair (pair_at b) (pair_at c)
-          × (individual b.party b.partner ≡ false)) y.1
+      | inl y ↦ subst (λ (c : PortFacts). c.aggregator ≡ Some g → SamePair (pair_at b) (pair_at c) × (individual b.party b.partner ≡ false)) y.1
           (λ m. let s = o.group g q b x.0 x.1 m mb in
           (group_sym (pair_at (f a)) (pair_at b) s.0, individual_along (f a).party (f a).partner b.party b.partner s.0 s.1)) mc
       | inr y ↦ i.group g q r b c ne x.1 y.1 mb mc
@@ -143,8 +141,7 @@ one_partner u v i g p q a b h hb e eb d db = elim (cases_eq p q) [
         | inl y ↦ (ap (λ (z : End). z.system) y.1, ap (λ (z : End). z.key) y.1)
         | inr y ↦ (
           ap (λ (z : End). z.system) y.1 ∙ sym system ∙ ap (λ (z : End). z.system) y.0,
-          ap (λ (z : End). z.key) y.1 ∙ sym key
-              ∙ ap (λ (z : End). z.key) y.0,
+          ap (λ (z : End). z.key) y.1 ∙ sym key ∙ ap (λ (z : End). z.key) y.0,
         )
       ])
 ]

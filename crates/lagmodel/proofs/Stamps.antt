@@ -24,15 +24,12 @@ Fresh count party (Data origin g k serial) = Unit {0}
 pub record Stamps (ends theirs : ℕ → Option ℕ) (party : ℕ → Option Party) (count : ℕ → ℕ) (out : ℕ → List Message) (taken : ℕ
     → Option TakenLacpdu) : Type 0 where
   pub flight : (c p : ℕ) → ends c ≡ Some p → Every (Fresh (count p) (party p)) (out c)
-  pub last : (c p q : ℕ) (m : TakenLacpdu) → ends c ≡ Some p → theirs c ≡ Some q → taken q ≡ Some m
-      → FreshPdu (count p) (party p) m.pdu m.stamp
+  pub last : (c p q : ℕ) (m : TakenLacpdu) → ends c ≡ Some p → theirs c ≡ Some q → taken q ≡ Some m → FreshPdu (count p) (party p) m.pdu m.stamp
 
 -- A port that is not on defaults took an LACPDU from the partner that it records. It records it as synchronized only
 -- if that LACPDU said so, and named the port's party or has an individual actor.
 abbrev pub Heard : PortFacts → Option TakenLacpdu → Type 0
-Heard a o =
-    a.defaulted ≡ false
-    → (m : TakenLacpdu) × (o ≡ Some m) × (a.partner ≡ m.pdu.actor)
+Heard a o = a.defaulted ≡ false → (m : TakenLacpdu) × (o ≡ Some m) × (a.partner ≡ m.pdu.actor)
     × (a.synchronized ≡ true → (m.pdu.synchronized ≡ true) × ((m.pdu.partner ≡ a.party) ⊎ (m.pdu.actor.aggregatable ≡ false)))
 
 abbrev pub AllHeard : (ℕ → Option PortFacts) → (ℕ → Option TakenLacpdu) → Type 0
@@ -43,10 +40,9 @@ heard_changed : (ports : ℕ → Option PortFacts) (taken taken' : ℕ → Optio
     → Heard (f a) (taken' p) → ((q : ℕ) → (q ≡ p → ⊥) → taken' q ≡ taken q) → AllHeard ports taken → AllHeard (at_port ports p f) taken'
 heard_changed ports taken taken' p f a h new same i q b e = grind arith
 
-heard_port : (u : SystemSetup) (call : ModelCall) (ports : ℕ → Option PortFacts) (p : ℕ) (stamp : ℕ) (taken : ℕ → Option TakenLacpdu)
-    (m : PortMove) (a : PortFacts) → ports p ≡ Some a
-    → PortAllowed u call ports p m a → AllHeard ports taken
-    → AllHeard (at_port ports p (port_after m)) (taken_after stamp (port_act p m a) taken)
+heard_port : (u : SystemSetup) (call : ModelCall) (ports : ℕ → Option PortFacts) (p : ℕ) (stamp : ℕ)
+    (taken : ℕ → Option TakenLacpdu) (m : PortMove) (a : PortFacts) → ports p ≡ Some a → PortAllowed u call ports p m a
+    → AllHeard ports taken → AllHeard (at_port ports p (port_after m)) (taken_after stamp (port_act p m a) taken)
 heard_port u call ports p stamp taken Desynchronize a h x i = grind arith
 heard_port u call ports p stamp taken (Reconfigure party) a h x i = grind arith
 heard_port u call ports p stamp taken Default a h x i = grind arith
@@ -66,9 +62,8 @@ heard_flow : (ports : ℕ → Option PortFacts) (mac : List ℕ) (stamp : ℕ) (
 heard_flow ports mac stamp taken f m i = grind arith
 
 -- a move of this system
-pub heard_own : (u : SystemSetup) (call : ModelCall) (stamp : ℕ) (v : View) (m : Move) (taken : ℕ → Option TakenLacpdu)
-    → MoveAllowed u call v m → is_restart call ≡ false → AllHeard v.port taken
-    → AllHeard ((view_after u m v).port) (taken_after stamp (act u m v) taken)
+pub heard_own : (u : SystemSetup) (call : ModelCall) (stamp : ℕ) (v : View) (m : Move) (taken : ℕ → Option TakenLacpdu) → MoveAllowed u call v m
+    → is_restart call ≡ false → AllHeard v.port taken → AllHeard ((view_after u m v).port) (taken_after stamp (act u m v) taken)
 heard_own u call stamp v (Port p m) taken x r i =
     let s = value_of (v.port p) (PortAllowed u call v.port p m) x in
     subst (λ o. AllHeard (at_port v.port p (port_after m)) (taken_after stamp (act_of_port p m o) taken)) (sym s.1)
@@ -92,9 +87,8 @@ module _ {ends theirs : ℕ → Option ℕ} {party : ℕ → Option Party} {coun
   }
 
   -- a port of the peer takes an LACPDU that stands first on its cable
-  stamps_taken : (p : ℕ) (pdu : LacpMessage) (stamp : ℕ)
-      → ((c : ℕ) → theirs c ≡ Some p → (ms : List Message) × (out c ≡ Control (Lacp pdu) stamp ∷ ms))
-      → Stamps ends theirs party count out (taken_after stamp (Some (Took p pdu)) taken)
+  stamps_taken : (p : ℕ) (pdu : LacpMessage) (stamp : ℕ) → ((c : ℕ) → theirs c ≡ Some p → (ms : List Message)
+      × (out c ≡ Control (Lacp pdu) stamp ∷ ms)) → Stamps ends theirs party count out (taken_after stamp (Some (Took p pdu)) taken)
   stamps_taken p pdu stamp came = record {
     flight = i.flight;
     last = λ c r q m e f h. elim (cases_Bool (eqb q p)) [
@@ -109,8 +103,7 @@ module _ {ends theirs : ℕ → Option ℕ} {party : ℕ → Option Party} {coun
   }
 
   -- the first message that the system sent is taken away
-  pub stamps_out_taken : (c : ℕ) (m : Message) (ms : List Message) → out c ≡ m ∷ ms
-      → Stamps ends theirs party count (at_cable out c ms) taken
+  pub stamps_out_taken : (c : ℕ) (m : Message) (ms : List Message) → out c ≡ m ∷ ms → Stamps ends theirs party count (at_cable out c ms) taken
   stamps_out_taken c m ms e = record {
     flight = at_cable_each (λ d l. (p : ℕ) → ends d ≡ Some p → Every (Fresh (count p) (party p)) l) out c ms
         (λ p h. (subst (Every (Fresh (count p) (party p))) e (i.flight c p h)).1) (λ d n. i.flight d);
@@ -119,20 +112,17 @@ module _ {ends theirs : ℕ → Option ℕ} {party : ℕ → Option Party} {coun
 
   pub stamps_cut : (c : ℕ) → Stamps ends theirs party count (at_cable out c []) taken
   stamps_cut c = record {
-    flight = at_cable_each (λ d l. (p : ℕ) → ends d ≡ Some p → Every (Fresh (count p) (party p)) l) out c [] (λ p h. tt)
-        (λ d n. i.flight d);
+    flight = at_cable_each (λ d l. (p : ℕ) → ends d ≡ Some p → Every (Fresh (count p) (party p)) l) out c [] (λ p h. tt) (λ d n. i.flight d);
     last = i.last;
   }
 
   pub stamps_emptied : Stamps ends theirs party count (λ c. []) taken
   stamps_emptied = record { flight = λ d p h. tt; last = i.last }
 
-stamps_port : (s : Side) (ends theirs : ℕ → Option ℕ) (party : ℕ → Option Party) (count : ℕ → ℕ) (out : ℕ → List Message) (taken : ℕ
-    → Option TakenLacpdu) (whole : ℕ → Bool) (sent : ℕ → ℕ → List ℕ) (kept : Bool)
-    (u : SystemSetup) (call : ModelCall) (v : View) (p : ℕ) (m : PortMove) (o : Option PortFacts) → v.port p ≡ o
-    → IsSomeAnd o (PortAllowed u call v.port p m)
-    → (replies_frame call ≡ true → (q : ℕ) → party_at v q ≡ party q)
-    → Stamps ends theirs party count out taken
+stamps_port : (s : Side) (ends theirs : ℕ → Option ℕ) (party : ℕ → Option Party) (count : ℕ → ℕ)
+    (out : ℕ → List Message) (taken : ℕ → Option TakenLacpdu) (whole : ℕ → Bool) (sent : ℕ → ℕ → List ℕ) (kept : Bool) (u : SystemSetup)
+    (call : ModelCall) (v : View) (p : ℕ) (m : PortMove) (o : Option PortFacts) → v.port p ≡ o → IsSomeAnd o (PortAllowed u call v.port p m)
+    → (replies_frame call ≡ true → (q : ℕ) → party_at v q ≡ party q) → Stamps ends theirs party count out taken
     → Stamps ends theirs party count (on_cable_after s ends whole count sent kept (act_of_port p m o) out) taken
 stamps_port s ends theirs party count out taken whole sent kept u call v p m None h x r i = i
 stamps_port s ends theirs party count out taken whole sent kept u call v p (Announce synchronized) (Some a) h x r i =
@@ -142,31 +132,25 @@ stamps_port s ends theirs party count out taken whole sent kept u call v p (Resp
     stamps_put i whole kept p (Control (Response mac q n) 0) tt
 stamps_port s ends theirs party count out taken whole sent kept u call v p m (Some a) h x r i = i
 
-stamps_flow : (s : Side) (ends theirs : ℕ → Option ℕ) (party : ℕ → Option Party) (count : ℕ → ℕ) (out : ℕ → List Message) (taken : ℕ
-    → Option TakenLacpdu) (whole : ℕ → Bool) (sent : ℕ → ℕ → List ℕ) (kept : Bool)
-    (mac : List ℕ) (f : DistributorFacts) (m : DistributorMove)
-    → Stamps ends theirs party count out taken
+stamps_flow : (s : Side) (ends theirs : ℕ → Option ℕ) (party : ℕ → Option Party) (count : ℕ → ℕ)
+    (out : ℕ → List Message) (taken : ℕ → Option TakenLacpdu) (whole : ℕ → Bool) (sent : ℕ → ℕ → List ℕ)
+    (kept : Bool) (mac : List ℕ) (f : DistributorFacts) (m : DistributorMove) → Stamps ends theirs party count out taken
     → Stamps ends theirs party count (on_cable_after s ends whole count sent kept (distributor_act mac m f) out) taken
-stamps_flow s ends theirs party count out taken whole sent kept mac f (Send g k p) i = stamps_put i whole kept p
-    (Data s g k (length (sent g k))) tt
-stamps_flow s ends theirs party count out taken whole sent kept mac f (Mark p) i = stamps_put i whole kept p
-    (Control (Marker mac p f.next) 0) tt
+stamps_flow s ends theirs party count out taken whole sent kept mac f (Send g k p) i = stamps_put i whole kept p (Data s g k (length (sent g k))) tt
+stamps_flow s ends theirs party count out taken whole sent kept mac f (Mark p) i = stamps_put i whole kept p (Control (Marker mac p f.next) 0) tt
 stamps_flow s ends theirs party count out taken whole sent kept mac f (Become g k m) i = i
 
 -- a move of this system, which has had these parties since the event began, unless its call sends nothing
-pub stamps_own : (s : Side) (ends theirs : ℕ → Option ℕ) (party : ℕ → Option Party) (count : ℕ → ℕ) (out : ℕ → List Message) (taken : ℕ
-    → Option TakenLacpdu) (whole : ℕ → Bool) (sent : ℕ → ℕ → List ℕ) (kept : Bool)
-    (u : SystemSetup) (call : ModelCall) (v : View) (m : Move) → MoveAllowed u call v m
-    → (replies_frame call ≡ true → (q : ℕ) → party_at v q ≡ party q)
-    → Stamps ends theirs party count out taken
-    → Stamps ends theirs party count (on_cable_after s ends whole count sent kept (act u m v) out) taken
+pub stamps_own : (s : Side) (ends theirs : ℕ → Option ℕ) (party : ℕ → Option Party) (count : ℕ → ℕ)
+    (out : ℕ → List Message) (taken : ℕ → Option TakenLacpdu) (whole : ℕ → Bool) (sent : ℕ → ℕ → List ℕ) (kept : Bool) (u : SystemSetup)
+    (call : ModelCall) (v : View) (m : Move) → MoveAllowed u call v m → (replies_frame call ≡ true → (q : ℕ) → party_at v q ≡ party q)
+    → Stamps ends theirs party count out taken → Stamps ends theirs party count (on_cable_after s ends whole count sent kept (act u m v) out) taken
 stamps_own s ends theirs party count out taken whole sent kept u call v m x r i = grind (arith, stamps_port, stamps_flow)
 
 -- a move of the peer
-pub stamps_peer : (ends theirs : ℕ → Option ℕ) (party : ℕ → Option Party) (count : ℕ → ℕ) (out : ℕ → List Message) (taken : ℕ
-    → Option TakenLacpdu) (whole : ℕ → Bool) (theirs_forced : ℕ → ℕ → Bool) (u : SystemSetup) (call : ModelCall)
-    (stamp : ℕ) (v : View) (m : Move)
-    → MoveAllowed u call v m → Within call stamp theirs out whole theirs_forced
+pub stamps_peer : (ends theirs : ℕ → Option ℕ) (party : ℕ → Option Party) (count : ℕ → ℕ) (out : ℕ → List Message)
+    (taken : ℕ → Option TakenLacpdu) (whole : ℕ → Bool) (theirs_forced : ℕ → ℕ → Bool) (u : SystemSetup)
+    (call : ModelCall) (stamp : ℕ) (v : View) (m : Move) → MoveAllowed u call v m → Within call stamp theirs out whole theirs_forced
     → Stamps ends theirs party count out taken → Stamps ends theirs party count out (taken_after stamp (act u m v) taken)
 stamps_peer ends theirs party count out taken whole theirs_forced u call stamp v (Port p m) x w i = go m (v.port p) x
   where
@@ -192,8 +176,7 @@ every_counted : (old new : ℕ) (was is : Option Party) → ((is ≡ was) × (ne
 every_counted old new was is h m f = grind arith
 
 pub stamps_counted : (ends theirs : ℕ → Option ℕ) (was is : ℕ → Option Party) (old new : ℕ → ℕ) (out : ℕ → List Message)
-    (taken : ℕ → Option TakenLacpdu)
-    → ((p : ℕ) → ((is p ≡ was p) × (new p ≡ old p)) ⊎ ((is p ≢ was p) × (new p ≡ suc (old p))))
+    (taken : ℕ → Option TakenLacpdu) → ((p : ℕ) → ((is p ≡ was p) × (new p ≡ old p)) ⊎ ((is p ≢ was p) × (new p ≡ suc (old p))))
     → Stamps ends theirs was old out taken → Stamps ends theirs is new out taken
 stamps_counted ends theirs was is old new out taken h i = grind (arith, every_weaker, Fresh, every_counted)
 

@@ -22,10 +22,8 @@ moves_told : (truthful : ℕ → Bool) (u : SystemSetup) (ends : ℕ → Option 
     (ms : List (Move × Bool)) (old new : Scene) → Within call stamp ends old.back old.whole old.forced → Told truthful ends f old
     → Moves u ends call stamp ms old new → Told truthful ends f new
 moves_told truthful u ends f call stamp [] old new w i z = subst (Told truthful ends f) (sym z) i
-moves_told truthful u ends f call stamp (m ∷ ms) old new w i z =
-    moves_told truthful u ends f call stamp ms (scene_after u ends stamp m old) new w
-    (stamps_peer (told truthful) ends (λ c. Some (f.party c)) f.count old.back old.taken old.whole old.forced u call stamp old.view m.0 z.0 w
-    i) z.1
+moves_told truthful u ends f call stamp (m ∷ ms) old new w i z = moves_told truthful u ends f call stamp ms (scene_after u ends stamp m old) new w
+    (stamps_peer (told truthful) ends (λ c. Some (f.party c)) f.count old.back old.taken old.whole old.forced u call stamp old.view m.0 z.0 w i) z.1
 
 -- a message joins what is on its way back
 told_put : (truthful : ℕ → Bool) (ends : ℕ → Option ℕ) (f : FarEnds) (w : Scene) (c : ℕ) (kept : Bool) (m : Message)
@@ -65,9 +63,8 @@ all_told : (truthful : ℕ → Bool) (u : SystemSetup) (ends : ℕ → Option �
     → IsSystemSetup u → ((c d p : ℕ) → ends c ≡ Some p → ends d ≡ Some p → c ≡ d) → Kept u ends old → Told truthful ends f old
     → TellingRun truthful u ends es old f new g → Kept u ends new × Told truthful ends g new
 all_told truthful u ends [] old new f g s one i t z = grind arith
-all_told truthful u ends (So e ∷ es) old new f g s one i t z =
-    all_told truthful u ends es z.0 new f g s one (comes_kept u ends e old z.0 s one i z.1)
-    (comes_told truthful u ends f e old z.0 t z.2 z.1) z.3
+all_told truthful u ends (So e ∷ es) old new f g s one i t z = all_told truthful u ends es z.0 new f g s one
+    (comes_kept u ends e old z.0 s one i z.1) (comes_told truthful u ends f e old z.0 t z.2 z.1) z.3
 all_told truthful u ends (Changes c party ∷ es) old new f g s one i t z =
     all_told truthful u ends es old new (changed f c party) g s one i (changes_told truthful ends f c party old z.0 t) z.1
 

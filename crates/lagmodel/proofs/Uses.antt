@@ -19,15 +19,13 @@ all_joined : (u : SystemSetup) (call : ModelCall) (xs ys : List Move) (v : View)
 all_joined u call [] ys v h i = i
 all_joined u call (m ∷ xs) ys v h i = (h.0, all_joined u call xs ys (view_after u m v) h.1 i)
 
-after_joined : (u : SystemSetup) (xs ys : List Move) (v : View)
-    → view_after_all u (xs ++ ys) v ≡ view_after_all u ys (view_after_all u xs v)
+after_joined : (u : SystemSetup) (xs ys : List Move) (v : View) → view_after_all u (xs ++ ys) v ≡ view_after_all u ys (view_after_all u xs v)
 after_joined u [] ys v = refl
 after_joined u (m ∷ xs) ys v = after_joined u xs ys (view_after u m v)
 
 acts_joined : (u : SystemSetup) (xs ys : List Move) (v : View) → acts u (xs ++ ys) v ≡ acts u xs v ++ acts u ys (view_after_all u xs v)
 acts_joined u [] ys v = refl
-acts_joined u (m ∷ xs) ys v =
-    ap (λ (l : List Act). option_to_list (act u m v) ++ l) (acts_joined u xs ys (view_after u m v))
+acts_joined u (m ∷ xs) ys v = ap (λ (l : List Act). option_to_list (act u m v) ++ l) (acts_joined u xs ys (view_after u m v))
     ∙ sym (append_assoc (option_to_list (act u m v)) (acts u xs (view_after u m v)) (acts u ys (view_after_all u xs (view_after u m v))))
 
 pub moves_joined : (u : SystemSetup) (call : ModelCall) (old mid new : View) (seen more : List Act) → LawfulMoves u call old seen mid
@@ -36,8 +34,7 @@ moves_joined u call old mid new seen more a b = grind (arith, all_joined, acts_j
 
 -- one move of a port, by its view before it
 pub moves_port : (u : SystemSetup) (call : ModelCall) (v : View) (p : ℕ) (m : PortMove) (a : PortFacts) → v.port p ≡ Some a
-    → PortAllowed u call v.port p m a
-    → LawfulMoves u call v (option_to_list (port_act p m a)) (record v { port = at_port v.port p (port_after m) })
+    → PortAllowed u call v.port p m a → LawfulMoves u call v (option_to_list (port_act p m a)) (record v { port = at_port v.port p (port_after m) })
 moves_port u call v p m a h x = (
   Port p m ∷ [],
   (there (v.port p) h, tt),
@@ -152,8 +149,7 @@ find_set_same number [] i x y a h e = absurd (none-some x h)
 find_set_same number (z ∷ xs) zero x y a h e = grind arith
 find_set_same number (z ∷ xs) (suc i) x y a h e = elim (cases_Bool (eqb (number x) (number z))) [
   | inl t ↦ absurd (find_past number xs i x (number z) h a.0 (eq-eqb _ _ (sym (eqb-true _ _ t))))
-  | inr f ↦ cond_false (eqb (number x) (number z)) (Some z) (find_number number (set xs i y) (number x)) f
-      ∙ find_set_same number xs i x y a.1 h e
+  | inr f ↦ cond_false (eqb (number x) (number z)) (Some z) (find_number number (set xs i y) (number x)) f ∙ find_set_same number xs i x y a.1 h e
 ]
 
 pub ports_set : {X : Type 0} (number : X → ℕ) (view : X → PortFacts) (xs : List X) (i : ℕ) (x y : X) (f : PortFacts → PortFacts)
@@ -162,12 +158,10 @@ pub ports_set : {X : Type 0} (number : X → ℕ) (view : X → PortFacts) (xs :
 ports_set number view xs i x y f a h e v q = grind (arith, cases_Bool, eqb, eqb-true, option_map, find_number, set, find_set_same, cond_true, ports_of, find_at, find_set_other, cond_false)
 
 -- one move of a port of a list
-pub moves_at : {X : Type 0} (number : X → ℕ) (view : X → PortFacts) (u : SystemSetup) (call : ModelCall) (f : DistributorFacts)
-    (xs : List X) (i : ℕ) (x y : X) (m : PortMove)
-    → AreNumbered number xs → slice_get xs i ≡ Some x → number y ≡ number x → view y ≡ port_after m (view x)
-    → PortAllowed u call (ports_of number view xs) (number x) m (view x)
-    → LawfulMoves u call (record { port = ports_of number view xs; flows = f }) (option_to_list (port_act (number x) m (view x)))
-    (record { port = ports_of number view (set xs i y); flows = f })
+pub moves_at : {X : Type 0} (number : X → ℕ) (view : X → PortFacts) (u : SystemSetup) (call : ModelCall) (f : DistributorFacts) (xs : List X)
+    (i : ℕ) (x y : X) (m : PortMove) → AreNumbered number xs → slice_get xs i ≡ Some x → number y ≡ number x → view y ≡ port_after m (view x)
+    → PortAllowed u call (ports_of number view xs) (number x) m (view x) → LawfulMoves u call (record { port = ports_of number view xs; flows = f })
+    (option_to_list (port_act (number x) m (view x))) (record { port = ports_of number view (set xs i y); flows = f })
 moves_at number view u call f xs i x y m a h n v allowed =
     let z = moves_port u call (record { port = ports_of number view xs; flows = f }) (number x) m (view x)
     (ap (option_map view) (find_at number xs i x a h)) allowed in

@@ -19,18 +19,16 @@ same_parties x Two call stamp (m ∷ ms) w r f a One p = same_parties x Two call
 same_parties x Two call stamp (m ∷ ms) w r f a Two p = same_parties x Two call stamp ms (world_after x Two stamp m w) r f a.1 Two p
     ∙ parties_kept (x.setup Two) call (w.view Two) m.0 a.0 r f p
 
-made : (x : WorldSetup) (s : Side) (call : ModelCall) (stamp : ℕ) (ms : List (Move × Bool)) (old mid : World)
-    → ((t : Side) (p : ℕ) → party_at (mid.view t) p ≡ party_at (old.view t) p) → mid.count ≡ old.count → is_restart call ≡ false
-    → replies_frame call ≡ true → AllMoves x s call stamp ms mid
-    → CallHappens x s call stamp old mid (record (world_after_all x s stamp ms mid) { count = mid.count })
+made : (x : WorldSetup) (s : Side) (call : ModelCall) (stamp : ℕ) (ms : List (Move × Bool)) (old mid : World) → ((t : Side) (p : ℕ)
+    → party_at (mid.view t) p ≡ party_at (old.view t) p) → mid.count ≡ old.count → is_restart call ≡ false → replies_frame call ≡ true
+    → AllMoves x s call stamp ms mid → CallHappens x s call stamp old mid (record (world_after_all x s stamp ms mid) { count = mid.count })
 made x s call stamp ms old mid h c r f a = grind (arith, same_parties)
 
 abbrev pub party_of : ℕ → Party
 party_of n = record {
   system = record { priority = n; mac = [] };
   key = record { 0 = 1 };
-  port =
-      record { priority = 128; number = 1 };
+  port = record { priority = 128; number = 1 };
   aggregatable = true;
 }
 
@@ -125,8 +123,7 @@ ne₂ : (party_of 1).system ≢ (party_of 2).system
 ne₂ e = ne₁ (sym e)
 
 e₁ : Happens x₀ (Event.Emit Two 1) (first_world x₀) w₁
-e₁ = made x₀ Two ModelCall.Transmit 0 ms₁ (first_world x₀) (first_world x₀) (λ t p. refl) refl refl refl
-    ((refl, λ h. absurd (false≢true h)), tt)
+e₁ = made x₀ Two ModelCall.Transmit 0 ms₁ (first_world x₀) (first_world x₀) (λ t p. refl) refl refl refl ((refl, λ h. absurd (false≢true h)), tt)
 
 e₂ : Happens x₀ (Event.Deliver 1 One) w₁ w₂
 e₂ = made x₀ One (Receive 1 (Some (Lacp pdu₁))) 0 ms₂ w₁ (with_messages w₁ 1 One []) (λ t p. refl) refl refl refl (
@@ -154,10 +151,9 @@ e₄ = made x₀ Two (Receive 1 (Some (Lacp pdu₂))) 0 ms₄ w₃ (with_message
       refl,
       ne₂,
       refl,
-      inl (outside_kept (at_port (first_view (setup_of 2)).port 1 (port_after (Announce false))) (first_port (party_of 2))
-          (port_after (Take pdu₂ true)) refl (λ h. none-some 1 h)
-          (outside_kept (first_view (setup_of 2)).port (first_port (party_of 2)) (port_after (Announce false)) refl
-          (λ h. none-some 1 h) (outside_first 2))),
+      inl (outside_kept (at_port (first_view (setup_of 2)).port 1 (port_after (Announce false)))
+          (first_port (party_of 2)) (port_after (Take pdu₂ true)) refl (λ h. none-some 1 h) (outside_kept
+          (first_view (setup_of 2)).port (first_port (party_of 2)) (port_after (Announce false)) refl (λ h. none-some 1 h) (outside_first 2))),
     ),
     ((refl, refl), tt),
   ),
@@ -174,11 +170,7 @@ e₇ : Happens x₀ (Event.Offer One 1 frame) w₆ w₇
 e₇ = made x₀ One ModelCall.Offer 0 ms₇ w₆ w₆ (λ t p. refl) refl refl refl ((refl, inl (refl, (refl, refl))), tt)
 
 e₈ : Happens x₀ (Event.Deliver 1 Two) w₇ w₈
-e₈ = (
-  true,
-  made x₀ Two (Receive 1 None) 0 [] w₇ (handed_up true (Data One 1 48 0) (with_messages w₇ 1 Two []))
-      (λ t p. refl) refl refl refl tt,
-)
+e₈ = (true, made x₀ Two (Receive 1 None) 0 [] w₇ (handed_up true (Data One 1 48 0) (with_messages w₇ 1 Two [])) (λ t p. refl) refl refl refl tt)
 
 pub fixed₀ : IsWorldSetup x₀
 fixed₀ = grind arith
@@ -187,23 +179,21 @@ fixed₀ = grind arith
 pub something_arrives : SomethingArrives
 something_arrives = (
   x₀,
-  Event.Emit Two 1 ∷ Event.Deliver 1 One ∷ Event.Emit One 1 ∷ Event.Deliver 1 Two ∷ Event.Emit Two 1 ∷ Event.Deliver 1 One
-      ∷ Event.Offer One 1 frame ∷ Event.Deliver 1 Two ∷ [],
+  Event.Emit Two 1 ∷ Event.Deliver 1 One ∷ Event.Emit One 1 ∷ Event.Deliver 1 Two ∷ Event.Emit
+      Two 1 ∷ Event.Deliver 1 One ∷ Event.Offer One 1 frame ∷ Event.Deliver 1 Two ∷ [],
   w₈,
   record (first_port (party_of 1)) {
     partner = party_of 2;
     synchronized = true;
     defaulted = false;
-    aggregator =
-        Some 1;
+    aggregator = Some 1;
     distributes = true;
   },
   record (first_port (party_of 2)) {
     partner = party_of 1;
     synchronized = true;
     defaulted = false;
-    aggregator =
-        Some 1;
+    aggregator = Some 1;
     distributes = true;
   },
   fixed₀,

@@ -34,9 +34,8 @@ pub record Calling (x : WorldSetup) (s : Side) (call : ModelCall) (stamp : ℕ) 
   pub parties : replies_frame call ≡ true → (p : ℕ) → party_at (w.view s) p ≡ party s p
   pub own : Half (x.setup s) s (end_at x.cables s) (end_at x.cables (peer s)) (w.view s) (party s) (w.count s) (w.on_cable (peer s)) towards
       w.whole (w.sent s) (w.collected s) (w.forced s) (w.taken s) (w.taken (peer s))
-  pub other : Half (x.setup (peer s)) (peer s) (end_at x.cables (peer s)) (end_at x.cables s) (w.view (peer s)) (party (peer s))
-      (w.count (peer s)) towards (w.on_cable (peer s)) w.whole (w.sent (peer s)) (w.collected (peer s)) (w.forced (peer s))
-      (w.taken (peer s)) (w.taken s)
+  pub other : Half (x.setup (peer s)) (peer s) (end_at x.cables (peer s)) (end_at x.cables s) (w.view (peer s)) (party (peer s)) (w.count
+      (peer s)) towards (w.on_cable (peer s)) w.whole (w.sent (peer s)) (w.collected (peer s)) (w.forced (peer s)) (w.taken (peer s)) (w.taken s)
   pub counts : w.count ≡ count
   pub rest : w.on_cable s ≡ base
 
@@ -59,24 +58,21 @@ module _ {u : SystemSetup} {me : Side} {ends theirs : ℕ → Option ℕ} {v : V
     heard = heard_own u call stamp v m taken x w.running i.heard;
   }
 
-  other_moved : (s : Side) (su : SystemSetup) (sv : View) (s_count : ℕ → ℕ) (s_sent : ℕ → ℕ → List ℕ) (s_forced : ℕ → ℕ → Bool)
-      (call : ModelCall) (stamp : ℕ) (kept : Bool) (m : Move)
-      → MoveAllowed su call sv m → Within call stamp theirs out whole s_forced
-      → Half u me ends theirs v party count out (on_cable_after s theirs whole s_count s_sent kept (act su m sv) back) whole sent collected
-      forced taken (taken_after stamp (act su m sv) their_taken)
+  other_moved : (s : Side) (su : SystemSetup) (sv : View) (s_count : ℕ → ℕ) (s_sent : ℕ → ℕ → List ℕ)
+      (s_forced : ℕ → ℕ → Bool) (call : ModelCall) (stamp : ℕ) (kept : Bool) (m : Move) → MoveAllowed su call sv m
+      → Within call stamp theirs out whole s_forced → Half u me ends theirs v party count out (on_cable_after s theirs whole s_count s_sent kept
+      (act su m sv) back) whole sent collected forced taken (taken_after stamp (act su m sv) their_taken)
   other_moved s su sv s_count s_sent s_forced call stamp kept m x w = record {
     members = i.members;
-    lanes = lanes_peer me ends whole sent collected forced s_forced v.flows out back s theirs su call stamp s_count s_sent kept sv m x w
-        i.lanes;
+    lanes = lanes_peer me ends whole sent collected forced s_forced v.flows out back s theirs su call stamp s_count s_sent kept sv m x w i.lanes;
     stamps = stamps_peer ends theirs party count out their_taken whole s_forced su call stamp sv m x w i.stamps;
     heard = i.heard;
   }
 
 -- one move
-calling_moved : (x : WorldSetup) (s : Side) (call : ModelCall) (stamp : ℕ) (party : Side → ℕ → Option Party) (count : Side → ℕ
-    → ℕ) (towards base : ℕ → List Message) (m : Move × Bool) (w : World)
-    → MoveAllowed (x.setup s) call (w.view s) m.0 → Calling x s call stamp party count towards base w
-    → Calling x s call stamp party count towards base (world_after x s stamp m w)
+calling_moved : (x : WorldSetup) (s : Side) (call : ModelCall) (stamp : ℕ) (party : Side → ℕ → Option Party)
+    (count : Side → ℕ → ℕ) (towards base : ℕ → List Message) (m : Move × Bool) (w : World) → MoveAllowed (x.setup s) call (w.view s) m.0
+    → Calling x s call stamp party count towards base w → Calling x s call stamp party count towards base (world_after x s stamp m w)
 calling_moved x One call stamp party count towards base m w a i = record {
   within = i.within;
   parties = λ r p. parties_kept (x.setup One) call (w.view One) m.0 a i.within.running r p ∙ i.parties r p;
@@ -95,10 +91,9 @@ calling_moved x Two call stamp party count towards base m w a i = record {
 }
 
 -- all moves of a call
-pub calling_all : (x : WorldSetup) (s : Side) (call : ModelCall) (stamp : ℕ) (party : Side → ℕ → Option Party) (count : Side → ℕ
-    → ℕ) (towards base : ℕ → List Message) (ms : List (Move × Bool)) (w : World)
-    → AllMoves x s call stamp ms w → Calling x s call stamp party count towards base w
-    → Calling x s call stamp party count towards base (world_after_all x s stamp ms w)
+pub calling_all : (x : WorldSetup) (s : Side) (call : ModelCall) (stamp : ℕ) (party : Side → ℕ → Option Party)
+    (count : Side → ℕ → ℕ) (towards base : ℕ → List Message) (ms : List (Move × Bool)) (w : World) → AllMoves x s call stamp ms w
+    → Calling x s call stamp party count towards base w → Calling x s call stamp party count towards base (world_after_all x s stamp ms w)
 calling_all x s call stamp party count towards base [] w a i = i
 calling_all x s call stamp party count towards base (m ∷ ms) w a i = calling_all x s call stamp party count towards base ms
     (world_after x s stamp m w) a.1 (calling_moved x s call stamp party count towards base m w a.0 i)

@@ -43,9 +43,8 @@ called x s call stamp old mid new h z = subst Parts (sym z.2.2) (still x s stamp
 abbrev with_one : (ℕ → ℕ → ℕ → List ℕ) → ℕ → ℕ → ℕ → ℕ → ℕ → ℕ → ℕ → List ℕ
 with_one f a g k n = at_system f a (at_two (f a) g k (f a g k ++ n ∷ []))
 
-grew : (f : ℕ → ℕ → ℕ → List ℕ) (a g k n s j l : ℕ)
-    → (((s ≡ a) × (j ≡ g) × (l ≡ k)) × (with_one f a g k n s j l ≡ f s j l ++ n ∷ []))
-    ⊎ (((s ≡ a) × (j ≡ g) × (l ≡ k) → ⊥) × (with_one f a g k n s j l ≡ f s j l))
+grew : (f : ℕ → ℕ → ℕ → List ℕ) (a g k n s j l : ℕ) → (((s ≡ a) × (j ≡ g) × (l ≡ k))
+    × (with_one f a g k n s j l ≡ f s j l ++ n ∷ [])) ⊎ (((s ≡ a) × (j ≡ g) × (l ≡ k) → ⊥) × (with_one f a g k n s j l ≡ f s j l))
 grew f a g k n s j l = grind arith
 
 handed : (t : ℕ) (o : Option Place) (up : Option ℕ) (g k n : ℕ) (w : Network) → Parts w → Parts (handed_up_from t o up g k n w)
@@ -53,8 +52,7 @@ handed t o up g k n w i = grind (arith, cases_Bool, eqb, and_parts, at_place, wi
 
 comes : (x : NetworkSetup) (s p : ℕ) (line : List Message) (old new : Network) → Parts old → DeliversFirstAt x s p line old new → Parts new
 comes x s p [] old new h z = subst Parts (sym z) h
-comes x s p (Control pdu stamp ∷ ms) old new h z = subst Parts (sym z.2)
-    (called x s (ModelCall.Receive p (Some pdu)) stamp old old z.0 h z.1)
+comes x s p (Control pdu stamp ∷ ms) old new h z = subst Parts (sym z.2) (called x s (ModelCall.Receive p (Some pdu)) stamp old old z.0 h z.1)
 comes x s p (Data origin g k n ∷ ms) old new h z = subst Parts (sym z.3)
     (handed s (x.far s p) z.0 g k n (without_first s p z.1) (called x s (ModelCall.Receive p None) 0 old old z.1 h z.2))
 

@@ -18,15 +18,13 @@ module _ (x : NetworkSetup) (s : ℕ) (call : ModelCall) (stamp : ℕ) (accepts 
   shown o v w = record (network_after_act x s stamp (accepted accepts o) o w) { view = at_system w.view s v }
 
   -- the view on the way does not matter
-  view_over : (seen : List Act) (v on_the_way : View) (w : Network)
-      → network_after_acts x s stamp accepts seen v (record w { view = at_system w.view s on_the_way })
-      ≡ network_after_acts x s stamp accepts seen v w
+  view_over : (seen : List Act) (v on_the_way : View) (w : Network) → network_after_acts x s stamp accepts seen v
+      (record w { view = at_system w.view s on_the_way }) ≡ network_after_acts x s stamp accepts seen v w
   view_over [] v on_the_way w = λ i. record w { view = λ t. twice w.view s on_the_way v t i }
   view_over (a ∷ more) v on_the_way w = view_over more v on_the_way (network_after_act x s stamp (accepts a) (Some a) w)
 
-  one_shown : (o : Option Act) (seen : List Act) (v on_the_way : View) (w : Network)
-      → network_after_acts x s stamp accepts seen v (shown o on_the_way w)
-      ≡ network_after_acts x s stamp accepts (option_to_list o ++ seen) v w
+  one_shown : (o : Option Act) (seen : List Act) (v on_the_way : View) (w : Network) → network_after_acts x s stamp accepts seen v
+      (shown o on_the_way w) ≡ network_after_acts x s stamp accepts (option_to_list o ++ seen) v w
   one_shown None seen v on_the_way w = ap (network_after_acts x s stamp accepts seen v) (λ i. record w {
     view = at_system w.view s on_the_way;
     sent = λ t. sym (itself w.sent s t) i;
@@ -36,9 +34,8 @@ module _ (x : NetworkSetup) (s : ℕ) (call : ModelCall) (stamp : ℕ) (accepts 
   one_shown (Some a) seen v on_the_way w = view_over seen v on_the_way (network_after_act x s stamp (accepts a) (Some a) w)
 
   all_moves : (ms : List Move) (w : Network) → AllAllowed (x.setup s) call (w.view s) ms → (moves : List (Move × Bool))
-      × AllNetworkMoves x s call stamp moves w
-      × (network_after_all x s stamp moves w
-      ≡ network_after_acts x s stamp accepts (acts (x.setup s) ms (w.view s)) (view_after_all (x.setup s) ms (w.view s)) w)
+      × AllNetworkMoves x s call stamp moves w × (network_after_all x s stamp moves w ≡ network_after_acts x s stamp accepts
+      (acts (x.setup s) ms (w.view s)) (view_after_all (x.setup s) ms (w.view s)) w)
   all_moves [] w h = ([], tt, λ i. record w { view = λ t. itself w.view s t i })
   all_moves (m ∷ ms) w h =
       let o = act (x.setup s) m (w.view s) in
@@ -47,8 +44,7 @@ module _ (x : NetworkSetup) (s : ℕ) (call : ModelCall) (stamp : ℕ) (accepts 
       let r = all_moves ms (shown o v w) (subst (λ (v : View). AllAllowed (x.setup s) call v ms) (sym here) h.1) in (
         (m, accepted accepts o) ∷ r.0,
         (h.0, r.1),
-        r.2
-            ∙ ap (λ (y : View). network_after_acts x s stamp accepts (acts (x.setup s) ms y) (view_after_all (x.setup s) ms y) (shown o v w)) here
+        r.2 ∙ ap (λ (y : View). network_after_acts x s stamp accepts (acts (x.setup s) ms y) (view_after_all (x.setup s) ms y) (shown o v w)) here
             ∙ one_shown o (acts (x.setup s) ms v) (view_after_all (x.setup s) ms v) v w,
       )
 

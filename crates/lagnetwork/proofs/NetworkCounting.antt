@@ -58,8 +58,7 @@ counted_happens x (NetworkEvent.Hear s p pdu stamp) old new h z = counted_call x
 counted_happens x (NetworkEvent.Pull s p) old new h z = subst AllCountFromZero (sym z) h
 counted_happens x (NetworkEvent.Plug s p t q) old new h z = subst AllCountFromZero (sym z.2) h
 
-counted_run : (x : NetworkSetup) (es : List NetworkEvent) (old new : Network) → AllCountFromZero old → NetworkRun x es old new
-    → AllCountFromZero new
+counted_run : (x : NetworkSetup) (es : List NetworkEvent) (old new : Network) → AllCountFromZero old → NetworkRun x es old new → AllCountFromZero new
 counted_run x [] old new h z = subst AllCountFromZero (sym z) h
 counted_run x (e ∷ es) old new h z = counted_run (recabled x e) es z.0 new (counted_happens x e old z.0 h z.1) z.2
 

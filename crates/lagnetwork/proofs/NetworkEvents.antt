@@ -78,8 +78,7 @@ out_less x towards towards' h r c = grind arith
 
 -- a cut cable holds nothing, nor does it when less is on it
 still_nothing : (x : NetworkSetup) (w : Network) → AllFine x w → (towards' : ℕ → ℕ → List Message)
-    → ((t q : ℕ) → IsLess (towards' t q) (w.towards t q))
-    → (r c : ℕ) → w.whole r c ≡ false → out_of x towards' r c ≡ []
+    → ((t q : ℕ) → IsLess (towards' t q) (w.towards t q)) → (r c : ℕ) → w.whole r c ≡ false → out_of x towards' r c ≡ []
 still_nothing x w i towards' h r c e = grind (arith, less_nothing, out_of, out_less)
 
 -- less is on the cables
@@ -289,8 +288,7 @@ from_far x f w s p a origin g k n ms i e h =
     (subst (Every (IsFrom One)) (ap (at_far w.towards) (f.cables s p a.system a.port e) ∙ h) ((i.each a.system).lanes.origin a.port)).0
 
 up_kept : (x : NetworkSetup) → IsNetworkSetup x → (w : Network) (s p : ℕ) (origin : Side) (g k n : ℕ) (up : Option ℕ)
-    → BeginsWith (Data origin g k n) (w.towards s p) → AllFine x w
-    → AllFine x (handed_up_from s (x.far s p) up g k n (without_first s p w))
+    → BeginsWith (Data origin g k n) (w.towards s p) → AllFine x w → AllFine x (handed_up_from s (x.far s p) up g k n (without_first s p w))
 up_kept x f w s p origin g k n up b i = go (x.far s p) refl up
   where
     go : (o : Option Place) → x.far s p ≡ o → (up : Option ℕ) → AllFine x (handed_up_from s o up g k n (without_first s p w))
@@ -305,9 +303,8 @@ comes_kept x f s p [] old new i e z = subst (AllFine x) (sym z) i
 comes_kept x f s p (Control pdu stamp ∷ ms) old new i e z = subst (AllFine x) (sym z.2) (popped_kept x z.0 s p
     (call_kept x f s (Receive p (Some pdu)) stamp old old z.0 refl
     (started x s (Receive p (Some pdu)) stamp old i (amid_receive x s p pdu stamp old.towards old.whole (old.forced s) (ms, e))) z.1))
-comes_kept x f s p (Data origin g k n ∷ ms) old new i e z = subst (AllFine x) (sym z.3)
-    (up_kept x f z.1 s p origin g k n z.0 (begins_call x s (Receive p None) 0 old old z.1 (Data origin g k n) s p z.2 (ms, e))
-    (quiet_kept x f s (Receive p None) old z.1 refl i z.2))
+comes_kept x f s p (Data origin g k n ∷ ms) old new i e z = subst (AllFine x) (sym z.3) (up_kept x f z.1 s p origin g k n z.0
+    (begins_call x s (Receive p None) 0 old old z.1 (Data origin g k n) s p z.2 (ms, e)) (quiet_kept x f s (Receive p None) old z.1 refl i z.2))
 
 again_kept : (x : NetworkSetup) → IsNetworkSetup x → (s p : ℕ) (line : List Message) (old new : Network) → AllFine x old
     → old.towards s p ≡ line → RepeatsFirstAt x s p line old new → AllFine x new
@@ -334,11 +331,10 @@ forced_kept x s g k w i = record {
   alike = i.alike;
   each = λ r. is_or_not (FineIn x (λ t. party_at (w.view t)) (record w { forced = at_system w.forced s (at_two (w.forced s) g k true) }) r) r s
       (λ e. subst (FineIn x (λ t. party_at (w.view t)) (record w { forced = at_system w.forced s (at_two (w.forced s) g k true) })) (sym e)
-      (subst (λ (c : ℕ → ℕ → Bool). Fine x s (w.view s) (party_at (w.view s)) (w.count s) (out_of x w.towards s) (w.towards s) (w.whole s)
-      (w.sent s) (w.collected s) c (w.taken s) w.taken w.source) (sym (there w.forced s (at_two (w.forced s) g k true))) (forced_part (i.each s) g k)))
-      (λ ne. subst (λ (c : ℕ → ℕ → Bool). Fine x r (w.view r) (party_at (w.view r)) (w.count r) (out_of x w.towards r) (w.towards r)
-      (w.whole r) (w.sent r) (w.collected r) c (w.taken r) w.taken w.source)
-      (sym (elsewhere w.forced s (at_two (w.forced s) g k true) r ne)) (i.each r));
+      (subst (λ (c : ℕ → ℕ → Bool). Fine x s (w.view s) (party_at (w.view s)) (w.count s) (out_of x w.towards s) (w.towards s) (w.whole s) (w.sent s)
+      (w.collected s) c (w.taken s) w.taken w.source) (sym (there w.forced s (at_two (w.forced s) g k true))) (forced_part (i.each s) g k)))
+      (λ ne. subst (λ (c : ℕ → ℕ → Bool). Fine x r (w.view r) (party_at (w.view r)) (w.count r) (out_of x w.towards r) (w.towards r) (w.whole r)
+      (w.sent r) (w.collected r) c (w.taken r) w.taken w.source) (sym (elsewhere w.forced s (at_two (w.forced s) g k true) r ne)) (i.each r));
 }
 
 amid_force : (x : NetworkSetup) (s : ℕ) (forced : ℕ → ℕ → ℕ → Bool) (g k : ℕ) (towards : ℕ → ℕ → List Message) (whole : ℕ → ℕ → Bool)
@@ -355,10 +351,8 @@ force_kept x f s g k old new i z = elim z [
 ]
 
 -- conversations are forced
-freed_kept : (x : NetworkSetup) (s : ℕ) (test : ℕ → ℕ → Bool) (w : Network) → AllFine x w → AllFine x (record w {
-  view = at_system w.view s (freed_view test (w.view s));
-  forced = at_system w.forced s (also_forced test (w.forced s));
-})
+freed_kept : (x : NetworkSetup) (s : ℕ) (test : ℕ → ℕ → Bool) (w : Network) → AllFine x w
+    → AllFine x (record w { view = at_system w.view s (freed_view test (w.view s)); forced = at_system w.forced s (also_forced test (w.forced s)) })
 freed_kept x s test w i = record {
   alike = i.alike;
   each = λ r. is_or_not (After r) r s
@@ -478,16 +472,13 @@ happens_kept x f (NetworkEvent.Offer s g frame) old new i z = quiet_kept x f s O
 happens_kept x f (NetworkEvent.Move_conversation s g k p) old new i z = quiet_kept x f s Move_conversation old new refl i z
 happens_kept x f (NetworkEvent.Force s g k) old new i z = force_kept x f s g k old new i z
 happens_kept x f (NetworkEvent.Frees s test) old new i z = subst (AllFine x) (sym z) (freed_kept x s test old i)
-happens_kept x f (NetworkEvent.Overtake s p line) old new i z =
-    subst (AllFine x) (sym z.1) (line_kept x old s p line (inr (inr (inr z.0))) i)
-happens_kept x f (NetworkEvent.Succeed s setup after) old new i z = subst (AllFine (recabled x (NetworkEvent.Succeed s setup after))) (sym z.2)
-    (setup_changed x s setup after z.0 (record old {
-      view = at_system old.view s after;
-      moved = at_system old.moved s (λ p. moved_again (old.moved s p) ((old.view s).port p) (after.port p));
-    }) (succeeded_kept x s after old z.1 i))
+happens_kept x f (NetworkEvent.Overtake s p line) old new i z = subst (AllFine x) (sym z.1) (line_kept x old s p line (inr (inr (inr z.0))) i)
+happens_kept x f (NetworkEvent.Succeed s setup after) old new i z =
+    subst (AllFine (recabled x (NetworkEvent.Succeed s setup after))) (sym z.2) (setup_changed x s setup after z.0 (record
+    old { view = at_system old.view s after; moved = at_system old.moved s (λ p. moved_again (old.moved s p) ((old.view s).port p) (after.port p)) })
+    (succeeded_kept x s after old z.1 i))
 happens_kept x f (NetworkEvent.Hear s p pdu stamp) old new i z = hears_kept x f s p pdu stamp old new i z.0 z.1
-happens_kept x f (NetworkEvent.Pull s p) old new i z =
-    subst (AllFine (recabled x (NetworkEvent.Pull s p))) (sym z) (pulled_kept x f s p old i)
+happens_kept x f (NetworkEvent.Pull s p) old new i z = subst (AllFine (recabled x (NetworkEvent.Pull s p))) (sym z) (pulled_kept x f s p old i)
 happens_kept x f (NetworkEvent.Plug s p t q) old new i z =
     subst (AllFine (recabled x (NetworkEvent.Plug s p t q))) (sym z.2) (plugged_kept x f s p t q z.0 z.1 old i)
 

@@ -48,9 +48,8 @@ took_from_far_end x w i sources s p a h d = go (w.moved s p) refl
     go Moved_up e k = absurd k
 
 pub one_device : (x : NetworkSetup) (w : Network) → AllFine x w → OneDevice x w
-one_device x w i s g p q t r j k a b only e h ia ib ga gb da db na nb =
-    only (sym ((names_far_end x w i s p t j a e ia na).0) ∙ (one_partner_each x w i s g p q a b ia ib ga gb da db).0
-    ∙ (names_far_end x w i s q r k b h ib nb).0)
+one_device x w i s g p q t r j k a b only e h ia ib ga gb da db na nb = only (sym ((names_far_end x w i s p t j a e ia na).0)
+    ∙ (one_partner_each x w i s g p q a b ia ib ga gb da db).0 ∙ (names_far_end x w i s q r k b h ib nb).0)
 
 pub not_with_itself : (x : NetworkSetup) (w : Network) → AllFine x w → NotWithItself x w
 not_with_itself x w i s p t q a e h inside d same = grind (arith, names_far_end)
@@ -68,20 +67,17 @@ flushed_behind_marker x w i s g k p n t q u st e =
     let o = (i.each s).lanes.orderly g k p u in
     let here = ends_there x s p (record { system = t; port = q }) e in
     let out = there_out x w s p t q e in (
-      (λ front back stamp h.
-          behind_split One g k n front (Control (Marker (x.setup s).system.mac p n) stamp) back (eq-eqb n n refl)
-          (subst (NoneBehind One g k n) (out ∙ h) (o.behind p n st here))),
-      (λ stamp h. ap (serials One g k) (sym out)
-          ∙ every_contains (λ m. answers n m ≡ true → serials One g k (out_of x w.towards s p) ≡ []) (w.towards s p)
-          (Control (Response (x.setup s).system.mac p n) stamp) (o.answered p n st here) h (eq-eqb n n refl)),
+      (λ front back stamp h. behind_split One g k n front (Control (Marker (x.setup s).system.mac p n) stamp) back
+          (eq-eqb n n refl) (subst (NoneBehind One g k n) (out ∙ h) (o.behind p n st here))),
+      (λ stamp h. ap (serials One g k) (sym out) ∙ every_contains (λ m. answers n m ≡ true → serials One g k (out_of x w.towards s p) ≡ [])
+          (w.towards s p) (Control (Response (x.setup s).system.mac p n) stamp) (o.answered p n st here) h (eq-eqb n n refl)),
     )
 
 pub all_below_next : (x : NetworkSetup) (w : Network) → AllFine x w → AllBelowNext x w
 all_below_next x w i s p t q r n stamp mac e = (
   (λ h. every_contains (MarkerBelow (w.view s).flows.next) (w.towards t q) (Control (Marker mac r n) stamp)
       (subst (Every (MarkerBelow (w.view s).flows.next)) (there_out x w s p t q e) ((i.each s).lanes.markers p)) h),
-  (λ h. every_contains (ResponseBelow (w.view s).flows.next) (w.towards s p) (Control (Response mac r n) stamp)
-      ((i.each s).lanes.responses p) h),
+  (λ h. every_contains (ResponseBelow (w.view s).flows.next) (w.towards s p) (Control (Response mac r n) stamp) ((i.each s).lanes.responses p) h),
 )
 
 pub collected_then_flying : (x : NetworkSetup) (w : Network) → AllFine x w → CollectedThenFlying x w
@@ -91,13 +87,7 @@ collected_then_flying x w i s g k p t q u e = grind arith
 pub took_in_sync : (u : SystemSetup) (w : Scene) → Members u w.view.port → AllHeard w.view.port w.taken → TookInSync w
 took_in_sync u w members heard p a h d n =
     let r = heard p a h n in
-    let y = r.3 ((members.member p a h d).1) in (
-      r.0,
-      r.1,
-      r.2,
-      y.0,
-      y.1,
-    )
+    let y = r.3 ((members.member p a h d).1) in (r.0, r.1, r.2, y.0, y.1)
 
 pub each_took_in_sync : (x : NetworkSetup) (w : Network) → AllFine x w → EachTookInSync x w
 each_took_in_sync x w i s = took_in_sync (x.setup s) (scene_of x w s) (i.each s).members (i.each s).heard
@@ -107,6 +97,5 @@ took_from_fixed_end x events w f stays r =
     let u = unmoved x events w stays r in
     let took = took_from_far_end (recabled_all x events) w (all_fine x events w f r).1 (sourced x f events w r) in (
       u.0,
-      λ s p a h d. took s p a h d (subst (λ (m : Moved). GoesByItsCable m a) (sym (u.1 s p)) tt)
-          ∙ ap (λ (far : ℕ → ℕ → Option Place). far s p) u.0,
+      λ s p a h d. took s p a h d (subst (λ (m : Moved). GoesByItsCable m a) (sym (u.1 s p)) tt) ∙ ap (λ (far : ℕ → ℕ → Option Place). far s p) u.0,
     )

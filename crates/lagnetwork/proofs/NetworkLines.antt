@@ -74,8 +74,7 @@ pub place_parts : (a b : Place) → Some a ≡ Some b → (a.system ≡ b.system
 place_parts a b h = let e : a ≡ b = same_Some a b h in (ap (λ (a : Place). a.system) e, ap (λ (a : Place). a.port) e)
 
 -- two ports whose cables end at one port are one
-pub same_near : (x : NetworkSetup) → IsNetworkSetup x → (s p t q : ℕ) (a : Place) → x.far s p ≡ Some a → x.far t q ≡ Some a
-    → (s ≡ t) × (p ≡ q)
+pub same_near : (x : NetworkSetup) → IsNetworkSetup x → (s p t q : ℕ) (a : Place) → x.far s p ≡ Some a → x.far t q ≡ Some a → (s ≡ t) × (p ≡ q)
 same_near x f s p t q a h k = place_parts (record { system = s; port = p }) (record { system = t; port = q }) (sym (f.cables s p a.system a.port h) ∙ f.cables t q a.system a.port k)
 
 -- the cable of a port is whole as seen from either end
@@ -85,8 +84,7 @@ SeenAlike x whole = (s p t q : ℕ) → x.far s p ≡ Some (record { system = t;
 -- what system s sends is on its own cable
 module _ (x : NetworkSetup) (f : IsNetworkSetup x) (whole : ℕ → ℕ → Bool) (alike : SeenAlike x whole) (kept : Bool) (s p : ℕ) (m : Message)
     (towards : ℕ → ℕ → List Message) where
-  own_put : (c : ℕ) → out_of x (put_on_line x whole kept s p m towards) s c
-      ≡ put_on_cable (ends_of x s) (whole s) kept p m (out_of x towards s) c
+  own_put : (c : ℕ) → out_of x (put_on_line x whole kept s p m towards) s c ≡ put_on_cable (ends_of x s) (whole s) kept p m (out_of x towards s) c
   own_put c = go (x.far s c) refl
     where
       go : (o : Option Place) → x.far s c ≡ o → at_far (put_on_line x whole kept s p m towards) o
@@ -115,8 +113,7 @@ module _ (x : NetworkSetup) (f : IsNetworkSetup x) (whole : ℕ → ℕ → Bool
   back_put : (r q : ℕ) → put_on_line x whole kept s p m towards r q ≡ put_on_cable (theirs_of x r s) (whole r) kept p m (towards r) q
   back_put r q = ap (λ (b : Bool). cond b (towards r q ++ m ∷ []) (towards r q))
       (same_and kept (whole s p) (whole r q) (is_place (x.far s p) r q) (is_port p (theirs_of x r s q))
-      (λ h. alike s p r q (is_place-some (x.far s p) r q h))
-      (same_bool (is_place (x.far s p) r q) (is_port p (theirs_of x r s q))
+      (λ h. alike s p r q (is_place-some (x.far s p) r q h)) (same_bool (is_place (x.far s p) r q) (is_port p (theirs_of x r s q))
       (λ h. some-is_port p (theirs_of x r s q) (some-port_in s (x.far r q) p (f.cables s p r q (is_place-some (x.far s p) r q h))))
       (λ h. some-is_place (x.far s p) r q (f.cables r q s p (port_in-some s (x.far r q) p (is_port-some p (theirs_of x r s q) h))))))
 
@@ -130,11 +127,9 @@ module _ (x : NetworkSetup) (f : IsNetworkSetup x) (whole : ℕ → ℕ → Bool
   own_after (Some (Sends_frame p g k)) = λ i c. own_put x f whole alike kept s p (Data One g k (length (sent g k))) towards c i
   own_after (Some (Took p pdu)) = refl
 
-  pub other_after : (o : Option Act) (r : ℕ) → (r ≡ s → ⊥) → out_of x (towards_after x s whole count sent kept o towards) r
-      ≡ out_of x towards r
+  pub other_after : (o : Option Act) (r : ℕ) → (r ≡ s → ⊥) → out_of x (towards_after x s whole count sent kept o towards) r ≡ out_of x towards r
   other_after None r ne = refl
-  other_after (Some (Sends p pdu)) r ne = λ i c.
-      other_put x f whole alike kept s p (Control pdu (stamp_of pdu (count p))) towards r ne c i
+  other_after (Some (Sends p pdu)) r ne = λ i c. other_put x f whole alike kept s p (Control pdu (stamp_of pdu (count p))) towards r ne c i
   other_after (Some (Sends_frame p g k)) r ne = λ i c. other_put x f whole alike kept s p (Data One g k (length (sent g k))) towards r ne c i
   other_after (Some (Took p pdu)) r ne = refl
 
@@ -238,8 +233,7 @@ module _ {me : Side} {ends : ℕ → Option ℕ} {f : DistributorFacts} {out bac
     {sent collected : ℕ → ℕ → List ℕ} {forced : ℕ → ℕ → Bool} (i : Lanes me ends f out back whole sent collected forced) where
   -- less is on the cables
   pub lanes_less : (out' back' : ℕ → List Message) (whole' : ℕ → Bool) → ((c : ℕ) → IsLess (out' c) (out c))
-      → ((c : ℕ) → IsLess (back' c) (back c)) → ((c : ℕ) → whole' c ≡ false → out' c ≡ [])
-      → Lanes me ends f out' back' whole' sent collected forced
+      → ((c : ℕ) → IsLess (back' c) (back c)) → ((c : ℕ) → whole' c ≡ false → out' c ≡ []) → Lanes me ends f out' back' whole' sent collected forced
   lanes_less out' back' whole' lo lb cut =
       let first : Lanes me ends f out' back whole' sent collected forced = record {
         waits = i.waits;
@@ -250,14 +244,12 @@ module _ {me : Side} {ends : ℕ → Option ℕ} {f : DistributorFacts} {out bac
         orderly = λ g k c u. elim (lo c) [
           | inl x ↦ subst (λ l. Orderly me g k (ends c) (f.state g k) l (back c) (sent g k) (collected g k)) (sym x) (i.orderly g k c u)
           | inr y ↦ elim y [
-            | inl x ↦ subst (λ l. Orderly me g k (ends c) (f.state g k) l (back c) (sent g k) (collected g k)) (sym x)
-                (out_blank (i.orderly g k c u))
+            | inl x ↦ subst (λ l. Orderly me g k (ends c) (f.state g k) l (back c) (sent g k) (collected g k))
+                (sym x) (out_blank (i.orderly g k c u))
             | inr z ↦ elim z [
-              | inl x ↦ taken_away (subst (λ l. Orderly me g k (ends c) (f.state g k) l (back c) (sent g k) (collected g k)) x.1
-                  (i.orderly g k c u))
-              | inr o ↦ subst (λ l. Orderly me g k (ends c) (f.state g k) l (back c) (sent g k) (collected g k))
-                  (cond_true (eqb c c) (out' c) (out c) (eq-eqb c c refl))
-                  ((lanes_out_overtaken me ends f whole sent collected forced out back c (out' c) o i).orderly g k c u)
+              | inl x ↦ taken_away (subst (λ l. Orderly me g k (ends c) (f.state g k) l (back c) (sent g k) (collected g k)) x.1 (i.orderly g k c u))
+              | inr o ↦ subst (λ l. Orderly me g k (ends c) (f.state g k) l (back c) (sent g k) (collected g k)) (cond_true (eqb c c) (out' c)
+                  (out c) (eq-eqb c c refl)) ((lanes_out_overtaken me ends f whole sent collected forced out back c (out' c) o i).orderly g k c u)
             ]
           ]
         ];
@@ -270,11 +262,11 @@ module _ {me : Side} {ends : ℕ → Option ℕ} {f : DistributorFacts} {out bac
         orderly = λ g k c u. elim (lb c) [
           | inl x ↦ subst (λ l. Orderly me g k (ends c) (f.state g k) (out' c) l (sent g k) (collected g k)) (sym x) (first.orderly g k c u)
           | inr y ↦ elim y [
-            | inl x ↦ subst (λ l. Orderly me g k (ends c) (f.state g k) (out' c) l (sent g k) (collected g k)) (sym x)
-                (back_blank (first.orderly g k c u))
+            | inl x ↦ subst (λ l. Orderly me g k (ends c) (f.state g k) (out' c) l (sent g k) (collected g k))
+                (sym x) (back_blank (first.orderly g k c u))
             | inr z ↦ elim z [
-              | inl x ↦ answer_taken (subst (λ l. Orderly me g k (ends c) (f.state g k) (out' c) l (sent g k) (collected g k)) x.1
-                  (first.orderly g k c u))
+              | inl x ↦ answer_taken
+                  (subst (λ l. Orderly me g k (ends c) (f.state g k) (out' c) l (sent g k) (collected g k)) x.1 (first.orderly g k c u))
               | inr o ↦ subst (λ l. Orderly me g k (ends c) (f.state g k) (out' c) l (sent g k) (collected g k))
                   (cond_true (eqb c c) (back' c) (back c) (eq-eqb c c refl))
                   ((lanes_back_overtaken me ends f whole' sent collected forced out' back c (back' c) o first).orderly g k c u)

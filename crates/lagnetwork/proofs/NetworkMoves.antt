@@ -30,12 +30,10 @@ blank {sent = sent} {collected} i = record {
 }
 
 -- some cables are others, and nothing is on them
-lanes_moved : {me : Side} {ends : ℕ → Option ℕ} {f : DistributorFacts} {out back : ℕ → List Message} {whole : ℕ → Bool}
-    {sent collected : ℕ → ℕ → List ℕ} {forced : ℕ → ℕ → Bool} → Lanes me ends f out back whole sent collected forced
-    → (ends' : ℕ → Option ℕ) (out' back' : ℕ → List Message) (whole' : ℕ → Bool)
-    → ((c : ℕ) → ((out' c ≡ []) × (back' c ≡ []))
-    ⊎ ((ends' c ≡ ends c) × (out' c ≡ out c) × (back' c ≡ back c) × (whole' c ≡ whole c)))
-    → Lanes me ends' f out' back' whole' sent collected forced
+lanes_moved : {me : Side} {ends : ℕ → Option ℕ} {f : DistributorFacts} {out back : ℕ → List Message}
+    {whole : ℕ → Bool} {sent collected : ℕ → ℕ → List ℕ} {forced : ℕ → ℕ → Bool} → Lanes me ends f out back whole sent collected forced
+    → (ends' : ℕ → Option ℕ) (out' back' : ℕ → List Message) (whole' : ℕ → Bool) → ((c : ℕ) → ((out' c ≡ []) × (back' c ≡ []))
+    ⊎ ((ends' c ≡ ends c) × (out' c ≡ out c) × (back' c ≡ back c) × (whole' c ≡ whole c))) → Lanes me ends' f out' back' whole' sent collected forced
 lanes_moved {me} {ends} {f} {out} {back} {whole} {sent} {collected} {forced} i ends' out' back' whole' h = record {
   waits = i.waits;
   markers = λ c. elim (h c) [
@@ -75,9 +73,8 @@ module _ (x : NetworkSetup) (far' : ℕ → ℕ → Option Place) (ends : ℕ �
   abbrev towards' : ℕ → ℕ → List Message
   towards' t q = cond (ends t q) [] (w.towards t q)
 
-  parts : (r c : ℕ) → ((out_of x' towards' r c ≡ []) × (towards' r c ≡ []))
-      ⊎ ((ends_of x' r c ≡ ends_of x r c) × (out_of x' towards' r c ≡ out_of x w.towards r c) × (towards' r c ≡ w.towards r c)
-      × (whole' r c ≡ w.whole r c))
+  parts : (r c : ℕ) → ((out_of x' towards' r c ≡ []) × (towards' r c ≡ [])) ⊎ ((ends_of x' r c ≡ ends_of x r c)
+      × (out_of x' towards' r c ≡ out_of x w.towards r c) × (towards' r c ≡ w.towards r c) × (whole' r c ≡ w.whole r c))
   parts r c = elim (cases_Bool (ends r c)) [
     | inl e ↦ inl (none (far' r c) refl e, cond_true (ends r c) [] (w.towards r c) e)
     | inr e ↦ inr (

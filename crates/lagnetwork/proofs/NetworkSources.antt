@@ -16,8 +16,7 @@ use Rattle.lagnetwork.proofs.Networks.{elsewhere, is_or_not, there}
 pub record SourcedAt (far : ℕ → Option Place) (moved : ℕ → Moved) (ports : ℕ → Option PortFacts) (taken : ℕ → Option TakenLacpdu)
     (source : ℕ → Option Place) : Type 0 where
   pub start : (p : ℕ) (m : TakenLacpdu) → moved p ≡ Unmoved → taken p ≡ Some m → source p ≡ far p
-  pub down : (p : ℕ) (a : PortFacts) → moved p ≡ Moved_down → ports p ≡ Some a → a.synchronized ≡ true → a.defaulted ≡ false
-      → source p ≡ far p
+  pub down : (p : ℕ) (a : PortFacts) → moved p ≡ Moved_down → ports p ≡ Some a → a.synchronized ≡ true → a.defaulted ≡ false → source p ≡ far p
 
 abbrev pub Sourced : NetworkSetup → Network → Type 0
 Sourced x w = (s : ℕ) → SourcedAt (x.far s) (w.moved s) (w.view s).port (w.taken s) (w.source s)
@@ -38,9 +37,8 @@ sourced_port : (u : SystemSetup) (call : ModelCall) (ports : ℕ → Option Port
     → SourcedAt far moved (at_port ports p (port_after m)) (taken_after stamp (port_act p m a) taken) (source_after far (port_act p m a) source)
 sourced_port u call ports p stamp far moved taken source m a h x i = grind (arith, cases_Bool, eqb, cond_true, eqb-true, cond_false, changed_port, port_after, eqb-false, sourced_changed)
 
-sourced_first : (u : SystemSetup) (far : ℕ → Option Place) (moved : ℕ → Moved) (ports : ℕ → Option PortFacts)
-    (taken : ℕ → Option TakenLacpdu) (source : ℕ → Option Place) → SourcedAt far moved ports taken source
-    → SourcedAt far moved (first_view u).port taken source
+sourced_first : (u : SystemSetup) (far : ℕ → Option Place) (moved : ℕ → Moved) (ports : ℕ → Option PortFacts) (taken : ℕ → Option TakenLacpdu)
+    (source : ℕ → Option Place) → SourcedAt far moved ports taken source → SourcedAt far moved (first_view u).port taken source
 sourced_first u far moved ports taken source i = grind arith
 
 sourced_own : (u : SystemSetup) (call : ModelCall) (stamp : ℕ) (v : View) (m : Move) (far : ℕ → Option Place) (moved : ℕ → Moved)
@@ -81,13 +79,9 @@ sourced_call x s call stamp old mid new i z = subst (Sourced x) (sym z.2.2) (sou
 -- a system follows
 
 -- these cables are moved
-sourced_moved : (x : NetworkSetup) (far' : ℕ → ℕ → Option Place) (ends : ℕ → ℕ → Bool) (whole : ℕ → ℕ → Bool)
-    (towards : ℕ → ℕ → List Message) (w : Network) → ((t q : ℕ) → ends t q ≡ false → far' t q ≡ x.far t q) → Sourced x w
-    → Sourced (record x { far = far' }) (record w {
-      whole = whole;
-      towards = towards;
-      moved = λ t q. cond (ends t q) (moved_of ((w.view t).port q)) (w.moved t q);
-    })
+sourced_moved : (x : NetworkSetup) (far' : ℕ → ℕ → Option Place) (ends : ℕ → ℕ → Bool) (whole : ℕ → ℕ → Bool) (towards : ℕ → ℕ → List Message)
+    (w : Network) → ((t q : ℕ) → ends t q ≡ false → far' t q ≡ x.far t q) → Sourced x w → Sourced (record x { far = far' })
+    (record w { whole = whole; towards = towards; moved = λ t q. cond (ends t q) (moved_of ((w.view t).port q)) (w.moved t q) })
 sourced_moved x far' ends whole towards w away i t = grind arith
 
 sourced_happens : (x : NetworkSetup) → IsNetworkSetup x → (e : NetworkEvent) (old new : Network) → Sourced x old
@@ -121,8 +115,7 @@ sourced_happens x f (NetworkEvent.Plug s p t q) old new i z =
 sourced_run : (x : NetworkSetup) → IsNetworkSetup x → (es : List NetworkEvent) (old new : Network) → Sourced x old
     → NetworkRun x es old new → Sourced (recabled_all x es) new
 sourced_run x f [] old new i z = subst (Sourced x) (sym z) i
-sourced_run x f (e ∷ es) old new i z = sourced_run (recabled x e) (setup_kept x f e old z.0 z.1) es z.0 new
-    (sourced_happens x f e old z.0 i z.1) z.2
+sourced_run x f (e ∷ es) old new i z = sourced_run (recabled x e) (setup_kept x f e old z.0 z.1) es z.0 new (sourced_happens x f e old z.0 i z.1) z.2
 
 pub sourced : (x : NetworkSetup) → IsNetworkSetup x → (es : List NetworkEvent) (w : Network) → NetworkRun x es (first_network x) w
     → Sourced (recabled_all x es) w
@@ -158,13 +151,11 @@ unmoved_happens x (NetworkEvent.Lose s p) old new c h z = (refl, subst AllUnmove
 unmoved_happens x (NetworkEvent.Repeat s p) old new c h z = (refl, again_kept AllUnmoved x (unmoved_call x) (λ w towards h. h) (λ w collected arrived h. h) s p (old.towards s p) old new h z)
 unmoved_happens x (NetworkEvent.Cut s p) old new c h z = (refl, subst AllUnmoved (sym z) h)
 unmoved_happens x (NetworkEvent.Join s p) old new c h z = (refl, subst AllUnmoved (sym z) h)
-unmoved_happens x (NetworkEvent.Sense s p) old new c h z =
-    (refl, unmoved_call x s (ModelCall.Set_link p (old.whole s p)) 0 old old new h z)
+unmoved_happens x (NetworkEvent.Sense s p) old new c h z = (refl, unmoved_call x s (ModelCall.Set_link p (old.whole s p)) 0 old old new h z)
 unmoved_happens x (NetworkEvent.Restart s) old new c h z = (refl, subst AllUnmoved (sym z.2) h)
 unmoved_happens x (NetworkEvent.Configure s p change) old new c h z = (refl, unmoved_call x s ModelCall.Configure 0 old old new h z)
 unmoved_happens x (NetworkEvent.Offer s g frame) old new c h z = (refl, unmoved_call x s ModelCall.Offer 0 old old new h z)
-unmoved_happens x (NetworkEvent.Move_conversation s g k p) old new c h z =
-    (refl, unmoved_call x s ModelCall.Move_conversation 0 old old new h z)
+unmoved_happens x (NetworkEvent.Move_conversation s g k p) old new c h z = (refl, unmoved_call x s ModelCall.Move_conversation 0 old old new h z)
 unmoved_happens x (NetworkEvent.Force s g k) old new c h z = elim z [
   | inl e ↦ (refl, subst AllUnmoved (sym e) h)
   | inr y ↦ (refl, unmoved_call x s (ModelCall.Force g k) 0 old _ new h y)
@@ -172,8 +163,7 @@ unmoved_happens x (NetworkEvent.Force s g k) old new c h z = elim z [
 unmoved_happens x (NetworkEvent.Frees s test) old new c h z = (refl, subst AllUnmoved (sym z) h)
 unmoved_happens x (NetworkEvent.Overtake s p line) old new c h z = (refl, subst AllUnmoved (sym z.1) h)
 unmoved_happens x (NetworkEvent.Succeed s setup after) old new c h z = (refl, subst AllUnmoved (sym z.2) (unmoved_next old s after h))
-unmoved_happens x (NetworkEvent.Hear s p pdu stamp) old new c h z =
-    (refl, unmoved_call x s (ModelCall.Receive p pdu) stamp old old new h z.1)
+unmoved_happens x (NetworkEvent.Hear s p pdu stamp) old new c h z = (refl, unmoved_call x s (ModelCall.Receive p pdu) stamp old old new h z.1)
 unmoved_happens x (NetworkEvent.Pull s p) old new c h z = absurd c
 unmoved_happens x (NetworkEvent.Plug s p t q) old new c h z = absurd c
 

@@ -25,10 +25,8 @@ recounted None (Some b) n = inr (λ e. none-some b e, refl)
 recounted (Some a) None n = inr (λ e. none-some a (sym e), refl)
 recounted (Some a) (Some b) n = elim (cases_Bool (same_party a b)) [
   | inl e ↦ inl (ap (λ (p : Party). Some p) (exact_party a b e), cond_true (same_party a b) n (suc n) e)
-  | inr e ↦ inr (
-    (λ h. true≢false (sym (subst (λ c. same_party a c ≡ true) (same_Some a b h) (party_itself a)) ∙ e)),
-    cond_false (same_party a b) n (suc n) e,
-  )
+  | inr e ↦ inr
+      ((λ h. true≢false (sym (subst (λ c. same_party a c ≡ true) (same_Some a b h) (party_itself a)) ∙ e)), cond_false (same_party a b) n (suc n) e)
 ]
 
 abbrev pub counted : Network → Network → ℕ → ℕ → ℕ
@@ -68,10 +66,7 @@ first_markers_are_alike x f s n = grind arith
 -- restarts
 
 abbrev restarted : NetworkSetup → ℕ → Network → Network
-restarted x s w = record w {
-  view = at_system w.view s (first_view (x.setup s));
-  towards = λ t q. cond (ends_at x s t q) [] (w.towards t q);
-}
+restarted x s w = record w { view = at_system w.view s (first_view (x.setup s)); towards = λ t q. cond (ends_at x s t q) [] (w.towards t q) }
 
 abbrev after_restart : NetworkSetup → ℕ → Network → Network
 after_restart x s w = record (restarted x s w) { count = counted w (restarted x s w) }

@@ -66,8 +66,7 @@ abbrev place : ℕ → ℕ → Place
 place s p = record { system = s; port = p }
 
 abbrev far_of : ℕ → ℕ → Option Place
-far_of s p =
-    cond (eqb s 1) (cond (eqb p 1) (Some (place 2 1)) (cond (eqb p 2) (Some (place 3 2)) None))
+far_of s p = cond (eqb s 1) (cond (eqb p 1) (Some (place 2 1)) (cond (eqb p 2) (Some (place 3 2)) None))
     (cond (eqb s 2) (cond (eqb p 1) (Some (place 1 1)) None) (cond (eqb s 3) (cond (eqb p 2) (Some (place 1 2)) None) None))
 
 abbrev x₀ : NetworkSetup
@@ -219,9 +218,8 @@ e₄ = (
         (λ e. ne₁ 0 1 1 (sym e)),
         refl,
         inl (outside_kept (at_port (first_view (setup_of 2)).port 1 (port_after (Announce false))) 1
-            (first_port (party_of 2 1)) (port_after (Take (answer 1) true)) refl (λ h. none-some 1 h)
-            (outside_kept (first_view (setup_of 2)).port 1 (first_port (party_of 2 1)) (port_after (Announce false)) refl
-            (λ h. none-some 1 h) (outside_first 2))),
+            (first_port (party_of 2 1)) (port_after (Take (answer 1) true)) refl (λ h. none-some 1 h) (outside_kept
+            (first_view (setup_of 2)).port 1 (first_port (party_of 2 1)) (port_after (Announce false)) refl (λ h. none-some 1 h) (outside_first 2))),
       ),
       ((refl, refl), tt),
     ),
@@ -258,13 +256,11 @@ e₈ = (
         ne₁ 0 2 2,
         refl,
         inr (
-          alike_kept g₀ _ 2 (first_port (party_of 1 2)) (port_after (Take (hello 2) false)) refl (λ h. absurd (none-some 1 h))
-              (alike_kept g₀ _ 1 _ (port_after Distribute) refl (λ h. inl (refl, refl))
-              (alike_kept g₀ _ 1 _ (port_after (Take (agreed 1) true)) refl (λ h. inl (refl, refl))
-              (alike_kept g₀ _ 1 _ (port_after (Announce true)) refl (λ h. inl (refl, refl))
-              (alike_kept g₀ _ 1 _ (port_after (Join 1)) refl (λ h. inl (refl, refl))
-              (alike_kept g₀ _ 1 _ (port_after (Take (hello 1) false)) refl (λ h. absurd (none-some 1 h))
-              (λ q b h e. absurd (outside_first 1 q b h e))))))),
+          alike_kept g₀ _ 2 (first_port (party_of 1 2)) (port_after (Take (hello 2) false)) refl
+              (λ h. absurd (none-some 1 h)) (alike_kept g₀ _ 1 _ (port_after Distribute) refl (λ h. inl (refl, refl)) (alike_kept g₀ _ 1 _
+              (port_after (Take (agreed 1) true)) refl (λ h. inl (refl, refl)) (alike_kept g₀ _ 1 _ (port_after (Announce true)) refl
+              (λ h. inl (refl, refl)) (alike_kept g₀ _ 1 _ (port_after (Join 1)) refl (λ h. inl (refl, refl)) (alike_kept g₀ _ 1 _
+              (port_after (Take (hello 1) false)) refl (λ h. absurd (none-some 1 h)) (λ q b h e. absurd (outside_first 1 q b h e))))))),
           refl,
         ),
       ),
@@ -288,9 +284,8 @@ e₁₀ = (
         (λ e. ne₁ 0 2 2 (sym e)),
         refl,
         inl (outside_kept (at_port (first_view (setup_of 2)).port 2 (port_after (Announce false))) 2
-            (first_port (party_of 2 2)) (port_after (Take (answer 2) true)) refl (λ h. none-some 1 h)
-            (outside_kept (first_view (setup_of 2)).port 2 (first_port (party_of 2 2)) (port_after (Announce false)) refl
-            (λ h. none-some 1 h) (outside_first 2))),
+            (first_port (party_of 2 2)) (port_after (Take (answer 2) true)) refl (λ h. none-some 1 h) (outside_kept
+            (first_view (setup_of 2)).port 2 (first_port (party_of 2 2)) (port_after (Announce false)) refl (λ h. none-some 1 h) (outside_first 2))),
       ),
       ((refl, refl), tt),
     ),
@@ -324,8 +319,7 @@ e₁₆ = made x₀ 1 ModelCall.Transmit 0 ((Flow (Mark 1), true) ∷ []) w₁�
 e₁₇ : NetworkHappens x₀ (NetworkEvent.Deliver 2 1) w₁₆ w₁₇
 e₁₇ = (
   next 2 0 ((Port 1 (Respond [] 1 1), true) ∷ []) w₁₆,
-  made x₀ 2 (Receive 1 (Some (Marker [] 1 1))) 0 ((Port 1 (Respond [] 1 1), true) ∷ []) w₁₆ refl
-      (not_receive 1 (Some (Marker [] 1 1))) (refl, tt),
+  made x₀ 2 (Receive 1 (Some (Marker [] 1 1))) 0 ((Port 1 (Respond [] 1 1), true) ∷ []) w₁₆ refl (not_receive 1 (Some (Marker [] 1 1))) (refl, tt),
   refl,
 )
 
@@ -359,11 +353,10 @@ up n m q = record (first_port (party_of n q)) {
 pub one_aggregator_reaches_two : OneAggregatorReachesTwo
 one_aggregator_reaches_two = (
   x₀,
-  NetworkEvent.Emit 2 1 ∷ NetworkEvent.Deliver 1 1 ∷ NetworkEvent.Emit 1 1 ∷ NetworkEvent.Deliver 2 1 ∷ NetworkEvent.Emit 2 1
-      ∷ NetworkEvent.Deliver 1 1 ∷ NetworkEvent.Emit 3 2 ∷ NetworkEvent.Deliver 1 2 ∷ NetworkEvent.Emit 1 2 ∷ NetworkEvent.Deliver 3 2
-      ∷ NetworkEvent.Emit 3 2 ∷ NetworkEvent.Deliver 1 2 ∷ NetworkEvent.Offer 1 1 frame ∷ NetworkEvent.Deliver 2 1
-      ∷ NetworkEvent.Move_conversation 1 1 48 2 ∷ NetworkEvent.Emit 1 1 ∷ NetworkEvent.Deliver 2 1 ∷ NetworkEvent.Deliver 1 1
-      ∷ NetworkEvent.Offer 1 1 frame ∷ NetworkEvent.Deliver 3 2 ∷ [],
+  NetworkEvent.Emit 2 1 ∷ NetworkEvent.Deliver 1 1 ∷ NetworkEvent.Emit 1 1 ∷ NetworkEvent.Deliver 2 1 ∷ NetworkEvent.Emit 2 1 ∷ NetworkEvent.Deliver
+      1 1 ∷ NetworkEvent.Emit 3 2 ∷ NetworkEvent.Deliver 1 2 ∷ NetworkEvent.Emit 1 2 ∷ NetworkEvent.Deliver 3 2 ∷ NetworkEvent.Emit
+      3 2 ∷ NetworkEvent.Deliver 1 2 ∷ NetworkEvent.Offer 1 1 frame ∷ NetworkEvent.Deliver 2 1 ∷ NetworkEvent.Move_conversation 1 1 48
+      2 ∷ NetworkEvent.Emit 1 1 ∷ NetworkEvent.Deliver 2 1 ∷ NetworkEvent.Deliver 1 1 ∷ NetworkEvent.Offer 1 1 frame ∷ NetworkEvent.Deliver 3 2 ∷ [],
   w₂₀,
   up 1 2 1,
   up 1 2 2,
@@ -400,23 +393,7 @@ one_aggregator_reaches_two = (
                     (
                       w₁₀,
                       e₁₀,
-                      (
-                        w₁₁,
-                        e₁₁,
-                        (
-                          w₁₂,
-                          e₁₂,
-                          (
-                            w₁₃,
-                            e₁₃,
-                            (
-                              w₁₄,
-                              e₁₄,
-                              (w₁₅, e₁₅, (w₁₆, e₁₆, (w₁₇, e₁₇, (w₁₈, e₁₈, (w₁₉, e₁₉, (w₂₀, e₂₀, refl)))))),
-                            ),
-                          ),
-                        ),
-                      ),
+                      (w₁₁, e₁₁, (w₁₂, e₁₂, (w₁₃, e₁₃, (w₁₄, e₁₄, (w₁₅, e₁₅, (w₁₆, e₁₆, (w₁₇, e₁₇, (w₁₈, e₁₈, (w₁₉, e₁₉, (w₂₀, e₂₀, refl)))))))))),
                     ),
                   ),
                 ),
@@ -511,14 +488,10 @@ d₅ = made x₂ 1 ModelCall.Transmit 0 joins_again v₄ refl not_transmit (
     refl,
     ne₁ 0 1 1,
     refl,
-    inl (but_left _ 1 _ refl
-        (but_kept _ 1 _ (port_after Desynchronize) refl
-        (but_kept _ 1 _ (port_after Distribute) refl
-        (but_kept _ 1 _ (port_after (Take (agreed 1) true)) refl
-        (but_kept _ 1 _ (port_after (Announce true)) refl
-        (but_kept _ 1 _ (port_after (Join 1)) refl
-        (but_kept (first_view (setup_of 1)).port 1 (first_port (party_of 1 1)) (port_after (Take (hello 1) false)) refl
-        (λ q b ne h e. outside_first 1 q b h e)))))))),
+    inl (but_left _ 1 _ refl (but_kept _ 1 _
+        (port_after Desynchronize) refl (but_kept _ 1 _ (port_after Distribute) refl (but_kept _ 1 _ (port_after (Take (agreed 1) true)) refl
+        (but_kept _ 1 _ (port_after (Announce true)) refl (but_kept _ 1 _ (port_after (Join 1)) refl (but_kept (first_view
+        (setup_of 1)).port 1 (first_port (party_of 1 1)) (port_after (Take (hello 1) false)) refl (λ q b ne h e. outside_first 1 q b h e)))))))),
   ),
   ((refl, λ h. refl), tt),
 )

@@ -41,12 +41,11 @@ abbrev pub Last : NetworkSetup → ℕ → (ℕ → Option Party) → (ℕ → �
 Last x r party count taken source = (p c : ℕ) (l : TakenLacpdu) → source p ≡ Some (record { system = r; port = c }) → taken p ≡ Some l
     → FreshPdu (count c) (party c) l.pdu l.stamp × IsOwn (x.setup r).system c l.pdu
 
-last_peer : (x : NetworkSetup) → IsNetworkSetup x → (r s : ℕ) (u : SystemSetup) (call : ModelCall) (stamp : ℕ) (v : View) (m : Move)
-    (party : ℕ → Option Party) (count : ℕ → ℕ) (out : ℕ → List Message) (whole : ℕ → Bool) (forced : ℕ → ℕ → Bool)
-    (taken : ℕ → Option TakenLacpdu) (source : ℕ → Option Place) → MoveAllowed u call v m
-    → Within call stamp (theirs_of x r s) out whole forced → Stamps (ends_of x r) (λ c. None) party count out (λ p. None)
-    → ((c : ℕ) → Every (NamesSender (x.setup r).system c) (out c)) → Last x r party count taken source
-    → Last x r party count (taken_after stamp (act u m v) taken) (source_after (x.far s) (act u m v) source)
+last_peer : (x : NetworkSetup) → IsNetworkSetup x → (r s : ℕ) (u : SystemSetup) (call : ModelCall)
+    (stamp : ℕ) (v : View) (m : Move) (party : ℕ → Option Party) (count : ℕ → ℕ) (out : ℕ → List Message) (whole : ℕ → Bool) (forced : ℕ → ℕ → Bool)
+    (taken : ℕ → Option TakenLacpdu) (source : ℕ → Option Place) → MoveAllowed u call v m → Within call stamp (theirs_of x r s) out whole forced
+    → Stamps (ends_of x r) (λ c. None) party count out (λ p. None) → ((c : ℕ) → Every (NamesSender (x.setup r).system c) (out c))
+    → Last x r party count taken source → Last x r party count (taken_after stamp (act u m v) taken) (source_after (x.far s) (act u m v) source)
 last_peer x f r s u call stamp v (Port p m) party count out whole forced taken source a w stamps names i = go m (v.port p) a
   where
     go : (m : PortMove) (o : Option PortFacts) → IsSomeAnd o (PortAllowed u call v.port p m)
@@ -105,11 +104,10 @@ pub record AllFine (x : NetworkSetup) (w : Network) : Type 0 where
   pub alike : SeenAlike x w.whole
   pub each : (r : ℕ) → FineIn x (λ s. party_at (w.view s)) w r
 
-pub fine_along : (x : NetworkSetup) (r : ℕ) (party : ℕ → Option Party) (count : ℕ → ℕ) (whole : ℕ → Bool) (collected : ℕ → ℕ → List ℕ)
-    (forced : ℕ → ℕ → Bool) (v v' : View) (out out' back back' : ℕ → List Message) (sent sent' : ℕ → ℕ → List ℕ)
-    (mine mine' : ℕ → Option TakenLacpdu) (taken : ℕ → ℕ → Option TakenLacpdu) (source : ℕ → ℕ → Option Place)
-    → v ≡ v' → out ≡ out' → back ≡ back' → sent ≡ sent' → mine ≡ mine'
-    → Fine x r v party count out back whole sent collected forced mine taken source
+pub fine_along : (x : NetworkSetup) (r : ℕ) (party : ℕ → Option Party) (count : ℕ → ℕ) (whole : ℕ → Bool)
+    (collected : ℕ → ℕ → List ℕ) (forced : ℕ → ℕ → Bool) (v v' : View) (out out' back back' : ℕ → List Message)
+    (sent sent' : ℕ → ℕ → List ℕ) (mine mine' : ℕ → Option TakenLacpdu) (taken : ℕ → ℕ → Option TakenLacpdu) (source : ℕ → ℕ → Option Place) → v ≡ v'
+    → out ≡ out' → back ≡ back' → sent ≡ sent' → mine ≡ mine' → Fine x r v party count out back whole sent collected forced mine taken source
     → Fine x r v' party count out' back' whole sent' collected forced mine' taken source
 fine_along x r party count whole collected forced v v' out out' back back' sent sent' mine mine' taken source a b c d e f = grind arith
 
@@ -118,9 +116,8 @@ module _ {x : NetworkSetup} {r : ℕ} {v : View} {party : ℕ → Option Party} 
     {source : ℕ → ℕ → Option Place} (i : Fine x r v party count out back whole sent collected forced mine taken source) where
   -- a move of this system: what it sends, and what it took
   own_part : (call : ModelCall) (stamp : ℕ) (kept : Bool) (m : Move) → MoveAllowed (x.setup r) call v m
-      → Within call stamp (ends_of x r) back whole forced → (replies_frame call ≡ true → (p : ℕ) → party_at v p ≡ party p)
-      → Fine x r (view_after (x.setup r) m v) party count
-      (on_cable_after One (ends_of x r) whole count sent kept (act (x.setup r) m v) out) back whole
+      → Within call stamp (ends_of x r) back whole forced → (replies_frame call ≡ true → (p : ℕ) → party_at v p ≡ party p) → Fine x r
+      (view_after (x.setup r) m v) party count (on_cable_after One (ends_of x r) whole count sent kept (act (x.setup r) m v) out) back whole
       (sent_after (act (x.setup r) m v) sent) collected forced (taken_after stamp (act (x.setup r) m v) mine) taken source
   own_part call stamp kept m a w h = record {
     members = members_own (x.setup r) call v m a w.running i.members;
@@ -133,12 +130,11 @@ module _ {x : NetworkSetup} {r : ℕ} {v : View} {party : ℕ → Option Party} 
   }
 
   -- a move of system s: what comes towards this system, and what the other took
-  far_part : IsNetworkSetup x → (s : ℕ) (u : SystemSetup) (sv : View) (s_count : ℕ → ℕ) (s_sent : ℕ → ℕ → List ℕ) (s_forced : ℕ → ℕ → Bool)
-      (call : ModelCall) (stamp : ℕ) (kept : Bool) (m : Move)
-      → MoveAllowed u call sv m → Within call stamp (theirs_of x r s) out whole s_forced
-      → Fine x r v party count out (on_cable_after One (theirs_of x r s) whole s_count s_sent kept (act u m sv) back) whole sent collected
-      forced mine (at_system taken s (taken_after stamp (act u m sv) (taken s)))
-      (at_system source s (source_after (x.far s) (act u m sv) (source s)))
+  far_part : IsNetworkSetup x → (s : ℕ) (u : SystemSetup) (sv : View) (s_count : ℕ → ℕ) (s_sent : ℕ → ℕ → List ℕ)
+      (s_forced : ℕ → ℕ → Bool) (call : ModelCall) (stamp : ℕ) (kept : Bool) (m : Move) → MoveAllowed u call sv m
+      → Within call stamp (theirs_of x r s) out whole s_forced → Fine x r v party count out
+      (on_cable_after One (theirs_of x r s) whole s_count s_sent kept (act u m sv) back) whole sent collected forced mine
+      (at_system taken s (taken_after stamp (act u m sv) (taken s))) (at_system source s (source_after (x.far s) (act u m sv) (source s)))
   far_part f s u sv s_count s_sent s_forced call stamp kept m a w = record {
     members = i.members;
     heard = i.heard;
@@ -162,9 +158,8 @@ module _ {x : NetworkSetup} {r : ℕ} {v : View} {party : ℕ → Option Party} 
           (subst (λ (k : ℕ → Option Place). Last x r party count taken k) c h)
 
   -- less is on the cables
-  pub less_part : (out' back' : ℕ → List Message) (whole' : ℕ → Bool) → ((c : ℕ) → IsLess (out' c) (out c))
-      → ((c : ℕ) → IsLess (back' c) (back c)) → ((c : ℕ) → whole' c ≡ false → out' c ≡ [])
-      → Fine x r v party count out' back' whole' sent collected forced mine taken source
+  pub less_part : (out' back' : ℕ → List Message) (whole' : ℕ → Bool) → ((c : ℕ) → IsLess (out' c) (out c)) → ((c : ℕ) → IsLess (back' c) (back c))
+      → ((c : ℕ) → whole' c ≡ false → out' c ≡ []) → Fine x r v party count out' back' whole' sent collected forced mine taken source
   less_part out' back' whole' lo lb cut = record {
     members = i.members;
     heard = i.heard;
@@ -176,9 +171,8 @@ module _ {x : NetworkSetup} {r : ℕ} {v : View} {party : ℕ → Option Party} 
   }
 
   -- the change counts at the end of an event
-  pub counted_part : (new : ℕ → ℕ)
-      → ((p : ℕ) → ((party_at v p ≡ party p) × (new p ≡ count p)) ⊎ ((party_at v p ≢ party p) × (new p ≡ suc (count p))))
-      → Fine x r v (party_at v) new out back whole sent collected forced mine taken source
+  pub counted_part : (new : ℕ → ℕ) → ((p : ℕ) → ((party_at v p ≡ party p) × (new p ≡ count p))
+      ⊎ ((party_at v p ≢ party p) × (new p ≡ suc (count p)))) → Fine x r v (party_at v) new out back whole sent collected forced mine taken source
   counted_part new h = record {
     members = i.members;
     heard = i.heard;
@@ -244,27 +238,24 @@ module _ (x : NetworkSetup) (f : IsNetworkSetup x) (s : ℕ) (call : ModelCall) 
   at_mover =
       let o = act (x.setup s) m.0 (w.view s) in
       let own = own_part (i.each s) call stamp m.1 m.0 a (within_own x call stamp s w.towards w.whole (w.forced s) i.amid) i.parties in
-      let sent_out = fine_along x s (party s) (w.count s) (w.whole s) (w.collected s) (w.forced s)
-      _ _ _ _ _ _ _ _ _ _ w.taken w.source refl (sym (own_after x f w.whole i.alike m.1 s (w.count s) (w.sent s) w.towards o)) refl refl refl own in
-      fine_along x s (party s) (w.count s) (w.whole s) (w.collected s) (w.forced s)
-      _ _ _ _ _ _ _ _ _ _ (at_system w.taken s (taken_after stamp o (w.taken s))) (at_system w.source s (source_after (x.far s) o (w.source s)))
-      (sym (there w.view s (view_after (x.setup s) m.0 (w.view s)))) refl
-      (sym (back_after x f w.whole i.alike m.1 s (w.count s) (w.sent s) w.towards o s))
-      (sym (there w.sent s (sent_after o (w.sent s)))) (sym (there w.taken s (taken_after stamp o (w.taken s))))
+      let sent_out = fine_along x s (party s) (w.count s) (w.whole s) (w.collected s) (w.forced s) _ _ _ _ _ _ _ _ _ _ w.taken w.source refl
+      (sym (own_after x f w.whole i.alike m.1 s (w.count s) (w.sent s) w.towards o)) refl refl refl own in
+      fine_along x s (party s) (w.count s) (w.whole s) (w.collected s) (w.forced s) _ _ _ _ _ _ _ _ _ _
+      (at_system w.taken s (taken_after stamp o (w.taken s))) (at_system w.source s (source_after (x.far s) o (w.source s)))
+      (sym (there w.view s (view_after (x.setup s) m.0 (w.view s)))) refl (sym (back_after x f w.whole i.alike m.1 s (w.count s)
+      (w.sent s) w.towards o s)) (sym (there w.sent s (sent_after o (w.sent s)))) (sym (there w.taken s (taken_after stamp o (w.taken s))))
       (far_part sent_out f s (x.setup s) (w.view s) (w.count s) (w.sent s) (w.forced s) call stamp m.1 m.0 a
       (within_far x f call stamp s ((network_after x s stamp m w).towards) w.whole (w.forced s) i.alike amid_after s))
 
   at_other : (r : ℕ) → (r ≡ s → ⊥) → FineIn x party (network_after x s stamp m w) r
   at_other r ne =
       let o = act (x.setup s) m.0 (w.view s) in
-      fine_along x r (party r) (w.count r) (w.whole r) (w.collected r) (w.forced r)
-      _ _ _ _ _ _ _ _ _ _ (at_system w.taken s (taken_after stamp o (w.taken s))) (at_system w.source s (source_after (x.far s) o (w.source s)))
-      (sym (elsewhere w.view s (view_after (x.setup s) m.0 (w.view s)) r ne))
-      (sym (other_after x f w.whole i.alike m.1 s (w.count s) (w.sent s) w.towards o r ne))
-      (sym (back_after x f w.whole i.alike m.1 s (w.count s) (w.sent s) w.towards o r))
-      (sym (elsewhere w.sent s (sent_after o (w.sent s)) r ne)) (sym (elsewhere w.taken s (taken_after stamp o (w.taken s)) r ne))
-      (far_part (i.each r) f s (x.setup s) (w.view s) (w.count s) (w.sent s) (w.forced s) call stamp m.1 m.0 a
-      (within_far x f call stamp s w.towards w.whole (w.forced s) i.alike i.amid r))
+      fine_along x r (party r) (w.count r) (w.whole r) (w.collected r) (w.forced r) _ _ _ _ _ _ _ _ _ _ (at_system w.taken s
+      (taken_after stamp o (w.taken s))) (at_system w.source s (source_after (x.far s) o (w.source s))) (sym (elsewhere w.view s
+      (view_after (x.setup s) m.0 (w.view s)) r ne)) (sym (other_after x f w.whole i.alike m.1 s (w.count s) (w.sent s) w.towards o r ne))
+      (sym (back_after x f w.whole i.alike m.1 s (w.count s) (w.sent s) w.towards o r)) (sym (elsewhere w.sent s (sent_after o (w.sent s)) r ne))
+      (sym (elsewhere w.taken s (taken_after stamp o (w.taken s)) r ne)) (far_part (i.each r) f s (x.setup s) (w.view s)
+      (w.count s) (w.sent s) (w.forced s) call stamp m.1 m.0 a (within_far x f call stamp s w.towards w.whole (w.forced s) i.alike i.amid r))
 
   calling_moved : Calling x s call stamp party (network_after x s stamp m w)
   calling_moved = record {
@@ -285,8 +276,7 @@ calling_all x f s call stamp party (m ∷ ms) w a i = calling_all x f s call sta
 
 -- a whole call, within an event that began in the network old; what began a list of messages still does
 pub call_kept : (x : NetworkSetup) → IsNetworkSetup x → (s : ℕ) (call : ModelCall) (stamp : ℕ) (old mid new : Network)
-    → mid.count ≡ old.count
-    → Calling x s call stamp (λ t. party_at (old.view t)) mid → NetworkCall x s call stamp old mid new → AllFine x new
+    → mid.count ≡ old.count → Calling x s call stamp (λ t. party_at (old.view t)) mid → NetworkCall x s call stamp old mid new → AllFine x new
 call_kept x f s call stamp old mid new same i z =
     let end = calling_all x f s call stamp (λ t. party_at (old.view t)) z.0 mid z.1 i in
     subst (AllFine x) (sym z.2.2) (record {

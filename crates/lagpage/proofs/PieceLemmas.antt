@@ -47,8 +47,7 @@ ends p q e closes is_ended h by = record { ended = is_ended; explains = so h.end
           refl,
     )
 
-pub handed_out : (p q : Pieces) → q.is_ended ≡ p.is_ended
-    → q.reading ≡ record p.reading { report = record p.reading.report { to_write = [] } }
+pub handed_out : (p q : Pieces) → q.is_ended ≡ p.is_ended → q.reading ≡ record p.reading { report = record p.reading.report { to_write = [] } }
     → (h : History) → IsBy h p → IsBy (record h { out = h.out ++ p.reading.report.to_write }) q
 handed_out p q same cleared h by = record { ended = same ∙ by.ended; explains = so h.ended by.explains }
   where
@@ -103,9 +102,8 @@ waits room count p t counts short tells h by = record {
 }
 
 -- a text that is handed out
-pub goes_out : (room count : ℕ) (p q : Pieces) (t : Told) → count ≡ length t.octets.items → count ≤ room → TellsOf p t
-    → ((h : History) → IsBy h p → IsBy (record h { out = h.out ++ p.reading.report.to_write }) q)
-    → (h : History) → IsBy h p → Continues h room (Some q) t
+pub goes_out : (room count : ℕ) (p q : Pieces) (t : Told) → count ≡ length t.octets.items → count ≤ room → TellsOf p t → ((h : History)
+    → IsBy h p → IsBy (record h { out = h.out ++ p.reading.report.to_write }) q) → (h : History) → IsBy h p → Continues h room (Some q) t
 goes_out room count p q t counts fits tells out h by = record {
   rest = p.reading.report.to_write;
   all = printed_is h.ended h.settings h.fed h.out p.reading by.explains;

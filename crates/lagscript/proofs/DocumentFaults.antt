@@ -33,8 +33,7 @@ or_fine w None h e =
     h same
 or_fine w (Some x) h e = cc
 
-unless_fine : {A : Type 0} (b : Bool) (w : ScriptFault) (r : Result A ScriptFault) → (w ≡ fault.NotToml → ⊥) → Fine r
-    → Fine (if_or_fault b w r)
+unless_fine : {A : Type 0} (b : Bool) (w : ScriptFault) (r : Result A ScriptFault) → (w ≡ fault.NotToml → ⊥) → Fine r → Fine (if_or_fault b w r)
 unless_fine true w r h g e = g e
 unless_fine false w r h g e =
     let same : w ≡ fault.NotToml = cc in
@@ -43,9 +42,8 @@ unless_fine false w r h g e =
 in_place_fine : {A X : Type 0} (f : ℕ → X → Result A ScriptFault) → ((place : ℕ) (x : X) → Fine (f place x)) → (place : ℕ) (xs : List X)
     → Fine (each_at_place f place xs)
 in_place_fine f h place [] e = cc
-in_place_fine f h place (x ∷ xs) e =
-    then_fine (f place x) (λ y. each_at_place f (place + 1) xs >>= λ ys. Ok (y ∷ ys)) (h place x)
-    (λ y. then_fine (each_at_place f (place + 1) xs) (λ ys. Ok (y ∷ ys)) (in_place_fine f h (place + 1) xs) (λ ys d. cc)) e
+in_place_fine f h place (x ∷ xs) e = then_fine (f place x) (λ y. each_at_place f (place + 1) xs >>= λ ys. Ok (y ∷ ys))
+    (h place x) (λ y. then_fine (each_at_place f (place + 1) xs) (λ ys. Ok (y ∷ ys)) (in_place_fine f h (place + 1) xs) (λ ys d. cc)) e
 
 -- three steps, one after another
 three_fine : {A B C D : Type 0} (r : Result A ScriptFault) (s : A → Result B ScriptFault) (t : A → B → Result C ScriptFault) (last : A → B
@@ -139,29 +137,25 @@ ports_fine system own ms =
     (in_place_fine (port_config_of system own) (port_fine system own) 1)
 
 abbrev configured : SystemValues → List Key → Option ℕ → ℕ → List PortConfig → ConfigValue
-configured n aggregators max_links conversations ports =
-    record {
-      system = n.id;
-      max_delay = n.max_delay;
-      first_marker = n.first_marker;
-      conversations = conversations;
-      aggregators = aggregators;
-      max_links = max_links;
-      ports = ports;
-    }
+configured n aggregators max_links conversations ports = record {
+  system = n.id;
+  max_delay = n.max_delay;
+  first_marker = n.first_marker;
+  conversations = conversations;
+  aggregators = aggregators;
+  max_links = max_links;
+  ports = ports;
+}
 
 system_fine : (system : ℕ) (ms : Members) → Fine (system_of system ms)
 system_fine system ms =
-    three_fine _ _ _ _
-    (numbers_fine system ms) (λ n. aggregators_fine system ms) (λ n a. max_links_fine system ms)
-    (λ n a most. then_fine (conversations_in system ms) (λ c. ports_in system n.id.mac ms >>= λ ports. Ok (configured n a most c ports))
-    (conversations_fine system ms)
+    three_fine _ _ _ _ (numbers_fine system ms) (λ n. aggregators_fine system ms) (λ n a. max_links_fine system ms) (λ n a most. then_fine
+    (conversations_in system ms) (λ c. ports_in system n.id.mac ms >>= λ ports. Ok (configured n a most c ports)) (conversations_fine system ms)
     (λ c. then_fine (ports_in system n.id.mac ms) (λ ports. Ok (configured n a most c ports)) (ports_fine system n.id.mac ms) (λ p e. cc)))
 
 two_fine : (mss : List Members) → Fine (two_systems mss)
-two_fine mss =
-    three_fine _ _ _ _ (or_fine fault.Systems (just_two (Some mss)) (λ e. cc))
-    (λ p. system_fine 1 p.0) (λ p first. system_fine 2 p.1) (λ p first second e. cc)
+two_fine mss = three_fine _ _ _ _ (or_fine fault.Systems (just_two (Some mss)) (λ e. cc)) (λ p. system_fine 1 p.0)
+    (λ p first. system_fine 2 p.1) (λ p first second e. cc)
 
 systems_fine : (ms : Members) → Fine (systems_in ms)
 systems_fine ms =
@@ -203,8 +197,6 @@ config_fine (Some (refused.System side bad.Ports)) x e = cc
 config_fine refusal x e = cc
 
 pub plan_fine : (ms : Members) → plan_in ms ≡ Err fault.NotToml → ⊥
-plan_fine ms =
-    unless_fine _ fault.ExtraKey _ (λ e. cc)
-    (three_fine _ _ _ _ (systems_fine ms) (λ systems. cables_fine ms)
-    (λ systems cables. acts_fine (length cables) ms)
+plan_fine ms = unless_fine _ fault.ExtraKey _
+    (λ e. cc) (three_fine _ _ _ _ (systems_fine ms) (λ systems. cables_fine ms) (λ systems cables. acts_fine (length cables) ms)
     (λ systems cables events. config_fine {A = PlanValue} (refusal_of_all systems (ends_of cables)) (planned systems cables events)))

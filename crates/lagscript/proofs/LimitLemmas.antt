@@ -17,8 +17,7 @@ tested w limit n true h e z =
     let no : nat_le 1 0 ≡ true = subst (λ m. nat_le 1 m ≡ true) zero_is h in
     absurd (let f = no in cc)
 
-numbered : (w : ScriptFault) (limit : Option ℕ) (o : Option ℕ) → or_fault w (option_map Some (option_and_then from_one o)) ≡ Ok limit
-    → IsLimit limit
+numbered : (w : ScriptFault) (limit : Option ℕ) (o : Option ℕ) → or_fault w (option_map Some (option_and_then from_one o)) ≡ Ok limit → IsLimit limit
 numbered w limit None e z = cc
 numbered w limit (Some n) e z = tested w limit n (nat_le 1 n) refl e z
 
@@ -28,9 +27,8 @@ said w limit None e z = cc
 said w limit (Some d) e z = numbered w limit (integer_in 65536 d) e z
 
 joined : (place : ℕ) (c : CablePlan) (known : Bool) (ends : Option (ℕ × ℕ)) (limit : Result (Option ℕ) ScriptFault)
-    → ((l : Option ℕ) → limit ≡ Ok l → IsLimit l)
-    → if_or_fault known (fault.CableExtraKey place) (or_fault (fault.CableEnds place) ends >>= λ ends. limit >>= λ limit. Ok
-    (record { ends = ends; limit = limit })) ≡ Ok c → IsLimit c.limit
+    → ((l : Option ℕ) → limit ≡ Ok l → IsLimit l) → if_or_fault known (fault.CableExtraKey place)
+    (or_fault (fault.CableEnds place) ends >>= λ ends. limit >>= λ limit. Ok (record { ends = ends; limit = limit })) ≡ Ok c → IsLimit c.limit
 joined place c false ends limit h e z = cc
 joined place c true None limit h e z = cc
 joined place c true (Some x) (Err w) h e z = cc

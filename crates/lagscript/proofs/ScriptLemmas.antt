@@ -14,9 +14,8 @@ use Rattle.lagscript.proofs.DocumentFaults.{plan_fine}
 
 -- the reasons of two systems and their cables, in their order
 abbrev first_reason : Option BadConfig → Option BadConfig → Bool → Option ℕ → Option BadWorld
-first_reason one two same place =
-    or_first (option_map (System 1) one)
-    (or_first (option_map (System 2) two) (or_first (cond same (Some SameSystem) None) (option_map CableEnd place)))
+first_reason one two same place = or_first
+    (option_map (System 1) one) (or_first (option_map (System 2) two) (or_first (cond same (Some SameSystem) None) (option_map CableEnd place)))
 
 no_reason : (one two : Option BadConfig) (same : Bool) (place : Option ℕ)
     → option_and_then script_fault_for (first_reason one two same place) ≡ None → first_reason one two same place ≡ None
@@ -36,18 +35,13 @@ not_refused systems cables h = refl
 abbrev pub plan_steps : Bool → Result (List ConfigValue) ScriptFault → Result (List CablePlan) ScriptFault
     → (ℕ → Result (List EventValue) ScriptFault) → Result PlanValue ScriptFault
 plan_steps known systems_read cables_read acts_read =
-    if_or_fault known fault.ExtraKey (
-    systems_read >>= λ systems.
-    cables_read >>= λ cables.
-    acts_read (length cables) >>= λ events.
-    no_fault (option_and_then script_fault_for (refusal_of_all systems (ends_of cables))) (planned systems cables events)
-    )
+    if_or_fault known fault.ExtraKey (systems_read >>= λ systems. cables_read >>= λ cables. acts_read (length cables) >>= λ events. no_fault
+    (option_and_then script_fault_for (refusal_of_all systems (ends_of cables))) (planned systems cables events))
 
-pub steps_all : (known : Bool) (rs : Result (List ConfigValue) ScriptFault) (rc : Result (List CablePlan) ScriptFault) (ra : ℕ
-    → Result (List EventValue) ScriptFault) (systems : List ConfigValue) (cables : List CablePlan) (events : List EventValue)
-    (o : Option ScriptFault)
-    → known ≡ true → rs ≡ Ok systems → rc ≡ Ok cables → ra (length cables) ≡ Ok events
-    → option_and_then script_fault_for (refusal_of_all systems (ends_of cables)) ≡ o
+pub steps_all : (known : Bool) (rs : Result (List ConfigValue) ScriptFault) (rc : Result (List CablePlan) ScriptFault)
+    (ra : ℕ → Result (List EventValue) ScriptFault) (systems : List ConfigValue) (cables : List CablePlan)
+    (events : List EventValue) (o : Option ScriptFault) → known ≡ true → rs ≡ Ok systems → rc ≡ Ok cables
+    → ra (length cables) ≡ Ok events → option_and_then script_fault_for (refusal_of_all systems (ends_of cables)) ≡ o
     → plan_steps known rs rc ra ≡ no_fault o (planned systems cables events)
 steps_all known rs rc ra systems cables events o k s c a f = rw (k, s, c, a, f) refl
 

@@ -26,15 +26,13 @@ is_newline x e = ap (λ n. n == 10) e
 -- an octet that is no newline
 pub octet_joined : (line rest : List ℕ) (x : ℕ) → (x == 10) ≡ false
     → continue_line line (lines_of (x ∷ rest)) ≡ continue_line (line ++ x ∷ []) (lines_of rest)
-octet_joined line rest x e =
-    ap (λ t. continue_line line (cond t ([] ∷ lines_of rest) (continue_line (x ∷ []) (lines_of rest)))) e
+octet_joined line rest x e = ap (λ t. continue_line line (cond t ([] ∷ lines_of rest) (continue_line (x ∷ []) (lines_of rest)))) e
     ∙ prepend_both line (x ∷ []) (lines_of rest)
 
 -- a newline
 pub newline_joined : (line rest : List ℕ) (x : ℕ) → (x == 10) ≡ true → continue_line line (lines_of (x ∷ rest)) ≡ line
     ∷ continue_line [] (lines_of rest)
-newline_joined line rest x e =
-    ap (λ t. continue_line line (cond t ([] ∷ lines_of rest) (continue_line (x ∷ []) (lines_of rest)))) e
+newline_joined line rest x e = ap (λ t. continue_line line (cond t ([] ∷ lines_of rest) (continue_line (x ∷ []) (lines_of rest)))) e
     ∙ ap (λ l. l ∷ lines_of rest) (append-nil line) ∙ ap (λ ls. line ∷ ls) (sym (prepend_none (lines_of rest)))
 
 pub one_newline : (x : ℕ) → (x == 10) ≡ true → 1 ≡ newline_count (x ∷ [])

@@ -41,19 +41,15 @@ mux_ages ready p q h = Reaches-keeps ages_of (mux_rows ready)
     ((λ p. refl), ((λ p. refl), ((λ p. refl), ((λ p. refl), ((λ p. refl), ((λ p. refl), tt)))))) h.0 p q h.1
 
 periodic_ages : (p q : Machines) → RunsPeriodic p q → q.ages ≡ p.ages
-periodic_ages p q h = ap ages_of h.2
-    ∙ Reaches-keeps ages_of periodic_rows (
-      (λ p. refl),
-      ((λ p. refl), ((λ p. refl), ((λ p. refl), ((λ p. refl), ((λ p. refl), ((λ p. refl), tt)))))),
-    ) h.1.0 p h.0 h.1.1
+periodic_ages p q h = ap ages_of h.2 ∙ Reaches-keeps ages_of periodic_rows
+    ((λ p. refl), ((λ p. refl), ((λ p. refl), ((λ p. refl), ((λ p. refl), ((λ p. refl), ((λ p. refl), tt))))))) h.1.0 p h.0 h.1.1
 
 pub settling_ages : (old new : SystemState) → Settling old new → ages_in new.system_ports ≡ ages_in old.system_ports
 settling_ages old new h =
     let s = settling_in old new h in
-    zip_ages RunsPeriodic periodic_ages s.four new.system_ports s.paces
-    ∙ zip_ages (RunsReady old.keys (views s.two)) (λ p q x. mux_ages (ready_of old.keys (views s.two) p.choice) p q x) s.two s.four s.runs
-    ∙ choosing_ages (aggregators_value old) s.one s.two s.chooses
-    ∙ zip_ages (RunsToRest (mux_rows false)) (mux_ages false) old.system_ports s.one s.stops
+    zip_ages RunsPeriodic periodic_ages s.four new.system_ports s.paces ∙ zip_ages (RunsReady old.keys (views s.two))
+    (λ p q x. mux_ages (ready_of old.keys (views s.two) p.choice) p q x) s.two s.four s.runs ∙ choosing_ages
+    (aggregators_value old) s.one s.two s.chooses ∙ zip_ages (RunsToRest (mux_rows false)) (mux_ages false) old.system_ports s.one s.stops
 
 -- the ages of the port with a number
 

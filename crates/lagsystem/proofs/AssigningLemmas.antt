@@ -40,10 +40,8 @@ offers_sound gives agg conv old answer new h s = grind (arith, nat_tests, if_sou
 pub offers_promise : (gives : ℕ → ℕ → ℕ → Type 0) (agg : AggId) (conv : ℕ) (old : SystemState) (answer : Result ℕ SystemFault)
     (new : SystemState) → OffersConversation gives agg conv old answer new → IsSound old → (octets : List ℕ) → MayBeOffered octets
     → number_of_conversation old octets ≡ conv → CallPromise gives old (Offer agg octets) (reply.Offer answer) new
-offers_promise gives agg conv old answer new h s octets may e =
-    answers gives old (Offer agg octets) (reply.Offer answer) new
-    (offered_alike gives agg octets old answer new
-    (accepted_count old.keys old.ports old.max_links old.conversations s.ports.accepted) may
+offers_promise gives agg conv old answer new h s octets may e = answers gives old (Offer agg octets) (reply.Offer answer) new
+    (offered_alike gives agg octets old answer new (accepted_count old.keys old.ports old.max_links old.conversations s.ports.accepted) may
     (subst (λ c. OffersConversation gives agg c old answer new) (sym e) h)) s
 
 -- there is a frame of each conversation

@@ -34,31 +34,25 @@ all_shown P system_ports all q b e = grind (arith, nat_tests, mapped_some, all_f
 given_there : (agg : AggId) (c : Choice) → selected_number c ≡ Some agg.0 → c ≡ Selected agg
 given_there agg c e = grind (arith, nat_tests)
 
-join_allowed : (u : SystemSetup) (call : ModelCall) (keys : List Key) (system_ports : List SystemPort) (system_port : SystemPort)
-    (agg : AggId) → Fits u keys → MayJoin keys (views system_ports) agg (selection_view system_port)
-    → PortAllowed u call (ports_of number_of_port model_port_of system_ports) system_port.number (PortMove.Join agg.0)
-    (model_port_of system_port)
+join_allowed : (u : SystemSetup) (call : ModelCall) (keys : List Key) (system_ports : List SystemPort)
+    (system_port : SystemPort) (agg : AggId) → Fits u keys → MayJoin keys (views system_ports) agg (selection_view system_port)
+    → PortAllowed u call (ports_of number_of_port model_port_of system_ports) system_port.number (PortMove.Join agg.0) (model_port_of system_port)
 join_allowed u call keys system_ports system_port agg fits j = (
   ap selected_number j.outside,
   j.apart,
   fits agg.0 ∙ key_there keys agg.0 system_port.port.party.key j.numbered j.key,
   elim j.occupants [
-    | inl none ↦
-        inl (all_shown (λ b. b.aggregator ≢ Some agg.0) system_ports
+    | inl none ↦ inl (all_shown (λ b. b.aggregator ≢ Some agg.0) system_ports
         (all_weaker (λ s. IsOccupant agg (selection_view s) → ⊥) (λ s. (model_port_of s).aggregator ≢ Some agg.0)
-        (λ s away e. away (inl (given_there agg s.port.choice e))) system_ports
-        (each_seen (λ w. IsOccupant agg w → ⊥) system_ports none)))
-    | inr shared ↦
-        inr (
-          all_shown (λ b. b.aggregator ≡ Some agg.0 → SamePair (pair_at b) (pair_at (model_port_of system_port))) system_ports
-              (all_weaker (λ s. IsOccupant agg (selection_view s) → SamePair (ends (selection_view s)) (ends (selection_view system_port)))
-              (λ s. (model_port_of s).aggregator ≡ Some agg.0
-              → SamePair (pair_at (model_port_of s)) (pair_at (model_port_of system_port)))
-              (λ s here e. here (inl (given_there agg s.port.choice e))) system_ports
-              (each_seen (λ w. IsOccupant agg w → SamePair (ends w) (ends (selection_view system_port)))
-              system_ports shared.one_group)),
-          shared.aggregatable,
-        )
+        (λ s away e. away (inl (given_there agg s.port.choice e))) system_ports (each_seen (λ w. IsOccupant agg w → ⊥) system_ports none)))
+    | inr shared ↦ inr (
+      all_shown (λ b. b.aggregator ≡ Some agg.0 → SamePair (pair_at b) (pair_at (model_port_of system_port))) system_ports
+          (all_weaker (λ s. IsOccupant agg (selection_view s) → SamePair (ends (selection_view s)) (ends (selection_view system_port)))
+          (λ s. (model_port_of s).aggregator ≡ Some agg.0 → SamePair (pair_at (model_port_of s)) (pair_at (model_port_of system_port)))
+          (λ s here e. here (inl (given_there agg s.port.choice e))) system_ports
+          (each_seen (λ w. IsOccupant agg w → SamePair (ends w) (ends (selection_view system_port))) system_ports shared.one_group)),
+      shared.aggregatable,
+    )
   ],
 )
 
@@ -73,15 +67,13 @@ joined : (s : SystemPort) (agg : AggId) → is_eligible (selection_view s) ≡ t
 joined s agg ok = grind (arith, nat_tests)
 
 -- a STANDBY port is seen as one outside every aggregator
-standby_stays : (s : SystemPort) (agg : AggId) → s.port.choice ≡ Unselected
-    → model_port_of (with_choice s (Some (Standby agg))) ≡ model_port_of s
+standby_stays : (s : SystemPort) (agg : AggId) → s.port.choice ≡ Unselected → model_port_of (with_choice s (Some (Standby agg))) ≡ model_port_of s
 standby_stays s agg e = ap (λ c. model_port (record s.port { choice = c })) (sym e)
 
-taken_moves : (u : SystemSetup) (call : ModelCall) (f : DistributorFacts) (keys : List Key) (system_ports : List SystemPort) (i : ℕ)
-    (s : SystemPort) (agg : AggId) (room : Bool) → Fits u keys → Rises 0 (port_numbers system_ports) → slice_get system_ports i ≡ Some s
-    → is_eligible (selection_view s) ≡ true → MayJoin keys (views system_ports) agg (selection_view s)
-    → LawfulMoves u call (model_view_at f system_ports) []
-    (model_view_at f (slice_set system_ports i (with_choice s (Some (choice_if room agg)))))
+taken_moves : (u : SystemSetup) (call : ModelCall) (f : DistributorFacts) (keys : List Key)
+    (system_ports : List SystemPort) (i : ℕ) (s : SystemPort) (agg : AggId) (room : Bool) → Fits u keys → Rises 0 (port_numbers system_ports)
+    → slice_get system_ports i ≡ Some s → is_eligible (selection_view s) ≡ true → MayJoin keys (views system_ports) agg (selection_view s)
+    → LawfulMoves u call (model_view_at f system_ports) [] (model_view_at f (slice_set system_ports i (with_choice s (Some (choice_if room agg)))))
 taken_moves u call f keys system_ports i s agg true fits r h ok j =
     moves_at number_of_port model_port_of u call f system_ports i s (with_choice s (Some (Selected agg))) (PortMove.Join agg.0)
     (are_numbered 0 system_ports r) h refl (joined s agg ok) (join_allowed u call keys system_ports s agg fits j)
@@ -116,14 +108,11 @@ MovedSoFar u call f start l = LawfulMoves u call (model_view_at f start) [] (mod
 
 chosen_moves : (u : SystemSetup) (call : ModelCall) (f : DistributorFacts) (aggs : AggregatorsValue) (start : List SystemPort) (n : ℕ)
     → Fits u aggs.keys → (l : List SystemPort) → MovedSoFar u call f start l → MovedSoFar u call f start (after_choices aggs n l)
-chosen_moves u call f aggs start n fits l h =
-    choices_keep aggs (MovedSoFar u call f start)
-    (λ l i s e m. (
-      moves_joined u call (model_view_at f start) (model_view_at f l)
-          (model_view_at f (slice_set l i (with_choice s (choice_for aggs l s)))) [] [] m.0
-          (given_moves u call f aggs l i s (aggregator_for aggs.keys l s) fits m.1 e refl),
-      subst (λ ns. Rises 0 ns) (sym (numbers_set l i s (with_choice s (choice_for aggs l s)) e (given_number s (choice_for aggs l s)))) m.1,
-    )) n l h
+chosen_moves u call f aggs start n fits l h = choices_keep aggs (MovedSoFar u call f start) (λ l i s e m. (
+  moves_joined u call (model_view_at f start) (model_view_at f l) (model_view_at f (slice_set l i (with_choice s (choice_for aggs l s))))
+      [] [] m.0 (given_moves u call f aggs l i s (aggregator_for aggs.keys l s) fits m.1 e refl),
+  subst (λ ns. Rises 0 ns) (sym (numbers_set l i s (with_choice s (choice_for aggs l s)) e (given_number s (choice_for aggs l s)))) m.1,
+)) n l h
 
 -- a promotion
 
@@ -134,9 +123,8 @@ occupied_by : (agg : AggId) (c : Choice) → c ≡ Selected agg → occupied c �
 occupied_by agg c e = ap occupied e
 
 -- other members have its group, as occupants
-others_share : (keys : List Key) (l : List SystemPort) (i : ℕ) (s : SystemPort) (agg : AggId) → OccupantsAgree keys l
-    → slice_get l i ≡ Some s → s.port.choice ≡ Standby agg → (j : ℕ) (t : SystemPort) → slice_get l j ≡ Some t
-    → (model_port_of t).aggregator ≡ Some agg.0
+others_share : (keys : List Key) (l : List SystemPort) (i : ℕ) (s : SystemPort) (agg : AggId) → OccupantsAgree keys l → slice_get l i ≡ Some s
+    → s.port.choice ≡ Standby agg → (j : ℕ) (t : SystemPort) → slice_get l j ≡ Some t → (model_port_of t).aggregator ≡ Some agg.0
     → SamePair (pair_at (model_port_of t)) (pair_at (model_port_of s)) × (individual s.port.party (party_of s.port.partner) ≡ false)
 others_share keys l i s agg a g e j t h m = elim (cases_eq j i) [
   | inl same ↦ (let is : t ≡ s = same_Some t s (sym h ∙ ap (slice_get l) same ∙ g) in
@@ -146,10 +134,9 @@ others_share keys l i s agg a g e j t h m = elim (cases_eq j i) [
       ((a.group agg.0 j i t s ne h g its mine).0, (a.group agg.0 i j s t (λ x. ne (sym x)) g h mine its).1))
 ]
 
-promote_allowed : (u : SystemSetup) (call : ModelCall) (keys : List Key) (l : List SystemPort) (i : ℕ) (s : SystemPort) (agg : AggId)
-    (b : Bool) → individual s.port.party (party_of s.port.partner) ≡ b → Fits u keys → OccupantsAgree keys l → slice_get l i ≡ Some s
-    → s.port.choice ≡ Standby agg
-    → PortAllowed u call (ports_of number_of_port model_port_of l) s.number (PortMove.Join agg.0) (model_port_of s)
+promote_allowed : (u : SystemSetup) (call : ModelCall) (keys : List Key) (l : List SystemPort) (i : ℕ) (s : SystemPort)
+    (agg : AggId) (b : Bool) → individual s.port.party (party_of s.port.partner) ≡ b → Fits u keys → OccupantsAgree keys l → slice_get l i ≡ Some s
+    → s.port.choice ≡ Standby agg → PortAllowed u call (ports_of number_of_port model_port_of l) s.number (PortMove.Join agg.0) (model_port_of s)
 promote_allowed u call keys l i s agg false is fits a g e =
     let mine : occupied s.port.choice ≡ Some agg.0 = ap occupied e in (
       ap selected_number e,
@@ -167,8 +154,7 @@ promote_allowed u call keys l i s agg true is fits a g e =
       ap selected_number e,
       a.apart i agg.0 s g mine,
       fits agg.0 ∙ a.key i agg.0 s g mine,
-      inl (all_shown (λ b. b.aggregator ≢ Some agg.0) l
-          (each_place (λ t. (model_port_of t).aggregator ≢ Some agg.0) l
+      inl (all_shown (λ b. b.aggregator ≢ Some agg.0) l (each_place (λ t. (model_port_of t).aggregator ≢ Some agg.0) l
           (λ j t h m. false≢true (sym (others_share keys l i s agg a g e j t h m).1 ∙ is)))),
     )
 

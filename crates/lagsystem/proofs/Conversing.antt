@@ -50,8 +50,7 @@ given_number : (agg : AggId) (c : Choice) → has_chosen agg c ≡ true → sele
 given_number agg c h = grind (arith, nat_tests)
 
 seen_there : (agg : AggId) (s : SystemPort) → (mux_consistent_of s.port.mux (selected s.port) (partner_synchronized s.port) ≡ true)
-    → distributes_in agg s ≡ true
-    → ((model_port_of s).aggregator ≡ Some agg.0) × ((model_port_of s).distributes ≡ true)
+    → distributes_in agg s ≡ true → ((model_port_of s).aggregator ≡ Some agg.0) × ((model_port_of s).distributes ≡ true)
 seen_there agg s h d = grind (arith, nat_tests)
 
 flipped : (m n : ℕ) → eqb m n ≡ true → eqb n m ≡ true
@@ -68,12 +67,10 @@ pub seen_distributing : (agg : AggId) (p low : ℕ) (system_ports : List SystemP
 seen_distributing agg p low [] r a h = absurd (false≢true h)
 seen_distributing agg p low (s ∷ system_ports) r a h = elim (cases_Bool (eqb s.number p)) [
   | inl t ↦ (let none = none_on agg s.number system_ports p r.1 (let same = eqb-true s.number p t in omega (arith, same)) in
-      let here = from_here (distributes_in agg s) (eqb s.number p) (on agg system_ports p) t none
-      (sym (on_more agg s system_ports p) ∙ h) in
+      let here = from_here (distributes_in agg s) (eqb s.number p) (on agg system_ports p) t none (sym (on_more agg s system_ports p) ∙ h) in
       subst (Sees agg) (sym (cond_true (eqb p s.number) (Some s) (find_number number_of_port system_ports p) (flipped s.number p t)))
       (seen_there agg s a.0 here))
-  | inr f ↦ (let rest = sym (from_rest (distributes_in agg s) (eqb s.number p) (on agg system_ports p) f)
-      ∙ sym (on_more agg s system_ports p) ∙ h in
+  | inr f ↦ (let rest = sym (from_rest (distributes_in agg s) (eqb s.number p) (on agg system_ports p) f) ∙ sym (on_more agg s system_ports p) ∙ h in
       subst (Sees agg) (sym (cond_false (eqb p s.number) (Some s) (find_number number_of_port system_ports p) (unflipped s.number p f)))
       (seen_distributing agg p s.number system_ports r.1 a.1 rest))
 ]
@@ -88,8 +85,7 @@ carrying_moves u call agg system_ports t new seen r a h =
     let v = model_view_at (model_distributor t) system_ports in
     moves_flows u call v seen (model_distributor new)
     (flows_weaker u.system.mac call (OnlyListedDistribute agg.0 (distributing agg system_ports)) (Distributes v.port) (model_distributor t)
-    (model_distributor new) seen
-    (λ g p x. subst (λ m. Distributes v.port m p) (sym x.0) (seen_distributing agg p 0 system_ports r a x.1)) h)
+    (model_distributor new) seen (λ g p x. subst (λ m. Distributes v.port m p) (sym x.0) (seen_distributing agg p 0 system_ports r a x.1)) h)
 
 -- the port that the distributor answers may carry the frame
 among : (xs : List ℕ) (i q : ℕ) → slice_get xs i ≡ Some q → is_among xs q ≡ true
@@ -106,8 +102,7 @@ same_Ok p q e = cc
 no_Ok : (p : ℕ) (fault : DistFault) → port_answer p ≡ Err fault → ⊥
 no_Ok p fault e = cc
 
-picked_may : (gives : ℕ → ℕ → ℕ → Type 0) (conv : ℕ) (ports : List ℕ) (port : ℕ) → PicksPort gives conv ports (Ok port)
-    → is_among ports port ≡ true
+picked_may : (gives : ℕ → ℕ → ℕ → Type 0) (conv : ℕ) (ports : List ℕ) (port : ℕ) → PicksPort gives conv ports (Ok port) → is_among ports port ≡ true
 picked_may gives conv ports port h = grind (arith, nat_tests, no_Ok, same_Ok, among)
 
 pub assigned_may : (gives : ℕ → ℕ → ℕ → Type 0) (conv : ℕ) (ports : List ℕ) (s : Assignment) (port : ℕ)

@@ -5,9 +5,8 @@ use native.Mathlib.Omega.{arith}
 use Rattle.lagsystem.specs.declared.drive.Call.{Call as Asked}
 
 -- one more call
-pub drives_more : (gives : ℕ → ℕ → ℕ → Type 0) (old mid new : SystemState) (calls : List Call) (answers : List Reply) (call : Call)
-    (answer : Reply) → Drives gives old calls answers mid
-    → CallPromise gives mid call answer new → Drives gives old (calls ++ call ∷ []) (answers ++ answer ∷ []) new
+pub drives_more : (gives : ℕ → ℕ → ℕ → Type 0) (old mid new : SystemState) (calls : List Call) (answers : List Reply) (call : Call) (answer : Reply)
+    → Drives gives old calls answers mid → CallPromise gives mid call answer new → Drives gives old (calls ++ call ∷ []) (answers ++ answer ∷ []) new
 drives_more gives old mid new [] [] call answer h made = (new, subst (λ s. CallPromise gives s call answer new) h made, refl)
 drives_more gives old mid new [] (a ∷ answers) call answer h made = absurd h
 drives_more gives old mid new (c ∷ calls) [] call answer h made = absurd h

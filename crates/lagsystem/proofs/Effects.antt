@@ -17,8 +17,7 @@ stopped party partner s d g = record {
   partner = partner;
   synchronized = s;
   defaulted = d;
-  aggregator =
-      g;
+  aggregator = g;
   distributes = false;
 }
 
@@ -34,13 +33,7 @@ defaulting : (u : SystemSetup) (call : ModelCall) (n : ℕ) (party partner : Par
     → PortMoves u call n (stopped party partner s d (selected_number c)) []
     (stopped party zero_party true true (selected_number (if b then c else Unselected)))
 defaulting u call n party partner s d c true h = (PortMove.Default ∷ [], (λ ports. inr (sym (h refl)), tt), refl, refl)
-defaulting u call n party partner s d c false h = (
-  PortMove.Leave ∷ PortMove.Default
-      ∷ [],
-  (λ ports. tt, (λ ports. inl refl, tt)),
-  refl,
-  refl,
-)
+defaulting u call n party partner s d c false h = (PortMove.Leave ∷ PortMove.Default ∷ [], (λ ports. tt, (λ ports. inl refl, tt)), refl, refl)
 
 abbrev default_bits : StateBits
 default_bits = record {
@@ -49,8 +42,7 @@ default_bits = record {
   aggregation = false;
   synchronization = true;
   collecting = false;
-  distributing =
-      false;
+  distributing = false;
   defaulted = false;
   expired = false;
 }
@@ -71,10 +63,9 @@ desynchronized party info d g = ap (with_bits party info d g) (encode_then_decod
 expiring : (party : Party) (info : Info) (d : Bool) (g : Option ℕ)
     → with_bits party info d g (bits_of (with_timeout true (with_synchronization false info.state))) ≡ with_bits party info d g
     (record (bits_of info.state) { synchronization = false })
-expiring party info d g =
-    ap (with_bits party info d g) (encode_then_decode (record (bits_of (with_synchronization false info.state)) { timeout = true }))
-    ∙ ap (λ (b : StateBits). with_bits party info d g (record b { timeout = true }))
-    (encode_then_decode (record (bits_of info.state) { synchronization = false }))
+expiring party info d g = ap (with_bits party info d g) (encode_then_decode
+    (record (bits_of (with_synchronization false info.state)) { timeout = true })) ∙ ap (λ (b : StateBits). with_bits party info d g
+    (record b { timeout = true })) (encode_then_decode (record (bits_of info.state) { synchronization = false }))
 
 pub receive_moves : (u : SystemSetup) (call : ModelCall) (n : ℕ) → EachMoves u call n receive_rows
 receive_moves u call n = (
@@ -86,14 +77,10 @@ receive_moves u call n = (
       (
         λ p h.
             let same = same_party (party_of default_partner) (party_of p.partner) in
-            subst (λ v. PortMoves u call n (quiet p) [] v)
-            (sym (on_defaults p.party true (selected_number (if same then p.choice else Unselected))))
-            (defaulting u call n p.party (party_of p.partner) (partner_synchronized p) p.defaulted p.choice same (λ t. zero_named
-            ∙ exact_party (party_of default_partner) (party_of p.partner) t)),
-        (
-          λ p h. (PortMove.Desynchronize ∷ [], (λ ports. tt, tt), refl, expiring p.party p.partner p.defaulted (selected_number p.choice)),
-          tt,
-        ),
+            subst (λ v. PortMoves u call n (quiet p) [] v) (sym (on_defaults p.party true (selected_number (if same then p.choice else Unselected))))
+            (defaulting u call n p.party (party_of p.partner) (partner_synchronized p) p.defaulted p.choice same
+            (λ t. zero_named ∙ exact_party (party_of default_partner) (party_of p.partner) t)),
+        (λ p h. (PortMove.Desynchronize ∷ [], (λ ports. tt, tt), refl, expiring p.party p.partner p.defaulted (selected_number p.choice)), tt),
       ),
     ),
   ),
@@ -118,19 +105,12 @@ links_moves u call n max_links up p q h =
     (settles_moves u call n receive_rows (receive_moves u call n) mid q h)
 
 -- update_Selected and recordPDU
-taking : (u : SystemSetup) (call : ModelCall) (n : ℕ) (party partner : Party) (s d : Bool) (c : Choice) (b : Bool)
-    (v : Told_lacpdu) (t : Bool)
-    → call ≡ Receive n (Some (Lacp v)) → (b ≡ true → v.actor ≡ partner)
-    → (t ≡ true → (v.synchronized ≡ true) × ((v.partner ≡ party) ⊎ (v.actor.aggregatable ≡ false)))
-    → PortMoves u call n (stopped party partner s d (selected_number c)) (Took n v
-    ∷ []) (stopped party v.actor t false (selected_number (if b then c else Unselected)))
-taking u call n party partner s d c true v t e h k = (
-  PortMove.Take v t ∷ PortMove.Stop
-      ∷ [],
-  (λ ports. (e, inl (h refl), k), (λ ports. tt, tt)),
-  refl,
-  refl,
-)
+taking : (u : SystemSetup) (call : ModelCall) (n : ℕ) (party partner : Party) (s d : Bool) (c : Choice)
+    (b : Bool) (v : Told_lacpdu) (t : Bool) → call ≡ Receive n (Some (Lacp v)) → (b ≡ true → v.actor ≡ partner) → (t ≡ true → (v.synchronized ≡ true)
+    × ((v.partner ≡ party) ⊎ (v.actor.aggregatable ≡ false))) → PortMoves u call n (stopped party partner s d (selected_number c))
+    (Took n v ∷ []) (stopped party v.actor t false (selected_number (if b then c else Unselected)))
+taking u call n party partner s d c true v t e h k =
+    (PortMove.Take v t ∷ PortMove.Stop ∷ [], (λ ports. (e, inl (h refl), k), (λ ports. tt, tt)), refl, refl)
 taking u call n party partner s d c false v t e h k =
     (PortMove.Leave ∷ PortMove.Take v t ∷ PortMove.Stop ∷ [], (λ ports. tt, (λ ports. (e, inr refl, k), (λ ports. tt, tt))), refl, refl)
 
@@ -161,8 +141,7 @@ taking_moves u n v p q h = elim h [
 ]
 
 -- a configure: the port leaves, takes another party, and starts again
-pub configures_moves : (u : SystemSetup) (n : ℕ) (c : PortChange) (p q : Machines) → ChangesParty c p q
-    → QuietMoves u ModelCall.Configure n p [] q
+pub configures_moves : (u : SystemSetup) (n : ℕ) (c : PortChange) (p q : Machines) → ChangesParty c p q → QuietMoves u ModelCall.Configure n p [] q
 configures_moves u n c p q h =
     let again : Machines = start_receive (record p { party = changed_party c p.party }) in
     let begin : QuietMoves u ModelCall.Configure n p [] again = (
@@ -190,20 +169,13 @@ own_bits p = record {
 }
 
 abbrev announced : ℕ → Machines → StateBits → List Act
-announced n p b =
-    Shows n (Lacp (record {
-      actor = record { system = p.party.system; key = p.party.key; port = p.party.port; aggregatable = b.aggregation };
-      partner = party_of p.partner;
-      synchronized = b.synchronization;
-    })) ∷ []
+announced n p b = Shows n (Lacp (record {
+  actor = record { system = p.party.system; key = p.party.key; port = p.party.port; aggregatable = b.aggregation };
+  partner = party_of p.partner;
+  synchronized = b.synchronization;
+})) ∷ []
 
-pub sending : (u : SystemSetup) (call : ModelCall) (n max_delay : ℕ) (p : Machines) → replies_frame call ≡ true
-    → (is_synchronized p.mux ≡ true → IsSome (selected_number p.choice))
-    → QuietMoves u call n p (Shows n (Lacp (lacp_message (pdu_of p max_delay))) ∷ []) (after_sending p)
-sending u call n max_delay p e k = (
-  PortMove.Announce (is_synchronized p.mux)
-      ∷ [],
-  (λ ports. (e, k), tt),
-  sym (ap (announced n p) (encode_then_decode (own_bits p))),
-  refl,
-)
+pub sending : (u : SystemSetup) (call : ModelCall) (n max_delay : ℕ) (p : Machines) → replies_frame call ≡ true → (is_synchronized p.mux ≡ true
+    → IsSome (selected_number p.choice)) → QuietMoves u call n p (Shows n (Lacp (lacp_message (pdu_of p max_delay))) ∷ []) (after_sending p)
+sending u call n max_delay p e k =
+    (PortMove.Announce (is_synchronized p.mux) ∷ [], (λ ports. (e, k), tt), sym (ap (announced n p) (encode_then_decode (own_bits p))), refl)

@@ -24,13 +24,11 @@ clash : (b : Bool) → b ≡ true → b ≡ false → ⊥
 clash b h k = grind (arith, nat_tests)
 
 -- lists that are alike in numbers and views show the same ports
-pushed : {X : Type 0} (v : X → PortFacts) (b : Bool) (x : X) (o : Option X)
-    → option_map v (cond b (Some x) o) ≡ cond b (Some (v x)) (option_map v o)
+pushed : {X : Type 0} (v : X → PortFacts) (b : Bool) (x : X) (o : Option X) → option_map v (cond b (Some x) o) ≡ cond b (Some (v x)) (option_map v o)
 pushed v b x o = grind (arith, nat_tests)
 
-zip_ports : {X Y : Type 0} (n : X → ℕ) (m : Y → ℕ) (v : X → PortFacts) (w : Y → PortFacts) (xs : List X) (ys : List Y)
-    → AllZip (λ x y. (m y ≡ n x) × (w y ≡ v x)) xs ys
-    → (q : ℕ) → ports_of m w ys q ≡ ports_of n v xs q
+zip_ports : {X Y : Type 0} (n : X → ℕ) (m : Y → ℕ) (v : X → PortFacts) (w : Y → PortFacts)
+    (xs : List X) (ys : List Y) → AllZip (λ x y. (m y ≡ n x) × (w y ≡ v x)) xs ys → (q : ℕ) → ports_of m w ys q ≡ ports_of n v xs q
 zip_ports n m v w [] [] h q = refl
 zip_ports n m v w [] (y ∷ ys) h q = absurd h
 zip_ports n m v w (x ∷ xs) [] h q = absurd h
@@ -49,9 +47,7 @@ record Beginning (party : Party) (p : Machines) : Type 0 where
 disabled_looks : (p q : Machines)
     → q ≡ record p { receive = PortDisabled; partner = record p.partner { state = with_synchronization false p.partner.state } }
     → hushed q ≡ hushed p
-disabled_looks p q e =
-    ap hushed e
-    ∙ ap (λ b. record (hushed p) { partner = named p.partner b })
+disabled_looks p q e = ap hushed e ∙ ap (λ b. record (hushed p) { partner = named p.partner b })
     (encode_then_decode (record (bits_of p.partner.state) { synchronization = false }))
 
 disabled_now : (party : Party) (p q : Machines)
@@ -63,8 +59,7 @@ disabled_now party p q e x = record {
   nobody = ap (λ (y : Machines). y.choice) e ∙ x.nobody;
   where_ = inr (
     ap (λ (y : Machines). y.receive) e,
-    ap partner_synchronized e
-        ∙ ap (λ b. b.synchronization) (encode_then_decode (record (bits_of p.partner.state) { synchronization = false })),
+    ap partner_synchronized e ∙ ap (λ b. b.synchronization) (encode_then_decode (record (bits_of p.partner.state) { synchronization = false })),
   );
 }
 
@@ -102,12 +97,10 @@ record Idle (party : Party) (p : Machines) : Type 0 where
 starts_idle : (s : Start) (q : Machines) → Starts (before_start s) q → Idle s.party q
 starts_idle s q h =
     let mid = h.0 in
-    let begun : Beginning s.party (start_receive (before_start s)) =
-    record {
+    let begun : Beginning s.party (start_receive (before_start s)) = record {
       looks = ap (λ x. record (first_port s.party) { partner = x }) (sym zero_named);
       down = refl;
-      nobody =
-          refl;
+      nobody = refl;
       where_ = inl refl;
     } in
     let x = begins_all s.party h.1.0 (start_receive (before_start s)) mid h.1.1 begun in
@@ -168,21 +161,16 @@ promote_idle aggs agg start l m a h e = absurd
     standing : Unselected ≡ Standby agg → ⊥
     standing x = cc
 
-promoted_idle : (aggs : AggregatorsValue) (n : ℕ) (start new : List SystemPort) → AllUnselected start → PromotesFirst aggs n start new
-    → new ≡ start
-promoted_idle aggs n start new a h =
-    promotions_keep aggs (λ l. l ≡ start) (λ agg l m x e. promote_idle aggs agg start l m a x e) n start new h refl
+promoted_idle : (aggs : AggregatorsValue) (n : ℕ) (start new : List SystemPort) → AllUnselected start → PromotesFirst aggs n start new → new ≡ start
+promoted_idle aggs n start new a h = promotions_keep aggs (λ l. l ≡ start) (λ agg l m x e. promote_idle aggs agg start l m a x e) n start new h refl
 
 choosing_idle : (aggs : AggregatorsValue) (start new : List SystemPort) → AllUnselected start
     → AllByRecursion (λ s. s.port.enabled ≡ false) start → ChoosesIn aggs start new → new ≡ start
 choosing_idle aggs start new a down h = grind (arith, nat_tests, promoted_idle, chosen_idle)
 
 periodic_shown : (p q : Machines) → RunsPeriodic p q → model_port q ≡ model_port p
-periodic_shown p q h = ap model_port h.2
-    ∙ Reaches-keeps model_port periodic_rows (
-      (λ p. refl),
-      ((λ p. refl), ((λ p. refl), ((λ p. refl), ((λ p. refl), ((λ p. refl), ((λ p. refl), tt)))))),
-    ) h.1.0 p h.0 h.1.1
+periodic_shown p q h = ap model_port h.2 ∙ Reaches-keeps model_port periodic_rows
+    ((λ p. refl), ((λ p. refl), ((λ p. refl), ((λ p. refl), ((λ p. refl), ((λ p. refl), ((λ p. refl), tt))))))) h.1.0 p h.0 h.1.1
 
 zip_weaker : {X Y : Type 0} (R S : X → Y → Type 0) → ((x : X) (y : Y) → R x y → S x y) → (xs : List X) (ys : List Y)
     → AllZip R xs ys → AllZip S xs ys
@@ -216,19 +204,16 @@ pub first_shows : (s : SystemState) → IsFirst s → model_view s ≡ first_vie
 first_shows s h =
     let start = h.0 in
     let m5 = first_periodic s h in
-    let idle : AllZip (Idles s.system) s.ports start = zip_weaker (HasJustStarted s.system) (Idles s.system)
-    (λ c x m. (m.0, starts_idle (setup_of s.system c) x.port m.2)) s.ports start h.1 in
+    let idle : AllZip (Idles s.system) s.ports start = zip_weaker (HasJustStarted s.system)
+    (Idles s.system) (λ c x m. (m.0, starts_idle (setup_of s.system c) x.port m.2)) s.ports start h.1 in
     let same_ports : (q : ℕ) → ports_of number_of_port model_port_of s.system_ports q ≡ ports_of number_of_port model_port_of start q =
     zip_ports number_of_port number_of_port model_port_of model_port_of start s.system_ports
-    (zip_weaker (PortChangesBy RunsPeriodic) _ (λ x y m. (ap number_of_port m.0, periodic_shown x.port y.port m.1))
-    start s.system_ports m5) in
+    (zip_weaker (PortChangesBy RunsPeriodic) _ (λ x y m. (ap number_of_port m.0, periodic_shown x.port y.port m.1)) start s.system_ports m5) in
     let first_ports : (q : ℕ) → ports_of number_of_port model_port_of start q ≡ ports_of configured_number
-    (λ c. first_port (configured_party s.system c)) s.ports q =
-    zip_ports configured_number number_of_port (λ c. first_port (configured_party s.system c)) model_port_of s.ports start
-    (zip_weaker (Idles s.system) _ (λ c x m. (m.0, m.1.looks)) s.ports start idle) in
+    (λ c. first_port (configured_party s.system c)) s.ports q = zip_ports configured_number number_of_port (λ c. first_port
+    (configured_party s.system c)) model_port_of s.ports start (zip_weaker (Idles s.system) _ (λ c x m. (m.0, m.1.looks)) s.ports start idle) in
     λ i. record {
-      port = λ q. (same_ports q ∙ first_ports q ∙ composed first_port (configured_party s.system) (find_number configured_number s.ports q))
-          i;
+      port = λ q. (same_ports q ∙ first_ports q ∙ composed first_port (configured_party s.system) (find_number configured_number s.ports q)) i;
       flows = (ap model_distributor h.3 ∙ first_flows (model_setup s) (length s.keys) s.conversations) i;
     }
 

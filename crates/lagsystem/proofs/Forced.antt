@@ -78,13 +78,11 @@ in_forced gives port agg zero old n new h = (none_forced port (IsBelow agg.0 0) 
 in_forced gives port agg (suc k) old n new h =
     let before = in_forced gives port agg k old h.1 h.0 h.3 in
     let one = one_forced gives port agg k h.0 h.2 new h.4 in
-    let same : h.2 ≡ is_held_on port (assignment_of old.table agg.0 k) = one.1
-    ∙ ap (is_held_on port) (before.0.rest agg.0 k (λ d. omega (arith, d.1))) in (
+    let same : h.2 ≡ is_held_on port (assignment_of old.table agg.0 k) = one.1 ∙ ap (is_held_on port)
+    (before.0.rest agg.0 k (λ d. omega (arith, d.1))) in (
       both_forced port (IsBelow agg.0 k) (IsOne agg.0 k) (IsBelow agg.0 (suc k)) old h.0 new before.0 one.0
-          (λ a c d e. omega (arith, d.1, e.1))
-          (λ a c d. elim (below_or_at c k d.1) [ inl l ↦ inl (d.0, l) | inr e ↦ inr (d.0, e) ])
-          (λ a c d. (d.0, omega (arith, d.1)))
-          (λ a c d. (d.0, omega (arith, d.1))),
+          (λ a c d e. omega (arith, d.1, e.1)) (λ a c d. elim (below_or_at c k d.1) [ inl l ↦ inl (d.0, l) | inr e ↦ inr (d.0, e) ])
+          (λ a c d. (d.0, omega (arith, d.1))) (λ a c d. (d.0, omega (arith, d.1))),
       h.5 ∙ (λ i. before.1 i + cond (same i) 1 0),
     )
 

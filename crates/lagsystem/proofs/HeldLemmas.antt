@@ -21,8 +21,7 @@ not_counted b e = grind (arith, nat_tests)
 abbrev NoneIn : ℕ → SystemState → ℕ → ℕ → Type 0
 NoneIn port s g count = (c : ℕ) → c < count → is_held_on port (assignment_of s.table g c) ≡ false
 
-none_in : (gives : ℕ → ℕ → ℕ → Type 0) (port : ℕ) (agg : AggId) (s : SystemState) (k : ℕ) → NoneIn port s agg.0 k
-    → ForcesIn gives port agg k s 0 s
+none_in : (gives : ℕ → ℕ → ℕ → Type 0) (port : ℕ) (agg : AggId) (s : SystemState) (k : ℕ) → NoneIn port s agg.0 k → ForcesIn gives port agg k s 0 s
 none_in gives port agg s zero h = (refl, refl)
 none_in gives port agg s (suc k) h = grind (arith, nat_tests, none_in gives port agg s k (λ c l. h c (omega (arith, l))))
 
@@ -35,8 +34,7 @@ pub forces_none : (gives : ℕ → ℕ → ℕ → Type 0) (port : ℕ) (s : Sys
     → is_some (port_index port s.system_ports) ≡ true → ForcesPort gives port s (Ok 0) s
 forces_none gives port s sound none there = (
   there,
-  none_first gives port s (length s.keys) (λ a l c k.
-      not_counted (is_held_on port (assignment_of s.table (a + 1) c))
+  none_first gives port s (length s.keys) (λ a l c k. not_counted (is_held_on port (assignment_of s.table (a + 1) c))
       (each_zero (λ c. cond (is_held_on port (assignment_of s.table (a + 1) c)) 1 0) s.table.conversations
       (each_zero (λ a. sum_below (λ c. cond (is_held_on port (assignment_of s.table (a + 1) c)) 1 0) s.table.conversations) s.table.aggs none a
       (omega (arith, l, sound.aggregators))) c (omega (arith, k, sound.conversations)))),

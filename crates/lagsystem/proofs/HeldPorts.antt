@@ -52,20 +52,18 @@ module _ (P : SystemPort → Type 0) (k : IsKept P) where
   choosing_on : (aggs : AggregatorsValue) (old new : List SystemPort) → ChoosesIn aggs old new → AllByRecursion P old → AllByRecursion P new
   choosing_on aggs old new h a =
       let mid : AllByRecursion P h.0 = promotions_keep aggs (AllByRecursion P) (λ agg l m x a. subst (AllByRecursion P) (sym x.4)
-      (all-set P l x.0 (with_choice x.1 (Some (Selected agg))) a
-      (k.stand agg x.1 (next_stands aggs agg l m x) (all-get P l x.0 x.1 x.3 a)))) (length aggs.keys) old h.0 h.1 a in
-      subst (AllByRecursion P) (sym h.2)
-      (choices_keep aggs (AllByRecursion P) (λ l i s e a. all-set P l i (with_choice s (choice_for aggs l s)) a
+      (all-set P l x.0 (with_choice x.1 (Some (Selected agg))) a (k.stand agg x.1 (next_stands aggs agg l m x) (all-get P l x.0 x.1 x.3 a))))
+      (length aggs.keys) old h.0 h.1 a in
+      subst (AllByRecursion P) (sym h.2) (choices_keep aggs (AllByRecursion P) (λ l i s e a. all-set P l i (with_choice s (choice_for aggs l s)) a
       (choice_on aggs l s (aggregator_for aggs.keys l s) refl (all-get P l i s e a))) (length h.0) h.0 mid)
 
   -- a settling
   pub settling_on : (old new : SystemState) → Settling old new → AllByRecursion P old.system_ports → AllByRecursion P new.system_ports
   settling_on old new h a =
       let s = settling_in old new h in
-      zip_on RunsPeriodic periodic_stays s.four new.system_ports s.paces
-      (zip_on (RunsReady old.keys (views s.two)) (λ p q x. mux_stays (ready_of old.keys (views s.two) p.choice) p q x) s.two s.four s.runs
-      (choosing_on (aggregators_value old) s.one s.two s.chooses
-      (zip_on (RunsToRest (mux_rows false)) (mux_stays false) old.system_ports s.one s.stops a)))
+      zip_on RunsPeriodic periodic_stays s.four new.system_ports s.paces (zip_on (RunsReady old.keys (views s.two))
+      (λ p q x. mux_stays (ready_of old.keys (views s.two) p.choice) p q x) s.two s.four s.runs (choosing_on
+      (aggregators_value old) s.one s.two s.chooses (zip_on (RunsToRest (mux_rows false)) (mux_stays false) old.system_ports s.one s.stops a)))
 
   settled_on : (own : SystemState → SystemState → Type 0) (s t : SystemState)
       → ((mid : SystemState) → own s mid → AllByRecursion P mid.system_ports) → ThenSettles own s t → AllByRecursion P t.system_ports
@@ -73,8 +71,7 @@ module _ (P : SystemPort → Type 0) (k : IsKept P) where
 
   -- the start
   pub first_on : (s : SystemState) → IsFirst s → AllByRecursion P s.system_ports
-  first_on s h = settling_on (with_system_ports s h.0) s h.2
-      (zip_all (HasJustStarted s.system) P (λ c x m. k.fresh x m.3) s.ports h.0 h.1)
+  first_on s h = settling_on (with_system_ports s h.0) s h.2 (zip_all (HasJustStarted s.system) P (λ c x m. k.fresh x m.3) s.ports h.0 h.1)
 
   -- each call
   pub Step-on : (gives : ℕ → ℕ → ℕ → Type 0) (old : SystemState) (call : Call) (answer : Reply) (new : SystemState)

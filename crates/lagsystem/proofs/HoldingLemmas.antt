@@ -11,20 +11,18 @@ leaves was s p = (s.number == p) && has_stopped was s
 or_swap : (a b : Bool) → (a || b) ≡ (b || a)
 or_swap a b = grind (arith, nat_tests)
 
-stopped_suc : (before : List (Option AggId)) (system_ports : List SystemPort) (i : ℕ) (d : Option AggId) (e : SystemPort) (p : ℕ)
-    → i < length before → length before ≡ length system_ports
-    → stopped (take (suc i) before) (take (suc i) system_ports) p ≡ (stopped (take i before) (take i system_ports) p
-    || leaves (get_or before i d) (get_or system_ports i e) p)
+stopped_suc : (before : List (Option AggId)) (system_ports : List SystemPort) (i : ℕ) (d : Option AggId)
+    (e : SystemPort) (p : ℕ) → i < length before → length before ≡ length system_ports → stopped (take (suc i) before)
+    (take (suc i) system_ports) p ≡ (stopped (take i before) (take i system_ports) p || leaves (get_or before i d) (get_or system_ports i e) p)
 stopped_suc [] system_ports i d e p l same = absurd (omega arith)
 stopped_suc (b ∷ bs) [] i d e p l same = absurd (omega (arith, same))
 stopped_suc (b ∷ bs) (s ∷ ss) zero d e p l same = or_swap (leaves b s p) false
 stopped_suc (b ∷ bs) (s ∷ ss) (suc i) d e p l same = grind (arith, nat_tests, stopped_suc bs ss i d e p (omega arith) (omega (arith, same)))
 
 -- the ports of one more place
-pub stopped_more : (before : List (Option AggId)) (system_ports : List SystemPort) (i : ℕ) (d : Option AggId) (e : SystemPort) (p : ℕ)
-    → i < length before → length before ≡ length system_ports
-    → stopped (take (i + 1) before) (take (i + 1) system_ports) p ≡ (stopped (take i before) (take i system_ports) p
-    || leaves (get_or before i d) (get_or system_ports i e) p)
+pub stopped_more : (before : List (Option AggId)) (system_ports : List SystemPort) (i : ℕ)
+    (d : Option AggId) (e : SystemPort) (p : ℕ) → i < length before → length before ≡ length system_ports → stopped (take (i + 1) before)
+    (take (i + 1) system_ports) p ≡ (stopped (take i before) (take i system_ports) p || leaves (get_or before i d) (get_or system_ports i e) p)
 stopped_more before system_ports i d e p l same = rw add-one (stopped_suc before system_ports i d e p l same)
 
 -- one more port is left
@@ -40,27 +38,24 @@ or_none : (a b : Bool) → (a || (b && false)) ≡ a
 or_none a b = grind (arith, nat_tests)
 
 -- the port at the place stopped, and is left
-pub left_more : (before : List (Option AggId)) (system_ports : List SystemPort) (i : ℕ) (d : Option AggId) (e : SystemPort)
-    (old mid new : Table) → i < length before → length before ≡ length system_ports
+pub left_more : (before : List (Option AggId)) (system_ports : List SystemPort) (i : ℕ) (d : Option AggId)
+    (e : SystemPort) (old mid new : Table) → i < length before → length before ≡ length system_ports
     → ChangesAssignments old mid (after_holding (stopped (take i before) (take i system_ports)))
-    → has_stopped (get_or before i d) (get_or system_ports i e) ≡ true
-    → ChangesAssignments mid new (after_leave (get_or system_ports i e).number)
+    → has_stopped (get_or before i d) (get_or system_ports i e) ≡ true → ChangesAssignments mid new (after_leave (get_or system_ports i e).number)
     → ChangesAssignments old new (after_holding (stopped (take (i + 1) before) (take (i + 1) system_ports)))
 left_more before system_ports i d e old mid new l same h stops k =
     let n = (get_or system_ports i e).number in
     let f = stopped (take i before) (take i system_ports) in
     let g = stopped (take (i + 1) before) (take (i + 1) system_ports) in
-    let more : (p : ℕ) → g p ≡ (f p || (n == p)) =
-    λ p. stopped_more before system_ports i d e p l same ∙ ap (λ b. f p || ((n == p) && b)) stops
-    ∙ ap (λ b. f p || b) (and-true (n == p)) in
+    let more : (p : ℕ) → g p ≡ (f p || (n == p)) = λ p. stopped_more before system_ports i d e p l same
+    ∙ ap (λ b. f p || ((n == p) && b)) stops ∙ ap (λ b. f p || b) (and-true (n == p)) in
     grind (arith, nat_tests, after_leave, leave_more, assignment_of)
 
 -- the port at the place did not stop
-pub left_same : (before : List (Option AggId)) (system_ports : List SystemPort) (i : ℕ) (d : Option AggId) (e : SystemPort)
-    (old new : Table) → i < length before → length before ≡ length system_ports
-    → ChangesAssignments old new (after_holding (stopped (take i before) (take i system_ports)))
-    → has_stopped (get_or before i d) (get_or system_ports i e) ≡ false
-    → ChangesAssignments old new (after_holding (stopped (take (i + 1) before) (take (i + 1) system_ports)))
+pub left_same : (before : List (Option AggId)) (system_ports : List SystemPort) (i : ℕ) (d : Option AggId)
+    (e : SystemPort) (old new : Table) → i < length before → length before ≡ length system_ports
+    → ChangesAssignments old new (after_holding (stopped (take i before) (take i system_ports))) → has_stopped (get_or before i d)
+    (get_or system_ports i e) ≡ false → ChangesAssignments old new (after_holding (stopped (take (i + 1) before) (take (i + 1) system_ports)))
 left_same before system_ports i d e old new l same h stays =
     let n = (get_or system_ports i e).number in
     let f = stopped (take i before) (take i system_ports) in
@@ -101,8 +96,7 @@ pub one_left : (system_ports : List SystemPort) (i : ℕ) (was : Option AggId) (
 one_left system_ports i was d old new l stops k =
     let n = (get_or system_ports i d).number in
     let f = stopped (slice_set (aggregators_in_use system_ports) i was) system_ports in
-    let only : (p : ℕ) → f p ≡ (n == p) =
-    λ p. stopped_at system_ports i was d p l ∙ ap (λ b. (n == p) && b) stops ∙ and-true (n == p) in
+    let only : (p : ℕ) → f p ≡ (n == p) = λ p. stopped_at system_ports i was d p l ∙ ap (λ b. (n == p) && b) stops ∙ and-true (n == p) in
     grind (arith, nat_tests, leave_only, assignment_of)
 
 -- it did not stop
@@ -112,6 +106,5 @@ pub one_stays : (system_ports : List SystemPort) (i : ℕ) (was : Option AggId) 
 one_stays system_ports i was d t l stays =
     let n = (get_or system_ports i d).number in
     let f = stopped (slice_set (aggregators_in_use system_ports) i was) system_ports in
-    let none : (p : ℕ) → f p ≡ false =
-    λ p. stopped_at system_ports i was d p l ∙ ap (λ b. (n == p) && b) stays ∙ or_none false (n == p) in
+    let none : (p : ℕ) → f p ≡ false = λ p. stopped_at system_ports i was d p l ∙ ap (λ b. (n == p) && b) stays ∙ or_none false (n == p) in
     grind (arith, nat_tests, leave_none, assignment_of)

@@ -31,15 +31,13 @@ host_alone gives old call answer new h k = grind (arith, nat_tests)
 
 -- ---- the transmit limit
 
-marker_probe : (o : Option ℕ) (n now port : ℕ) (number : ℕ) (mac : List ℕ) (before : List ℕ) (old : SystemState)
-    (answer : Option (List ℕ)) (new : SystemState) → SendsMarkerOf o number mac old answer new
-    → sends_after n now (Transmit port) (reply.Transmit (Ok answer)) before ≡ before
+marker_probe : (o : Option ℕ) (n now port : ℕ) (number : ℕ) (mac : List ℕ) (before : List ℕ) (old : SystemState) (answer : Option (List ℕ))
+    (new : SystemState) → SendsMarkerOf o number mac old answer new → sends_after n now (Transmit port) (reply.Transmit (Ok answer)) before ≡ before
 marker_probe None n now port number mac before old answer new h = (none_silent port answer h.0 n now before).1
 marker_probe (Some id) n now port number mac before old answer new h = (marker_silent port id number mac old answer new h n now before).1
 
 up_probe : (up : Bool) (n now port : ℕ) (system_port : SystemPort) (before : List ℕ) (old : SystemState) (answer : Option (List ℕ))
-    (new : SystemState) → ProbesIf up system_port old answer new
-    → sends_after n now (Transmit port) (reply.Transmit (Ok answer)) before ≡ before
+    (new : SystemState) → ProbesIf up system_port old answer new → sends_after n now (Transmit port) (reply.Transmit (Ok answer)) before ≡ before
 up_probe up n now port system_port before old answer new h = grind (arith, nat_tests, none_silent, marker_probe, next_identifier)
 
 place_probe : (o : Option ℕ) (n now port : ℕ) (before : List ℕ) (old : SystemState) (answer : Option (List ℕ)) (new : SystemState)
@@ -58,8 +56,7 @@ good_alone n now before old new e g = subst (GoodIn n now before) (sym (ap (λ (
 good_host : (gives : ℕ → ℕ → ℕ → Type 0) (n now : ℕ) (before : List ℕ) (old : SystemState) (call : HostCall) (answer : HostReply)
     (new : SystemState) → HostPromise gives old call answer new → GoodIn n now before old.system_ports
     → GoodIn n (tick_after_host call now) (sends_after_host n now call answer before) new.system_ports
-good_host gives n now before old (host.Call call) (told.Call answer) new h g =
-    good_step gives n now before old (call_of call) answer new h.step g
+good_host gives n now before old (host.Call call) (told.Call answer) new h g = good_step gives n now before old (call_of call) answer new h.step g
 good_host gives n now before old (host.OfferConversation agg conv) (told.OfferConversation answer) new h g = grind (arith, nat_tests)
 good_host gives n now before old (host.LeaveConversation agg conv) (told.LeaveConversation answer) new h g = grind (arith, nat_tests)
 good_host gives n now before old (host.Probe port) (told.Probe answer) new h g =
@@ -69,9 +66,8 @@ good_host gives n now before old (host.Rest agg conv) (told.Rest answer) new h g
 good_host gives n now before old (host.ForcePort port) (told.ForcePort answer) new h g = grind (arith, nat_tests)
 good_host gives n now before old call answer new h g = absurd h
 
-good_hosts : (gives : ℕ → ℕ → ℕ → Type 0) (n now : ℕ) (before : List ℕ) (old new : SystemState) (calls : List HostCall)
-    (answers : List HostReply) → HostRun gives old calls answers new → GoodIn n now before old.system_ports
-    → StaysWindowedForHosts n now before calls answers
+good_hosts : (gives : ℕ → ℕ → ℕ → Type 0) (n now : ℕ) (before : List ℕ) (old new : SystemState) (calls : List HostCall) (answers : List HostReply)
+    → HostRun gives old calls answers new → GoodIn n now before old.system_ports → StaysWindowedForHosts n now before calls answers
 good_hosts gives n now before old new [] [] h g = good_end now before _ g
 good_hosts gives n now before old new [] (a ∷ answers) h g = absurd h
 good_hosts gives n now before old new (c ∷ calls) [] h g = absurd h
@@ -112,10 +108,8 @@ keeps_agreement gives old (host.OfferConversation agg conv) answer new a h =
     keeps_beside old new (host_alone gives old (host.OfferConversation agg conv) answer new h tt) a
 keeps_agreement gives old (host.LeaveConversation agg conv) answer new a h = grind (arith, nat_tests)
 keeps_agreement gives old (host.Probe port) answer new a h = keeps_beside old new (host_alone gives old (host.Probe port) answer new h tt) a
-keeps_agreement gives old (host.Rest agg conv) answer new a h =
-    keeps_beside old new (host_alone gives old (host.Rest agg conv) answer new h tt) a
-keeps_agreement gives old (host.ForcePort port) answer new a h =
-    keeps_beside old new (host_alone gives old (host.ForcePort port) answer new h tt) a
+keeps_agreement gives old (host.Rest agg conv) answer new a h = keeps_beside old new (host_alone gives old (host.Rest agg conv) answer new h tt) a
+keeps_agreement gives old (host.ForcePort port) answer new a h = keeps_beside old new (host_alone gives old (host.ForcePort port) answer new h tt) a
 keeps_agreement gives old call answer new a h = absurd h
 
 pub host_agreement : (gives : ℕ → ℕ → ℕ → Type 0) → HostAgreementLaw gives

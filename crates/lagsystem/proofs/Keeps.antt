@@ -56,14 +56,12 @@ selects_numbers numbers l i s o e h = numbers_set l i s (with_choice s o) e (giv
 
 pub chosen_numbers : (aggs : AggregatorsValue) (n : ℕ) (system_ports : List SystemPort)
     → port_numbers (after_choices aggs n system_ports) ≡ port_numbers system_ports
-chosen_numbers aggs n system_ports =
-    choices_keep aggs (λ l. port_numbers l ≡ port_numbers system_ports)
+chosen_numbers aggs n system_ports = choices_keep aggs (λ l. port_numbers l ≡ port_numbers system_ports)
     (λ l i s e h. selects_numbers (port_numbers system_ports) l i s (choice_for aggs l s) e h) n system_ports refl
 
 pub promoted_numbers : (aggs : AggregatorsValue) (n : ℕ) (old new : List SystemPort) → PromotesFirst aggs n old new
     → port_numbers new ≡ port_numbers old
-promoted_numbers aggs n old new h =
-    promotions_keep aggs (λ l. port_numbers l ≡ port_numbers old)
+promoted_numbers aggs n old new h = promotions_keep aggs (λ l. port_numbers l ≡ port_numbers old)
     (λ agg l m x p. ap port_numbers x.4 ∙ selects_numbers (port_numbers old) l x.0 x.1 (Some (Selected agg)) x.3 p) n old new h refl
 
 -- step 2 of settling leaves the numbers
@@ -72,8 +70,7 @@ choosing_numbers aggs old new h = choosing_keeps (λ l. port_numbers l ≡ port_
 
 -- the steps that look at ports alone
 settles_numbers : (aggs : AggregatorsValue) (old new : List SystemPort) → SettlesIn aggs old new → port_numbers new ≡ port_numbers old
-settles_numbers aggs old new s =
-    zip_numbers RunsPeriodic s.four new s.paces ∙ zip_numbers (RunsReady aggs.keys (views s.two)) s.two s.four s.runs
+settles_numbers aggs old new s = zip_numbers RunsPeriodic s.four new s.paces ∙ zip_numbers (RunsReady aggs.keys (views s.two)) s.two s.four s.runs
     ∙ choosing_numbers aggs s.one s.two s.chooses ∙ zip_numbers (RunsToRest (mux_rows false)) old s.one s.stops
 
 pub ports_keep : (old new : SystemState) → SettlesPorts old new → Keeps old new
@@ -249,8 +246,7 @@ first_settles aggs conversations first old new e h =
     settling_joined old new new h (first_leaves aggs conversations first new (ports_table old new h ∙ e))
 
 pub first_made : (config : Config) (keys : List Key) (most : Option ℕ) (start : List SystemPort) (new : SystemState)
-    → AllZip (HasJustStarted config.system) config.ports.items start
-    → SettlesPorts (started config keys most start) new → IsFirst new
+    → AllZip (HasJustStarted config.system) config.ports.items start → SettlesPorts (started config keys most start) new → IsFirst new
 first_made config keys most start new h k =
     let old = started config keys most start in
     let f = (ports_keep old new k).frame in
@@ -273,17 +269,15 @@ ports_made config keys most start new e limit a h k =
     })
 
 -- the same, from the table that the distributor begins with
-pub started_by : (config : Config) (keys : List Key) (most : Option ℕ) (start : List SystemPort) (t : Table) (new : SystemState)
-    → t ≡ first_table (length keys) config.conversations config.first_marker
-    → SettlesPorts (record {
+pub started_by : (config : Config) (keys : List Key) (most : Option ℕ) (start : List SystemPort)
+    (t : Table) (new : SystemState) → t ≡ first_table (length keys) config.conversations config.first_marker → SettlesPorts (record {
       system = config.system;
       max_delay = config.max_delay;
       first_marker = t.first;
       conversations = t.conversations;
       keys = keys;
       max_links = most;
-      ports =
-          config.ports.items;
+      ports = config.ports.items;
       system_ports = start;
       table = t;
     }) new → SettlesPorts (started config keys most start) new

@@ -120,19 +120,16 @@ pub choosing_within : (aggs : AggregatorsValue) (old new : List SystemPort) → 
     → WithinLimit aggs.max_links (views new)
 choosing_within aggs old new h w =
     let P : List SystemPort → Type 0 = λ l. WithinLimit aggs.max_links (views l) in
-    subst P (sym h.2)
-    (choices_keep aggs P (λ l i s e q. choice_within aggs l i s (aggregator_for aggs.keys l s) e (set_itself l i s e) q) (length h.0) h.0
-    (promotions_keep aggs P (λ agg l m x q. subst P (sym x.4)
-    (selected_within aggs.max_links l x.0 x.1 agg (is_aggregator aggs.keys agg) ((is_next aggs (views l) agg x.0 x.2).room) q))
-    (length aggs.keys) old h.0 h.1 w))
+    subst P (sym h.2) (choices_keep aggs P (λ l i s e q. choice_within aggs l i s (aggregator_for aggs.keys l s) e (set_itself l i s e) q)
+    (length h.0) h.0 (promotions_keep aggs P (λ agg l m x q. subst P (sym x.4) (selected_within aggs.max_links l x.0 x.1 agg
+    (is_aggregator aggs.keys agg) ((is_next aggs (views l) agg x.0 x.2).room) q)) (length aggs.keys) old h.0 h.1 w))
 
 none_counted : (agg : AggId) (l : List SystemPort) → AllByRecursion (λ s. s.port.choice ≡ Unselected) l → count agg l ≡ 0
 none_counted agg [] h = refl
 none_counted agg (s ∷ ss) h = ap (λ c. cond (has_chosen agg c) (suc (count agg ss)) (count agg ss)) h.0 ∙ none_counted agg ss h.1
 
 -- where all are UNSELECTED
-pub none_within : (max_links : Option ℕ) (l : List SystemPort) → AllByRecursion (λ s. s.port.choice ≡ Unselected) l
-    → WithinLimit max_links (views l)
+pub none_within : (max_links : Option ℕ) (l : List SystemPort) → AllByRecursion (λ s. s.port.choice ≡ Unselected) l → WithinLimit max_links (views l)
 none_within max_links l h = grind (arith, nat_tests, counted, none_counted)
 
 -- which aggregator has none that comes next
@@ -140,8 +137,7 @@ none_within max_links l h = grind (arith, nat_tests, counted, none_counted)
 abbrev pub NoneNext : AggregatorsValue → AggId → List SystemPort → Type 0
 NoneNext aggs agg l = (has_room aggs (views l) agg ≡ false) ⊎ NoneStandsBy agg (views l)
 
-below_less : (max_links : Option ℕ) (k : Bool) (m n : ℕ) → m ≤ n → (k && is_below max_links m) ≡ false
-    → (k && is_below max_links n) ≡ false
+below_less : (max_links : Option ℕ) (k : Bool) (m n : ℕ) → m ≤ n → (k && is_below max_links m) ≡ false → (k && is_below max_links n) ≡ false
 below_less max_links k m n l h = grind (arith, nat_tests)
 
 room_less : (aggs : AggregatorsValue) (agg : AggId) (l m : List SystemPort) → count agg l ≤ count agg m
@@ -155,8 +151,7 @@ stands_set agg (x ∷ xs) zero t e h = (e, h.1)
 stands_set agg (x ∷ xs) (suc i) t e h = (h.0, stands_set agg xs i t e h.1)
 
 -- a promotion keeps it in every aggregator
-pub next_stands : (aggs : AggregatorsValue) (agg : AggId) (l m : List SystemPort) (h : PromotesNext aggs agg l m)
-    → h.1.port.choice ≡ Standby agg
+pub next_stands : (aggs : AggregatorsValue) (agg : AggId) (l m : List SystemPort) (h : PromotesNext aggs agg l m) → h.1.port.choice ≡ Standby agg
 next_stands aggs agg l m h =
     let n = is_next aggs (views l) agg h.0 h.2 in
     ap (λ (v : PortView). v.choice) (same_Some (selection_view h.1) n.port (sym (seen l h.0 h.1 h.3) ∙ n.there)) ∙ n.standby
@@ -216,8 +211,7 @@ taken_none aggs l i s agg false e g u a q =
       | inl r ↦ inl (room_less aggs a l (slice_set l i t) more r)
       | inr n ↦ elim (cases_Bool (agg.0 == a.0)) [
         | inl same ↦ (let number : agg.0 ≡ a.0 = eqb-true agg.0 a.0 same in
-            inl (room_less aggs a l (slice_set l i t) more
-            (subst (λ k. has_room aggs (views l) (aggregator_numbered k) ≡ false) number e)))
+            inl (room_less aggs a l (slice_set l i t) more (subst (λ k. has_room aggs (views l) (aggregator_numbered k) ≡ false) number e)))
         | inr other ↦ inr (stands_set a l i t other n)
       ]
     ]
@@ -229,10 +223,8 @@ choice_none aggs l i s None k e a q = subst (NoneNext aggs a) (sym (set_itself l
 choice_none aggs l i s (Some agg) k e a q = grind (arith, nat_tests, may_then, taken_none, unselected)
 
 pub choosing_none : (aggs : AggregatorsValue) (old new : List SystemPort) → ChoosesIn aggs old new → (a : AggId) → NoneNext aggs a new
-choosing_none aggs old new h a =
-    subst (NoneNext aggs a) (sym h.2)
-    (choices_keep aggs (NoneNext aggs a) (λ l i s e q. choice_none aggs l i s (aggregator_for aggs.keys l s) refl e a q) (length h.0) h.0
-    (all_promoted aggs old h.0 h.1 a))
+choosing_none aggs old new h a = subst (NoneNext aggs a) (sym h.2) (choices_keep aggs (NoneNext aggs a)
+    (λ l i s e q. choice_none aggs l i s (aggregator_for aggs.keys l s) refl e a q) (length h.0) h.0 (all_promoted aggs old h.0 h.1 a))
 
 -- lists whose ports have the same values of Selected, place by place
 abbrev pub SameChoices : List SystemPort → List SystemPort → Type 0
@@ -251,8 +243,7 @@ same_stands agg [] (y ∷ ys) h n = absurd h
 same_stands agg (x ∷ xs) [] h n = absurd h
 same_stands agg (x ∷ xs) (y ∷ ys) h n = (ap (stands_by agg) h.0 ∙ n.0, same_stands agg xs ys h.1 n.1)
 
-pub same_none : (aggs : AggregatorsValue) (xs ys : List SystemPort) → SameChoices xs ys → (a : AggId) → NoneNext aggs a xs
-    → NoneNext aggs a ys
+pub same_none : (aggs : AggregatorsValue) (xs ys : List SystemPort) → SameChoices xs ys → (a : AggId) → NoneNext aggs a xs → NoneNext aggs a ys
 same_none aggs xs ys h a q = elim q [
   | inl r ↦ inl (room_less aggs a xs ys (same_count a xs ys h) r)
   | inr n ↦ inr (same_stands a xs ys h n)
@@ -268,8 +259,7 @@ pub settled_none : (aggs : AggregatorsValue) (R S : Machines → Machines → Ty
     → ((p q : Machines) → S p q → q.choice ≡ p.choice) → (one two four five : List SystemPort) → ChoosesIn aggs one two
     → PortsChangeBy R two four → PortsChangeBy S four five → NoneIsNext aggs (views five)
 settled_none aggs R S k m one two four five h r s a =
-    nothing_is_next aggs (views five) a
-    (zip_none aggs S m four five s a (zip_none aggs R k two four r a (choosing_none aggs one two h a)))
+    nothing_is_next aggs (views five) a (zip_none aggs S m four five s a (zip_none aggs R k two four r a (choosing_none aggs one two h a)))
 
 -- where none comes next, step 2 promotes none
 pub nothing_promoted : (aggs : AggregatorsValue) (n : ℕ) (l : List SystemPort) → NoneIsNext aggs (views l) → PromotesFirst aggs n l l

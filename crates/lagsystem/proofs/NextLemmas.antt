@@ -29,9 +29,8 @@ fewer_standby agg (x ∷ xs) (suc i) s e h = grind (arith, nat_tests, fewer_stan
 -- one STANDBY port of the aggregator fewer
 pub promoted_fewer : (aggs : AggregatorsValue) (agg : AggId) (l m : List SystemPort) → PromotesNext aggs agg l m
     → count_standby agg m + 1 ≡ count_standby agg l
-promoted_fewer aggs agg l m h =
-    subst (λ x. count_standby agg x + 1 ≡ count_standby agg l) (sym h.4)
-    (fewer_standby agg l h.0 h.1 h.3 (ap (stands_by agg) (next_stands aggs agg l m h) ∙ itself agg.0))
+promoted_fewer aggs agg l m h = subst (λ x. count_standby agg x + 1 ≡ count_standby agg l)
+    (sym h.4) (fewer_standby agg l h.0 h.1 h.3 (ap (stands_by agg) (next_stands aggs agg l m h) ∙ itself agg.0))
 
 -- so in one aggregator more
 pub promoted_more : (aggs : AggregatorsValue) (n : ℕ) (start l m : List SystemPort) → PromotesFirst aggs n start l

@@ -35,8 +35,7 @@ none_before (x ∷ xs) (y ∷ ys) h e =
     let both = or_parts (is_unselected y.port.choice) (one_unselected ys) e in
     ap (λ c. is_unselected c || one_unselected xs) (sym h.0) ∙ ap (λ b. b || one_unselected xs) both.0 ∙ none_before xs ys h.1 both.1
 
-next_kept : (aggs : AggregatorsValue) (xs ys : List SystemPort) → EachLeaves xs ys → NextOnlyIfUnselected aggs xs
-    → NextOnlyIfUnselected aggs ys
+next_kept : (aggs : AggregatorsValue) (xs ys : List SystemPort) → EachLeaves xs ys → NextOnlyIfUnselected aggs xs → NextOnlyIfUnselected aggs ys
 next_kept aggs xs ys h k none a = grind (arith, all_kept, nothing_is_next, views, same_none, none_is_next, none_before)
 
 -- each port changes

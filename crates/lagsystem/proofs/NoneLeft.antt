@@ -11,8 +11,7 @@ use Rattle.lagsystem.proofs.SettlingLemmas.{set_same}
 
 -- places of a list
 
-get_other : (system_ports : List SystemPort) (n j : ℕ) (x : SystemPort) → j < n
-    → slice_get (slice_set system_ports n x) j ≡ slice_get system_ports j
+get_other : (system_ports : List SystemPort) (n j : ℕ) (x : SystemPort) → j < n → slice_get (slice_set system_ports n x) j ≡ slice_get system_ports j
 get_other [] n j x l = refl
 get_other (s ∷ ss) zero j x l = absurd (omega (arith, l))
 get_other (s ∷ ss) (suc n) zero x l = refl
@@ -37,8 +36,7 @@ length_choose : (aggs : AggregatorsValue) (system_ports : List SystemPort) (i : 
     → length (after_choice_at aggs system_ports i o) ≡ length system_ports
 length_choose aggs system_ports i o = grind (arith, nat_tests, length_set, with_choice, choice_for)
 
-length_chosen : (aggs : AggregatorsValue) (n : ℕ) (system_ports : List SystemPort)
-    → length (after_choices aggs n system_ports) ≡ length system_ports
+length_chosen : (aggs : AggregatorsValue) (n : ℕ) (system_ports : List SystemPort) → length (after_choices aggs n system_ports) ≡ length system_ports
 length_chosen aggs zero system_ports = refl
 length_chosen aggs (suc n) system_ports = grind (arith, nat_tests, length_choose, length_chosen aggs n system_ports)
 
@@ -65,13 +63,11 @@ takes_is keys system_ports j t r e = ap (λ o. if may_choose t then chosen_for_v
     (find_here 0 system_ports j t r e)
 
 none_then : (keys : List Key) (system_ports : List SystemPort) (i j : ℕ) (s t : SystemPort) (a : Choice)
-    → Rises 0 (port_numbers system_ports) → slice_get system_ports i ≡ Some s → s.port.choice ≡ Unselected
-    → slice_get system_ports j ≡ Some t → j < i → aggregator_for keys system_ports t ≡ None
-    → aggregator_for keys (slice_set system_ports i (with_choice s (Some a))) t ≡ None
+    → Rises 0 (port_numbers system_ports) → slice_get system_ports i ≡ Some s → s.port.choice ≡ Unselected → slice_get system_ports j ≡ Some t
+    → j < i → aggregator_for keys system_ports t ≡ None → aggregator_for keys (slice_set system_ports i (with_choice s (Some a))) t ≡ None
 none_then keys system_ports i j s t a r e u g l h =
     let later : List SystemPort = slice_set system_ports i (with_choice s (Some a)) in
-    let rise : Rises 0 (port_numbers later) = subst (λ ns. Rises 0 ns)
-    (sym (numbers_set system_ports i s (with_choice s (Some a)) e refl)) r in
+    let rise : Rises 0 (port_numbers later) = subst (λ ns. Rises 0 ns) (sym (numbers_set system_ports i s (with_choice s (Some a)) e refl)) r in
     let b : Bool = is_eligible (selection_view t) in
     let x : Option AggId = chosen_if_eligible keys (views system_ports) (selection_view t) in
     let y : Option AggId = chosen_if_eligible keys (views later) (selection_view t) in
@@ -90,8 +86,7 @@ not_unselected room agg b d e = grind (arith, nat_tests)
 
 -- each of the first n finds none
 abbrev Found_none : List Key → ℕ → List SystemPort → Type 0
-Found_none keys n system_ports = (j : ℕ) (t : SystemPort) → j < n → slice_get system_ports j ≡ Some t
-    → aggregator_for keys system_ports t ≡ None
+Found_none keys n system_ports = (j : ℕ) (t : SystemPort) → j < n → slice_get system_ports j ≡ Some t → aggregator_for keys system_ports t ≡ None
 
 one_taken : (aggs : AggregatorsValue) (system_ports : List SystemPort) (n : ℕ) (s : SystemPort) (o : Option AggId)
     → aggregator_for aggs.keys system_ports s ≡ o → slice_get system_ports n ≡ Some s → Rises 0 (port_numbers system_ports)
@@ -117,11 +112,9 @@ one_taken aggs system_ports n s (Some a) w e r k j t l g =
     elim (below_or_at j n l) [
       | inl h ↦ let there : slice_get system_ports j ≡ Some t = sym (get_other system_ports n j (with_choice s (Some c)) h)
           ∙ g in none_then keys system_ports n j s t c r e u there h (k j t h there)
-      | inr h ↦ let is : t ≡ with_choice s (Some c) = get_here system_ports n (with_choice s (Some c)) t
-          (ap (slice_get later) (sym h) ∙ g) in
-          subst (λ (x : SystemPort). aggregator_for keys later x ≡ None) (sym is)
-          (not_when (may_choose (with_choice s (Some c)))
-          (chosen_aggregator keys (views later) s.number) (not_unselected room a _ _ _))
+      | inr h ↦ let is : t ≡ with_choice s (Some c) = get_here system_ports n (with_choice s (Some c)) t (ap (slice_get later) (sym h) ∙ g) in
+          subst (λ (x : SystemPort). aggregator_for keys later x ≡ None)
+          (sym is) (not_when (may_choose (with_choice s (Some c))) (chosen_aggregator keys (views later) s.number) (not_unselected room a _ _ _))
     ]
 
 one_chosen : (aggs : AggregatorsValue) (system_ports : List SystemPort) (n : ℕ) (o : Option SystemPort) → slice_get system_ports n ≡ o
@@ -145,20 +138,17 @@ each_place P (s ∷ ss) k = (k 0 s refl, each_place P ss (λ j t e. k (suc j) t 
 abbrev pub TakesNone : List Key → List PortView → PortView → Bool → Type 0
 TakesNone keys seen v held = (if is_eligible v && not held then chosen_if_eligible keys seen v else None) ≡ None
 
-when_twice : (b d : Bool) (x : Option AggId) → (if b && d then (if b then x else None) else None) ≡ None
-    → (if b && d then x else None) ≡ None
+when_twice : (b d : Bool) (x : Option AggId) → (if b && d then (if b then x else None) else None) ≡ None → (if b && d then x else None) ≡ None
 when_twice b d x h = grind (arith, nat_tests)
 
-when_again : (b d : Bool) (x : Option AggId) → (if b && d then x else None) ≡ None
-    → (if b && d then (if b then x else None) else None) ≡ None
+when_again : (b d : Bool) (x : Option AggId) → (if b && d then x else None) ≡ None → (if b && d then (if b then x else None) else None) ≡ None
 when_again b d x h = grind (arith, nat_tests)
 
 pub taken_none : (keys : List Key) (system_ports : List SystemPort) → Rises 0 (port_numbers system_ports)
     → AllByRecursion (λ t. TakesNone keys (views system_ports) (selection_view t) t.held) system_ports
     → (j : ℕ) (t : SystemPort) → slice_get system_ports j ≡ Some t → aggregator_for keys system_ports t ≡ None
-taken_none keys system_ports r all j t e =
-    takes_is keys system_ports j t r e
-    ∙ when_again (is_eligible (selection_view t)) (not t.held) (chosen_if_eligible keys (views system_ports) (selection_view t))
+taken_none keys system_ports r all j t e = takes_is keys system_ports j t r e ∙ when_again
+    (is_eligible (selection_view t)) (not t.held) (chosen_if_eligible keys (views system_ports) (selection_view t))
     (all-get (λ t. TakesNone keys (views system_ports) (selection_view t) t.held) system_ports j t e all)
 
 -- each port, when all have chosen
@@ -171,6 +161,5 @@ none_takes aggs system_ports r =
     let rise : Rises 0 (port_numbers last) = subst (λ ns. Rises 0 ns) (sym (chosen_numbers aggs (length system_ports) system_ports)) r in
     each_place (λ t. TakesNone keys (views last) (selection_view t) t.held) last
     (λ j t e. when_twice (is_eligible (selection_view t)) (not t.held) (chosen_if_eligible keys (views last) (selection_view t))
-    (sym (takes_is keys last j t rise e)
-    ∙ all_chosen aggs (length system_ports) system_ports r j t
+    (sym (takes_is keys last j t rise e) ∙ all_chosen aggs (length system_ports) system_ports r j t
     (subst (λ m. j < m) (length_chosen aggs (length system_ports) system_ports) (get_within last j t e)) e))

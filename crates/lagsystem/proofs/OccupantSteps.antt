@@ -80,9 +80,8 @@ settling_placed old new r h p =
     let aggs = aggregators_value old in
     let rise = subst (λ ns. Rises 0 ns) (sym (zip_numbers (RunsToRest (mux_rows false)) old.system_ports s.one s.stops)) r in
     subst (λ a. ArePlaced a new.system_ports) (sym (ap aggregators_value (settling_keeps old new h).frame))
-    (zip_on RunsPeriodic periodic_stays aggs s.four new.system_ports s.paces
-    (zip_on (RunsReady old.keys (views s.two)) (λ p q x. mux_stays (ready_of old.keys (views s.two) p.choice) p q x) aggs s.two s.four s.runs
-    (choosing_on aggs s.one s.two rise s.chooses
+    (zip_on RunsPeriodic periodic_stays aggs s.four new.system_ports s.paces (zip_on (RunsReady old.keys (views s.two))
+    (λ p q x. mux_stays (ready_of old.keys (views s.two) p.choice) p q x) aggs s.two s.four s.runs (choosing_on aggs s.one s.two rise s.chooses
     (zip_on (RunsToRest (mux_rows false)) (mux_stays false) aggs old.system_ports s.one s.stops p))))
 
 -- the calls

@@ -12,8 +12,7 @@ use Rattle.lagsystem.proofs.Effects.{named}
 
 -- a port that becomes UNSELECTED, or keeps Selected and both parties
 abbrev pub LeavesOrStays : Machines → Machines → Type 0
-LeavesOrStays p q = (q.choice ≡ Unselected)
-    ⊎ ((q.choice ≡ p.choice) × (q.party ≡ p.party) × (party_of q.partner ≡ party_of p.partner))
+LeavesOrStays p q = (q.choice ≡ Unselected) ⊎ ((q.choice ≡ p.choice) × (q.party ≡ p.party) × (party_of q.partner ≡ party_of p.partner))
 
 pub stays : (p : Machines) → LeavesOrStays p p
 stays p = inr (refl, refl, refl)
@@ -33,12 +32,9 @@ runs_stay = Rests-relates LeavesOrStays (record { same = λ p q e. subst (Leaves
 synchronization_set : (b : Bool) (info : Info) → party_of (record info { state = with_synchronization b info.state }) ≡ party_of info
 synchronization_set b info = ap (named info) (encode_then_decode (record (bits_of info.state) { synchronization = b }))
 
-expired_set : (info : Info)
-    → party_of (record info { state = with_timeout true (with_synchronization false info.state) }) ≡ party_of info
-expired_set info =
-    ap (named info) (encode_then_decode (record (bits_of (with_synchronization false info.state)) { timeout = true }))
-    ∙ ap (λ (b : StateBits). named info (record b { timeout = true }))
-    (encode_then_decode (record (bits_of info.state) { synchronization = false }))
+expired_set : (info : Info) → party_of (record info { state = with_timeout true (with_synchronization false info.state) }) ≡ party_of info
+expired_set info = ap (named info) (encode_then_decode (record (bits_of (with_synchronization false info.state)) { timeout = true }))
+    ∙ ap (λ (b : StateBits). named info (record b { timeout = true })) (encode_then_decode (record (bits_of info.state) { synchronization = false }))
 
 -- Selected stays only where the partner's party does
 unless_same : (b : Bool) (c : Choice) (own was now : Party) → (b ≡ true → now ≡ was)
@@ -108,9 +104,7 @@ taking_stays v p q h = elim h [
 
 -- a start leaves every aggregator
 pub starts_unselected : (p q : Machines) → Starts p q → q.choice ≡ Unselected
-starts_unselected p q h =
-    ap (λ (m : Machines). m.choice) h.2
-    ∙ elim (receive_stays (start_receive p) h.0 h.1) [ inl e ↦ e | inr e ↦ e.0 ]
+starts_unselected p q h = ap (λ (m : Machines). m.choice) h.2 ∙ elim (receive_stays (start_receive p) h.0 h.1) [ inl e ↦ e | inr e ↦ e.0 ]
 
 pub configure_stays : (change : PortChange) (p q : Machines) → ChangesParty change p q → LeavesOrStays p q
 configure_stays change p q h = inl (starts_unselected (record p { party = changed_party change p.party }) q h.1)
@@ -121,8 +115,7 @@ sending_stays p = stays p
 -- lists of ports, place by place
 
 abbrev pub EachStays : List SystemPort → List SystemPort → Type 0
-EachStays old new = (j : ℕ) (t : SystemPort) → slice_get new j ≡ Some t
-    → (s : SystemPort) × (slice_get old j ≡ Some s) × LeavesOrStays s.port t.port
+EachStays old new = (j : ℕ) (t : SystemPort) → slice_get new j ≡ Some t → (s : SystemPort) × (slice_get old j ≡ Some s) × LeavesOrStays s.port t.port
 
 pub zip_stay : (R : Machines → Machines → Type 0) → ((p q : Machines) → R p q → LeavesOrStays p q) → (xs ys : List SystemPort)
     → PortsChangeBy R xs ys → EachStays xs ys
@@ -220,8 +213,7 @@ joining_agrees keys l i s agg c e oc m a =
     λ g t is o. same_Some agg.0 g (sym oc ∙ sym (ap (λ (z : SystemPort). occupied z.port.choice) is) ∙ o) in record {
       key = λ j g t h o. elim (set_cases l i j x t h) [
         | inl n ↦ subst (λ (z : SystemPort). key_of keys g ≡ Some z.port.party.key) (sym n.1)
-            (subst (λ k. key_of keys k ≡ Some s.port.party.key) (number g t n.1 o)
-            (key_there keys agg.0 s.port.party.key m.numbered m.key))
+            (subst (λ k. key_of keys k ≡ Some s.port.party.key) (number g t n.1 o) (key_there keys agg.0 s.port.party.key m.numbered m.key))
         | inr w ↦ a.key j g t w.1 o
       ];
       apart = λ j g t h o. elim (set_cases l i j x t h) [
@@ -232,9 +224,8 @@ joining_agrees keys l i s agg c e oc m a =
         | inl n ↦ elim (set_cases l i k x u f) [
           | inl n' ↦ absurd (ne (n.0 ∙ sym n'.0))
           | inr w' ↦ (let both = shares keys l s u agg k m w'.1 (r ∙ ap (λ q. Some q) (sym (number g t n.1 o))) in
-              subst (λ (z : SystemPort). SamePair (ends (selection_view z)) (ends (selection_view u))
-              × (individual z.port.party (party_of z.port.partner) ≡ false)) (sym n.1)
-              (group_sym (ends (selection_view u)) (ends (selection_view s)) both.0, both.1))
+              subst (λ (z : SystemPort). SamePair (ends (selection_view z)) (ends (selection_view u)) × (individual z.port.party
+              (party_of z.port.partner) ≡ false)) (sym n.1) (group_sym (ends (selection_view u)) (ends (selection_view s)) both.0, both.1))
         ]
         | inr w ↦ elim (set_cases l i k x u f) [
           | inl n' ↦ (let both = shares keys l s t agg j m w.1 (o ∙ ap (λ q. Some q) (sym (number g u n'.1 r))) in

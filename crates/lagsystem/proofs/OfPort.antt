@@ -7,8 +7,7 @@ use Rattle.lagsystem.proofs.Common.{number_of_port}
 
 abbrev pub AllPortAllowed : SystemSetup → ModelCall → ℕ → List PortMove → PortFacts → Type 0
 AllPortAllowed u call p [] a = Unit {0}
-AllPortAllowed u call p (m ∷ ms) a =
-    ((ports : ℕ → Option PortFacts) → PortAllowed u call ports p m a) × AllPortAllowed u call p ms (port_after m a)
+AllPortAllowed u call p (m ∷ ms) a = ((ports : ℕ → Option PortFacts) → PortAllowed u call ports p m a) × AllPortAllowed u call p ms (port_after m a)
 
 abbrev pub after_moves : List PortMove → PortFacts → PortFacts
 after_moves [] a = a
@@ -20,8 +19,7 @@ port_acts p (m ∷ ms) a = option_to_list (port_act p m a) ++ port_acts p ms (po
 
 -- a port goes by moves that are allowed whatever the other ports are
 abbrev pub PortMoves : SystemSetup → ModelCall → ℕ → PortFacts → List Act → PortFacts → Type 0
-PortMoves u call p a seen b =
-    (ms : List PortMove) × AllPortAllowed u call p ms a × (port_acts p ms a ≡ seen) × (b ≡ after_moves ms a)
+PortMoves u call p a seen b = (ms : List PortMove) × AllPortAllowed u call p ms a × (port_acts p ms a ≡ seen) × (b ≡ after_moves ms a)
 
 all_joined : (u : SystemSetup) (call : ModelCall) (p : ℕ) (xs ys : List PortMove) (a : PortFacts) → AllPortAllowed u call p xs a
     → AllPortAllowed u call p ys (after_moves xs a) → AllPortAllowed u call p (xs ++ ys) a
@@ -32,8 +30,7 @@ after_joined : (xs ys : List PortMove) (a : PortFacts) → after_moves (xs ++ ys
 after_joined [] ys a = refl
 after_joined (m ∷ xs) ys a = after_joined xs ys (port_after m a)
 
-acts_joined : (p : ℕ) (xs ys : List PortMove) (a : PortFacts) → port_acts p (xs ++ ys) a ≡ port_acts p xs a
-    ++ port_acts p ys (after_moves xs a)
+acts_joined : (p : ℕ) (xs ys : List PortMove) (a : PortFacts) → port_acts p (xs ++ ys) a ≡ port_acts p xs a ++ port_acts p ys (after_moves xs a)
 acts_joined p [] ys a = refl
 acts_joined p (m ∷ xs) ys a = grind (arith, nat_tests, acts_joined p xs ys (port_after m a))
 
@@ -48,8 +45,7 @@ port_stays u call p a b e = ([], tt, refl, e)
 stays_there : (ports : ℕ → Option PortFacts) (p : ℕ) (a : PortFacts) → ports p ≡ Some a → (q : ℕ) → at_port ports p (λ z. a) q ≡ ports q
 stays_there ports p a h q = grind (arith, nat_tests)
 
-written : (ports : ℕ → Option PortFacts) (p : ℕ) (a : PortFacts) (f : PortFacts → PortFacts) → ports p ≡ Some a
-    → at_port ports p f p ≡ Some (f a)
+written : (ports : ℕ → Option PortFacts) (p : ℕ) (a : PortFacts) (f : PortFacts → PortFacts) → ports p ≡ Some a → at_port ports p f p ≡ Some (f a)
 written ports p a f h = cond_true (eqb p p) (option_map f (ports p)) (ports p) (eq-eqb p p refl) ∙ ap (option_map f) h
 
 twice : (b : Bool) (o : Option PortFacts) (f : PortFacts → PortFacts) (c : PortFacts)
@@ -58,8 +54,7 @@ twice : (b : Bool) (o : Option PortFacts) (f : PortFacts → PortFacts) (c : Por
 twice b o f c = grind (arith, nat_tests)
 
 places : (u : SystemSetup) (call : ModelCall) (p : ℕ) (ms : List PortMove) (v : View) (a : PortFacts) → v.port p ≡ Some a
-    → AllPortAllowed u call p ms a
-    → LawfulMoves u call v (port_acts p ms a) (record v { port = at_port v.port p (λ z. after_moves ms a) })
+    → AllPortAllowed u call p ms a → LawfulMoves u call v (port_acts p ms a) (record v { port = at_port v.port p (λ z. after_moves ms a) })
 places u call p [] v a h x = ([], tt, refl, λ i. record v { port = λ q. stays_there v.port p a h q i })
 places u call p (m ∷ ms) v a h x =
     let mid : View = record v { port = at_port v.port p (port_after m) } in
@@ -67,9 +62,8 @@ places u call p (m ∷ ms) v a h x =
     let end : View = record mid { port = at_port mid.port p (λ z. after_moves ms (port_after m a)) } in
     let same : end ≡ record v { port = at_port v.port p (λ z. after_moves ms (port_after m a)) } =
     λ i. record v { port = λ q. twice (eqb q p) (v.port q) (port_after m) (after_moves ms (port_after m a)) i } in
-    subst (λ w. LawfulMoves u call v (port_acts p (m ∷ ms) a) w) same
-    (moves_joined u call v mid end (option_to_list (port_act p m a)) (port_acts p ms (port_after m a))
-    (moves_port u call v p m a h (x.0 v.port)) rest)
+    subst (λ w. LawfulMoves u call v (port_acts p (m ∷ ms) a) w) same (moves_joined u call v mid end
+    (option_to_list (port_act p m a)) (port_acts p ms (port_after m a)) (moves_port u call v p m a h (x.0 v.port)) rest)
 
 -- one port of a list moves
 pub slot_moves : (u : SystemSetup) (call : ModelCall) (f : DistributorFacts) (system_ports : List SystemPort) (i : ℕ) (x y : SystemPort)
@@ -79,11 +73,9 @@ pub slot_moves : (u : SystemSetup) (call : ModelCall) (f : DistributorFacts) (sy
 slot_moves u call f system_ports i x y seen n h e z =
     let v : View = model_view_at f system_ports in
     let there : v.port x.number ≡ Some (model_port_of x) = ap (option_map model_port_of) (find_at number_of_port system_ports i x n h) in
-    let same : model_view_at f (slice_set system_ports i y) ≡ record v
-    { port = at_port v.port x.number (λ a. after_moves z.0 (model_port_of x)) } =
+    let same : model_view_at f (slice_set system_ports i y) ≡ record v { port = at_port v.port x.number (λ a. after_moves z.0 (model_port_of x)) } =
     λ j. record {
-      port = λ q. ports_set number_of_port model_port_of system_ports i x y (λ a. after_moves z.0 (model_port_of x)) n h
-          e z.3 q j;
+      port = λ q. ports_set number_of_port model_port_of system_ports i x y (λ a. after_moves z.0 (model_port_of x)) n h e z.3 q j;
       flows = f;
     } in
     let all = places u call x.number z.0 v (model_port_of x) there z.1 in
@@ -120,6 +112,5 @@ from_here u call f done (x ∷ xs) (y ∷ ys) n h =
     (moves_joined u call (model_view_at f system_ports) (model_view_at f next) (model_view_at f ((done ++ y ∷ []) ++ ys)) [] [] one rest)
 
 pub all_slots_move : (u : SystemSetup) (call : ModelCall) (f : DistributorFacts) (olds news : List SystemPort)
-    → AreNumbered number_of_port olds → AllZip (SlotMoves u call) olds news
-    → LawfulMoves u call (model_view_at f olds) [] (model_view_at f news)
+    → AreNumbered number_of_port olds → AllZip (SlotMoves u call) olds news → LawfulMoves u call (model_view_at f olds) [] (model_view_at f news)
 all_slots_move u call f olds news n h = from_here u call f [] olds news n h

@@ -29,9 +29,8 @@ Carried old g was p = (was ≡ On p) ⊎ (is_among (distributing (aggregator_num
 
 pub table_carried : (old new : SystemState) → new ≡ with_table old new.table → OnlyOnDistributing old
     → ((g k p : ℕ) → assignment_of new.table g k ≡ On p → Carried old g (assignment_of old.table g k) p) → OnlyOnDistributing new
-table_carried old new f c h g k p e =
-    subst (λ (s : SystemState). is_among (distributing (aggregator_numbered g) s.system_ports) p ≡ true) (sym f)
-    (elim (h g k p e) [ inl w ↦ c g k p w | inr d ↦ d ])
+table_carried old new f c h g k p e = subst (λ (s : SystemState). is_among (distributing (aggregator_numbered g) s.system_ports) p ≡ true)
+    (sym f) (elim (h g k p e) [ inl w ↦ c g k p w | inr d ↦ d ])
 
 released : (port id p : ℕ) (a : Assignment) → after_release port id a ≡ On p → a ≡ On p
 released port id p a e = grind (arith, nat_tests)
@@ -40,8 +39,7 @@ pub marked : (port id p : ℕ) (a : Assignment) → after_mark port id a ≡ On 
 marked port id p a e = grind (arith, nat_tests)
 
 -- sending an LACPDU leaves what a port distributes in
-filtered : (b : Bool) (x y : SystemPort) (xs ys : List ℕ) → x.number ≡ y.number → xs ≡ ys
-    → cond b (x.number ∷ xs) xs ≡ cond b (y.number ∷ ys) ys
+filtered : (b : Bool) (x y : SystemPort) (xs ys : List ℕ) → x.number ≡ y.number → xs ≡ ys → cond b (x.number ∷ xs) xs ≡ cond b (y.number ∷ ys) ys
 filtered b x y xs ys e h = grind (arith, nat_tests)
 
 through : (b : Bool) (x : SystemPort) (xs : List SystemPort) → map (λ (s : SystemPort). s.number) (cond b (x ∷ xs) xs) ≡ cond b (x.number

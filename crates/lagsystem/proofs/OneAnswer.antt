@@ -42,12 +42,10 @@ party_one c p q r a h k = one_effect (PortCall.Reinit (changed_party c p.party))
 
 -- tables
 count_one : (passes : Assignment → Bool) (t u : Table) → SameConversations t u → count_conversations passes u ≡ count_conversations passes t
-count_one passes t u same i =
-    sum_below (λ a. sum_below (λ c. cond (passes (same.states (a + 1) c i)) 1 0) (same.conversations i)) (same.aggs i)
+count_one passes t u same i = sum_below (λ a. sum_below (λ c. cond (passes (same.states (a + 1) c i)) 1 0) (same.conversations i)) (same.aggs i)
 
 due_one : (t u : Table) (port : ℕ) → SameConversations t u → marker_due u port ≡ marker_due t port
-due_one t u port same i =
-    cond (ltb 0 (count_one (wants_marker port) t u same i)) (cond (ltb (same.next i) (2 ^ 32)) (Some (same.next i)) None) None
+due_one t u port same i = cond (ltb 0 (count_one (wants_marker port) t u same i)) (cond (ltb (same.next i) (2 ^ 32)) (Some (same.next i)) None) None
 
 each_changed : (f : Assignment → Assignment) (t a : Table) → ChangesAssignments t a f → Changed (λ g c. f) 0 t a
 each_changed f t a h = grind (arith, nat_tests)
@@ -85,37 +83,32 @@ no_port old u o e d new last same h k = (k.named ∙ sym h.named, stays old u ne
 -- a tick, and a change of a link
 ticks_one : (old : SystemState) (u : Table) (new last : SystemState) → ReceivesAtRest old.system_ports → SameConversations old.table u
     → ThenSettles Ticks old new → ThenSettles Ticks (with_table old u) last → SameAfter new last
-ticks_one old u new last rest same h k =
-    settlings_one h.0 k.0 new last (
-      sym (one_of_each Rests (λ p q. RunsToRest receive_rows (count_down p) q) tick_one old.system_ports h.0.system_ports
-          k.0.system_ports rest h.1.0 k.1.0),
-      changes_one after_tick old.table u h.0.table k.0.table same h.1.1 k.1.1,
-    ) (ap aggregators_value k.1.2 ∙ sym (ap aggregators_value h.1.2)) h.2 k.2
+ticks_one old u new last rest same h k = settlings_one h.0 k.0 new last (
+  sym (one_of_each Rests
+      (λ p q. RunsToRest receive_rows (count_down p) q) tick_one old.system_ports h.0.system_ports k.0.system_ports rest h.1.0 k.1.0),
+  changes_one after_tick old.table u h.0.table k.0.table same h.1.1 k.1.1,
+) (ap aggregators_value k.1.2 ∙ sym (ap aggregators_value h.1.2)) h.2 k.2
 
 frees_one : (up : Bool) (port : ℕ) (t u a b : Table) → SameConversations t u → FreesIfDown up port t a → FreesIfDown up port u b
     → SameConversations a b
 frees_one up port t u a b same h k = grind (arith, nat_tests)
 
 links_one : (n : ℕ) (up : Bool) (old : SystemState) (u : Table) (new last : SystemState) → ReceivesAtRest old.system_ports
-    → SameConversations old.table u → ThenSettles (SetsLink n up) old new → ThenSettles (SetsLink n up) (with_table old u) last
-    → SameAfter new last
-links_one n up old u new last rest same h k =
-    settlings_one h.0 k.0 new last (
-      sym (one_at Rests (SetsPortEnabled old.max_links up) (link_one old.max_links up) (port_index n old.system_ports)
-          old.system_ports h.0.system_ports k.0.system_ports rest h.1.0 k.1.0),
-      frees_one up n old.table u h.0.table k.0.table same h.1.1 k.1.1,
-    ) (ap aggregators_value k.1.2 ∙ sym (ap aggregators_value h.1.2)) h.2 k.2
+    → SameConversations old.table u → ThenSettles (SetsLink n up) old new → ThenSettles (SetsLink n up) (with_table old u) last → SameAfter new last
+links_one n up old u new last rest same h k = settlings_one h.0 k.0 new last (
+  sym (one_at Rests (SetsPortEnabled old.max_links up)
+      (link_one old.max_links up) (port_index n old.system_ports) old.system_ports h.0.system_ports k.0.system_ports rest h.1.0 k.1.0),
+  frees_one up n old.table u h.0.table k.0.table same h.1.1 k.1.1,
+) (ap aggregators_value k.1.2 ∙ sym (ap aggregators_value h.1.2)) h.2 k.2
 
 -- one port changes, and settling follows
 place_one : (R : Machines → Machines → Type 0) → LeadsToOne Rests R → (o : Option ℕ) (old : SystemState) (u : Table)
     (new last : SystemState) → ReceivesAtRest old.system_ports → SameConversations old.table u
     → ThenSettles (OnlyPortChangesBy o R) old new → ThenSettles (OnlyPortChangesBy o R) (with_table old u) last → SameAfter new last
-place_one R one o old u new last rest same h k =
-    settlings_one h.0 k.0 new last (
-      sym (one_at Rests R one o old.system_ports h.0.system_ports k.0.system_ports rest h.1.0 k.1.0),
-      stayed_one old.table u h.0.table k.0.table same (ap (λ (x : SystemState). x.table) h.1.1)
-          (ap (λ (x : SystemState). x.table) k.1.1),
-    ) (ap aggregators_value k.1.1 ∙ sym (ap aggregators_value h.1.1)) h.2 k.2
+place_one R one o old u new last rest same h k = settlings_one h.0 k.0 new last (
+  sym (one_at Rests R one o old.system_ports h.0.system_ports k.0.system_ports rest h.1.0 k.1.0),
+  stayed_one old.table u h.0.table k.0.table same (ap (λ (x : SystemState). x.table) h.1.1) (ap (λ (x : SystemState). x.table) k.1.1),
+) (ap aggregators_value k.1.1 ∙ sym (ap aggregators_value h.1.1)) h.2 k.2
 
 -- a received frame
 releases_one : (b : Bool) (port : ℕ) (m : Marker) (old : SystemState) (u : Table) (x y : Received) (new last : SystemState)
@@ -125,10 +118,8 @@ releases_one b port m old u x y new last same h k = grind (arith, nat_tests, sta
 performs_one : (effect : FrameEffect) (port : ℕ) (o : Option ℕ) (old : SystemState) (u : Table) (x y : Received) (new last : SystemState)
     → ReceivesAtRest old.system_ports → SameConversations old.table u → Performs effect port o old x new
     → Performs effect port o (with_table old u) y last → (y ≡ x) × SameAfter new last
-performs_one (ProcessLacpdu v) port o old u x y new last rest same h k = (
-  k.0 ∙ sym h.0,
-  place_one (ProcessesLacpdu v) (takes_one v) o old u new last rest same h.1 k.1,
-)
+performs_one (ProcessLacpdu v) port o old u x y new last rest same h k =
+    (k.0 ∙ sym h.0, place_one (ProcessesLacpdu v) (takes_one v) o old u new last rest same h.1 k.1)
 performs_one (Response m) port o old u x y new last rest same h k = grind (arith, nat_tests, releases_one)
 performs_one (Answered a) port o old u x y new last rest same h k = (k.0 ∙ sym h.0, stays old u new last same h.1 k.1)
 
@@ -146,12 +137,11 @@ sends_one None (Some id) port mac old u x y new last e same h k = absurd (none-s
 sends_one (Some id) None port mac old u x y new last e same h k = absurd (none-some id e)
 sends_one (Some id) (Some n) port mac old u x y new last e same h k =
     let d : n ≡ id = same_Some n id e in
-    let theirs : SendsMarkerOf (Some id) port mac (with_table old u) y last =
-    subst (λ m. SendsMarkerOf (Some m) port mac (with_table old u) y last) d k in (
+    let theirs : SendsMarkerOf
+    (Some id) port mac (with_table old u) y last = subst (λ m. SendsMarkerOf (Some m) port mac (with_table old u) y last) d k in (
       theirs.3 ∙ ap (λ l. Some (frame_octets mac l)) (one_written theirs.0 h.0 (pdu.Marker (own_marker old port id)) theirs.2 h.2) ∙ sym h.3,
-      tabled old u new last h.5 theirs.5
-          (changed_one (λ g c. after_mark port id) 1 old.table u new.table last.table same (marked port id old.table new.table h.4)
-          (marked port id u last.table theirs.4)),
+      tabled old u new last h.5 theirs.5 (changed_one (λ g c. after_mark port id) 1 old.table u new.table last.table same
+          (marked port id old.table new.table h.4) (marked port id u last.table theirs.4)),
     )
 
 transmits_if : (up due : Bool) (i : ℕ) (system_port : SystemPort) (old : SystemState) (u : Table) (x y : Option (List ℕ))
@@ -159,10 +149,8 @@ transmits_if : (up due : Bool) (i : ℕ) (system_port : SystemPort) (old : Syste
     → TransmitsIf up due i system_port (with_table old u) y last → (y ≡ x) × SameAfter new last
 transmits_if false due i system_port old u x y new last same h k = (k.0 ∙ sym h.0, stays old u new last same h.1 k.1)
 transmits_if true true i system_port old u x y new last same h k =
-    let news = slice_set old.system_ports i (record system_port { port = after_sending system_port.port }) in (
-      k.2 ∙ ap Some (lacpdu_one old.max_delay system_port k.0 h.0 k.1 h.1) ∙ sym h.2,
-      stays (with_system_ports old news) u new last same h.3 k.3,
-    )
+    let news = slice_set old.system_ports i (record system_port { port = after_sending system_port.port }) in
+    (k.2 ∙ ap Some (lacpdu_one old.max_delay system_port k.0 h.0 k.1 h.1) ∙ sym h.2, stays (with_system_ports old news) u new last same h.3 k.3)
 transmits_if true false i system_port old u x y new last same h k =
     let port = system_port.number in
     sends_one (marker_due old.table port) (marker_due u port) port system_port.mac old u x y new last (due_one old.table u port same) same h k
@@ -244,12 +232,8 @@ next_one t u same i = cond (ltb (same.next i) (2 ^ 32)) (Some (same.next i)) Non
 moves_one : (old : SystemState) (u : Table) (agg : AggId) (conv port : ℕ) → SameConversations old.table u
     → system_move_result (with_table old u) agg conv port ≡ system_move_result old agg conv port
 moves_one old u agg conv port same i =
-    if has_aggregator old agg
-    then (if is_some (port_index port old.system_ports)
-    then in_system (or_not_assigned old conv (move_result (next_one old.table u same i) (distributing agg old.system_ports) port
-    (same.states agg.0 conv i)))
-    else Err NoPort)
-    else Err NoAggregator
+    if has_aggregator old agg then (if is_some (port_index port old.system_ports) then in_system (or_not_assigned old conv (move_result
+    (next_one old.table u same i) (distributing agg old.system_ports) port (same.states agg.0 conv i))) else Err NoPort) else Err NoAggregator
 
 forces_one : (old : SystemState) (u : Table) (agg : AggId) (conv : ℕ) → SameConversations old.table u
     → system_force_result (with_table old u) agg conv ≡ system_force_result old agg conv
@@ -278,8 +262,7 @@ no_sender o old x new e h = grind (arith, nat_tests)
 abbrev Restarts : SystemState → SystemState → Type 0
 Restarts old new = (new ≡ with_table (with_system_ports old new.system_ports) new.table) × IsFirst new
 
-restarts_one : (old : SystemState) (u : Table) (new last : SystemState) → Restarts old new → Restarts (with_table old u) last
-    → SameAfter new last
+restarts_one : (old : SystemState) (u : Table) (new last : SystemState) → Restarts old new → Restarts (with_table old u) last → SameAfter new last
 restarts_one old u new last h k =
     let frame : last ≡ with_table (with_system_ports new last.system_ports) last.table =
     k.0 ∙ ap (λ (s : SystemState). with_table (with_system_ports s last.system_ports) last.table) (sym h.0) in

@@ -17,11 +17,8 @@ stayed old twin new last same h k = subst (λ s. SameState s last) (sym h) (subs
 one_if_held : (gives : ℕ → ℕ → ℕ → Type 0) → IsFunction gives → (port : ℕ) (agg : AggId) (conv : ℕ) (old twin : SystemState) (a b : Bool)
     (new last : SystemState) → PortsAgree old → SameState old twin → ForcesIfHeld gives port agg conv old a new
     → ForcesIfHeld gives port agg conv twin b last → (b ≡ a) × SameState new last × PortsAgree new
-one_if_held gives one port agg conv old twin true true new last agrees same h k = (
-  refl,
-  (one_answer gives one old twin (Force agg conv) (reply.Force (Ok tt)) (reply.Force (Ok tt)) new last agrees same h.1 k.1).1,
-  h.1.agrees,
-)
+one_if_held gives one port agg conv old twin true true new last agrees same h k =
+    (refl, (one_answer gives one old twin (Force agg conv) (reply.Force (Ok tt)) (reply.Force (Ok tt)) new last agrees same h.1 k.1).1, h.1.agrees)
 one_if_held gives one port agg conv old twin true false new last agrees same h k = grind arith
 one_if_held gives one port agg conv old twin false true new last agrees same h k = grind arith
 one_if_held gives one port agg conv old twin false false new last agrees same h k = grind arith
@@ -36,8 +33,7 @@ one_in gives one port agg (suc count) old twin n m new last agrees same h k =
     (k.5 ∙ (λ i. before.0 i + cond (own.0 i) 1 0) ∙ sym h.5, own.1, own.2)
 
 one_first : (gives : ℕ → ℕ → ℕ → Type 0) → IsFunction gives → (port count : ℕ) (old twin : SystemState) (n m : ℕ) (new last : SystemState)
-    → PortsAgree old → SameState old twin → ForcesFirst gives port count old n new → ForcesFirst gives port count twin m last
-    → Same n m new last
+    → PortsAgree old → SameState old twin → ForcesFirst gives port count old n new → ForcesFirst gives port count twin m last → Same n m new last
 one_first gives one port zero old twin n m new last agrees same h k = grind arith
 one_first gives one port (suc count) old twin n m new last agrees same h k =
     let before = one_first gives one port count old twin h.1 k.1 h.0 k.0 agrees same h.3 k.3 in

@@ -115,13 +115,11 @@ holds old new h = grind (arith, nat_tests)
 pub settlings_one : (s t new last : SystemState) → SameAfter s t → aggregators_value t ≡ aggregators_value s → Settling s new
     → Settling t last → SameAfter new last
 settlings_one s t new last same aggs h k =
-    let theirs : SettlesIn (aggregators_value s) s.system_ports last.system_ports =
-    subst (λ l. SettlesIn (aggregators_value s) l last.system_ports) same.0
-    (subst (λ a. SettlesIn a t.system_ports last.system_ports) aggs (settling_in t last k)) in
-    let ports : new.system_ports ≡ last.system_ports = settled_one (aggregators_value s) s.system_ports new.system_ports
-    last.system_ports (settling_in s new h) theirs in (
+    let theirs : SettlesIn (aggregators_value s) s.system_ports last.system_ports = subst (λ l. SettlesIn
+    (aggregators_value s) l last.system_ports) same.0 (subst (λ a. SettlesIn a t.system_ports last.system_ports) aggs (settling_in t last k)) in
+    let ports : new.system_ports ≡ last.system_ports = settled_one (aggregators_value s) s.system_ports new.system_ports last.system_ports
+    (settling_in s new h) theirs in (
       sym ports,
-      changed_one _ 0 s.table t.table new.table last.table same.1 (holds s new h)
-          (subst (λ l. Changed (λ g k x. held_unless_on (distributing (aggregator_numbered g) l) x) 0 t.table last.table) (sym ports)
-          (holds t last k)),
+      changed_one _ 0 s.table t.table new.table last.table same.1 (holds s new h) (subst
+          (λ l. Changed (λ g k x. held_unless_on (distributing (aggregator_numbered g) l) x) 0 t.table last.table) (sym ports) (holds t last k)),
     )

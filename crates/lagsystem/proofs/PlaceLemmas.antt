@@ -36,9 +36,8 @@ in_use_set (x ∷ xs) zero s t e = ap (λ (y : SystemPort). collecting y.port �
 in_use_set (x ∷ xs) (suc i) s t e = ap (λ l. collecting x.port ∷ l) (in_use_set xs i s t e)
 
 -- the aggregators in use before the port at a place went on
-pub in_use_before : (R : Machines → Machines → Type 0) (i : ℕ) (olds news : List SystemPort) (s : SystemPort)
-    → PortAtChangesBy R (Some i) olds news → slice_get olds i ≡ Some s
-    → slice_set (aggregators_in_use news) i (collecting s.port) ≡ aggregators_in_use olds
+pub in_use_before : (R : Machines → Machines → Type 0) (i : ℕ) (olds news : List SystemPort) (s : SystemPort) → PortAtChangesBy R (Some i) olds news
+    → slice_get olds i ≡ Some s → slice_set (aggregators_in_use news) i (collecting s.port) ≡ aggregators_in_use olds
 in_use_before R i olds news s h e = grind (arith, nat_tests, in_use_set)
 
 -- the port at the place of a number goes on
@@ -51,6 +50,5 @@ pub were_before : (R : Machines → Machines → Type 0) (i : ℕ) (system_ports
     (was : Option AggId) (before : List (Option AggId)) → olds ≡ system_ports → news ≡ ws → seen ≡ news
     → slice_get system_ports i ≡ Some system_port → PortAtChangesBy R (Some i) olds ws
     → was ≡ collecting system_port.port → before ≡ slice_set (aggregators_in_use seen) i was → before ≡ aggregators_in_use system_ports
-were_before R i system_ports olds ws news seen system_port was before e w v at h is b =
-    b ∙ (λ j. slice_set (aggregators_in_use ((v ∙ w) j)) i (is j))
-    ∙ in_use_before R i system_ports ws system_port (subst (λ l. PortAtChangesBy R (Some i) l ws) e h) at
+were_before R i system_ports olds ws news seen system_port was before e w v at h is b = b ∙ (λ j. slice_set
+    (aggregators_in_use ((v ∙ w) j)) i (is j)) ∙ in_use_before R i system_ports ws system_port (subst (λ l. PortAtChangesBy R (Some i) l ws) e h) at

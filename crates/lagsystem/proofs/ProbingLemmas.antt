@@ -39,9 +39,8 @@ where_probed : (up : Bool) (n i : ℕ) (system_port : SystemPort) (old : SystemS
     → port_index n old.system_ports ≡ Some i → slice_get old.system_ports i ≡ Some system_port
     → ProbesIf up system_port old answer new → IsSound old → Probed n old (Ok answer) new
 where_probed false n i system_port old answer new e g h s = silent n old answer new h.0 h.1 s
-where_probed true n i system_port old answer new e g h s =
-    marker_probed (next_identifier old.table) n system_port.number system_port.mac old answer new refl
-    (found_place n old.system_ports i system_port e g) h s
+where_probed true n i system_port old answer new e g h s = marker_probed
+    (next_identifier old.table) n system_port.number system_port.mac old answer new refl (found_place n old.system_ports i system_port e g) h s
 
 place_probed : (o : Option ℕ) (n : ℕ) (old : SystemState) (answer : Option (List ℕ)) (new : SystemState)
     → port_index n old.system_ports ≡ o → ProbesAt o old answer new → IsSound old → Probed n old (Ok answer) new

@@ -37,12 +37,11 @@ window_left : (j : ℕ) (ages : List ℕ) → Lasts j (soonest (map ticks_in_win
 window_left j [] h = refl
 window_left j (a ∷ more) h =
     let rest = window_left j more (by_second (Some (j + 2)) (ticks_in_window a) (soonest (map ticks_in_window more)) h) in
-    let here : j + 2 ≤ 11 - a = leb-true (j + 2) (11 - a)
-    (by_first (Some (j + 2)) (ticks_in_window a) (soonest (map ticks_in_window more)) h) in
+    let here : j + 2 ≤ 11 - a = leb-true (j + 2) (11 - a) (by_first (Some (j + 2)) (ticks_in_window a) (soonest (map ticks_in_window more)) h) in
     let young : a + 1 < 11 = omega (arith, here) in
     let one : 11 - (a + 1) ≡ (11 - a) - 1 = omega arith in
-    ap (λ l. soonest (map ticks_in_window l)) (aged_on a more young)
-    ∙ ((λ i. sooner (Some (one i)) (rest i)) ∙ fewer_sooner 1 (ticks_in_window a) (soonest (map ticks_in_window more)))
+    ap (λ l. soonest (map ticks_in_window l))
+    (aged_on a more young) ∙ ((λ i. sooner (Some (one i)) (rest i)) ∙ fewer_sooner 1 (ticks_in_window a) (soonest (map ticks_in_window more)))
 
 room_left : (j : ℕ) (p : Machines) (b : Bool) → Lasts j (if b then soonest (map ticks_in_window p.ages) else None)
     → (if b then soonest (map ticks_in_window (aged p.ages)) else None) ≡ fewer 1 (if b then soonest (map ticks_in_window p.ages) else None)
@@ -70,18 +69,11 @@ port_left j s t x h m =
     let periodic = timer_left j x.port.periodic_timer h.periodic_timer in
     let wait = timer_left j x.port.wait_while h.wait_while in
     let room = room_left j x.port (x.port.enabled && x.port.ntt) h.room in
-    (λ i. soonest (frame i ∷ current i ∷ periodic i ∷ wait i ∷ room i ∷ []))
-    ∙ fewer_soonest 1
-    (ticks_until_frame s x
-    ∷ ticks_until_expired x.port.current_while
-    ∷ ticks_until_expired x.port.periodic_timer
-    ∷ ticks_until_expired x.port.wait_while
-    ∷ ticks_until_room x.port
-    ∷ [])
+    (λ i. soonest (frame i ∷ current i ∷ periodic i ∷ wait i ∷ room i ∷ [])) ∙ fewer_soonest 1 (ticks_until_frame s x ∷ ticks_until_expired
+    x.port.current_while ∷ ticks_until_expired x.port.periodic_timer ∷ ticks_until_expired x.port.wait_while ∷ ticks_until_room x.port ∷ [])
 
-pub each_left : (j : ℕ) (s t : SystemState) (xs : List SystemPort)
-    → ((n : ℕ) → is_some (marker_due t.table n) ≡ is_some (marker_due s.table n)) → AllByRecursion (PortLasts j s) xs
-    → soonest (map (ticks_until_due_on t) (map counted xs)) ≡ fewer 1 (soonest (map (ticks_until_due_on s) xs))
+pub each_left : (j : ℕ) (s t : SystemState) (xs : List SystemPort) → ((n : ℕ) → is_some (marker_due t.table n) ≡ is_some (marker_due s.table n))
+    → AllByRecursion (PortLasts j s) xs → soonest (map (ticks_until_due_on t) (map counted xs)) ≡ fewer 1 (soonest (map (ticks_until_due_on s) xs))
 each_left j s t [] m h = refl
 each_left j s t (x ∷ xs) m h =
     let here = port_left j s t x h.0 (m x.number) in
@@ -100,12 +92,10 @@ below_left f (suc n) = ap (λ x. sooner x (fewer 1 (f n))) (below_left f n) ∙ 
 
 pub table_left : (j : ℕ) (s t : Table) → TableTicked s t → Lasts j (ticks_until_next_wanted s)
     → ticks_until_next_wanted t ≡ fewer 1 (ticks_until_next_wanted s)
-table_left j s t k h =
-    (λ i. soonest_below (λ a. soonest_below (λ c. ticks_until_wanted (assignment_of t (a + 1) c)) (k.conversations i)) (k.aggs i))
+table_left j s t k h = (λ i. soonest_below (λ a. soonest_below (λ c. ticks_until_wanted (assignment_of t (a + 1) c)) (k.conversations i)) (k.aggs i))
     ∙ (same_soonest (λ a. soonest_below (λ c. ticks_until_wanted (assignment_of t (a + 1) c)) s.conversations)
-    (λ a. fewer 1 (soonest_below (λ c. ticks_until_wanted (assignment_of s (a + 1) c)) s.conversations)) s.aggs
-    (λ a l. same_soonest (λ c. ticks_until_wanted (assignment_of t (a + 1) c)) (λ c. fewer 1 (ticks_until_wanted (assignment_of s (a + 1) c)))
-    s.conversations (λ c m. ap ticks_until_wanted (k.states (a + 1) c ∙ (waits_on j (assignment_of s (a + 1) c) (table_lasts j s h a c l m)).longer)
-    ∙ wait_left (assignment_of s (a + 1) c))
-    ∙ below_left (λ c. ticks_until_wanted (assignment_of s (a + 1) c)) s.conversations)
+    (λ a. fewer 1 (soonest_below (λ c. ticks_until_wanted (assignment_of s (a + 1) c)) s.conversations)) s.aggs (λ a l. same_soonest
+    (λ c. ticks_until_wanted (assignment_of t (a + 1) c)) (λ c. fewer 1 (ticks_until_wanted (assignment_of s (a + 1) c))) s.conversations
+    (λ c m. ap ticks_until_wanted (k.states (a + 1) c ∙ (waits_on j (assignment_of s (a + 1) c) (table_lasts j s h a c l m)).longer)
+    ∙ wait_left (assignment_of s (a + 1) c)) ∙ below_left (λ c. ticks_until_wanted (assignment_of s (a + 1) c)) s.conversations)
     ∙ below_left (λ a. soonest_below (λ c. ticks_until_wanted (assignment_of s (a + 1) c)) s.conversations) s.aggs)

@@ -130,13 +130,8 @@ none_due k s [] h = tt
 none_due k s (x ∷ xs) h =
     let c = Some (k + 1) in
     let rest = soonest (map (ticks_until_due_on s) xs) in
-    let others =
-    soonest
-    (ticks_until_expired x.port.current_while
-    ∷ ticks_until_expired x.port.periodic_timer
-    ∷ ticks_until_expired x.port.wait_while
-    ∷ ticks_until_room x.port
-    ∷ []) in (
+    let others = soonest (ticks_until_expired x.port.current_while ∷ ticks_until_expired x.port.periodic_timer
+    ∷ ticks_until_expired x.port.wait_while ∷ ticks_until_room x.port ∷ []) in (
       frame_not k (would_transmit s x) (by_first c (ticks_until_frame s x) others (by_first c (ticks_until_due_on s x) rest h)),
       none_due k s xs (by_second c (ticks_until_due_on s x) rest h),
     )

@@ -37,8 +37,7 @@ aged_alike j [] h = refl
 aged_alike j (a ∷ more) h =
     let rest = soonest (map ticks_in_window more) in
     let here : j + 2 ≤ 11 - a = leb-true (j + 2) (11 - a) (by_first (Some (j + 2)) (ticks_in_window a) rest h) in
-    ap length (aged_on a more (omega (arith, here)))
-    ∙ ap (λ n. suc n) (aged_alike j more (by_second (Some (j + 2)) (ticks_in_window a) rest h))
+    ap length (aged_on a more (omega (arith, here))) ∙ ap (λ n. suc n) (aged_alike j more (by_second (Some (j + 2)) (ticks_in_window a) rest h))
 
 room_alike : (j : ℕ) (p : Machines) (b : Bool) → Lasts j (if b then soonest (map ticks_in_window p.ages) else None) → b ≡ true
     → length (aged p.ages) ≡ length p.ages
@@ -174,8 +173,7 @@ below_lasts f (suc n) x k h lt = elim (cases_Bool (nat_lt k n)) [
 
 pub table_lasts : (j : ℕ) (t : Table) → Lasts j (ticks_until_next_wanted t) → (a c : ℕ) → a < t.aggs → c < t.conversations
     → Lasts j (ticks_until_wanted (assignment_of t (a + 1) c))
-table_lasts j t h a c l m =
-    below_lasts (λ c. ticks_until_wanted (assignment_of t (a + 1) c)) t.conversations (Some (j + 2)) c
+table_lasts j t h a c l m = below_lasts (λ c. ticks_until_wanted (assignment_of t (a + 1) c)) t.conversations (Some (j + 2)) c
     (below_lasts (λ a. soonest_below (λ c. ticks_until_wanted (assignment_of t (a + 1) c)) t.conversations) t.aggs (Some (j + 2)) a h l) m
 
 -- what a tick makes of a table in which each conversation waits on
@@ -188,9 +186,8 @@ pub record TableTicked (s t : Table) : Type 0 where
 
 same_count : (port j : ℕ) (s t : Table) → TableTicked s t → Lasts j (ticks_until_next_wanted s)
     → count_conversations (wants_marker port) t ≡ count_conversations (wants_marker port) s
-same_count port j s t k h =
-    (λ i. sum_below (λ a. sum_below (λ c. cond (wants_marker port (assignment_of t (a + 1) c)) 1 0) (k.conversations i)) (k.aggs i))
-    ∙ same_sum _ _ s.aggs (λ a l. same_sum _ _ s.conversations (λ c m. ap (λ b. cond b 1 0)
+same_count port j s t k h = (λ i. sum_below (λ a. sum_below (λ c. cond (wants_marker port (assignment_of t (a + 1) c)) 1 0) (k.conversations i))
+    (k.aggs i)) ∙ same_sum _ _ s.aggs (λ a l. same_sum _ _ s.conversations (λ c m. ap (λ b. cond b 1 0)
     (ap (wants_marker port) (k.states (a + 1) c) ∙ (waits_on j (assignment_of s (a + 1) c) (table_lasts j s h a c l m)).wants port)))
 
 -- the same markers are due

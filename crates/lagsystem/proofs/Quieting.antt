@@ -55,17 +55,13 @@ given_rests aggs seen s o h = grind (arith, nat_tests)
 
 chosen_rests : (aggs : AggregatorsValue) (n : ℕ) (l : List SystemPort) → AllByRecursion RestsAlone l
     → AllByRecursion RestsAlone (after_choices aggs n l)
-chosen_rests aggs n l a =
-    choices_keep aggs (AllByRecursion RestsAlone)
-    (λ l i s e a. all-set RestsAlone l i (with_choice s (choice_for aggs l s)) a
-    (given_rests aggs (views l) s (aggregator_for aggs.keys l s) (all-get RestsAlone l i s e a))) n l a
+chosen_rests aggs n l a = choices_keep aggs (AllByRecursion RestsAlone) (λ l i s e a. all-set RestsAlone l i
+    (with_choice s (choice_for aggs l s)) a (given_rests aggs (views l) s (aggregator_for aggs.keys l s) (all-get RestsAlone l i s e a))) n l a
 
 promoted_rests : (aggs : AggregatorsValue) (n : ℕ) (old new : List SystemPort) → PromotesFirst aggs n old new
     → AllByRecursion RestsAlone old → AllByRecursion RestsAlone new
-promoted_rests aggs n old new h a =
-    promotions_keep aggs (AllByRecursion RestsAlone)
-    (λ agg l m x a. subst (AllByRecursion RestsAlone) (sym x.4)
-    (all-set RestsAlone l x.0 (with_choice x.1 (Some (Selected agg))) a (λ e. absurd (false≢true e)))) n old new h a
+promoted_rests aggs n old new h a = promotions_keep aggs (AllByRecursion RestsAlone) (λ agg l m x a. subst (AllByRecursion RestsAlone)
+    (sym x.4) (all-set RestsAlone l x.0 (with_choice x.1 (Some (Selected agg))) a (λ e. absurd (false≢true e)))) n old new h a
 
 -- the mux step leaves occupants and groups
 
@@ -81,8 +77,7 @@ same_occupants keys seen agg [] (y ∷ ys) h = absurd h
 same_occupants keys seen agg (x ∷ xs) [] h = absurd h
 same_occupants keys seen agg (x ∷ xs) (y ∷ ys) h =
     let same = mux_choice (ready_of keys seen x.port.choice) x.port y.port h.0.1 in
-    ap (λ c. occupies agg c || has_occupant (views ys) agg) same
-    ∙ ap (λ b. occupies agg x.port.choice || b) (same_occupants keys seen agg xs ys h.1)
+    ap (λ c. occupies agg c || has_occupant (views ys) agg) same ∙ ap (λ b. occupies agg x.port.choice || b) (same_occupants keys seen agg xs ys h.1)
 
 next_all : (test : PortView → Bool) (b : Bool) (w v : PortView) (rest more : List PortView) → test v ≡ test w
     → list_all test more ≡ list_all test rest → list_all test (cond b (v ∷ more) more) ≡ list_all test (cond b (w ∷ rest) rest)
@@ -96,11 +91,9 @@ same_groups keys seen agg v [] (y ∷ ys) h = absurd h
 same_groups keys seen agg v (x ∷ xs) [] h = absurd h
 same_groups keys seen agg v (x ∷ xs) (y ∷ ys) h =
     let same = mux_choice (ready_of keys seen x.port.choice) x.port y.port h.0.1 in
-    ap (λ c. list_all (has_group_of v) (cond (occupies agg c) (selection_view y ∷ occupants agg (views ys))
-    (occupants agg (views ys)))) same
+    ap (λ c. list_all (has_group_of v) (cond (occupies agg c) (selection_view y ∷ occupants agg (views ys)) (occupants agg (views ys)))) same
     ∙ next_all (has_group_of v) (occupies agg x.port.choice) (selection_view x) (selection_view y) (occupants agg (views xs))
-    (occupants agg (views ys))
-    (mux_groups (ready_of keys seen x.port.choice) v x y h.0.0 h.0.1) (same_groups keys seen agg v xs ys h.1)
+    (occupants agg (views ys)) (mux_groups (ready_of keys seen x.port.choice) v x y h.0.0 h.0.1) (same_groups keys seen agg v xs ys h.1)
 
 -- a port that takes none takes none after the mux step
 not_unselected : (b d e u : Bool) → u ≡ false → (((b && u) && d) && e) ≡ false
@@ -122,9 +115,8 @@ none_moved keys xs ys x y all h a none true s =
     let same : y ≡ x = h.0 ∙ (λ i. record x { port = still i }) in
     subst (λ (z : SystemPort). TakesNone keys (views ys) (selection_view z) z.held) (sym same)
     (when_still (may_choose x) (chosen_if_eligible keys (views xs) (selection_view x))
-    (chosen_if_eligible keys (views ys) (selection_view x)) none
-    (none_alike keys (views xs) (views ys) (selection_view x) (λ agg. same_occupants keys (views xs) agg xs ys all)
-    (λ agg. same_groups keys (views xs) agg (selection_view x) xs ys all)))
+    (chosen_if_eligible keys (views ys) (selection_view x)) none (none_alike keys (views xs) (views ys) (selection_view x)
+    (λ agg. same_occupants keys (views xs) agg xs ys all) (λ agg. same_groups keys (views xs) agg (selection_view x) xs ys all)))
 
 -- what holds of one list, port for port, of the other
 zip_gives : (R : SystemPort → SystemPort → Type 0) (P Q : SystemPort → Type 0) → ((x y : SystemPort) → R x y → P x → Q y)
@@ -134,8 +126,7 @@ zip_gives R P Q k [] (y ∷ ys) h a = absurd h
 zip_gives R P Q k (x ∷ xs) [] h a = absurd h
 zip_gives R P Q k (x ∷ xs) (y ∷ ys) h a = (k x y h.0 a.0, zip_gives R P Q k xs ys h.1 a.1)
 
-all_both : (P Q : SystemPort → Type 0) (xs : List SystemPort) → AllByRecursion P xs → AllByRecursion Q xs
-    → AllByRecursion (λ x. P x × Q x) xs
+all_both : (P Q : SystemPort → Type 0) (xs : List SystemPort) → AllByRecursion P xs → AllByRecursion Q xs → AllByRecursion (λ x. P x × Q x) xs
 all_both P Q [] h k = tt
 all_both P Q (x ∷ xs) h k = ((h.0, k.0), all_both P Q xs h.1 k.1)
 
@@ -145,23 +136,17 @@ Moved keys system_ports y = TakesNone keys (views system_ports) (selection_view 
 
 moved : (keys : List Key) (xs ys : List SystemPort) → PortsChangeBy (RunsReady keys (views xs)) xs ys
     → AllByRecursion (λ x. RestsAlone x × TakesNone keys (views xs) (selection_view x) x.held) xs → AllByRecursion (Moved keys ys) ys
-moved keys xs ys h a =
-    zip_gives (PortChangesBy (RunsReady keys (views xs))) (λ x. RestsAlone x × TakesNone keys (views xs) (selection_view x) x.held) (Moved keys ys)
-    (λ x y m k. (
-      none_moved keys xs ys x y h m k.0 k.1 (is_unselected x.port.choice) refl,
-      rest_unready (ready_of keys (views xs) x.port.choice) y.port m.1.2,
-    )) xs ys h a
+moved keys xs ys h a = zip_gives
+    (PortChangesBy (RunsReady keys (views xs))) (λ x. RestsAlone x × TakesNone keys (views xs) (selection_view x) x.held) (Moved keys ys) (λ x y m k.
+    (none_moved keys xs ys x y h m k.0 k.1 (is_unselected x.port.choice) refl, rest_unready (ready_of keys (views xs) x.port.choice) y.port m.1.2))
+    xs ys h a
 
 -- the periodic step
 
 periodic_view : (y z : SystemPort) → PortChangesBy RunsPeriodic y z → selection_view z ≡ selection_view y
-periodic_view y z h =
-    ap selection_view h.0
-    ∙ ap (λ (p : Machines). selection_view (record y { port = p })) h.1.2
-    ∙ Reaches-keeps (λ (p : Machines). selection_view (record y { port = p })) periodic_rows (
-      (λ p. refl),
-      ((λ p. refl), ((λ p. refl), ((λ p. refl), ((λ p. refl), ((λ p. refl), ((λ p. refl), tt)))))),
-    ) h.1.1.0 y.port h.1.0 h.1.1.1
+periodic_view y z h = ap selection_view h.0 ∙ ap (λ (p : Machines). selection_view (record y { port = p })) h.1.2
+    ∙ Reaches-keeps (λ (p : Machines). selection_view (record y { port = p })) periodic_rows
+    ((λ p. refl), ((λ p. refl), ((λ p. refl), ((λ p. refl), ((λ p. refl), ((λ p. refl), ((λ p. refl), tt))))))) h.1.1.0 y.port h.1.0 h.1.1.1
 
 periodic_views : (ys zs : List SystemPort) → PortsChangeBy RunsPeriodic ys zs → views zs ≡ views ys
 periodic_views [] [] h = refl
@@ -174,12 +159,8 @@ abbrev mux_looks : Machines → Machines → Machines
 mux_looks d p = record d { mux = p.mux; choice = p.choice; partner = p.partner }
 
 periodic_looks : (d p q : Machines) → RunsPeriodic p q → mux_looks d q ≡ mux_looks d p
-periodic_looks d p q h =
-    ap (mux_looks d) h.2
-    ∙ Reaches-keeps (mux_looks d) periodic_rows (
-      (λ p. refl),
-      ((λ p. refl), ((λ p. refl), ((λ p. refl), ((λ p. refl), ((λ p. refl), ((λ p. refl), tt)))))),
-    ) h.1.0 p h.0 h.1.1
+periodic_looks d p q h = ap (mux_looks d) h.2 ∙ Reaches-keeps (mux_looks d) periodic_rows
+    ((λ p. refl), ((λ p. refl), ((λ p. refl), ((λ p. refl), ((λ p. refl), ((λ p. refl), ((λ p. refl), tt))))))) h.1.0 p h.0 h.1.1
 
 periodic_rest : (p q : Machines) → RunsPeriodic p q → AtRest (mux_rows false) p → AtRest (mux_rows false) q
 periodic_rest p q h r = subst (λ (m : Machines). AtRest (mux_rows false) m) (sym (periodic_looks p p q h)) r
@@ -245,10 +226,8 @@ still_ready keys system_ports (x ∷ xs) h = grind (arith, nat_tests, still_read
 still_choose : (aggs : AggregatorsValue) (system_ports : List SystemPort) (i : ℕ) (o : Option SystemPort) → slice_get system_ports i ≡ o
     → MuxesAreSettled aggs.keys system_ports → after_choice_at aggs system_ports i o ≡ system_ports
 still_choose aggs system_ports i None e h = refl
-still_choose aggs system_ports i (Some s) e h =
-    ap (λ o. slice_set system_ports i (with_choice s o))
-    (none_for aggs system_ports s (all-get (MuxIsSettled aggs.keys system_ports) system_ports i s e h).apart)
-    ∙ set_same system_ports i s e
+still_choose aggs system_ports i (Some s) e h = ap (λ o. slice_set system_ports i (with_choice s o))
+    (none_for aggs system_ports s (all-get (MuxIsSettled aggs.keys system_ports) system_ports i s e h).apart) ∙ set_same system_ports i s e
 
 still_chosen : (aggs : AggregatorsValue) (n : ℕ) (system_ports : List SystemPort) → MuxesAreSettled aggs.keys system_ports
     → after_choices aggs n system_ports ≡ system_ports
@@ -265,9 +244,8 @@ settles_from s ran news first h none m =
     settling_made s aggs s.system_ports ran ran ran news refl refl first
     (ran, nothing_promoted aggs (length s.keys) ran none, sym (still_chosen aggs (length ran) ran h)) (still_ready s.keys ran ran h) m
 
-pub still_settles : (s : SystemState) (news : List SystemPort) → MuxesAreSettled s.keys s.system_ports
-    → NoneIsNext (aggregators_value s) (views s.system_ports) → PortsChangeBy RunsPeriodic s.system_ports news
-    → SettlesPorts s (with_system_ports s news)
+pub still_settles : (s : SystemState) (news : List SystemPort) → MuxesAreSettled s.keys s.system_ports → NoneIsNext (aggregators_value s)
+    (views s.system_ports) → PortsChangeBy RunsPeriodic s.system_ports news → SettlesPorts s (with_system_ports s news)
 still_settles s news h none m = grind (arith, nat_tests, settles_from, still_mux)
 
 pub paced_runs : (xs : List SystemPort) → PeriodicsAreSettled xs → PortsChangeBy RunsPeriodic xs xs
@@ -277,24 +255,19 @@ paced_runs (x ∷ xs) h = ((refl, (x.port, (0, refl, h.0.rows), h.0.cleared)), p
 -- after a settling with its last step
 pub settling_quiet : (old new : SystemState) → Rises 0 (port_numbers old.system_ports) → Settling old new
     → MuxesAreSettled new.keys new.system_ports × PeriodicsAreSettled new.system_ports
-settling_quiet old new r h =
-    subst (λ (a : AggregatorsValue). MuxesAreSettled a.keys new.system_ports × PeriodicsAreSettled new.system_ports)
+settling_quiet old new r h = subst (λ (a : AggregatorsValue). MuxesAreSettled a.keys new.system_ports × PeriodicsAreSettled new.system_ports)
     (sym (ap aggregators_value (settling_keeps old new h).frame))
     (settled_still (aggregators_value old) old.system_ports new.system_ports r (settling_in old new h))
 
 -- after a settling no STANDBY port comes next
 
 periodic_choice : (p q : Machines) → RunsPeriodic p q → q.choice ≡ p.choice
-periodic_choice p q h = ap (λ (m : Machines). m.choice) h.2
-    ∙ Reaches-keeps (λ (m : Machines). m.choice) periodic_rows (
-      (λ p. refl),
-      ((λ p. refl), ((λ p. refl), ((λ p. refl), ((λ p. refl), ((λ p. refl), ((λ p. refl), tt)))))),
-    ) h.1.0 p h.0 h.1.1
+periodic_choice p q h = ap (λ (m : Machines). m.choice) h.2 ∙ Reaches-keeps (λ (m : Machines). m.choice) periodic_rows
+    ((λ p. refl), ((λ p. refl), ((λ p. refl), ((λ p. refl), ((λ p. refl), ((λ p. refl), ((λ p. refl), tt))))))) h.1.0 p h.0 h.1.1
 
 pub settling_none : (old new : SystemState) → Settling old new → NoneIsNext (aggregators_value new) (views new.system_ports)
 settling_none old new h =
     let s = settling_in old new h in
     subst (λ a. NoneIsNext a (views new.system_ports)) (sym (ap aggregators_value (settling_keeps old new h).frame))
-    (settled_none (aggregators_value old) (RunsReady old.keys (views s.two)) RunsPeriodic
-    (λ p q x. mux_choice (ready_of old.keys (views s.two) p.choice) p q x) periodic_choice
-    s.one s.two s.four new.system_ports s.chooses s.runs s.paces)
+    (settled_none (aggregators_value old) (RunsReady old.keys (views s.two)) RunsPeriodic (λ p q x. mux_choice
+    (ready_of old.keys (views s.two) p.choice) p q x) periodic_choice s.one s.two s.four new.system_ports s.chooses s.runs s.paces)

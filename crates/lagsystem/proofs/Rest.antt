@@ -25,24 +25,16 @@ rests (row ∷ rows) p h =
     let both = and_parts (not (row.enabled p)) (none_enabled rows p) h in (not-true (row.enabled p) both.0, rests rows p both.1)
 
 mux_awake : (ready : Bool) (p q : Machines) → RunsToRest (mux_rows ready) p q → none_enabled receive_rows q ≡ none_enabled receive_rows p
-mux_awake ready p q h = Reaches-keeps (none_enabled receive_rows) (mux_rows ready) (
-  (λ p. refl),
-  ((λ p. refl), ((λ p. refl), ((λ p. refl), ((λ p. refl), ((λ p. refl), tt))))),
-) h.0 p q h.1
+mux_awake ready p q h = Reaches-keeps (none_enabled receive_rows)
+    (mux_rows ready) ((λ p. refl), ((λ p. refl), ((λ p. refl), ((λ p. refl), ((λ p. refl), ((λ p. refl), tt)))))) h.0 p q h.1
 
 periodic_awake : (p q : Machines) → RunsPeriodic p q → none_enabled receive_rows q ≡ none_enabled receive_rows p
-periodic_awake p q h = ap (none_enabled receive_rows) h.2
-    ∙ Reaches-keeps (none_enabled receive_rows) periodic_rows (
-      (λ p. refl),
-      ((λ p. refl), ((λ p. refl), ((λ p. refl), ((λ p. refl), ((λ p. refl), ((λ p. refl), tt)))))),
-    ) h.1.0 p h.0 h.1.1
+periodic_awake p q h = ap (none_enabled receive_rows) h.2 ∙ Reaches-keeps (none_enabled receive_rows) periodic_rows
+    ((λ p. refl), ((λ p. refl), ((λ p. refl), ((λ p. refl), ((λ p. refl), ((λ p. refl), ((λ p. refl), tt))))))) h.1.0 p h.0 h.1.1
 
 periodic_steady : (p q : Machines) → RunsPeriodic p q → mux_consistent q ≡ mux_consistent p
-periodic_steady p q h = ap mux_consistent h.2
-    ∙ Reaches-keeps mux_consistent periodic_rows (
-      (λ p. refl),
-      ((λ p. refl), ((λ p. refl), ((λ p. refl), ((λ p. refl), ((λ p. refl), ((λ p. refl), tt)))))),
-    ) h.1.0 p h.0 h.1.1
+periodic_steady p q h = ap mux_consistent h.2 ∙ Reaches-keeps mux_consistent periodic_rows
+    ((λ p. refl), ((λ p. refl), ((λ p. refl), ((λ p. refl), ((λ p. refl), ((λ p. refl), ((λ p. refl), tt))))))) h.1.0 p h.0 h.1.1
 
 -- at rest
 rest_awake : (r : ReceiveState) (e : Bool) → (same_receive_state Initialize r && true) ≡ false
@@ -121,8 +113,7 @@ settled_rested : (own : SystemState → SystemState → Type 0) (s t : SystemSta
     → ((mid : SystemState) → own s mid → ReceivesAtRest mid.system_ports) → ThenSettles own s t → PortsConsistent t.system_ports
 settled_rested own s t k h = settling_rested h.0 t h.2 (k h.0 h.1)
 
-takes_awake : (v : Lacpdu) (p q : Machines) → ProcessesLacpdu v p q → none_enabled receive_rows p ≡ true
-    → none_enabled receive_rows q ≡ true
+takes_awake : (v : Lacpdu) (p q : Machines) → ProcessesLacpdu v p q → none_enabled receive_rows p ≡ true → none_enabled receive_rows q ≡ true
 takes_awake v p q h a = grind (arith, nat_tests)
 
 starts_awake : (p q : Machines) → Starts p q → none_enabled receive_rows q ≡ true
@@ -138,8 +129,7 @@ becomes_slots agg conv state old answer new h = grind (arith, nat_tests)
 
 -- the start
 pub first_rested : (s : SystemState) → IsFirst s → PortsConsistent s.system_ports
-first_rested s h =
-    settling_rested (with_system_ports s h.0) s h.2
+first_rested s h = settling_rested (with_system_ports s h.0) s h.2
     (zip_all (HasJustStarted s.system) IsAwake (λ c x m. starts_awake (before_start (setup_of s.system c)) x.port m.2) s.ports h.0 h.1)
 
 -- every call leaves the machines at rest

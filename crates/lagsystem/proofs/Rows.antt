@@ -29,9 +29,8 @@ loudly u call n p q seen h =
     let stop : PortMoves u call n (model_port p) [] (quiet p) = (PortMove.Stop ∷ [], (λ ports. tt, tt), refl, refl) in
     let begin = begins u call n q.party (model_port q).partner (model_port q).synchronized q.defaulted (selected_number q.choice)
     (model_port q).distributes (may_begin (partner_synchronized q) q.choice (same_mux_state CollectingDistributing q.mux)) in
-    subst (λ l. PortMoves u call n (model_port p) l (model_port q)) (append-nil seen)
-    (port_joined u call n (model_port p) (quiet q) (model_port q) seen []
-    (port_joined u call n (model_port p) (quiet p) (quiet q) [] seen stop h) begin)
+    subst (λ l. PortMoves u call n (model_port p) l (model_port q)) (append-nil seen) (port_joined u call n
+    (model_port p) (quiet q) (model_port q) seen [] (port_joined u call n (model_port p) (quiet p) (quiet q) [] seen stop h) begin)
 
 -- rows whose effects others do not see
 abbrev pub EachMoves : SystemSetup → ModelCall → ℕ → List Row → Type 0

@@ -36,8 +36,7 @@ pub record Readies (old mid : SystemState) : Type 0 where
   pub limited : WithinLimit mid.max_links (views mid.system_ports)
   pub ages : ages_in mid.system_ports ≡ ages_in old.system_ports
   pub apart : HeldUnselected mid.system_ports
-  pub moves : LawfulMoves (model_setup old) ModelCall.Tick (model_view old) []
-      (model_view_at (model_distributor old.table) mid.system_ports)
+  pub moves : LawfulMoves (model_setup old) ModelCall.Tick (model_view old) [] (model_view_at (model_distributor old.table) mid.system_ports)
 
 -- what holds then
 pub record Settled (old mid new : SystemState) : Type 0 where
@@ -60,14 +59,13 @@ settles_sound old mid new s r h =
     let table : mid.table ≡ old.table = ap (λ (x : SystemState). x.table) r.frame in
     let keys : mid.keys ≡ old.keys = ap (λ (x : SystemState). x.keys) r.frame in
     let rise : Rises 0 (port_numbers mid.system_ports) = subst (λ ns. Rises 0 ns) (sym r.same) (ports_rise old s.ports) in
-    let agree : OccupantsAgree mid.keys mid.system_ports = subst (λ ks. OccupantsAgree ks mid.system_ports) (sym keys)
-    (stay_agrees old.keys old.system_ports mid.system_ports r.stay s.occupants) in
-    let own : LawfulMoves u ModelCall.Tick (model_view old) [] (model_view mid) =
-    subst (λ (t : Table). LawfulMoves u ModelCall.Tick (model_view old) [] (model_view_at (model_distributor t) mid.system_ports)) (sym table)
-    r.moves in
+    let agree : OccupantsAgree mid.keys mid.system_ports = subst (λ ks. OccupantsAgree ks mid.system_ports)
+    (sym keys) (stay_agrees old.keys old.system_ports mid.system_ports r.stay s.occupants) in
+    let own : LawfulMoves u ModelCall.Tick (model_view old) [] (model_view mid) = subst (λ (t : Table). LawfulMoves u ModelCall.Tick
+    (model_view old) [] (model_view_at (model_distributor t) mid.system_ports)) (sym table) r.moves in
     let fits : Fits u mid.keys = subst (Fits u) (sym keys) (λ g. refl) in
-    let moves = moves_joined u ModelCall.Tick (model_view old) (model_view mid) (model_view new) [] [] own
-    (settling_moves u ModelCall.Tick mid new fits rise agree h) in
+    let moves = moves_joined u ModelCall.Tick (model_view old) (model_view mid) (model_view new)
+    [] [] own (settling_moves u ModelCall.Tick mid new fits rise agree h) in
     let kept = members_call u ModelCall.Tick (model_view old) (model_view new) [] (configured_setup old) moves s.members in
     let ages = same_ages old new (k.same ∙ r.same) (settling_ages mid new h ∙ r.ages) in
     let placed = settling_placed mid new rise h (agree, r.limited) in
@@ -182,9 +180,8 @@ link_moves old n p (Some most) false = held_moves old n true p
 
 relinks_moves : (old : SystemState) (n : ℕ) (max_links : Option ℕ) (p q : Machines) → Relinks max_links p q
     → PortMoves (model_setup old) ModelCall.Tick n (model_port p) [] (model_port q)
-relinks_moves old n max_links p q h =
-    subst (λ (m : Machines). PortMoves (model_setup old) ModelCall.Tick n (model_port p) [] (model_port m)) (sym h)
-    (link_moves old n p max_links p.enabled)
+relinks_moves old n max_links p q h = subst (λ (m : Machines). PortMoves (model_setup old) ModelCall.Tick n (model_port p) [] (model_port m))
+    (sym h) (link_moves old n p max_links p.enabled)
 
 -- members whose links are up are those that are left
 
@@ -194,8 +191,7 @@ is_member_up agg x = x.port.enabled && has_chosen agg x.port.choice
 left_up : (agg : AggId) (most : ℕ) (up : Bool) (c : Choice) → has_chosen agg (choice_with_link (Some most) up c) ≡ (up && has_chosen agg c)
 left_up agg most up c = grind (arith, nat_tests)
 
-relinks_chosen : (agg : AggId) (most : ℕ) (x y : SystemPort) → Relinks (Some most) x.port y.port
-    → has_chosen agg y.port.choice ≡ is_member_up agg x
+relinks_chosen : (agg : AggId) (most : ℕ) (x y : SystemPort) → Relinks (Some most) x.port y.port → has_chosen agg y.port.choice ≡ is_member_up agg x
 relinks_chosen agg most x y h = ap (λ (p : Machines). has_chosen agg p.choice) h ∙ left_up agg most x.port.enabled x.port.choice
 
 one_left : (b c : Bool) (n : ℕ) (x : SystemPort) (rest : List SystemPort) → c ≡ b → n ≡ length rest
@@ -207,9 +203,8 @@ left_count : (agg : AggId) (most : ℕ) (xs ys : List SystemPort) → PortsChang
 left_count agg most [] [] h = refl
 left_count agg most [] (y ∷ ys) h = absurd h
 left_count agg most (x ∷ xs) [] h = absurd h
-left_count agg most (x ∷ xs) (y ∷ ys) h =
-    one_left (is_member_up agg x) (has_chosen agg y.port.choice) (count agg ys) x (members_up agg xs) (relinks_chosen agg most x y h.0.1)
-    (left_count agg most xs ys h.1)
+left_count agg most (x ∷ xs) (y ∷ ys) h = one_left (is_member_up agg x) (has_chosen agg y.port.choice)
+    (count agg ys) x (members_up agg xs) (relinks_chosen agg most x y h.0.1) (left_count agg most xs ys h.1)
 
 -- an aggregator with a member whose link is up is looked at
 none_or_some : (agg : AggId) (xs : List SystemPort) → (length (members_up agg xs) ≡ 0) ⊎ (list_any (is_member_up agg) xs ≡ true)
@@ -274,15 +269,14 @@ limit_readies old mid max_links s free h =
       same = zip_numbers R l m h.0;
       accepted = ap (λ most. refusal old.keys old.ports most old.conversations) limit
           ∙ still_accepted old.keys old.ports old.max_links max_links old.conversations s.ports.accepted taken.0;
-      awake = zip_kept (PortChangesBy R) (λ z. none_enabled receive_rows z.port ≡ true)
-          (λ x y c a. ap (none_enabled receive_rows) c.1 ∙ a) l m h.0 s.rested.0;
+      awake = zip_kept
+          (PortChangesBy R) (λ z. none_enabled receive_rows z.port ≡ true) (λ x y c a. ap (none_enabled receive_rows) c.1 ∙ a) l m h.0 s.rested.0;
       stay = zip_stay R (relinks_leaves max_links) l m h.0;
       limited = subst (λ most. WithinLimit most (views m)) (sym limit) (within_limit max_links l m taken.1 h.0);
       ages = zip_ages R (λ p q c. ap ages_of c) l m h.0;
-      apart = zip_kept (PortChangesBy R) IsApart (λ x y c a. apart_kept.stay x y c.0 (relinks_leaves max_links x.port y.port c.1) a) l m h.0
-          s.held;
-      moves = all_slots_move (model_setup old) ModelCall.Tick (model_distributor old.table) l m (are_numbered 0 l (ports_rise old s.ports))
-          (AllZip-weaker (PortChangesBy R) (SlotMoves (model_setup old) ModelCall.Tick)
+      apart = zip_kept (PortChangesBy R) IsApart (λ x y c a. apart_kept.stay x y c.0 (relinks_leaves max_links x.port y.port c.1) a) l m h.0 s.held;
+      moves = all_slots_move (model_setup old) ModelCall.Tick (model_distributor old.table) l m
+          (are_numbered 0 l (ports_rise old s.ports)) (AllZip-weaker (PortChangesBy R) (SlotMoves (model_setup old) ModelCall.Tick)
           (λ x y c. (ap number_of_port c.0, relinks_moves old x.number max_links x.port y.port c.1)) l m h.0);
     }
 
@@ -327,8 +321,7 @@ port_set (Some i) already change old setting done new d l mild step s h = elim h
   | inl same ↦ same_setting old setting (Ok done) new d l step s same.1
   | inr settled ↦
       let r = place_readies old settled.0 i already change mild s settled.1 in
-      settled_setting old settled.0 setting (Ok done) new d
-      (l ∙ sym (ap (λ (x : SystemState). x.max_links) settled.1.1)) step s r settled.2
+      settled_setting old settled.0 setting (Ok done) new d (l ∙ sym (ap (λ (x : SystemState). x.max_links) settled.1.1)) step s r settled.2
 ]
 
 delay_sound : (old : SystemState) (max_delay : ℕ) → IsSound old → IsSound (record old { max_delay = max_delay })
@@ -336,14 +329,11 @@ delay_sound old max_delay s = grind (arith, nat_tests)
 
 setting_keeps : (old : SystemState) (setting : Setting) (answer : Result Unit SystemFault) (new : SystemState)
     → SettingStep old setting answer new → IsSound old → KeepsSetting old setting answer new
-setting_keeps old (Setting.Hold_port n held) (Ok done) new h s =
-    port_set (port_index n old.system_ports) (is_held_so held) (with_held held) old (Setting.Hold_port n held) done new refl refl
-    (holding_mild old held) h s h
-setting_keeps old (Setting.Hold_port n held) (Err fault) new h s =
-    same_setting old (Setting.Hold_port n held) (Err fault) new refl refl h s h.same
-setting_keeps old (Setting.Set_mode n active short) (Ok done) new h s =
-    port_set (port_index n old.system_ports) (is_in_mode active short) (in_mode active short) old (Setting.Set_mode n active short) done new refl
-    refl (mode_mild old active short) h s h
+setting_keeps old (Setting.Hold_port n held) (Ok done) new h s = port_set (port_index n old.system_ports)
+    (is_held_so held) (with_held held) old (Setting.Hold_port n held) done new refl refl (holding_mild old held) h s h
+setting_keeps old (Setting.Hold_port n held) (Err fault) new h s = same_setting old (Setting.Hold_port n held) (Err fault) new refl refl h s h.same
+setting_keeps old (Setting.Set_mode n active short) (Ok done) new h s = port_set (port_index n old.system_ports)
+    (is_in_mode active short) (in_mode active short) old (Setting.Set_mode n active short) done new refl refl (mode_mild old active short) h s h
 setting_keeps old (Setting.Set_mode n active short) (Err fault) new h s =
     same_setting old (Setting.Set_mode n active short) (Err fault) new refl refl h s h.same
 setting_keeps old (Setting.Set_max_delay max_delay) (Ok done) new h s =
@@ -362,9 +352,8 @@ setting_keeps old (Setting.Set_max_delay max_delay) (Ok done) new h s =
       };
     }
 setting_keeps old (Setting.Set_max_delay max_delay) (Err fault) new h s = absurd h
-setting_keeps old (Setting.Set_max_links max_links) (Ok done) new h s =
-    settled_setting old h.1.0 (Setting.Set_max_links max_links) (Ok done) new refl
-    (sym (ap (λ (x : SystemState). x.max_links) h.1.1.1)) h s (limit_readies old h.1.0 max_links s h.0 h.1.1) h.1.2
+setting_keeps old (Setting.Set_max_links max_links) (Ok done) new h s = settled_setting old h.1.0 (Setting.Set_max_links max_links)
+    (Ok done) new refl (sym (ap (λ (x : SystemState). x.max_links) h.1.1.1)) h s (limit_readies old h.1.0 max_links s h.0 h.1.1) h.1.2
 setting_keeps old (Setting.Set_max_links max_links) (Err fault) new h s =
     same_setting old (Setting.Set_max_links max_links) (Err fault) new refl refl h s h.1
 

@@ -54,8 +54,7 @@ no_ready keys system_ports h c = grind (arith, nat_tests, none_has_waited, none_
 pub runs_unready : (keys : List Key) (olds news : List SystemPort) → list_any (λ s. member_has_waited s) olds ≡ false
     → PortsChangeBy (RunsToRest (mux_rows false)) olds news
     → PortsChangeBy (λ p q. RunsToRest (mux_rows (ready_of keys (views olds) p.choice)) p q) olds news
-runs_unready keys olds news none h =
-    AllZip-weaker (PortChangesBy (RunsToRest (mux_rows false)))
+runs_unready keys olds news none h = AllZip-weaker (PortChangesBy (RunsToRest (mux_rows false)))
     (PortChangesBy (λ p q. RunsToRest (mux_rows (ready_of keys (views olds) p.choice)) p q))
     (λ x y m. (m.0, subst (λ b. RunsToRest (mux_rows b) x.port y.port) (sym (no_ready keys olds none x.port.choice)) m.1)) olds news h
 
@@ -77,8 +76,7 @@ none_restless_unselected (s ∷ ss) h =
     ap (λ b. b || list_any (λ s. is_unselected s.port.choice) ss) one.0 ∙ none_restless_unselected ss both.1
 
 -- and none has waited
-pub none_restless_has_waited : (l : List SystemPort) → list_any (λ s. is_restless s) l ≡ false
-    → list_any (λ s. member_has_waited s) l ≡ false
+pub none_restless_has_waited : (l : List SystemPort) → list_any (λ s. is_restless s) l ≡ false → list_any (λ s. member_has_waited s) l ≡ false
 none_restless_has_waited [] h = refl
 none_restless_has_waited (s ∷ ss) h =
     let both = or_parts (is_restless s) (list_any (λ s. is_restless s) ss) h in
@@ -86,17 +84,15 @@ none_restless_has_waited (s ∷ ss) h =
     ap (λ b. b || list_any (λ s. member_has_waited s) ss) one.1 ∙ none_restless_has_waited ss both.1
 
 pub settling_made : (base : SystemState) (aggs : AggregatorsValue) (system_ports one two four five : List SystemPort)
-    → aggregators_value base ≡ aggs → base.system_ports ≡ system_ports
-    → PortsChangeBy (RunsToRest (mux_rows false)) system_ports one → ChoosesIn aggs one two
-    → PortsChangeBy (λ p q. RunsToRest (mux_rows (ready_of aggs.keys (views two) p.choice)) p q) two four
+    → aggregators_value base ≡ aggs → base.system_ports ≡ system_ports → PortsChangeBy (RunsToRest (mux_rows false)) system_ports one
+    → ChoosesIn aggs one two → PortsChangeBy (λ p q. RunsToRest (mux_rows (ready_of aggs.keys (views two) p.choice)) p q) two four
     → PortsChangeBy RunsPeriodic four five → SettlesPorts base (with_system_ports base five)
 settling_made base aggs system_ports one two four five ek es h1 h2 h4 h5 =
-    let k1 : PortsChangeBy (RunsToRest (mux_rows false)) base.system_ports one =
-    subst (λ l. PortsChangeBy (RunsToRest (mux_rows false)) l one) (sym es) h1 in
+    let k1 : PortsChangeBy (RunsToRest (mux_rows false)) base.system_ports one = subst (λ l. PortsChangeBy (RunsToRest (mux_rows false)) l one)
+    (sym es) h1 in
     let k2 : ChoosesIn (aggregators_value base) one two = subst (λ a. ChoosesIn a one two) (sym ek) h2 in
-    let k4 : PortsChangeBy (λ p q. RunsToRest (mux_rows (ready_of base.keys (views two) p.choice)) p q) two four =
-    subst (λ (a : AggregatorsValue). PortsChangeBy (λ p q. RunsToRest (mux_rows (ready_of a.keys (views two) p.choice)) p q) two four)
-    (sym ek) h4 in (
+    let k4 : PortsChangeBy (λ p q. RunsToRest (mux_rows (ready_of base.keys (views two) p.choice)) p q) two four = subst
+    (λ (a : AggregatorsValue). PortsChangeBy (λ p q. RunsToRest (mux_rows (ready_of a.keys (views two) p.choice)) p q) two four) (sym ek) h4 in (
       with_system_ports base one,
       (k1, refl),
       (

@@ -83,25 +83,18 @@ processed v old i alike new h = with_system_ports old (slice_set old.system_port
 
 -- what the call itself does
 pub own_made : (v : Lacpdu) (old : SystemState) (i : ℕ) (alike : Bool) (new : List SystemPort)
-    (h : ProcessesLacpduAt v i old.system_ports alike new)
-    → OnlyPortChangesBy (Some i) (ProcessesLacpdu v) old (processed v old i alike new h)
+    (h : ProcessesLacpduAt v i old.system_ports alike new) → OnlyPortChangesBy (Some i) (ProcessesLacpdu v) old (processed v old i alike new h)
 own_made v old i alike new h = grind (arith, nat_tests)
 
 -- a settling that finds the mux machine of the port run already
 first_joined : (system_ports : List SystemPort) (i : ℕ) (t u : SystemPort) (xs : List SystemPort)
-    → PortChangesBy (RunsToRest (mux_rows false)) t u
-    → PortsChangeBy (RunsToRest (mux_rows false)) (slice_set system_ports i u) xs
-    → PortsChangeBy (RunsToRest (mux_rows false)) (slice_set system_ports i t) xs
+    → PortChangesBy (RunsToRest (mux_rows false)) t u → PortsChangeBy (RunsToRest (mux_rows false))
+    (slice_set system_ports i u) xs → PortsChangeBy (RunsToRest (mux_rows false)) (slice_set system_ports i t) xs
 first_joined [] i t u xs m h = h
 first_joined (x ∷ xs) zero t u [] m h = absurd h
 first_joined (x ∷ xs) zero t u (y ∷ ys) m h =
-    let same : u.port ≡ y.port = one_mux false u.port u.port y.port (0, refl, m.1.2) h.0.1 in (
-      (
-        h.0.0 ∙ ap (λ (z : SystemPort). record z { port = y.port }) m.0,
-        subst (λ (q : Machines). RunsToRest (mux_rows false) t.port q) same m.1,
-      ),
-      h.1,
-    )
+    let same : u.port ≡ y.port = one_mux false u.port u.port y.port (0, refl, m.1.2) h.0.1 in
+    ((h.0.0 ∙ ap (λ (z : SystemPort). record z { port = y.port }) m.0, subst (λ (q : Machines). RunsToRest (mux_rows false) t.port q) same m.1), h.1)
 first_joined (x ∷ xs) (suc i) t u [] m h = absurd h
 first_joined (x ∷ xs) (suc i) t u (y ∷ ys) m h = (h.0, first_joined xs i t u ys m h.1)
 
@@ -113,11 +106,7 @@ took_settled v old i alike one new h k =
     subst (λ l. Settling (with_system_ports old l) new) h.others k in (
       processed v old i alike one h,
       own_made v old i alike one h,
-      (
-        k2.0,
-        (first_joined old.system_ports i h.changes.mid h.after k2.0.system_ports h.changes.runs k2.1.0, k2.1.1),
-        k2.2,
-      ),
+      (k2.0, (first_joined old.system_ports i h.changes.mid h.after k2.0.system_ports h.changes.runs k2.1.0, k2.1.1), k2.2),
     )
 
 -- steps 1 to 5, where the port looks the same after each
@@ -132,16 +121,14 @@ ports_settled v old i one two q none h k =
     let runs : RunsPeriodic u.port k.1 = subst (λ (x : SystemPort). RunsPeriodic x.port k.1) is k.3 in
     let w : SystemPort = record u { port = k.1 } in
     let last : two ≡ slice_set us i w = k.4 ∙ (λ j. slice_set (h.others j) i (record (is j) { port = k.1 })) in
-    subst (λ l. SettlesPorts (processed v old i true one h) (with_system_ports old l)) (sym last)
-    (settles_from (processed v old i true one h) us (slice_set us i w)
-    (set_ran old.keys old.system_ports old.system_ports i h.changes.mid u q.0 h.changes.runs)
+    subst (λ l. SettlesPorts (processed v old i true one h) (with_system_ports old l)) (sym last) (settles_from (processed v old i true one h) us
+    (slice_set us i w) (set_ran old.keys old.system_ports old.system_ports i h.changes.mid u q.0 h.changes.runs)
     (ran_still old.keys old.system_ports i h.before u h.there h.changes.runs.1.2 h.changes.same.1
     (ap (λ (x : SystemPort). x.held) h.changes.runs.0 ∙ ap (λ (x : SystemPort). x.held) h.changes.processes.0) q.0)
     (subst (λ l. NoneIsNext (aggregators_value old) l) (sym (alike_views old.system_ports i h.before u h.there h.changes.same.1)) none)
     (set_runs old.system_ports i u w q.1 (refl, runs)))
 
-set_twice : (system_ports : List SystemPort) (i : ℕ) (t u : SystemPort)
-    → slice_set (slice_set system_ports i t) i u ≡ slice_set system_ports i u
+set_twice : (system_ports : List SystemPort) (i : ℕ) (t u : SystemPort) → slice_set (slice_set system_ports i t) i u ≡ slice_set system_ports i u
 set_twice [] i t u = refl
 set_twice (x ∷ xs) zero t u = refl
 set_twice (x ∷ xs) (suc i) t u = ap (λ l. x ∷ l) (set_twice xs i t u)
@@ -155,18 +142,16 @@ pub paced_too : (v : Lacpdu) (i : ℕ) (old one two : List SystemPort) (s : Syst
     → slice_set (aggregators_in_use two) i was ≡ aggregators_in_use old
 paced_too v i old one two s was e w h k =
     let is : k.0 ≡ h.after = get_set old i h.before h.after k.0 h.there (ap (λ l. slice_get l i) (sym h.others) ∙ k.2) in
-    let whole : record k.0 { port = k.1 } ≡ record h.before { port = k.1 } =
-    ap (λ (x : SystemPort). record x { port = k.1 }) (is ∙ h.changes.runs.0 ∙ ap (λ (x : SystemPort). record x { port = h.after.port })
-    h.changes.processes.0) in
-    let last : two ≡ slice_set old i (record h.before { port = k.1 }) =
-    k.4 ∙ (λ j. slice_set (h.others j) i (whole j)) ∙ set_twice old i h.after (record h.before { port = k.1 }) in
+    let whole : record k.0 { port = k.1 } ≡ record h.before { port = k.1 } = ap (λ (x : SystemPort). record x { port = k.1 })
+    (is ∙ h.changes.runs.0 ∙ ap (λ (x : SystemPort). record x { port = h.after.port }) h.changes.processes.0) in
+    let last : two ≡ slice_set old i (record h.before { port = k.1 }) = k.4 ∙ (λ j. slice_set (h.others j) i (whole j))
+    ∙ set_twice old i h.after (record h.before { port = k.1 }) in
     ap (slice_set (aggregators_in_use two) i) w ∙ in_use_before Any i old two s (h.before, k.1, h.there, tt, last) e
 
 -- the lists that the parts of the call leave, and the conversations that left
-pub took_alone : (v : Lacpdu) (old : SystemState) (i : ℕ) (one two : List SystemPort) (were : List (Option AggId)) (t : Table)
-    → IsSound old → old.first_marker ≡ old.table.first → (h : ProcessesLacpduAt v i old.system_ports true one)
-    → PortAtChangesBy RunsPeriodic (Some i) one two → were ≡ aggregators_in_use old.system_ports
-    → ChangesAssignments old.table t (after_holding (stopped were two))
+pub took_alone : (v : Lacpdu) (old : SystemState) (i : ℕ) (one two : List SystemPort) (were : List (Option AggId)) (t : Table) → IsSound old
+    → old.first_marker ≡ old.table.first → (h : ProcessesLacpduAt v i old.system_ports true one) → PortAtChangesBy RunsPeriodic (Some i) one two
+    → were ≡ aggregators_in_use old.system_ports → ChangesAssignments old.table t (after_holding (stopped were two))
     → ThenSettles (OnlyPortChangesBy (Some i) (ProcessesLacpdu v)) old (moved_on old two t)
 took_alone v old i one two were t s f h k e c =
     let start = processed v old i true one h in
@@ -176,9 +161,8 @@ took_alone v old i one two were t s f h k e c =
     let w = place_carried (ProcessesLacpdu v) (Some i) old start were s own e in (
       start,
       own,
-      settling_joined start mid (moved_on old two t) settled
-          (leaves_made were start mid (moved_on old two t) w (ports_keep start mid settled).same (ports_table start mid settled) c
-          (is_moved_on old two t (c.first ∙ sym f) (c.conversations ∙ s.conversations))),
+      settling_joined start mid (moved_on old two t) settled (leaves_made were start mid (moved_on old two t) w (ports_keep start mid settled).same
+          (ports_table start mid settled) c (is_moved_on old two t (c.first ∙ sym f) (c.conversations ∙ s.conversations))),
     )
 
 -- what a known LACPDU leaves
@@ -203,9 +187,8 @@ ran_alike s q h e = λ i. record (rest i) { stage = e i }
 
 -- a port that processed an LACPDU and ran its mux machine
 pub took_and_ran : (v : Lacpdu) (s : SystemPort) (p q : Machines) (n : ℕ) (alike : Bool) → ProcessesLacpdu v s.port p
-    → FiresTimes (mux_rows false) n p q → AtRest (mux_rows false) q
-    → OnTrue alike (LooksUnchanged s (record s { port = p }) × LooksUnchanged s (record s { port = q }))
-    → ProcessesLacpduAndRunsMux v s alike (record s { port = q })
+    → FiresTimes (mux_rows false) n p q → AtRest (mux_rows false) q → OnTrue alike (LooksUnchanged s (record s { port = p })
+    × LooksUnchanged s (record s { port = q })) → ProcessesLacpduAndRunsMux v s alike (record s { port = q })
 took_and_ran v s p q n alike took fired rest same = record {
   mid = record s { port = p };
   processes = (refl, took);
@@ -214,10 +197,9 @@ took_and_ran v s p q n alike took fired rest same = record {
 }
 
 -- it looks as before if the LACPDU came from its recorded partner and left that as it was, and the mux machine left the stage
-pub both_alike : (v : Lacpdu) (s : SystemPort) (p q : Machines) (n : ℕ) → ProcessesLacpdu v s.port p → HasRecordedActor v s
-    → IsSamePartner s.port.partner p.partner → FiresTimes (mux_rows false) n p q → AtRest (mux_rows false) q
-    → stage_of q.mux q.wait_while ≡ stage_of p.mux p.wait_while
-    → LooksUnchanged s (record s { port = p }) × LooksUnchanged s (record s { port = q })
+pub both_alike : (v : Lacpdu) (s : SystemPort) (p q : Machines) (n : ℕ) → ProcessesLacpdu v s.port p
+    → HasRecordedActor v s → IsSamePartner s.port.partner p.partner → FiresTimes (mux_rows false) n p q → AtRest (mux_rows false) q
+    → stage_of q.mux q.wait_while ≡ stage_of p.mux p.wait_while → LooksUnchanged s (record s { port = p }) × LooksUnchanged s (record s { port = q })
 both_alike v s p q n took known same fired rest e =
     let processed : LooksUnchanged s (record s { port = p }) = took_alike v s p took known same in
     (processed, ran_alike (record s { port = p }) q (n, fired, rest) e ∙ processed)

@@ -37,16 +37,14 @@ timer_is t n b e h = grind (arith, nat_tests)
 timer : (t n : ℕ) → ticks_until_expired t ≡ Some n → (0 < n) × (t ≡ n)
 timer t n h = timer_is t n (nat_lt 0 t) refl h
 
-frame : (s : SystemState) (x : SystemPort) (n : ℕ) (b : Bool) → would_transmit s x ≡ b → (if b then Some zero else None) ≡ Some n
-    → FrameHas n s x
+frame : (s : SystemState) (x : SystemPort) (n : ℕ) (b : Bool) → would_transmit s x ≡ b → (if b then Some zero else None) ≡ Some n → FrameHas n s x
 frame s x n b e h = grind (arith, nat_tests)
 
 room : (p : Machines) (n : ℕ) (b : Bool) → (p.enabled && p.ntt) ≡ b → (if b then soonest (map ticks_in_window p.ages) else None) ≡ Some n
     → WindowHas n p
 room p n b e h = grind (arith, nat_tests, and_parts, one_of_list, none-some)
 
-on_port : (s : SystemState) (x : SystemPort) (n : ℕ) → ticks_until_due_on s x ≡ Some n
-    → FrameHas n s x ⊎ (TimerHas n x.port ⊎ WindowHas n x.port)
+on_port : (s : SystemState) (x : SystemPort) (n : ℕ) → ticks_until_due_on s x ≡ Some n → FrameHas n s x ⊎ (TimerHas n x.port ⊎ WindowHas n x.port)
 on_port s x n h =
     let current = ticks_until_expired x.port.current_while in
     let periodic = ticks_until_expired x.port.periodic_timer in
@@ -155,10 +153,9 @@ by_conversation t n (g, k, port, id, age, preferred, is, e, f) =
 
 by_all : (s : SystemState) (n : ℕ) → HappensIn n s → is_by (ticks_until_due s) (Some n) ≡ true
 by_all s n h = elim h [
-  | inl (i, x, there, on) ↦ by_right (ticks_until_next_wanted s.table) (soonest (map (ticks_until_due_on s) s.system_ports)) (Some n)
-      (by_list (ticks_until_due_on s) s.system_ports i x (Some n) there (by_port s x n on))
-  | inr c ↦ by_left (ticks_until_next_wanted s.table) (soonest (map (ticks_until_due_on s) s.system_ports)) (Some n)
-      (by_conversation s.table n c)
+  | inl (i, x, there, on) ↦ by_right (ticks_until_next_wanted s.table) (soonest (map (ticks_until_due_on s) s.system_ports))
+      (Some n) (by_list (ticks_until_due_on s) s.system_ports i x (Some n) there (by_port s x n on))
+  | inr c ↦ by_left (ticks_until_next_wanted s.table) (soonest (map (ticks_until_due_on s) s.system_ports)) (Some n) (by_conversation s.table n c)
 ]
 
 first_of : (s : SystemState) (r : Option ℕ) → ((n : ℕ) → r ≡ Some n → HappensIn n s)

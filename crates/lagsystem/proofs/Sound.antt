@@ -23,8 +23,7 @@ first_sound s p h = record {
   carried = first_carried s h;
   rested = first_rested s h;
   windowed = first_three s h;
-  members = subst (λ (v : View). Members (model_setup s) v.port) (sym (first_shows s h))
-      (members_first (model_setup s) (configured_setup s));
+  members = subst (λ (v : View). Members (model_setup s) v.port) (sym (first_shows s h)) (members_first (model_setup s) (configured_setup s));
   quiet = let q = first_quiet s p h in (q.0, q.1);
   promoted = (first_quiet s p h).2;
   occupants = (first_placed s h).0;

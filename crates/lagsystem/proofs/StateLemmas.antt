@@ -16,8 +16,7 @@ settled_made s ws news w h = subst (λ l. SettlesPorts s (with_system_ports s l)
 pub hears_control : (system_port : SystemPort) (octets payload : List ℕ) (effect : FrameEffect) → system_port.port.enabled ≡ true
     → 14 ≤ length octets → IsSlowProtocolsFrame octets → payload ≡ drop 14 octets
     → ParsesPayload system_port payload effect → ParsesFrame system_port octets effect
-hears_control system_port octets payload effect up long slow e h =
-    subst (λ b. ParsesWhere b system_port octets effect) (sym up) (elim h [
-      | inl f ↦ (Faulty f.0, ((long, slow), subst (λ p. fault_of p ≡ Some f.0) e f.1), f.2)
-      | inr v ↦ (Carries v.0, ((long, slow), subst (λ p. ReadsPdu p v.0) e v.1), v.2)
-    ])
+hears_control system_port octets payload effect up long slow e h = subst (λ b. ParsesWhere b system_port octets effect) (sym up) (elim h [
+  | inl f ↦ (Faulty f.0, ((long, slow), subst (λ p. fault_of p ≡ Some f.0) e f.1), f.2)
+  | inr v ↦ (Carries v.0, ((long, slow), subst (λ p. ReadsPdu p v.0) e v.1), v.2)
+])

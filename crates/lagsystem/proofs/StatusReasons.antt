@@ -60,12 +60,10 @@ detached_at m ticks c z u a b d = grind (arith, nat_tests)
 all_five : (a b c d e : Bool) → a ≡ true → b ≡ true → c ≡ true → d ≡ true → e ≡ false → ((((a && b) && c) && d) && not e) ≡ true
 all_five a b c d e f g h i j = rw (f, g, h, i, j) refl
 
-settled_at : (s : SystemState) (i : ℕ) (x : SystemPort) → IsSound s → slice_get s.system_ports i ≡ Some x
-    → MuxIsSettled s.keys s.system_ports x
+settled_at : (s : SystemState) (i : ℕ) (x : SystemPort) → IsSound s → slice_get s.system_ports i ≡ Some x → MuxIsSettled s.keys s.system_ports x
 settled_at s i x h at = all-get (MuxIsSettled s.keys s.system_ports) s.system_ports i x at h.quiet.0
 
-is_chosen : (b d : Bool) (o : Option AggId) → b ≡ true → d ≡ false → (if b && not d then (if b then o else None) else None) ≡ None
-    → o ≡ None
+is_chosen : (b d : Bool) (o : Option AggId) → b ≡ true → d ≡ false → (if b && not d then (if b then o else None) else None) ≡ None → o ≡ None
 is_chosen b d o e f h = grind (arith, nat_tests)
 
 none_if : (b : Bool) (o : Option AggId) → b ≡ true → (if b then o else None) ≡ None → o ≡ None
@@ -80,8 +78,7 @@ finds_no_aggregator s i x l other free =
     let h = l.sound in
     let at = l.at in
     let settled = settled_at s i x h at in
-    let eligible : is_eligible v ≡ true =
-    all_five p.enabled (same_receive_state Current p.receive || same_receive_state Defaulted p.receive)
+    let eligible : is_eligible v ≡ true = all_five p.enabled (same_receive_state Current p.receive || same_receive_state Defaulted p.receive)
     (is_detached (stage_of p.mux p.wait_while)) (is_unselected p.choice) (same_system p.partner.system p.party.system) l.hears.0
     (ap (λ r. same_receive_state Current r || same_receive_state Defaulted r) l.hears.1)
     (detached_at p.mux p.wait_while p.choice _ free settled.mux.1.0 settled.mux.1.1.1.0 settled.mux.1.1.1.1.1.0) (ap is_unselected free) other in
@@ -126,10 +123,9 @@ finds_no_room agg s i x l stands =
     let p = x.port in
     let h = l.sound in
     let at = l.at in
-    let known : is_aggregator s.keys agg ≡ true =
-    known_number s.keys agg.0 p.party.key (h.occupants.key i agg.0 x at (ap occupied stands)) in
-    let room : has_room (aggregators_value s) (views s.system_ports) agg ≡ false =
-    elim (none_is_next (aggregators_value s) (views s.system_ports) agg (h.promoted agg)) [
+    let known : is_aggregator s.keys agg ≡ true = known_number s.keys agg.0 p.party.key (h.occupants.key i agg.0 x at (ap occupied stands)) in
+    let room : has_room (aggregators_value s)
+    (views s.system_ports) agg ≡ false = elim (none_is_next (aggregators_value s) (views s.system_ports) agg (h.promoted agg)) [
       | inl r ↦ r
       | inr n ↦ absurd (true≢false (sym (ap (stands_by agg) stands ∙ itself agg.0) ∙ stood_by agg s.system_ports i x at n))
     ] in
@@ -162,11 +158,8 @@ waits_for_partner agg s i x l chosen there =
 
 waits_in : (agg : AggId) (s : SystemState) (i : ℕ) (x : SystemPort) → Heard s i x → x.port.choice ≡ Selected agg
     → same_mux_state Attached x.port.mux ≡ false → WaitsIn agg x.port.wait_while x
-waits_in agg s i x l chosen early = record {
-  chosen = chosen;
-  mux = mux_waiting x.port.mux x.port.choice agg chosen l.idle early (settled_at s i x l.sound l.at).mux.0;
-  wait_while = refl;
-}
+waits_in agg s i x l chosen early = record
+    { chosen = chosen; mux = mux_waiting x.port.mux x.port.choice agg chosen l.idle early (settled_at s i x l.sound l.at).mux.0; wait_while = refl }
 
 pub waits : (agg : AggId) (s : SystemState) (i : ℕ) (x : SystemPort) → Heard s i x → x.port.choice ≡ Selected agg
     → same_mux_state Attached x.port.mux ≡ false → nat_lt 0 x.port.wait_while ≡ true → Waits x.port.wait_while s x
@@ -212,9 +205,8 @@ any_of : (b d : Bool) (v : PortView) (rest : List PortView) → still v ≡ d �
     → list_any still (cond b (v ∷ rest) rest) ≡ true
 any_of b d v rest e h = grind (arith, nat_tests)
 
-any_here : (agg : AggId) (ports : List SystemPort) (i : ℕ) (x : SystemPort) → slice_get ports i ≡ Some x
-    → has_chosen agg x.port.choice ≡ true → is_detached_or_waiting (stage_of x.port.mux x.port.wait_while) ≡ true
-    → list_any still (ports_that_chose agg (views ports)) ≡ true
+any_here : (agg : AggId) (ports : List SystemPort) (i : ℕ) (x : SystemPort) → slice_get ports i ≡ Some x → has_chosen agg x.port.choice ≡ true
+    → is_detached_or_waiting (stage_of x.port.mux x.port.wait_while) ≡ true → list_any still (ports_that_chose agg (views ports)) ≡ true
 any_here agg [] i x at m w = absurd (none-some x at)
 any_here agg (y ∷ ys) zero x at m w = grind (arith, nat_tests)
 any_here agg (y ∷ ys) (suc i) x at m w = grind (arith, nat_tests, any_here agg ys i x at m w)
@@ -241,10 +233,8 @@ waits_for_member agg s i x l chosen early waited =
     let at = l.at in
     let settled = settled_at s i x h at in
     let waiting = waits_in agg s i x l chosen early in
-    let known : is_aggregator s.keys agg ≡ true =
-    known_number s.keys agg.0 p.party.key (h.occupants.key i agg.0 x at (ap occupied chosen)) in
-    let unready : is_ready s.keys (views s.system_ports) agg ≡ false =
-    sym (ap (ready_of s.keys (views s.system_ports)) chosen) ∙ settled.unready in
+    let known : is_aggregator s.keys agg ≡ true = known_number s.keys agg.0 p.party.key (h.occupants.key i agg.0 x at (ap occupied chosen)) in
+    let unready : is_ready s.keys (views s.system_ports) agg ≡ false = sym (ap (ready_of s.keys (views s.system_ports)) chosen) ∙ settled.unready in
     let any = any_here agg s.system_ports i x at (ap (has_chosen agg) chosen ∙ itself agg.0) (stays_at p.mux p.wait_while waiting.mux) in
     let o = one_has_not agg s.system_ports
     (not_all (is_aggregator s.keys agg) true true (ports_that_chose agg (views s.system_ports)) known any unready) in

@@ -40,13 +40,10 @@ use Rattle.lagsystem.proofs.Occupying.{zip_stay}
 
 -- each port moves
 each_moves : (u : SystemSetup) (call : Told) (f : DistributorFacts) (R : Machines → Machines → Type 0)
-    → ((n : ℕ) (p q : Machines) → R p q → QuietMoves u call n p [] q)
-    → (olds news : List SystemPort) → Rises 0 (port_numbers olds) → PortsChangeBy R olds news
-    → LawfulMoves u call (model_view_at f olds) [] (model_view_at f news)
-each_moves u call f R k olds news r h =
-    all_slots_move u call f olds news (are_numbered 0 olds r)
-    (AllZip-weaker (PortChangesBy R) (SlotMoves u call)
-    (λ x y m. (ap number_of_port m.0, loudly u call x.number x.port y.port [] (k x.number x.port y.port m.1))) olds news h)
+    → ((n : ℕ) (p q : Machines) → R p q → QuietMoves u call n p [] q) → (olds news : List SystemPort)
+    → Rises 0 (port_numbers olds) → PortsChangeBy R olds news → LawfulMoves u call (model_view_at f olds) [] (model_view_at f news)
+each_moves u call f R k olds news r h = all_slots_move u call f olds news (are_numbered 0 olds r) (AllZip-weaker (PortChangesBy R)
+    (SlotMoves u call) (λ x y m. (ap number_of_port m.0, loudly u call x.number x.port y.port [] (k x.number x.port y.port m.1))) olds news h)
 
 rising : (s t : SystemState) → Keeps s t → Rises 0 (port_numbers s.system_ports) → Rises 0 (port_numbers t.system_ports)
 rising s t k r = subst (λ ns. Rises 0 ns) (sym k.same) r
@@ -68,13 +65,13 @@ ports_moves u call f old new fits r agree h =
     let keys = old.keys in
     let view = model_view_at f in
     let free : Machines → Machines → Type 0 = λ p q. RunsToRest (mux_rows false) p q in
-    let run : (ready : Bool) (n : ℕ) (p q : Machines) → RunsToRest (mux_rows ready) p q → QuietMoves u call n p [] q =
-    λ ready n. settles_moves u call n (mux_rows ready) (mux_moves u call n ready) in
+    let run : (ready : Bool) (n : ℕ) (p q : Machines) → RunsToRest (mux_rows ready) p q → QuietMoves u call n p
+    [] q = λ ready n. settles_moves u call n (mux_rows ready) (mux_moves u call n ready) in
     let n1 = zip_numbers free old.system_ports s.one s.stops in
     let n2 = choosing_numbers aggs s.one s.two s.chooses ∙ n1 in
     let n4 = zip_numbers (RunsReady keys (views s.two)) s.two s.four s.runs ∙ n2 in
-    let rise : (l : List SystemPort) → port_numbers l ≡ port_numbers old.system_ports → Rises 0 (port_numbers l) =
-    λ l e. subst (λ ns. Rises 0 ns) (sym e) r in
+    let rise : (l : List SystemPort) → port_numbers l ≡ port_numbers old.system_ports → Rises 0
+    (port_numbers l) = λ l e. subst (λ ns. Rises 0 ns) (sym e) r in
     let m1 = each_moves u call f free (run false) old.system_ports s.one r s.stops in
     let a1 = stay_agrees keys old.system_ports s.one (zip_stay free (mux_stays false) old.system_ports s.one s.stops) agree in
     let idle = zip_all (PortChangesBy free) StandbyIsIdle rest_idle old.system_ports s.one s.stops in
@@ -82,9 +79,8 @@ ports_moves u call f old new fits r agree h =
     let m4 = each_moves u call f (RunsReady keys (views s.two)) (λ n p q x. run (ready_of keys (views s.two) p.choice) n p q x) s.two s.four
     (rise s.two n2) s.runs in
     let m5 = each_moves u call f RunsPeriodic (λ n p q x. runs_periodic_moves u call n p q x) s.four new.system_ports (rise s.four n4) s.paces in
-    moves_joined u call (view old.system_ports) (view s.one) (view new.system_ports) [] [] m1
-    (moves_joined u call (view s.one) (view s.two) (view new.system_ports) [] [] m2
-    (moves_joined u call (view s.two) (view s.four) (view new.system_ports) [] [] m4 m5))
+    moves_joined u call (view old.system_ports) (view s.one) (view new.system_ports) [] [] m1 (moves_joined u call (view s.one)
+    (view s.two) (view new.system_ports) [] [] m2 (moves_joined u call (view s.two) (view s.four) (view new.system_ports) [] [] m4 m5))
 
 -- settling
 pub settling_moves : (u : SystemSetup) (call : Told) (old new : SystemState) → Fits u old.keys → Rises 0 (port_numbers old.system_ports)
@@ -97,17 +93,15 @@ settling_moves u call old new fits r agree h =
     moves_joined u call (model_view old) (model_view p.0) (model_view new) [] [] ports (leaving_moves u call p.0 new p.2)
 
 settled_moves : (u : SystemSetup) (call : Told) (own : SystemState → SystemState → Type 0) (seen : List Act) (s t : SystemState)
-    → Fits u s.keys → Rises 0 (port_numbers s.system_ports) → OccupantsAgree s.keys s.system_ports
-    → ((mid : SystemState) → own s mid → Keeps s mid) → ((mid : SystemState) → own s mid → EachStays s.system_ports mid.system_ports)
-    → ((mid : SystemState) → own s mid → LawfulMoves u call (model_view s) seen (model_view mid))
-    → ThenSettles own s t → LawfulMoves u call (model_view s) seen (model_view t)
+    → Fits u s.keys → Rises 0 (port_numbers s.system_ports) → OccupantsAgree s.keys s.system_ports → ((mid : SystemState) → own s mid → Keeps s mid)
+    → ((mid : SystemState) → own s mid → EachStays s.system_ports mid.system_ports) → ((mid : SystemState) → own s mid
+    → LawfulMoves u call (model_view s) seen (model_view mid)) → ThenSettles own s t → LawfulMoves u call (model_view s) seen (model_view t)
 settled_moves u call own seen s t fits r agree keeps stay moves h =
     let k = keeps h.0 h.1 in
-    let a : OccupantsAgree h.0.keys h.0.system_ports = subst (λ (x : SystemState). OccupantsAgree x.keys h.0.system_ports) (sym k.frame)
-    (stay_agrees s.keys s.system_ports h.0.system_ports (stay h.0 h.1) agree) in
-    subst (λ l. LawfulMoves u call (model_view s) l (model_view t)) (append-nil seen)
-    (moves_joined u call (model_view s) (model_view h.0) (model_view t) seen [] (moves h.0 h.1)
-    (settling_moves u call h.0 t (fitting u s h.0 k fits) (rising s h.0 k r) a h.2))
+    let a : OccupantsAgree h.0.keys h.0.system_ports = subst (λ (x : SystemState). OccupantsAgree x.keys h.0.system_ports)
+    (sym k.frame) (stay_agrees s.keys s.system_ports h.0.system_ports (stay h.0 h.1) agree) in
+    subst (λ l. LawfulMoves u call (model_view s) l (model_view t)) (append-nil seen) (moves_joined u call (model_view s)
+    (model_view h.0) (model_view t) seen [] (moves h.0 h.1) (settling_moves u call h.0 t (fitting u s h.0 k fits) (rising s h.0 k r) a h.2))
 
 -- ports alone
 slots_moved : (u : SystemSetup) (call : Told) (seen : List Act) (old mid : SystemState) → mid ≡ with_system_ports old mid.system_ports
@@ -122,10 +116,9 @@ pub table_moved : (u : SystemSetup) (call : Told) (seen : List Act) (old new : S
 table_moved u call seen old new e h = grind (arith, nat_tests)
 
 -- the port with a number moves
-one_moves : (u : SystemSetup) (call : Told) (f : DistributorFacts) (n i : ℕ) (system_ports : List SystemPort) (s : SystemPort)
-    (q : Machines) (seen : List Act) → Rises 0 (port_numbers system_ports) → port_index n system_ports ≡ Some i
-    → slice_get system_ports i ≡ Some s
-    → QuietMoves u call n s.port seen q
+one_moves : (u : SystemSetup) (call : Told) (f : DistributorFacts) (n i : ℕ) (system_ports : List SystemPort)
+    (s : SystemPort) (q : Machines) (seen : List Act) → Rises 0 (port_numbers system_ports)
+    → port_index n system_ports ≡ Some i → slice_get system_ports i ≡ Some s → QuietMoves u call n s.port seen q
     → LawfulMoves u call (model_view_at f system_ports) seen (model_view_at f (slice_set system_ports i (record s { port = q })))
 one_moves u call f n i system_ports s q seen r e h k =
     let same : s.number ≡ n = found_place n system_ports i s e h in
@@ -133,15 +126,13 @@ one_moves u call f n i system_ports s q seen r e h k =
     slot_moves u call f system_ports i s (record s { port = q }) seen (are_numbered 0 system_ports r) h refl
     (subst (λ m. PortMoves u call m (model_port s.port) seen (model_port q)) (sym same) loud)
 
-place_moves : (u : SystemSetup) (call : Told) (f : DistributorFacts) (R : Machines → Machines → Type 0) (n : ℕ) (old new : List SystemPort)
-    (seen : List Act) → Rises 0 (port_numbers old)
+place_moves : (u : SystemSetup) (call : Told)
+    (f : DistributorFacts) (R : Machines → Machines → Type 0) (n : ℕ) (old new : List SystemPort) (seen : List Act) → Rises 0 (port_numbers old)
     → ((s : SystemPort) (q : Machines) (i : ℕ) → slice_get old i ≡ Some s → R s.port q → QuietMoves u call n s.port seen q)
-    → (o : Option ℕ) → port_index n old ≡ o → PortAtChangesBy R o old new
-    → LawfulMoves u call (model_view_at f old) seen (model_view_at f new)
+    → (o : Option ℕ) → port_index n old ≡ o → PortAtChangesBy R o old new → LawfulMoves u call (model_view_at f old) seen (model_view_at f new)
 place_moves u call f R n old new seen r k None e h = absurd h
-place_moves u call f R n old new seen r k (Some i) e h =
-    subst (λ l. LawfulMoves u call (model_view_at f old) seen (model_view_at f l)) (sym h.4)
-    (one_moves u call f n i old h.0 h.1 seen r e h.2 (k h.0 h.1 i h.2 h.3))
+place_moves u call f R n old new seen r k (Some i) e h = subst (λ l. LawfulMoves u call (model_view_at f old) seen (model_view_at f l))
+    (sym h.4) (one_moves u call f n i old h.0 h.1 seen r e h.2 (k h.0 h.1 i h.2 h.3))
 
 -- an LACPDU is taken if the link is enabled
 where_awake : (b x : Bool) → b ≡ true → (if b then x else true) ≡ true → x ≡ true
@@ -183,10 +174,8 @@ heard_response system_port octets w b h = grind (arith, nat_tests)
 
 -- an answer, without effect
 abbrev Tellable : SystemState → SystemSetup → DistributorFacts → ℕ → List ℕ → List SystemPort → Received → Type 0
-Tellable w u f n octets system_ports answer =
-    (told : Told) × (seen : List Act) × CallSeenAs (Receive n octets) told
-    × EffectsSeenAs w (Receive n octets) (reply.Receive (Ok answer)) seen
-    × LawfulMoves u told (model_view_at f system_ports) seen (model_view_at f system_ports)
+Tellable w u f n octets system_ports answer = (told : Told) × (seen : List Act) × CallSeenAs (Receive n octets) told × EffectsSeenAs w
+    (Receive n octets) (reply.Receive (Ok answer)) seen × LawfulMoves u told (model_view_at f system_ports) seen (model_view_at f system_ports)
 
 silent : (w : SystemState) (u : SystemSetup) (f : DistributorFacts) (n : ℕ) (octets : List ℕ) (system_ports : List SystemPort)
     (answer : Received) → EffectsSeenAs w (Receive n octets) (reply.Receive (Ok answer)) [] → Tellable w u f n octets system_ports answer
@@ -200,23 +189,16 @@ handed_silently w u f n octets system_ports (Some agg) = silent w u f n octets s
 -- a marker is answered
 responds : (w : SystemState) (u : SystemSetup) (f : DistributorFacts) (n i : ℕ) (octets : List ℕ) (system_ports : List SystemPort)
     (system_port : SystemPort) (m : Marker) (k : MarkerKind) (answer : Received) → Rises 0 (port_numbers system_ports)
-    → port_index n system_ports ≡ Some i → slice_get system_ports i ≡ Some system_port
-    → m.kind ≡ k → IsFrame octets (Carries (pdu.Marker m)) → AnswersMarker system_port.mac m (answer_of k m) (Answered answer)
-    → Tellable w u f n octets system_ports answer
+    → port_index n system_ports ≡ Some i → slice_get system_ports i ≡ Some system_port → m.kind ≡ k → IsFrame octets (Carries (pdu.Marker m))
+    → AnswersMarker system_port.mac m (answer_of k m) (Answered answer) → Tellable w u f n octets system_ports answer
 responds w u f n i octets system_ports system_port m kind.Response answer r e g is h a = absurd (not_answered answer m a)
 responds w u f n i octets system_ports system_port m kind.Information answer r e g is h a =
     let call = Told_receive n (Some (Message.Marker m.system m.port m.id)) in
     let seen : List Act = Shows n (Message.Response m.system m.port m.id) ∷ [] in
     let brought : Message.Marker m.system m.port m.id ≡ marker_message m.kind m = ap (λ k. marker_message k m) (sym is) in
-    let moves = one_moves u call f n i system_ports system_port system_port.port seen r e g (
-      PortMove.Respond m.system m.port m.id
-          ∷ [],
-      (λ ports. refl, tt),
-      refl,
-      refl,
-    ) in
-    let same : slice_set system_ports i (record system_port { port = system_port.port }) ≡ system_ports =
-    set_same system_ports i system_port g in
+    let moves = one_moves u call f n i system_ports system_port system_port.port seen r e g
+    (PortMove.Respond m.system m.port m.id ∷ [], (λ ports. refl, tt), refl, refl) in
+    let same : slice_set system_ports i (record system_port { port = system_port.port }) ≡ system_ports = set_same system_ports i system_port g in
     subst (Tellable w u f n octets system_ports) (sym (ap (answer_or answer) a.3)) (
       call,
       seen,
@@ -241,8 +223,7 @@ answered_by w u f n i octets system_ports system_port answer (Carries (pdu.Marke
 
 heard_answer : (w : SystemState) (u : SystemSetup) (f : DistributorFacts) (n i : ℕ) (octets : List ℕ) (system_ports : List SystemPort)
     (system_port : SystemPort) (answer : Received) (b : Bool) → Rises 0 (port_numbers system_ports) → port_index n system_ports ≡ Some i
-    → slice_get system_ports i ≡ Some system_port
-    → ParsesWhere b system_port octets (Answered answer) → Tellable w u f n octets system_ports answer
+    → slice_get system_ports i ≡ Some system_port → ParsesWhere b system_port octets (Answered answer) → Tellable w u f n octets system_ports answer
 heard_answer w u f n i octets system_ports system_port answer false r e g h = subst (Tellable w u f n octets system_ports)
     (sym (ap (answer_or answer) h)) (silent w u f n octets system_ports Disabled refl)
 heard_answer w u f n i octets system_ports system_port answer true r e g h = answered_by w u f n i octets system_ports system_port
@@ -260,18 +241,16 @@ names_us s n m h = grind (arith, nat_tests, Decides-eqb, and_parts, bytes_eq-Dec
 releases : (b : Bool) (n port : ℕ) (octets : List ℕ) (m : Marker) (old : SystemState) (answer : Received) (new : SystemState) → port ≡ n
     → is_own_response old port m ≡ b → IsFrame octets (Carries (pdu.Marker m)) → m.kind ≡ kind.Response
     → Releases b port m old answer new → JoinedByLawfulMoves old (Receive n octets) (reply.Receive (Ok answer)) new
-releases false n port octets m old answer new p b is k h =
-    subst (λ a. JoinedByLawfulMoves old (Receive n octets) (reply.Receive (Ok a)) new) (sym h.0)
-    (nothing old (Receive n octets) (reply.Receive (Ok (Released 0))) new (Told_receive n None) (None, tt, refl) refl h.1)
+releases false n port octets m old answer new p b is k h = subst (λ a. JoinedByLawfulMoves old (Receive n octets) (reply.Receive (Ok a)) new)
+    (sym h.0) (nothing old (Receive n octets) (reply.Receive (Ok (Released 0))) new (Told_receive n None) (None, tt, refl) refl h.1)
 releases true n port octets m old answer new p b is k h =
     let u = model_setup old in
     let mac = old.system.mac in
     let us = names_us old port m b in
     let call = Told_receive n (Some (Message.Response mac n m.id)) in
-    let brought : Message.Response mac n m.id ≡ control_message (pdu.Marker m) =
-    (λ i. Message.Response (sym us.1 i) (sym (us.0 ∙ p) i) m.id) ∙ ap (λ k. marker_message k m) (sym k) in
-    let moves = release_moves mac old.table new.table n m.id
-    (subst (λ q. ChangesAssignments old.table new.table (after_release q m.id)) p h.1) in
+    let brought : Message.Response mac n m.id ≡ control_message (pdu.Marker m) = (λ i. Message.Response (sym us.1 i) (sym (us.0 ∙ p) i) m.id)
+    ∙ ap (λ k. marker_message k m) (sym k) in
+    let moves = release_moves mac old.table new.table n m.id (subst (λ q. ChangesAssignments old.table new.table (after_release q m.id)) p h.1) in
     let all = table_moved u call [] old new h.2 (table_moves u call old.system_ports old.table new.table [] moves) in
     subst (λ a. JoinedByLawfulMoves old (Receive n octets) (reply.Receive (Ok a)) new) (sym h.0)
     (call, [], (Some (Message.Response mac n m.id), (pdu.Marker m, is, brought), refl), refl, all)
@@ -288,17 +267,15 @@ receives old n octets system_port (ProcessLacpdu v) answer new i r rested agree 
     let call = Told_receive n (Some (Lacp (lacp_message v))) in
     let seen : List Act = Took n (lacp_message v) ∷ [] in
     let one : (mid : SystemState) → OnlyPortChangesBy (Some i) (ProcessesLacpdu v) old mid
-    → LawfulMoves u call (model_view old) seen (model_view mid) =
-    λ mid own.
+    → LawfulMoves u call (model_view old) seen (model_view mid) = λ mid own.
     let same : system_port ≡ own.0.0 = same_Some system_port own.0.0 (sym g ∙ own.0.2) in
     let up : own.0.0.port.enabled ≡ true = subst (λ (y : SystemPort). y.port.enabled ≡ true) same x.0 in
-    let quietly = takes_moves u n v own.0.0.port own.0.1 up
-    (can_receive_at_rest own.0.0.port
+    let quietly = takes_moves u n v own.0.0.port own.0.1 up (can_receive_at_rest own.0.0.port
     (all-get (λ y. none_enabled receive_rows y.port ≡ true) old.system_ports i own.0.0 own.0.2 rested.0)) own.0.3 in
     slots_moved u call seen old mid own.1 (subst (λ l. LawfulMoves u call (model_view_at f old.system_ports) seen (model_view_at f l))
     (sym own.0.4) (one_moves u call f n i old.system_ports own.0.0 own.0.1 seen r e own.0.2 quietly)) in
-    let moves = settled_moves u call (OnlyPortChangesBy (Some i) (ProcessesLacpdu v)) seen old new (λ g. refl) r agree
-    (λ mid own. keeps_place (ProcessesLacpdu v) (Some i) old mid own)
+    let moves = settled_moves u call (OnlyPortChangesBy (Some i) (ProcessesLacpdu v)) seen old new
+    (λ g. refl) r agree (λ mid own. keeps_place (ProcessesLacpdu v) (Some i) old mid own)
     (λ mid own. place_stays (ProcessesLacpdu v) (taking_stays v) (Some i) old.system_ports mid.system_ports own.0) one d.1 in
     subst (λ a. JoinedByLawfulMoves old (Receive n octets) (reply.Receive (Ok a)) new) (sym d.0)
     (call, seen, (Some (Lacp (lacp_message v)), (pdu.Lacpdu v, x.1, refl), refl), (v, x.1, refl), moves)
@@ -332,10 +309,8 @@ sends_lacpdu old n i system_port answer new r rested e g h =
     let u = model_setup old in
     let f = model_distributor old.table in
     let member = all-get (λ y. mux_consistent y.port ≡ true) old.system_ports i system_port g rested.1 in
-    let quietly = sending u Told.Transmit n old.max_delay p refl
-    (λ says. is_member p.choice
-    (where_member (is_synchronized p.mux) (is_selected p.choice)
-    (if same_mux_state CollectingDistributing p.mux then partner_synchronized p else true) member says)) in
+    let quietly = sending u Told.Transmit n old.max_delay p refl (λ says. is_member p.choice (where_member (is_synchronized p.mux)
+    (is_selected p.choice) (if same_mux_state CollectingDistributing p.mux then partner_synchronized p else true) member says)) in
     let moves = one_moves u Told.Transmit f n i old.system_ports system_port (after_sending p) seen r e g quietly in
     let whole = subst (λ (s : SystemState). LawfulMoves u Told.Transmit (model_view old) seen (model_view s)) (sym h.3) moves in
     subst (λ a. JoinedByLawfulMoves old (Transmit n) (reply.Transmit (Ok a)) new) (sym h.2)
@@ -345,18 +320,16 @@ pub below : (o : Option ℕ) (b : Bool) (n id : ℕ) → cond b (cond (ltb n (2 
 below o b n id e = grind (arith, nat_tests)
 
 -- a marker goes out
-pub marker_goes : (id : ℕ) (old : SystemState) (n port : ℕ) (mac : List ℕ) (answer : Option (List ℕ)) (new : SystemState)
-    → id < 2 ^ 32 → port ≡ n
-    → SendsMarkerOf (Some id) port mac old answer new → JoinedByLawfulMoves old (Transmit n) (reply.Transmit (Ok answer)) new
+pub marker_goes : (id : ℕ) (old : SystemState) (n port : ℕ) (mac : List ℕ) (answer : Option (List ℕ)) (new : SystemState) → id < 2 ^ 32
+    → port ≡ n → SendsMarkerOf (Some id) port mac old answer new → JoinedByLawfulMoves old (Transmit n) (reply.Transmit (Ok answer)) new
 marker_goes id old n port mac answer new fits p h =
     let u = model_setup old in
     let m = own_marker old port id in
     let seen : List Act = Shows n (Message.Marker old.system.mac n id) ∷ [] in
-    let moves = mark_moves old.system.mac Told.Transmit old.table new.table n id refl fits
-    (subst (λ q. Marks old.table new.table q id) p h.4) in
+    let moves = mark_moves old.system.mac Told.Transmit old.table new.table n id refl fits (subst (λ q. Marks old.table new.table q id) p h.4) in
     let all = table_moved u Told.Transmit seen old new h.5 (table_moves u Told.Transmit old.system_ports old.table new.table seen moves) in
-    let told : Shows n (Message.Marker old.system.mac n id) ∷ [] ≡ Shows n (control_message (pdu.Marker m))
-    ∷ [] = λ i. Shows n (Message.Marker old.system.mac (sym p i) id) ∷ [] in
+    let told : Shows n (Message.Marker old.system.mac n id) ∷ [] ≡ Shows n (control_message (pdu.Marker m)) ∷ [] =
+    λ i. Shows n (Message.Marker old.system.mac (sym p i) id) ∷ [] in
     subst (λ a. JoinedByLawfulMoves old (Transmit n) (reply.Transmit (Ok a)) new) (sym h.3)
     (Told.Transmit, seen, refl, (pdu.Marker m, (mac, h.0, h.1, h.2, refl), told), all)
 
@@ -397,13 +370,11 @@ offers gives agg octets old (Ok port) new r rested h =
       seen,
       refl,
       refl,
-      table_moved u Told.Offer seen old new h.2.1
-          (carrying_moves u Told.Offer agg old.system_ports old.table new.table seen r rested.1 moves),
+      table_moved u Told.Offer seen old new h.2.1 (carrying_moves u Told.Offer agg old.system_ports old.table new.table seen r rested.1 moves),
     )
 offers gives agg octets old (Err fault) new r rested h = grind (arith, nat_tests, nothing)
 
-pub if_ok : (b : Bool) (x : Result Assignment SystemFault) (fault : SystemFault) (s : Assignment)
-    → (if b then x else Err fault) ≡ Ok s → x ≡ Ok s
+pub if_ok : (b : Bool) (x : Result Assignment SystemFault) (fault : SystemFault) (s : Assignment) → (if b then x else Err fault) ≡ Ok s → x ≡ Ok s
 if_ok b x fault s e = grind (arith, nat_tests)
 
 pub known_ok : (b : Bool) (x : Result Assignment DistFault) (fault : DistFault) (s : Assignment)
@@ -421,8 +392,7 @@ forced_to agg conv old s e = grind (arith, nat_tests, known_ok, if_ok)
 
 moves_conversation : (agg : AggId) (conv port : ℕ) (what : Result Assignment SystemFault) (old : SystemState)
     (answer : Result Unit SystemFault) (new : SystemState) → system_move_result old agg conv port ≡ what
-    → GivesOrRefuses agg conv what old answer new
-    → JoinedByLawfulMoves old (Move_conversation agg conv port) (reply.MoveConversation answer) new
+    → GivesOrRefuses agg conv what old answer new → JoinedByLawfulMoves old (Move_conversation agg conv port) (reply.MoveConversation answer) new
 moves_conversation agg conv port (Ok s) old answer new e h =
     let u = model_setup old in
     let call = Told.Move_conversation in
@@ -454,8 +424,7 @@ ticks u old mid r h =
     (table_moves u Told.Tick mid.system_ports old.table mid.table [] (conversations_tick u.system.mac Told.Tick old.table mid.table h.1))
 
 frees : (u : SystemSetup) (n : ℕ) (up : Bool) (system_ports : List SystemPort) (t new : Table) → FreesIfDown up n t new
-    → LawfulMoves u (Told.Set_link n up) (model_view_at (model_distributor t) system_ports) []
-    (model_view_at (model_distributor new) system_ports)
+    → LawfulMoves u (Told.Set_link n up) (model_view_at (model_distributor t) system_ports) [] (model_view_at (model_distributor new) system_ports)
 frees u n true system_ports t new h = ([], tt, refl, ap (λ (x : Table). model_view_at (model_distributor x) system_ports) h)
 frees u n false system_ports t new h = table_moves u (Told.Set_link n false) system_ports t new [] (down_moves u.system.mac t new n h)
 
@@ -479,9 +448,8 @@ Step-joins gives old Tick reply.Tick new r rested agree h =
       [],
       refl,
       refl,
-      settled_moves u Told.Tick Ticks [] old new (λ g. refl) r agree (λ mid x. keeps_tick old mid x)
-          (λ mid x. zip_stay (λ p q. RunsToRest receive_rows (count_down p) q) tick_stays old.system_ports mid.system_ports x.0)
-          (λ mid x. ticks u old mid r x) h,
+      settled_moves u Told.Tick Ticks [] old new (λ g. refl) r agree (λ mid x. keeps_tick old mid x) (λ mid x. zip_stay
+          (λ p q. RunsToRest receive_rows (count_down p) q) tick_stays old.system_ports mid.system_ports x.0) (λ mid x. ticks u old mid r x) h,
     )
 Step-joins gives old (Set_link n up) (reply.SetLink (Ok done)) new r rested agree h =
     let u = model_setup old in
@@ -491,9 +459,8 @@ Step-joins gives old (Set_link n up) (reply.SetLink (Ok done)) new r rested agre
       refl,
       refl,
       settled_moves u call (SetsLink n up) [] old new (λ g. refl) r agree (λ mid x. keeps_link n up old mid x)
-          (λ mid x. place_stays (SetsPortEnabled old.max_links up) (link_stays old.max_links up) (port_index n old.system_ports)
-          old.system_ports mid.system_ports x.0)
-          (λ mid x. links u n up old mid r x) h,
+          (λ mid x. place_stays (SetsPortEnabled old.max_links up) (link_stays old.max_links up)
+          (port_index n old.system_ports) old.system_ports mid.system_ports x.0) (λ mid x. links u n up old mid r x) h,
     )
 Step-joins gives old (Set_link n up) (reply.SetLink (Err fault)) new r rested agree h = grind (arith, nat_tests)
 Step-joins gives old (Receive n octets) (reply.Receive (Ok answer)) new r rested agree h = grind (arith, nat_tests, receives_place, port_index)
@@ -503,12 +470,11 @@ Step-joins gives old (Configure n change) (reply.Configure (Ok true)) new r rest
     let u = model_setup old in
     let f = model_distributor old.table in
     let o = port_index n old.system_ports in
-    let moves = settled_moves u Told.Configure (OnlyPortChangesBy o (ChangesParty change)) [] old new (λ g. refl) r agree
-    (λ mid x. keeps_place (ChangesParty change) o old mid x)
+    let moves = settled_moves u Told.Configure (OnlyPortChangesBy o (ChangesParty change))
+    [] old new (λ g. refl) r agree (λ mid x. keeps_place (ChangesParty change) o old mid x)
     (λ mid x. place_stays (ChangesParty change) (configure_stays change) o old.system_ports mid.system_ports x.0)
-    (λ mid x. slots_moved u Told.Configure [] old mid x.1
-    (place_moves u Told.Configure f (ChangesParty change) n old.system_ports mid.system_ports [] r
-    (λ s q i at y. configures_moves u n change s.port q y) o refl x.0)) h in
+    (λ mid x. slots_moved u Told.Configure [] old mid x.1 (place_moves u Told.Configure f
+    (ChangesParty change) n old.system_ports mid.system_ports [] r (λ s q i at y. configures_moves u n change s.port q y) o refl x.0)) h in
     (Told.Configure, [], refl, refl, moves)
 Step-joins gives old (Configure n change) (reply.Configure (Ok false)) new r rested agree h = grind (arith, nat_tests)
 Step-joins gives old (Configure n change) (reply.Configure (Err fault)) new r rested agree h = grind (arith, nat_tests)

@@ -15,10 +15,8 @@ due_alike t u p aggs many next e = grind (arith, nat_tests)
 
 transmits_alike : (old new : SystemState) → new ≡ with_table old new.table → ((p : ℕ) → marker_due new.table p ≡ marker_due old.table p)
     → DueAsBefore old new
-transmits_alike old new f m n =
-    ap (would_transmit_at n) f
-    ∙ (λ i. option_map (λ (x : SystemPort). x.port.enabled && (is_due x.port || is_some (m x.number i)))
-    (system_port_at (port_index n old.system_ports) old.system_ports))
+transmits_alike old new f m n = ap (would_transmit_at n) f ∙ (λ i. option_map (λ (x : SystemPort). x.port.enabled && (is_due x.port || is_some
+    (m x.number i))) (system_port_at (port_index n old.system_ports) old.system_ports))
 
 nothing_alike : (old new : SystemState) → new ≡ old → DueAsBefore old new
 nothing_alike old new e n = ap (would_transmit_at n) e
@@ -26,8 +24,7 @@ nothing_alike old new e n = ap (would_transmit_at n) e
 -- a conversation that takes a port wanted no marker, and wants none
 
 wished_alike : (t u : Table) (ports : List ℕ) (agg conv port p : ℕ) → SetsAssignment t u agg conv (On port)
-    → MaySend ports (assignment_of t agg conv) port → (a c : ℕ)
-    → wants_marker p (assignment_of u a c) ≡ wants_marker p (assignment_of t a c)
+    → MaySend ports (assignment_of t agg conv) port → (a c : ℕ) → wants_marker p (assignment_of u a c) ≡ wants_marker p (assignment_of t a c)
 wished_alike t u ports agg conv port p h may a c = grind (arith, nat_tests)
 
 given_alike : (gives : ℕ → ℕ → ℕ → Type 0) (agg : AggId) (conv port : ℕ) (old new : SystemState)
@@ -74,8 +71,7 @@ taken_on : (gives : ℕ → ℕ → ℕ → Type 0) (agg : AggId) (conv port : �
 taken_on gives agg conv port old answer new e h = grind (arith, nat_tests)
 
 taken_if : (there known : Bool) (gives : ℕ → ℕ → ℕ → Type 0) (agg : AggId) (conv : ℕ) (old : SystemState) (answer : Result ℕ SystemFault)
-    (new : SystemState) → there ≡ true → known ≡ true → OffersIf there known gives agg conv old answer new
-    → TakesPort gives agg conv old answer new
+    (new : SystemState) → there ≡ true → known ≡ true → OffersIf there known gives agg conv old answer new → TakesPort gives agg conv old answer new
 taken_if there known gives agg conv old answer new t k h = grind (arith, nat_tests)
 
 below : (n m : ℕ) → n < m → nat_lt n m ≡ true

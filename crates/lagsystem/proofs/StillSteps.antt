@@ -10,8 +10,7 @@ use Rattle.lagsystem.proofs.Rising.{Rises, all-get, all-set, ports_rise}
 use Rattle.lagsystem.proofs.Skipping.{alike_still, alike_views, all_among}
 
 abbrev pub IsQuiet : SystemState → Type 0
-IsQuiet s = MuxesAreSettled s.keys s.system_ports × PeriodicsAreSettled s.system_ports
-    × NoneIsNext (aggregators_value s) (views s.system_ports)
+IsQuiet s = MuxesAreSettled s.keys s.system_ports × PeriodicsAreSettled s.system_ports × NoneIsNext (aggregators_value s) (views s.system_ports)
 
 -- the ports stay
 same_quiet : (s t : SystemState) → aggregators_value t ≡ aggregators_value s → t.system_ports ≡ s.system_ports → IsQuiet s → IsQuiet t
@@ -35,9 +34,8 @@ sent_quiet old i s e q =
     let t : SystemPort = record s { port = after_sending s.port } in
     let here = all-get (MuxIsSettled old.keys old.system_ports) old.system_ports i s e q.0 in
     let news : List SystemPort = slice_set old.system_ports i t in (
-      all_among old.keys old.system_ports news news (alike_views old.system_ports i s t e refl)
-          (all-set (MuxIsSettled old.keys old.system_ports) old.system_ports i t q.0
-          (alike_still old.keys old.system_ports s t refl refl here.mux here)),
+      all_among old.keys old.system_ports news news (alike_views old.system_ports i s t e refl) (all-set
+          (MuxIsSettled old.keys old.system_ports) old.system_ports i t q.0 (alike_still old.keys old.system_ports s t refl refl here.mux here)),
       all-set PeriodicIsSettled old.system_ports i t q.1 (sent_paced s (all-get PeriodicIsSettled old.system_ports i s e q.1)),
       subst (λ l. NoneIsNext (aggregators_value old) l) (sym (alike_views old.system_ports i s t e refl)) q.2,
     )

@@ -27,8 +27,7 @@ other m p h = grind (arith, nat_tests)
 pub none_on : (agg : AggId) (low : ℕ) (system_ports : List SystemPort) (p : ℕ) → Rises low (port_numbers system_ports) → p < low + 1
     → on agg system_ports p ≡ false
 none_on agg low [] p r l = refl
-none_on agg low (s ∷ system_ports) p r l =
-    grind (arith, nat_tests, none_on agg s.number system_ports p r.1 (omega (arith, l, r.0)))
+none_on agg low (s ∷ system_ports) p r l = grind (arith, nat_tests, none_on agg s.number system_ports p r.1 (omega (arith, l, r.0)))
 
 none_stopped : (low : ℕ) (before : List (Option AggId)) (system_ports : List SystemPort) (p : ℕ) → Rises low (port_numbers system_ports)
     → p < low + 1 → stopped before system_ports p ≡ false
@@ -72,22 +71,18 @@ stops_where agg p low (o ∷ olds) (n ∷ news) r e h =
     let rest = stopped (aggregators_in_use olds) news p in
     elim (cases_Bool (eqb n.number p)) [
       | inl t ↦ (let here : p ≡ o.number = sym (eqb-true n.number p t) ∙ same.0 in
-          let rn : Rises n.number (port_numbers news) = subst (λ m. Rises m (port_numbers news)) (sym same.0)
-          (subst (Rises o.number) (sym same.1) r.1) in
+          let rn : Rises n.number (port_numbers news) = subst (λ m. Rises m (port_numbers news))
+          (sym same.0) (subst (Rises o.number) (sym same.1) r.1) in
           let old_none = none_on agg o.number olds p r.1 (omega (arith, here)) in
           let new_none = none_on agg n.number news p rn (omega (arith, here, same.0)) in
-          let was : distributes_in agg o ≡ true =
-          from_here (distributes_in agg o) (eqb o.number p) (on agg olds p) (subst (λ m. eqb m p ≡ true) same.0 t) old_none
-          (sym (on_more agg o olds p) ∙ h) in
-          stopped_more (eqb n.number p) (has_stopped (collecting o.port) n) rest t
-          (none_stopped n.number (aggregators_in_use olds) news p rn (omega (arith, here, same.0)))
-          ∙ ap (λ w. has_stopped w n) (where_it_was agg o was)
+          let was : distributes_in agg o ≡ true = from_here (distributes_in agg o) (eqb o.number p)
+          (on agg olds p) (subst (λ m. eqb m p ≡ true) same.0 t) old_none (sym (on_more agg o olds p) ∙ h) in
+          stopped_more (eqb n.number p) (has_stopped (collecting o.port) n) rest t (none_stopped n.number
+          (aggregators_in_use olds) news p rn (omega (arith, here, same.0))) ∙ ap (λ w. has_stopped w n) (where_it_was agg o was)
           ∙ ap not (sym (on_more agg n news p ∙ only_here (distributes_in agg n) (eqb n.number p) (on agg news p) t new_none)))
-      | inr f ↦ (let old : on agg olds p ≡ true =
-          sym (from_rest (distributes_in agg o) (eqb o.number p) (on agg olds p) (subst (λ m. eqb m p ≡ false) same.0 f))
-          ∙ sym (on_more agg o olds p) ∙ h in
-          stopped_rest (eqb n.number p) (has_stopped (collecting o.port) n) rest f
-          ∙ stops_where agg p o.number olds news r.1 same.1 old
+      | inr f ↦ (let old : on agg olds p ≡ true = sym (from_rest (distributes_in agg o) (eqb o.number p)
+          (on agg olds p) (subst (λ m. eqb m p ≡ false) same.0 f)) ∙ sym (on_more agg o olds p) ∙ h in
+          stopped_rest (eqb n.number p) (has_stopped (collecting o.port) n) rest f ∙ stops_where agg p o.number olds news r.1 same.1 old
           ∙ ap not (sym (on_more agg n news p ∙ from_rest (distributes_in agg n) (eqb n.number p) (on agg news p) f)))
     ]
 
@@ -110,9 +105,8 @@ leaves_made were start mid new w n t h e = record {
   states = λ g k. (let a = assignment_of mid.table g k in
       h.states g k ∙ left_by (distributing (aggregator_numbered g) mid.system_ports) (stopped were mid.system_ports) a (λ p x.
       let before : assignment_of w.old.table g k ≡ On p = w.carried g k p (ap (λ t. assignment_of t g k) (sym t) ∙ x) in
-      ap (λ l. stopped l mid.system_ports p) w.before
-      ∙ stops_where (aggregator_numbered g) p 0 w.old.system_ports mid.system_ports (ports_rise w.old w.sound.ports) (n ∙ w.same)
-      (w.sound.carried g k p before)));
+      ap (λ l. stopped l mid.system_ports p) w.before ∙ stops_where (aggregator_numbered g) p 0 w.old.system_ports mid.system_ports
+      (ports_rise w.old w.sound.ports) (n ∙ w.same) (w.sound.carried g k p before)));
 }
 
 carriers_many : (system_ports : List SystemPort) → length (aggregators_in_use system_ports) ≡ length (port_numbers system_ports)

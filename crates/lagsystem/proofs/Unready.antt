@@ -12,8 +12,7 @@ abbrev KeptBy : (Machines → Bool) → List Row → Type 0
 KeptBy holds [] = Unit {0}
 KeptBy holds (row ∷ rows) = ((p : Machines) → holds p ≡ true → row.enabled p ≡ true → holds (row.effect p) ≡ true) × KeptBy holds rows
 
-fires_kept : (holds : Machines → Bool) (rows : List Row) → KeptBy holds rows → (p q : Machines) → holds p ≡ true
-    → Fires rows p q → holds q ≡ true
+fires_kept : (holds : Machines → Bool) (rows : List Row) → KeptBy holds rows → (p q : Machines) → holds p ≡ true → Fires rows p q → holds q ≡ true
 fires_kept holds [] k p q h f = absurd f
 fires_kept holds (row ∷ rows) k p q h f = elim f [ inl x ↦ ap holds x.1 ∙ k.0 p h x.0 | inr x ↦ fires_kept holds rows k.1 p q h x ]
 
@@ -47,17 +46,14 @@ joined_at_rest m w c s h k = grind (arith, nat_tests)
 waits_not : (m : MuxState) (w : ℕ) (x : Bool) → (x && is_synchronized m) ≡ true → is_detached_or_waiting (stage_of m w) ≡ false
 waits_not m w x h = grind (arith, nat_tests)
 
-joined_where : (m : MuxState) (w : ℕ) (x : Bool) → x ≡ true → is_detached_or_waiting (stage_of m w) ≡ false
-    → (x && is_synchronized m) ≡ true
+joined_where : (m : MuxState) (w : ℕ) (x : Bool) → x ≡ true → is_detached_or_waiting (stage_of m w) ≡ false → (x && is_synchronized m) ≡ true
 joined_where m w x s h = grind (arith, nat_tests)
 
 -- choices
 
 pub mux_choice : (b : Bool) (p q : Machines) → RunsToRest (mux_rows b) p q → q.choice ≡ p.choice
-mux_choice b p q h = Reaches-keeps (λ (p : Machines). p.choice) (mux_rows b) (
-  (λ p. refl),
-  ((λ p. refl), ((λ p. refl), ((λ p. refl), ((λ p. refl), ((λ p. refl), tt))))),
-) h.0 p q h.1
+mux_choice b p q h = Reaches-keeps (λ (p : Machines). p.choice)
+    (mux_rows b) ((λ p. refl), ((λ p. refl), ((λ p. refl), ((λ p. refl), ((λ p. refl), ((λ p. refl), tt)))))) h.0 p q h.1
 
 given_selected : (agg : AggId) (c : Choice) → has_chosen agg c ≡ true → is_selected c ≡ true
 given_selected agg c h = grind (arith, nat_tests)
@@ -99,9 +95,7 @@ none_wait : (keys : List Key) (seen : List PortView) (agg : AggId) → is_ready 
 none_wait keys seen agg r [] [] h = refl
 none_wait keys seen agg r [] (y ∷ ys) h = absurd h
 none_wait keys seen agg r (x ∷ xs) [] h = absurd h
-none_wait keys seen agg r (x ∷ xs) (y ∷ ys) h =
-    any_here W (has_chosen agg y.port.choice) (selection_view y) (ports_that_chose agg (views ys))
-    (λ g.
+none_wait keys seen agg r (x ∷ xs) (y ∷ ys) h = any_here W (has_chosen agg y.port.choice) (selection_view y) (ports_that_chose agg (views ys)) (λ g.
     let same = mux_choice (ready_of keys seen x.port.choice) x.port y.port h.0.1 in
     let mine : has_chosen agg x.port.choice ≡ true = sym (ap (has_chosen agg) same) ∙ g in
     let s : RunsToRest (mux_rows true) x.port y.port = subst (λ b. RunsToRest (mux_rows b) x.port y.port)
@@ -122,16 +116,12 @@ any_stays keys seen agg r [] (y ∷ ys) h k = absurd h
 any_stays keys seen agg r (x ∷ xs) [] h k = absurd h
 any_stays keys seen agg r (x ∷ xs) (y ∷ ys) h k =
     let same = mux_choice (ready_of keys seen x.port.choice) x.port y.port h.0.1 in
-    ap (λ c. list_any W (cond (has_chosen agg c) (selection_view y ∷ ports_that_chose agg (views ys)) (ports_that_chose agg (views ys))))
-    same
+    ap (λ c. list_any W (cond (has_chosen agg c) (selection_view y ∷ ports_that_chose agg (views ys)) (ports_that_chose agg (views ys)))) same
     ∙ any_next W (has_chosen agg x.port.choice) (selection_view x) (selection_view y) (ports_that_chose agg (views xs))
-    (ports_that_chose agg (views ys)) k
-    (λ g w.
+    (ports_that_chose agg (views ys)) k (λ g w.
     let s = unready_step keys seen agg x y r h.0.1 g in
-    let j : joined x.port ≡ true = joined_where x.port.mux x.port.wait_while (is_selected x.port.choice)
-    (given_selected agg x.port.choice g) w in
-    waits_not y.port.mux y.port.wait_while (is_selected y.port.choice)
-    (reaches_kept joined (mux_rows false) joined_kept s.0 x.port y.port j s.1))
+    let j : joined x.port ≡ true = joined_where x.port.mux x.port.wait_while (is_selected x.port.choice) (given_selected agg x.port.choice g) w in
+    waits_not y.port.mux y.port.wait_while (is_selected y.port.choice) (reaches_kept joined (mux_rows false) joined_kept s.0 x.port y.port j s.1))
     (any_stays keys seen agg r xs ys h.1)
 
 open_is : (x o : Bool) → (x && o) ≡ true → o ≡ true
@@ -145,17 +135,14 @@ all_stay keys seen agg r [] (y ∷ ys) h k = absurd h
 all_stay keys seen agg r (x ∷ xs) [] h k = absurd h
 all_stay keys seen agg r (x ∷ xs) (y ∷ ys) h k =
     let same = mux_choice (ready_of keys seen x.port.choice) x.port y.port h.0.1 in
-    ap (λ c. all_waited (cond (has_chosen agg c) (selection_view y ∷ ports_that_chose agg (views ys)) (ports_that_chose agg (views ys))))
-    same
+    ap (λ c. all_waited (cond (has_chosen agg c) (selection_view y ∷ ports_that_chose agg (views ys)) (ports_that_chose agg (views ys)))) same
     ∙ all_next (has_chosen agg x.port.choice) (selection_view x) (selection_view y) (ports_that_chose agg (views xs))
-    (ports_that_chose agg (views ys)) k
-    (λ g w.
+    (ports_that_chose agg (views ys)) k (λ g w.
     let s = unready_step keys seen agg x y r h.0.1 g in
     let o : is_open x.port ≡ true = and_from (is_selected x.port.choice) (open_of x.port.mux x.port.wait_while)
     (given_selected agg x.port.choice g) w in
     open_is (is_selected y.port.choice) (open_of y.port.mux y.port.wait_while)
-    (reaches_kept is_open (mux_rows false) open_kept s.0 x.port y.port o s.1))
-    (all_stay keys seen agg r xs ys h.1)
+    (reaches_kept is_open (mux_rows false) open_kept s.0 x.port y.port o s.1)) (all_stay keys seen agg r xs ys h.1)
 
 -- no aggregator is Ready
 
@@ -166,9 +153,8 @@ none_of k g h = grind (arith, nat_tests)
 one_false : (a b c d : Bool) → (a && b) ≡ false → (a ≡ false → c ≡ false) → (b ≡ false → d ≡ false) → (c && d) ≡ false
 one_false a b c d h f g = grind (arith, nat_tests)
 
-unready_cases : (keys : List Key) (agg : AggId) (xs ys : List SystemPort) → PortsChangeBy (RunsReady keys (views xs)) xs ys → (r : Bool)
-    → is_ready keys (views xs) agg ≡ r → (k : Bool) → is_aggregator keys agg ≡ k
-    → is_ready keys (views ys) agg ≡ false
+unready_cases : (keys : List Key) (agg : AggId) (xs ys : List SystemPort) → PortsChangeBy (RunsReady keys (views xs)) xs ys
+    → (r : Bool) → is_ready keys (views xs) agg ≡ r → (k : Bool) → is_aggregator keys agg ≡ k → is_ready keys (views ys) agg ≡ false
 unready_cases keys agg xs ys h r e k i = grind (arith, nat_tests, none_of, and_left, none_wait, one_false, any_stays, all_stay)
 
 pub none_ready : (keys : List Key) (xs ys : List SystemPort) → PortsChangeBy (RunsReady keys (views xs)) xs ys → (c : Choice)

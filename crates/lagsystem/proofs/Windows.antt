@@ -69,9 +69,8 @@ pub good_end : (now : ℕ) (before : List ℕ) (o : Option Machines) → GoodAt 
 good_end now before None g = g
 good_end now before (Some p) g = subst KeepsWindow (append-nil before) (g [] [] refl)
 
-at_first : (P Q : Machines → Type 0) (N : Type 0) (b : Bool) (x y : SystemPort) (o u : Option SystemPort) → (P x.port → Q y.port)
-    → (At P N (port_in o) → At Q N (port_in u))
-    → At P N (port_in (cond b (Some x) o)) → At Q N (port_in (cond b (Some y) u))
+at_first : (P Q : Machines → Type 0) (N : Type 0) (b : Bool) (x y : SystemPort) (o u : Option SystemPort)
+    → (P x.port → Q y.port) → (At P N (port_in o) → At Q N (port_in u)) → At P N (port_in (cond b (Some x) o)) → At Q N (port_in (cond b (Some y) u))
 at_first P Q N b x y o u here rest g = grind (arith, nat_tests)
 
 -- the same, if y has the number of x
@@ -85,17 +84,15 @@ in_each : (P Q : Machines → Type 0) (N : Type 0) (R : Machines → Machines �
 in_each P Q N R n move [] [] h g = g
 in_each P Q N R n move [] (y ∷ ys) h g = absurd h
 in_each P Q N R n move (x ∷ xs) [] h g = absurd h
-in_each P Q N R n move (x ∷ xs) (y ∷ ys) h g =
-    at_number P Q N n x y (find (is_numbered n) xs) (find (is_numbered n) ys) (ap (λ (s : SystemPort). s.number) h.0.0)
-    (move x.port y.port h.0.1) (in_each P Q N R n move xs ys h.1) g
+in_each P Q N R n move (x ∷ xs) (y ∷ ys) h g = at_number P Q N n x y (find (is_numbered n) xs)
+    (find (is_numbered n) ys) (ap (λ (s : SystemPort). s.number) h.0.0) (move x.port y.port h.0.1) (in_each P Q N R n move xs ys h.1) g
 
 in_set : (P : Machines → Type 0) (N : Type 0) (n : ℕ) (xs : List SystemPort) (i : ℕ) (s t : SystemPort) → slice_get xs i ≡ Some s
     → t.number ≡ s.number → (P s.port → P t.port) → In P N n xs → In P N n (slice_set xs i t)
 in_set P N n [] i s t e k move g = g
 in_set P N n (x ∷ xs) zero s t e k move g = grind (arith, nat_tests)
-in_set P N n (x ∷ xs) (suc i) s t e k move g =
-    at_number P P N n x x (find (is_numbered n) xs) (find (is_numbered n) (slice_set xs i t)) refl (λ h. h)
-    (in_set P N n xs i s t e k move) g
+in_set P N n (x ∷ xs) (suc i) s t e k move g = at_number P P N n x x (find (is_numbered n) xs)
+    (find (is_numbered n) (slice_set xs i t)) refl (λ h. h) (in_set P N n xs i s t e k move) g
 
 -- settling
 
@@ -123,9 +120,8 @@ in_settling : (P : Machines → Type 0) (N : Type 0) (n : ℕ) → IsKept P → 
 in_settling P N n kept old new h g =
     let s = settling_in old new h in
     let ready = λ (p : Machines). ready_of old.keys (views s.two) p.choice in
-    in_each P P N RunsPeriodic n kept.periodic s.four new.system_ports s.paces
-    (in_each P P N (RunsReady old.keys (views s.two)) n (λ p q d. kept.mux (ready p) p q d) s.two s.four s.runs
-    (choosing_keeps (In P N n) (in_select P N n kept) (aggregators_value old) s.one s.two s.chooses
+    in_each P P N RunsPeriodic n kept.periodic s.four new.system_ports s.paces (in_each P P N (RunsReady old.keys (views s.two)) n (λ p q d. kept.mux
+    (ready p) p q d) s.two s.four s.runs (choosing_keeps (In P N n) (in_select P N n kept) (aggregators_value old) s.one s.two s.chooses
     (in_each P P N (RunsToRest (mux_rows false)) n (kept.mux false) old.system_ports s.one s.stops g)))
 
 good_kept : (now : ℕ) (before : List ℕ) → IsKept (λ p. Good now p before)
@@ -146,16 +142,13 @@ in_place P N n R move None old new h g = absurd h
 in_place P N n R move (Some i) old new h g =
     subst (In P N n) (sym h.4) (in_set P N n old i h.0 (record h.0 { port = h.1 }) h.2 refl (move h.0.port h.1 h.3) g)
 
-in_on_port : (P : Machines → Type 0) (N : Type 0) (n : ℕ) → IsKept P → (R : Machines → Machines → Type 0)
-    → ((p q : Machines) → R p q → P p → P q) → (o : Option ℕ) (old new : SystemState) → ThenSettles (OnlyPortChangesBy o R) old new
-    → In P N n old.system_ports → In P N n new.system_ports
-in_on_port P N n kept R move o old new h g = in_settling P N n kept h.0 new h.2
-    (in_place P N n R move o old.system_ports h.0.system_ports h.1.0 g)
+in_on_port : (P : Machines → Type 0) (N : Type 0) (n : ℕ) → IsKept P → (R : Machines → Machines → Type 0) → ((p q : Machines) → R p q → P p → P q)
+    → (o : Option ℕ) (old new : SystemState) → ThenSettles (OnlyPortChangesBy o R) old new → In P N n old.system_ports → In P N n new.system_ports
+in_on_port P N n kept R move o old new h g = in_settling P N n kept h.0 new h.2 (in_place P N n R move o old.system_ports h.0.system_ports h.1.0 g)
 
 in_link : (P : Machines → Type 0) (N : Type 0) (n : ℕ) → IsKept P → (m : ℕ) (up : Bool) (old new : SystemState)
     → ThenSettles (SetsLink m up) old new → In P N n old.system_ports → In P N n new.system_ports
-in_link P N n kept m up old new h g =
-    in_settling P N n kept h.0 new h.2 (in_place P N n (SetsPortEnabled old.max_links up)
+in_link P N n kept m up old new h g = in_settling P N n kept h.0 new h.2 (in_place P N n (SetsPortEnabled old.max_links up)
     (λ p q r g. let c = choice_with_link old.max_links up p.choice in kept.link up (record p { choice = c }) q r (kept.select c p g))
     (port_index m old.system_ports) old.system_ports h.0.system_ports h.1.0 g)
 
@@ -166,8 +159,7 @@ good_settling n now before old new h g = in_settling (λ p. Good now p before) (
 -- sending
 
 -- the place of a number is that of the first port with it
-at_place : (n : ℕ) (xs : List SystemPort) (b : Bool) (k : ℕ) → nat_lt k (length xs) ≡ b
-    → system_port_at (cond b (Some k) None) xs ≡ slice_get xs k
+at_place : (n : ℕ) (xs : List SystemPort) (b : Bool) (k : ℕ) → nat_lt k (length xs) ≡ b → system_port_at (cond b (Some k) None) xs ≡ slice_get xs k
 at_place n xs b k e = grind (arith, nat_tests, slice_get_past)
 
 pub found : (n : ℕ) (xs : List SystemPort) → system_port_at (port_index n xs) xs ≡ find (is_numbered n) xs
@@ -177,9 +169,8 @@ found_set : (p : SystemPort → Bool) (xs : List SystemPort) (i : ℕ) (s t : Sy
     → ((k : ℕ) → k < i → p (get_or xs k s) ≡ false) → p t ≡ true → find p (slice_set xs i t) ≡ Some t
 found_set p [] i s t e h k = absurd cc
 found_set p (x ∷ xs) zero s t e h k = ap (λ b. cond b (Some t) (find p xs)) k
-found_set p (x ∷ xs) (suc i) s t e h k =
-    ap (λ b. cond b (Some x) (find p (slice_set xs i t))) (h zero (omega arith))
-    ∙ found_set p xs i s t e (λ j l. h (suc j) (omega (arith, l))) k
+found_set p (x ∷ xs) (suc i) s t e h k = ap (λ b. cond b (Some x) (find p (slice_set xs i t)))
+    (h zero (omega arith)) ∙ found_set p xs i s t e (λ j l. h (suc j) (omega (arith, l))) k
 
 found_other : (p : SystemPort → Bool) (xs : List SystemPort) (i : ℕ) (s t : SystemPort) → slice_get xs i ≡ Some s → p s ≡ false
     → p t ≡ false → find p (slice_set xs i t) ≡ find p xs
@@ -188,16 +179,14 @@ found_other p (x ∷ xs) zero s t e h k = grind (arith, nat_tests)
 found_other p (x ∷ xs) (suc i) s t e h k = ap (λ o. cond (p x) (Some x) o) (found_other p xs i s t e h k)
 
 good_sent : (m n now : ℕ) (before : List ℕ) (b : Bool) (xs : List SystemPort) (i : ℕ) (s t : SystemPort) → (m == n) ≡ b
-    → port_index m xs ≡ Some i → slice_get xs i ≡ Some s → t.number ≡ s.number
-    → (Good now s.port before → Good now t.port (before ++ now ∷ [])) → GoodIn n now before xs
-    → GoodIn n now (if b then before ++ now ∷ [] else before) (slice_set xs i t)
+    → port_index m xs ≡ Some i → slice_get xs i ≡ Some s → t.number ≡ s.number → (Good now s.port before → Good now t.port (before ++ now ∷ []))
+    → GoodIn n now before xs → GoodIn n now (if b then before ++ now ∷ [] else before) (slice_set xs i t)
 good_sent m n now before true xs i s t b read_field at k send g =
     let same : m ≡ n = eqb-true m n b in
     let first = position-Some (is_numbered m) xs i s read_field in
     let numbered : (s.number == m) ≡ true = ap (is_numbered m) (sym (get_or_from_slice_get xs i s s at)) ∙ first.1 in
     let old : find (is_numbered m) xs ≡ Some s = sym (found m xs) ∙ ap (λ o. system_port_at o xs) read_field ∙ at in
-    let new : find (is_numbered m) (slice_set xs i t) ≡ Some t = found_set (is_numbered m) xs i s t at first.2
-    (ap (λ j. j == m) k ∙ numbered) in
+    let new : find (is_numbered m) (slice_set xs i t) ≡ Some t = found_set (is_numbered m) xs i s t at first.2 (ap (λ j. j == m) k ∙ numbered) in
     let g' : GoodIn m now before xs = subst (λ j. GoodIn j now before xs) (sym same) g in
     subst (λ j. GoodIn j now (before ++ now ∷ []) (slice_set xs i t)) same
     (subst (λ o. GoodAt now (before ++ now ∷ []) (port_in o)) (sym new) (send (subst (λ o. GoodAt now before (port_in o)) old g')))
@@ -207,10 +196,8 @@ good_sent m n now before false xs i s t b read_field at k send g =
     let other : (s.number == n) ≡ false = ap (λ j. j == n) numbered ∙ b in
     subst (λ o. GoodAt now before (port_in o)) (sym (found_other (is_numbered n) xs i s t at other (ap (λ j. j == n) k ∙ other))) g
 
-good_sends : (now : ℕ) (before : List ℕ) (p : Machines) → is_due p ≡ true → Good now p before
-    → Good now (after_sending p) (before ++ now ∷ [])
-good_sends now before p due g =
-    subst (λ b. Good now (after_sending p) (if b then before ++ now ∷ [] else before)) due
+good_sends : (now : ℕ) (before : List ℕ) (p : Machines) → is_due p ≡ true → Good now p before → Good now (after_sending p) (before ++ now ∷ [])
+good_sends now before p due g = subst (λ b. Good now (after_sending p) (if b then before ++ now ∷ [] else before)) due
     (good_call now (port.Transmit 0) p (after_sending p) before (sym (ap (λ b. if b then after_sending p else p) due)) g)
 
 -- a call that answers nothing, or a frame with this subtype
@@ -288,12 +275,10 @@ good_step gives n now before old call answer new h g =
     let N = KeepsWindow before in
     let kept : IsKept Q = good_kept now before in
     Step-preserves_ports gives old (λ call answer new. GoodIn n (tick_after call now) (sends_after n now call answer before) new.system_ports)
-    (λ call answer new none e.
-    subst (λ t. GoodIn n t (sends_after n now call answer before) new.system_ports) (sym (none n now before).0)
-    (subst (λ b. GoodIn n now b new.system_ports) (sym (none n now before).1) (in_same Q N n old new e g))) (record {
-      tick = λ new h. good_settling n (now + 1) before h.0 new h.2
-          (in_each Q (λ p. Good (now + 1) p before) N (λ p q. RunsToRest receive_rows (count_down p) q)
-          n (λ p q d. good_call now port.Tick p q before d) old.system_ports h.0.system_ports h.1.0 g);
+    (λ call answer new none e. subst (λ t. GoodIn n t (sends_after n now call answer before) new.system_ports)
+    (sym (none n now before).0) (subst (λ b. GoodIn n now b new.system_ports) (sym (none n now before).1) (in_same Q N n old new e g))) (record {
+      tick = λ new h. good_settling n (now + 1) before h.0 new h.2 (in_each Q (λ p. Good (now + 1) p before) N (λ p q. RunsToRest receive_rows
+          (count_down p) q) n (λ p q d. good_call now port.Tick p q before d) old.system_ports h.0.system_ports h.1.0 g);
       link = λ m up done new h. in_link Q N n kept m up old new h g;
       take = λ m octets v answer new told h. in_on_port Q N n kept (ProcessesLacpdu v) (kept.take v) (port_index m old.system_ports) old new h g;
       change = λ m change new h. in_on_port Q N n kept (ChangesParty change) (kept.party change) (port_index m old.system_ports) old new h g;
@@ -303,21 +288,19 @@ good_step gives n now before old call answer new h g =
           let one : after_transmit m n now before (Some octets) ≡ (if m == n then before ++ now ∷ [] else before) =
           ap (after_frame m n before now) (lacpdu_subtype old.max_delay x octets is) ∙ first_kind m n now before in
           subst (λ a. GoodIn n now (after_transmit m n now before a) new.system_ports) (sym told)
-          (subst (λ sends. GoodIn n now sends new.system_ports) (sym one)
-          (subst (GoodIn n now (if m == n then before ++ now ∷ [] else before)) (sym (ap (λ (s : SystemState). s.system_ports) set))
+          (subst (λ sends. GoodIn n now sends new.system_ports)
+          (sym one) (subst (GoodIn n now (if m == n then before ++ now ∷ [] else before)) (sym (ap (λ (s : SystemState). s.system_ports) set))
           (good_sent m n now before (m == n) old.system_ports i x sent refl at e refl (good_sends now before x.port due) g)));
     }) call answer new h
 
-good_run : (gives : ℕ → ℕ → ℕ → Type 0) (n now : ℕ) (before : List ℕ) (old new : SystemState) (calls : List Call) (replies : List Reply)
-    → TableRun gives old calls replies new
-    → GoodIn n now before old.system_ports → StaysWindowed n now before calls replies
+good_run : (gives : ℕ → ℕ → ℕ → Type 0) (n now : ℕ) (before : List ℕ) (old new : SystemState) (calls : List Call)
+    (replies : List Reply) → TableRun gives old calls replies new → GoodIn n now before old.system_ports → StaysWindowed n now before calls replies
 good_run gives n now before old new [] [] h g = good_end now before (port_in (find (is_numbered n) old.system_ports)) g
 good_run gives n now before old new [] (r ∷ rs) h g = absurd h
 good_run gives n now before old new (c ∷ cs) [] h g = absurd h
 good_run gives n now before old new (c ∷ cs) (r ∷ rs) h g = (
   good_end now before (port_in (find (is_numbered n) old.system_ports)) g,
-  good_run gives n (tick_after c now) (sends_after n now c r before) h.0 new cs rs h.2
-      (good_step gives n now before old c r h.0 h.1 g),
+  good_run gives n (tick_after c now) (sends_after n now c r before) h.0 new cs rs h.2 (good_step gives n now before old c r h.0 h.1 g),
 )
 
 pub window_law : (gives : ℕ → ℕ → ℕ → Type 0) → SystemWindowLaw gives
@@ -361,21 +344,20 @@ few_kept = ages_kept (λ ages. length ages ≤ 3)
 
 few_step : (n : ℕ) (gives : ℕ → ℕ → ℕ → Type 0) (old : SystemState) (call : Call) (answer : Reply) (new : SystemState)
     → Step gives old call answer new → FewIn n old.system_ports → FewIn n new.system_ports
-few_step n gives old call answer new h g =
-    Step-preserves_ports gives old (λ call answer new. FewIn n new.system_ports) (λ call answer new none e. in_same IsFew Unit n old new e g)
-    (record {
+few_step n gives old call answer new h g = Step-preserves_ports gives old (λ call answer new. FewIn n new.system_ports)
+    (λ call answer new none e. in_same IsFew Unit n old new e g) (record {
       tick = λ new h. in_settling IsFew Unit n few_kept h.0 new h.2
           (in_each IsFew IsFew Unit (λ p q. RunsToRest receive_rows (count_down p) q) n tick_few old.system_ports h.0.system_ports h.1.0 g);
       link = λ m up done new h. in_link IsFew Unit n few_kept m up old new h g;
-      take = λ m octets v answer new told h.
-          in_on_port IsFew Unit n few_kept (ProcessesLacpdu v) (few_kept.take v) (port_index m old.system_ports) old new h g;
-      change = λ m change new h.
-          in_on_port IsFew Unit n few_kept (ChangesParty change) (few_kept.party change) (port_index m old.system_ports) old new h g;
+      take = λ m octets v answer new told h. in_on_port IsFew Unit n few_kept (ProcessesLacpdu v)
+          (few_kept.take v) (port_index m old.system_ports) old new h g;
+      change = λ m change new h. in_on_port IsFew Unit n few_kept (ChangesParty change) (few_kept.party change)
+          (port_index m old.system_ports) old new h g;
       restart = λ new e first. at_few (port_in (find (is_numbered n) new.system_ports)) (empty_first n new first);
       send = λ m i x answer octets new at e due is told set.
           let sent : SystemPort = record x { port = after_sending x.port } in
-          subst (FewIn n) (sym (ap (λ (s : SystemState). s.system_ports) set))
-          (in_set IsFew Unit n old.system_ports i x sent e refl (λ _. sent_few x.port due) g);
+          subst (FewIn n)
+          (sym (ap (λ (s : SystemState). s.system_ports) set)) (in_set IsFew Unit n old.system_ports i x sent e refl (λ _. sent_few x.port due) g);
     }) call answer new h
 
 three_from : (o : Option Machines) → At IsFew Unit o → AtMostThreeAges o

@@ -44,8 +44,7 @@ line_of a = built_leaf (inherited (with_leaf_noted (marked_built program.top)) a
 
 text_given : (s : Shape) (words : List Text) (id : Text) → AreWordsOrHelp s.rules → level_fault s [] nothing_held words false [] ≡ []
     → not (is_given id (rows_after s.rules [] words)) ≡ false → has_text id (rows_after s.rules [] words) ≡ true
-text_given s words id good e given =
-    ap is_some (given_has_value id (rows_after s.rules [] words) (rows_filled s words good e) (not-false _ given)).1
+text_given s words id good e given = ap is_some (given_has_value id (rows_after s.rules [] words) (rows_filled s words good e) (not-false _ given)).1
 
 abbrev IsWholeLine : Shape → Type 0
 IsWholeLine s = (words : List Text) → level_fault s [] nothing_held words false [] ≡ [] → has_each_argument (Some (rows_at s words)) ≡ true
@@ -170,7 +169,6 @@ cause_of kinds e NoMemory h k = tt
 
 -- and so if a parse fails by the program's words
 pub line_cause : (c : Command) (words : List Text) (e : Error) (f : LineFault) → app_of c ≡ program
-    → (is_simple_and_free (app_of c) ≡ true → HasKind (fault_of (app_of c) words) e)
-    → KeepsKind e f → IsCause (fault_of program words) f
+    → (is_simple_and_free (app_of c) ≡ true → HasKind (fault_of (app_of c) words) e) → KeepsKind e f → IsCause (fault_of program words) f
 line_cause c words e f shape kinds k =
     cause_of _ e f (subst (λ (a : App). HasKind (fault_of a words) e) shape (kinds (ap is_simple_and_free shape))) k

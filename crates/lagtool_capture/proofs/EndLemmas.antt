@@ -18,10 +18,9 @@ one_more_of (Some gap) gaps = refl
 
 gaps_are : (s : LinkEnd) (first : Sent) (later : List Sent) → (end_of s first later).gaps ≡ gaps_of (gaps_between first later)
 gaps_are s first [] = refl
-gaps_are s first (x ∷ later) =
-    ap (λ t. gaps_with (gap_between t x.time) (end_of s first later).gaps) (latest_is s first later)
-    ∙ ap (gaps_with (gap_between (latest_time first later) x.time)) (gaps_are s first later)
-    ∙ one_more_of (gap_between (latest_time first later) x.time) (gaps_between first later)
+gaps_are s first (x ∷ later) = ap (λ t. gaps_with (gap_between t x.time) (end_of s first later).gaps)
+    (latest_is s first later) ∙ ap (gaps_with (gap_between (latest_time first later) x.time))
+    (gaps_are s first later) ∙ one_more_of (gap_between (latest_time first later) x.time) (gaps_between first later)
 
 one_longer : (gap : Option ℕ) (gaps : List ℕ) → length (cons_option gap gaps) ≤ length gaps + 1
 one_longer None gaps = omega arith

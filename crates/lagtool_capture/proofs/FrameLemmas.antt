@@ -53,9 +53,8 @@ module _ (p : Packet) (b : List ℕ) (l : Log) (n : ℕ) (o : Option SlowFrame) 
   number_now = ap (λ (e : ReportState). e.number) seen ∙ observed_number p b s ∙ ap one_more i.number_is
 
   -- there is a frame in it, which is noticed
-  pub follows_some : (f : SlowFrame) (z : Noticed) → o ≡ Some f → z.until ≡ y.until
-      → ((h : List SlowFrame) → IsKnown h y.findings → IsKnown (cons_option (if_timed (Some f) p.time) h) z.findings)
-      → Agrees (logged p b l) w.number z
+  pub follows_some : (f : SlowFrame) (z : Noticed) → o ≡ Some f → z.until ≡ y.until → ((h : List SlowFrame)
+      → IsKnown h y.findings → IsKnown (cons_option (if_timed (Some f) p.time) h) z.findings) → Agrees (logged p b l) w.number z
   follows_some f z some until more = record {
     number_is = number_now;
     follows = record {
@@ -68,15 +67,12 @@ module _ (p : Packet) (b : List ℕ) (l : Log) (n : ℕ) (o : Option SlowFrame) 
   pub follows_none : o ≡ None → Agrees (logged p b l) w.number y
   follows_none none = record {
     number_is = number_now;
-    follows = record {
-      until = until_is;
-      frames = subst (λ k. IsKnown (cons_option (if_timed k p.time) l.frames) y.findings) (sym none ∙ frame_is) known;
-    };
+    follows =
+        record { until = until_is; frames = subst (λ k. IsKnown (cons_option (if_timed k p.time) l.frames) y.findings) (sym none ∙ frame_is) known };
   }
 
 -- a record without a packet is counted
-pub follows_record : (l : Log) (s w : ReportState) (x : Noticed) → Agrees l s.number x → w ≡ counted None s
-    → Agrees (logged_next None l) w.number x
+pub follows_record : (l : Log) (s w : ReportState) (x : Noticed) → Agrees l s.number x → w ≡ counted None s → Agrees (logged_next None l) w.number x
 follows_record l s w x i count = record {
   number_is = ap (λ (e : ReportState). e.number) count ∙ ap one_more i.number_is;
   follows = record { until = i.follows.until; frames = i.follows.frames };

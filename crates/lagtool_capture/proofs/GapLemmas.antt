@@ -173,8 +173,7 @@ chosen false from wanted c cs e p rest =
 finds : (cs : List ℕ) (from wanted : ℕ) → 0 < wanted → Finds from wanted cs (tenths_up_to from wanted cs)
 unfolding Finds
 finds [] from wanted p = λ n. let e = below-none n in omega (arith, e, p)
-finds (c ∷ cs) from wanted p =
-    chosen (leb wanted c) from wanted c cs refl p (λ lt. finds cs (from + 1) (wanted - c) (omega (arith, lt)))
+finds (c ∷ cs) from wanted p = chosen (leb wanted c) from wanted c cs refl p (λ lt. finds cs (from + 1) (wanted - c) (omega (arith, lt)))
 
 found : (gaps : List ℕ) (g : Gaps) (wanted : ℕ) (o : Option ℕ) → Kept gaps g → 0 < length gaps
     → wanted ≡ length gaps - length gaps / 2 → Finds 0 wanted g.counts o → IsMedianOf gaps o

@@ -71,8 +71,7 @@ all_preceded out [] s = refl
 all_preceded out (x ∷ xs) s = ap (after_all xs) (after_preceded out x s) ∙ all_preceded out xs (after x s)
 
 pub ends_preceded : (out : List ℕ) (fs : List Finding) (s : ReportState) → with_ends fs (preceded out s) ≡ preceded out (with_ends fs s)
-ends_preceded out fs s =
-    ap (λ (w : List ℕ). record s { findings = length fs; to_write = w })
+ends_preceded out fs s = ap (λ (w : List ℕ). record s { findings = length fs; to_write = w })
     (append_assoc out s.to_write (cond s.settings.json (closing_records fs s) (closing_texts fs s)))
 
 -- once that is written, it stands in front

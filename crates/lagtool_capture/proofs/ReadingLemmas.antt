@@ -16,9 +16,8 @@ use Rattle.lagtool_capture.proofs.TakingLemmas.{after_both, logged_both}
 
 abbrev Goes : List ℕ → ReadingState → List (Option Captured) → ℕ → ReadingState → Type 0
 Goes piece old found taken new = (at steps : ℕ) (more : List ℕ) → length (next_octets old (piece ++ more)) ≤ steps
-    → (left : ℕ) × (length (next_octets new more) ≤ left)
-    × (capture_from steps (next_place at old (piece ++ more)) old.reader (next_octets old (piece ++ more))
-    ≡ behind found (capture_from left (next_place (at + taken) new more) new.reader (next_octets new more)))
+    → (left : ℕ) × (length (next_octets new more) ≤ left) × (capture_from steps (next_place at old (piece ++ more)) old.reader
+    (next_octets old (piece ++ more)) ≡ behind found (capture_from left (next_place (at + taken) new more) new.reader (next_octets new more)))
 
 -- a piece was read: whatever follows says the rest
 record Fed (piece : List ℕ) (old new : ReadingState) : Type 0 where
@@ -64,13 +63,12 @@ fed_past piece w none free lt =
       goes = λ at steps more le.
           let same = past w.rest piece more w.skip none (omega (arith, lt)) in
           let e : next_place at w (piece ++ more) ≡ (at + n) + min (w.skip - n) (length (w.rest ++ more)) =
-          ap (λ k. at + min w.skip k) (lengths w.rest piece more)
-          ∙ past_place at w.skip n (length more) (length w.rest) (ap length none) (omega (arith, lt))
-          ∙ ap (λ k. (at + n) + min (w.skip - n) k) (sym (length-append w.rest more)) in (
+          ap (λ k. at + min w.skip k) (lengths w.rest piece more) ∙ past_place at w.skip n (length more)
+          (length w.rest) (ap length none) (omega (arith, lt)) ∙ ap (λ k. (at + n) + min (w.skip - n) k) (sym (length-append w.rest more)) in (
             steps,
             subst (λ k. length k ≤ steps) same le,
-            ap (λ k. capture_from steps k w.reader (next_octets w (piece ++ more))) e
-                ∙ ap (capture_from steps ((at + n) + min (w.skip - n) (length (w.rest ++ more))) w.reader) same,
+            ap (λ k. capture_from steps k w.reader (next_octets w (piece ++ more))) e ∙ ap
+                (capture_from steps ((at + n) + min (w.skip - n) (length (w.rest ++ more))) w.reader) same,
           );
       waits = subst (Waits (skipped n w)) (sym free) (inl (let l = length-drop (w.skip - n) (w.rest ++ []) in
           let k = length-append w.rest [] in let z = ap length none in omega (arith, l, k, z)));
@@ -79,9 +77,8 @@ fed_past piece w none free lt =
 -- octets of which some are taken already, and those behind them
 joined : (rest piece more : List ℕ) (skip : ℕ) → (skip ≡ 0) ⊎ (rest ≡ []) → skip ≤ length piece
     → drop skip (rest ++ (piece ++ more)) ≡ (rest ++ drop skip piece) ++ more
-joined rest piece more skip (inl none_skipped) le =
-    ap (λ k. drop k (rest ++ (piece ++ more))) none_skipped ∙ sym (append_assoc rest piece more)
-    ∙ ap (λ k. (rest ++ drop k piece) ++ more) (sym none_skipped)
+joined rest piece more skip (inl none_skipped) le = ap (λ k. drop k (rest ++ (piece ++ more))) none_skipped
+    ∙ sym (append_assoc rest piece more) ∙ ap (λ k. (rest ++ drop k piece) ++ more) (sym none_skipped)
 joined rest piece more skip (inr none) le =
     ap (λ r. drop skip (r ++ (piece ++ more))) none ∙ drop-append-le skip piece more le ∙ ap (λ r. (r ++ drop skip piece) ++ more) (sym none)
 
@@ -89,8 +86,7 @@ joined rest piece more skip (inr none) le =
 left_over : (b more : List ℕ) (count skip : ℕ) → count ≤ length b → drop skip (drop count b ++ more) ≡ drop (count + skip) (b ++ more)
 left_over b more count skip le = ap (drop skip) (sym (drop-append-le count b more le)) ∙ drop-drop skip count (b ++ more)
 
-left_place : (at k count skip b m l : ℕ) → count ≤ b → l ≡ (b - count) + m
-    → (at + k) + min (count + skip) (b + m) ≡ (at + (k + count)) + min skip l
+left_place : (at k count skip b m l : ℕ) → count ≤ b → l ≡ (b - count) + m → (at + k) + min (count + skip) (b + m) ≡ (at + (k + count)) + min skip l
 left_place at k count skip b m l le e = omega (arith, le, e)
 
 start_place : (at skip l : ℕ) → skip ≤ l → at + min skip l ≡ at + skip
@@ -102,14 +98,12 @@ module _ (piece : List ℕ) (w v : ReadingState) (clear : IsClear w) (le : w.ski
   b = w.rest ++ drop w.skip piece
 
   left_is : (more : List ℕ) → next_octets v more ≡ drop (h.taken.count + h.taken.skip) (b ++ more)
-  left_is more =
-      ap (λ k. drop k (v.rest ++ more)) h.skip ∙ ap (λ r. drop h.taken.skip (r ++ more)) h.rest
+  left_is more = ap (λ k. drop k (v.rest ++ more)) h.skip ∙ ap (λ r. drop h.taken.skip (r ++ more)) h.rest
       ∙ left_over b more h.taken.count h.taken.skip h.steps.count
 
   place_is : (at : ℕ) (more : List ℕ) → (at + w.skip) + min (h.taken.count + h.taken.skip) (length (b ++ more))
       ≡ next_place (at + (w.skip + h.taken.count)) v more
-  place_is at more =
-      ap (λ k. (at + w.skip) + min (h.taken.count + h.taken.skip) k) (length-append b more)
+  place_is at more = ap (λ k. (at + w.skip) + min (h.taken.count + h.taken.skip) k) (length-append b more)
       ∙ left_place at w.skip h.taken.count h.taken.skip (length b) (length more) (length (v.rest ++ more)) h.steps.count
       (length-append v.rest more ∙ ap (λ r. length r + length more) h.rest ∙ ap (λ k. k + length more) (length-drop h.taken.count b))
       ∙ ap (λ k. (at + (w.skip + h.taken.count)) + min k (length (v.rest ++ more))) (sym h.skip)
@@ -135,8 +129,7 @@ module _ (piece : List ℕ) (w v : ReadingState) (clear : IsClear w) (le : w.ski
       by (inr (all, free)) = inr (h.rest ∙ ap (λ k. drop k b) all ∙ drop-length b)
 
   waits_so : (o : Option Fault) → h.taken.fault ≡ o → Waits v (refused_if_any v.at o)
-  waits_so None e =
-      subst (λ k. Stops k v.reader None) (sym (left_is [] ∙ ap (drop (h.taken.count + h.taken.skip)) (append-nil b)))
+  waits_so None e = subst (λ k. Stops k v.reader None) (sym (left_is [] ∙ ap (drop (h.taken.count + h.taken.skip)) (append-nil b)))
       (subst (Stops (drop (h.taken.count + h.taken.skip) b) v.reader) e h.steps.stops)
   waits_so (Some f) e = by h.steps.skip
     where
@@ -275,8 +268,7 @@ record Closes (c : Capture) (found : List (Option Captured)) (why : Option ReadF
   fault : option_map (refused_at 0) c.fault ≡ why
 
 placed : (at place : ℕ) (f : Fault) → at ≡ sum_of 0 place → refused_at 0 (record { at = place + f.at; cause = f.cause }) ≡ refused_at at f
-placed at place f e =
-    ap (λ (k : ℕ). record { at = k; cause = f.cause }) (sym (sums 0 place f.at) ∙ ap (λ k. sum_of k f.at) (sym e))
+placed at place f e = ap (λ (k : ℕ). record { at = k; cause = f.cause }) (sym (sums 0 place f.at) ∙ ap (λ k. sum_of k f.at) (sym e))
 
 ending_is : (at place : ℕ) (r : Result (Unit {0}) Fault) → at ≡ sum_of 0 place
     → option_map (refused_at 0) (ending place r).fault ≡ refused_end None at r
@@ -308,11 +300,10 @@ closes_by : (settings : Settings) (octets out : List ℕ) (w : ReadingState) (s 
 closes_by settings octets out w s None h =
     let (left, enough, so) = s.goes [] in
     let r = end_of w.reader.format (length w.rest) in
-    let is : capture_in octets ≡ behind s.found (ending s.at r) =
-    ap capture_in (sym (append-nil octets)) ∙ so
-    ∙ ap (behind s.found) (ends_waiting left (next_place s.at w []) w.reader (next_octets w []) h)
-    ∙ ap (λ k. behind s.found (ending k (end_of w.reader.format (length (next_octets w []))))) (no_place s.at w s.clear)
-    ∙ ap (λ k. behind s.found (ending s.at (end_of w.reader.format (length k)))) (all_left w s.clear) in
+    let is : capture_in octets ≡ behind s.found (ending s.at r) = ap capture_in (sym (append-nil octets))
+    ∙ so ∙ ap (behind s.found) (ends_waiting left (next_place s.at w []) w.reader (next_octets w []) h)
+    ∙ ap (λ k. behind s.found (ending k (end_of w.reader.format (length (next_octets w [])))))
+    (no_place s.at w s.clear) ∙ ap (λ k. behind s.found (ending s.at (end_of w.reader.format (length k)))) (all_left w s.clear) in
     record {
       numbered = ap (λ (c : Capture). c.numbered) is ∙ ap (λ k. s.found ++ k) (ending_none s.at r) ∙ append-nil s.found;
       fault = ap (λ (c : Capture). option_map (refused_at 0) c.fault) is ∙ ending_is w.at s.at r s.at_is;
@@ -327,8 +318,7 @@ closes_by settings octets out w s (Some fault) (none_skipped, (f, (e, stops))) =
 
 settled_by : (settings : Settings) (octets out : List ℕ) (w : ReadingState) (s : Stands settings octets out w) (fault : ReadFault) → Waits w (Some fault)
     → IsSettled octets
-settled_by settings octets out w s fault (none_skipped, (f, (e, stops))) = λ more.
-    refused_ends settings octets out w s f more none_skipped stops
+settled_by settings octets out w s fault (none_skipped, (f, (e, stops))) = λ more. refused_ends settings octets out w s f more none_skipped stops
     ∙ sym (ap capture_in (sym (append-nil octets)) ∙ refused_ends settings octets out w s f [] none_skipped stops)
 
 -- whatever follows what was read of a capture that is not read on, it changes nothing
@@ -348,11 +338,8 @@ stands_refused settings octets out piece w fault s e = record {
   clear = s.clear;
   goes = λ more.
       let (left, enough, so) = s.goes more in
-      let settled = stands_settled settings octets out w fault s e in (
-        left,
-        enough,
-        ap capture_in (append_assoc octets piece more) ∙ settled (piece ++ more) ∙ sym (settled more) ∙ so,
-      );
+      let settled = stands_settled settings octets out w fault s e in
+      (left, enough, ap capture_in (append_assoc octets piece more) ∙ settled (piece ++ more) ∙ sym (settled more) ∙ so);
   waits = s.waits;
 }
 
@@ -375,13 +362,11 @@ reported_is settings octets out w s =
 
 pub stands_reports : (settings : Settings) (octets out : List ℕ) (w v : ReadingState) → Stands settings octets out w
     → ((l : Log) → Follows l w.noticed → v ≡ ended l w) → report settings octets ≡ out ++ v.report.to_write
-stands_reports settings octets out w v s e =
-    ap (λ (x : ReportState). x.to_write) (reported_is settings octets out w s)
+stands_reports settings octets out w v s e = ap (λ (x : ReportState). x.to_write) (reported_is settings octets out w s)
     ∙ ap (λ (k : ReadingState). out ++ k.report.to_write) (sym (e (logged_all s.found nothing_logged) s.noticed.follows))
 
-pub stands_counts : (settings : Settings) (octets out : List ℕ) (w v u : ReadingState) → Stands settings octets out w
-    → ((l : Log) → Follows l w.noticed → v ≡ ended l w) → u ≡ record v { report = record v.report { to_write = [] } }
-    → summary_of u ≡ summary settings octets
+pub stands_counts : (settings : Settings) (octets out : List ℕ) (w v u : ReadingState) → Stands settings octets out w → ((l : Log)
+    → Follows l w.noticed → v ≡ ended l w) → u ≡ record v { report = record v.report { to_write = [] } } → summary_of u ≡ summary settings octets
 stands_counts settings octets out w v u s e cleared =
     let closes = closes_by settings octets out w s w.fault s.waits in
     let l = logged_all s.found nothing_logged in

@@ -34,8 +34,6 @@ both_named r a b m n time e v s t u w f g p q x y h =
     let c = identity_of v.actor in
     let d = identity_of v.partner in
     let first : t ≡ named c s = p ∙ ap (λ k. named k s) f in
-    on_ok-map r (λ i. i
-    ∙ ap (λ k. after_named k n time e v u) (q ∙ ap (λ k. name_number k s) f)
+    on_ok-map r (λ i. i ∙ ap (λ k. after_named k n time e v u) (q ∙ ap (λ k. name_number k s) f)
     ∙ ap (λ k. after_named (name_number c s) k time e v u) (y ∙ ap (λ k. name_number k t) g ∙ ap (name_number d) first)
-    ∙ ap (λ k. after_named (name_number c s) (name_number d (named c s)) time e v k)
-    (x ∙ ap (λ k. named k t) g ∙ ap (named d) first)) h
+    ∙ ap (λ k. after_named (name_number c s) (name_number d (named c s)) time e v k) (x ∙ ap (λ k. named k t) g ∙ ap (named d) first)) h

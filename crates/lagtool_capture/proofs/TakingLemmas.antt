@@ -94,5 +94,4 @@ stops_by b stop taken r s t e f m o n h lt same is made =
 -- all octets are taken
 pub ends_whole : (b : List ℕ) (r s : ReaderState) (e f : ReportState) (m o : Noticed) (n : ℕ) → Reads b r s e f m o n
     → n ≤ length b → length b ≤ n → StepsThrough b r s e f m o (record { count = n; skip = 0; fault = None })
-ends_whole b r s e f m o n h le ge =
-    ends_there b r s e f m o n None h le (inl (let l = length-drop n b in omega (arith, l, ge)))
+ends_whole b r s e f m o n h le ge = ends_there b r s e f m o n None h le (inl (let l = length-drop n b in omega (arith, l, ge)))

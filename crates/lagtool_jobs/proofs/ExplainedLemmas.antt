@@ -15,10 +15,8 @@ begins said first rest formed = ap (take (length first)) formed ∙ take-append_
 pub names_file : (r : Result (String Global) AllocError) (is_input : Bool) (called file why : List ℕ) → is_input ≡ false → called ≡ file
     → IfOk r (λ t. string_bytes t ≡ called ++ 58 ∷ 32 ∷ why) → IfOk r (λ t. SaysUnreadOf is_input file (string_bytes t))
 names_file (Err refused) is_input called file why not_input same formed = tt
-names_file (Ok text) is_input called file why not_input same formed =
-    subst (λ b. SaysUnreadOf b file (string_bytes text)) (sym not_input)
-    (begins (string_bytes text) (file ++ 58 ∷ 32 ∷ []) why
-    (formed ∙ ap (λ f. f ++ 58 ∷ 32 ∷ why) same ∙ sym (append_assoc file (58 ∷ 32 ∷ []) why)))
+names_file (Ok text) is_input called file why not_input same formed = subst (λ b. SaysUnreadOf b file (string_bytes text)) (sym not_input)
+    (begins (string_bytes text) (file ++ 58 ∷ 32 ∷ []) why (formed ∙ ap (λ f. f ++ 58 ∷ 32 ∷ why) same ∙ sym (append_assoc file (58 ∷ 32 ∷ []) why)))
 
 character_joined : (name number said : List ℕ) → name ++ (codes ": character " ++ (number ++ 32 ∷ said))
     ≡ (name ++ (codes ": character " ++ (number ++ 32 ∷ []))) ++ said

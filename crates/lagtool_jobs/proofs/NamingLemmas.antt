@@ -89,9 +89,8 @@ said_all : (cables : ℕ) (kinds : List WordKind) (ws : List (List ℕ)) (said :
 said_all cables (kind ∷ kinds) (w ∷ ws) said e =
     let first = bind_ok (word_value cables kind w) _ said e in
     let rest = bind_ok (words_said cables kinds ws) _ said first.2 in
-    subst (λ xs. list_all (word_names cables) xs ≡ true) (same_ok (first.0 ∷ rest.0) said rest.2)
-    (both (word_names cables first.0) (list_all (word_names cables) rest.0) (word_ok cables kind w first.0 first.1)
-    (said_all cables kinds ws rest.0 rest.1))
+    subst (λ xs. list_all (word_names cables) xs ≡ true) (same_ok (first.0 ∷ rest.0) said rest.2) (both (word_names cables first.0)
+    (list_all (word_names cables) rest.0) (word_ok cables kind w first.0 first.1) (said_all cables kinds ws rest.0 rest.1))
 said_all cables [] ws said e = subst (λ xs. list_all (word_names cables) xs ≡ true) (same_ok [] said e) refl
 said_all cables (kind ∷ kinds) [] said e = subst (λ xs. list_all (word_names cables) xs ≡ true) (same_ok [] said e) refl
 
@@ -121,8 +120,7 @@ form_ok : (cables : ℕ) (f : EntryForm) (ws : List (List ℕ)) (act : EventValu
 form_ok cables f ws act e =
     let held = unless_ok (length ws == length f.kinds) _ _ act e in
     let said = bind_ok (words_said cables f.kinds ws) _ act held.1 in
-    let each = each_all (λ w. is_cable cables (cable_said w)) (λ w. has_system (system_said w)) said.0
-    (said_all cables f.kinds ws said.0 said.1) in
+    let each = each_all (λ w. is_cable cables (cable_said w)) (λ w. has_system (system_said w)) said.0 (said_all cables f.kinds ws said.0 said.1) in
     subst (λ x. act_names cables x ≡ true) (same_ok (record { name = f.name; words = said.0 }) act said.2)
     (both (is_cable cables (first_said cable_said said.0)) (has_system (first_said system_said said.0))
     (first_ok (is_cable cables) cable_said said.0 refl each.0) (first_ok has_system system_said said.0 refl each.1))
@@ -146,9 +144,8 @@ acts_ok cables place (text ∷ texts) events e =
     let first = bind_ok (event_at cables place text) _ events e in
     let rest = bind_ok (each_at_place (event_at cables) (place + 1) texts) _ events first.2 in
     subst (λ xs. list_all (act_names cables) xs ≡ true) (same_ok (first.0 ∷ rest.0) events rest.2)
-    (both (act_names cables first.0) (list_all (act_names cables) rest.0)
-    (words_ok cables (words_of text) first.0 (entry_ok place (event_in cables text) first.0 first.1))
-    (acts_ok cables (place + 1) texts rest.0 rest.1))
+    (both (act_names cables first.0) (list_all (act_names cables) rest.0) (words_ok cables
+    (words_of text) first.0 (entry_ok place (event_in cables text) first.0 first.1)) (acts_ok cables (place + 1) texts rest.0 rest.1))
 
 -- ---- scripts
 
@@ -177,8 +174,7 @@ plan_acts ms p e =
     subst (λ (q : PlanValue). events_in (length q.script.cables) ms ≡ Ok q.script.events) parts.4
     (subst (λ n. events_in n ms ≡ Ok parts.2) (sym (length-map parts.1 (λ c. c.ends))) parts.3)
 
-acts_named : (cables : ℕ) (ms : Members) (events : List EventValue) → events_in cables ms ≡ Ok events
-    → list_all (act_names cables) events ≡ true
+acts_named : (cables : ℕ) (ms : Members) (events : List EventValue) → events_in cables ms ≡ Ok events → list_all (act_names cables) events ≡ true
 acts_named cables ms events e =
     let texts = bind_ok (or_fault script.Events (value_at (codes "events") entries_in (Some []) ms)) (events_from cables 1) events e in
     acts_ok cables 1 texts.0 events texts.2
@@ -187,14 +183,11 @@ events_named : (cables : ℕ) (es : List Event) → list_all (act_names cables) 
 events_named cables [] h = refl
 events_named cables (e ∷ es) h =
     let parts = and_parts (act_names cables (event_value e)) (list_all (act_names cables) (event_values es)) h in
-    both (names_existing cables e) (list_all (names_existing cables) es) parts.0
-    (events_named cables es parts.1)
+    both (names_existing cables e) (list_all (names_existing cables) es) parts.0 (events_named cables es parts.1)
 
 -- the events of a plan name nothing but what there is
-pub plan_names : (text : List ℕ) (plan : Plan) → HasPlan text (plan_value plan)
-    → AllNameExisting (length plan.config.cables.items) plan.events.items
-plan_names text plan (ms, parsed, read) =
-    events_named (length plan.config.cables.items) plan.events.items
+pub plan_names : (text : List ℕ) (plan : Plan) → HasPlan text (plan_value plan) → AllNameExisting (length plan.config.cables.items) plan.events.items
+plan_names text plan (ms, parsed, read) = events_named (length plan.config.cables.items) plan.events.items
     (acts_named (length plan.config.cables.items) ms (event_values plan.events.items) (plan_acts ms (plan_value plan) read))
 
 -- ---- how many entries a script has

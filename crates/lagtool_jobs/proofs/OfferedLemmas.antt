@@ -66,25 +66,22 @@ emitted s p a j new r x = same j new x.1
 
 collected_on : (st : Stamp) (j : WorldState) → NoneSent j (with_stamp_collected st j)
 collected_on (stamp.Control count) j = λ t g k. refl
-collected_on (stamp.Data system agg conv serial) j =
-    of_half (side_numbered system) (with_collected_in agg conv serial (half (side_numbered system) j)) j
-    (read_same sent_in (with_collected serial) agg conv (half (side_numbered system) j).flows (λ x. refl))
+collected_on (stamp.Data system agg conv serial) j = of_half (side_numbered system) (with_collected_in agg conv serial
+    (half (side_numbered system) j)) j (read_same sent_in (with_collected serial) agg conv (half (side_numbered system) j).flows (λ x. refl))
 
 arrived : (s : Side) (p : ℕ) (item : ItemValue) (a : Result Received SystemFault) (j new : WorldState) (r : Reply)
     → AfterReceive s p item a j r new → NoneSent j new
 arrived s p item (Ok received.TookLacpdu) j new r x =
     let took = with_half s (with_last_lacpdu p (stamped_in item) (half s j)) j in
     followed j took new (of_half s (with_last_lacpdu p (stamped_in item) (half s j)) j (λ g k. refl)) (same took new x.1)
-arrived s p item (Ok (received.Respond frame)) j new r x =
-    same (with_item_sent s p (record { octets = frame; stamp = stamp.Control 0 }) j) new x.1
+arrived s p item (Ok (received.Respond frame)) j new r x = same (with_item_sent s p (record { octets = frame; stamp = stamp.Control 0 }) j) new x.1
 arrived s p item (Ok (received.Up agg)) j new r x = followed j (with_stamp_collected item.stamp j) new (collected_on item.stamp j)
     (same (with_stamp_collected item.stamp j) new x.1)
 arrived s p item a j new r x = same j new x.1
 
 arrives : (gives : Algorithms) (s : Side) (p : ℕ) (item : ItemValue) (j new : WorldState) (r : Reply)
     → WorldReceives gives s p item j r new → NoneSent j new
-arrives gives s p item j new r x =
-    followed j (with_half s x.1 j) new (asked (gives s) (Receive p item.octets) (answer.Receive x.0) s x.1 j x.2)
+arrives gives s p item j new r x = followed j (with_half s x.1 j) new (asked (gives s) (Receive p item.octets) (answer.Receive x.0) s x.1 j x.2)
     (arrived s p item x.0 (with_half s x.1 j) new r x.3)
 
 forced_where_sent : (a : Result Unit SystemFault) (agg : AggId) (conv : ℕ) (h : HalfState) → SameSent h (forced_if_accepted a agg conv h)
@@ -101,9 +98,8 @@ counted Two agg octets j One g k free = refl
 counted Two agg octets j Two g k free =
     ap sent_in (flow_other_row with_sent agg.0 (number_of_conversation j.two.state octets) g k j.two.flows (λ e. free refl e))
 
-offered_on : (s : Side) (agg : AggId) (octets : List ℕ) (a : Result ℕ SystemFault) (j new : WorldState) (r : Reply)
-    → AfterOffer s agg octets a j r new
-    → (t : Side) (g k : ℕ) → (t ≡ s → g ≡ agg.0 → ⊥) → sent_of t g k new ≡ sent_of t g k j
+offered_on : (s : Side) (agg : AggId) (octets : List ℕ) (a : Result ℕ SystemFault) (j new : WorldState)
+    (r : Reply) → AfterOffer s agg octets a j r new → (t : Side) (g k : ℕ) → (t ≡ s → g ≡ agg.0 → ⊥) → sent_of t g k new ≡ sent_of t g k j
 offered_on s agg octets (Err fault) j new r x t g k free = ap (sent_of t g k) x.1
 offered_on s agg octets (Ok port) j new r x t g k free = ap (sent_of t g k) x.2 ∙ counted s agg octets j t g k free
 
@@ -112,8 +108,7 @@ number_named : (n : ℕ) (s : Side) → side_of n ≡ Some s → n ≡ side_numb
 number_named n s e = grind arith
 
 -- an offer to another aggregator
-other : (n : ℕ) (s t : Side) (agg : AggId) (g : ℕ) → n ≡ side_number s → ((n == side_number t) && (agg.0 == g)) ≡ false → t ≡ s → g ≡ agg.0
-    → ⊥
+other : (n : ℕ) (s t : Side) (agg : AggId) (g : ℕ) → n ≡ side_number s → ((n == side_number t) && (agg.0 == g)) ≡ false → t ≡ s → g ≡ agg.0 → ⊥
 other n s t agg g name free same_side same_agg =
     let here : (n == side_number t) ≡ true = eq-eqb n (side_number t) (name ∙ ap side_number (sym same_side)) in
     let there : (agg.0 == g) ≡ true = eq-eqb agg.0 g (sym same_agg) in
@@ -129,10 +124,8 @@ half_asked : (gives : ℕ → ℕ → ℕ → Type 0) (s : Side) (call : Call) (
     → InHalf s (λ h k. HalfAsked gives call kept up h r k) j new → NoneSent j new
 half_asked gives s call kept up r j new x =
     let mid = with_half s (half s new) j in
-    followed j mid new
-    (of_half s (half s new) j (λ g k. ap (λ (h : HalfState). sent_in (flow_at h.flows g k)) x.0.4 ∙ noted kept x.0.0 x.0.1 g k
-    ∙ ap (λ (h : HalfState). sent_in (flow_at h.flows g k)) x.0.2.same))
-    (same mid new x.1)
+    followed j mid new (of_half s (half s new) j (λ g k. ap (λ (h : HalfState). sent_in (flow_at h.flows g k)) x.0.4
+    ∙ noted kept x.0.0 x.0.1 g k ∙ ap (λ (h : HalfState). sent_in (flow_at h.flows g k)) x.0.2.same)) (same mid new x.1)
 
 effect_keeps : (gives : Algorithms) (e : Event) (d : Effect) (r : Reply) (old new : WorldState) → DoesEffect gives e old d r new
     → (t : Side) (g k : ℕ) → offers_to (side_number t) g e ≡ false → sent_of t g k new ≡ sent_of t g k old
@@ -140,23 +133,20 @@ effect_keeps gives e (nothing a) r old new x t g k free = ap (sent_of t g k) x.1
 effect_keeps gives e (shrinks i l m a) r old new x t g k free = ap (sent_of t g k) x.2
 effect_keeps gives e (ticks s count) r old new x t g k free =
     let mid = with_half s (half s new) old in
-    followed old mid new
-    (of_half s (half s new) old (same_flows (half s old) (half s new) (ticked (gives s) count (half s old) (half s new) x.0.0)))
+    followed old mid new (of_half s (half s new) old (same_flows (half s old) (half s new) (ticked (gives s) count (half s old) (half s new) x.0.0)))
     (same mid new x.0.1) t g k
 effect_keeps gives e (asks s call kept up) r old new x t g k free = half_asked (gives s) s call kept up r old new x.1 t g k
 effect_keeps gives e (restarts s) r old new x t g k free =
     half_asked (gives s) s Restart changes_counted true r (with_links old (map emptied old.links)) new x t g k
 effect_keeps gives e (receives s p item) r old new x t g k free = arrives gives s p item old new r x t g k
-effect_keeps gives e (delivers s i l m item) r old new x t g k free =
-    arrives gives s (port_at s l) item (with_link_at i m old) new r x.1 t g k
+effect_keeps gives e (delivers s i l m item) r old new x t g k free = arrives gives s (port_at s l) item (with_link_at i m old) new r x.1 t g k
 effect_keeps gives e (emits s p) r old new x t g k free =
     let mid = with_half s x.1 old in
     followed old mid new (asked (gives s) (Transmit p) (answer.Transmit x.0) s x.1 old x.2) (emitted s p x.0 mid new r x.3) t g k
 effect_keeps gives e (offers s agg octets) r old new (n, frame, named, is_offer, x) t g k free =
     let mid = with_half s x.1 old in
-    offered_on s agg octets x.0 mid new r x.3 t g k
-    (other n s t agg g (number_named n s named) (subst (λ e. offers_to (side_number t) g e ≡ false) is_offer free))
-    ∙ asked (gives s) (Offer agg octets) (answer.Offer x.0) s x.1 old x.2 t g k
+    offered_on s agg octets x.0 mid new r x.3 t g k (other n s t agg g (number_named n s named) (subst
+    (λ e. offers_to (side_number t) g e ≡ false) is_offer free)) ∙ asked (gives s) (Offer agg octets) (answer.Offer x.0) s x.1 old x.2 t g k
 
 does_keep : (gives : Algorithms) (e : Event) (r : Reply) (old new : WorldState) → DoesEvent gives old e r new
     → (t : Side) (g k : ℕ) → offers_to (side_number t) g e ≡ false → sent_of t g k new ≡ sent_of t g k old
@@ -199,17 +189,12 @@ no_row j s n agg quiet = empties (λ conv. flow_line s agg conv (flow_of_system 
     (λ c le. no_line s agg c (flow_of_system (side_of s) agg c j) (quiet c))
 
 -- and is left out
-pub row_skipped : (t u v : List ℕ) (j : WorldState) (s n i : ℕ)
-    → u ≡ t ++ flat_map (aggregator_flows_text j s n) (range_with_len 1 i) → v ≡ u → HasSentNothing j s (i + 1)
-    → v ≡ t ++ flat_map (aggregator_flows_text j s n) (range_with_len 1 (i + 1))
-row_skipped t u v j s n i before same quiet =
-    appended_both t u v (flat_map (aggregator_flows_text j s n) (range_with_len 1 i)) []
-    (flat_map (aggregator_flows_text j s n) (range_with_len 1 (i + 1))) before
-    (same ∙ sym (append_none u))
-    (ap (λ x. flat_map (aggregator_flows_text j s n) (range_with_len 1 i) ++ x) (sym (no_row j s n (i + 1) quiet))
-    ∙ range_more (aggregator_flows_text j s n) 1 i (i + 1) (i + 1) (omega arith) refl)
+pub row_skipped : (t u v : List ℕ) (j : WorldState) (s n i : ℕ) → u ≡ t ++ flat_map (aggregator_flows_text j s n)
+    (range_with_len 1 i) → v ≡ u → HasSentNothing j s (i + 1) → v ≡ t ++ flat_map (aggregator_flows_text j s n) (range_with_len 1 (i + 1))
+row_skipped t u v j s n i before same quiet = appended_both t u v (flat_map (aggregator_flows_text j s n) (range_with_len 1 i)) [] (flat_map
+    (aggregator_flows_text j s n) (range_with_len 1 (i + 1))) before (same ∙ sym (append_none u)) (ap (λ x. flat_map (aggregator_flows_text j s n)
+    (range_with_len 1 i) ++ x) (sym (no_row j s n (i + 1) quiet)) ∙ range_more (aggregator_flows_text j s n) 1 i (i + 1) (i + 1) (omega arith) refl)
 
 -- a flag that was read and is not set
-pub unset : (flags : List Bool) (at i : ℕ) (r : Bool) → at ≡ i → i < length flags → r ≡ get_or flags at r → r ≡ false
-    → get_or flags i false ≡ false
+pub unset : (flags : List Bool) (at i : ℕ) (r : Bool) → at ≡ i → i < length flags → r ≡ get_or flags at r → r ≡ false → get_or flags i false ≡ false
 unset flags at i r same inside read off = sym (get_or_read flags i r inside (subst (λ k. r ≡ get_or flags k r) same read) false) ∙ off

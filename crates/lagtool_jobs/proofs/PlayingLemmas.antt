@@ -26,8 +26,7 @@ abbrev pub is_bare : LinkState → Bool
 is_bare l = (length l.to_one == 0) && (length l.to_two == 0)
 
 bare_line : (line : AnyCable × AnyCable) → has_empty_directions any_items line ≡ is_bare (first_link any_items any_limit (0, 0) line)
-bare_line line = ap₂ (λ m n. (m == 0) && (n == 0)) (sym (length-map (any_items line.0) item_value))
-    (sym (length-map (any_items line.1) item_value))
+bare_line line = ap₂ (λ m n. (m == 0) && (n == 0)) (sym (length-map (any_items line.0) item_value)) (sym (length-map (any_items line.1) item_value))
 
 bare_lines : (lines : List (AnyCable × AnyCable))
     → list_all (has_empty_directions any_items) lines ≡ list_all is_bare (map (first_link any_items any_limit (0, 0)) lines)
@@ -41,11 +40,9 @@ both a b e f = ap (λ x. x && b) e ∙ f
 pub lines_there : (cables : List (ℕ × ℕ)) (lines : List (AnyCable × AnyCable)) (firsts : List LinkState)
     → map (first_link any_items any_limit (0, 0)) lines ≡ firsts
     → length firsts ≡ length cables → list_all is_bare firsts ≡ true → are_empty_lines any_items cables lines ≡ true
-lines_there cables lines firsts same long bare =
-    both (length lines == length cables) (list_all (has_empty_directions any_items) lines)
-    (let counted : length lines ≡ length cables = sym (length-map lines (first_link any_items any_limit (0, 0))) ∙ ap length same
-    ∙ long in grind (arith, nat_tests))
-    (bare_lines lines ∙ ap (list_all is_bare) same ∙ bare)
+lines_there cables lines firsts same long bare = both (length lines == length cables) (list_all (has_empty_directions any_items) lines)
+    (let counted : length lines ≡ length cables = sym (length-map lines (first_link any_items any_limit (0, 0)))
+    ∙ ap length same ∙ long in grind (arith, nat_tests)) (bare_lines lines ∙ ap (list_all is_bare) same ∙ bare)
 
 pub first_bare : (limits : List (Option ℕ)) → list_all is_bare (map (empty_link (0, 0)) limits) ≡ true
 first_bare [] = refl
@@ -100,10 +97,9 @@ not_spent : (n k : ℕ) → n ≡ k → k < most_events → nat_le most_events n
 not_spent n k e lt = grind (arith, nat_tests)
 
 -- the next event has no cause to be refused
-next_fine : (gives : Algorithms) (old new : WorldState) (es : List Event) (rs : List Reply) (done : ℕ) (e : Event)
-    → WorldRuns gives old (take done es) rs new → done ≤ length es
-    → world_setup new ≡ world_setup old → AllNameExisting (length old.links) es → old.acted + length es ≤ most_events
-    → slice_get es done ≡ Some e → cause new e ≡ None
+next_fine : (gives : Algorithms) (old new : WorldState) (es : List Event) (rs : List Reply)
+    (done : ℕ) (e : Event) → WorldRuns gives old (take done es) rs new → done ≤ length es → world_setup new ≡ world_setup old
+    → AllNameExisting (length old.links) es → old.acted + length es ≤ most_events → slice_get es done ≡ Some e → cause new e ≡ None
 next_fine gives old new es rs done e ran within fixed named few at =
     let held = and_parts (is_cable (length old.links) (cable_named e)) (has_system (system_named e))
     (named_at (names_existing (length old.links)) es done e named at) in
@@ -112,14 +108,12 @@ next_fine gives old new es rs done e ran within fixed named few at =
     let lt = slice_get_within es done e at in
     let count : new.acted ≡ old.acted + done = omega (arith, more, long) in
     no_cause (has_cable new (cable_named e)) (has_system (system_named e)) (nat_le most_events new.acted)
-    (cable_there new (cable_named e) (subst (λ n. is_cable n (cable_named e) ≡ true) (sym (cables_kept old new fixed)) held.0))
-    held.1
+    (cable_there new (cable_named e) (subst (λ n. is_cable n (cable_named e) ≡ true) (sym (cables_kept old new fixed)) held.0)) held.1
     (not_spent new.acted (old.acted + done) count (omega (arith, lt, few)))
 
 -- so a run stops only for lack of memory
-stops_for_memory : (gives : Algorithms) (old new : WorldState) (es : List Event) (stop : RunFault)
-    → world_setup new ≡ world_setup old → AllNameExisting (length old.links) es → old.acted + length es ≤ most_events
-    → RunStops gives old es stop new → stop.fault ≡ NoMemory
+stops_for_memory : (gives : Algorithms) (old new : WorldState) (es : List Event) (stop : RunFault) → world_setup new ≡ world_setup old
+    → AllNameExisting (length old.links) es → old.acted + length es ≤ most_events → RunStops gives old es stop new → stop.fault ≡ NoMemory
 stops_for_memory gives old new es stop fixed named few s =
     elim s.fault [ inl h ↦ h.1 | inr h ↦ by_next (next_of es stop.done) refl h ]
   where
@@ -141,12 +135,9 @@ named_before p (e ∷ es) fs all =
     both (p e) (list_all p es) first.0 (named_before p es fs first.1)
 
 -- a piece behind what has been played stops only for lack of memory
-pub piece_stops_for_memory : (gives : Algorithms) (old mid new : WorldState) (all done piece rest : List Event) (rs : List Reply)
-    (stop : RunFault)
-    → WorldRuns gives old done rs mid → all ≡ done ++ (piece ++ rest)
-    → world_setup mid ≡ world_setup old → world_setup new ≡ world_setup mid
-    → old.acted ≡ 0 → AllNameExisting (length old.links) all → length all ≤ most_events → RunStops gives mid piece stop new
-    → stop.fault ≡ NoMemory
+pub piece_stops_for_memory : (gives : Algorithms) (old mid new : WorldState) (all done piece rest : List Event) (rs : List Reply) (stop : RunFault)
+    → WorldRuns gives old done rs mid → all ≡ done ++ (piece ++ rest) → world_setup mid ≡ world_setup old → world_setup new ≡ world_setup mid
+    → old.acted ≡ 0 → AllNameExisting (length old.links) all → length all ≤ most_events → RunStops gives mid piece stop new → stop.fault ≡ NoMemory
 piece_stops_for_memory gives old mid new all done piece rest rs stop ran parts kept fixed acted named few s =
     let p = names_existing (length old.links) in
     let behind = named_behind p done (piece ++ rest) (subst (λ es. list_all p es ≡ true) parts named) in
@@ -154,7 +145,5 @@ piece_stops_for_memory gives old mid new all done piece rest rs stop ran parts k
     let more = acted_by gives done rs old mid ran in
     let long = ap length parts ∙ length-append done (piece ++ rest) in
     let long_behind = length-append piece rest in
-    stops_for_memory gives mid new piece stop fixed
-    (subst (λ n. list_all (names_existing n) piece ≡ true) (sym (cables_kept old mid kept)) here)
-    (omega (arith, more, acted, few, long, long_behind))
-    s
+    stops_for_memory gives mid new piece stop fixed (subst (λ n. list_all (names_existing n) piece ≡ true) (sym (cables_kept old mid kept)) here)
+    (omega (arith, more, acted, few, long, long_behind)) s

@@ -51,9 +51,8 @@ module _ {X : Type 0} (F : List (List ℕ) → X) (by_verdict : (l m : List ℕ)
   same_long [] m ls h j = absurd (omega arith)
   same_long (x ∷ l) [] ls h j = absurd (omega arith)
   same_long (x ∷ l) (y ∷ m) [] h j = by_verdict (x ∷ l) (y ∷ m) [] (long_line (x ∷ l) h ∙ sym (long_line (y ∷ m) j))
-  same_long (x ∷ l) (y ∷ m) (k ∷ ls) h j =
-      by_verdict ((x ∷ l) ++ k) ((y ∷ m) ++ k) ls (long_line ((x ∷ l) ++ k) (simp length-append (omega arith))
-      ∙ sym (long_line ((y ∷ m) ++ k) (simp length-append (omega arith))))
+  same_long (x ∷ l) (y ∷ m) (k ∷ ls) h j = by_verdict ((x ∷ l) ++ k) ((y ∷ m) ++ k) ls
+      (long_line ((x ∷ l) ++ k) (simp length-append (omega arith)) ∙ sym (long_line ((y ∷ m) ++ k) (simp length-append (omega arith))))
 
   more_of_line : (line xs rest : List ℕ) → InOneLine xs
       → F (continue_line line (lines_of (xs ++ rest))) ≡ F (continue_line (line ++ xs) (lines_of rest))
@@ -61,17 +60,14 @@ module _ {X : Type 0} (F : List (List ℕ) → X) (by_verdict : (l m : List ℕ)
 
   kept_part : (line xs rest : List ℕ) (n : ℕ) → InOneLine xs → n ≤ length xs → length line + n ≡ 65537
       → F (continue_line line (lines_of (xs ++ rest))) ≡ F (continue_line (line ++ take n xs) (lines_of rest))
-  kept_part line xs rest n h le long =
-      more_of_line line xs rest h
-      ∙ same_long (line ++ xs) (line ++ take n xs) (lines_of rest) (simp length-append (omega arith))
-      (simp length-append (omega (arith, length-take-le n xs le)))
+  kept_part line xs rest n h le long = more_of_line line xs rest h ∙ same_long (line ++ xs)
+      (line ++ take n xs) (lines_of rest) (simp length-append (omega arith)) (simp length-append (omega (arith, length-take-le n xs le)))
 
   kept_line : (line xs rest : List ℕ) (n : ℕ) → InOneLine xs → length line ≤ 65537 → n ≡ min (length xs) (65537 - length line)
       → F (continue_line line (lines_of (xs ++ rest))) ≡ F (continue_line (line ++ take n xs) (lines_of rest))
   kept_line line xs rest n h short is = elim (cases_lt (65537 - length line) (length xs)) [
     | inl less ↦ kept_part line xs rest n h (omega (arith, is)) (omega (arith, is))
-    | inr more ↦ more_of_line line xs rest h
-        ∙ ap (λ ys. F (continue_line (line ++ ys) (lines_of rest))) (sym (take_all n xs (omega (arith, is))))
+    | inr more ↦ more_of_line line xs rest h ∙ ap (λ ys. F (continue_line (line ++ ys) (lines_of rest))) (sym (take_all n xs (omega (arith, is))))
   ]
 
 newlines_joined : (xs rest : List ℕ) → InOneLine xs → newline_count (xs ++ rest) ≡ newline_count rest
@@ -97,18 +93,15 @@ same_report : (n k : ℕ) (l m : List ℕ) (ls : List (List ℕ)) → line_verdi
 same_report n k l m ls e = ap (λ (v : Verdict). (decimal (n + 1) ++ 32 ∷ (verdict_text v ++ 10 ∷ []))
     ++ check_report_from (n + 1) (k + cond (is_fault v) 1 0) ls) e
 
-same_counts : (n k : ℕ) (l m : List ℕ) (ls : List (List ℕ)) → line_verdict l ≡ line_verdict m
-    → summary_from n k (l ∷ ls) ≡ summary_from n k (m ∷ ls)
+same_counts : (n k : ℕ) (l m : List ℕ) (ls : List (List ℕ)) → line_verdict l ≡ line_verdict m → summary_from n k (l ∷ ls) ≡ summary_from n k (m ∷ ls)
 same_counts n k l m ls e = ap (λ (v : Verdict). summary_from (n + 1) (k + cond (is_fault v) 1 0) ls) e
 
 same_verdicts : (n c : ℕ) (l m : List ℕ) (ls : List (List ℕ)) → line_verdict l ≡ line_verdict m
     → verdicts_from n (take c (l ∷ ls)) ≡ verdicts_from n (take c (m ∷ ls))
 same_verdicts n zero l m ls e = refl
-same_verdicts n (suc c) l m ls e = ap (λ (v : Verdict). (decimal (n + 1) ++ 32 ∷ (verdict_text v ++ 10 ∷ []))
-    ++ verdicts_from (n + 1) (take c ls)) e
+same_verdicts n (suc c) l m ls e = ap (λ (v : Verdict). (decimal (n + 1) ++ 32 ∷ (verdict_text v ++ 10 ∷ [])) ++ verdicts_from (n + 1) (take c ls)) e
 
-same_unwritten : (a b : List ℕ) (n m k j : ℕ) (l o rest : List ℕ) → a ≡ b → n ≡ m → k ≡ j → l ≡ o → a
-    ++ pending n k l rest ≡ b ++ pending m j o rest
+same_unwritten : (a b : List ℕ) (n m k j : ℕ) (l o rest : List ℕ) → a ≡ b → n ≡ m → k ≡ j → l ≡ o → a ++ pending n k l rest ≡ b ++ pending m j o rest
 same_unwritten a b n m k j l o rest e f g h = rw (e, f, g, h) refl
 
 same_said : (a b : List ℕ) (n m : ℕ) (l o rest : List ℕ) → a ≡ b → n ≡ m → l ≡ o → a ++ ended n l rest ≡ b ++ ended m o rest
@@ -123,17 +116,13 @@ on_ok (Err e) h = tt
 
 -- more octets of a line were kept
 pub keeps : (s t : ScanState) (xs : List ℕ) (n : ℕ) → t.to_write ≡ s.to_write → t.lines ≡ s.lines → t.faults ≡ s.faults
-    → t.line ≡ s.line ++ take n xs
-    → InOneLine xs → length s.line ≤ 65537 → n ≡ min (length xs) (65537 - length s.line) → ReadsOctets s t xs
+    → t.line ≡ s.line ++ take n xs → InOneLine xs → length s.line ≤ 65537 → n ≡ min (length xs) (65537 - length s.line) → ReadsOctets s t xs
 keeps s t xs n e f g h in_line short is = record {
-  report = λ rest. ap (λ zs. s.to_write ++ zs) (kept_line (check_report_from s.lines s.faults) (same_report s.lines s.faults) s.line xs
-      rest n in_line short is)
-      ∙ sym (same_unwritten _ _ _ _ _ _ _ _ rest e f g h);
+  report = λ rest. ap (λ zs. s.to_write ++ zs) (kept_line (check_report_from s.lines s.faults)
+      (same_report s.lines s.faults) s.line xs rest n in_line short is) ∙ sym (same_unwritten _ _ _ _ _ _ _ _ rest e f g h);
   to_write = λ rest. ap (λ c. s.to_write ++ verdicts_from s.lines (take c (continue_line s.line (lines_of (xs ++ rest)))))
-      (newlines_joined xs rest in_line)
-      ∙ ap (λ zs. s.to_write ++ zs) (kept_line (λ ls. verdicts_from s.lines (take (newline_count rest) ls))
-      (same_verdicts s.lines (newline_count rest)) s.line xs rest n in_line short is)
-      ∙ sym (same_said _ _ _ _ _ _ rest e f h);
+      (newlines_joined xs rest in_line) ∙ ap (λ zs. s.to_write ++ zs) (kept_line (λ ls. verdicts_from s.lines (take (newline_count rest) ls))
+      (same_verdicts s.lines (newline_count rest)) s.line xs rest n in_line short is) ∙ sym (same_said _ _ _ _ _ _ rest e f h);
   counts = λ rest. kept_line (summary_from s.lines s.faults) (same_counts s.lines s.faults) s.line xs rest n in_line short is
       ∙ sym (same_counted _ _ _ _ _ _ rest f g h);
 }
@@ -142,22 +131,16 @@ keeps s t xs n e f g h in_line short is = record {
 pub ends_line : (s t : ScanState) → t.to_write ≡ s.to_write ++ verdict_line (s.lines + 1) s.line → t.lines ≡ s.lines + 1
     → t.faults ≡ s.faults + fault_count s.line → t.line ≡ [] → ReadsOctets s t (10 ∷ [])
 ends_line s t e f g h = record {
-  report = λ rest. ap (λ l. s.to_write ++ check_report_from s.lines s.faults (l ∷ lines_of rest)) (append-nil s.line)
-      ∙ sym (append_assoc s.to_write (verdict_line (s.lines + 1) s.line)
-      (check_report_from (s.lines + 1) (s.faults + fault_count s.line) (lines_of rest)))
+  report = λ rest. ap (λ l. s.to_write ++ check_report_from s.lines s.faults (l ∷ lines_of rest)) (append-nil s.line) ∙ sym
+      (append_assoc s.to_write (verdict_line (s.lines + 1) s.line) (check_report_from (s.lines + 1) (s.faults + fault_count s.line) (lines_of rest)))
       ∙ ap (λ ls. (s.to_write ++ verdict_line (s.lines + 1) s.line) ++ check_report_from (s.lines + 1) (s.faults + fault_count s.line) ls)
-      (sym (prepend_none (lines_of rest)))
-      ∙ sym (same_unwritten _ _ _ _ _ _ _ _ rest e f g h);
-  to_write = λ rest. ap (λ l. s.to_write
-      ++ (verdict_line (s.lines + 1) l ++ verdicts_from (s.lines + 1) (take (newline_count rest) (lines_of rest)))) (append-nil s.line)
-      ∙ sym (append_assoc s.to_write (verdict_line (s.lines + 1) s.line)
-      (verdicts_from (s.lines + 1) (take (newline_count rest) (lines_of rest))))
-      ∙ ap (λ ls. (s.to_write ++ verdict_line (s.lines + 1) s.line) ++ verdicts_from (s.lines + 1) (take (newline_count rest) ls))
-      (sym (prepend_none (lines_of rest)))
-      ∙ sym (same_said _ _ _ _ _ _ rest e f h);
-  counts = λ rest. ap (λ l. summary_from s.lines s.faults (l ∷ lines_of rest)) (append-nil s.line)
-      ∙ ap (summary_from (s.lines + 1) (s.faults + fault_count s.line)) (sym (prepend_none (lines_of rest)))
-      ∙ sym (same_counted _ _ _ _ _ _ rest f g h);
+      (sym (prepend_none (lines_of rest))) ∙ sym (same_unwritten _ _ _ _ _ _ _ _ rest e f g h);
+  to_write = λ rest. ap (λ l. s.to_write ++ (verdict_line (s.lines + 1) l ++ verdicts_from (s.lines + 1) (take
+      (newline_count rest) (lines_of rest)))) (append-nil s.line) ∙ sym (append_assoc s.to_write (verdict_line (s.lines + 1) s.line) (verdicts_from
+      (s.lines + 1) (take (newline_count rest) (lines_of rest)))) ∙ ap (λ ls. (s.to_write ++ verdict_line (s.lines + 1) s.line) ++ verdicts_from
+      (s.lines + 1) (take (newline_count rest) ls)) (sym (prepend_none (lines_of rest))) ∙ sym (same_said _ _ _ _ _ _ rest e f h);
+  counts = λ rest. ap (λ l. summary_from s.lines s.faults (l ∷ lines_of rest)) (append-nil s.line) ∙ ap
+      (summary_from (s.lines + 1) (s.faults + fault_count s.line)) (sym (prepend_none (lines_of rest))) ∙ sym (same_counted _ _ _ _ _ _ rest f g h);
 }
 
 -- the octets of a piece that are done, a line more
@@ -171,10 +154,8 @@ line_done all done rest n e lt is =
     e ∙ ap (λ xs. done ++ xs) split ∙ sym (append_assoc done (take n rest ++ 10 ∷ []) later)
     ∙ ap (λ xs. (done ++ (take n rest ++ 10 ∷ [])) ++ xs) (sym (take_rest rest (n + 1)))
 
-pub rest_length : (rest : List ℕ) (n : ℕ) → n < length rest
-    → length (take (length rest - (n + 1)) (drop (n + 1) rest)) + (n + 1) ≡ length rest
-rest_length rest n lt = ap (λ xs. length xs + (n + 1)) (take_rest rest (n + 1))
-    ∙ ap (λ m. m + (n + 1)) (length-drop (n + 1) rest) ∙ omega arith
+pub rest_length : (rest : List ℕ) (n : ℕ) → n < length rest → length (take (length rest - (n + 1)) (drop (n + 1) rest)) + (n + 1) ≡ length rest
+rest_length rest n lt = ap (λ xs. length xs + (n + 1)) (take_rest rest (n + 1)) ∙ ap (λ m. m + (n + 1)) (length-drop (n + 1) rest) ∙ omega arith
 
 pub reads_none : (s : ScanState) → ReadsOctets s s []
 reads_none s = record { report = λ rest. refl; to_write = λ rest. refl; counts = λ rest. refl }
@@ -218,15 +199,13 @@ module _ {R W : Type 0} (remaining : R → Option (List ℕ)) (contents : W → 
     pub said_is : (rest : List ℕ) → ended_lines_text (octets ++ rest) ≡ out ++ to_write_after s rest
     pub counts_are : (rest : List ℕ) → summary (octets ++ rest) ≡ summary_after s rest
 
-  pub told_none : (r : SourceState R) (w : SinkState W) (s : ScanState) → s.to_write ≡ [] → s.lines ≡ 0 → s.faults ≡ 0
-      → s.line ≡ [] → Told r r w w s
+  pub told_none : (r : SourceState R) (w : SinkState W) (s : ScanState) → s.to_write ≡ [] → s.lines ≡ 0 → s.faults ≡ 0 → s.line ≡ [] → Told r r w w s
   told_none r w s e f g h = record {
     octets = [];
     read = record { read = consumes_none (remaining r.reader); failed = refl; left = omega arith };
     out = [];
     written = record { written = appends_none (contents w.writer); failed = refl };
-    report_is = λ rest. ap (check_report_from 0 0) (sym (prepend_none (lines_of rest)))
-        ∙ sym (same_unwritten _ [] _ 0 _ 0 _ [] rest e f g h);
+    report_is = λ rest. ap (check_report_from 0 0) (sym (prepend_none (lines_of rest))) ∙ sym (same_unwritten _ [] _ 0 _ 0 _ [] rest e f g h);
     said_is = λ rest. ap (λ ls. verdicts_from 0 (take (newline_count rest) ls)) (sym (prepend_none (lines_of rest)))
         ∙ sym (same_said _ [] _ 0 _ [] rest e f h);
     counts_are = λ rest. ap (summary_from 0 0) (sym (prepend_none (lines_of rest))) ∙ sym (same_counted _ 0 _ 0 _ [] rest f g h);
@@ -234,11 +213,8 @@ module _ {R W : Type 0} (remaining : R → Option (List ℕ)) (contents : W → 
 
 gives_both : {R : Type 0} {remaining : R → Option (List ℕ)} (a b c : SourceState R) (xs ys : List ℕ) → Gives remaining a b xs
     → Gives remaining b c ys → Gives remaining a c (xs ++ ys)
-gives_both a b c xs ys p q = record {
-  read = consumes_both _ _ _ xs ys p.read q.read;
-  failed = q.failed ∙ p.failed;
-  left = simp length-append (omega (arith, p.left, q.left));
-}
+gives_both a b c xs ys p q = record
+    { read = consumes_both _ _ _ xs ys p.read q.read; failed = q.failed ∙ p.failed; left = simp length-append (omega (arith, p.left, q.left)) }
 
 module _ {R W : Type 0} {remaining : R → Option (List ℕ)} {contents : W → Option (List ℕ)} where
   pub told_reads : {from mid to : SourceState R} {old half : SinkState W} {s t : ScanState} {ys : List ℕ}
@@ -248,10 +224,8 @@ module _ {R W : Type 0} {remaining : R → Option (List ℕ)} {contents : W → 
     read = gives_both from mid to p.octets ys p.read c;
     out = p.out;
     written = p.written;
-    report_is = λ rest. ap check_report (append_assoc p.octets ys rest) ∙ p.report_is (ys ++ rest)
-        ∙ ap (λ zs. p.out ++ zs) (q.report rest);
-    said_is = λ rest. ap ended_lines_text (append_assoc p.octets ys rest) ∙ p.said_is (ys ++ rest)
-        ∙ ap (λ zs. p.out ++ zs) (q.to_write rest);
+    report_is = λ rest. ap check_report (append_assoc p.octets ys rest) ∙ p.report_is (ys ++ rest) ∙ ap (λ zs. p.out ++ zs) (q.report rest);
+    said_is = λ rest. ap ended_lines_text (append_assoc p.octets ys rest) ∙ p.said_is (ys ++ rest) ∙ ap (λ zs. p.out ++ zs) (q.to_write rest);
     counts_are = λ rest. ap summary (append_assoc p.octets ys rest) ∙ p.counts_are (ys ++ rest) ∙ q.counts rest;
   }
 
@@ -277,8 +251,7 @@ module _ {R W : Type 0} {remaining : R → Option (List ℕ)} {contents : W → 
   -- if nothing is said but not written, all is written of the lines that were ended
   all_written : {from mid : SourceState R} {old half : SinkState W} {s : ScanState} (p : Told remaining contents from mid old half s)
       → s.to_write ≡ [] → p.out ≡ ended_lines_text p.octets
-  all_written p e = sym (ap ended_lines_text (sym (append-nil p.octets)) ∙ p.said_is []
-      ∙ ap (λ zs. p.out ++ (zs ++ [])) e ∙ append-nil p.out)
+  all_written p e = sym (ap ended_lines_text (sym (append-nil p.octets)) ∙ p.said_is [] ∙ ap (λ zs. p.out ++ (zs ++ [])) e ∙ append-nil p.out)
 
   pub stops_reading : {from mid to : SourceState R} {old half : SinkState W} {s : ScanState} → Told remaining contents from mid old half s
       → s.to_write ≡ [] → Fails remaining mid to → Stops remaining contents from to old half Read
@@ -287,8 +260,7 @@ module _ {R W : Type 0} {remaining : R → Option (List ℕ)} {contents : W → 
     before = mid;
     read = p.read;
     fails = fails;
-    written =
-        subst (WritesWhole contents old half) (all_written p e) p.written;
+    written = subst (WritesWhole contents old half) (all_written p e) p.written;
   }
 
   pub stops_short : {from mid to : SourceState R} {old half : SinkState W} {s : ScanState} {ys : List ℕ}
@@ -317,10 +289,9 @@ module _ {R W : Type 0} {remaining : R → Option (List ℕ)} {contents : W → 
         unsaid = drop n to_write ++ tail;
         written = subst (λ o. Appends (contents old.writer) (contents new.writer) (o ++ take n to_write)) out
             (appends_both _ _ _ p.out (take n to_write) p.written.written b.1);
-        report_is = p.report_is ys ∙ ap (λ zs. p.out ++ zs) (is ∙ ap (λ zs. zs ++ tail) (sym (take-append-drop n to_write))
-            ∙ append_assoc (take n to_write) (drop n to_write) tail)
-            ∙ sym (append_assoc p.out (take n to_write) (drop n to_write ++ tail))
-            ∙ ap (λ o. (o ++ take n to_write) ++ (drop n to_write ++ tail)) out;
+        report_is = p.report_is ys ∙ ap (λ zs. p.out ++ zs)
+            (is ∙ ap (λ zs. zs ++ tail) (sym (take-append-drop n to_write)) ∙ append_assoc (take n to_write) (drop n to_write) tail) ∙ sym
+            (append_assoc p.out (take n to_write) (drop n to_write ++ tail)) ∙ ap (λ o. (o ++ take n to_write) ++ (drop n to_write ++ tail)) out;
       }
 
   -- all is written
@@ -345,10 +316,8 @@ on_fault P f (Ok x) e p = tt
 on_fault P f (Err x) e p = subst P (sym e) p
 
 -- how `check` ends, by the clauses on its fault
-pub ends_by : {R W : Type 0} (remaining : R → Option (List ℕ)) (contents : W → Option (List ℕ)) (from to : SourceState R)
-    (old new : SinkState W) (r : Result Summary ToolFault)
-    → IfOk r (λ s. Completes remaining contents from to old new s) → IfErr r (Stops remaining contents from to old new)
-    → IfErr r (HasCause to.failed new.failed)
-    → Checks remaining contents from to old new r
+pub ends_by : {R W : Type 0} (remaining : R → Option (List ℕ)) (contents : W → Option (List ℕ))
+    (from to : SourceState R) (old new : SinkState W) (r : Result Summary ToolFault) → IfOk r (λ s. Completes remaining contents from to old new s)
+    → IfErr r (Stops remaining contents from to old new) → IfErr r (HasCause to.failed new.failed) → Checks remaining contents from to old new r
 ends_by remaining contents from to old new (Ok s) ok err cause = ok
 ends_by remaining contents from to old new (Err e) ok err cause = (err, cause)

@@ -20,8 +20,7 @@ first_lines_are [] given limits h = refl
 first_lines_are (c ∷ cables) [] [] h = refl
 first_lines_are (c ∷ cables) [] (l ∷ limits) h = absurd (let e = h in cc)
 first_lines_are (c ∷ cables) (g ∷ given) [] h = absurd (let e = h in cc)
-first_lines_are (c ∷ cables) (g ∷ given) (l ∷ limits) h =
-    ap₂ (λ x xs. x ∷ xs) (ap (λ ls. with_ends c (get_or ls 0 (empty_link (0, 0) None))) h)
+first_lines_are (c ∷ cables) (g ∷ given) (l ∷ limits) h = ap₂ (λ x xs. x ∷ xs) (ap (λ ls. with_ends c (get_or ls 0 (empty_link (0, 0) None))) h)
     (first_lines_are cables given limits (ap (drop 1) h))
 
 -- a cable of two empty directions with one limit
@@ -49,10 +48,9 @@ replayed_is gives text plan limits es report said has same_limits same_events sa
 }
 
 -- a report that could not be written whole
-pub write_failed : {W : Type 0} (contents : W → Option (List ℕ)) (gives : Algorithms) (text : List ℕ) (old new : SinkState W)
-    (r : Result ⊤ ToolFault) (report : List ℕ)
-    → IsErrAnd r (λ e. e ≡ Write) → IsReportOfScript gives text report → WritesPart contents old new report
-    → Replays contents gives text old new r
+pub write_failed : {W : Type 0} (contents : W → Option (List ℕ)) (gives : Algorithms) (text : List ℕ)
+    (old new : SinkState W) (r : Result ⊤ ToolFault) (report : List ℕ) → IsErrAnd r (λ e. e ≡ Write)
+    → IsReportOfScript gives text report → WritesPart contents old new report → Replays contents gives text old new r
 write_failed contents gives text old new (Ok x) report e is breaks = absurd e
 write_failed contents gives text old new (Err f) report e is breaks = subst (λ x. Replays contents gives text old new (Err x))
     (sym e) (report, is, breaks)

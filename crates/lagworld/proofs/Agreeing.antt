@@ -29,22 +29,19 @@ port_there : (o : Option Machines) → unwrap_or (option_map (λ (x : Machines).
     → (x : Machines) × (o ≡ Some x) × (same_mux_state CollectingDistributing x.mux ≡ true) × (x.defaulted ≡ false)
 port_there o h d = grind arith
 
-slot_there : (s : SystemState) (o : Option ℕ) (x : Machines)
-    → option_map (λ (y : SystemPort). y.port) (system_port_at o s.system_ports) ≡ Some x → (P : Machines → Type 0)
-    → ((i : ℕ) (y : SystemPort) → slice_get s.system_ports i ≡ Some y → P y.port) → P x
+slot_there : (s : SystemState) (o : Option ℕ) (x : Machines) → option_map (λ (y : SystemPort). y.port) (system_port_at o s.system_ports) ≡ Some x
+    → (P : Machines → Type 0) → ((i : ℕ) (y : SystemPort) → slice_get s.system_ports i ≡ Some y → P y.port) → P x
 slot_there s o x e P w = grind arith
 
 -- it distributes for the law too
 distributes_seen : (s : SystemState) (p : ℕ) (x : Machines) → PortsAgree s → machines_of p s ≡ Some x
     → same_mux_state CollectingDistributing x.mux ≡ true → (model_port x).distributes ≡ true
 distributes_seen s p x a e m =
-    slot_there s (port_index p s.system_ports) x e (λ x. (model_port x).distributes ≡ same_mux_state CollectingDistributing x.mux)
-    (λ i y h. all-get (λ y. (model_port y.port).distributes ≡ same_mux_state CollectingDistributing y.port.mux)
-    s.system_ports i y h a.distribute) ∙ m
+    slot_there s (port_index p s.system_ports) x e (λ x. (model_port x).distributes ≡ same_mux_state CollectingDistributing x.mux) (λ i y h. all-get
+    (λ y. (model_port y.port).distributes ≡ same_mux_state CollectingDistributing y.port.mux) s.system_ports i y h a.distribute) ∙ m
 
 -- the peer's LACPDU that it took last has the peer's count
-stamp_there : (n : ℕ) (o : Option StampedLacpdu) → is_stamp n o ≡ true → (m : TakenLacpdu)
-    × (option_map model_taken o ≡ Some m) × (m.stamp ≡ n)
+stamp_there : (n : ℕ) (o : Option StampedLacpdu) → is_stamp n o ≡ true → (m : TakenLacpdu) × (option_map model_taken o ≡ Some m) × (m.stamp ≡ n)
 stamp_there n None h = absurd (true≢false (sym h))
 stamp_there n (Some lacpdu) h = (model_taken lacpdu, refl, eqb-true lacpdu.stamp n h)
 

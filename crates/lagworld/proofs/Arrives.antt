@@ -66,10 +66,9 @@ seen_act s p octets (Ok (received.Respond frame)) seen h = h.2
 seen_act s p octets a seen h = h
 
 -- What a received item lets a system do, by what it stands for.
-pub told_receive : (p : ℕ) (octets : List ℕ) (st : Stamp) (a : Result Received SystemFault) (old new : SystemState) → IsTrue_to octets st
-    → JoinedByLawfulMoves old (Receive p octets) (answer.Receive a) new
-    → LawfulMoves (model_setup old) (ModelEvent.Receive p (brought octets st)) (model_view old)
-    (option_to_list (act_of p octets a)) (model_view new)
+pub told_receive : (p : ℕ) (octets : List ℕ) (st : Stamp) (a : Result Received SystemFault)
+    (old new : SystemState) → IsTrue_to octets st → JoinedByLawfulMoves old (Receive p octets) (answer.Receive a) new
+    → LawfulMoves (model_setup old) (ModelEvent.Receive p (brought octets st)) (model_view old) (option_to_list (act_of p octets a)) (model_view new)
 told_receive p octets st a old new t h =
     let moves = told_moves old new h.2.2 (seen_act old p octets a h.1 h.3) h.4 in
     grind (arith, brought_by, moves_bring, model_setup, brought, model_view, option_to_list, act_of, told_moves)
@@ -102,26 +101,21 @@ ItemCame s p item j new = CallHappens (world_setup j) s (ModelEvent.Receive p (b
     (model_world j) (model_world j) (model_world new)
 
 -- A call that an item made, in j, from which that item was taken away: no answer but `Up` looks at what the item is.
-came : (gives : ℕ → ℕ → ℕ → Type 0) (s : Side) (p : ℕ) (item : ItemValue) (a : Result Received SystemFault) (mid : HalfState)
-    (histories : List PortHistory) (ls : List LinkState) (kept : Bool) (j new : WorldState)
-    → new ≡ after_call s (record mid { histories = histories }) ls j → IsTrue_to item.octets item.stamp
-    → HalfAnswers gives (Receive p item.octets) (answer.Receive a) (half s j) mid
-    → ((q : ℕ) → change_count_in (history_at histories q) ≡ change_count_in (history_at (half s j).histories q))
-    → Leaves s (stamp_count item.stamp) kept (act_of p item.octets a) (record mid { histories = histories }) ls j
-    → ItemCame s p item j new
-came gives s p item a mid histories ls kept j new is t x counts q =
-    keeping_call s (ModelEvent.Receive p (brought item.octets item.stamp)) (stamp_count item.stamp) kept (act_of p item.octets a)
-    (record mid { histories = histories }) ls j new is (λ e. cc) refl q
-    (told_receive p item.octets item.stamp a (half s j).state mid.state t x.answers.moves) counts
+came : (gives : ℕ → ℕ → ℕ → Type 0) (s : Side) (p : ℕ) (item : ItemValue) (a : Result Received SystemFault)
+    (mid : HalfState) (histories : List PortHistory) (ls : List LinkState) (kept : Bool) (j new : WorldState)
+    → new ≡ after_call s (record mid { histories = histories }) ls j → IsTrue_to item.octets item.stamp → HalfAnswers gives (Receive p item.octets)
+    (answer.Receive a) (half s j) mid → ((q : ℕ) → change_count_in (history_at histories q) ≡ change_count_in (history_at (half s j).histories q))
+    → Leaves s (stamp_count item.stamp) kept (act_of p item.octets a) (record mid { histories = histories }) ls j → ItemCame s p item j new
+came gives s p item a mid histories ls kept j new is t x counts q = keeping_call s (ModelEvent.Receive p (brought item.octets item.stamp))
+    (stamp_count item.stamp) kept (act_of p item.octets a) (record mid { histories = histories }) ls j new is
+    (λ e. cc) refl q (told_receive p item.octets item.stamp a (half s j).state mid.state t x.answers.moves) counts
 
 silent : (gives : ℕ → ℕ → ℕ → Type 0) (s : Side) (p : ℕ) (item : ItemValue) (a : Result Received SystemFault)
-    (mid : HalfState) (j new : WorldState)
-    → IsTrue_to item.octets item.stamp → act_of p item.octets a ≡ None
+    (mid : HalfState) (j new : WorldState) → IsTrue_to item.octets item.stamp → act_of p item.octets a ≡ None
     → HalfAnswers gives (Receive p item.octets) (answer.Receive a) (half s j) mid → new ≡ with_half s mid j → ItemCame s p item j new
-silent gives s p item a mid j new t none x e =
-    came gives s p item a mid mid.histories j.links true j new e t x (λ q. ap change_count_in (history_kept x q))
-    (subst (λ o. Leaves s (stamp_count item.stamp) true o mid j.links j) (sym none)
-    (quietly s (stamp_count item.stamp) mid j (flows_kept x) (λ q. ap taken_in (history_kept x q))))
+silent gives s p item a mid j new t none x e = came gives s p item a mid mid.histories j.links true j new e t x
+    (λ q. ap change_count_in (history_kept x q)) (subst (λ o. Leaves s (stamp_count item.stamp) true o mid j.links j)
+    (sym none) (quietly s (stamp_count item.stamp) mid j (flows_kept x) (λ q. ap taken_in (history_kept x q))))
 
 abbrev is_up : Result Received SystemFault → Bool
 is_up (Ok (received.Up agg)) = true
@@ -195,18 +189,15 @@ handed_world : (t : Side) (agg conv serial : ℕ) (j : WorldState) → IsSome (f
 handed_world s agg conv serial j there =
     let fl = (half s j).flows in
     let h = with_collected_in agg conv serial (half s j) in
-    let now : (λ g k. collected_in (flow_at h.flows g k)) ≡ at_two ((model_world j).collected s) agg conv
-    ((model_world j).collected s agg conv ++ serial ∷ []) =
+    let now : (λ g k. collected_in (flow_at h.flows g k)) ≡ at_two
+    ((model_world j).collected s) agg conv ((model_world j).collected s agg conv ++ serial ∷ []) =
     (λ i g k. read_changed collected_in (with_collected serial) (λ l. l ++ serial ∷ []) agg conv fl (λ x. refl) there g k i) in
-    same_world _ _ (kept_at (λ x. model_view x.state) s h j refl) (λ c. refl) (λ t c. refl)
-    (λ t p. kept_at (λ x. change_count_in (history_at x.histories p)) s h j refl t)
-    (λ t p. kept_at (λ x. option_map model_taken (taken_in (history_at x.histories p))) s h j refl t)
-    (λ t g k. kept_at (λ x. sent_in (flow_at x.flows g k)) s h j
-    (read_same sent_in (with_collected serial) agg conv fl (λ x. refl) g k) t)
-    (λ t g k. ap (λ (f : ℕ → ℕ → List ℕ). f g k) (half_after (λ x g k. collected_in (flow_at x.flows g k)) s h j t
-    ∙ ap (λ v. at_side (model_world j).collected s v t) now))
-    (λ t g k. kept_at (λ x. forced_in (flow_at x.flows g k)) s h j
-    (read_same forced_in (with_collected serial) agg conv fl (λ x. refl) g k) t)
+    same_world _ _ (kept_at (λ x. model_view x.state) s h j refl) (λ c. refl) (λ t c. refl) (λ t p. kept_at (λ x. change_count_in
+    (history_at x.histories p)) s h j refl t) (λ t p. kept_at (λ x. option_map model_taken (taken_in (history_at x.histories p))) s h j refl t)
+    (λ t g k. kept_at (λ x. sent_in (flow_at x.flows g k)) s h j (read_same sent_in (with_collected serial) agg conv fl (λ x. refl) g k) t)
+    (λ t g k. ap (λ (f : ℕ → ℕ → List ℕ). f g k)
+    (half_after (λ x g k. collected_in (flow_at x.flows g k)) s h j t ∙ ap (λ v. at_side (model_world j).collected s v t) now))
+    (λ t g k. kept_at (λ x. forced_in (flow_at x.flows g k)) s h j (read_same forced_in (with_collected serial) agg conv fl (λ x. refl) g k) t)
 
 -- the moves of a call of s, and then a frame collected at its peer, or the other way round
 turned : (s : Side) (mid : HalfState) (agg conv serial : ℕ) (j : WorldState)
@@ -217,27 +208,22 @@ half_up : (s : Side) (agg conv serial : ℕ) (j : WorldState) → half s (after_
 half_up s agg conv serial j = grind arith
 
 up_came : (gives : ℕ → ℕ → ℕ → Type 0) (s : Side) (p : ℕ) (octets : List ℕ) (agg conv serial : ℕ) (up : AggId) (mid : HalfState)
-    (j : WorldState) → IsSome (flow_at (half (peer s) j).flows agg conv) → (IsSlowProtocolsFrame octets → ⊥)
-    → HalfAnswers gives (Receive p octets) (answer.Receive (Ok (received.Up up))) (half s j) mid
-    → CallHappens (world_setup j) s (ModelEvent.Receive p None) 0 (model_world j)
-    (handed_up true (Data (peer s) agg conv serial) (model_world j))
-    (model_world (after_up (peer s) agg conv serial (with_half s mid j)))
+    (j : WorldState) → IsSome (flow_at (half (peer s) j).flows agg conv) → (IsSlowProtocolsFrame octets → ⊥) → HalfAnswers gives (Receive p octets)
+    (answer.Receive (Ok (received.Up up))) (half s j) mid → CallHappens (world_setup j) s (ModelEvent.Receive p None) 0 (model_world j)
+    (handed_up true (Data (peer s) agg conv serial) (model_world j)) (model_world (after_up (peer s) agg conv serial (with_half s mid j)))
 up_came gives s p octets agg conv serial up mid j there plain x =
     let after = after_up (peer s) agg conv serial j in
     let fixed = fixed_kept (peer s) (with_collected_in agg conv serial (half (peer s) j)) j refl in
     let world = handed_world (peer s) agg conv serial j there in
     let asked : HalfAnswers gives (Receive p octets) (answer.Receive (Ok (received.Up up))) (half s after) mid =
-    subst (λ h. HalfAnswers gives (Receive p octets) (answer.Receive (Ok (received.Up up))) h mid)
-    (sym (half_up s agg conv serial j)) x in
-    subst (λ (X : Type 0). X)
-    (λ i. CallHappens (fixed i) s (ModelEvent.Receive p None) 0 (world i) (world i) (model_world (sym (turned s mid agg conv serial j) i)))
-    (silent gives s p (record { octets = octets; stamp = stamp.Data 0 0 0 0 }) (Ok (received.Up up)) mid after (with_half s mid after)
-    plain refl asked refl)
+    subst (λ h. HalfAnswers gives (Receive p octets) (answer.Receive (Ok (received.Up up))) h mid) (sym (half_up s agg conv serial j)) x in
+    subst (λ (X : Type 0). X) (λ i. CallHappens (fixed i) s (ModelEvent.Receive p None) 0 (world i)
+    (world i) (model_world (sym (turned s mid agg conv serial j) i))) (silent gives s p
+    (record { octets = octets; stamp = stamp.Data 0 0 0 0 }) (Ok (received.Up up)) mid after (with_half s mid after) plain refl asked refl)
 
 abbrev DataCame : Side → ℕ → ℕ → ℕ → ℕ → ℕ → WorldState → WorldState → Type 0
-DataCame s p system agg conv serial j new =
-    (up : Bool) × CallHappens (world_setup j) s (ModelEvent.Receive p None) 0 (model_world j)
-    (handed_up up (Data (side_numbered system) agg conv serial) (model_world j)) (model_world new)
+DataCame s p system agg conv serial j new = (up : Bool) × CallHappens (world_setup j) s (ModelEvent.Receive p None) 0
+    (model_world j) (handed_up up (Data (side_numbered system) agg conv serial) (model_world j)) (model_world new)
 
 data_came : (gives : ℕ → ℕ → ℕ → Type 0) (s : Side) (p : ℕ) (octets : List ℕ) (system agg conv serial : ℕ) (a : Result Received SystemFault)
     (mid : HalfState) (r : Reply) (j new : WorldState) → IsCabling (world_setup j).cables → IsSome (history_at (half s j).histories p)
@@ -245,30 +231,26 @@ data_came : (gives : ℕ → ℕ → ℕ → Type 0) (s : Side) (p : ℕ) (octet
     → AfterReceive s p (record { octets = octets; stamp = stamp.Data system agg conv serial }) a (with_half s mid j) r new
     → DataCame s p system agg conv serial j new
 data_came gives s p octets system agg conv serial (Ok (received.Up up)) mid r j new one history d x y =
-    let here : after_up (peer s) agg conv serial (with_half s mid j) ≡ new =
-    ap (λ t. after_up t agg conv serial (with_half s mid j)) (sym d.origin) ∙ sym y.1 in (
+    let here : after_up (peer s) agg conv serial (with_half s mid j) ≡ new = ap (λ t. after_up t agg conv serial (with_half s mid j))
+    (sym d.origin) ∙ sym y.1 in (
       true,
-      subst (λ (X : Type 0). X)
-          (λ i. CallHappens (world_setup j) s (ModelEvent.Receive p None) 0 (model_world j)
-          (handed_up true (Data (sym d.origin i) agg conv serial) (model_world j)) (model_world (here i)))
+      subst (λ (X : Type 0). X) (λ i. CallHappens (world_setup j) s (ModelEvent.Receive p None) 0
+          (model_world j) (handed_up true (Data (sym d.origin i) agg conv serial) (model_world j)) (model_world (here i)))
           (up_came gives s p octets agg conv serial up mid j d.there d.plain x),
     )
-data_came gives s p octets system agg conv serial a mid r j new one history d x y = (
-  false,
-  arrived gives s p (record { octets = octets; stamp = stamp.Data system agg conv serial }) a mid r j new one history d.plain refl x y,
-)
+data_came gives s p octets system agg conv serial a mid r j new one history d x y =
+    (false, arrived gives s p (record { octets = octets; stamp = stamp.Data system agg conv serial }) a mid r j new one history d.plain refl x y)
 
 popped_fixed : (s : Side) (i : ℕ) (l : LinkState) (rest : List ItemValue) (old : WorldState) → slice_get old.links i ≡ Some l
     → world_setup (with_link_at i (with_towards s rest l) old) ≡ world_setup old
 popped_fixed s i l rest old there = grind (arith, world_setup, mapped_set, link_ends, with_towards)
 
 -- the first item of a cable comes, and is taken away
-delivered : (gives : Side → ℕ → ℕ → ℕ → Type 0) (s : Side) (i : ℕ) (l : LinkState) (octets : List ℕ) (st : Stamp) (rest : List ItemValue)
-    (r : Reply) (old new : WorldState) → slice_get old.links i ≡ Some l → IsCabling (world_setup old).cables
-    → IsSome (history_at (half s old).histories (port_at s l)) → IsItem s octets st old
-    → WorldReceives gives s (port_at s l) (record { octets = octets; stamp = st }) (with_link_at i (with_towards s rest l) old) r new
-    → Receives (world_setup old) s (port_at s l) (message_in octets st) (model_world old)
-    (with_messages (model_world old) (suc i) s (map item_message rest)) (model_world new)
+delivered : (gives : Side → ℕ → ℕ → ℕ → Type 0) (s : Side) (i : ℕ) (l : LinkState) (octets : List ℕ)
+    (st : Stamp) (rest : List ItemValue) (r : Reply) (old new : WorldState) → slice_get old.links i ≡ Some l → IsCabling (world_setup old).cables
+    → IsSome (history_at (half s old).histories (port_at s l)) → IsItem s octets st old → WorldReceives gives s (port_at s l)
+    (record { octets = octets; stamp = st }) (with_link_at i (with_towards s rest l) old) r new → Receives (world_setup old) s (port_at s l)
+    (message_in octets st) (model_world old) (with_messages (model_world old) (suc i) s (map item_message rest)) (model_world new)
 delivered gives s i l octets (stamp.Control count) rest r old new there one history t x =
     let j = with_link_at i (with_towards s rest l) old in
     let f = popped_fixed s i l rest old there in
@@ -284,11 +266,9 @@ delivered gives s i l octets (stamp.Data system agg conv serial) rest r old new 
     (subst (λ (x : WorldSetup). IsCabling x.cables) (sym f) one) history (record { origin = t.0; there = t.1; plain = t.2 }) x.2 x.3 in
     let told : ModelEvent = ModelEvent.Receive (port_at s l) None in (
       c.0,
-      subst
-          (λ w. CallHappens (world_setup old) s told 0 w (handed_up c.0 (Data (side_numbered system) agg conv serial) w) (model_world new))
-          (popped_world s i l rest old there)
-          (subst (λ x. CallHappens x s told 0 (model_world j) (handed_up c.0 (Data (side_numbered system) agg conv serial) (model_world j))
-          (model_world new)) f c.1),
+      subst (λ w. CallHappens (world_setup old) s told 0 w (handed_up c.0 (Data (side_numbered system) agg conv serial) w) (model_world new))
+          (popped_world s i l rest old there) (subst (λ x. CallHappens x s told 0 (model_world j)
+          (handed_up c.0 (Data (side_numbered system) agg conv serial) (model_world j)) (model_world new)) f c.1),
     )
 
 -- what the law finds on a cable
@@ -334,10 +314,8 @@ repeat_happens gives s i l xs r old new there e one history x =
     first (item ∷ rest) x = repeated gives s i (port_at s l) item.octets item.stamp (map item_message rest) r old new one history x
 
 -- the first item is lost
-pub lose_happens : (s : Side) (i : ℕ) (l : LinkState) (xs : List ItemValue) (r : Reply) (old new : WorldState)
-    → slice_get old.links i ≡ Some l → towards s l ≡ xs → LosesFrom s i l xs old r new
-    → Happens (world_setup old) (Event.Lose (suc i) s) (model_world old) (model_world new)
+pub lose_happens : (s : Side) (i : ℕ) (l : LinkState) (xs : List ItemValue) (r : Reply) (old new : WorldState) → slice_get old.links i ≡ Some l
+    → towards s l ≡ xs → LosesFrom s i l xs old r new → Happens (world_setup old) (Event.Lose (suc i) s) (model_world old) (model_world new)
 lose_happens s i l [] r old new there e x = grind arith
-lose_happens s i l (item ∷ rest) r old new there e x =
-    subst (λ ms. LosesFirst (suc i) s ms (model_world old) (model_world new)) (sym (line_is s i l (item ∷ rest) old there e))
-    (ap model_world x.1 ∙ popped_world s i l rest old there)
+lose_happens s i l (item ∷ rest) r old new there e x = subst (λ ms. LosesFirst (suc i) s ms (model_world old) (model_world new))
+    (sym (line_is s i l (item ∷ rest) old there e)) (ap model_world x.1 ∙ popped_world s i l rest old there)

@@ -57,8 +57,7 @@ no_party o n = grind arith
 
 -- the same of a port of a system: old and new are what the law sees
 port_counted : (old new : HalfState) → IsHalfSound old → new.histories ≡ old.histories
-    → ((p : ℕ) → party_of_port old.state p ≡ None → party_of_port new.state p ≡ None) → (p : ℕ)
-    → CountsParty old (with_changes_counted new) p
+    → ((p : ℕ) → party_of_port old.state p ≡ None → party_of_port new.state p ≡ None) → (p : ℕ) → CountsParty old (with_changes_counted new) p
 port_counted old new k e none p = rw (party_seen new.state p, party_seen old.state p, there) (counted (history_at old.histories p) refl)
   where
     there : change_count_in (history_at (with_changes_counted new).histories p) ≡ change_count_in
@@ -82,20 +81,17 @@ port_there s p = grind (arith, is_some, port_seen, machines_of, option_map, mode
 
 pub same_ports : (gives : ℕ → ℕ → ℕ → Type 0) (call : Call) (a : Answer) (old new : HalfState) → IsHalfSound old
     → HalfAnswers gives call a old new → (p : ℕ) → is_some (party_of_port new.state p) ≡ is_some (party_of_port old.state p)
-same_ports gives call a old new k x p =
-    sym (port_there new.state p) ∙ x.answers.agrees.members.configured p
-    ∙ ap (λ u. is_some (u.party p)) (configured_kept gives call a old new x) ∙ sym (k.agrees.members.configured p)
-    ∙ port_there old.state p
+same_ports gives call a old new k x p = sym (port_there new.state p) ∙ x.answers.agrees.members.configured p
+    ∙ ap (λ u. is_some (u.party p)) (configured_kept gives call a old new x) ∙ sym (k.agrees.members.configured p) ∙ port_there old.state p
 
 pub no_port : (gives : ℕ → ℕ → ℕ → Type 0) (call : Call) (a : Answer) (old new : HalfState) → IsHalfSound old
     → HalfAnswers gives call a old new → (p : ℕ) → party_of_port old.state p ≡ None → party_of_port new.state p ≡ None
 no_port gives call a old new k x p e =
     no_party (party_of_port new.state p) (λ h. true≢false (sym h ∙ same_ports gives call a old new k x p ∙ ap is_some e))
 
-pub counts_of : (s : Side) (mid : HalfState) (ls : List LinkState) (j : WorldState) → IsHalfSound (half s j)
-    → mid.histories ≡ (half s j).histories → ((p : ℕ) → party_of_port (half s j).state p ≡ None → party_of_port mid.state p ≡ None)
-    → CountsChanges (model_world j) (model_world (after_call s (with_changes_counted mid) ls j))
-    (model_world (after_call s (with_changes_counted mid) ls j)).count
+pub counts_of : (s : Side) (mid : HalfState) (ls : List LinkState) (j : WorldState) → IsHalfSound (half s j) → mid.histories ≡ (half s j).histories
+    → ((p : ℕ) → party_of_port (half s j).state p ≡ None → party_of_port mid.state p ≡ None) → CountsChanges (model_world j)
+    (model_world (after_call s (with_changes_counted mid) ls j)) (model_world (after_call s (with_changes_counted mid) ls j)).count
 counts_of s mid ls j k e none = grind (arith, moved_at, with_changes_counted, port_counted, half)
 
 -- A port is configured, and the count of each port whose party differs then is one more.
@@ -108,13 +104,11 @@ configure_happens gives s p change r old new k x =
     let asked = x.0.2 in
     let m = asked.answers.moves in
     let same : new ≡ with_half s (with_changes_counted mid) old = x.1 ∙ ap (λ h. with_half s h old) x.0.4 in
-    subst (λ j. CallHappens (world_setup old) s ModelEvent.Configure 0 (model_world old) (model_world old) (model_world j)) (sym same)
-    (one_call s ModelEvent.Configure 0 true None (with_changes_counted mid) old.links old
-    (quietly s 0 (with_changes_counted mid) old (flows_kept asked)
-    (λ q. taken_counted mid.state mid.histories q ∙ ap taken_in (history_kept asked q)))
-    (told_moves (half s old).state mid.state m.2 m.3 m.4)
-    (counts_of s mid old.links old k (histories_kept asked)
-    (no_port gives (Configure p change) (answer.Configure a) (half s old) mid k asked)))
+    subst (λ j. CallHappens (world_setup old) s ModelEvent.Configure 0 (model_world old) (model_world old) (model_world j))
+    (sym same) (one_call s ModelEvent.Configure 0 true None
+    (with_changes_counted mid) old.links old (quietly s 0 (with_changes_counted mid) old (flows_kept asked)
+    (λ q. taken_counted mid.state mid.histories q ∙ ap taken_in (history_kept asked q))) (told_moves (half s old).state mid.state m.2 m.3 m.4)
+    (counts_of s mid old.links old k (histories_kept asked) (no_port gives (Configure p change) (answer.Configure a) (half s old) mid k asked)))
 
 -- A restart: the first view, and nothing is left on any cable.
 nothing_left : (links : List LinkState) (t : Side) (c : ℕ) → messages t (element_numbered (map emptied links) c) ≡ []
@@ -130,31 +124,25 @@ whole_left [] (suc i) = refl
 whole_left (l ∷ links) (suc zero) = refl
 whole_left (l ∷ links) (suc (suc i)) = whole_left links (suc i)
 
-restarted : (s : Side) (h : HalfState) (v : View) (old : WorldState) → model_view h.state ≡ v → h.flows ≡ (half s old).flows
-    → ((p : ℕ) → taken_in (history_at h.histories p) ≡ taken_in (history_at (half s old).histories p))
-    → model_world (after_call s h (map emptied old.links) old) ≡ record (model_world old) {
-      view = at_side (model_world old).view s v;
-      on_cable = λ t c. [];
-      count =
-          (model_world (after_call s h (map emptied old.links) old)).count;
-    }
+restarted : (s : Side) (h : HalfState) (v : View) (old : WorldState) → model_view h.state ≡ v
+    → h.flows ≡ (half s old).flows → ((p : ℕ) → taken_in (history_at h.histories p) ≡ taken_in (history_at (half s old).histories p))
+    → model_world (after_call s h (map emptied old.links) old) ≡ record (model_world old)
+    { view = at_side (model_world old).view s v; on_cable = λ t c. []; count = (model_world (after_call s h (map emptied old.links) old)).count }
 restarted s h v old e flows taken = grind (arith, same_world, half_after, model_view, at_side, model_world, whole_left, nothing_left, kept_at, option_map, model_taken, taken_in, history_at, sent_in, flow_at, collected_in, forced_in)
 
-pub restart_happens : (gives : ℕ → ℕ → ℕ → Type 0) (s : Side) (old new : WorldState) → IsHalfSound (half s old)
-    → InHalf s (HalfRestarts gives) (with_links old (map emptied old.links)) new
-    → Happens (world_setup old) (Event.Restart s) (model_world old) (model_world new)
+pub restart_happens : (gives : ℕ → ℕ → ℕ → Type 0) (s : Side) (old new : WorldState) → IsHalfSound (half s old) → InHalf s (HalfRestarts gives)
+    (with_links old (map emptied old.links)) new → Happens (world_setup old) (Event.Restart s) (model_world old) (model_world new)
 restart_happens gives s old new k x =
     let mid = x.0.0 in
     let asked = x.0.1 in
     let h = with_changes_counted mid in
-    let same : new ≡ after_call s h (map emptied old.links) old = x.1
-    ∙ ap (λ h. with_half s h (with_links old (map emptied old.links))) x.0.2 in
+    let same : new ≡ after_call s h (map emptied old.links) old = x.1 ∙ ap (λ h. with_half s h (with_links old (map emptied old.links))) x.0.2 in
     let start : model_view mid.state ≡ first_view (model_setup (half s old).state) = first_shows mid.state asked.answers.step.1
     ∙ ap first_view (configured_kept gives Restart answer.Restart (half s old) mid asked) in
     let e = restarted s h (first_view (model_setup (half s old).state)) old start (flows_kept asked)
     (λ q. taken_counted mid.state mid.histories q ∙ ap taken_in (history_kept asked q)) in
-    let counts = counts_of s mid (map emptied old.links) old k (histories_kept asked)
-    (no_port gives Restart answer.Restart (half s old) mid k asked) in
+    let counts =
+    counts_of s mid (map emptied old.links) old k (histories_kept asked) (no_port gives Restart answer.Restart (half s old) mid k asked) in
     let w = model_world (after_call s h (map emptied old.links) old) in
-    subst (λ j. Happens (world_setup old) (Event.Restart s) (model_world old) (model_world j)) (sym same)
-    (w.count, subst (λ (v : World). CountsChanges (model_world old) v w.count) e counts, e)
+    subst (λ j. Happens (world_setup old) (Event.Restart s) (model_world old) (model_world j))
+    (sym same) (w.count, subst (λ (v : World). CountsChanges (model_world old) v w.count) e counts, e)

@@ -68,8 +68,7 @@ abbrev pub DoesEffect : Algorithms → Event → WorldState → Effect → Reply
 DoesEffect gives e old (nothing a) r new = (r ≡ a) × (new ≡ old)
 DoesEffect gives e old (shrinks i l m a) r new = Shrinks i l m old.links × (r ≡ a) × (new ≡ with_link_at i m old)
 DoesEffect gives e old (ticks s count) r new = InHalf s (HalfTicks (gives s) count) old new × (r ≡ reply.Ticked)
-DoesEffect gives e old (asks s call kept up) r new = ChangesNoParty kept call
-    × InHalf s (λ h k. HalfAsked (gives s) call kept up h r k) old new
+DoesEffect gives e old (asks s call kept up) r new = ChangesNoParty kept call × InHalf s (λ h k. HalfAsked (gives s) call kept up h r k) old new
 DoesEffect gives e old (restarts s) r new =
     InHalf s (λ h k. HalfAsked (gives s) Restart changes_counted true h r k) (with_links old (map emptied old.links)) new
 DoesEffect gives e old (receives s p item) r new = WorldReceives gives s p item old r new
@@ -112,8 +111,7 @@ effect links (event.Lose c n) = on_system n (λ s. on_cable c links (λ i l. Som
 effect links (event.Repeat c n) = on_system n (λ s. on_cable c links (λ i l. Some (repeated s l (towards s l))))
 effect links (event.Cut c) = on_cable c links (λ i l. Some (shrinks i l (cut l) reply.Cut))
 effect links (event.Join c) = on_cable c links (λ i l. Some (shrinks i l (joined l) reply.Joined))
-effect links (event.Sense c n) =
-    on_system n (λ s. on_cable c links (λ i l. Some (asks s (Set_link (port_at s l) l.whole) no_record l.whole)))
+effect links (event.Sense c n) = on_system n (λ s. on_cable c links (λ i l. Some (asks s (Set_link (port_at s l) l.whole) no_record l.whole)))
 effect links (event.Restart n) = on_system n (λ s. Some (restarts s))
 effect links (event.Configure n p change) = on_system n (λ s. Some (asks s (Configure p change) changes_counted true))
 effect links (event.Offer n agg octets) = on_system n (λ s. Some (offers s agg octets.items))
@@ -131,8 +129,7 @@ loses : (gives : Algorithms) (e : Event) (s : Side) (i : ℕ) (l : LinkState) (x
 loses gives e s i l xs old new r there h x = grind arith
 
 arrives : (gives : Algorithms) (e : Event) (s : Side) (i : ℕ) (l : LinkState) (xs : List ItemValue) (old new : WorldState) (r : Reply)
-    → slice_get old.links i ≡ Some l → towards s l ≡ xs → DeliversFrom gives s i l xs old r new
-    → DoesEffect gives e old (delivered s i l xs) r new
+    → slice_get old.links i ≡ Some l → towards s l ≡ xs → DeliversFrom gives s i l xs old r new → DoesEffect gives e old (delivered s i l xs) r new
 arrives gives e s i l xs old new r there h x = grind arith
 
 repeats : (gives : Algorithms) (e : Event) (s : Side) (l : LinkState) (xs : List ItemValue) (old new : WorldState) (r : Reply)

@@ -14,11 +14,10 @@ sent_item : (s : Side) (p : ℕ) (frame octets : List ℕ) (v : Pdu) (count : �
     → stamp ≡ stamp_for v count → made octets stamp ≡ transmitted_item s p frame h
 sent_item s p frame octets v count stamp h a b c d = grind arith
 
-pub frame_sent : (s : Side) (p : ℕ) (frame octets : List ℕ) (v : Pdu) (count : ℕ) (stamp : Stamp) (kept : Bool) (links : List LinkState)
-    (j : WorldState) (r : Reply) → octets ≡ frame
-    → v ≡ pdu_in (payload_in frame) → count ≡ change_count_in (history_at (half s j).histories p) → stamp ≡ stamp_for v count
-    → links ≡ put_on_port s p (made octets stamp) j.links → kept ≡ is_accepted s p j.links
-    → r ≡ sent_reply v kept → AfterTransmit s p (Ok (Some frame)) j r (with_links j links)
+pub frame_sent : (s : Side) (p : ℕ) (frame octets : List ℕ) (v : Pdu) (count : ℕ) (stamp : Stamp)
+    (kept : Bool) (links : List LinkState) (j : WorldState) (r : Reply) → octets ≡ frame → v ≡ pdu_in (payload_in frame)
+    → count ≡ change_count_in (history_at (half s j).histories p) → stamp ≡ stamp_for v count → links ≡ put_on_port s p (made octets stamp) j.links
+    → kept ≡ is_accepted s p j.links → r ≡ sent_reply v kept → AfterTransmit s p (Ok (Some frame)) j r (with_links j links)
 frame_sent s p frame octets v count stamp kept links j r a b c d e f g = grind arith
 
 -- what is done with an answer of a system is what the event does

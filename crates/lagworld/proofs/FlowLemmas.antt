@@ -11,8 +11,7 @@ aggregator_flow_values xs = map flow_value xs.items
 
 -- one conversation of an aggregator
 pub flow_set : (f : FlowValue → FlowValue) (xs : List Flow) (k : ℕ) (x new : Flow) → k < length xs → x ≡ get_or xs k x
-    → flow_value new ≡ f (flow_value x)
-    → map flow_value (set xs k new) ≡ change_flow_in f (slice_get (map flow_value xs) k) k (map flow_value xs)
+    → flow_value new ≡ f (flow_value x) → map flow_value (set xs k new) ≡ change_flow_in f (slice_get (map flow_value xs) k) k (map flow_value xs)
 flow_set f xs k x new lt read e = rw (mapped_there flow_value xs k x lt read) (map-set flow_value xs k new ∙ ap (set (map flow_value xs) k) e)
 
 pub flow_read : (xs : List Flow) (k : ℕ) (x : Flow) → k < length xs → x ≡ get_or xs k x
@@ -52,8 +51,7 @@ room_there rows g i k conv row is same lt read h = grind (arith, add-one, slice_
 
 pub room_made : (rows : List (Vec Flow)) (g i k conv : ℕ) (row : Vec Flow) → g ≡ i + 1 → k ≡ conv → i < length rows → HasRoomIn k row.items
     → HasRoom g conv (set rows i row)
-room_made rows g i k conv row is same lt h =
-    rw (is, add-one, set_here rows i row (get_or rows i row) (slice_get-get_or rows i row lt), ← same) h
+room_made rows g i k conv row is same lt h = rw (is, add-one, set_here rows i row (get_or rows i row) (slice_get-get_or rows i row lt), ← same) h
 
 pub no_room : (rows : List (Vec Flow)) (g k n : ℕ) → ((g ≡ 0) ⊎ (n < g)) → length rows ≤ n → HasRoom g k rows
 no_room rows g k n h le = subst (λ o. HasRoomAt o k) (sym (no_row rows g n h le)) tt

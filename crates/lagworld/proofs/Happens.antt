@@ -20,9 +20,8 @@ tick_happens gives s n old new x =
     (quietly s 0 h old (ap (λ (h : HalfState). h.flows) m.2) (λ p. ap (λ (h : HalfState). taken_in (history_at h.histories p)) m.2))
     m.0 (λ p. ap (λ (h : HalfState). change_count_in (history_at h.histories p)) m.2)
 
-pub sense_happens : (gives : ℕ → ℕ → ℕ → Type 0) (s : Side) (i : ℕ) (l : LinkState) (r : Reply) (old new : WorldState)
-    → slice_get old.links i ≡ Some l
-    → InHalf s (λ h k. HalfSenses gives (port_at s l) l.whole h r k) old new
+pub sense_happens : (gives : ℕ → ℕ → ℕ → Type 0) (s : Side) (i : ℕ) (l : LinkState) (r : Reply)
+    (old new : WorldState) → slice_get old.links i ≡ Some l → InHalf s (λ h k. HalfSenses gives (port_at s l) l.whole h r k) old new
     → Happens (world_setup old) (Event.Sense (suc i) s) (model_world old) (model_world new)
 sense_happens gives s i l r old new there x =
     let m = x.0.1.answers.moves in

@@ -15,8 +15,7 @@ pub accepted : (gives : Algorithms) (e : Event) (r : Reply) (old new : WorldStat
 accepted gives e r old new x few = grind (arith, nat_tests)
 
 -- events only count up
-pub rises : (gives : Algorithms) (es : List Event) (rs : List Reply) (old new : WorldState) → WorldRuns gives old es rs new
-    → old.acted ≤ new.acted
+pub rises : (gives : Algorithms) (es : List Event) (rs : List Reply) (old new : WorldState) → WorldRuns gives old es rs new → old.acted ≤ new.acted
 rises gives [] [] old new h = subst (λ (j : WorldState). old.acted ≤ j.acted) (sym h) (omega arith)
 rises gives [] (r ∷ rs) old new h = absurd h
 rises gives (e ∷ es) [] old new h = absurd h

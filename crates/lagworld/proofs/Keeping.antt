@@ -66,24 +66,18 @@ shrunk i l m j h k = follows_set i l m j h k.there k.ends k.ports (λ s. k.items
 pub peer_twice : (s : Side) → peer (peer s) ≡ s
 peer_twice s = grind (arith, nat_tests)
 
-offered_on : (gives : ℕ → ℕ → ℕ → Type 0) (s : Side) (agg : AggId) (octets : List ℕ) (a : Result ℕ SystemFault) (j mid new : WorldState)
-    (r : Reply) → IsShaped mid → ((port : ℕ) → a ≡ Ok port → IsSlowProtocolsFrame octets → ⊥)
-    → AfterOffer s agg octets a mid r new → Follows 0 mid new
+offered_on : (gives : ℕ → ℕ → ℕ → Type 0) (s : Side) (agg : AggId) (octets : List ℕ) (a : Result ℕ SystemFault) (j mid new : WorldState) (r : Reply)
+    → IsShaped mid → ((port : ℕ) → a ≡ Ok port → IsSlowProtocolsFrame octets → ⊥) → AfterOffer s agg octets a mid r new → Follows 0 mid new
 offered_on gives s agg octets (Err fault) j mid new r i p x = follows_same mid new i x.1
 offered_on gives s agg octets (Ok port) j mid new r i p x =
     let k = number_of_conversation (half s mid).state octets in
     let sent = follows_half 0 s (with_frame_counted agg octets (half s mid)) mid i (flow_on with_sent agg.0 k (half s mid) (i.kept s)) in
     let after = with_half s (with_frame_counted agg octets (half s mid)) mid in
-    let there : IsSome (flow_at (half s after).flows agg.0 k) = subst (λ (h : HalfState). IsSome (flow_at h.flows agg.0 k))
-    (sym (half_there s (with_frame_counted agg octets (half s mid)) mid))
-    ((flow_on with_sent agg.0 k (half s mid) (i.kept s)).flows agg.0 k x.0) in
-    subst (Follows 0 mid) (sym x.2)
-    (follows_then 0 mid after (with_item_sent s port (offered_item s port agg octets (half s mid)) after) sent
-    (follows_put s port (offered_item s port agg octets (half s mid)) after sent.shaped (
-      numbered_side s ∙ sym (peer_twice s),
-      subst (λ t. IsSome (flow_at (half t after).flows agg.0 k)) (sym (peer_twice s)) there,
-      p port refl,
-    )))
+    let there : IsSome (flow_at (half s after).flows agg.0 k) = subst (λ (h : HalfState). IsSome (flow_at h.flows agg.0 k)) (sym
+    (half_there s (with_frame_counted agg octets (half s mid)) mid)) ((flow_on with_sent agg.0 k (half s mid) (i.kept s)).flows agg.0 k x.0) in
+    subst (Follows 0 mid) (sym x.2) (follows_then 0 mid after (with_item_sent s port (offered_item s port agg octets (half s mid)) after) sent
+    (follows_put s port (offered_item s port agg octets (half s mid)) after sent.shaped
+    (numbered_side s ∙ sym (peer_twice s), subst (λ t. IsSome (flow_at (half t after).flows agg.0 k)) (sym (peer_twice s)) there, p port refl)))
 
 -- a conversation is forced
 pub forces : (s : Side) (agg : AggId) (conv : ℕ) (a : Result Unit SystemFault) (mid : HalfState) (j : WorldState) → IsShaped j
@@ -139,12 +133,10 @@ shaped_of j i = record { kept = i.kept; items = i.items; ends = i.ends }
 -- one event more
 reached_more : (e : ModelEvent) (old new : WorldState) → world_setup new ≡ world_setup old
     → Happens (world_setup old) e (model_world old) (model_world new) → IsReached old → IsReached new
-reached_more e old new f h r =
-    subst (λ x. (events : List ModelEvent) × Run x events (first_world x) (model_world new)) (sym f) (
-      r.0 ++ e ∷ [],
-      runs_joined (world_setup old) r.0 (e ∷ []) (first_world (world_setup old)) (model_world old) (model_world new) r.1
-          (model_world new, h, refl),
-    )
+reached_more e old new f h r = subst (λ x. (events : List ModelEvent) × Run x events (first_world x) (model_world new)) (sym f) (
+  r.0 ++ e ∷ [],
+  runs_joined (world_setup old) r.0 (e ∷ []) (first_world (world_setup old)) (model_world old) (model_world new) r.1 (model_world new, h, refl),
+)
 
 not_spent : (c s b : Bool) → first_event_cause c s b ≡ None → b ≡ false
 not_spent c s b h = grind (arith, nat_tests)

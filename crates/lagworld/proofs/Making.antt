@@ -54,8 +54,7 @@ flow_there n m g k low high small = grind (arith, item_there, first_aggregator_f
 logs_named : (config : Config) (h : HalfState) → IsFirstHalf config h → h.histories ≡ first_histories h.state.system h.state.ports
 logs_named config h f = f.histories ∙ (λ i. first_histories (sym f.configured.system i) (sym f.configured.ports i))
 
-flows_named : (config : Config) (h : HalfState) → IsFirstHalf config h
-    → h.flows ≡ first_flows (length h.state.keys) (conversation_count h.state)
+flows_named : (config : Config) (h : HalfState) → IsFirstHalf config h → h.flows ≡ first_flows (length h.state.keys) (conversation_count h.state)
 flows_named config h f = f.flows ∙ (λ i. first_flows (length (sym f.configured.keys i)) (sym f.configured.conversations i))
 
 half_kept : (config : Config) (h : HalfState) → IsFirstHalf config h → PortsAgree h.state → IsHalfSound h
@@ -100,9 +99,8 @@ module _ {C : Type 0} (items : C → List Item) (limit : C → Option ℕ) where
   emptied_line [] h = refl
   emptied_line (x ∷ xs) h = let none : length (x ∷ xs) ≡ 0 = eqb-true (length (x ∷ xs)) 0 h in absurd (omega (arith, none))
 
-  pub line_empty : (cables : List (ℕ × ℕ)) (lines : List (C × C)) (i : ℕ) (l : LinkState)
-      → list_all (has_empty_directions items) lines ≡ true → slice_get (first_links items limit cables lines) i ≡ Some l → (s : Side)
-      → (towards s l ≡ []) × (l.whole ≡ true)
+  pub line_empty : (cables : List (ℕ × ℕ)) (lines : List (C × C)) (i : ℕ) (l : LinkState) → list_all (has_empty_directions items) lines ≡ true
+      → slice_get (first_links items limit cables lines) i ≡ Some l → (s : Side) → (towards s l ≡ []) × (l.whole ≡ true)
   line_empty [] lines i l h e s = absurd (none-some l e)
   line_empty (c ∷ cs) [] i l h e s = absurd (none-some l e)
   line_empty (c ∷ cs) (x ∷ xs) zero l h e s =
@@ -151,10 +149,8 @@ mapped_none : {X Y : Type 0} (f : X → Y) (o : Option X) → option_map f o ≡
 mapped_none f o h = grind arith
 
 are_joined : (first second : List PortConfig) (cables : List (ℕ × ℕ)) → bad_end first second cables ≡ None → AreJoined first second cables
-are_joined first second cables h i l =
-    not-false (can_join first second (take i cables) (get_or cables i (0, 0)))
-    (none_below (has_bad_end first second cables) (length cables) i
-    (mapped_none suc (first_below (has_bad_end first second cables) (length cables)) h) l)
+are_joined first second cables h i l = not-false (can_join first second (take i cables) (get_or cables i (0, 0))) (none_below
+    (has_bad_end first second cables) (length cables) i (mapped_none suc (first_below (has_bad_end first second cables) (length cables)) h) l)
 
 two_joined : (a b : ConfigValue) (cables : List (ℕ × ℕ)) → refusal_of_two a b cables ≡ None
     → (refusal a.aggregators a.ports a.max_links a.conversations ≡ None)
@@ -186,8 +182,7 @@ apart s c d h e = grind arith
 one_cable : (first second : List PortConfig) (cables : List (ℕ × ℕ)) (s : Side) (i k : ℕ) (c d : ℕ × ℕ) → AreJoined first second cables
     → slice_get cables i ≡ Some c → slice_get cables k ≡ Some d → end_of_pair s c ≡ end_of_pair s d → i < k → ⊥
 one_cable first second cables s i k c d h e f same l =
-    let join = and_parts (has_port first d.0 && has_port second d.1) (not (shares_end (take k cables) d))
-    (joined_at first second cables k d h f) in
+    let join = and_parts (has_port first d.0 && has_port second d.1) (not (shares_end (take k cables) d)) (joined_at first second cables k d h f) in
     apart s c d (not_shared cables i k c d (not-true (shares_end (take k cables) d) join.1) l e) same
 
 -- the ports of a cable are ports
@@ -244,10 +239,9 @@ module _ {C : Type 0} (items : C → List Item) (limit : C → Option ℕ) where
       logged None e = absurd (let h = e in cc)
       logged (Some c) e = refl
 
-  pub is_start : (a b : Config) (cables : List (ℕ × ℕ)) (lines : List (C × C)) (j : WorldState) → IsFirstHalf a j.one → IsFirstHalf b j.two
-      → PortsAgree j.one.state → PortsAgree j.two.state
-      → refusal_of_two (config_value a) (config_value b) cables ≡ None → list_all (has_empty_directions items) lines ≡ true
-      → j.links ≡ first_links items limit cables lines → j.acted ≡ 0 → IsStart j
+  pub is_start : (a b : Config) (cables : List (ℕ × ℕ)) (lines : List (C × C)) (j : WorldState) → IsFirstHalf a j.one
+      → IsFirstHalf b j.two → PortsAgree j.one.state → PortsAgree j.two.state → refusal_of_two (config_value a) (config_value b) cables ≡ None
+      → list_all (has_empty_directions items) lines ≡ true → j.links ≡ first_links items limit cables lines → j.acted ≡ 0 → IsStart j
   is_start a b cables lines j f g agrees_one agrees_two accepted empty made acted = record {
     kept = λ s. half_kept (by_side s a b) (half s j) (first s) (agrees s);
     shows = λ s. first_shows (half s j).state (first s).first;
@@ -298,9 +292,8 @@ both_accepted config a b e h =
 -- what code knows of a world that it made
 module _ {C : Type 0} (items : C → List Item) (limit : C → Option ℕ) where
   pub made_start : (config : WorldConfig) (a b : Config) (lines : List (C × C)) (j : WorldState) → config.systems ≡ a ∷ b ∷ []
-      → world_refusal config ≡ None → are_empty_lines items config.cables.items lines ≡ true
-      → IsFirstHalf a j.one → IsFirstHalf b j.two → PortsAgree j.one.state → PortsAgree j.two.state
-      → j.links ≡ first_links items limit config.cables.items lines → j.acted ≡ 0 → IsStart j
+      → world_refusal config ≡ None → are_empty_lines items config.cables.items lines ≡ true → IsFirstHalf a j.one → IsFirstHalf b j.two
+      → PortsAgree j.one.state → PortsAgree j.two.state → j.links ≡ first_links items limit config.cables.items lines → j.acted ≡ 0 → IsStart j
   made_start config a b lines j e h fit f g agrees_one agrees_two made acted =
       is_start items limit a b config.cables.items lines j f g agrees_one agrees_two (both_accepted config a b e h).2
       (and_parts (length lines == length config.cables.items) (list_all (has_empty_directions items) lines) fit).1 made acted

@@ -16,9 +16,8 @@ pub any_reserved : {C : Type 0} (reserved : C → Bool) (s : Side) (ls : List (C
 any_reserved reserved s ls h o = grind (arith, nat_tests)
 
 -- what is done with an answer of a system is what the event does
-pub offers_of : (gives : Algorithms) (s : Side) (agg : AggId) (octets : List ℕ) (a b : Result ℕ SystemFault) (old mid new : WorldState)
-    (r : Reply) → a ≡ b → WorldAsksOffer gives s agg octets a old mid → AfterOffer s agg octets b mid r new
-    → WorldOffers gives s agg octets old r new
+pub offers_of : (gives : Algorithms) (s : Side) (agg : AggId) (octets : List ℕ) (a b : Result ℕ SystemFault) (old mid new : WorldState) (r : Reply)
+    → a ≡ b → WorldAsksOffer gives s agg octets a old mid → AfterOffer s agg octets b mid r new → WorldOffers gives s agg octets old r new
 offers_of gives s agg octets a b old mid new r e x y = grind (arith, nat_tests)
 
 -- every system has a conversation, which has number 0
@@ -57,6 +56,5 @@ pub freed : (gives : ℕ → ℕ → ℕ → Type 0) (agg : AggId) (conv : ℕ) 
 freed gives agg conv a done old mid new e x h = (Ok done, mid, subst (λ a. HalfAsksForce gives agg conv a old mid) e x, refl, h)
 
 pub not_freed : (gives : ℕ → ℕ → ℕ → Type 0) (agg : AggId) (conv : ℕ) (a : Result Unit SystemFault) (fault : SystemFault)
-    (old mid : HalfState) → a ≡ Err fault → HalfAsksForce gives agg conv a old mid
-    → HalfForces gives agg conv old (reply.Refused fault) mid
+    (old mid : HalfState) → a ≡ Err fault → HalfAsksForce gives agg conv a old mid → HalfForces gives agg conv old (reply.Refused fault) mid
 not_freed gives agg conv a fault old mid e x = (Err fault, mid, subst (λ a. HalfAsksForce gives agg conv a old mid) e x, refl, refl)

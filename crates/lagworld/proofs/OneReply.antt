@@ -82,8 +82,7 @@ recorded_same : (kept : Recording) (a : Answer) (h k : HalfState) → SameHalf h
 recorded_same kept a h k same = grind arith
 
 asked_one : (gives : Gives) → IsFunction gives → (call : Call) (kept : Recording) (up : Bool) (h k new last : HalfState) (r q : Reply)
-    → PortsAgree h.state → SameHalf h k → HalfAsked gives call kept up h r new → HalfAsked gives call kept up k q last
-    → (q ≡ r) × SameHalf new last
+    → PortsAgree h.state → SameHalf h k → HalfAsked gives call kept up h r new → HalfAsked gives call kept up k q last → (q ≡ r) × SameHalf new last
 asked_one gives one call kept up h k new last r q agrees same x y = grind (arith, answers_one, told, half_by, recorded, recorded_same)
 
 -- a change of one system in the world
@@ -118,14 +117,12 @@ collected_same (stamp.Data system agg conv serial) j k same =
 taken_same : (p : ℕ) (v : StampedLacpdu) (h k : HalfState) → SameHalf h k → SameHalf (with_last_lacpdu p v h) (with_last_lacpdu p v k)
 taken_same p v h k same = record { state = same.state; histories = ap (set_last_lacpdu p v) same.histories; flows = same.flows }
 
-received_one : (s : Side) (p : ℕ) (item : ItemValue) (a : Result Received SystemFault) (old twin : WorldState) (r q : Reply)
-    (new last : WorldState) → SameWorld old twin → AfterReceive s p item a old r new → AfterReceive s p item a twin q last
-    → (q ≡ r) × SameWorld new last
+received_one : (s : Side) (p : ℕ) (item : ItemValue) (a : Result Received SystemFault) (old twin : WorldState) (r q : Reply) (new last : WorldState)
+    → SameWorld old twin → AfterReceive s p item a old r new → AfterReceive s p item a twin q last → (q ≡ r) × SameWorld new last
 received_one s p item (Ok received.TookLacpdu) old twin r q new last same x y = (
   y.0 ∙ sym x.0,
-  same_by _ _ new last x.1 y.1
-      (put_half s old twin (with_last_lacpdu p (stamped_in item) (half s old)) (with_last_lacpdu p (stamped_in item) (half s twin)) same
-      (taken_same p (stamped_in item) (half s old) (half s twin) (same.halves s))),
+  same_by _ _ new last x.1 y.1 (put_half s old twin (with_last_lacpdu p (stamped_in item) (half s old))
+      (with_last_lacpdu p (stamped_in item) (half s twin)) same (taken_same p (stamped_in item) (half s old) (half s twin) (same.halves s))),
 )
 received_one s p item (Ok (received.Respond frame)) old twin r q new last same x y = grind arith
 received_one s p item (Ok (received.Up agg)) old twin r q new last same x y = grind (arith, same_by, collected_same)
@@ -142,9 +139,8 @@ receives_one gives one s p item old twin r q new last agrees same x y =
     (subst (λ a. AfterReceive s p item a (with_half s y.1 twin) q last) e y.3)
 
 -- offering
-offered_one : (s : Side) (agg : AggId) (octets : List ℕ) (a : Result ℕ SystemFault) (old twin : WorldState) (r q : Reply)
-    (new last : WorldState) → SameWorld old twin → AfterOffer s agg octets a old r new → AfterOffer s agg octets a twin q last
-    → (q ≡ r) × SameWorld new last
+offered_one : (s : Side) (agg : AggId) (octets : List ℕ) (a : Result ℕ SystemFault) (old twin : WorldState) (r q : Reply) (new last : WorldState)
+    → SameWorld old twin → AfterOffer s agg octets a old r new → AfterOffer s agg octets a twin q last → (q ≡ r) × SameWorld new last
 offered_one s agg octets (Err fault) old twin r q new last same x y = (y.0 ∙ sym x.0, same_by old twin new last x.1 y.1 same)
 offered_one s agg octets (Ok port) old twin r q new last same x y =
     let part = same.halves s in
@@ -196,9 +192,8 @@ effect_one gives one e (restarts s) old twin r q new last agrees same x y =
     (t.0, in_half s (with_links old (map emptied old.links)) (with_links twin (map emptied twin.links)) new last off x.1 y.1 t.1)
 effect_one gives one e (receives s p item) old twin r q new last agrees same x y =
     receives_one gives one s p item old twin r q new last (agrees s) same x y
-effect_one gives one e (delivers s i l m item) old twin r q new last agrees same x y =
-    receives_one gives one s (port_at s l) item (with_link_at i m old) (with_link_at i m twin) r q new last (agrees s)
-    (link_same old twin i m same) x.1 y.1
+effect_one gives one e (delivers s i l m item) old twin r q new last agrees same x y = receives_one gives one s
+    (port_at s l) item (with_link_at i m old) (with_link_at i m twin) r q new last (agrees s) (link_same old twin i m same) x.1 y.1
 effect_one gives one e (emits s p) old twin r q new last agrees same x y = emits_one gives one s p old twin r q new last (agrees s) same x y
 effect_one gives one e (offers s agg octets) old twin r q new last agrees same x y =
     offers_one gives one s agg octets old twin r q new last (agrees s) same x.4 y.4
@@ -207,23 +202,16 @@ effect_one gives one e (offers s agg octets) old twin r q new last agrees same x
 does_one : (gives : Algorithms) → AreFunctions gives → (e : Event) (old twin : WorldState) (r q : Reply) (new last : WorldState)
     → ((s : Side) → PortsAgree (half s old).state) → SameWorld old twin → DoesEvent gives old e r new → DoesEvent gives twin e q last
     → (q ≡ r) × SameWorld new last
-does_one gives one e old twin r q new last agrees same h k =
-    some_both (effect old.links e) (λ d. DoesEffect gives e old d r new) (λ d. DoesEffect gives e twin d q last)
-    (does_some gives e r old new h)
+does_one gives one e old twin r q new last agrees same h k = some_both (effect old.links e)
+    (λ d. DoesEffect gives e old d r new) (λ d. DoesEffect gives e twin d q last) (does_some gives e r old new h)
     (subst (λ ls. IsSomeAnd (effect ls e) (λ d. DoesEffect gives e twin d q last)) same.links (does_some gives e q twin last k))
     (λ d x y. effect_one gives one e d old twin r q new last agrees same x y)
 
 pub one_reply : (gives : Algorithms) → AreFunctions gives → OneReply gives
 one_reply gives one old twin e r q new last sound same h k =
-    let t = does_one gives one e old twin r q (record new { acted = old.acted }) (record last { acted = twin.acted })
-    (λ s. (sound.kept s).agrees) same h.0 k.0 in (
-      t.0,
-      record {
-        halves = λ s. t.1.halves s;
-        links = t.1.links;
-        acted = k.1 ∙ ap (λ n. n + 1) same.acted ∙ sym h.1;
-      },
-    )
+    let t = does_one gives one e old twin r q
+    (record new { acted = old.acted }) (record last { acted = twin.acted }) (λ s. (sound.kept s).agrees) same h.0 k.0 in
+    (t.0, record { halves = λ s. t.1.halves s; links = t.1.links; acted = k.1 ∙ ap (λ n. n + 1) same.acted ∙ sym h.1 })
 
 -- and of a list of events
 pub one_history : (gives : Algorithms) → AreFunctions gives → OneHistory gives

@@ -31,8 +31,7 @@ pub sent_at : {X Y : Type 0} (f : X → Y) (h : Y → Y) (t : Y → Bool) (xs : 
 sent_at f h t xs i x new kept lt read e k = seen_at f _ xs i x lt read (map-set f xs i new ∙ ap (set (map f xs) i) e, k)
 
 -- a write that is not seen
-pub same_at : {X Y : Type 0} (f : X → Y) (xs : List X) (i : ℕ) (x new : X) → x ≡ get_or xs i x → f new ≡ f x
-    → map f (set xs i new) ≡ map f xs
+pub same_at : {X Y : Type 0} (f : X → Y) (xs : List X) (i : ℕ) (x new : X) → x ≡ get_or xs i x → f new ≡ f x → map f (set xs i new) ≡ map f xs
 same_at f xs i x new read e =
     map-set f xs i new ∙ ap (set (map f xs) i) e ∙ sym (map-set f xs i x) ∙ ap (map f) (ap (set xs i) read ∙ set-get_or xs i x)
 

@@ -33,9 +33,8 @@ pub sends_beside : (s : Side) (p : ℕ) (pdu : Message_pdu) (item : ItemValue) (
     → count ≡ (model_world j).count s p → (stamp : ℕ)
     → Leaves s stamp (is_accepted s p j.links) (Some (Sends p pdu)) h (put_on_port s p item j.links) j
 sends_beside s p pdu item count h j same one e n stamp = record {
-  away = λ c. put_away s p item j.links (one s) c
-      ∙ ap (λ m. put_in (end_at (world_setup j).cables s) (model_world j).whole (is_accepted s p j.links) p m
-      ((model_world j).on_cable (peer s)) c) (e ∙ ap (λ n. Control pdu (stamp_of pdu n)) n);
+  away = λ c. put_away s p item j.links (one s) c ∙ ap (λ m. put_in (end_at (world_setup j).cables s)
+      (model_world j).whole (is_accepted s p j.links) p m ((model_world j).on_cable (peer s)) c) (e ∙ ap (λ n. Control pdu (stamp_of pdu n)) n);
   towards = put_towards s p item j.links;
   whole = put_whole s p item j.links;
   taken = λ q. ap (λ (h : HalfState). option_map model_taken (taken_in (history_at h.histories q))) same;
@@ -63,20 +62,18 @@ emitted gives s p (Ok (Some frame)) mid r old new one x y =
     let kept : count ≡ (model_world old).count s p = ap (λ (h : HalfState). change_count_in (history_at h.histories p))
     (half_there s mid old ∙ x.same) in
     let m = x.answers.moves in
-    keeping_call s ModelEvent.Transmit 0 (is_accepted s p old.links) (Some (Sends p (control_message v))) mid
-    (put_on_port s p item old.links) old new y.1 (λ e. cc) refl
-    (sends_pdu s p (control_message v) item count mid old x one (stamped frame v count refl) kept 0)
-    (told_moves (half s old).state mid.state m.2 (m.3.2 ∙ ap (λ v. Sends p (control_message v) ∷ []) (sym (sent_read frame m.3.0 m.3.1))) m.4)
-    (λ q. ap change_count_in (history_kept x q))
+    keeping_call s ModelEvent.Transmit 0
+    (is_accepted s p old.links) (Some (Sends p (control_message v))) mid (put_on_port s p item old.links) old new y.1 (λ e. cc) refl
+    (sends_pdu s p (control_message v) item count mid old x one (stamped frame v count refl) kept 0) (told_moves (half s old).state mid.state m.2
+    (m.3.2 ∙ ap (λ v. Sends p (control_message v) ∷ []) (sym (sent_read frame m.3.0 m.3.1))) m.4) (λ q. ap change_count_in (history_kept x q))
 emitted gives s p a mid r old new one x y =
     let m = x.answers.moves in
     quiet_call gives s (Transmit p) (answer.Transmit a) ModelEvent.Transmit 0 mid old new x y.1 (λ e. cc) refl
     (told_moves (half s old).state mid.state m.2 m.3 m.4)
 
 -- A port sends what is due.
-pub emit_happens : (gives : Side → ℕ → ℕ → ℕ → Type 0) (s : Side) (p : ℕ) (r : Reply) (old new : WorldState)
-    → IsCabling (world_setup old).cables → WorldEmits gives s p old r new
-    → Happens (world_setup old) (Event.Emit s p) (model_world old) (model_world new)
+pub emit_happens : (gives : Side → ℕ → ℕ → ℕ → Type 0) (s : Side) (p : ℕ) (r : Reply) (old new : WorldState) → IsCabling (world_setup old).cables
+    → WorldEmits gives s p old r new → Happens (world_setup old) (Event.Emit s p) (model_world old) (model_world new)
 emit_happens gives s p r old new one x = emitted (gives s) s p x.0 x.1 r old new one x.2 x.3
 
 offered_calls : (gives : ℕ → ℕ → ℕ → Type 0) (s : Side) (agg : AggId) (octets : List ℕ) (a : Result ℕ SystemFault) (mid : HalfState)
@@ -124,8 +121,7 @@ offered_calls gives s agg octets (Ok port) mid r old new one x y =
     same_joint Two agg octets port mid old = refl
 
 -- A frame is offered: of a conversation of which serials are kept.
-pub offer_happens : (gives : Side → ℕ → ℕ → ℕ → Type 0) (s : Side) (agg : AggId) (octets : List ℕ) (r : Reply) (old new : WorldState)
-    → IsCabling (world_setup old).cables
-    → WorldOffers gives s agg octets old r new
+pub offer_happens : (gives : Side → ℕ → ℕ → ℕ → Type 0) (s : Side) (agg : AggId) (octets : List ℕ)
+    (r : Reply) (old new : WorldState) → IsCabling (world_setup old).cables → WorldOffers gives s agg octets old r new
     → Happens (world_setup old) (Event.Offer s agg.0 octets) (model_world old) (model_world new)
 offer_happens gives s agg octets r old new one x = offered_calls (gives s) s agg octets x.0 x.1 r old new one x.2 x.3

@@ -15,8 +15,7 @@ use Rattle.lagworld.proofs.Forced.{force_happens}
 
 -- an event on a cable is on the one that it names
 at_line : (c : ℕ) (P : ℕ → LinkState → Type 0) (e : ℕ → ModelEvent) (old new : WorldState) → OnLink c P old.links
-    → ((i : ℕ) (l : LinkState) → slice_get old.links i ≡ Some l → P i l
-    → Happens (world_setup old) (e (suc i)) (model_world old) (model_world new))
+    → ((i : ℕ) (l : LinkState) → slice_get old.links i ≡ Some l → P i l → Happens (world_setup old) (e (suc i)) (model_world old) (model_world new))
     → Happens (world_setup old) (e c) (model_world old) (model_world new)
 at_line c P e old new x f = grind (arith, nat_tests)
 
@@ -48,9 +47,8 @@ does_happen gives (event.Move n agg conv p) r old new i x =
 does_happen gives (event.Force n agg conv) r old new i x =
     let s = side_numbered n in
     let y = named_side n (λ s. InHalf s (λ h k. HalfForces (gives s) agg conv h r k) old new) x in
-    force_happens (gives s) s agg conv r old new y (λ done e. forced_there (half s old) agg conv done y.0.1.state (i.kept s)
-    (subst (λ a. GivesOrRefuses agg conv (system_force_result (half s old).state agg conv) (half s old).state a y.0.1.state) e
-    y.0.2.answers.step))
+    force_happens (gives s) s agg conv r old new y (λ done e. forced_there (half s old) agg conv done y.0.1.state (i.kept s) (subst
+    (λ a. GivesOrRefuses agg conv (system_force_result (half s old).state agg conv) (half s old).state a y.0.1.state) e y.0.2.answers.step))
 
 -- what is counted is no part of a world of the law
 pub steps_happen : (gives : Algorithms) (e : Event) (r : Reply) (old new : WorldState) → IsSound old → WorldSteps gives old e r new

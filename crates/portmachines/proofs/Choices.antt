@@ -52,11 +52,10 @@ settles_one I rows way p q r i g h = one_end I rows way g.0 h.0 p q r i (goes ro
 fires_one : (test : Machines → Bool) (rows : List Row) → OneEnabledAtMost test rows → (p q r : Machines) → test p ≡ true
     → Fires rows p q → Fires rows p r → q ≡ r
 fires_one test [] one p q r t f g = absurd f
-fires_one test (row ∷ rows) one p q r t f g =
-    elim f [
-      | inl x ↦ elim g [ inl y ↦ x.1 ∙ sym y.1 | inr y ↦ absurd (none_fires rows p r (one.0 p t x.0) y) ]
-      | inr x ↦ elim g [ inl y ↦ absurd (none_fires rows p q (one.0 p t y.0) x) | inr y ↦ fires_one test rows one.1 p q r t x y ]
-    ]
+fires_one test (row ∷ rows) one p q r t f g = elim f [
+  | inl x ↦ elim g [ inl y ↦ x.1 ∙ sym y.1 | inr y ↦ absurd (none_fires rows p r (one.0 p t x.0) y) ]
+  | inr x ↦ elim g [ inl y ↦ absurd (none_fires rows p q (one.0 p t y.0) x) | inr y ↦ fires_one test rows one.1 p q r t x y ]
+]
 
 abbrev Always : Machines → Type 0
 Always p = Unit {0}
@@ -92,8 +91,7 @@ receive-way : OneWay IsSafe receive_rows
 receive-way = record { same = receive-same; stays = receive-stays }
 
 -- at rest a port is still so after a tick
-rest-counted : (p : Machines) (s : ReceiveState) (expired : Bool) → AtRest receive_rows (record p { receive = s })
-    → safe s p.enabled expired
+rest-counted : (p : Machines) (s : ReceiveState) (expired : Bool) → AtRest receive_rows (record p { receive = s }) → safe s p.enabled expired
 rest-counted p s expired rest = grind arith
 
 -- and after a change of the link
@@ -109,8 +107,7 @@ one_periodic p q r h k = h.2 ∙ ap clear_ntt (settles_one Always periodic_rows 
 
 -- each call has one effect
 pub one_effect : OneEffect
-one_effect Tick old one other rest h k =
-    settles_one IsSafe receive_rows receive-way (count_down old) one other
+one_effect Tick old one other rest h k = settles_one IsSafe receive_rows receive-way (count_down old) one other
     (rest-counted old old.receive (current_while_expired (count_down old)) rest) h k
 one_effect (Transmit max_delay) old one other rest h k = h ∙ sym k
 one_effect (Set_link enabled) old one other rest h k =

@@ -38,8 +38,7 @@ pub record Joins (R : Machines → Machines → Type 0) : Type 0 where
 pub Reaches-relates : (R : Machines → Machines → Type 0) → Joins R → (rows : List Row) → EachRelates R rows → (n : ℕ) (p q : Machines)
     → FiresTimes rows n p q → R p q
 Reaches-relates R j rows k zero p q run = j.same p q run
-Reaches-relates R j rows k (suc n) p q run =
-    j.both p run.0 q (Reaches-relates R j rows k n p run.0 run.1) (Fires-relates R rows k run.0 q run.2)
+Reaches-relates R j rows k (suc n) p q run = j.both p run.0 q (Reaches-relates R j rows k n p run.0 run.1) (Fires-relates R rows k run.0 q run.2)
 
 pub Rests-relates : (R : Machines → Machines → Type 0) → Joins R → (rows : List Row) → EachRelates R rows → (p q : Machines)
     → RunsToRest rows p q → R p q

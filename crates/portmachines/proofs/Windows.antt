@@ -50,9 +50,8 @@ count-length p [] = omega arith
 count-length p (x ∷ xs) = omega (arith, count-length p xs, bit-weaker (p x) true (λ _. refl))
 
 -- the ages that are at most k + 1 after the tick were at most k before it
-aged-one : (k a : ℕ) (rest : List ℕ) (b : Bool) → k + 1 ≤ 10 → nat_lt (a + 1) 11 ≡ b
-    → count_passing (λ x. nat_le x (k + 1)) (cond b ((a + 1) ∷ rest) rest) ≡ cond (nat_le a k) 1 0 + count_passing
-    (λ x. nat_le x (k + 1)) rest
+aged-one : (k a : ℕ) (rest : List ℕ) (b : Bool) → k + 1 ≤ 10 → nat_lt (a + 1) 11 ≡ b → count_passing (λ x. nat_le x (k + 1))
+    (cond b ((a + 1) ∷ rest) rest) ≡ cond (nat_le a k) 1 0 + count_passing (λ x. nat_le x (k + 1)) rest
 aged-one k a rest b h e = grind (arith, nat_tests)
 
 count-aged : (k : ℕ) (ages : List ℕ) → k + 1 ≤ 10 → count_passing (λ a. nat_le a (k + 1)) (aged ages) ≡ count_passing (λ a. nat_le a k) ages
@@ -117,8 +116,7 @@ pub taking-ages : (pdu : Lacpdu) (p q : Machines) → FiresIfEnabled (lacpdu_row
 taking-ages pdu p q h = grind (arith, nat_tests)
 
 pub periodic-ages : (p q : Machines) → RunsPeriodic p q → q.ages ≡ p.ages
-periodic-ages p q h =
-    ap (λ (x : Machines). x.ages) h.2 ∙ Reaches-keeps ages_of periodic_rows periodic-same h.1.0 p h.0 h.1.1
+periodic-ages p q h = ap (λ (x : Machines). x.ages) h.2 ∙ Reaches-keeps ages_of periodic_rows periodic-same h.1.0 p h.0 h.1.1
 
 pub starts-ages : (p q : Machines) → Starts p q → q.ages ≡ p.ages
 starts-ages p q h = ap (λ (x : Machines). x.ages) h.2 ∙ settles-same (start_receive p) h.0 h.1
@@ -149,23 +147,20 @@ run-window now (Tick ∷ calls) old before ticks i h =
     subst KeepsWindow (ap (λ xs. before ++ xs) (sym h.4)) (run-window (now + 1) calls h.0 before h.1 next h.3)
 run-window now (Transmit max_delay ∷ calls) old before ticks i h =
     transmit-window now calls old h.0 before ticks h.1 (is_due old) refl (λ b r. run-window now calls h.0 b r) i h.2 h.3 h.4
-run-window now (Set_link enabled ∷ calls) old before ticks i h =
-    quiet-window now calls old h.0 before ticks h.1 (λ b r. run-window now calls h.0 b r)
-    (settles-same (record old { enabled = enabled }) h.0 h.2) i h.3 h.4
+run-window now (Set_link enabled ∷ calls) old before ticks i h = quiet-window now calls old h.0 before ticks h.1
+    (λ b r. run-window now calls h.0 b r) (settles-same (record old { enabled = enabled }) h.0 h.2) i h.3 h.4
 run-window now (Take pdu ∷ calls) old before ticks i h =
     quiet-window now calls old h.0 before ticks h.1 (λ b r. run-window now calls h.0 b r) (taking-ages pdu old h.0 h.2) i h.3 h.4
-run-window now (Mux ready ∷ calls) old before ticks i h =
-    quiet-window now calls old h.0 before ticks h.1 (λ b r. run-window now calls h.0 b r)
-    (Reaches-keeps ages_of (mux_rows ready) (mux-same ready) h.2.0 old h.0 h.2.1) i h.3 h.4
+run-window now (Mux ready ∷ calls) old before ticks i h = quiet-window now calls old h.0 before ticks h.1
+    (λ b r. run-window now calls h.0 b r) (Reaches-keeps ages_of (mux_rows ready) (mux-same ready) h.2.0 old h.0 h.2.1) i h.3 h.4
 run-window now (Periodic ∷ calls) old before ticks i h =
     quiet-window now calls old h.0 before ticks h.1 (λ b r. run-window now calls h.0 b r) (periodic-ages old h.0 h.2) i h.3 h.4
 run-window now (Select choice ∷ calls) old before ticks i h =
     quiet-window now calls old h.0 before ticks h.1 (λ b r. run-window now calls h.0 b r) (ap (λ (x : Machines). x.ages) h.2) i h.3 h.4
 run-window now (Set_mode active short ∷ calls) old before ticks i h =
     quiet-window now calls old h.0 before ticks h.1 (λ b r. run-window now calls h.0 b r) (ap (λ (x : Machines). x.ages) h.2) i h.3 h.4
-run-window now (Reinit party ∷ calls) old before ticks i h =
-    quiet-window now calls old h.0 before ticks h.1 (λ b r. run-window now calls h.0 b r)
-    (starts-ages (record old { party = party }) h.0 h.2) i h.3 h.4
+run-window now (Reinit party ∷ calls) old before ticks i h = quiet-window now calls old h.0 before ticks h.1
+    (λ b r. run-window now calls h.0 b r) (starts-ages (record old { party = party }) h.0 h.2) i h.3 h.4
 
 -- the start
 
@@ -176,13 +171,11 @@ past-before now (a ∷ more) = (omega arith, past-before now more)
 recent-before : (now k : ℕ) (ages : List ℕ) → AllByRecursion (λ a. a ≤ now) ages
     → count_passing (λ s. nat_le now (s + k)) (sent_before now ages) ≤ count_passing (λ a. nat_le a k) ages
 recent-before now k [] h = omega arith
-recent-before now k (a ∷ more) h =
-    omega (
-      arith,
-      recent-before now k more h.1,
-      bit-weaker (nat_le now (now - a + k)) (nat_le a k)
-          (λ t. let l = leb-true now (now - a + k) t in le-leb a k (omega (arith, l, h.0))),
-    )
+recent-before now k (a ∷ more) h = omega (
+  arith,
+  recent-before now k more h.1,
+  bit-weaker (nat_le now (now - a + k)) (nat_le a k) (λ t. let l = leb-true now (now - a + k) t in le-leb a k (omega (arith, l, h.0))),
+)
 
 length-before : (now : ℕ) (ages : List ℕ) → length (sent_before now ages) ≡ length ages
 length-before now [] = refl

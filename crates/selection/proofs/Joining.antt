@@ -40,10 +40,8 @@ occupants_share : (agg : AggId) (v : PortView) (views : List PortView) → list_
     → AllByRecursion (λ w. IsOccupant agg w → SamePair (ends w) (ends v)) views
 occupants_share agg v [] h = tt
 occupants_share agg v (w ∷ ws) h =
-    let both = kept_passes (has_group_of v) (occupies agg w.choice) w (occupants agg ws) h in (
-      λ e. (group-test v w).0 (both.0 (given-occupant agg w e)),
-      occupants_share agg v ws both.1,
-    )
+    let both = kept_passes (has_group_of v) (occupies agg w.choice) w (occupants agg ws) h in
+    (λ e. (group-test v w).0 (both.0 (given-occupant agg w e)), occupants_share agg v ws both.1)
 
 -- the lowest aggregator
 
@@ -63,25 +61,22 @@ here first k key keys test agg rest later true false same passed e =
     let found = later e in record {
       place = suc found.place;
       counted = omega (arith, found.counted);
-      has_key =
-          found.has_key;
+      has_key = found.has_key;
       passes = found.passes;
     }
 here first k key keys test agg rest later false t same passed e =
     let found = later e in record {
       place = suc found.place;
       counted = omega (arith, found.counted);
-      has_key =
-          found.has_key;
+      has_key = found.has_key;
       passes = found.passes;
     }
 
 lowest-found : (first : ℕ) (keys : List Key) (key : Key) (test : AggId → Bool) (agg : AggId) → lowest_from first keys key test ≡ Some agg
     → Found first keys key test agg
 lowest-found first [] key test agg e = absurd cc
-lowest-found first (k ∷ ks) key test agg e =
-    here first k key ks test agg (find (λ row. (row.1.0 == key.0) && test (aggregator_of_entry row)) (enumerate_from (first + 1) ks))
-    (lowest-found (first + 1) ks key test agg) (k.0 == key.0) (test (aggregator_of_entry (first, k))) refl refl e
+lowest-found first (k ∷ ks) key test agg e = here first k key ks test agg (find (λ row. (row.1.0 == key.0) && test (aggregator_of_entry row))
+    (enumerate_from (first + 1) ks)) (lowest-found (first + 1) ks key test agg) (k.0 == key.0) (test (aggregator_of_entry (first, k))) refl refl e
 
 -- eligible
 
@@ -94,33 +89,25 @@ eligible-outside v h = grind arith
 -- the choice
 
 joins-by : (keys : List Key) (views : List PortView) (v : PortView) (agg : AggId) (test : AggId → Bool) → is_eligible v ≡ true
-    → Found 1 keys v.party.key test agg
-    → (test agg ≡ true → HasNoOccupant views agg ⊎ OccupantsShareGroup views agg v) → MayJoin keys views agg v
+    → Found 1 keys v.party.key test agg → (test agg ≡ true → HasNoOccupant views agg ⊎ OccupantsShareGroup views agg v) → MayJoin keys views agg v
 joins-by keys views v agg test ok found others = grind (arith, eligible-outside, eligible-apart, slice_get, occupants)
 
-shared-occupants : (views : List PortView) (v : PortView) (agg : AggId) → occupants_share_group views v agg ≡ true
-    → OccupantsShareGroup views agg v
+shared-occupants : (views : List PortView) (v : PortView) (agg : AggId) → occupants_share_group views v agg ≡ true → OccupantsShareGroup views agg v
 shared-occupants views v agg h =
-    let some = (and_parts (not (individual v.party v.partner) && has_occupant views agg)
-    (list_all (has_group_of v) (occupants agg views)) h).0 in
+    let some = (and_parts (not (individual v.party v.partner) && has_occupant views agg) (list_all (has_group_of v) (occupants agg views)) h).0 in
     record {
-      aggregatable = not-true (individual v.party v.partner)
-          ((and_parts (not (individual v.party v.partner)) (has_occupant views agg) some).0);
-      one_group = all-from_each _ views
-          (occupants_share agg v views
-          ((and_parts (not (individual v.party v.partner) && has_occupant views agg)
-          (list_all (has_group_of v) (occupants agg views)) h).1));
+      aggregatable = not-true (individual v.party v.partner) ((and_parts (not (individual v.party v.partner)) (has_occupant views agg) some).0);
+      one_group = all-from_each _ views (occupants_share agg v views
+          ((and_parts (not (individual v.party v.partner) && has_occupant views agg) (list_all (has_group_of v) (occupants agg views)) h).1));
     }
 
 chosen : (keys : List Key) (views : List PortView) (v : PortView) (agg : AggId) → is_eligible v ≡ true → (o : Option AggId)
     → lowest_from 1 keys v.party.key (occupants_share_group views v) ≡ o
     → or_else o (lowest_from 1 keys v.party.key (has_no_occupant views)) ≡ Some agg → MayJoin keys views agg v
-chosen keys views v agg ok None none e =
-    joins-by keys views v agg (has_no_occupant views) ok (lowest-found 1 keys v.party.key (has_no_occupant views) agg e)
-    (λ t. inl (all-from_each _ views (none_occupies agg views (not-true (has_occupant views agg) t))))
-chosen keys views v agg ok (Some a) is e =
-    joins-by keys views v agg (occupants_share_group views v) ok (lowest-found 1 keys v.party.key (occupants_share_group views v) agg (is ∙ e))
-    (λ t. inr (shared-occupants views v agg t))
+chosen keys views v agg ok None none e = joins-by keys views v agg (has_no_occupant views) ok (lowest-found 1 keys v.party.key
+    (has_no_occupant views) agg e) (λ t. inl (all-from_each _ views (none_occupies agg views (not-true (has_occupant views agg) t))))
+chosen keys views v agg ok (Some a) is e = joins-by keys views v agg (occupants_share_group views v) ok
+    (lowest-found 1 keys v.party.key (occupants_share_group views v) agg (is ∙ e)) (λ t. inr (shared-occupants views v agg t))
 
 pub if-some : (b : Bool) (o : Option AggId) (agg : AggId) → (if b then o else None) ≡ Some agg → (b ≡ true) × (o ≡ Some agg)
 if-some b o agg e = grind arith
@@ -133,10 +120,8 @@ choice-joins keys views v agg e =
     chosen keys views v agg both.0 (lowest_from 1 keys v.party.key (occupants_share_group views v)) refl both.1
 
 -- the same of what a call answers for the port that it has seen
-pub answer-joins : (keys : List Key) (views : List PortView) (seen : Option PortView) (v : PortView) (answer : Option AggId)
-    → seen ≡ Some v → is_eligible v ≡ true → answer ≡ chosen_if_eligible keys views v
-    → IfSome answer (λ agg. IsSomeAnd seen (MayJoin keys views agg))
+pub answer-joins : (keys : List Key) (views : List PortView) (seen : Option PortView) (v : PortView) (answer : Option AggId) → seen ≡ Some v
+    → is_eligible v ≡ true → answer ≡ chosen_if_eligible keys views v → IfSome answer (λ agg. IsSomeAnd seen (MayJoin keys views agg))
 answer-joins keys views seen v None is ok e = tt
-answer-joins keys views seen v (Some agg) is ok e =
-    subst (λ o. IsSomeAnd o (MayJoin keys views agg)) (sym is)
-    (chosen keys views v agg ok (lowest_from 1 keys v.party.key (occupants_share_group views v)) refl (sym e))
+answer-joins keys views seen v (Some agg) is ok e = subst (λ o. IsSomeAnd o (MayJoin keys views agg))
+    (sym is) (chosen keys views v agg ok (lowest_from 1 keys v.party.key (occupants_share_group views v)) refl (sym e))

@@ -40,16 +40,14 @@ later : (agg : AggId) (index : ℕ) (v : PortView) (vs : List PortView) (r : Sta
 later agg index v vs r a = record { place = suc a.place; counted = omega (arith, a.counted); there = a.there; stands = a.stands }
 
 taken_or_later : (agg : AggId) (index : ℕ) (best : Option StandbyRow) (v : PortView) (vs : List PortView) (r : StandbyRow) (t : Bool)
-    → (stands_by agg v.choice && is_before v best) ≡ t
-    → ((if t then Some (row_at index v) else best) ≡ Some r) ⊎ Among agg (index + 1) vs r
+    → (stands_by agg v.choice && is_before v best) ≡ t → ((if t then Some (row_at index v) else best) ≡ Some r) ⊎ Among agg (index + 1) vs r
     → (best ≡ Some r) ⊎ Among agg index (v ∷ vs) r
 taken_or_later agg index best v vs r t e h = grind (arith, nat_tests, row_at, same_Some, stands_by, and_parts, is_before, later)
 
 lowest_among : (agg : AggId) (index : ℕ) (best : Option StandbyRow) (views : List PortView) (r : StandbyRow)
     → lowest_standby_from agg index best views ≡ Some r → (best ≡ Some r) ⊎ Among agg index views r
 lowest_among agg index best [] r e = inl e
-lowest_among agg index best (v ∷ vs) r e =
-    taken_or_later agg index best v vs r (stands_by agg v.choice && is_before v best) refl
+lowest_among agg index best (v ∷ vs) r e = taken_or_later agg index best v vs r (stands_by agg v.choice && is_before v best) refl
     (lowest_among agg (index + 1) (better_row agg best (row_at index v)) vs r e)
 
 -- none is lower
@@ -79,9 +77,8 @@ lowest_low agg index best (v ∷ vs) r e =
 abbrev pub NoneStandsBy : AggId → List PortView → Type 0
 NoneStandsBy agg views = AllByRecursion (λ w. stands_by agg w.choice ≡ false) views
 
-nobody_here : (agg : AggId) (index : ℕ) (best : Option StandbyRow) (v : PortView) (t : Bool)
-    → (stands_by agg v.choice && is_before v best) ≡ t → (if t then Some (row_at index v) else best) ≡ None
-    → (best ≡ None) × (stands_by agg v.choice ≡ false)
+nobody_here : (agg : AggId) (index : ℕ) (best : Option StandbyRow) (v : PortView) (t : Bool) → (stands_by agg v.choice && is_before v best) ≡ t
+    → (if t then Some (row_at index v) else best) ≡ None → (best ≡ None) × (stands_by agg v.choice ≡ false)
 nobody_here agg index best v t e h = grind (arith, nat_tests)
 
 lowest_none : (agg : AggId) (index : ℕ) (best : Option StandbyRow) (views : List PortView)
@@ -94,8 +91,7 @@ lowest_none agg index best (v ∷ vs) e =
 
 none_lowest : (agg : AggId) (index : ℕ) (views : List PortView) → NoneStandsBy agg views → lowest_standby_from agg index None views ≡ None
 none_lowest agg index [] h = refl
-none_lowest agg index (v ∷ vs) h =
-    ap (λ b. lowest_standby_from agg (index + 1) (if b && true then Some (row_at index v) else None) vs) h.0
+none_lowest agg index (v ∷ vs) h = ap (λ b. lowest_standby_from agg (index + 1) (if b && true then Some (row_at index v) else None) vs) h.0
     ∙ none_lowest agg (index + 1) vs h.1
 
 -- the next one

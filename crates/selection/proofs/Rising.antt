@@ -15,8 +15,7 @@ counted-at : {X : Type 0} (number : X → ℕ) (xs : List X) (k : ℕ) (d : X) �
 counted-at number xs k d h = get_or-map number xs k d 0 h
 
 -- each number is below those after it
-pairs-from_rising : {X : Type 0} (number : X → ℕ) (xs : List X) → IsStrictlyIncreasing (map number xs)
-    → AllPairs (λ x y. number x < number y) xs
+pairs-from_rising : {X : Type 0} (number : X → ℕ) (xs : List X) → IsStrictlyIncreasing (map number xs) → AllPairs (λ x y. number x < number y) xs
 pairs-from_rising number xs h i j d lt within =
     let all = AllPairs-from_increasing (map number xs) h i j 0 lt (omega (arith, length-counted number xs)) in
     grind (arith, nat_tests, counted-at)
@@ -32,16 +31,14 @@ pub rising-kept : {X : Type 0} (number : X → ℕ) (p : X → Bool) (xs : List 
     → IsStrictlyIncreasing (map number (filter p xs))
 rising-kept number p [] h = h
 rising-kept number p (x ∷ xs) h =
-    rising-from_pairs number (filter p (x ∷ xs)) x
-    (AllPairs-filter (λ x y. number x < number y) p (x ∷ xs) (pairs-from_rising number (x ∷ xs) h))
+    rising-from_pairs number (filter p (x ∷ xs)) x (AllPairs-filter (λ x y. number x < number y) p (x ∷ xs) (pairs-from_rising number (x ∷ xs) h))
 
 -- Views.
 
 length-numbers : (views : List PortView) → length (numbers views) ≡ length views
 length-numbers views = length-counted (λ (v : PortView). v.number) views
 
-number-at : (views : List PortView) (k : ℕ) (d : PortView) → k < length views
-    → slice_index (numbers views) k ≡ (slice_index_or views k d).number
+number-at : (views : List PortView) (k : ℕ) (d : PortView) → k < length views → slice_index (numbers views) k ≡ (slice_index_or views k d).number
 number-at views k d h = counted-at (λ (v : PortView). v.number) views k d h
 
 pub rising-filter : (p : PortView → Bool) (views : List PortView) → IsStrictlyIncreasing (numbers views)
@@ -51,8 +48,7 @@ rising-filter p views h = rising-kept (λ (v : PortView). v.number) p views h
 abbrev pub below : PortView → PortView → Bool
 below v w = nat_lt v.number w.number
 
-sorted : (views : List PortView) (d : PortView) → IsAllAdjacentAnswer (λ v w b. b ≡ below v w) views true
-    → IsStrictlyIncreasing (numbers views)
+sorted : (views : List PortView) (d : PortView) → IsAllAdjacentAnswer (λ v w b. b ≡ below v w) views true → IsStrictlyIncreasing (numbers views)
 sorted views d h k within =
     let fits : k + 1 < length views = omega (arith, length-numbers views) in
     let test = h k d fits in

@@ -10,8 +10,7 @@ use Rattle.selection.specs.declared.standings.Standing.{Standing}
 -- tests
 
 none_first : (f : PortView → Bool) (w : PortView) (rest : List PortView) (b any : Bool) → (b || any) ≡ false
-    → (any ≡ false → list_all f rest ≡ true)
-    → list_all f (cond b (w ∷ rest) rest) ≡ true
+    → (any ≡ false → list_all f rest ≡ true) → list_all f (cond b (w ∷ rest) rest) ≡ true
 none_first f w rest b any h k = grind arith
 
 -- where none is kept, all that are kept pass
@@ -32,9 +31,8 @@ stands-same : (shared some other_some all other_all : Bool) → some ≡ other_s
 stands-same shared some other_some all other_all e h = rw (e, h) refl
 
 -- one more port, which occupies it or not
-stands-more : (shared some all occupies same : Bool) → (some ≡ false → all ≡ true)
-    → stands shared (some || occupies) (all && cond occupies same true) ≡ (if occupies then with_occupant (shared && same)
-    (stands shared some all) else stands shared some all)
+stands-more : (shared some all occupies same : Bool) → (some ≡ false → all ≡ true) → stands shared (some || occupies)
+    (all && cond occupies same true) ≡ (if occupies then with_occupant (shared && same) (stands shared some all) else stands shared some all)
 stands-more shared some all occupies same h = grind arith
 
 -- the same of views: which of them are occupants, and which have the port's group
@@ -42,21 +40,18 @@ abbrev stands_in : (PortView → Bool) → (PortView → Bool) → Bool → List
 stands_in p f shared views = stands shared (list_any p views) (list_all f (filter p views))
 
 all-next : (p f : PortView → Bool) (views : List PortView) (i : ℕ) (d : PortView) → i < length views
-    → list_all f (filter p (take (i + 1) views)) ≡ (list_all f (filter p (take i views))
-    && cond (p (get_or views i d)) (f (get_or views i d)) true)
-all-next p f views i d within =
-    ap (λ l. list_all f l) (filter_more p views i d within)
-    ∙ list_all-append f (filter p (take i views)) (cond (p (get_or views i d)) (get_or views i d ∷ []) [])
-    ∙ ap (λ b. list_all f (filter p (take i views)) && b) (of_one f (get_or views i d) (p (get_or views i d)))
+    → list_all f (filter p (take (i + 1) views)) ≡ (list_all f (filter p (take i views)) && cond (p (get_or views i d)) (f (get_or views i d)) true)
+all-next p f views i d within = ap (λ l. list_all f l) (filter_more p views i d within) ∙ list_all-append f
+    (filter p (take i views)) (cond (p (get_or views i d)) (get_or views i d ∷ []) []) ∙ ap
+    (λ b. list_all f (filter p (take i views)) && b) (of_one f (get_or views i d) (p (get_or views i d)))
 
 stands-next : (p f : PortView → Bool) (shared : Bool) (views : List PortView) (i : ℕ) (d : PortView) → i < length views
     → stands_in p f shared (take (i + 1) views)
     ≡ (if p (get_or views i d) then with_occupant (shared && f (get_or views i d)) (stands_in p f shared (take i views)) else stands_in p
     f shared (take i views))
-stands-next p f shared views i d within =
-    stands-same shared _ _ _ _ (list_any_more p views i d within) (all-next p f views i d within)
-    ∙ stands-more shared (list_any p (take i views)) (list_all f (filter p (take i views))) (p (get_or views i d)) (f (get_or views i d))
-    (none_differs p f (take i views))
+stands-next p f shared views i d within = stands-same shared _ _ _ _ (list_any_more p views i d within)
+    (all-next p f views i d within) ∙ stands-more shared (list_any p (take i views)) (list_all f (filter p (take i views)))
+    (p (get_or views i d)) (f (get_or views i d)) (none_differs p f (take i views))
 
 pub standing-more : (v : PortView) (agg : AggId) (views : List PortView) (i : ℕ) (d : PortView) → i < length views
     → standing (take (i + 1) views) v agg ≡ with_port agg v (get_or views i d) (standing (take i views) v agg)

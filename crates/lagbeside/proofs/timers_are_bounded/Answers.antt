@@ -5,8 +5,7 @@ use Rattle.lagbeside.proofs.Timers.{within_settles}
 use Rattle.lagbeside.proofs.timers_are_bounded.Goals as goal
 
 pub returns-clause-first : goal.returns-clause-first
-returns-clause-first g c = λ s h.
-    (first_each TimedAt timed_settles timed_starts s h, first_each WithinTimeout within_settles within_first s h)
+returns-clause-first g c = λ s h. (first_each TimedAt timed_settles timed_starts s h, first_each WithinTimeout within_settles within_first s h)
 
 pub returns-clause-kept : goal.returns-clause-kept
 returns-clause-kept g c = λ algorithm old new call reply h. (

@@ -23,10 +23,9 @@ returns-clause-in_order g c = λ algorithms. holds_of_fleet (λ s a b k. g.F.Fn.
     (λ x events w f r. in_order_each (recabled_all x events) w (all_fine x events w f r).1)
 
 pub returns-clause-each_in_order : goal.returns-clause-each_in_order
-returns-clause-each_in_order g c = λ algorithms. holds_of_fleet (λ s a b k. g.F.Fn.post (algorithms s) (a, (b, tt)) k) (λ x w. EachCollectorInOrder w)
-    (λ x events w f r. λ t h s j k u.
-    parts (w.arrived t h s j k) (w.collected s j k) (w.sent s j k) (each_part x events w r t h s j k)
-    (in_order_each (recabled_all x events) w (all_fine x events w f r).1 s j k u))
+returns-clause-each_in_order g c = λ algorithms. holds_of_fleet (λ s a b k. g.F.Fn.post (algorithms s) (a, (b, tt)) k)
+    (λ x w. EachCollectorInOrder w) (λ x events w f r. λ t h s j k u. parts (w.arrived t h s j k) (w.collected s j k)
+    (w.sent s j k) (each_part x events w r t h s j k) (in_order_each (recabled_all x events) w (all_fine x events w f r).1 s j k u))
 
 pub returns-clause-counts_from_zero : goal.returns-clause-counts_from_zero
 returns-clause-counts_from_zero g c = λ algorithms. holds_of_fleet (λ s a b k. g.F.Fn.post (algorithms s) (a, (b, tt)) k) (λ x w. AllCountFromZero w)

@@ -43,16 +43,14 @@ pub returns-clause-counts_from_zero : goal.returns-clause-counts_from_zero
 returns-clause-counts_from_zero c = λ x events w f r. counts_from_zero x events w r
 
 pub returns-clause-each_in_order : goal.returns-clause-each_in_order
-returns-clause-each_in_order c = λ x events w f r t h s g k u.
-    parts (w.arrived t h s g k) (w.collected s g k) (w.sent s g k) (each_part x events w r t h s g k)
-    (in_order_each (recabled_all x events) w (all_fine x events w f r).1 s g k u)
+returns-clause-each_in_order c = λ x events w f r t h s g k u. parts (w.arrived t h s g k) (w.collected s g k)
+    (w.sent s g k) (each_part x events w r t h s g k) (in_order_each (recabled_all x events) w (all_fine x events w f r).1 s g k u)
 
 pub returns-clause-takeovers : goal.returns-clause-takeovers
 returns-clause-takeovers c = λ x events w f r. may_succeed_itself (recabled_all x events) w (all_fine x events w f r).1
 
 pub returns-clause-restarts : goal.returns-clause-restarts
-returns-clause-restarts c = λ x events w f r.
-    may_begin_anew (recabled_all x events) w (all_fine x events w f r).0 (all_fine x events w f r).1
+returns-clause-restarts c = λ x events w f r. may_begin_anew (recabled_all x events) w (all_fine x events w f r).0 (all_fine x events w f r).1
 
 pub returns-clause-first_markers : goal.returns-clause-first_markers
 returns-clause-first_markers c = λ x events w f r. first_markers_are_alike (recabled_all x events) (all_fine x events w f r).0

@@ -7,10 +7,9 @@ pub returns-in_err-picked-clause-placed : goal.returns-in_err-picked-clause-plac
 returns-in_err-picked-clause-placed g c = grind (arith, first_refused)
 
 pub returns-then-picked-port-clause-placed : goal.returns-then-picked-port-clause-placed
-returns-then-picked-port-clause-placed g c = placed_at_once
-    (λ conv count place. g.F.Fn.post c.args.system.now.algorithm (conv, (count, tt)) place) c.args.agg c.args.conv c.args.port
-    c.in_ok-picked.picked c.args.system.now.state c.offer_conversation.new.self.state c.requires.free c.requires.accepted
-    c.in_ok-picked.ensures.offers c.in_ok-picked.ensures.answers c.if-picked-port.true
+returns-then-picked-port-clause-placed g c = placed_at_once (λ conv count place. g.F.Fn.post c.args.system.now.algorithm
+    (conv, (count, tt)) place) c.args.agg c.args.conv c.args.port c.in_ok-picked.picked c.args.system.now.state c.offer_conversation.new.self.state
+    c.requires.free c.requires.accepted c.in_ok-picked.ensures.offers c.in_ok-picked.ensures.answers c.if-picked-port.true
 
 pub returns-in_err-move_conversation-clause-done : goal.returns-in_err-move_conversation-clause-done
 returns-in_err-move_conversation-clause-done g c = grind (arith, move_is_accepted)
@@ -26,8 +25,7 @@ returns-in_err-force-clause-placed g c = grind (arith, force_is_accepted)
 
 pub offer_conversation-requires-2 : goal.offer_conversation-requires-2
 offer_conversation-requires-2 g c = record {
-  usable =
-      subst (λ f. PicksIndexes (λ conv count. g.F.Fn.pre f (conv, (count, tt))) (λ conv count place. g.F.Fn.post f (conv, (count, tt)) place))
+  usable = subst (λ f. PicksIndexes (λ conv count. g.F.Fn.pre f (conv, (count, tt))) (λ conv count place. g.F.Fn.post f (conv, (count, tt)) place))
       (sym (c.force.ensures.algorithm ∙ c.move_conversation.ensures.algorithm ∙ c.offer_conversation.ensures.algorithm)) c.requires.usable;
 }
 

@@ -11,9 +11,8 @@ returns-then-not-is_back g c =
     c.loop-one-test.true c.loop-one.invariant (λ back. false≢true (sym c.if-not-is_back.true ∙ c.is_back.ensures.1 back))
 
 pub loop-one-preserved : goal.loop-one-preserved
-loop-one-preserved g c =
-    holds_on (IsBack c.args.system.now.state) c.args.saved.now c.loop-one.one-index (record { port = 0; aggregator = 0; age = 0; frame = [] })
-    c.loop-one-test.true c.loop-one.invariant (c.is_back.ensures.0 c.if-not-is_back.false)
+loop-one-preserved g c = holds_on (IsBack c.args.system.now.state) c.args.saved.now c.loop-one.one-index
+    (record { port = 0; aggregator = 0; age = 0; frame = [] }) c.loop-one-test.true c.loop-one.invariant (c.is_back.ensures.0 c.if-not-is_back.false)
 
 pub returns : goal.returns
 returns g c = holds_of_all (IsBack c.args.system.now.state) c.args.saved.now c.loop-one.one-index c.loop-one-test.false c.loop-one.invariant

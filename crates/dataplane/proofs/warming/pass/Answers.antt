@@ -16,11 +16,10 @@ loop-passed-preserved g c =
     let after = c.hear-in-loop-passed.new.system.state in
     let same = c.tick.ensures.algorithm ∙ c.loop-passed.invariant.algorithm in
     record {
-      run =
-          passing_on (λ conv count place. g.F.Fn.post c.args.system.now.algorithm (conv, (count, tt)) place) c.args.system.now.state
-          before ticked after saved ticks passed c.loop-passed.invariant.run
-          (subst (λ f. CallPromise (λ conv count place. g.F.Fn.post f (conv, (count, tt)) place) before Tick reply.Tick ticked)
-          c.loop-passed.invariant.algorithm c.tick.ensures.answers)
+      run = passing_on (λ conv count place. g.F.Fn.post c.args.system.now.algorithm
+          (conv, (count, tt)) place) c.args.system.now.state before ticked after saved ticks passed c.loop-passed.invariant.run
+          (subst (λ f. CallPromise (λ conv count place. g.F.Fn.post f
+          (conv, (count, tt)) place) before Tick reply.Tick ticked) c.loop-passed.invariant.algorithm c.tick.ensures.answers)
           (subst (λ f. Runs (λ conv count place. g.F.Fn.post f (conv, (count, tt)) place) ticked
           (heard (Before (ticks - passed - 1)) saved) after) same c.hear-in-loop-passed.ensures.run);
       algorithm = c.hear-in-loop-passed.ensures.algorithm ∙ same;

@@ -21,6 +21,5 @@ loop-config-preserved g c =
     }
 
 pub returns-clause-run : goal.returns-clause-run
-returns-clause-run g c =
-    runs_all (λ conv count place. g.F.Fn.post c.args.system.now.algorithm (conv, (count, tt)) place) c.args.system.now.state
+returns-clause-run g c = runs_all (λ conv count place. g.F.Fn.post c.args.system.now.algorithm (conv, (count, tt)) place) c.args.system.now.state
     c.loop-config.system.state link_up c.args.ports.now c.loop-config.config-index c.loop-config-test.false c.loop-config.invariant.run

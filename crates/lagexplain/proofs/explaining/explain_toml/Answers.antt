@@ -13,7 +13,6 @@ returns-clause-place c = λ small.
     let start = c.in-Some.span.start in
     let told = c.in-Some.ensures.range.0 in
     let within : start ≤ length c.args.text.now = omega (arith, told, c.requires.0, c.requires.1) in
-    subst (λ n. IfOk c.format.result (λ why. StartsWith (string_bytes why) (place_text (take n c.args.text.now)))) told
-    (tells_place c.format.result c.args.text.now c.as_bytes.result.now c.message.result.now start c.place_of-place.result.line
-    c.place_of-place.result.column c.as_bytes.ensures.value within small c.place_of-place.ensures.line c.place_of-place.ensures.column
-    c.format.ensures.ok)
+    subst (λ n. IfOk c.format.result (λ why. StartsWith (string_bytes why) (place_text (take n c.args.text.now)))) told (tells_place
+    c.format.result c.args.text.now c.as_bytes.result.now c.message.result.now start c.place_of-place.result.line c.place_of-place.result.column
+    c.as_bytes.ensures.value within small c.place_of-place.ensures.line c.place_of-place.ensures.column c.format.ensures.ok)

@@ -8,10 +8,9 @@ returns-then-algorithm-ge2 c =
     c.offer_in_active_aggregator_by.result.1.state) c.args.algorithm c.if-algorithm-ge2.true c.offer_in_active_aggregator_by.ensures
 
 pub returns-then-algorithm-ge1 : goal.returns-then-algorithm-ge1
-returns-then-algorithm-ge1 c =
-    by_sum_1 (λ gives. OffersFrameInActiveAggregator gives c.args.agg c.args.frame.now c.args.kept.state c.offer_in_active_aggregator_by-then-algorithm-ge1.result.0
-    c.offer_in_active_aggregator_by-then-algorithm-ge1.result.1.state) c.args.algorithm c.if-algorithm-ge1.true c.if-algorithm-ge2.false
-    c.offer_in_active_aggregator_by-then-algorithm-ge1.ensures
+returns-then-algorithm-ge1 c = by_sum_1 (λ gives. OffersFrameInActiveAggregator gives c.args.agg c.args.frame.now
+    c.args.kept.state c.offer_in_active_aggregator_by-then-algorithm-ge1.result.0 c.offer_in_active_aggregator_by-then-algorithm-ge1.result.1.state)
+    c.args.algorithm c.if-algorithm-ge1.true c.if-algorithm-ge2.false c.offer_in_active_aggregator_by-then-algorithm-ge1.ensures
 
 pub returns : goal.returns
 returns c =

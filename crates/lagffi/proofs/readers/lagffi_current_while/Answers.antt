@@ -3,5 +3,4 @@ use Rattle.lagffi.proofs.AskingLemmas.{asked}
 use Rattle.lagffi.proofs.readers.lagffi_current_while.Goals as goal
 
 pub returns : goal.returns
-returns c = asked _ _ c.in-Some.ensures.taken c.put.ensures
-    (c.or-answer.ensures ∙ ap (number_or_refused 1) c.current_while.ensures)
+returns c = asked _ _ c.in-Some.ensures.taken c.put.ensures (c.or-answer.ensures ∙ ap (number_or_refused 1) c.current_while.ensures)

@@ -3,5 +3,4 @@ use Rattle.lagffi.proofs.AskingLemmas.{asked}
 use Rattle.lagffi.proofs.readers.lagffi_defaulted.Goals as goal
 
 pub returns : goal.returns
-returns c = asked _ _ c.in-Some.ensures.taken c.put.ensures
-    (c.of_port-answer.ensures ∙ ap truth_or_no_port c.defaulted.ensures)
+returns c = asked _ _ c.in-Some.ensures.taken c.put.ensures (c.of_port-answer.ensures ∙ ap truth_or_no_port c.defaulted.ensures)

@@ -3,5 +3,4 @@ use Rattle.lagffi.proofs.AskingLemmas.{asked}
 use Rattle.lagffi.proofs.readers.lagffi_partner.Goals as goal
 
 pub returns : goal.returns
-returns c = asked _ _ c.in-Some.ensures.taken c.put.ensures
-    (c.of-answer.ensures ∙ ap info_or_no_port c.partner.ensures)
+returns c = asked _ _ c.in-Some.ensures.taken c.put.ensures (c.of-answer.ensures ∙ ap info_or_no_port c.partner.ensures)

@@ -3,5 +3,4 @@ use Rattle.lagffi.proofs.AskingLemmas.{asked}
 use Rattle.lagffi.proofs.readers.lagffi_state.Goals as goal
 
 pub returns : goal.returns
-returns c = asked _ _ c.in-Some.ensures.taken c.put.ensures
-    (c.state_or_no_port-answer.ensures ∙ ap state_or_no_port c.state.ensures)
+returns c = asked _ _ c.in-Some.ensures.taken c.put.ensures (c.state_or_no_port-answer.ensures ∙ ap state_or_no_port c.state.ensures)

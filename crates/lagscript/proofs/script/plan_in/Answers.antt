@@ -31,6 +31,5 @@ returns-in-None-clause-accepted c =
     not_refused systems c.in_ok-ends.ends.items fault
 
 pub returns-in-None-clause-from_one : goal.returns-in-None-clause-from_one
-returns-in-None-clause-from_one c =
-    subst (All (λ limit. limit ≢ Some 0)) (sym (c.in_ok-limits.ensures ∙ ap limits_of c.deref.ensures.value))
+returns-in-None-clause-from_one c = subst (All (λ limit. limit ≢ Some 0)) (sym (c.in_ok-limits.ensures ∙ ap limits_of c.deref.ensures.value))
     (limits_are (table_view c.args.top.now) c.in_ok-cables.cables.items c.in_ok-cables.ensures)

@@ -14,10 +14,7 @@ returns-then-octets-lt14-clause-err c = inl (
 )
 
 pub returns-in-Data-clause-ok : goal.returns-in-Data-clause-ok
-returns-in-Data-clause-ok c = (
-  is_frame c.args.octets.now c.if-octets-lt14.false c.if-octets-gt-LONGEST_FRAME.false,
-  c.in-Data.ensures.kind.1,
-)
+returns-in-Data-clause-ok c = (is_frame c.args.octets.now c.if-octets-lt14.false c.if-octets-gt-LONGEST_FRAME.false, c.in-Data.ensures.kind.1)
 
 pub returns-in-Control : goal.returns-in-Control
 returns-in-Control c =

@@ -23,20 +23,17 @@ loop-place-preserved c =
     let there = slice_get-get_or l c.loop-place.place c.index-system_ports-place.result c.loop-place-test.true in
     let more : c.loop-place.place + 1 ≤ length l = omega (arith, c.loop-place-test.true) in
     elim c.match-choice.branch [
-      | in-Standby+else-may_have_room w ↦
-          (let low : w.in-Standby.agg.0 < 65 = OnFalse_at w.if-may_have_room.false w.may_have_room.ensures.counted in
-          let none : has_room aggs (views l) w.in-Standby.agg ≡ false =
-          counted_full aggs l w.in-Standby.agg c.member_counts-counts.result c.max_links-max_links.result c.member_counts-counts.ensures c.max_links-max_links.ensures
-          low (sym (w.may_have_room.ensures.exact low) ∙ w.if-may_have_room.false) in
+      | in-Standby+else-may_have_room w ↦ (let low : w.in-Standby.agg.0 < 65 = OnFalse_at w.if-may_have_room.false w.may_have_room.ensures.counted in
+          let none : has_room aggs (views l) w.in-Standby.agg ≡ false = counted_full aggs l w.in-Standby.agg
+          c.member_counts-counts.result c.max_links-max_links.result c.member_counts-counts.ensures c.max_links-max_links.ensures low
+          (sym (w.may_have_room.ensures.exact low) ∙ w.if-may_have_room.false) in
           record {
-            none = no_room_more aggs l c.loop-place.place _ there i.none
-                (λ agg e. subst (λ (a : AggId). has_room aggs (views l) a ≡ false)
+            none = no_room_more aggs l c.loop-place.place _ there i.none (λ agg e. subst (λ (a : AggId). has_room aggs (views l) a ≡ false)
                 (same_standby w.in-Standby.agg agg (sym w.in-Standby.is ∙ c.choice.ensures ∙ e)) none);
             within = more;
           })
       | in_default w ↦ record {
-        none = no_room_more aggs l c.loop-place.place _ there i.none
-            (λ agg e. absurd (w.in_default.not-Standby agg (c.choice.ensures ∙ e)));
+        none = no_room_more aggs l c.loop-place.place _ there i.none (λ agg e. absurd (w.in_default.not-Standby agg (c.choice.ensures ∙ e)));
         within = more;
       }
     ]

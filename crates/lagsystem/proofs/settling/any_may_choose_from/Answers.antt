@@ -20,5 +20,4 @@ returns c =
     let l = c.args.system_ports.now in
     let i = c.args.first in
     let whole : take (length l - i) (drop i l) ≡ drop i l = take_all (length l - i) (drop i l) (omega (arith, length-drop i l)) in
-    c.any_may_choose.ensures ∙ ap (list_any (λ s. may_choose s)) whole
-    ∙ any_from (λ s. may_choose s) selected_chooses_none l i c.requires
+    c.any_may_choose.ensures ∙ ap (list_any (λ s. may_choose s)) whole ∙ any_from (λ s. may_choose s) selected_chooses_none l i c.requires

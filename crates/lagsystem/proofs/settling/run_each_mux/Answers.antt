@@ -14,7 +14,5 @@ loop-system_port-preserved c =
     )
 
 pub returns : goal.returns
-returns c =
-    SoFar-all (PortChangesBy (λ p q. RunsToRest (mux_rows (ready_of c.args.aggregators.now.keys c.args.port_views.now p.choice)) p q))
-    c.loop-system_port.system_port-index c.args.system_ports.now c.loop-system_port.system_ports
-    (omega arith) c.loop-system_port.invariant
+returns c = SoFar-all (PortChangesBy (λ p q. RunsToRest (mux_rows (ready_of c.args.aggregators.now.keys c.args.port_views.now p.choice)) p q))
+    c.loop-system_port.system_port-index c.args.system_ports.now c.loop-system_port.system_ports (omega arith) c.loop-system_port.invariant

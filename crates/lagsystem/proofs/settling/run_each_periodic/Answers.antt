@@ -9,6 +9,5 @@ loop-system_port-preserved c =
     (omega arith) c.loop-system_port.invariant (refl, c.periodic.ensures)
 
 pub returns : goal.returns
-returns c =
-    SoFar-all (PortChangesBy (RunsPeriodic)) c.loop-system_port.system_port-index c.args.system_ports.now c.loop-system_port.system_ports
+returns c = SoFar-all (PortChangesBy (RunsPeriodic)) c.loop-system_port.system_port-index c.args.system_ports.now c.loop-system_port.system_ports
     (omega arith) c.loop-system_port.invariant

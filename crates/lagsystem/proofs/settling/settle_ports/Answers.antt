@@ -5,13 +5,11 @@ use Rattle.lagsystem.proofs.SettlingLemmas.{runs_again, settling_made}
 use Rattle.lagsystem.proofs.settling.settle_ports.Goals as goal
 
 pub choose_and_run_mux-requires-clause-ran : goal.choose_and_run_mux-requires-clause-ran
-choose_and_run_mux-requires-clause-ran c =
-    runs_again c.args.system_ports.now c.run_mux_not_ready.new.system_ports c.run_mux_not_ready.ensures
+choose_and_run_mux-requires-clause-ran c = runs_again c.args.system_ports.now c.run_mux_not_ready.new.system_ports c.run_mux_not_ready.ensures
 
 pub choose_and_run_mux-requires-clause-next : goal.choose_and_run_mux-requires-clause-next
-choose_and_run_mux-requires-clause-next c =
-    OnFalse_from c.args.more_room _ (λ e. zip_next c.args.aggregators.now (RunsToRest (mux_rows false)) (mux_stays false) c.args.system_ports.now
-    c.run_mux_not_ready.new.system_ports c.run_mux_not_ready.ensures (OnFalse_at e c.requires.next))
+choose_and_run_mux-requires-clause-next c = OnFalse_from c.args.more_room _ (λ e. zip_next c.args.aggregators.now (RunsToRest (mux_rows false))
+    (mux_stays false) c.args.system_ports.now c.run_mux_not_ready.new.system_ports c.run_mux_not_ready.ensures (OnFalse_at e c.requires.next))
 
 pub returns : goal.returns
 returns c = λ base ek es.

@@ -13,13 +13,11 @@ loop-port-preserved c = record {
         mac = [];
         key = record { 0 = 0 };
         aggregatable = false;
-        active =
-            false;
+        active = false;
         short = false;
       } in
       let within : i < length ports = omega arith in
-      rw (take_more ports i d within, c.in_ok-push.ensures.items)
-      (each-push (HasJustStarted c.args.system) (take i ports) c.loop-port.system_ports.items (get_or ports i d) c.new.result
-      c.loop-port.invariant.new c.new.ensures);
+      rw (take_more ports i d within, c.in_ok-push.ensures.items) (each-push (HasJustStarted c.args.system)
+      (take i ports) c.loop-port.system_ports.items (get_or ports i d) c.new.result c.loop-port.invariant.new c.new.ensures);
   count = omega (arith, c.in_ok-push.ensures.len);
 }

@@ -10,8 +10,7 @@ loop-place-preserved c =
       mac = [];
       key = record { 0 = 0 };
       aggregatable = false;
-      active =
-          false;
+      active = false;
       short = false;
     } in
     let l = c.loop-place in record {

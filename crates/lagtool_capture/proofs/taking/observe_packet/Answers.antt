@@ -28,7 +28,6 @@ returns-in-None-clause-noticed c = λ l i.
     let p = c.args.packet.now in
     let b = c.args.octets.now in
     let number = c.count-number.ensures.number in
-    follows_none p b l c.count-number.result c.frame_in.result c.args.report.now c.count-number.new.self c.args.noticed.now c.note_time.new.self
-    i number c.frame_in.ensures c.note_time.ensures
-    (observed_none p b c.count-number.result c.frame_in.result c.args.report.now c.count-number.new.self number c.count-number.ensures.counted
-    c.frame_in.ensures c.in-None.is) c.in-None.is
+    follows_none p b l c.count-number.result c.frame_in.result c.args.report.now c.count-number.new.self c.args.noticed.now
+    c.note_time.new.self i number c.frame_in.ensures c.note_time.ensures (observed_none p b c.count-number.result c.frame_in.result
+    c.args.report.now c.count-number.new.self number c.count-number.ensures.counted c.frame_in.ensures c.in-None.is) c.in-None.is

@@ -10,10 +10,9 @@ returns-then-step-rest-clause-steps c =
     let b = c.args.octets.now in
     let n = c.loop-count.count in
     let i = c.loop-count.invariant in
-    ends_behind b _ _ _ _ _ _ n c.in-Ok.step.taken
-    (reads_more b (take (length b - n) (drop n b)) c.in-Ok.step c.read.new.self _ _ _ _ _ _ _ _ n (take_rest b n) i.reads c.loop-count-test.true
-    c.in-Ok.ensures.taken c.in-Ok.ensures.ok c.in-Ok.ensures.within c.in_ok-observe_any-in-Ok.ensures.reported c.in_ok-observe_any-in-Ok.ensures.noticed)
-    i.within c.if-step-rest.true
+    ends_behind b _ _ _ _ _ _ n c.in-Ok.step.taken (reads_more b (take (length b - n) (drop n b)) c.in-Ok.step c.read.new.self _ _ _ _ _ _ _ _ n
+    (take_rest b n) i.reads c.loop-count-test.true c.in-Ok.ensures.taken c.in-Ok.ensures.ok
+    c.in-Ok.ensures.within c.in_ok-observe_any-in-Ok.ensures.reported c.in_ok-observe_any-in-Ok.ensures.noticed) i.within c.if-step-rest.true
 
 pub loop-count-preserved : goal.loop-count-preserved
 loop-count-preserved c =

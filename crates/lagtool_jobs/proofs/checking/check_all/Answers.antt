@@ -37,9 +37,8 @@ returns-in_err-write-clause-err g c =
     let t = c.feed.new.self in
     on_fault _ Write c.from_residual-in_err-write.result c.from_residual-in_err-write.ensures.1
     (stops_writing t.to_write (pending t.lines t.faults t.line []) i.told i.to_write c.in_ok-n.ensures.ok
-    (omega (arith, bound, c.read.auto.piece, length-take-le c.in_ok-n.n c.read.new.piece bound))
-    (ap (unwritten s) (sym (append-nil (take c.in_ok-n.n c.read.new.piece))) ∙ c.in_ok-feed.ensures.reads.report [])
-    c.in_err-write.ensures.err.written)
+    (omega (arith, bound, c.read.auto.piece, length-take-le c.in_ok-n.n c.read.new.piece bound)) (ap (unwritten s)
+    (sym (append-nil (take c.in_ok-n.n c.read.new.piece))) ∙ c.in_ok-feed.ensures.reads.report []) c.in_err-write.ensures.err.written)
 
 pub returns-in_err-summary-clause-err : goal.returns-in_err-summary-clause-err
 returns-in_err-summary-clause-err g c =
@@ -53,9 +52,8 @@ returns-in_err-write-2-clause-err g c =
     let i = c.loop-scan.invariant in
     let bound = c.in_ok-n.ensures.bound in
     let to_write = c.finish.new.self.to_write in
-    on_fault _ Write c.from_residual-in_err-write-2.result c.from_residual-in_err-write-2.ensures.1
-    (stops_writing to_write [] i.told i.to_write c.in_ok-n.ensures.ok
-    (omega (arith, bound, c.read.auto.piece, length-take-le c.in_ok-n.n c.read.new.piece bound))
+    on_fault _ Write c.from_residual-in_err-write-2.result c.from_residual-in_err-write-2.ensures.1 (stops_writing to_write
+    [] i.told i.to_write c.in_ok-n.ensures.ok (omega (arith, bound, c.read.auto.piece, length-take-le c.in_ok-n.n c.read.new.piece bound))
     (ap (λ k. unwritten c.loop-scan.scan (take k c.read.new.piece)) c.if-n-eq0.true ∙ sym c.in_ok-summary.ensures.to_write
     ∙ sym (append-nil to_write)) c.in_err-write-2.ensures.err.written)
 

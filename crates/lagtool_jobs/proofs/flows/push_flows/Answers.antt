@@ -17,8 +17,7 @@ loop-place-preserved g c =
           (range_more (aggregator_flows_text j s n) 1 i (i + 1) (i + 1) (omega arith) refl)
       | else-index w ↦ (
           let inside : i + 1 < length offers = omega (arith, c.in_ok-offers.ensures.length, c.loop-place-test.true) in
-          let off = unset offers c.from.result (i + 1) c.index.result.now (omega (arith, c.from.ensures)) inside
-          c.index.ensures w.if-index.false in
-          row_skipped _ _ _ j s n i c.loop-place.invariant (ap string_bytes w.text-is)
-          (c.requires s (i + 1) (sym (c.in_ok-offers.ensures.flags (i + 1) inside) ∙ off)))
+          let off = unset offers c.from.result (i + 1) c.index.result.now (omega (arith, c.from.ensures)) inside c.index.ensures w.if-index.false in
+          row_skipped _ _ _ j s n i c.loop-place.invariant
+          (ap string_bytes w.text-is) (c.requires s (i + 1) (sym (c.in_ok-offers.ensures.flags (i + 1) inside) ∙ off)))
     ]

@@ -8,9 +8,8 @@ use Rattle.lagtool_jobs.proofs.StartLemmas.{first_lines_are, reported_is}
 use Rattle.lagtool_jobs.proofs.replaying.report_of_script.Goals as goal
 
 pub make_world-requires-clause-lines : goal.make_world-requires-clause-lines
-make_world-requires-clause-lines g c =
-    lines_there c.args.config.cables.items c.in-Ok.lines.items (map (empty_link (0, 0)) c.args.limits.now) c.in-Ok.ensures.ok
-    (length-map c.args.limits.now (empty_link (0, 0)) ∙ c.requires.one_each)
+make_world-requires-clause-lines g c = lines_there c.args.config.cables.items c.in-Ok.lines.items
+    (map (empty_link (0, 0)) c.args.limits.now) c.in-Ok.ensures.ok (length-map c.args.limits.now (empty_link (0, 0)) ∙ c.requires.one_each)
     (first_bare c.args.limits.now)
 
 pub run_events-requires-clause-one : goal.run_events-requires-clause-one
@@ -63,7 +62,6 @@ returns-clause-ok g c =
         runs = rw (c.in-Ok-make_world.ensures.algorithm_one, c.in-Ok-make_world.ensures.algorithm_two) at c.in-Ok-run_events.ensures.ran;
         sound = c.in-Ok-run_events.ensures.sound;
       };
-      says = c.in_ok-report_of.ensures
-          ∙ ap (λ (xs : List Reply). replay_report_with_counts counts.0 counts.1 es xs new) c.deref.ensures.value
+      says = c.in_ok-report_of.ensures ∙ ap (λ (xs : List Reply). replay_report_with_counts counts.0 counts.1 es xs new) c.deref.ensures.value
           ∙ reported_is counts.0 counts.1 c.args.config.systems es rs new c.both_counts-counts.ensures;
     }

@@ -6,14 +6,11 @@ pub returns-in_ok-reserve_at-in-Some-clause-ok : goal.returns-in_ok-reserve_at-i
 returns-in_ok-reserve_at-in-Some-clause-ok g c =
     let s = model_side c.args.side in
     subst (λ o. IsReservedAt g.C.Cable.reserved s o c.reserve_at.new.links.items)
-    (sym (ap (link_index s c.args.port) c.reserve_at.ensures.same
-    ∙ place_seen (link_state g.C.Cable.items g.C.Cable.limit) (λ l. port_at s l == c.args.port) c.args.links.now.items
-    ∙ sym c.in-Some.ensures.index))
-    c.in_ok-reserve_at-in-Some.ensures.ok
+    (sym (ap (link_index s c.args.port) c.reserve_at.ensures.same ∙ place_seen (link_state g.C.Cable.items g.C.Cable.limit)
+    (λ l. port_at s l == c.args.port) c.args.links.now.items ∙ sym c.in-Some.ensures.index)) c.in_ok-reserve_at-in-Some.ensures.ok
 
 pub returns-in-None-clause-ok : goal.returns-in-None-clause-ok
 returns-in-None-clause-ok g c =
     let s = model_side c.args.side in
-    subst (λ o. IsReservedAt g.C.Cable.reserved s o c.args.links.now.items)
-    (sym (place_seen (link_state g.C.Cable.items g.C.Cable.limit) (λ l. port_at s l == c.args.port) c.args.links.now.items
-    ∙ sym c.in-None.ensures.index)) tt
+    subst (λ o. IsReservedAt g.C.Cable.reserved s o c.args.links.now.items) (sym (place_seen
+    (link_state g.C.Cable.items g.C.Cable.limit) (λ l. port_at s l == c.args.port) c.args.links.now.items ∙ sym c.in-None.ensures.index)) tt

@@ -8,16 +8,14 @@ record_sent_in-requires c =
     c.in-Some.ensures.there.0 c.from.ensures (omega (arith, c.in-Some.ensures.there.1)) c.index_mut-conversations.ensures.value c.requires
 
 pub returns-in-Some-clause-serial : goal.returns-in-Some-clause-serial
-returns-in-Some-clause-serial c =
-    c.record_sent_in.ensures.serial ∙ ap (λ o. length (sent_in o))
+returns-in-Some-clause-serial c = c.record_sent_in.ensures.serial ∙ ap (λ o. length (sent_in o))
     (row_read c.args.flows.now.items c.args.agg.0 c.in-Some.index c.from.result c.args.conv c.index_mut-conversations.result.now
     c.in-Some.ensures.there.0 c.from.ensures (omega (arith, c.in-Some.ensures.there.1)) c.index_mut-conversations.ensures.value)
 
 pub returns-in-Some-clause-sent : goal.returns-in-Some-clause-sent
-returns-in-Some-clause-sent c =
-    row_set with_sent c.args.flows.now.items c.args.agg.0 c.in-Some.index c.from.result c.args.conv c.index_mut-conversations.result.now
-    c.record_sent_in.new.conversations c.in-Some.ensures.there.0 c.from.ensures (omega (arith, c.in-Some.ensures.there.1))
-    c.index_mut-conversations.ensures.value c.record_sent_in.ensures.sent
+returns-in-Some-clause-sent c = row_set with_sent c.args.flows.now.items c.args.agg.0 c.in-Some.index
+    c.from.result c.args.conv c.index_mut-conversations.result.now c.record_sent_in.new.conversations c.in-Some.ensures.there.0 c.from.ensures
+    (omega (arith, c.in-Some.ensures.there.1)) c.index_mut-conversations.ensures.value c.record_sent_in.ensures.sent
 
 pub returns-in-None-clause-serial : goal.returns-in-None-clause-serial
 returns-in-None-clause-serial c =

@@ -7,6 +7,5 @@ returns-clause-same c = same_at flow_value c.args.conversations.now.items c.args
     c.index_mut-flow.ensures.value c.reserve_sent.ensures.same
 
 pub returns-clause-ok : goal.returns-clause-ok
-returns-clause-ok c = ok_weaker c.reserve_sent.result
-    (written_there (λ (f : Flow). vec_len f.sent < vec_capacity f.sent) c.args.conversations.now.items c.args.conv c.reserve_sent.new.self)
-    c.reserve_sent.ensures.ok
+returns-clause-ok c = ok_weaker c.reserve_sent.result (written_there (λ (f : Flow). vec_len f.sent < vec_capacity f.sent)
+    c.args.conversations.now.items c.args.conv c.reserve_sent.new.self) c.reserve_sent.ensures.ok

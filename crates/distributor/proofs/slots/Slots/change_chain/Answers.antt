@@ -101,7 +101,6 @@ returns-clause-states c = walk_ends c.loop-at.invariant.walking c.loop-at-test.f
 pub returns-clause-flagged : goal.returns-clause-flagged
 returns-clause-flagged c =
     let i = c.loop-at.invariant in
-    rw (i.wanted, i.flushing)
-    (change_flagged c.args.change c.args.chain c.args.self.now.states.items c.loop-at.self.states.items c.args.self.now.may_want.items
-    c.args.self.now.may_flush.items c.loop-at.wanted c.loop-at.flushing c.requires.below c.requires.flagged
+    rw (i.wanted, i.flushing) (change_flagged c.args.change c.args.chain c.args.self.now.states.items c.loop-at.self.states.items
+    c.args.self.now.may_want.items c.args.self.now.may_flush.items c.loop-at.wanted c.loop-at.flushing c.requires.below c.requires.flagged
     (walk_all i.walking c.loop-at-test.false) (walk_found i.walking c.loop-at-test.false))

@@ -26,21 +26,14 @@ index-at-requires-in-loop-at c =
 pub overflow_add-count : goal.overflow_add-count
 overflow_add-count c =
     let i = c.loop-at.invariant in
-    omega (
-      arith,
-      counting_few i,
-      i.standing.chained.few,
-      c.from-count.ensures ∙ bool_bit c.passes-passes.result,
-      bit_few c.passes-passes.result,
-    )
+    omega (arith, counting_few i, i.standing.chained.few, c.from-count.ensures ∙ bool_bit c.passes-passes.result, bit_few c.passes-passes.result)
 
 pub loop-at-preserved : goal.loop-at-preserved
 loop-at-preserved c =
     let i = c.loop-at.invariant in
     let more = c.from-count.ensures ∙ bool_bit c.passes-passes.result in
-    counting_on i c.loop-at-test.true c.passes-passes.result _ _
-    (sym (c.passes-passes.ensures ∙ ap (passes c.args.test) (read_state i.standing c.loop-at-test.true _ c.index.ensures)))
-    (omega (arith, more)) c.index-at-in-loop-at.ensures
+    counting_on i c.loop-at-test.true c.passes-passes.result _ _ (sym (c.passes-passes.ensures
+    ∙ ap (passes c.args.test) (read_state i.standing c.loop-at-test.true _ c.index.ensures))) (omega (arith, more)) c.index-at-in-loop-at.ensures
 
 pub loop-at-smaller : goal.loop-at-smaller
 loop-at-smaller c =

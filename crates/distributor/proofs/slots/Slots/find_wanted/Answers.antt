@@ -4,8 +4,7 @@ use Rattle.distributor.proofs.WalkLemmas.{bit}
 use Rattle.distributor.proofs.slots.Slots.find_wanted.Goals as goal
 
 pub returns-then-not-may_pass-clause-found : goal.returns-then-not-may_pass-clause-found
-returns-then-not-may_pass-clause-found c =
-    ap (nat_lt 0) (none_counted (wants_marker c.args.port) c.args.self.now.states.items c.args.self.now.count
+returns-then-not-may_pass-clause-found c = ap (nat_lt 0) (none_counted (wants_marker c.args.port) c.args.self.now.states.items c.args.self.now.count
     (OnFalse_at c.if-not-may_pass.true c.may_pass.ensures))
 
 pub returns-clause-states : goal.returns-clause-states

@@ -12,17 +12,14 @@ loop-chain-preserved c =
     let i = c.loop-chain.invariant in
     let few : c.loop-chain.chain + 1 ≤ 64 = omega (arith, c.loop-chain-test.true) in
     elim c.if-index.branch [
-      | then-index w ↦
-          rw w.self-is record {
-            chained = w.tick_chain.ensures.chained;
-            flagged = w.tick_chain.ensures.flagged;
-            ticking = tick_walked c.loop-chain.chain c.args.self.now.states.items c.loop-chain.self.states.items _ i.ticking
-                w.tick_chain.ensures.states;
-            count = w.tick_chain.ensures.count ∙ i.count;
-            few = few;
-          }
-      | else-index w ↦
-          (let none = flag_clear _ _ _ _ c.loop-chain-test.true i.flagged.flushing_len c.index.ensures refl w.if-index.false in
+      | then-index w ↦ rw w.self-is record {
+        chained = w.tick_chain.ensures.chained;
+        flagged = w.tick_chain.ensures.flagged;
+        ticking = tick_walked c.loop-chain.chain c.args.self.now.states.items c.loop-chain.self.states.items _ i.ticking w.tick_chain.ensures.states;
+        count = w.tick_chain.ensures.count ∙ i.count;
+        few = few;
+      }
+      | else-index w ↦ (let none = flag_clear _ _ _ _ c.loop-chain-test.true i.flagged.flushing_len c.index.ensures refl w.if-index.false in
           rw w.self-is record {
             chained = i.chained;
             flagged = i.flagged;

@@ -19,9 +19,8 @@ index-at-requires-in-loop-at c =
 pub loop-at-preserved : goal.loop-at-preserved
 loop-at-preserved c =
     let i = c.loop-at.invariant in
-    seeking_on i c.loop-at-test.true c.ticks_until_wanted.result _ _
-    (c.ticks_until_wanted.ensures ∙ ap ticks_until_wanted (read_state i.standing c.loop-at-test.true _ c.index.ensures))
-    c.sooner-soonest.ensures c.index-at-in-loop-at.ensures
+    seeking_on i c.loop-at-test.true c.ticks_until_wanted.result _ _ (c.ticks_until_wanted.ensures
+    ∙ ap ticks_until_wanted (read_state i.standing c.loop-at-test.true _ c.index.ensures)) c.sooner-soonest.ensures c.index-at-in-loop-at.ensures
 
 pub loop-at-smaller : goal.loop-at-smaller
 loop-at-smaller c =

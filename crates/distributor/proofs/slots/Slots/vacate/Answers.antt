@@ -18,8 +18,7 @@ take_from_ring-requires-clause-after c =
     omega (
       arith,
       h.prev_len,
-      on_below _ _ _ _ h (chain_of c.in-Some.field-0) _ at.0
-          (after_on _ _ _ _ h (chain_of c.in-Some.field-0) c.args.slot s.0 s.1 at.0 s.2),
+      on_below _ _ _ _ h (chain_of c.in-Some.field-0) _ at.0 (after_on _ _ _ _ h (chain_of c.in-Some.field-0) c.args.slot s.0 s.1 at.0 s.2),
     )
 
 pub take_from_ring-requires-clause-before : goal.take_from_ring-requires-clause-before
@@ -31,8 +30,7 @@ take_from_ring-requires-clause-before c =
     omega (
       arith,
       h.next_len,
-      on_below _ _ _ _ h (chain_of c.in-Some.field-0) _ at.0
-          (before_on _ _ _ _ h (chain_of c.in-Some.field-0) c.args.slot s.0 s.1 at.0 s.2),
+      on_below _ _ _ _ h (chain_of c.in-Some.field-0) _ at.0 (before_on _ _ _ _ h (chain_of c.in-Some.field-0) c.args.slot s.0 s.1 at.0 s.2),
     )
 
 pub returns-in-Some-clause-chained : goal.returns-in-Some-clause-chained

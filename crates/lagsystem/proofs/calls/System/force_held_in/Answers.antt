@@ -38,7 +38,6 @@ returns-clause-forced g c =
     let gives : ℕ → ℕ → ℕ → Type 0 = λ conv count place. g.F.Fn.post c.args.self.now.algorithm (conv, (count, tt)) place in
     let count : c.conversations-conv-end.result ≡ c.args.self.now.state.conversations = c.conversations-conv-end.ensures
     ∙ ap (λ (v : SystemValue g.row.F.Denot). v.state.conversations) c.self.view_is in
-    let all : c.loop-conv.conv ≡ c.args.self.now.state.conversations =
-    omega (arith, count, c.loop-conv-test.false, c.loop-conv.auto.conv-end) in
-    subst (λ k. ForcesIn gives c.args.port c.args.agg k c.args.self.now.state c.loop-conv.forced c.loop-conv.self.state) all
-    c.loop-conv.invariant.forced
+    let all : c.loop-conv.conv ≡ c.args.self.now.state.conversations = omega (arith, count, c.loop-conv-test.false, c.loop-conv.auto.conv-end) in
+    subst (λ k. ForcesIn gives c.args.port c.args.agg k c.args.self.now.state c.loop-conv.forced c.loop-conv.self.state)
+    all c.loop-conv.invariant.forced

@@ -23,33 +23,29 @@ loop-before-preserved g c =
 pub returns-clause-forced : goal.returns-clause-forced
 returns-clause-forced g c =
     let gives : ℕ → ℕ → ℕ → Type 0 = λ conv count place. g.F.Fn.post c.args.self.now.algorithm (conv, (count, tt)) place in
-    let there : is_some (port_index c.args.port c.self.inside.inner.system_ports.items) ≡ true =
-    rw c.in_ok-port_index.ensures.place refl in
+    let there : is_some (port_index c.args.port c.self.inside.inner.system_ports.items) ≡ true = rw c.in_ok-port_index.ensures.place refl in
     let count : c.count-before-end.result ≡ length c.args.self.now.state.keys = c.count-before-end.ensures.exact
     ∙ ap (λ (v : SystemValue g.row.F.Denot). length v.state.keys) c.self.view_is in
     let all : c.loop-before.before ≡ length c.args.self.now.state.keys =
     omega (arith, count, c.loop-before-test.false, c.loop-before.auto.before-end) in (
       subst (λ (v : SystemValue g.row.F.Denot). is_some (port_index c.args.port v.state.system_ports) ≡ true) c.self.view_is there,
-      subst (λ k. ForcesFirst gives c.args.port k c.args.self.now.state c.loop-before.forced c.loop-before.self.state) all
-          c.loop-before.invariant.forced,
+      subst (λ k. ForcesFirst gives c.args.port k c.args.self.now.state c.loop-before.forced c.loop-before.self.state)
+          all c.loop-before.invariant.forced,
     )
 
 pub returns-clause-frees : goal.returns-clause-frees
-returns-clause-frees g c =
-    frees_held (λ conv count place. g.F.Fn.post c.args.self.now.algorithm (conv, (count, tt)) place) c.args.port c.args.self.now.state
-    c.loop-before.forced c.loop-before.self.state
+returns-clause-frees g c = frees_held (λ conv count place. g.F.Fn.post c.args.self.now.algorithm
+    (conv, (count, tt)) place) c.args.port c.args.self.now.state c.loop-before.forced c.loop-before.self.state
     (subst (λ (v : SystemValue g.row.F.Denot). IsSound v.state) c.self.view_is c.self.invariant) (returns-clause-forced g c)
 
 pub returns-clause-none : goal.returns-clause-none
-returns-clause-none g c =
-    none_is_held (λ conv count place. g.F.Fn.post c.args.self.now.algorithm (conv, (count, tt)) place) c.args.port c.args.self.now.state
-    c.loop-before.forced c.loop-before.self.state
+returns-clause-none g c = none_is_held (λ conv count place. g.F.Fn.post c.args.self.now.algorithm
+    (conv, (count, tt)) place) c.args.port c.args.self.now.state c.loop-before.forced c.loop-before.self.state
     (subst (λ (v : SystemValue g.row.F.Denot). IsSound v.state) c.self.view_is c.self.invariant) (returns-clause-forced g c)
 
 pub returns-clause-counts : goal.returns-clause-counts
-returns-clause-counts g c =
-    counts_held (λ conv count place. g.F.Fn.post c.args.self.now.algorithm (conv, (count, tt)) place) c.args.port c.args.self.now.state
-    c.loop-before.forced c.loop-before.self.state
+returns-clause-counts g c = counts_held (λ conv count place. g.F.Fn.post c.args.self.now.algorithm
+    (conv, (count, tt)) place) c.args.port c.args.self.now.state c.loop-before.forced c.loop-before.self.state
     (subst (λ (v : SystemValue g.row.F.Denot). IsSound v.state) c.self.view_is c.self.invariant) (returns-clause-forced g c)
 
 -- where nothing is held
@@ -57,20 +53,17 @@ returns-clause-counts g c =
 pub returns-then-held-eq0-clause-forced : goal.returns-then-held-eq0-clause-forced
 returns-then-held-eq0-clause-forced g c =
     let gives : ℕ → ℕ → ℕ → Type 0 = λ conv count place. g.F.Fn.post c.args.self.now.algorithm (conv, (count, tt)) place in
-    let there : is_some (port_index c.args.port c.self.inside.inner.system_ports.items) ≡ true =
-    rw c.in_ok-port_index.ensures.place refl in
+    let there : is_some (port_index c.args.port c.self.inside.inner.system_ports.items) ≡ true = rw c.in_ok-port_index.ensures.place refl in
     let none : count_held_on c.args.port (inner_state c.self.inside.inner) ≡ 0 = sym c.held.ensures ∙ c.if-held-eq0.true in
     subst (λ (v : SystemValue g.row.F.Denot). ForcesPort gives c.args.port v.state (Ok 0) v.state) c.self.view_is
     (forces_none gives c.args.port (inner_state c.self.inside.inner) c.self.invariant none there)
 
 pub returns-then-held-eq0-clause-frees : goal.returns-then-held-eq0-clause-frees
-returns-then-held-eq0-clause-frees g c =
-    frees_held (λ conv count place. g.F.Fn.post c.args.self.now.algorithm (conv, (count, tt)) place) c.args.port c.args.self.now.state
-    0 c.args.self.now.state
+returns-then-held-eq0-clause-frees g c = frees_held
+    (λ conv count place. g.F.Fn.post c.args.self.now.algorithm (conv, (count, tt)) place) c.args.port c.args.self.now.state 0 c.args.self.now.state
     (subst (λ (v : SystemValue g.row.F.Denot). IsSound v.state) c.self.view_is c.self.invariant) (returns-then-held-eq0-clause-forced g c)
 
 pub returns-then-held-eq0-clause-none : goal.returns-then-held-eq0-clause-none
-returns-then-held-eq0-clause-none g c =
-    none_is_held (λ conv count place. g.F.Fn.post c.args.self.now.algorithm (conv, (count, tt)) place) c.args.port c.args.self.now.state
-    0 c.args.self.now.state
+returns-then-held-eq0-clause-none g c = none_is_held
+    (λ conv count place. g.F.Fn.post c.args.self.now.algorithm (conv, (count, tt)) place) c.args.port c.args.self.now.state 0 c.args.self.now.state
     (subst (λ (v : SystemValue g.row.F.Denot). IsSound v.state) c.self.view_is c.self.invariant) (returns-then-held-eq0-clause-forced g c)

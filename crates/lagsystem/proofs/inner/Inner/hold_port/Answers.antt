@@ -42,10 +42,9 @@ returns-clause-step g c =
     let news = (with_items v ws).items in
     let acted : PortBecomes (is_held_so c.args.held) (with_held c.args.held) i olds ws =
     OnTrue_at {P = PortBecomes (is_held_so c.args.held) (with_held c.args.held) i olds ws} c.if-not-hold_at.false c.hold_at.ensures.acted in
-    becomes_settled (is_held_so c.args.held) (with_held c.args.held) (port_index c.args.number s.system_ports) i s (with_system_ports s news)
-    _ c.in_ok-place.ensures.place
-    (becomes_made (is_held_so c.args.held) (with_held c.args.held) i s olds ws news c.deref_mut.ensures.value (with_items_is v ws (omega arith)) acted)
-    c.settle.ensures.settled
+    becomes_settled (is_held_so c.args.held) (with_held c.args.held) (port_index c.args.number s.system_ports) i s
+    (with_system_ports s news) _ c.in_ok-place.ensures.place (becomes_made (is_held_so c.args.held)
+    (with_held c.args.held) i s olds ws news c.deref_mut.ensures.value (with_items_is v ws (omega arith)) acted) c.settle.ensures.settled
 
 pub returns-then-not-hold_at-clause-step : goal.returns-then-not-hold_at-clause-step
 returns-then-not-hold_at-clause-step g c =

@@ -29,14 +29,12 @@ returns-clause-made g c =
     let within = subst (λ (l : List Key). length l ≤ 65535) (sym c.deref.ensures.value) (omega (arith, few)) in
     c.in_ok-aggregators.ensures.all within ∙ c.deref.ensures.value in
     let system_ports = c.in_ok-system_ports.system_ports.items in
-    let new : AllZip (HasJustStarted config.system) config.ports.items system_ports =
-    subst (λ (l : List PortConfig). AllZip (HasJustStarted config.system) l system_ports) c.deref-2.ensures.value
-    c.in_ok-system_ports.ensures.new in
+    let new : AllZip (HasJustStarted config.system) config.ports.items system_ports = subst
+    (λ (l : List PortConfig). AllZip (HasJustStarted config.system) l system_ports) c.deref-2.ensures.value c.in_ok-system_ports.ensures.new in
     let t = c.in_ok-distributor.distributor.table in
-    let count = c.aggregator_count.ensures ∙ ap (λ (l : List Key). length l) c.deref-3.ensures.value
-    ∙ ap (λ (l : List Key). length l) (sym keys) in
-    let table : t ≡ first_table (length aggs.keys) config.conversations config.first_marker = c.in_ok-distributor.ensures.table
-    ∙ ap (λ n. first_table n config.conversations config.first_marker) count in
+    let count = c.aggregator_count.ensures ∙ ap (λ (l : List Key). length l) c.deref-3.ensures.value ∙ ap (λ (l : List Key). length l) (sym keys) in
+    let table : t ≡ first_table (length aggs.keys) config.conversations config.first_marker =
+    c.in_ok-distributor.ensures.table ∙ ap (λ n. first_table n config.conversations config.first_marker) count in
     let limit = c.in_ok-aggregators.ensures.limit in
     let last = inner_state c.settle_ports.new.self in
     let settles = started_by config aggs.keys aggs.max_links system_ports t last table c.settle_ports.ensures.settled in

@@ -33,9 +33,8 @@ returns-in-Data-clause-step g c =
     ∙ ap (λ (x : SystemPort). Some x) (sym c.index.ensures) in
     let up : system_port.port.enabled ≡ true = sym c.is_enabled.ensures ∙ c.if-not-is_enabled.false in
     let reply = c.from.result in
-    let gives = c.from.ensures
-    ∙ collected c.collecting.result c.args.octets.now c.collect.result c.in-Data.ensures.kind c.collect.ensures.up
-    c.collect.ensures.not_collecting ∙ ap up_or_dropped c.collecting.ensures in
+    let gives = c.from.ensures ∙ collected c.collecting.result c.args.octets.now c.collect.result
+    c.in-Data.ensures.kind c.collect.ensures.up c.collect.ensures.not_collecting ∙ ap up_or_dropped c.collecting.ensures in
     answered_at (port_index c.args.number s.system_ports) i c.args.octets.now s system_port reply c.in_ok-place.ensures.place there
     (parses_one system_port c.args.octets.now Data_frame (Answered reply) up c.in-Data.ensures.kind (ap Answered gives))
 
@@ -48,6 +47,5 @@ returns-in-Control-clause-step g c =
     ∙ ap (λ (x : SystemPort). Some x) (sym c.index.ensures) in
     let up : system_port.port.enabled ≡ true = sym c.is_enabled.ensures ∙ c.if-not-is_enabled.false in
     let kind = c.in-Control.ensures.kind in
-    control_at (port_index c.args.number s.system_ports) i c.args.octets.now c.in-Control.payload.now s
-    (inner_state c.receive_control.new.self) system_port c.receive_control.result c.in_ok-place.ensures.place there up kind.0 kind.1 kind.2
-    c.receive_control.ensures.received
+    control_at (port_index c.args.number s.system_ports) i c.args.octets.now c.in-Control.payload.now s (inner_state c.receive_control.new.self)
+    system_port c.receive_control.result c.in_ok-place.ensures.place there up kind.0 kind.1 kind.2 c.receive_control.ensures.received

@@ -8,9 +8,8 @@ settle-requires-clause-were g c =
     let v = c.args.self.now.system_ports in
     let ws = c.unselect_down.new.system_ports in
     let news = (with_items v ws).items in
-    let own = limits_made c.args.max_links s c.set_max_links.new.self c.deref_mut.result.now ws news c.set_max_links.ensures
-    c.deref_mut.ensures.value (with_items_is v ws (omega arith))
-    c.unselect_down.ensures in
+    let own = limits_made c.args.max_links s c.set_max_links.new.self c.deref_mut.result.now
+    ws news c.set_max_links.ensures c.deref_mut.ensures.value (with_items_is v ws (omega arith)) c.unselect_down.ensures in
     limits_carried c.args.max_links s _ c.as_slice.result.now c.requires own
     (c.as_slice.ensures.value ∙ c.list_aggregators_in_use.ensures ∙ ap aggregators_in_use c.deref-2.ensures.value)
 

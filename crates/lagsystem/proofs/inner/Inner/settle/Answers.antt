@@ -7,9 +7,8 @@ use Rattle.lagsystem.proofs.TableLemmas.{table_taken}
 use Rattle.lagsystem.proofs.inner.Inner.settle.Goals as goal
 
 pub settle_ports-requires-clause-next : goal.settle_ports-requires-clause-next
-settle_ports-requires-clause-next g c =
-    subst (λ (l : List SystemPort). OnFalse c.args.more_room (NextOnlyIfUnselected c.args.self.now.aggregators l)) (sym c.deref_mut.ensures.value)
-    c.requires.next
+settle_ports-requires-clause-next g c = subst (λ (l : List SystemPort). OnFalse c.args.more_room
+    (NextOnlyIfUnselected c.args.self.now.aggregators l)) (sym c.deref_mut.ensures.value) c.requires.next
 
 pub hold_conversations-requires : goal.hold_conversations-requires
 hold_conversations-requires g c =
@@ -34,8 +33,7 @@ returns-clause-settled g c =
     (c.settle_ports.ensures start refl (sym c.deref_mut.ensures.value)) in
     let t = c.hold_conversations.new.distributor.table in
     let new = record mid { first_marker = t.first; conversations = t.conversations; table = t } in
-    let changes = subst (λ (l : List SystemPort). ChangesAssignments mid.table t (after_holding (stopped c.args.before.now l)))
-    c.deref.ensures.value c.hold_conversations.ensures.changed in
-    settling_joined start mid new settles
-    (leaves_made c.args.before.now start mid new c.requires.were (ports_keep start mid settles).same
-    (ports_table start mid settles) changes (table_taken mid t changes.first changes.conversations))
+    let changes = subst (λ (l : List SystemPort). ChangesAssignments mid.table t
+    (after_holding (stopped c.args.before.now l))) c.deref.ensures.value c.hold_conversations.ensures.changed in
+    settling_joined start mid new settles (leaves_made c.args.before.now start mid new c.requires.were
+    (ports_keep start mid settles).same (ports_table start mid settles) changes (table_taken mid t changes.first changes.conversations))

@@ -7,5 +7,4 @@ returns-clause-settled g c =
     let v = c.args.self.now.system_ports in
     let s = inner_state c.args.self.now in
     let ws = c.settle_ports.new.system_ports in
-    settled_made s ws (with_items v ws).items (with_items_is v ws (omega arith))
-    (c.settle_ports.ensures s refl (sym c.deref_mut.ensures.value))
+    settled_made s ws (with_items v ws).items (with_items_is v ws (omega arith)) (c.settle_ports.ensures s refl (sym c.deref_mut.ensures.value))

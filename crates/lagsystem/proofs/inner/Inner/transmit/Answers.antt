@@ -13,8 +13,7 @@ returns-in-Some-clause-step g c =
     let last : SystemPort = record system_port { port = c.transmit.new.self } in
     let news = slice_set olds i last in
     let within = c.in_ok-place.ensures.within in
-    let there : slice_get olds i ≡ Some first = slice_get-get_or olds i first within
-    ∙ ap (λ (x : SystemPort). Some x) (sym c.index.ensures) in
+    let there : slice_get olds i ≡ Some first = slice_get-get_or olds i first within ∙ ap (λ (x : SystemPort). Some x) (sym c.index.ensures) in
     let changed : slice_get olds i ≡ Some system_port = slice_get-get_or olds i system_port within
     ∙ ap (λ (x : SystemPort). Some x) (sym c.index_mut-system_port.ensures.value) in
     let up : first.port.enabled ≡ true = sym c.is_enabled.ensures ∙ c.if-not-is_enabled.false in
@@ -22,13 +21,12 @@ returns-in-Some-clause-step g c =
       system_port,
       c.transmit.new.self,
       changed,
-      lacpdu_sent s.max_delay system_port c.transmit.result c.in-Some.pdu c.encode.result c.control_frame.result c.transmit.new.self
-          c.transmit.ensures.pdu c.transmit.ensures.state c.in-Some.is c.control_frame.ensures.address c.encode.ensures
-          c.control_frame.ensures.octets,
+      lacpdu_sent s.max_delay system_port c.transmit.result c.in-Some.pdu c.encode.result c.control_frame.result
+          c.transmit.new.self c.transmit.ensures.pdu c.transmit.ensures.state c.in-Some.is
+          c.control_frame.ensures.address c.encode.ensures c.control_frame.ensures.octets,
       refl,
     ) in
-    sends_lacpdu s (port_index c.args.number olds) i first c.control_frame.result olds news news c.in_ok-place.ensures.place there up refl refl
-    sent
+    sends_lacpdu s (port_index c.args.number olds) i first c.control_frame.result olds news news c.in_ok-place.ensures.place there up refl refl sent
 
 pub returns-clause-step : goal.returns-clause-step
 returns-clause-step g c =

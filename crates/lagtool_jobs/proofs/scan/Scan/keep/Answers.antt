@@ -10,12 +10,10 @@ returns-clause-reads c =
       lines = i.lines;
       faults = i.faults;
       line = c.extend_from_slice.new.self.items;
-      to_write =
-          string_bytes i.report;
+      to_write = string_bytes i.report;
     } in
     let xs = c.args.octets.now in
     let n = c.min-kept.result in
     on_ok c.extend_from_slice.result (λ ok. subst (λ v. ReadsOctets v t xs) c.self.view_is
-    (keeps s t xs n refl refl refl (c.extend_from_slice.ensures.items ∙ ap (λ b. cond b (i.line.items ++ take n xs) i.line.items) ok)
-    c.requires (omega (arith, c.self.invariant, i.line.ok.0))
-    (omega (arith, c.min-kept.ensures, c.len.ensures, i.line.ok.0, c.self.invariant))))
+    (keeps s t xs n refl refl refl (c.extend_from_slice.ensures.items ∙ ap (λ b. cond b (i.line.items ++ take n xs) i.line.items) ok) c.requires
+    (omega (arith, c.self.invariant, i.line.ok.0)) (omega (arith, c.min-kept.ensures, c.len.ensures, i.line.ok.0, c.self.invariant))))

@@ -8,10 +8,9 @@ pub loop-done-preserved : goal.loop-done-preserved
 loop-done-preserved g c = record {
   within = omega arith;
   ticks = one_tick (gives_of g.F.Fn.post c.args.self.now.system.algorithm) c.loop-done.done
-      (half_state c.args.self.now) (half_state c.loop-done.self) _ c.loop-done.invariant.ticks
-      (record {
-        answers = subst (λ f. CallPromise (gives_of g.F.Fn.post f) c.loop-done.self.system.state Tick
-            answer.Tick c.tick.new.self.state) c.loop-done.invariant.algorithm c.tick.ensures.answers;
+      (half_state c.args.self.now) (half_state c.loop-done.self) _ c.loop-done.invariant.ticks (record {
+        answers = subst (λ f. CallPromise (gives_of g.F.Fn.post f) c.loop-done.self.system.state Tick answer.Tick c.tick.new.self.state)
+            c.loop-done.invariant.algorithm c.tick.ensures.answers;
         same = refl;
       });
   algorithm = c.tick.ensures.algorithm ∙ c.loop-done.invariant.algorithm;

@@ -15,10 +15,8 @@ returns-clause-delivers g c =
     let lacpdu = world_state items limit c.receive_first.new.self in
     let comes = rw (c.in_ok-bytes.ensures.algorithm_one, c.in_ok-bytes.ensures.algorithm_two) at c.in-Some-receive_first.ensures.received in
     let kept = ap (λ (ls : Vec (Cabled g.row.C.Denot)). link_states items limit ls.items) c.in-Some-receive_first.ensures.links in
-    subst (λ s. WorldDelivers gives s c.args.cable old c.conclude.result (world_state items limit c.conclude.new.self))
-    c.side_numbered-side.ensures
+    subst (λ s. WorldDelivers gives s c.args.cable old c.conclude.result (world_state items limit c.conclude.new.self)) c.side_numbered-side.ensures
     (deliver_does gives side c.args.cable c.link_index_of-index.result c.in-Some.head c.in-Some-receive_first.answer
     (λ (l : LinkState). option_map item_value c.pop_first_at.result ≡ slice_get (towards side l) 0)
-    (link_states items limit c.pop_first_at.new.links.items) old ready lacpdu c.conclude.result _
-    c.link_index_of-index.ensures.at c.in_ok-bytes.ensures.same kept c.in-Some.ensures comes c.pop_first_at.ensures.taken
-    c.conclude.ensures.concludes)
+    (link_states items limit c.pop_first_at.new.links.items) old ready lacpdu c.conclude.result _ c.link_index_of-index.ensures.at
+    c.in_ok-bytes.ensures.same kept c.in-Some.ensures comes c.pop_first_at.ensures.taken c.conclude.ensures.concludes)

@@ -19,15 +19,13 @@ returns-in-Ok-None-clause-emits g c =
     mid mid reply.Nothing (c.in-Ok-None.is ∙ ap Ok c.in-Ok-None.field-0-is) c.transmit.ensures.transmits (refl, refl)
 
 pub returns-in-Ok-Some-clause-emits : goal.returns-in-Ok-Some-clause-emits
-returns-in-Ok-Some-clause-emits g c =
-    emits_of (algorithms_of g.F.Fn.post c.args.self.now.one.system.algorithm c.args.self.now.two.system.algorithm)
-    (model_side c.args.side) c.args.port c.transmit.result (Ok (Some c.in-Ok-Some.frame))
-    (world_state g.C.Cable.items g.C.Cable.limit c.args.self.now)
-    (world_state g.C.Cable.items g.C.Cable.limit c.transmit.new.self) (world_state g.C.Cable.items g.C.Cable.limit c.send.new.self)
-    c.send.result (c.in-Ok-Some.is ∙ ap Ok c.in-Ok-Some.field-0-is) c.transmit.ensures.transmits c.send.ensures.emitted
+returns-in-Ok-Some-clause-emits g c = emits_of (algorithms_of g.F.Fn.post c.args.self.now.one.system.algorithm c.args.self.now.two.system.algorithm)
+    (model_side c.args.side) c.args.port c.transmit.result
+    (Ok (Some c.in-Ok-Some.frame)) (world_state g.C.Cable.items g.C.Cable.limit c.args.self.now)
+    (world_state g.C.Cable.items g.C.Cable.limit c.transmit.new.self) (world_state g.C.Cable.items g.C.Cable.limit c.send.new.self) c.send.result
+    (c.in-Ok-Some.is ∙ ap Ok c.in-Ok-Some.field-0-is) c.transmit.ensures.transmits c.send.ensures.emitted
 
 pub send-requires-clause-sent : goal.send-requires-clause-sent
-send-requires-clause-sent g c =
-    frame_of (algorithms_of g.F.Fn.post c.args.self.now.one.system.algorithm c.args.self.now.two.system.algorithm)
+send-requires-clause-sent g c = frame_of (algorithms_of g.F.Fn.post c.args.self.now.one.system.algorithm c.args.self.now.two.system.algorithm)
     (model_side c.args.side) c.args.port c.transmit.result c.in-Ok-Some.frame (world_state g.C.Cable.items g.C.Cable.limit c.args.self.now)
     (world_state g.C.Cable.items g.C.Cable.limit c.transmit.new.self) (c.in-Ok-Some.is ∙ ap Ok c.in-Ok-Some.field-0-is) c.transmit.ensures.transmits

@@ -13,8 +13,7 @@ returns-in-Err-clause-offers g c =
     (rw c.as_slice.ensures.value at c.ask_offer.ensures.assigns) (refl, refl)
 
 pub returns-in-Ok-clause-offers : goal.returns-in-Ok-clause-offers
-returns-in-Ok-clause-offers g c =
-    offers_of (algorithms_of g.F.Fn.post c.args.self.now.one.system.algorithm c.args.self.now.two.system.algorithm)
+returns-in-Ok-clause-offers g c = offers_of (algorithms_of g.F.Fn.post c.args.self.now.one.system.algorithm c.args.self.now.two.system.algorithm)
     (model_side c.args.side) c.args.agg c.args.octets.items c.ask_offer.result (Ok c.in-Ok.port)
     (world_state g.C.Cable.items g.C.Cable.limit c.args.self.now) (world_state g.C.Cable.items g.C.Cable.limit c.ask_offer.new.self)
     (world_state g.C.Cable.items g.C.Cable.limit c.send_offered.new.self) c.send_offered.result c.in-Ok.is

@@ -12,13 +12,11 @@ pub returns-in-Err-clause-carries : goal.returns-in-Err-clause-carries
 returns-in-Err-clause-carries g c = carries_of c.args.self.now.state c.alloc-alloc.ensures
 
 pub step-requires-clause-one : goal.step-requires-clause-one
-step-requires-clause-one g c =
-    subst (λ f. PicksIndexes (λ conv count. g.F.Fn.pre f (conv, (count, tt))) (gives_of g.F.Fn.post f))
+step-requires-clause-one g c = subst (λ f. PicksIndexes (λ conv count. g.F.Fn.pre f (conv, (count, tt))) (gives_of g.F.Fn.post f))
     (sym c.loop-done.invariant.one) c.requires.one
 
 pub step-requires-clause-two : goal.step-requires-clause-two
-step-requires-clause-two g c =
-    subst (λ f. PicksIndexes (λ conv count. g.F.Fn.pre f (conv, (count, tt))) (gives_of g.F.Fn.post f))
+step-requires-clause-two g c = subst (λ f. PicksIndexes (λ conv count. g.F.Fn.pre f (conv, (count, tt))) (gives_of g.F.Fn.post f))
     (sym c.loop-done.invariant.two) c.requires.two
 
 pub returns-in-Err-step-clause-stopped : goal.returns-in-Err-step-clause-stopped
@@ -59,21 +57,19 @@ loop-done-preserved g c =
     let e = c.index-events-done.result in
     let r = c.in-Ok-step.reply in
     let steps_one = subst
-    (λ f. WorldSteps (algorithms_of g.F.Fn.post f c.loop-done.self.two) mid e r new) c.loop-done.invariant.one
-    c.in-Ok-step.ensures.steps in
-    let steps_two = subst
-    (λ f. WorldSteps (algorithms_of g.F.Fn.post c.args.self.now.one f) mid e r new) c.loop-done.invariant.two steps_one in
+    (λ f. WorldSteps (algorithms_of g.F.Fn.post f c.loop-done.self.two) mid e r new) c.loop-done.invariant.one c.in-Ok-step.ensures.steps in
+    let steps_two = subst (λ f. WorldSteps (algorithms_of g.F.Fn.post c.args.self.now.one f) mid e r new) c.loop-done.invariant.two steps_one in
     let gives : Algorithms = algorithms_of g.F.Fn.post c.args.self.now.one c.args.self.now.two in
-    let happens = subst (λ x. Happens x (model_event e) (model_world mid) (model_world new)) c.loop-done.invariant.fixed
-    c.in-Ok-step.ensures.happens in
+    let happens =
+    subst (λ x. Happens x (model_event e) (model_world mid) (model_world new)) c.loop-done.invariant.fixed c.in-Ok-step.ensures.happens in
     record {
       within = omega arith;
-      ran = rw c.push_reserved.ensures.items (runs_on gives old mid new es c.loop-done.replies.items n e r c.loop-done-test.true
-          c.loop-done.invariant.ran (subst (λ (x : Event). WorldSteps gives mid x r new) c.index-events-done.is steps_two));
-      happened = world_on (world_setup old) (model_world old) (model_world mid) (model_world new) es n e c.loop-done-test.true
-          c.loop-done.invariant.happened
-          (subst (λ (x : Event). Happens (world_setup old) (model_event x) (model_world mid) (model_world new))
-          c.index-events-done.is happens);
+      ran = rw c.push_reserved.ensures.items
+          (runs_on gives old mid new es c.loop-done.replies.items n e r c.loop-done-test.true c.loop-done.invariant.ran
+          (subst (λ (x : Event). WorldSteps gives mid x r new) c.index-events-done.is steps_two));
+      happened = world_on
+          (world_setup old) (model_world old) (model_world mid) (model_world new) es n e c.loop-done-test.true c.loop-done.invariant.happened
+          (subst (λ (x : Event). Happens (world_setup old) (model_event x) (model_world mid) (model_world new)) c.index-events-done.is happens);
       fixed = c.step.ensures.fixed ∙ c.loop-done.invariant.fixed;
       sound = c.step.ensures.sound;
       one = c.step.ensures.algorithm_one ∙ c.loop-done.invariant.one;

@@ -7,8 +7,7 @@ returns-in-Some-clause-after g c =
     put_refuses _ _ _ _ _ _ _ _ _ _ c.self.view_is (sym c.refusal.ensures ∙ c.in-Some.is) c.saturating_add-self-inside.ensures
 
 pub returns-clause-after : goal.returns-clause-after
-returns-clause-after g c =
-    put_waits _ _ _ _ _ _ _ _ _ _ c.self.view_is c.from.ensures (sym c.refusal.ensures ∙ c.in_default.is) c.put_behind.ensures
+returns-clause-after g c = put_waits _ _ _ _ _ _ _ _ _ _ c.self.view_is c.from.ensures (sym c.refusal.ensures ∙ c.in_default.is) c.put_behind.ensures
 
 pub invariant_of-self-2 : goal.invariant_of-self-2
 invariant_of-self-2 g c =
