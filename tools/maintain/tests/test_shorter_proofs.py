@@ -53,3 +53,19 @@ def test_a_lemma_goes_with_its_comment() -> None:
     rows = PROOFS.without({PROOFS.lemmas[1]}, {("Rattle.std.proofs.Common", "trans")})
     text = TEXT[: TEXT.index("-- a chain")] + TEXT[TEXT.index("same :") :]
     assert "\n".join(line for line, _ in rows) == text.replace("{arith, trans}", "{arith}")
+
+
+def test_open_goals_are_named_by_their_file() -> None:
+    said = """note: `returns` of proofs/a/f/Answers.antt must prove: x
+help: write ./proofs/a/g/Answers.antt with these lines, and check again: each hole's goal is what is left to show there
+    use Rattle.a.proofs.a.g.Goals as goal
+
+    pub loop-n-preserved-clause-whole : goal.loop-n-preserved-clause-whole
+fn a::h: not proved
+"""
+    found = tool.open_goals(said)
+    assert {str(path): names for path, names in found.items()} == {
+        "proofs/a/f/Answers.antt": {"returns"},
+        "proofs/a/g/Answers.antt": {"loop-n-preserved-clause-whole"},
+    }
+    assert tool.is_part("loop-n-preserved", "loop-n-preserved-clause-whole") and not tool.is_part("returns-2", "returns-22")
