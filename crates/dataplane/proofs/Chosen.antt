@@ -21,12 +21,11 @@ ends_alike s t (Some g) (Some h) x a b = (
   elim (same_or_not there.0 h) [
     | inl e ↦ subst (λ z. rank_in None t z ≡ Some (renumbered r z)) e there.2
     | inr apart ↦ elim (same_or_not back.0 g) [
-      | inl e ↦ (let one : r ≡ renumbered q g = same_Some r (renumbered q g) (sym a.2
-          ∙ subst (λ z. rank_in None s z ≡ Some (renumbered q z)) e back.2) in
+      | inl e ↦
+          (let one : r ≡ renumbered q g = same_Some r (renumbered q g) (sym a.2 ∙ subst (λ z. rank_in None s z ≡ Some (renumbered q z)) e back.2) in
           b.2 ∙ ap (λ (z : Rank). Some z) (numbered ∙ sym (ap (λ (z : Rank). renumbered z h) one)))
-      | inr other ↦ b.2 ∙ ap (λ (z : Rank). Some z) (alike r q (renumbered r there.0) (renumbered q back.0) refl refl
-          (b.3 there.0 (renumbered r there.0) there.1 apart there.2) (a.3 back.0 (renumbered q back.0) back.1 other back.2)
-          ∙ ap (λ z. renumbered r z) named)
+      | inr other ↦ b.2 ∙ ap (λ (z : Rank). Some z) (alike r q (renumbered r there.0) (renumbered q back.0) refl refl (b.3 there.0
+          (renumbered r there.0) there.1 apart there.2) (a.3 back.0 (renumbered q back.0) back.1 other back.2) ∙ ap (λ z. renumbered r z) named)
     ]
   ],
 )

@@ -101,14 +101,13 @@ total_all = then_total (on_total (λ (r : Rank). r.on_defaults) bool_cmp_total) 
 -- ranks of which each comes before the other, but for its number, are equal but for their numbers
 pub alike : (r q p n : Rank) → p ≡ record r { agg = p.agg } → n ≡ record q { agg = n.agg } → is_before q p ≡ true → is_before r n ≡ true
     → q ≡ record r { agg = q.agg }
-alike r q p n ep en a b =
-    λ i. record {
-      on_defaults = sym (exact_flags r.on_defaults q.on_defaults flag) i;
-      ports = record { 0 = exact_unsigned q.ports.0 r.ports.0 ports i };
-      is_other = sym (exact_flags r.is_other q.is_other other) i;
-      group = sym (exact_groups r.group q.group group) i;
-      agg = q.agg;
-    }
+alike r q p n ep en a b = λ i. record {
+  on_defaults = sym (exact_flags r.on_defaults q.on_defaults flag) i;
+  ports = record { 0 = exact_unsigned q.ports.0 r.ports.0 ports i };
+  is_other = sym (exact_flags r.is_other q.is_other other) i;
+  group = sym (exact_groups r.group q.group group) i;
+  agg = q.agg;
+}
   where
     forth : is_lt (ordering_then (by_all q r) (by_number q p)) ≡ true
     forth = ap is_lt (sym (regrouped (by_flag q r) (by_ports q r) (by_other q r) (by_group q r) (by_number q p)))

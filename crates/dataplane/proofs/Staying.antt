@@ -73,8 +73,7 @@ sent u call old new p g k x e i = λ a b j fa fb. by_number a b j fa fb (cases_B
     by_number : (a b j : ℕ) → new.flows.state a j ≢ Free → new.flows.state b j ≢ Free → (eqb k j ≡ true) ⊎ (eqb k j ≡ false) → a ≡ b
     by_number a b j fa fb (inl t) =
         let same : k ≡ j = eqb-true k j t in
-        in_g a (subst (λ l. new.flows.state a l ≢ Free) (sym same) fa)
-        ∙ sym (in_g b (subst (λ l. new.flows.state b l ≢ Free) (sym same) fb))
+        in_g a (subst (λ l. new.flows.state a l ≢ Free) (sym same) fa) ∙ sym (in_g b (subst (λ l. new.flows.state b l ≢ Free) (sym same) fb))
     by_number a b j fa fb (inr n) =
         let apart : k ≢ j = eqb-false k j n in
         i a b j (another a j (λ z. apart z.1) fa) (another b j (λ z. apart z.1) fb)

@@ -238,19 +238,15 @@ module _ (gives : ℕ → ℕ → ℕ → Type 0) (config : Config) (saved : Lis
   own_party : (p : ℕ) → party_at (model_view s) p ≡ (model_setup s).party p
   own_party p = by_config (find_number configured_number s.ports p) refl
     where
-      by_config : (o : Option PortConfig) → find_number configured_number s.ports p ≡ o
-          → party_at (model_view s) p ≡ (model_setup s).party p
+      by_config : (o : Option PortConfig) → find_number configured_number s.ports p ≡ o → party_at (model_view s) p ≡ (model_setup s).party p
       by_config None e =
           let none = ap (option_map (configured_party s.system)) e in
-          ap (option_map (λ (a : PortFacts). a.party))
-          (none_there ((model_view s).port p) (sound.members.configured p ∙ ap is_some none))
+          ap (option_map (λ (a : PortFacts). a.party)) (none_there ((model_view s).port p) (sound.members.configured p ∙ ap is_some none))
           ∙ sym none
       by_config (Some c) e =
           let l = left_of p c e in
-          party_seen s p
-          ∙ (ap (option_map (λ (x : Machines). x.party)) l.there
-          ∙ (ap (λ (x : Party). Some x) (l.party ∙ ap (λ y. configured_party y c) (sym own_system))
-          ∙ sym (ap (option_map (configured_party s.system)) e)))
+          party_seen s p ∙ (ap (option_map (λ (x : Machines). x.party)) l.there ∙ (ap (λ (x : Party). Some x)
+          (l.party ∙ ap (λ y. configured_party y c) (sym own_system)) ∙ sym (ap (option_map (configured_party s.system)) e)))
 
   apart_from : (p : ℕ) (a : PortFacts) → (model_view s).port p ≡ Some a → IsSome a.aggregator → a.partner.system ≢ a.party.system
   apart_from p a e some =

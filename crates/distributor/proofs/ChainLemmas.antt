@@ -213,12 +213,10 @@ module _ (count : ℕ) (states : List Assignment) (next prev : List ℕ) (h : Is
 
     pub out_joined : (d : ℕ) → d < 64 → Path (set next (get_or prev i 0) (get_or next i 0)) (set prev (get_or next i 0) (get_or prev i 0))
         (count + d) (put_chain h.chains c (ys ++ zs) d) (count + d)
-    out_joined d l = chosen (λ xs. Path N P (count + d) xs (count + d)) (eqb c d) _ _
-        (λ e. subst (λ x. Path N P (count + x) (ys ++ zs) (count + x)) (eqb-true c d e)
-        (path_out next prev (count + c) ys i zs ring few (omega (arith, on_below c p lt before_on, h.next_len))
-        (omega (arith, on_below c q lt after_on, h.prev_len))))
-        (λ f. path_kept next prev N P (count + d) (h.chains d) (count + d)
-        (λ k m. get_or-set_other next p k q 0 (off c d p k f before_on m))
+    out_joined d l = chosen (λ xs. Path N P (count + d) xs (count + d))
+        (eqb c d) _ _ (λ e. subst (λ x. Path N P (count + x) (ys ++ zs) (count + x)) (eqb-true c d e) (path_out next prev
+        (count + c) ys i zs ring few (omega (arith, on_below c p lt before_on, h.next_len)) (omega (arith, on_below c q lt after_on, h.prev_len))))
+        (λ f. path_kept next prev N P (count + d) (h.chains d) (count + d) (λ k m. get_or-set_other next p k q 0 (off c d p k f before_on m))
         (λ k m. get_or-set_other prev q k p 0 (off c d q k f after_on m)) (h.joined d l))
       where
         p : ℕ
@@ -240,17 +238,14 @@ module _ (count : ℕ) (states : List Assignment) (next prev : List ℕ) (h : Is
       where
         gone : occurs i (put_chain h.chains c (ys ++ zs) d) ≡ 0
         gone = chosen (λ xs. occurs i xs ≡ 0) (eqb c d) _ _
-            (λ e. omega (arith, few i, one_same i, occurs_append i ys (i ∷ zs), occurs_append i ys zs))
-            (λ f. let no : 0 < occurs i (h.chains d) → ⊥ = λ l. false≢true (sym f
-            ∙ eq-eqb c d (stands_once c d (slot_state states i) (member_stands c i member) (member_stands d i l))) in
+            (λ e. omega (arith, few i, one_same i, occurs_append i ys (i ∷ zs), occurs_append i ys zs)) (λ f. let no : 0 < occurs i (h.chains d)
+            → ⊥ = λ l. false≢true (sym f ∙ eq-eqb c d (stands_once c d (slot_state states i) (member_stands c i member) (member_stands d i l))) in
             omega (arith, no))
 
         same : (k : ℕ) → (k ≡ i → ⊥) → occurs k (put_chain h.chains c (ys ++ zs) d) ≡ occurs k (h.chains d)
-        same k n = chosen (λ xs. occurs k xs ≡ occurs k (h.chains d)) (eqb c d) _ _
-            (λ e. let less : occurs k (ys ++ zs) ≡ occurs k (ys ++ i ∷ zs) =
-            omega (arith, one_other k i n, occurs_append k ys (i ∷ zs), occurs_append k ys zs) in
-            less ∙ ap (occurs k) (sym split) ∙ ap (λ x. occurs k (h.chains x)) (eqb-true c d e))
-            (λ f. refl)
+        same k n = chosen (λ xs. occurs k xs ≡ occurs k (h.chains d)) (eqb c d) _ _ (λ e. let less : occurs k
+            (ys ++ zs) ≡ occurs k (ys ++ i ∷ zs) = omega (arith, one_other k i n, occurs_append k ys (i ∷ zs), occurs_append k ys zs) in
+            less ∙ ap (occurs k) (sym split) ∙ ap (λ x. occurs k (h.chains x)) (eqb-true c d e)) (λ f. refl)
 
     -- the slot is taken out of its chain, and becomes free
     abbrev pub taken_out : (s : Assignment) → ((d : ℕ) → is_in_chain d s ≡ false)
@@ -287,15 +282,12 @@ module _ (count : ℕ) (states : List Assignment) (next prev : List ℕ) (h : Is
 
     pub in_joined : (d : ℕ) → d < 64 → Path (set (set next i (get_or next (count + c) 0)) (count + c) i)
         (set (set prev i (count + c)) (get_or next (count + c) 0) i) (count + d) (put_chain h.chains c (i ∷ h.chains c) d) (count + d)
-    in_joined d l = chosen (λ xs. Path N P (count + d) xs (count + d)) (eqb c d) _ _
-        (λ e. subst (λ x. Path N P (count + x) (i ∷ h.chains c) (count + x)) (eqb-true c d e)
-        (path_in next prev (count + c) i (h.chains c) (h.joined c lt) (few_on c) (nowhere c) (omega (arith, inside, h.next_len))
-        (omega (arith, lt, h.next_len)) (omega (arith, inside, h.prev_len)) (omega (arith, on_below c f lt first_on, h.prev_len))))
-        (λ g. path_kept next prev N P (count + d) (h.chains d) (count + d)
-        (λ k m. get_or-set_other (set next i f) (count + c) k i 0 (off c d (count + c) k g end_on m)
-        ∙ get_or-set_other next i k f 0 (missed d k m))
-        (λ k m. get_or-set_other (set prev i (count + c)) f k i 0 (off c d f k g first_on m)
-        ∙ get_or-set_other prev i k (count + c) 0 (missed d k m)) (h.joined d l))
+    in_joined d l = chosen (λ xs. Path N P (count + d) xs (count + d)) (eqb c d) _ _ (λ e. subst
+        (λ x. Path N P (count + x) (i ∷ h.chains c) (count + x)) (eqb-true c d e) (path_in next prev (count + c) i (h.chains c) (h.joined c lt)
+        (few_on c) (nowhere c) (omega (arith, inside, h.next_len)) (omega (arith, lt, h.next_len)) (omega (arith, inside, h.prev_len)) (omega
+        (arith, on_below c f lt first_on, h.prev_len)))) (λ g. path_kept next prev N P (count + d) (h.chains d) (count + d) (λ k m. get_or-set_other
+        (set next i f) (count + c) k i 0 (off c d (count + c) k g end_on m) ∙ get_or-set_other next i k f 0 (missed d k m)) (λ k m. get_or-set_other
+        (set prev i (count + c)) f k i 0 (off c d f k g first_on m) ∙ get_or-set_other prev i k (count + c) 0 (missed d k m)) (h.joined d l))
       where
         f : ℕ
         f = get_or next (count + c) 0
@@ -316,10 +308,9 @@ module _ (count : ℕ) (states : List Assignment) (next prev : List ℕ) (h : Is
             (λ f. let none : occurs i (h.chains d) ≡ 0 = omega (arith, nowhere d) in none ∙ sym (ap counted f))
 
         same : (k : ℕ) → (k ≡ i → ⊥) → occurs k (put_chain h.chains c (i ∷ h.chains c) d) ≡ occurs k (h.chains d)
-        same k n = chosen (λ xs. occurs k xs ≡ occurs k (h.chains d)) (eqb c d) _ _
-            (λ e. let less : occurs k (i ∷ h.chains c) ≡ occurs k (h.chains c) = omega (arith, one_other k i n) in
-            less ∙ ap (λ x. occurs k (h.chains x)) (eqb-true c d e))
-            (λ f. refl)
+        same k n = chosen (λ xs. occurs k xs ≡ occurs k (h.chains d))
+            (eqb c d) _ _ (λ e. let less : occurs k (i ∷ h.chains c) ≡ occurs k (h.chains c) = omega (arith, one_other k i n) in
+            less ∙ ap (λ x. occurs k (h.chains x)) (eqb-true c d e)) (λ f. refl)
 
     abbrev pub put_in : IsChained count (set states i s) (set (set next i (get_or next (count + c) 0)) (count + c) i)
         (set (set prev i (count + c)) (get_or next (count + c) 0) i)

@@ -58,11 +58,9 @@ released_none chain port n w f none s h = grind arith
 
 pub release_passed : (chain port n : ℕ) (states : List Assignment) (wanted flushing : List Bool) → IsFlagged states wanted flushing
     → get_or flushing chain false ≡ false → states ≡ map (changed_in_chain chain (after_change (Release port n))) states
-release_passed chain port n states wanted flushing h none =
-    ext_get_or (Free None) states (map change states) (sym (length-map states change))
-    (λ k lt. released_none chain port n (get_or wanted chain false) (get_or flushing chain false) none (slot_state states k)
-    (h.flagged chain k)
-    ∙ sym (get_or-map change states k (Free None) (Free None) lt))
+release_passed chain port n states wanted flushing h none = ext_get_or (Free None) states (map change states)
+    (sym (length-map states change)) (λ k lt. released_none chain port n (get_or wanted chain false)
+    (get_or flushing chain false) none (slot_state states k) (h.flagged chain k) ∙ sym (get_or-map change states k (Free None) (Free None) lt))
   where
     change : Assignment → Assignment
     change = changed_in_chain chain (after_change (Release port n))
@@ -83,10 +81,8 @@ no_bit b e = grind arith
 pub marked_passed : (chain port n count : ℕ) (states : List Assignment) → length states ≡ count
     → sum_below (λ k. bit (wants_marker port (slot_state states k))) count ≡ 0
     → map (changed_in_chain chain (after_change (Mark port n))) states ≡ states
-marked_passed chain port n count states long none =
-    sym (ext_get_or (Free None) states (map change states) (sym (length-map states change))
-    (λ k lt. marked_none chain port n (slot_state states k)
-    (no_bit (wants_marker port (slot_state states k))
+marked_passed chain port n count states long none = sym (ext_get_or (Free None) states (map change states)
+    (sym (length-map states change)) (λ k lt. marked_none chain port n (slot_state states k) (no_bit (wants_marker port (slot_state states k))
     (none_below (λ j. bit (wants_marker port (slot_state states j))) count k (omega (arith, lt, long)) none))
     ∙ sym (get_or-map change states k (Free None) (Free None) lt)))
   where

@@ -50,8 +50,7 @@ pub is_moved : (next : Option ℕ) (ports : List ℕ) (to : ℕ) (old new : Assi
     × (model_conversation old ≡ Conversation.On p) × (model_conversation new ≡ Conversation.Wanted p)
 is_moved next ports to (state.On p) new h = (p, refl, checked (is_among ports to) (eqb p to) (is_none next) h)
   where
-    checked : (x y z : Bool)
-        → cond x (cond y (Err DistFault.SamePort) (cond z (Err DistFault.MarkersSpent) (Ok (state.Wanted p (Some to)))))
+    checked : (x y z : Bool) → cond x (cond y (Err DistFault.SamePort) (cond z (Err DistFault.MarkersSpent) (Ok (state.Wanted p (Some to)))))
         (Err DistFault.NotDistributing) ≡ Ok new → model_conversation new ≡ Conversation.Wanted p
     checked false y z e = absurd cc
     checked true true z e = absurd cc
@@ -71,8 +70,7 @@ pub is_left : (next : Option ℕ) (old new : Assignment) → leave_result next o
     × (model_conversation old ≡ Conversation.On p) × (model_conversation new ≡ Conversation.Wanted p)
 is_left next (state.On p) new h = (p, refl, checked (is_none next) h)
   where
-    checked : (z : Bool) → cond z (Err DistFault.MarkersSpent) (Ok (state.Wanted p None)) ≡ Ok new
-        → model_conversation new ≡ Conversation.Wanted p
+    checked : (z : Bool) → cond z (Err DistFault.MarkersSpent) (Ok (state.Wanted p None)) ≡ Ok new → model_conversation new ≡ Conversation.Wanted p
     checked true e = absurd cc
     checked false e = let same : state.Wanted p None ≡ new = cc in ap model_conversation (sym same)
 is_left next s new h = absurd cc

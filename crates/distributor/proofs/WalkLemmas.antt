@@ -275,31 +275,23 @@ module _ {chain : ℕ} {f : Assignment → Assignment} {count : ℕ} {olds state
   walk_on {new} n v left is found' more noted = record {
     standing = v;
     olds_len = w.olds_len;
-    changed = λ k. ⊎_elim
-        (λ (e : k ≡ at). subst (λ x. slot_state (set states at new) x ≡ cond (ltb 0 (occurs x v.rest)) (slot_state olds x)
-        (changed_in_chain chain f (slot_state olds x))) (sym e)
-        (written ∙ is ∙ ap f old_here
-        ∙ sym (ap (λ m. cond (ltb 0 m) (slot_state olds at) (changed_in_chain chain f (slot_state olds at)))
-        (ap (occurs at) left ∙ walk_once w.standing n)
+    changed = λ k. ⊎_elim (λ (e : k ≡ at). subst (λ x. slot_state (set states at new) x ≡ cond
+        (ltb 0 (occurs x v.rest)) (slot_state olds x) (changed_in_chain chain f (slot_state olds x))) (sym e) (written ∙ is ∙ ap f old_here ∙ sym
+        (ap (λ m. cond (ltb 0 m) (slot_state olds at) (changed_in_chain chain f (slot_state olds at))) (ap (occurs at) left ∙ walk_once w.standing n)
         ∙ cond-true (is_in_chain chain (slot_state olds at)) _ _ (ap (is_in_chain chain) (sym old_here) ∙ stands_here w.standing n))))
-        (λ (m : k ≡ at → ⊥). get_or-set_other states at k new (Free None) m ∙ w.changed k
-        ∙ ap (λ x. cond (ltb 0 x) (slot_state olds k) (changed_in_chain chain f (slot_state olds k)))
-        (less_rest w.standing n k m ∙ sym (ap (occurs k) left)))
-        (cases_eq k at);
-    noted = λ k none e. ⊎_elim
-        (λ (m : k ≡ at). ap (λ x. found' (slot_state (set states at new) x)) m ∙ ap found' written ∙ noted)
+        (λ (m : k ≡ at → ⊥). get_or-set_other states at k new (Free None) m ∙ w.changed k ∙ ap (λ x. cond (ltb 0 x)
+        (slot_state olds k) (changed_in_chain chain f (slot_state olds k))) (less_rest w.standing n k m ∙ sym (ap (occurs k) left))) (cases_eq k at);
+    noted = λ k none e. ⊎_elim (λ (m : k ≡ at). ap (λ x. found' (slot_state (set states at new) x)) m ∙ ap found' written ∙ noted)
         (λ (m : k ≡ at → ⊥). (let same = get_or-set_other states at k new (Free None) m in
         ap found' same ∙ more (slot_state states k)
-        (w.noted k (less_rest w.standing n k m ∙ sym (ap (occurs k) left) ∙ none) (sym (ap (is_in_chain chain) same) ∙ e))))
-        (cases_eq k at);
+        (w.noted k (less_rest w.standing n k m ∙ sym (ap (occurs k) left) ∙ none) (sym (ap (is_in_chain chain) same) ∙ e)))) (cases_eq k at);
   }
     where
       written : slot_state (set states at new) at ≡ new
       written = get_or-set_same states at new (Free None) (omega (arith, walk_below w.standing n, w.standing.chained.states_len))
 
       old_here : slot_state states at ≡ slot_state olds at
-      old_here = w.changed at ∙ ap (λ m. cond (ltb 0 m) (slot_state olds at) (changed_in_chain chain f (slot_state olds at)))
-          (comes w.standing n)
+      old_here = w.changed at ∙ ap (λ m. cond (ltb 0 m) (slot_state olds at) (changed_in_chain chain f (slot_state olds at))) (comes w.standing n)
 
 abbrev Stays : Assignment → Assignment → Type 0
 Stays s t = (assignment_port t ≡ None) ⊎ (assignment_port t ≡ assignment_port s)
@@ -365,15 +357,13 @@ module _ {chain : ℕ} {p : Assignment → Bool} {count : ℕ} {states : List As
   module _ (n : at ≡ end → ⊥) where
     more : sum_below (seen p states (after_first h.standing.rest)) count ≡ bit (p (slot_state states at)) + sum_below
         (seen p states h.standing.rest) count
-    more = greater_sum (seen p states (after_first h.standing.rest)) (seen p states h.standing.rest) count at
-        (bit (p (slot_state states at))) (walk_below h.standing n) here
-        (λ j m. ap (λ x. bit (p (slot_state states j) && eqb x 0)) (sym (less_rest h.standing n j m)))
+    more = greater_sum (seen p states (after_first h.standing.rest)) (seen p states h.standing.rest) count at (bit (p (slot_state states at)))
+        (walk_below h.standing n) here (λ j m. ap (λ x. bit (p (slot_state states j) && eqb x 0)) (sym (less_rest h.standing n j m)))
       where
         here : seen p states (after_first h.standing.rest) at ≡ bit (p (slot_state states at)) + seen p states h.standing.rest at
         here =
             let left = ap bit (and_true (p (slot_state states at)) (eqb (occurs at (after_first h.standing.rest)) 0)
-            (eq-eqb (occurs at (after_first h.standing.rest)) 0 (walk_once h.standing n)))
-            in
+            (eq-eqb (occurs at (after_first h.standing.rest)) 0 (walk_once h.standing n))) in
             let right = ap bit (and_right (p (slot_state states at)) (eqb (occurs at h.standing.rest) 0)
             (ne_eqb (occurs at h.standing.rest) 0 (λ z. omega (arith, z, comes h.standing n)))) in
             omega (arith, left, right)

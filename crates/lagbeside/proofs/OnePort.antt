@@ -105,8 +105,7 @@ at_number S low (y ∷ ys) (suc i) x r e s =
 
 pub same_place : (xs ys : List SystemPort) (i : ℕ) (x y : SystemPort) → port_numbers ys ≡ port_numbers xs → slice_get xs i ≡ Some x
     → slice_get ys i ≡ Some y → y.number ≡ x.number
-same_place xs ys i x y e f g = same_Some y.number x.number (sym (number_at ys i y g) ∙ (ap (λ l. slice_get l i) e ∙ number_at xs
-    i x f))
+same_place xs ys i x y e f g = same_Some y.number x.number (sym (number_at ys i y g) ∙ (ap (λ l. slice_get l i) e ∙ number_at xs i x f))
   where
     number_at : (zs : List SystemPort) (j : ℕ) (z : SystemPort) → slice_get zs j ≡ Some z → slice_get (port_numbers zs) j ≡ Some z.number
     number_at zs j z h = slice_get-map (λ (v : SystemPort). v.number) zs j ∙ ap (option_map (λ (v : SystemPort). v.number)) h

@@ -285,9 +285,8 @@ always_shares s i x h e w free one shares u =
     (none_at (λ (row : ℕ × Key). (row.1.0 == k) && has_no_occupant seen (aggregator_of_entry row)) 1 s.keys second some.0 some.1 some.2) in
     let key : some.1 ≡ x.port.party.key = same_key some.1 x.port.party.key some.3 in
     let group : (j : ℕ) (y : SystemPort) → slice_get s.system_ports j ≡ Some y → occupies agg y.port.choice ≡ true
-    → has_group_of v (selection_view y) ≡ true = λ j y f o. shares.group j y f
-    (same_Some y.port.party.key x.port.party.key (sym (h.occupants.key j agg.0 y f (occupies_is agg y.port.choice o).0)
-    ∙ (from_first s.keys some.0 some.1 some.2 ∙ ap (λ (q : Key). Some q) key)))
+    → has_group_of v (selection_view y) ≡ true = λ j y f o. shares.group j y f (same_Some y.port.party.key x.port.party.key (sym
+    (h.occupants.key j agg.0 y f (occupies_is agg y.port.choice o).0) ∙ (from_first s.keys some.0 some.1 some.2 ∙ ap (λ (q : Key). Some q) key)))
     (not_unselected agg y.port.choice o) in
     none_share (some.1.0 == k) (individual v.party v.partner) (has_occupant seen agg)
     (list_all (has_group_of v) (occupants agg seen)) some.3 shares.together occupied_here (share_all v agg s.system_ports group)

@@ -59,14 +59,11 @@ one_more {A} r rest fault at place behind e here h =
 moved : (cables : ℕ) (kind : WordKind) (kinds : List WordKind) (place : ℕ) (ws : List (List ℕ))
     → first_wrong cables (kind ∷ kinds) (suc place) ws ≡ option_map suc (first_wrong cables kinds place ws)
 moved cables kind kinds place [] = refl
-moved cables kind kinds place (w ∷ ws) =
-    by (is_wrong_at cables (slice_get kinds place) w) (first_wrong cables (kind ∷ kinds) (suc place + 1) ws)
-    (first_wrong cables kinds (place + 1) ws)
-    (subst (λ n. first_wrong cables (kind ∷ kinds) n ws ≡ option_map suc (first_wrong cables kinds (place + 1) ws)) (omega arith)
-    (moved cables kind kinds (place + 1) ws))
+moved cables kind kinds place (w ∷ ws) = by (is_wrong_at cables (slice_get kinds place) w)
+    (first_wrong cables (kind ∷ kinds) (suc place + 1) ws) (first_wrong cables kinds (place + 1) ws) (subst (λ n. first_wrong cables
+    (kind ∷ kinds) n ws ≡ option_map suc (first_wrong cables kinds (place + 1) ws)) (omega arith) (moved cables kind kinds (place + 1) ws))
   where
-    by : (b : Bool) (x y : Option ℕ) → x ≡ option_map suc y
-        → (if b then Some (suc place) else x) ≡ option_map suc (if b then Some place else y)
+    by : (b : Bool) (x y : Option ℕ) → x ≡ option_map suc y → (if b then Some (suc place) else x) ≡ option_map suc (if b then Some place else y)
     by true x y e = refl
     by false x y e = e
 

@@ -103,9 +103,8 @@ ended : (x : WorldSetup) (s : Side) (call : ModelCall) (stamp : ℕ) (party : Si
     (old new : Side → ℕ → ℕ) (towards base : ℕ → List Message) (w : World) → Popped towards base → ((t : Side) (p : ℕ)
     → ((party_at (w.view t) p ≡ party t p) × (new t p ≡ old t p)) ⊎ ((party_at (w.view t) p ≢ party t p) × (new t p ≡ suc (old t p))))
     → Calling x s call stamp party old towards base w → Lawful x (record w { count = new })
-ended x s call stamp party old new towards base w p h i =
-    both x s (record w { count = new }) (half_counted (half_back i.own (w.on_cable s) there) (new s) (rises s))
-    (half_counted (half_out i.other (w.on_cable s) there) (new (peer s)) (rises (peer s)))
+ended x s call stamp party old new towards base w p h i = both x s (record w { count = new }) (half_counted
+    (half_back i.own (w.on_cable s) there) (new s) (rises s)) (half_counted (half_out i.other (w.on_cable s) there) (new (peer s)) (rises (peer s)))
   where
     there : Popped towards (w.on_cable s)
     there = subst (Popped towards) (sym i.rest) p
@@ -238,18 +237,14 @@ comes_kept x c to (Some p) (Control pdu stamp ∷ ms) old new f i h e z = call_k
     (inr (c, Control pdu stamp, ms, e, refl)) (started_popped x old c to p pdu stamp ms f h e i) z.0 z.1 z.2.0 z.2.1 z.2.2
 comes_kept x c to (Some p) (Data origin g k n ∷ ms) old new f i h e z = go z.0 z.1
   where
-    go : (up : Bool) → CallHappens x to (Receive p None) 0 old (handed_up up (Data origin g k n) (with_messages old c to ms)) new
-        → Lawful x new
-    go true y =
-        call_kept x to (Receive p None) 0 (λ t. party_at (old.view t)) old.count _ _
-        (handed_up true (Data origin g k n) (with_messages old c to ms)) new
-        (inl refl) (started x to (Receive p None) 0 (handed_up true (Data origin g k n) (with_messages old c to ms))
-        (lawful_up x old c to origin g k n ms f (from_peer x old c to origin g k n ms e i) e i) (within_quiet _ 0 _ _ _ _ refl))
-        y.0 y.1 y.2.0 y.2.1 y.2.2
-    go false y =
-        call_kept x to (Receive p None) 0 (λ t. party_at (old.view t)) old.count _ _ (with_messages old c to ms) new
-        (inl refl) (started x to (Receive p None) 0 (with_messages old c to ms) (lawful_popped x old c to (Data origin g k n) ms e i)
-        (within_quiet _ 0 _ _ _ _ refl)) y.0 y.1 y.2.0 y.2.1 y.2.2
+    go : (up : Bool) → CallHappens x to (Receive p None) 0 old (handed_up up (Data origin g k n) (with_messages old c to ms)) new → Lawful x new
+    go true y = call_kept x to
+        (Receive p None) 0 (λ t. party_at (old.view t)) old.count _ _ (handed_up true (Data origin g k n) (with_messages old c to ms)) new (inl refl)
+        (started x to (Receive p None) 0 (handed_up true (Data origin g k n) (with_messages old c to ms)) (lawful_up x old c to origin g k n ms f
+        (from_peer x old c to origin g k n ms e i) e i) (within_quiet _ 0 _ _ _ _ refl)) y.0 y.1 y.2.0 y.2.1 y.2.2
+    go false y = call_kept x to (Receive p None) 0 (λ t. party_at (old.view t)) old.count _ _
+        (with_messages old c to ms) new (inl refl) (started x to (Receive p None) 0 (with_messages old c to ms)
+        (lawful_popped x old c to (Data origin g k n) ms e i) (within_quiet _ 0 _ _ _ _ refl)) y.0 y.1 y.2.0 y.2.1 y.2.2
 
 pub comes_again_kept : (x : WorldSetup) (c : ℕ) (to : Side) (port : Option ℕ) (on_cable : List Message) (old new : World) → IsWorldSetup x
     → Lawful x old → end_at x.cables to c ≡ port → old.on_cable to c ≡ on_cable → RepeatsFirst x c to port on_cable old new → Lawful x new
@@ -275,9 +270,8 @@ quiet_kept x s call old new q i z = call_kept x s call 0 (λ t. party_at (old.vi
 senses_kept : (x : WorldSetup) (c : ℕ) (s : Side) (port : Option ℕ) (up : Bool) (old new : World) → IsWorldSetup x → Lawful x old
     → end_at x.cables s c ≡ port → old.whole c ≡ up → SensesCable x s port up old new → Lawful x new
 senses_kept x c s None up old new f i h e z = absurd z
-senses_kept x c s (Some p) up old new f i h e z =
-    call_kept x s (Set_link p up) 0 (λ t. party_at (old.view t)) old.count (old.on_cable s) (old.on_cable s) old new (inl refl)
-    (started x s (Set_link p up) 0 old i within) z.0 z.1 z.2.0 z.2.1 z.2.2
+senses_kept x c s (Some p) up old new f i h e z = call_kept x s (Set_link p up) 0 (λ t. party_at (old.view t)) old.count
+    (old.on_cable s) (old.on_cable s) old new (inl refl) (started x s (Set_link p up) 0 old i within) z.0 z.1 z.2.0 z.2.1 z.2.2
   where
     within : Within (Set_link p up) 0 (end_at x.cables s) (old.on_cable s) old.whole (old.forced s)
     within = record {

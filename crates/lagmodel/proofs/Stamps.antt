@@ -46,9 +46,8 @@ heard_port : (u : SystemSetup) (call : ModelCall) (ports : ℕ → Option PortFa
 heard_port u call ports p stamp taken Desynchronize a h x i = grind arith
 heard_port u call ports p stamp taken (Reconfigure party) a h x i = grind arith
 heard_port u call ports p stamp taken Default a h x i = grind arith
-heard_port u call ports p stamp taken (Take pdu synchronized) a h x i =
-    heard_changed ports taken (taken_after stamp (Some (Took p pdu)) taken) p (port_after (Take pdu synchronized)) a h
-    (λ d. (record { pdu = pdu; stamp = stamp }, self, refl, x.2)) (λ q ne. other q ne) i
+heard_port u call ports p stamp taken (Take pdu synchronized) a h x i = heard_changed ports taken (taken_after stamp (Some (Took p pdu)) taken) p
+    (port_after (Take pdu synchronized)) a h (λ d. (record { pdu = pdu; stamp = stamp }, self, refl, x.2)) (λ q ne. other q ne) i
   where
     self : taken_after stamp (Some (Took p pdu)) taken p ≡ Some (record { pdu = pdu; stamp = stamp })
     self = elim (cases_Bool (eqb p p)) [ inl e ↦ cond_true (eqb p p) _ _ e | inr e ↦ absurd (eqb-false p p e refl) ]

@@ -35,12 +35,8 @@ moves_joined u call old mid new seen more a b = grind (arith, all_joined, acts_j
 -- one move of a port, by its view before it
 pub moves_port : (u : SystemSetup) (call : ModelCall) (v : View) (p : ℕ) (m : PortMove) (a : PortFacts) → v.port p ≡ Some a
     → PortAllowed u call v.port p m a → LawfulMoves u call v (option_to_list (port_act p m a)) (record v { port = at_port v.port p (port_after m) })
-moves_port u call v p m a h x = (
-  Port p m ∷ [],
-  (there (v.port p) h, tt),
-  ap (λ o. option_to_list (act_of_port p m o) ++ []) h ∙ nothing_more (port_act p m a),
-  refl,
-)
+moves_port u call v p m a h x =
+    (Port p m ∷ [], (there (v.port p) h, tt), ap (λ o. option_to_list (act_of_port p m o) ++ []) h ∙ nothing_more (port_act p m a), refl)
   where
     there : (o : Option PortFacts) → o ≡ Some a → IsSomeAnd o (PortAllowed u call v.port p m)
     there o e = subst (λ o. IsSomeAnd o (PortAllowed u call v.port p m)) (sym e) x
@@ -84,15 +80,14 @@ flows_become mac call D (y ∷ keys) f new h = elim (h y.0 y.1) [
     | inl e ↦ inl e
     | inr x ↦ elim x.0 [
       | inl here ↦ inl (subst (λ j. new g j ≡ f.state g j) (sym here.1) (subst (λ j. new j y.1 ≡ f.state j y.1) (sym here.0) e))
-      | inr
-          there ↦ inr (there, x.1)
+      | inr there ↦ inr (there, x.1)
     ]
   ])
   | inr x ↦ (let m = x.1.0 in
       let g : DistributorFacts = record f { state = at_conversation f.state y.0 y.1 (conversation_after m) } in
       let rest = flows_become mac call D keys g new (λ j k. elim (conversation_cases f.state y.0 y.1 (conversation_after m) j k) [
-        | inl z ↦ inl (subst (λ l. new j l ≡ conversation_after m) (sym z.1) (subst (λ l. new l y.1 ≡ conversation_after m) (sym z.0) x.1.2)
-            ∙ sym z.2)
+        | inl z ↦ inl
+            (subst (λ l. new j l ≡ conversation_after m) (sym z.1) (subst (λ l. new l y.1 ≡ conversation_after m) (sym z.0) x.1.2) ∙ sym z.2)
         | inr z ↦ elim (h j k) [
           | inl e ↦ inl (e ∙ sym z.1)
           | inr w ↦ elim w.0 [
@@ -113,8 +108,7 @@ flows_weaker mac call D E old new seen h x = (x.0, all x.0 old x.1, x.2, x.3)
     one (DistributorMove.Send g k p) f y = (y.0, elim y.1 [ inl z ↦ inl (z.0, h g p z.1) | inr z ↦ inr z ])
     one m f y = y
 
-    all : (ms : List DistributorMove) (f : DistributorFacts) → DistributorMovesAllowed mac call D f ms
-        → DistributorMovesAllowed mac call E f ms
+    all : (ms : List DistributorMove) (f : DistributorFacts) → DistributorMovesAllowed mac call D f ms → DistributorMovesAllowed mac call E f ms
     all [] f y = tt
     all (m ∷ ms) f y = (one m f y.0, all ms (distributor_after m f) y.1)
 

@@ -24,9 +24,8 @@ counted_all x s stamp (m ∷ ms) w h = counted_all x s stamp ms (network_after x
     more = sent_after (act (x.setup s) m.0 (w.view s)) (w.sent s)
 
     one : AllCountFromZero (network_after x s stamp m w)
-    one t g k = is_or_not (IsCount (at_system w.sent s more t g k)) t s
-        (λ e. subst (λ t. IsCount (at_system w.sent s more t g k)) (sym e) (subst (λ (f : ℕ → ℕ → List ℕ). IsCount (f g k))
-        (sym (there w.sent s more)) (counted_act (act (x.setup s) m.0 (w.view s)) (w.sent s) (h s) g k)))
+    one t g k = is_or_not (IsCount (at_system w.sent s more t g k)) t s (λ e. subst (λ t. IsCount (at_system w.sent s more t g k)) (sym e) (subst
+        (λ (f : ℕ → ℕ → List ℕ). IsCount (f g k)) (sym (there w.sent s more)) (counted_act (act (x.setup s) m.0 (w.view s)) (w.sent s) (h s) g k)))
         (λ ne. subst (λ (f : ℕ → ℕ → List ℕ). IsCount (f g k)) (sym (elsewhere w.sent s more t ne)) (h t g k))
 
 counted_call : (x : NetworkSetup) (s : ℕ) (call : ModelCall) (stamp : ℕ) (old mid new : Network) → AllCountFromZero mid

@@ -114,33 +114,28 @@ cut_kept : (x : NetworkSetup) → IsNetworkSetup x → (w : Network) (s p : ℕ)
   whole = λ t q. cond (is_end x s p t q) false (w.whole t q);
   towards = λ t q. cond (is_end x s p t q) [] (w.towards t q);
 })
-cut_kept x f w s p i =
-    less_kept x w i (λ t q. cond (is_end x s p t q) [] (w.towards t q)) (λ t q. cond (is_end x s p t q) false (w.whole t q)) alike
-    (λ t q. blank_less (is_end x s p t q) (w.towards t q)) cut
+cut_kept x f w s p i = less_kept x w i (λ t q. cond (is_end x s p t q) [] (w.towards t q))
+    (λ t q. cond (is_end x s p t q) false (w.whole t q)) alike (λ t q. blank_less (is_end x s p t q) (w.towards t q)) cut
   where
     alike : SeenAlike x (λ t q. cond (is_end x s p t q) false (w.whole t q))
     alike t q r c h = ap (λ (b : Bool). cond b false (w.whole t q)) (end_alike x f s p t q r c h)
         ∙ ap (λ (v : Bool). cond (is_end x s p r c) false v) (i.alike t q r c h)
 
-    cut : (r c : ℕ) → cond (is_end x s p r c) false (w.whole r c) ≡ false
-        → out_of x (λ t q. cond (is_end x s p t q) [] (w.towards t q)) r c ≡ []
+    cut : (r c : ℕ) → cond (is_end x s p r c) false (w.whole r c) ≡ false → out_of x (λ t q. cond (is_end x s p t q) [] (w.towards t q)) r c ≡ []
     cut r c e = go (x.far r c) refl
       where
         go : (o : Option Place) → x.far r c ≡ o → at_far (λ t q. cond (is_end x s p t q) [] (w.towards t q)) o ≡ []
         go None h = refl
         go (Some a) h = elim (cases_Bool (is_end x s p r c)) [
-          | inl y ↦ cond_true (is_end x s p a.system a.port) [] (w.towards a.system a.port)
-              (sym (end_alike x f s p r c a.system a.port h) ∙ y)
+          | inl y ↦ cond_true (is_end x s p a.system a.port) [] (w.towards a.system a.port) (sym (end_alike x f s p r c a.system a.port h) ∙ y)
           | inr y ↦ (let none : w.towards a.system a.port ≡ [] = subst (λ o. at_far w.towards o ≡ []) h
               ((i.each r).lanes.cut c (sym (cond_false (is_end x s p r c) false (w.whole r c) y) ∙ e)) in
-              cond_false (is_end x s p a.system a.port) [] (w.towards a.system a.port)
-              (sym (end_alike x f s p r c a.system a.port h) ∙ y) ∙ none)
+              cond_false (is_end x s p a.system a.port) [] (w.towards a.system a.port) (sym (end_alike x f s p r c a.system a.port h) ∙ y) ∙ none)
         ]
 
 joined_kept : (x : NetworkSetup) → IsNetworkSetup x → (w : Network) (s p : ℕ) → AllFine x w
     → AllFine x (record w { whole = λ t q. cond (is_end x s p t q) true (w.whole t q) })
-joined_kept x f w s p i =
-    less_kept x w i w.towards (λ t q. cond (is_end x s p t q) true (w.whole t q)) alike (λ t q. inl refl) cut
+joined_kept x f w s p i = less_kept x w i w.towards (λ t q. cond (is_end x s p t q) true (w.whole t q)) alike (λ t q. inl refl) cut
   where
     alike : SeenAlike x (λ t q. cond (is_end x s p t q) true (w.whole t q))
     alike t q r c h = ap (λ (b : Bool). cond b true (w.whole t q)) (end_alike x f s p t q r c h)
@@ -167,10 +162,7 @@ restarted_kept : (x : NetworkSetup) → IsNetworkSetup x → (w : Network) (s : 
       towards = λ t q. cond (ends_at x s t q) [] (w.towards t q);
       count = count;
     })
-restarted_kept x f w s count i h = record {
-  alike = i.alike;
-  each = λ r. counted_part (before r) (count r) (h r);
-}
+restarted_kept x f w s count i h = record { alike = i.alike; each = λ r. counted_part (before r) (count r) (h r) }
   where
     towards' : ℕ → ℕ → List Message
     towards' = λ t q. cond (ends_at x s t q) [] (w.towards t q)
@@ -184,8 +176,7 @@ restarted_kept x f w s count i h = record {
         go : (o : Option Place) → x.far s c ≡ o → [] ≡ at_far towards' o
         go None e = refl
         go (Some a) e = sym (cond_true (ends_at x s a.system a.port) [] (w.towards a.system a.port)
-            (any_true (eqb a.system s) (is_at s (x.far a.system a.port))
-            (ap (is_at s) (f.cables s c a.system a.port e) ∙ eq-eqb s s refl)))
+            (any_true (eqb a.system s) (is_at s (x.far a.system a.port)) (ap (is_at s) (f.cables s c a.system a.port e) ∙ eq-eqb s s refl)))
 
     back_none : (q : ℕ) → [] ≡ towards' s q
     back_none q = sym (cond_true (ends_at x s s q) [] (w.towards s q) (cond_true (eqb s s) true (is_at s (x.far s q)) (eq-eqb s s refl)))
@@ -204,16 +195,15 @@ restarted_kept x f w s count i h = record {
 
     before : (r : ℕ) → Fine x r (at_system w.view s (first_view (x.setup s)) r) (party_at (w.view r)) (w.count r) (out_of x towards' r)
         (towards' r) (w.whole r) (w.sent r) (w.collected r) (w.forced r) (w.taken r) w.taken w.source
-    before r = is_or_not (Fine x r (at_system w.view s (first_view (x.setup s)) r) (party_at (w.view r)) (w.count r) (out_of x towards' r)
-        (towards' r) (w.whole r) (w.sent r) (w.collected r) (w.forced r) (w.taken r) w.taken w.source) r s
-        (λ e. subst (λ r. Fine x r (at_system w.view s (first_view (x.setup s)) r) (party_at (w.view r)) (w.count r) (out_of x towards' r)
-        (towards' r) (w.whole r) (w.sent r) (w.collected r) (w.forced r) (w.taken r) w.taken w.source) (sym e)
-        (fine_along x s (party_at (w.view s)) (w.count s) (w.whole s) (w.collected s) (w.forced s) _ _ _ _ _ _ _ _ _ _ w.taken w.source
+    before r = is_or_not (Fine x r (at_system w.view s (first_view (x.setup s)) r) (party_at (w.view r))
+        (w.count r) (out_of x towards' r) (towards' r) (w.whole r) (w.sent r) (w.collected r) (w.forced r) (w.taken r) w.taken w.source) r s
+        (λ e. subst (λ r. Fine x r (at_system w.view s (first_view (x.setup s)) r) (party_at (w.view r))
+        (w.count r) (out_of x towards' r) (towards' r) (w.whole r) (w.sent r) (w.collected r) (w.forced r) (w.taken r) w.taken w.source)
+        (sym e) (fine_along x s (party_at (w.view s)) (w.count s) (w.whole s) (w.collected s) (w.forced s) _ _ _ _ _ _ _ _ _ _ w.taken w.source
         (sym (there w.view s (first_view (x.setup s)))) (λ j c. out_none c j) (λ j q. back_none q j) refl refl at_start))
         (λ ne. fine_along x r (party_at (w.view r)) (w.count r) (w.whole r) (w.collected r) (w.forced r) _ _ _ _ _ _ _ _ _ _ w.taken w.source
-        (sym (elsewhere w.view s (first_view (x.setup s)) r ne)) refl refl refl refl
-        (less_part (i.each r) (out_of x towards' r) (towards' r) (w.whole r) (out_less x w.towards towards' less r) (less r)
-        (still_nothing x w i towards' less r)))
+        (sym (elsewhere w.view s (first_view (x.setup s)) r ne)) refl refl refl refl (less_part (i.each r)
+        (out_of x towards' r) (towards' r) (w.whole r) (out_less x w.towards towards' less r) (less r) (still_nothing x w i towards' less r)))
 
 -- a frame is handed up
 handed_kept : (x : NetworkSetup) → IsNetworkSetup x → (w : Network) (s p up : ℕ) (a : Place) (g k n : ℕ) (ms : List Message) → AllFine x w
@@ -233,10 +223,9 @@ handed_kept x f w s p up a g k n ms i e h = record {
     towards' = at_place w.towards s p (drop 1 (w.towards s p))
 
     collects : (r : ℕ) (collected' : ℕ → ℕ → List ℕ) {collected : ℕ → ℕ → List ℕ} → collected ≡ collected'
-        → Fine x r (w.view r) (party_at (w.view r)) (w.count r) (out_of x towards' r) (towards' r) (w.whole r) (w.sent r) collected
-        (w.forced r) (w.taken r) w.taken w.source
-        → Fine x r (w.view r) (party_at (w.view r)) (w.count r) (out_of x towards' r) (towards' r) (w.whole r) (w.sent r) collected'
-        (w.forced r) (w.taken r) w.taken w.source
+        → Fine x r (w.view r) (party_at (w.view r)) (w.count r) (out_of x towards' r) (towards' r)
+        (w.whole r) (w.sent r) collected (w.forced r) (w.taken r) w.taken w.source → Fine x r (w.view r) (party_at (w.view r))
+        (w.count r) (out_of x towards' r) (towards' r) (w.whole r) (w.sent r) collected' (w.forced r) (w.taken r) w.taken w.source
     collects r collected' y z = subst (λ (c : ℕ → ℕ → List ℕ). Fine x r (w.view r) (party_at (w.view r)) (w.count r) (out_of x towards' r)
         (towards' r) (w.whole r) (w.sent r) c (w.forced r) (w.taken r) w.taken w.source) y z
 
@@ -262,24 +251,22 @@ handed_kept x f w s p up a g k n ms i e h = record {
           | inl y ↦ (let both = and_parts (eqb b.system s) (eqb b.port p) y in
               let m : record { system = b.system; port = b.port } ≡ record { system = s; port = p } =
               λ j. record { system = eqb-true b.system s both.0 j; port = eqb-true b.port p both.1 j } in
-              absurd (ne ((same_near x f a.system c a.system a.port (record { system = s; port = p })
-              (z ∙ ap (λ (b : Place). Some b) m) back).1)))
+              absurd (ne ((same_near x f a.system c a.system a.port (record { system = s; port = p }) (z ∙ ap (λ (b : Place). Some b) m) back).1)))
           | inr y ↦ cond_false (eqb b.system s && eqb b.port p) (drop 1 (w.towards s p)) (w.towards b.system b.port) y
         ]
 
     here : FineIn x (λ t. party_at (w.view t)) (handed_up_from s (Some a) (Some up) g k n (without_first s p w)) a.system
-    here = collects a.system _
-        (sym (there w.collected a.system (at_two (w.collected a.system) g k (w.collected a.system g k ++ n ∷ [])))) (record {
-          members = (popped.each a.system).members;
-          heard = (popped.each a.system).heard;
-          stamps = (popped.each a.system).stamps;
-          names = (popped.each a.system).names;
-          apart = (popped.each a.system).apart;
-          last = (popped.each a.system).last;
-          lanes = lanes_less (lanes_handed ((i.each a.system).lanes) a.port g k n ms (ends_once x a.system) first)
-              (out_of x towards' a.system) (towards' a.system) (w.whole a.system) (λ c. inl (same c)) (place_less w.towards s p (drop 1 (w.towards s p)) (first_less (w.towards s p)) a.system)
-              ((popped.each a.system).lanes.cut);
-        })
+    here = collects a.system _ (sym (there w.collected a.system (at_two (w.collected a.system) g k (w.collected a.system g k ++ n ∷ [])))) (record {
+      members = (popped.each a.system).members;
+      heard = (popped.each a.system).heard;
+      stamps = (popped.each a.system).stamps;
+      names = (popped.each a.system).names;
+      apart = (popped.each a.system).apart;
+      last = (popped.each a.system).last;
+      lanes = lanes_less (lanes_handed ((i.each a.system).lanes) a.port g k n ms (ends_once x a.system) first)
+          (out_of x towards' a.system) (towards' a.system) (w.whole a.system) (λ c. inl (same c))
+          (place_less w.towards s p (drop 1 (w.towards s p)) (first_less (w.towards s p)) a.system) ((popped.each a.system).lanes.cut);
+    })
 
 -- a frame comes from the other end
 from_far : (x : NetworkSetup) → IsNetworkSetup x → (w : Network) (s p : ℕ) (a : Place) (origin : Side) (g k n : ℕ) (ms : List Message)
@@ -355,11 +342,9 @@ freed_kept : (x : NetworkSetup) (s : ℕ) (test : ℕ → ℕ → Bool) (w : Net
     → AllFine x (record w { view = at_system w.view s (freed_view test (w.view s)); forced = at_system w.forced s (also_forced test (w.forced s)) })
 freed_kept x s test w i = record {
   alike = i.alike;
-  each = λ r. is_or_not (After r) r s
-      (λ e. subst After (sym e) (along s (sym (there w.view s (freed_view test (w.view s))))
-      (sym (there w.forced s (also_forced test (w.forced s)))) (freed_part (i.each s) test)))
-      (λ ne. along r (sym (elsewhere w.view s (freed_view test (w.view s)) r ne))
-      (sym (elsewhere w.forced s (also_forced test (w.forced s)) r ne)) (i.each r));
+  each = λ r. is_or_not (After r) r s (λ e. subst After (sym e) (along s (sym (there w.view s (freed_view test (w.view s))))
+      (sym (there w.forced s (also_forced test (w.forced s)))) (freed_part (i.each s) test))) (λ ne. along r
+      (sym (elsewhere w.view s (freed_view test (w.view s)) r ne)) (sym (elsewhere w.forced s (also_forced test (w.forced s)) r ne)) (i.each r));
 }
   where
     view' : ℕ → View
@@ -372,16 +357,12 @@ freed_kept x s test w i = record {
     After r = Fine x r (view' r) (party_at (view' r)) (w.count r) (out_of x w.towards r) (w.towards r) (w.whole r) (w.sent r)
         (w.collected r) (forced' r) (w.taken r) w.taken w.source
 
-    along : (r : ℕ) {v v' : View} {forced forced' : ℕ → ℕ → Bool} → v ≡ v' → forced ≡ forced'
-        → Fine x r v (party_at v) (w.count r) (out_of x w.towards r) (w.towards r) (w.whole r) (w.sent r) (w.collected r) forced (w.taken r)
-        w.taken w.source
-        → Fine x r v' (party_at v') (w.count r) (out_of x w.towards r) (w.towards r) (w.whole r) (w.sent r) (w.collected r) forced' (w.taken r)
-        w.taken w.source
-    along r {v} {v'} {forced} {forced'} a b z =
-        subst (λ (v : View). Fine x r v (party_at v) (w.count r) (out_of x w.towards r) (w.towards r) (w.whole r) (w.sent r) (w.collected r)
-        forced' (w.taken r) w.taken w.source) a
-        (subst (λ (c : ℕ → ℕ → Bool). Fine x r v (party_at v) (w.count r) (out_of x w.towards r) (w.towards r) (w.whole r) (w.sent r)
-        (w.collected r) c (w.taken r) w.taken w.source) b z)
+    along : (r : ℕ) {v v' : View} {forced forced' : ℕ → ℕ → Bool} → v ≡ v' → forced ≡ forced' → Fine x r v (party_at v) (w.count r)
+        (out_of x w.towards r) (w.towards r) (w.whole r) (w.sent r) (w.collected r) forced (w.taken r) w.taken w.source → Fine x r v' (party_at v')
+        (w.count r) (out_of x w.towards r) (w.towards r) (w.whole r) (w.sent r) (w.collected r) forced' (w.taken r) w.taken w.source
+    along r {v} {v'} {forced} {forced'} a b z = subst (λ (v : View). Fine x r v (party_at v) (w.count r) (out_of x w.towards r)
+        (w.towards r) (w.whole r) (w.sent r) (w.collected r) forced' (w.taken r) w.taken w.source) a (subst (λ (c : ℕ → ℕ → Bool). Fine x r v
+        (party_at v) (w.count r) (out_of x w.towards r) (w.towards r) (w.whole r) (w.sent r) (w.collected r) c (w.taken r) w.taken w.source) b z)
 
 -- another system takes the place of one
 succeeded_kept : (x : NetworkSetup) (s : ℕ) (after : View) (w : Network) → IsNetworkSuccessor x w s after → AllFine x w
@@ -420,10 +401,9 @@ setup_changed : (x : NetworkSetup) (s : ℕ) (setup : SystemSetup) (after : View
 setup_changed x s setup after a w i = record {
   alike = i.alike;
   each = λ r. let f = i.each r in record {
-    members = is_or_not (Members (setups r) (w.view r).port) r s
-        (λ e. subst (λ r. Members (setups r) (w.view r).port) (sym e) (subst (λ (u : SystemSetup). Members u (w.view s).port)
-        (sym (there x.setup s setup)) (members_alike (x.setup s) setup (w.view s).port a (i.each s).members)))
-        (λ ne. subst (λ (u : SystemSetup). Members u (w.view r).port) (sym (elsewhere x.setup s setup r ne)) f.members);
+    members = is_or_not (Members (setups r) (w.view r).port) r s (λ e. subst (λ r. Members (setups r) (w.view r).port) (sym e)
+        (subst (λ (u : SystemSetup). Members u (w.view s).port) (sym (there x.setup s setup)) (members_alike (x.setup s) setup (w.view s).port a
+        (i.each s).members))) (λ ne. subst (λ (u : SystemSetup). Members u (w.view r).port) (sym (elsewhere x.setup s setup r ne)) f.members);
     lanes = f.lanes;
     heard = f.heard;
     stamps = f.stamps;
@@ -438,8 +418,7 @@ setup_changed x s setup after a w i = record {
 
     same : (r : ℕ) → (setups r).system ≡ (x.setup r).system
     same r = is_or_not ((setups r).system ≡ (x.setup r).system) r s
-        (λ e. subst (λ r. (setups r).system ≡ (x.setup r).system) (sym e)
-        (ap (λ (u : SystemSetup). u.system) (there x.setup s setup) ∙ a.system))
+        (λ e. subst (λ r. (setups r).system ≡ (x.setup r).system) (sym e) (ap (λ (u : SystemSetup). u.system) (there x.setup s setup) ∙ a.system))
         (λ ne. ap (λ (u : SystemSetup). u.system) (elsewhere x.setup s setup r ne))
 
 -- a port without a cable hears anything

@@ -90,11 +90,9 @@ module _ (x : NetworkSetup) (f : IsNetworkSetup x) (whole : ℕ → ℕ → Bool
       go : (o : Option Place) → x.far s c ≡ o → at_far (put_on_line x whole kept s p m towards) o
           ≡ cond (kept && (whole s c && is_port p (option_map (λ (a : Place). c) o))) (at_far towards o ++ m ∷ []) (at_far towards o)
       go None e = sym (cond_false (kept && (whole s c && false)) (m ∷ []) [] (never kept (whole s c) false refl))
-      go (Some a) e = ap (λ (b : Bool). cond b (towards a.system a.port ++ m ∷ []) (towards a.system a.port))
-          (same_and kept (whole s p) (whole s c) (is_place (x.far s p) a.system a.port) (eqb c p)
-          (λ h. ap (whole s) (here h))
-          (same_bool (is_place (x.far s p) a.system a.port) (eqb c p) (λ h. eq-eqb c p (sym (here h)))
-          (λ h. some-is_place (x.far s p) a.system a.port (ap (x.far s) (sym (eqb-true c p h)) ∙ e))))
+      go (Some a) e = ap (λ (b : Bool). cond b (towards a.system a.port ++ m ∷ []) (towards a.system a.port)) (same_and kept (whole s p)
+          (whole s c) (is_place (x.far s p) a.system a.port) (eqb c p) (λ h. ap (whole s) (here h)) (same_bool (is_place (x.far s p) a.system a.port)
+          (eqb c p) (λ h. eq-eqb c p (sym (here h))) (λ h. some-is_place (x.far s p) a.system a.port (ap (x.far s) (sym (eqb-true c p h)) ∙ e))))
         where
           here : is_place (x.far s p) a.system a.port ≡ true → p ≡ c
           here h = (same_near x f s p s c a (is_place-some (x.far s p) a.system a.port h) e).1
@@ -105,9 +103,8 @@ module _ (x : NetworkSetup) (f : IsNetworkSetup x) (whole : ℕ → ℕ → Bool
     where
       go : (o : Option Place) → x.far r c ≡ o → at_far (put_on_line x whole kept s p m towards) o ≡ at_far towards o
       go None e = refl
-      go (Some a) e = cond_false (kept && (whole s p && is_place (x.far s p) a.system a.port)) _ _
-          (never kept (whole s p) (is_place (x.far s p) a.system a.port)
-          (not_true _ (λ h. ne (sym (same_near x f s p r c a (is_place-some (x.far s p) a.system a.port h) e).0))))
+      go (Some a) e = cond_false (kept && (whole s p && is_place (x.far s p) a.system a.port)) _ _ (never kept (whole s p) (is_place
+          (x.far s p) a.system a.port) (not_true _ (λ h. ne (sym (same_near x f s p r c a (is_place-some (x.far s p) a.system a.port h) e).0))))
 
   -- it comes towards the system at the other end
   back_put : (r q : ℕ) → put_on_line x whole kept s p m towards r q ≡ put_on_cable (theirs_of x r s) (whole r) kept p m (towards r) q

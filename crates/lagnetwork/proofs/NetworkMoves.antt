@@ -139,8 +139,7 @@ module _ (x : NetworkSetup) (f : IsNetworkSetup x) (s p : ℕ) where
           → cond (is_end x s p r c) None (x.far r c) ≡ Some (record { system = t; port = q })
       cables t q r c h = elim (cases_Bool (is_end x s p t q)) [
         | inl e ↦ absurd (none-some (record { system = r; port = c }) (sym (cond_true (is_end x s p t q) None (x.far t q) e) ∙ h))
-        | inr e ↦ (let there : x.far t q ≡ Some (record { system = r; port = c }) =
-            sym (cond_false (is_end x s p t q) None (x.far t q) e) ∙ h in
+        | inr e ↦ (let there : x.far t q ≡ Some (record { system = r; port = c }) = sym (cond_false (is_end x s p t q) None (x.far t q) e) ∙ h in
             cond_false (is_end x s p r c) None (x.far r c) (pull_apart t q r c e there) ∙ f.cables t q r c there)
       ]
 
@@ -191,10 +190,9 @@ module _ (x : NetworkSetup) (f : IsNetworkSetup x) (s p t q : ℕ) (none : x.far
 
   is_one_end : (a b : ℕ) → ((a ≡ s) × (b ≡ p)) ⊎ ((a ≡ t) × (b ≡ q)) → is_end after s p a b ≡ true
   is_one_end a b h = elim h [
-    | inl y ↦ cond_true (eqb a s && eqb b p) true (is_place (after.far s p) a b)
-        (and_from (eqb a s) (eqb b p) (eq-eqb a s y.0) (eq-eqb b p y.1))
-    | inr y ↦ either (eqb a s && eqb b p) (is_place (after.far s p) a b)
-        (some-is_place (after.far s p) a b (plug_there ∙ place_at t q a b (sym y.0) (sym y.1)))
+    | inl y ↦ cond_true (eqb a s && eqb b p) true (is_place (after.far s p) a b) (and_from (eqb a s) (eqb b p) (eq-eqb a s y.0) (eq-eqb b p y.1))
+    | inr y ↦ either
+        (eqb a s && eqb b p) (is_place (after.far s p) a b) (some-is_place (after.far s p) a b (plug_there ∙ place_at t q a b (sym y.0) (sym y.1)))
   ]
     where
       either : (b c : Bool) → c ≡ true → cond b true c ≡ true
@@ -222,8 +220,7 @@ module _ (x : NetworkSetup) (f : IsNetworkSetup x) (s p t q : ℕ) (none : x.far
   pub plug_setup : IsNetworkSetup after
   plug_setup = record { setup = f.setup; cables = cables }
     where
-      cables : (a b r c : ℕ) → after.far a b ≡ Some (record { system = r; port = c })
-          → after.far r c ≡ Some (record { system = a; port = b })
+      cables : (a b r c : ℕ) → after.far a b ≡ Some (record { system = r; port = c }) → after.far r c ≡ Some (record { system = a; port = b })
       cables a b r c h = elim (plug_cases a b) [
         | inl y ↦ (let m = place_parts (record { system = s; port = p }) (record { system = r; port = c }) (sym y.2 ∙ h) in
             (λ i. after.far (sym m.0 i) (sym m.1 i)) ∙ plug_there ∙ place_at t q a b (sym y.0) (sym y.1))

@@ -61,15 +61,12 @@ sourced_all x s call stamp (m ∷ ms) w a i = sourced_all x s call stamp ms (net
 
     one : Sourced x (network_after x s stamp m w)
     one t = is_or_not (SourcedAt (x.far t) (w.moved t) ((network_after x s stamp m w).view t).port ((network_after x s stamp m w).taken t)
-        ((network_after x s stamp m w).source t)) t s
-        (λ e. subst (λ t. SourcedAt (x.far t) (w.moved t) ((network_after x s stamp m w).view t).port
-        ((network_after x s stamp m w).taken t) ((network_after x s stamp m w).source t)) (sym e)
-        (sourced_along (sym (there w.view s (view_after (x.setup s) m.0 (w.view s))))
-        (sym (there w.taken s (taken_after stamp (act (x.setup s) m.0 (w.view s)) (w.taken s))))
-        (sym (there w.source s (source_after (x.far s) (act (x.setup s) m.0 (w.view s)) (w.source s))))
-        (sourced_own (x.setup s) call stamp (w.view s) m.0 (x.far s) (w.moved s) (w.taken s) (w.source s) a.0 (i s))))
-        (λ ne. sourced_along (sym (elsewhere w.view s (view_after (x.setup s) m.0 (w.view s)) t ne))
-        (sym (elsewhere w.taken s (taken_after stamp (act (x.setup s) m.0 (w.view s)) (w.taken s)) t ne))
+        ((network_after x s stamp m w).source t)) t s (λ e. subst (λ t. SourcedAt (x.far t) (w.moved t) ((network_after x s stamp m w).view t).port
+        ((network_after x s stamp m w).taken t) ((network_after x s stamp m w).source t)) (sym e) (sourced_along (sym (there w.view s
+        (view_after (x.setup s) m.0 (w.view s)))) (sym (there w.taken s (taken_after stamp (act (x.setup s) m.0 (w.view s)) (w.taken s))))
+        (sym (there w.source s (source_after (x.far s) (act (x.setup s) m.0 (w.view s)) (w.source s)))) (sourced_own (x.setup s) call stamp
+        (w.view s) m.0 (x.far s) (w.moved s) (w.taken s) (w.source s) a.0 (i s)))) (λ ne. sourced_along (sym (elsewhere w.view s (view_after
+        (x.setup s) m.0 (w.view s)) t ne)) (sym (elsewhere w.taken s (taken_after stamp (act (x.setup s) m.0 (w.view s)) (w.taken s)) t ne))
         (sym (elsewhere w.source s (source_after (x.far s) (act (x.setup s) m.0 (w.view s)) (w.source s)) t ne)) (i t))
 
 sourced_call : (x : NetworkSetup) (s : ℕ) (call : ModelCall) (stamp : ℕ) (old mid new : Network) → Sourced x mid

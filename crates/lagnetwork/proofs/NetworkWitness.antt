@@ -21,9 +21,8 @@ same_parties x s call stamp (m ∷ ms) w r n a t p = same_parties x s call stamp
 
     one : party_at (at_system w.view s v t) p ≡ party_at (w.view t) p
     one = is_or_not (party_at (at_system w.view s v t) p ≡ party_at (w.view t) p) t s
-        (λ e. subst (λ t. party_at (at_system w.view s v t) p ≡ party_at (w.view t) p) (sym e)
-        (ap (λ (v : View). party_at v p) (there w.view s v) ∙ party_moved (x.setup s) call (w.view s) m.0 a.0 r n p))
-        (λ ne. ap (λ (v : View). party_at v p) (elsewhere w.view s v t ne))
+        (λ e. subst (λ t. party_at (at_system w.view s v t) p ≡ party_at (w.view t) p) (sym e) (ap (λ (v : View). party_at v p) (there w.view s v)
+        ∙ party_moved (x.setup s) call (w.view s) m.0 a.0 r n p)) (λ ne. ap (λ (v : View). party_at v p) (elsewhere w.view s v t ne))
 
 made : (x : NetworkSetup) (s : ℕ) (call : ModelCall) (stamp : ℕ) (ms : List (Move × Bool)) (w : Network)
     → is_restart call ≡ false → (call ≡ ModelCall.Configure → ⊥) → AllNetworkMoves x s call stamp ms w

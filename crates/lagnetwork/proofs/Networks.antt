@@ -52,14 +52,12 @@ last_peer x f r s u call stamp v (Port p m) party count out whole forced taken s
         → Last x r party count (taken_after stamp (act_of_port p m o) taken) (source_after (x.far s) (act_of_port p m o) source)
     go m None a = i
     go (Take pdu synchronized) (Some b) a = λ q c l e h. elim (cases_Bool (eqb q p)) [
-      | inl y ↦ (let there : x.far s p ≡ Some (record { system = r; port = c }) =
-          sym (cond_true (eqb q p) (x.far s p) (source q) y) ∙ e in
+      | inl y ↦ (let there : x.far s p ≡ Some (record { system = r; port = c }) = sym (cond_true (eqb q p) (x.far s p) (source q) y) ∙ e in
           let this : record { pdu = pdu; stamp = stamp } ≡ l = same_Some (record { pdu = pdu; stamp = stamp }) l
           (sym (cond_true (eqb q p) _ (taken q) y) ∙ h) in
           let back = f.cables s p r c there in
           let first = w.came p (Lacp pdu) a.0 c (some-port_in s (x.far r c) p back) in
-          let fresh = subst (Every (Fresh (count c) (party c))) first.1
-          (stamps.flight c c (ap (option_map (λ (a : Place). c)) back)) in
+          let fresh = subst (Every (Fresh (count c) (party c))) first.1 (stamps.flight c c (ap (option_map (λ (a : Place). c)) back)) in
           let own = subst (Every (NamesSender (x.setup r).system c)) first.1 (names c) in
           subst (λ (l : TakenLacpdu). FreshPdu (count c) (party c) l.pdu l.stamp × IsOwn (x.setup r).system c l.pdu) this (fresh.0, own.0))
       | inr y ↦ i q c l (sym (cond_false (eqb q p) (x.far s p) (source q) y) ∙ e)
@@ -279,10 +277,7 @@ pub call_kept : (x : NetworkSetup) → IsNetworkSetup x → (s : ℕ) (call : Mo
     → mid.count ≡ old.count → Calling x s call stamp (λ t. party_at (old.view t)) mid → NetworkCall x s call stamp old mid new → AllFine x new
 call_kept x f s call stamp old mid new same i z =
     let end = calling_all x f s call stamp (λ t. party_at (old.view t)) z.0 mid z.1 i in
-    subst (AllFine x) (sym z.2.2) (record {
-      alike = end.alike;
-      each = λ r. counted_part (end.each r) (z.2.0 r) (λ p. rises r p (z.2.1 r p));
-    })
+    subst (AllFine x) (sym z.2.2) (record { alike = end.alike; each = λ r. counted_part (end.each r) (z.2.0 r) (λ p. rises r p (z.2.1 r p)) })
   where
     counts : (ms : List (Move × Bool)) (w : Network) → (network_after_all x s stamp ms w).count ≡ w.count
     counts [] w = refl
@@ -295,8 +290,7 @@ call_kept x f s call stamp old mid new same i z =
         ⊎ ((party_at ((network_after_all x s stamp z.0 mid).view r) p ≢ party_at (old.view r) p)
         × (z.2.0 r p ≡ suc ((network_after_all x s stamp z.0 mid).count r p)))
     rises r p h =
-        let e : old.count r p ≡ (network_after_all x s stamp z.0 mid).count r p =
-        ap (λ (n : ℕ → ℕ → ℕ). n r p) (sym same ∙ sym (counts z.0 mid)) in
+        let e : old.count r p ≡ (network_after_all x s stamp z.0 mid).count r p = ap (λ (n : ℕ → ℕ → ℕ). n r p) (sym same ∙ sym (counts z.0 mid)) in
         elim h [ inl y ↦ inl (y.0, y.1 ∙ e) | inr y ↦ inr (y.0, y.1 ∙ ap suc e) ]
 
 begins_all : (x : NetworkSetup) (s stamp : ℕ) (ms : List (Move × Bool)) (w : Network) (m : Message) (t q : ℕ) → BeginsWith m (w.towards t q)

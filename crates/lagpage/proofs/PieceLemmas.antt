@@ -51,8 +51,7 @@ pub handed_out : (p q : Pieces) → q.is_ended ≡ p.is_ended → q.reading ≡ 
     → (h : History) → IsBy h p → IsBy (record h { out = h.out ++ p.reading.report.to_write }) q
 handed_out p q same cleared h by = record { ended = same ∙ by.ended; explains = so h.ended by.explains }
   where
-    so : (b : Bool) → Explains b h.settings h.fed h.out p.reading
-        → Explains b h.settings h.fed (h.out ++ p.reading.report.to_write) q.reading
+    so : (b : Bool) → Explains b h.settings h.fed h.out p.reading → Explains b h.settings h.fed (h.out ++ p.reading.report.to_write) q.reading
     so false x = stands_written h.settings h.fed h.out p.reading q.reading x cleared
     so true (all, counts) = (
       all ∙ sym (append-nil (h.out ++ p.reading.report.to_write))

@@ -63,7 +63,6 @@ pub limits_are : (ms : Members) (cables : List CablePlan) → cables_in ms ≡ O
 limits_are ms cables e = All-map (λ limit. limit ≢ Some 0) (λ c. c.limit) cables
     (among (value_at (codes "cable") (list_in as_table) (Some []) ms) e)
   where
-    among : (o : Option (List Members)) → (or_fault fault.Cables o >>= each_at_place cable_of 1) ≡ Ok cables
-        → All (λ c. IsLimit c.limit) cables
+    among : (o : Option (List Members)) → (or_fault fault.Cables o >>= each_at_place cable_of 1) ≡ Ok cables → All (λ c. IsLimit c.limit) cables
     among None e = absurd (let f = e in cc)
     among (Some mss) e = each_has 1 mss cables e

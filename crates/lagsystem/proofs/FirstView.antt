@@ -154,9 +154,8 @@ AllUnselected l = AllByRecursion (λ s. s.port.choice ≡ Unselected) l
 
 promote_idle : (aggs : AggregatorsValue) (agg : AggId) (start l m : List SystemPort) → AllUnselected start → PromotesNext aggs agg l m
     → l ≡ start → m ≡ start
-promote_idle aggs agg start l m a h e = absurd
-    (standing (sym (all-get (λ s. s.port.choice ≡ Unselected) start h.0 h.1 (ap (λ x. slice_get x h.0) (sym e) ∙ h.3) a)
-    ∙ next_stands aggs agg l m h))
+promote_idle aggs agg start l m a h e = absurd (standing
+    (sym (all-get (λ s. s.port.choice ≡ Unselected) start h.0 h.1 (ap (λ x. slice_get x h.0) (sym e) ∙ h.3) a) ∙ next_stands aggs agg l m h))
   where
     standing : Unselected ≡ Standby agg → ⊥
     standing x = cc

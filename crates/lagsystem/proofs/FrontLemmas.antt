@@ -32,8 +32,7 @@ any_from p none (x ∷ xs) i e = onward (x ∷ xs) i (λ k lt. none _ (front_sel
     onward : (l : List SystemPort) (i : ℕ) → ((k : ℕ) → k < i → p (get_or l k x) ≡ false) → list_any p (drop i l) ≡ list_any p l
     onward l zero h = refl
     onward [] (suc i) h = refl
-    onward (y ∷ ys) (suc i) h =
-        onward ys i (λ k lt. h (suc k) (omega (arith, lt))) ∙ sym (ap (λ b. b || list_any p ys) (h 0 (omega arith)))
+    onward (y ∷ ys) (suc i) h = onward ys i (λ k lt. h (suc k) (omega (arith, lt))) ∙ sym (ap (λ b. b || list_any p ys) (h 0 (omega arith)))
 
 -- where there is none, each port is SELECTED
 pub none_unselected : (l : List SystemPort) → first_unselected l ≡ None → list_any (λ s. not (is_selected s.port.choice)) l ≡ false

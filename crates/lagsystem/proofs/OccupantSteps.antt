@@ -104,23 +104,21 @@ first_placed s h =
 
 pub Step-placed : (gives : ℕ → ℕ → ℕ → Type 0) (old : SystemState) (call : Call) (answer : Reply) (new : SystemState)
     → Step gives old call answer new → HasPorts old → IsPlaced old → IsPlaced new
-Step-placed gives old call answer new h ports p =
-    Step-preserves_ports gives old (λ call answer new. aggregators_value new ≡ aggregators_value old → IsPlaced new)
-    (λ call answer new none e k. same_placed old new k e p) (record {
-      tick = λ new h k. settled_placed Ticks old new r (keeps_tick old)
-          (λ mid x. zip_on (λ p q. RunsToRest receive_rows (count_down p) q) tick_stays (aggregators_value old) old.system_ports
-          mid.system_ports x.0 p) h;
-      link = λ n up done new h k. settled_placed (SetsLink n up) old new r (keeps_link n up old)
-          (λ mid x. place_on (SetsPortEnabled old.max_links up) (link_stays old.max_links up) (port_index n old.system_ports)
+Step-placed gives old call answer new h ports p = Step-preserves_ports gives old (λ call answer new. aggregators_value new ≡ aggregators_value old
+    → IsPlaced new) (λ call answer new none e k. same_placed old new k e p) (record {
+      tick = λ new h k. settled_placed Ticks old new r (keeps_tick old) (λ mid x. zip_on (λ p q. RunsToRest receive_rows (count_down p) q) tick_stays
           (aggregators_value old) old.system_ports mid.system_ports x.0 p) h;
+      link = λ n up done new h k. settled_placed (SetsLink n up) old new r (keeps_link n up old)
+          (λ mid x. place_on (SetsPortEnabled old.max_links up) (link_stays old.max_links up)
+          (port_index n old.system_ports) (aggregators_value old) old.system_ports mid.system_ports x.0 p) h;
       take = λ n octets v answer new told h k. on_port n (ProcessesLacpdu v) (taking_stays v) new h;
       change = λ n change new h k. on_port n (ChangesParty change) (configure_stays change) new h;
       restart = λ new e first k. first_placed new first;
       send = λ n i s answer octets new at e due is told set k.
           let t : SystemPort = record s { port = after_sending s.port } in
           let l = old.system_ports in
-          subst IsPlaced (sym set) (placed_on (aggregators_value old) l (slice_set l i t)
-          (set_stays l i s t e (sending_stays s.port), set_fewer l i s t e (sending_stays s.port)) p);
+          subst IsPlaced (sym set) (placed_on
+          (aggregators_value old) l (slice_set l i t) (set_stays l i s t e (sending_stays s.port), set_fewer l i s t e (sending_stays s.port)) p);
     }) call answer new h (ap aggregators_value (Step-frame gives old call answer new h))
   where
     r : Rises 0 (port_numbers old.system_ports)

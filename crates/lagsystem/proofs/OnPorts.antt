@@ -83,8 +83,7 @@ Step-carried gives old call answer new h c = Step-preserves gives old (λ call a
         let agg = aggregator_numbered g in
         let same : distributing agg new.system_ports ≡ distributing agg old.system_ports =
         ap (λ (s : SystemState). distributing agg s.system_ports) set ∙ sent_distributing agg old.system_ports i x e in
-        subst (λ l. is_among l p ≡ true) (sym same)
-        (c g k p (sym (ap (λ (s : SystemState). assignment_of s.table g k) set) ∙ on));
+        subst (λ l. is_among l p ≡ true) (sym same) (c g k p (sym (ap (λ (s : SystemState). assignment_of s.table g k) set) ∙ on));
   };
   same = λ call answer new none e. subst OnlyOnDistributing (sym e) c;
   mark = λ n port id answer new none m e. table_carried old new e c
@@ -94,8 +93,7 @@ Step-carried gives old call answer new h c = Step-preserves gives old (λ call a
   offer = λ agg octets port new h.
       let conv = conversation_number old octets in
       let may = assigned_may gives conv (distributing agg old.system_ports) (assignment_of_frame old agg octets) port h.1 in
-      sets_carried agg conv (On port) old new h.2.0 h.2.1 c
-      (λ p e. may_carry old agg.0 p port (assignment_of_frame old agg octets) may e);
+      sets_carried agg conv (On port) old new h.2.0 h.2.1 c (λ p e. may_carry old agg.0 p port (assignment_of_frame old agg octets) may e);
   move = λ agg conv port s answer new e h.
       let was = assignment_of old.table agg.0 conv in
       let m = is_moved (next_identifier old.table) (distributing agg old.system_ports) port was s (moved_to agg conv port old s e) in

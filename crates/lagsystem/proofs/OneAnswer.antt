@@ -298,10 +298,8 @@ steps_one gives one old u rest same call a b new last h k = each call a b h k
         no_receiver (port_index n old.system_ports) old.system_ports k.0 h.cause k.2
     each (Receive n octets) (reply.Receive (Err f)) (reply.Receive (Err g)) h k =
         told (λ x. reply.Receive (Err x)) (no_port old u (port_index n old.system_ports) f g new last same h k)
-    each (Configure n c) (reply.Configure (Ok true)) (reply.Configure (Ok true)) h k = (
-      refl,
-      place_one (ChangesParty c) (party_one c) (port_index n old.system_ports) old u new last rest same h k,
-    )
+    each (Configure n c) (reply.Configure (Ok true)) (reply.Configure (Ok true)) h k =
+        (refl, place_one (ChangesParty c) (party_one c) (port_index n old.system_ports) old u new last rest same h k)
     each (Configure n c) (reply.Configure (Ok true)) (reply.Configure (Ok false)) h k =
         absurd (has_values (port_index n old.system_ports) c old h.0.system_ports k.0 h.1.0)
     each (Configure n c) (reply.Configure (Ok true)) (reply.Configure (Err f)) h k =
@@ -309,19 +307,16 @@ steps_one gives one old u rest same call a b new last h k = each call a b h k
     each (Configure n c) (reply.Configure (Ok false)) (reply.Configure (Ok true)) h k =
         absurd (has_values (port_index n old.system_ports) c old k.0.system_ports h.0 k.1.0)
     each (Configure n c) (reply.Configure (Ok false)) (reply.Configure (Ok false)) h k = (refl, stays old u new last same h.1 k.1)
-    each (Configure n c) (reply.Configure (Ok false)) (reply.Configure (Err f)) h k =
-        no_holder (port_index n old.system_ports) c old k.cause h.0
+    each (Configure n c) (reply.Configure (Ok false)) (reply.Configure (Err f)) h k = no_holder (port_index n old.system_ports) c old k.cause h.0
     each (Configure n c) (reply.Configure (Err f)) (reply.Configure (Ok true)) h k =
         no_place (ChangesParty c) (port_index n old.system_ports) old.system_ports k.0.system_ports h.cause k.1.0
-    each (Configure n c) (reply.Configure (Err f)) (reply.Configure (Ok false)) h k =
-        no_holder (port_index n old.system_ports) c old h.cause k.0
+    each (Configure n c) (reply.Configure (Err f)) (reply.Configure (Ok false)) h k = no_holder (port_index n old.system_ports) c old h.cause k.0
     each (Configure n c) (reply.Configure (Err f)) (reply.Configure (Err g)) h k =
         told (λ x. reply.Configure (Err x)) (no_port old u (port_index n old.system_ports) f g new last same h k)
     each Restart reply.Restart reply.Restart h k = (refl, restarts_one old u new last h k)
     each (Transmit n) (reply.Transmit (Ok x)) (reply.Transmit (Ok y)) h k =
         told (λ z. reply.Transmit (Ok z)) (transmits_one (port_index n old.system_ports) old u x y new last same h k)
-    each (Transmit n) (reply.Transmit (Ok x)) (reply.Transmit (Err f)) h k =
-        no_sender (port_index n old.system_ports) old x new k.cause h
+    each (Transmit n) (reply.Transmit (Ok x)) (reply.Transmit (Err f)) h k = no_sender (port_index n old.system_ports) old x new k.cause h
     each (Transmit n) (reply.Transmit (Err f)) (reply.Transmit (Ok x)) h k =
         no_sender (port_index n old.system_ports) (with_table old u) x last h.cause k
     each (Transmit n) (reply.Transmit (Err f)) (reply.Transmit (Err g)) h k =

@@ -8,10 +8,8 @@ use Rattle.std.proofs.lemmas.List.Kept.{AllPairs-from_increasing}
 -- of ascending ports the one with the number at a place is the first with that number
 pub place_at : (n : ℕ) (system_ports : List SystemPort) (i : ℕ) (d : SystemPort) → IsStrictlyIncreasing (port_numbers system_ports)
     → i < length system_ports → (get_or system_ports i d).number ≡ n → port_index n system_ports ≡ Some i
-place_at n system_ports i d r l e =
-    ap (λ k. cond (nat_lt k (length system_ports)) (Some k) None)
-    (position_or_len_is (λ s. s.number == n) system_ports i d (omega (arith, l)) earlier
-    (λ h. same (get_or system_ports i d).number n e))
+place_at n system_ports i d r l e = ap (λ k. cond (nat_lt k (length system_ports)) (Some k) None)
+    (position_or_len_is (λ s. s.number == n) system_ports i d (omega (arith, l)) earlier (λ h. same (get_or system_ports i d).number n e))
     ∙ ap (λ b. cond b (Some i) None) (lt-ltb i (length system_ports) l)
   where
     unequal : (m k : ℕ) → m < k → (m == k) ≡ false

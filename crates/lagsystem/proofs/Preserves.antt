@@ -30,8 +30,7 @@ pub marker_silent : (n id port : ℕ) (mac : List ℕ) (old : SystemState) (answ
 marker_silent n id port mac old answer new h m now before = (
   refl,
   ap (λ a. sends_after m now (Transmit n) (reply.Transmit (Ok a)) before) h.3
-      ∙ ap (λ k. if (n == m) && (k == 1) then before ++ now ∷ [] else before) (subtype_of mac h.0 2 h.1 h.2.table.fields_hold.0)
-      ∙ other (n == m),
+      ∙ ap (λ k. if (n == m) && (k == 1) then before ++ now ∷ [] else before) (subtype_of mac h.0 2 h.1 h.2.table.fields_hold.0) ∙ other (n == m),
 )
   where
     other : (b : Bool) → (if b && false then before ++ now ∷ [] else before) ≡ before

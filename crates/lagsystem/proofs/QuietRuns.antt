@@ -65,25 +65,20 @@ one_tick gives j old new s h step = record {
     aggs = ap aggregators_value step.1.2
 
     muxes : MuxesAreSettled mid.keys mid.system_ports
-    muxes = subst (λ l. MuxesAreSettled mid.keys l) (sym all_counted)
-        (subst (λ (a : AggregatorsValue). MuxesAreSettled a.keys (map counted old.system_ports)) (sym aggs)
-        (all_among old.keys old.system_ports (map counted old.system_ports) (map counted old.system_ports) seen
-        (still_counted j old old.keys old.system_ports old.system_ports each s.quiet.0)))
+    muxes = subst (λ l. MuxesAreSettled mid.keys l) (sym all_counted) (subst (λ (a : AggregatorsValue). MuxesAreSettled a.keys
+        (map counted old.system_ports)) (sym aggs) (all_among old.keys old.system_ports (map counted old.system_ports)
+        (map counted old.system_ports) seen (still_counted j old old.keys old.system_ports old.system_ports each s.quiet.0)))
 
     none : NoneIsNext (aggregators_value mid) (views mid.system_ports)
     none = subst (λ l. NoneIsNext (aggregators_value mid) (views l)) (sym all_counted)
-        (subst (λ l. NoneIsNext (aggregators_value mid) l) (sym seen)
-        (subst (λ a. NoneIsNext a (views old.system_ports)) (sym aggs) s.promoted))
+        (subst (λ l. NoneIsNext (aggregators_value mid) l) (sym seen) (subst (λ a. NoneIsNext a (views old.system_ports)) (sym aggs) s.promoted))
 
     paced : PeriodicsAreSettled mid.system_ports
     paced = subst PeriodicsAreSettled (sym all_counted) (counted_paced j old old.system_ports each s.quiet.1)
 
-    on_distributing : (g k p : ℕ) → assignment_of mid.table g k ≡ On p
-        → is_among (distributing (aggregator_numbered g) mid.system_ports) p ≡ true
-    on_distributing g k p e =
-        ap (λ l. is_among l p) (ap (distributing (aggregator_numbered g)) all_counted
-        ∙ counted_distributing (aggregator_numbered g) old.system_ports)
-        ∙ s.carried g k p (on_before (assignment_of old.table g k) p (sym (step.1.1.states g k) ∙ e))
+    on_distributing : (g k p : ℕ) → assignment_of mid.table g k ≡ On p → is_among (distributing (aggregator_numbered g) mid.system_ports) p ≡ true
+    on_distributing g k p e = ap (λ l. is_among l p) (ap (distributing (aggregator_numbered g)) all_counted ∙ counted_distributing
+        (aggregator_numbered g) old.system_ports) ∙ s.carried g k p (on_before (assignment_of old.table g k) p (sym (step.1.1.states g k) ∙ e))
 
     holds : HoldsConversations mid mid
     holds = record {
@@ -116,8 +111,7 @@ one_tick gives j old new s h step = record {
     }
 
     left : ticks_until_due new ≡ fewer 1 (ticks_until_due old)
-    left =
-        (λ i. sooner (table_left j old.table new.table table waits i) (soonest (map (ticks_until_due_on new) (ports i))))
+    left = (λ i. sooner (table_left j old.table new.table table waits i) (soonest (map (ticks_until_due_on new) (ports i))))
         ∙ (ap (sooner (fewer 1 (ticks_until_next_wanted old.table)))
         (each_left j old new old.system_ports (λ n. ap is_some (same_marker n j old.table new.table table waits)) each)
         ∙ fewer_sooner 1 (ticks_until_next_wanted old.table) (soonest (map (ticks_until_due_on old) old.system_ports)))
@@ -176,11 +170,9 @@ joined m old mid new lasts one rest = record {
     next = one.table.next i;
     states = new.table.states;
   });
-  conversations = λ g k i. rest.conversations g k (
-    i.0,
-    subst (λ n. g ≤ n) (sym one.table.aggs) i.1,
-    subst (λ n. k < n) (sym one.table.conversations) i.2,
-  ) ∙ (ap (waited m) (one.table.states g k ∙ longer g k i) ∙ waited_longer m (assignment_of old.table g k));
+  conversations =
+      λ g k i. rest.conversations g k (i.0, subst (λ n. g ≤ n) (sym one.table.aggs) i.1, subst (λ n. k < n) (sym one.table.conversations) i.2)
+      ∙ (ap (waited m) (one.table.states g k ∙ longer g k i) ∙ waited_longer m (assignment_of old.table g k));
   left = rest.left ∙ (ap (fewer m) one.left ∙ (fewer_twice m 1 (ticks_until_due old) ∙ ap (λ n. fewer n (ticks_until_due old)) next));
 }
   where

@@ -182,27 +182,26 @@ settled_still aggs old new r s =
     let last : List SystemPort = after_choices aggs (length mid) mid in
     let n0 = promoted_numbers aggs (length keys) s.one mid s.chooses.1 ∙ zip_numbers (RunsToRest (mux_rows false)) old s.one s.stops in
     let r0 : Rises 0 (port_numbers mid) = subst (λ ns. Rises 0 ns) (sym n0) r in
-    let a1 : AllByRecursion RestsAlone s.one =
-    zip_all (PortChangesBy (RunsToRest (mux_rows false))) RestsAlone (λ x y m s. m.1.2) old s.one s.stops in
+    let a1 : AllByRecursion RestsAlone s.one = zip_all (PortChangesBy (RunsToRest (mux_rows false))) RestsAlone
+    (λ x y m s. m.1.2) old s.one s.stops in
     let a0 : AllByRecursion RestsAlone mid = promoted_rests aggs (length keys) s.one mid s.chooses.1 a1 in
-    let a2 : AllByRecursion (λ x. RestsAlone x × TakesNone keys (views last) (selection_view x) x.held) last =
-    all_both RestsAlone (λ x. TakesNone keys (views last) (selection_view x) x.held) last
-    (chosen_rests aggs (length mid) mid a0) (none_takes aggs mid r0) in
-    let m4 : PortsChangeBy (RunsReady keys (views last)) last s.four =
-    subst (λ l. PortsChangeBy (RunsReady keys (views l)) l s.four) s.chooses.2 s.runs in
+    let a2 : AllByRecursion (λ x. RestsAlone x × TakesNone keys (views last) (selection_view x) x.held) last = all_both RestsAlone
+    (λ x. TakesNone keys (views last) (selection_view x) x.held) last (chosen_rests aggs (length mid) mid a0) (none_takes aggs mid r0) in
+    let m4 : PortsChangeBy
+    (RunsReady keys (views last)) last s.four = subst (λ l. PortsChangeBy (RunsReady keys (views l)) l s.four) s.chooses.2 s.runs in
     let a4 : AllByRecursion (Moved keys s.four) s.four = moved keys last s.four m4 a2 in
     let seen : views new ≡ views s.four = periodic_views s.four new s.paces in
     let r5 : Rises 0 (port_numbers new) = subst (λ ns. Rises 0 ns) (sym (zip_numbers RunsPeriodic s.four new s.paces
     ∙ zip_numbers (RunsReady keys (views last)) last s.four m4 ∙ chosen_numbers aggs (length mid) mid)) r0 in
     let a5 : AllByRecursion (Moved keys new) new = zip_gives (PortChangesBy RunsPeriodic) (Moved keys s.four) (Moved keys new) (λ y z m k. (
-      subst (λ l. TakesNone keys l (selection_view z) z.held) (sym seen)
-          (takes_alike keys (views s.four) y z (periodic_view y z m) (ap (λ (x : SystemPort). x.held) m.0) k.0),
+      subst (λ l. TakesNone keys l (selection_view z) z.held)
+          (sym seen) (takes_alike keys (views s.four) y z (periodic_view y z m) (ap (λ (x : SystemPort). x.held) m.0) k.0),
       periodic_rest y.port z.port m.1 k.1,
     )) s.four new s.paces a4 in
     let still : MuxesAreSettled keys new = each_place (MuxIsSettled keys new) new (λ j z e. record {
       mux = (all-get (Moved keys new) new j z e a5).1;
-      apart = taken_none keys new r5 (both_first (λ z. TakesNone keys (views new) (selection_view z) z.held) (λ z. AtRest (mux_rows false) z.port) new a5)
-          j z e;
+      apart = taken_none keys new r5
+          (both_first (λ z. TakesNone keys (views new) (selection_view z) z.held) (λ z. AtRest (mux_rows false) z.port) new a5) j z e;
       unready = ap (λ l. ready_of keys l z.port.choice) seen ∙ none_ready keys last s.four m4 z.port.choice;
     }) in
     (still, zip_all (PortChangesBy RunsPeriodic) PeriodicIsSettled periodic_paced s.four new s.paces)

@@ -137,20 +137,17 @@ pub Step-rested : (gives : ℕ → ℕ → ℕ → Type 0) (old : SystemState) (
     → Step gives old call answer new → PortsConsistent old.system_ports → PortsConsistent new.system_ports
 Step-rested gives old call answer new h a = Step-preserves_ports gives old (λ call answer new. PortsConsistent new.system_ports)
     (λ call answer new none e. subst PortsConsistent (sym e) a) (record {
-      tick = λ new h. settled_rested Ticks old new (λ mid own. zip_all _ IsAwake (λ x y m. receive_awake (count_down x.port) y.port m.1)
-          old.system_ports mid.system_ports own.0) h;
-      link = λ n up done new h. settled_rested (SetsLink n up) old new (λ mid own. place_kept IsAwake (SetsPortEnabled old.max_links up)
-          (port_index n old.system_ports) old.system_ports mid.system_ports
-          (λ s q r k. receive_awake (record s.port { enabled = up; choice = choice_with_link old.max_links up s.port.choice }) q r)
-          own.0 a.0) h;
+      tick = λ new h. settled_rested Ticks old new
+          (λ mid own. zip_all _ IsAwake (λ x y m. receive_awake (count_down x.port) y.port m.1) old.system_ports mid.system_ports own.0) h;
+      link = λ n up done new h. settled_rested (SetsLink n up) old new
+          (λ mid own. place_kept IsAwake (SetsPortEnabled old.max_links up) (port_index n old.system_ports) old.system_ports mid.system_ports
+          (λ s q r k. receive_awake (record s.port { enabled = up; choice = choice_with_link old.max_links up s.port.choice }) q r) own.0 a.0) h;
       take = λ n octets v answer new told h. on_port n (ProcessesLacpdu v) (takes_awake v) new h;
-      change = λ n change new h. on_port n (ChangesParty change)
-          (λ p q r k. starts_awake (record p { party = changed_party change p.party }) q r.1) new h;
+      change =
+          λ n change new h. on_port n (ChangesParty change) (λ p q r k. starts_awake (record p { party = changed_party change p.party }) q r.1) new h;
       restart = λ new e first. first_rested new first;
-      send = λ n i x answer octets new at e due is told set. (
-        sent (none_enabled receive_rows) (λ p. refl) new i x e set a.0,
-        sent mux_consistent (λ p. refl) new i x e set a.1,
-      );
+      send = λ n i x answer octets new at e due is told set.
+          (sent (none_enabled receive_rows) (λ p. refl) new i x e set a.0, sent mux_consistent (λ p. refl) new i x e set a.1);
     }) call answer new h
   where
     on_port : (n : ℕ) (R : Machines → Machines → Type 0)

@@ -227,9 +227,8 @@ some_crowds agg most all (x ∷ xs) h k =
     let both = or_parts (is_crowded most all x.port.choice) (list_any (λ y. is_crowded most all y.port.choice) xs) k in
     by_first (is_member_up agg x) refl both.0 (λ e. some_crowds agg most all xs e both.1)
   where
-    by_first : (b : Bool) → is_member_up agg x ≡ b → is_crowded most all x.port.choice ≡ false
-        → (list_any (is_member_up agg) xs ≡ true → nat_lt most (length (members_up agg all)) ≡ false)
-        → nat_lt most (length (members_up agg all)) ≡ false
+    by_first : (b : Bool) → is_member_up agg x ≡ b → is_crowded most all x.port.choice ≡ false → (list_any (is_member_up agg) xs ≡ true
+        → nat_lt most (length (members_up agg all)) ≡ false) → nat_lt most (length (members_up agg all)) ≡ false
     by_first true e here later = sym (chosen_crowds agg most all x.port.enabled x.port.choice e) ∙ here
     by_first false e here later = later (sym (ap (λ b. b || list_any (is_member_up agg) xs) e) ∙ h)
 

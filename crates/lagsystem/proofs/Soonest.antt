@@ -106,21 +106,19 @@ at_once b = if b then Some zero else None
 by_port : (s : SystemState) (x : SystemPort) (n : ℕ) → FrameHas n s x ⊎ (TimerHas n x.port ⊎ WindowHas n x.port)
     → is_by (ticks_until_due_on s x) (Some n) ≡ true
 by_port s x n h = elim h [
-  | inl a ↦ by_left (ticks_until_frame s x) (soonest (current ∷ periodic ∷ wait ∷ left ∷ [])) (Some n)
-      (by_number n (ticks_until_frame s x) (ap at_once a.0 ∙ ap Some (sym a.1)))
+  | inl a ↦ by_left (ticks_until_frame s x) (soonest (current ∷ periodic ∷ wait ∷ left ∷ []))
+      (Some n) (by_number n (ticks_until_frame s x) (ap at_once a.0 ∙ ap Some (sym a.1)))
   | inr b ↦ by_right (ticks_until_frame s x) (soonest (current ∷ periodic ∷ wait ∷ left ∷ [])) (Some n) (elim b [
     | inl t ↦ elim t.1 [
       | inl e ↦ by_left current (soonest (periodic ∷ wait ∷ left ∷ [])) (Some n) (by_timer x.port.current_while n t.0 e)
       | inr f ↦ by_right current (soonest (periodic ∷ wait ∷ left ∷ [])) (Some n) (elim f [
         | inl e ↦ by_left periodic (soonest (wait ∷ left ∷ [])) (Some n) (by_timer x.port.periodic_timer n t.0 e)
-        | inr e ↦ by_right periodic (soonest (wait ∷ left ∷ [])) (Some n)
-            (by_left wait (soonest (left ∷ [])) (Some n) (by_timer x.port.wait_while n t.0 e))
+        | inr e ↦ by_right periodic
+            (soonest (wait ∷ left ∷ [])) (Some n) (by_left wait (soonest (left ∷ [])) (Some n) (by_timer x.port.wait_while n t.0 e))
       ])
     ]
-    | inr w ↦ by_right current (soonest (periodic ∷ wait ∷ left ∷ [])) (Some n)
-        (by_right periodic (soonest (wait ∷ left ∷ [])) (Some n)
-        (by_right wait (soonest (left ∷ [])) (Some n)
-        (by_left left None (Some n) (by_room x.port n w))))
+    | inr w ↦ by_right current (soonest (periodic ∷ wait ∷ left ∷ [])) (Some n) (by_right periodic
+        (soonest (wait ∷ left ∷ [])) (Some n) (by_right wait (soonest (left ∷ [])) (Some n) (by_left left None (Some n) (by_room x.port n w))))
   ])
 ]
   where

@@ -49,9 +49,8 @@ first_quiet s p h =
 
 pub Step-quiet : (gives : ℕ → ℕ → ℕ → Type 0) (old : SystemState) (call : Call) (answer : Reply) (new : SystemState)
     → Step gives old call answer new → HasPorts old → IsQuiet old → IsQuiet new
-Step-quiet gives old call answer new h p q =
-    Step-preserves_ports gives old (λ call answer new. aggregators_value new ≡ aggregators_value old → HasPorts new → IsQuiet new)
-    (λ call answer new none e k n. same_quiet old new k e q) (record {
+Step-quiet gives old call answer new h p q = Step-preserves_ports gives old (λ call answer new. aggregators_value new ≡ aggregators_value old
+    → HasPorts new → IsQuiet new) (λ call answer new none e k n. same_quiet old new k e q) (record {
       tick = λ new h k n. settled_quiet Ticks old new r (keeps_tick old) h;
       link = λ m up done new h k n. settled_quiet (SetsLink m up) old new r (keeps_link m up old) h;
       take = λ m octets v answer new told h k n. on_port m (ProcessesLacpdu v) new h;

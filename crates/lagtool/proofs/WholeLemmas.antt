@@ -151,15 +151,13 @@ whole_matches c words m shape matches kinds =
 
 -- an error of one of the kinds is a cause of the fault that keeps it
 cause_of : (kinds : Kinds) (e : Error) (f : LineFault) → HasKind kinds e → KeepsKind e f → IsCause kinds f
-cause_of kinds e (Help error) h k = subst (λ (x : Error). IsHelpOrVersion (kind_of x) × IsAmong (kind_of x) kinds)
-    (sym k.0) (k.1, among h k.1)
+cause_of kinds e (Help error) h k = subst (λ (x : Error). IsHelpOrVersion (kind_of x) × IsAmong (kind_of x) kinds) (sym k.0) (k.1, among h k.1)
   where
     among : HasKind kinds e → IsHelpOrVersion (kind_of e) → IsAmong (kind_of e) kinds
     among (inl o) (inl p) = let bad : OutOfMemory ≡ DisplayHelp = sym o ∙ p in cc
     among (inl o) (inr p) = let bad : OutOfMemory ≡ DisplayVersion = sym o ∙ p in cc
     among (inr a) p = a
-cause_of kinds e (Usage error) h k =
-    subst (λ (x : Error). (kind_of x ≢ DisplayHelp) × (kind_of x ≢ DisplayVersion) × IsAmong (kind_of x) kinds)
+cause_of kinds e (Usage error) h k = subst (λ (x : Error). (kind_of x ≢ DisplayHelp) × (kind_of x ≢ DisplayVersion) × IsAmong (kind_of x) kinds)
     (sym k.0) (k.1, k.2, among h)
   where
     among : HasKind kinds e → IsAmong (kind_of e) kinds

@@ -12,8 +12,7 @@ use Rattle.lagtool_capture.specs.declared.line.WhatText.TheVariants as what
 
 line_preceded : (out : List ℕ) (time : Option ℕ) (e : SlowFrame) (t : WhatText) (s : ReportState)
     → with_line time e t (preceded out s) ≡ preceded out (with_line time e t s)
-line_preceded out time e t s =
-    ap (λ (w : List ℕ). record s { to_write = w }) (by (frame_line s.settings.json s.first time e t) s.settings.frames)
+line_preceded out time e t s = ap (λ (w : List ℕ). record s { to_write = w }) (by (frame_line s.settings.json s.first time e t) s.settings.frames)
   where
     by : (line : List ℕ) (frames : Bool) → cond frames ((out ++ s.to_write) ++ line) (out ++ s.to_write) ≡ out ++ cond frames (s.to_write ++ line) s.to_write
     by line true = append_assoc out s.to_write line

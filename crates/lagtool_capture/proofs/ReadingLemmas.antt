@@ -148,11 +148,7 @@ module _ (piece : List ℕ) (w v : ReadingState) (clear : IsClear w) (le : w.ski
             h.skip ∙ none_skipped,
             (
               f,
-              (
-                refl,
-                subst (λ k. Stops k v.reader (Some f)) same
-                    (subst (Stops (drop (h.taken.count + h.taken.skip) b) v.reader) e h.steps.stops),
-              ),
+              (refl, subst (λ k. Stops k v.reader (Some f)) same (subst (Stops (drop (h.taken.count + h.taken.skip) b) v.reader) e h.steps.stops)),
             ),
           )
 
@@ -187,9 +183,8 @@ stands_first settings w h = record {
   goes = λ more. (
     length more,
     subst (λ k. length k ≤ length more) (sym (nothing more)) (omega arith),
-    ap (λ k. capture_from (length more) k at_start more) (place more)
-        ∙ ap (λ r. capture_from (length more) (next_place 0 w more) r more) (sym h.reader)
-        ∙ ap (capture_from (length more) (next_place 0 w more) w.reader) (sym (nothing more)),
+    ap (λ k. capture_from (length more) k at_start more) (place more) ∙ ap (λ r. capture_from (length more) (next_place 0 w more) r more)
+        (sym h.reader) ∙ ap (capture_from (length more) (next_place 0 w more) w.reader) (sym (nothing more)),
   );
   waits = subst (Waits w) (sym h.fault) (inl (ap length (nothing [])));
 }
@@ -288,9 +283,8 @@ refused_ends settings octets out w s f more none_skipped (some, is) =
     let l = length-append w.rest more in
     let place : next_place s.at w more ≡ s.at = by s.at w.skip (length (w.rest ++ more)) none_skipped in
     so ∙ ap (λ k. behind s.found (capture_from left k w.reader (next_octets w more))) place
-    ∙ ap (λ k. behind s.found (capture_from left s.at w.reader k)) next
-    ∙ ap (behind s.found) (ends_refused left s.at w.reader (w.rest ++ more) f (subst (λ k. length k ≤ left) next enough)
-    (omega (arith, l, some)) (step_refused w.reader w.rest more f is))
+    ∙ ap (λ k. behind s.found (capture_from left s.at w.reader k)) next ∙ ap (behind s.found) (ends_refused left s.at w.reader
+    (w.rest ++ more) f (subst (λ k. length k ≤ left) next enough) (omega (arith, l, some)) (step_refused w.reader w.rest more f is))
   where
     by : (at k l : ℕ) → k ≡ 0 → at + min k l ≡ at
     by at k l z = omega (arith, z)

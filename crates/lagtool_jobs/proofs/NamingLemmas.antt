@@ -211,8 +211,7 @@ few_texts : (o : Option Data) (texts : List (List ℕ)) → value_or (Some []) e
 few_texts None texts e = subst (λ (xs : List (List ℕ)). length xs ≤ 100000) (same_Some [] texts e) (omega arith)
 few_texts (Some d) texts e = listed (list_in as_str d) e
   where
-    within : (xs : List (List ℕ)) (b : Bool) → nat_le (length xs) 100000 ≡ b
-        → (if b then Some xs else None) ≡ Some texts → length texts ≤ 100000
+    within : (xs : List (List ℕ)) (b : Bool) → nat_le (length xs) 100000 ≡ b → (if b then Some xs else None) ≡ Some texts → length texts ≤ 100000
     within xs true le h = subst (λ (ys : List (List ℕ)). length ys ≤ 100000) (same_Some xs texts h) (grind (arith, nat_tests))
     within xs false le h = absurd (none-some texts h)
 

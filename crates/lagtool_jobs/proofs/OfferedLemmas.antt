@@ -175,10 +175,8 @@ sent_where_offered gives from to es rs start ran s g free k = by_side (side_of s
   where
     by_side : (o : Option Side) → side_of s ≡ o → sent_in (flow_of_system (side_of s) g k to) ≡ []
     by_side None e = ap (λ o. sent_in (flow_of_system o g k to)) e
-    by_side (Some t) e =
-        ap (λ o. sent_in (flow_of_system o g k to)) e
-        ∙ runs_keep gives es rs from to ran t g k (subst (λ n. is_offered n g es ≡ false) (number_named s t e) free)
-        ∙ first_sent from t g k start
+    by_side (Some t) e = ap (λ o. sent_in (flow_of_system o g k to)) e ∙ runs_keep gives es rs from to ran t g k
+        (subst (λ n. is_offered n g es ≡ false) (number_named s t e) free) ∙ first_sent from t g k start
 
 no_line : (s agg conv : ℕ) (x : Option FlowValue) → sent_in x ≡ [] → flow_line s agg conv x ≡ []
 no_line s agg conv x e = cond_true (length (sent_in x) == 0) [] _ (ap (λ xs. length xs == 0) e)

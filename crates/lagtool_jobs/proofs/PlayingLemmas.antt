@@ -114,13 +114,11 @@ next_fine gives old new es rs done e ran within fixed named few at =
 -- so a run stops only for lack of memory
 stops_for_memory : (gives : Algorithms) (old new : WorldState) (es : List Event) (stop : RunFault) → world_setup new ≡ world_setup old
     → AllNameExisting (length old.links) es → old.acted + length es ≤ most_events → RunStops gives old es stop new → stop.fault ≡ NoMemory
-stops_for_memory gives old new es stop fixed named few s =
-    elim s.fault [ inl h ↦ h.1 | inr h ↦ by_next (next_of es stop.done) refl h ]
+stops_for_memory gives old new es stop fixed named few s = elim s.fault [ inl h ↦ h.1 | inr h ↦ by_next (next_of es stop.done) refl h ]
   where
     by_next : (o : Option Event) → next_of es stop.done ≡ o → RefusesNext new o stop.fault → stop.fault ≡ NoMemory
     by_next None at h = absurd h
-    by_next (Some e) at h = h.named
-        ∙ ap cause_or_no_memory (next_fine gives old new es s.replies stop.done e s.acted s.within fixed named few at)
+    by_next (Some e) at h = h.named ∙ ap cause_or_no_memory (next_fine gives old new es s.replies stop.done e s.acted s.within fixed named few at)
 
 -- ---- events are played in pieces
 

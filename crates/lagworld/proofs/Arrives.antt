@@ -127,24 +127,21 @@ arrived : (gives : ℕ → ℕ → ℕ → Type 0) (s : Side) (p : ℕ) (item : 
     → IsTrue_to item.octets item.stamp → is_up a ≡ false → HalfAnswers gives (Receive p item.octets) (answer.Receive a) (half s j) mid
     → AfterReceive s p item a (with_half s mid j) r new → ItemCame s p item j new
 arrived gives s p item (Ok (received.Up agg)) mid r j new one history t u x y = absurd (true≢false u)
-arrived gives s p item (Ok received.TookLacpdu) mid r j new one history t u x y =
-    came gives s p item (Ok received.TookLacpdu) mid (set_last_lacpdu p (stamped_in item) mid.histories) j.links true j new
-    (y.1 ∙ written s (stamped_in item) mid j) t x
-    (λ q. count_heard p (stamped_in item) q mid.histories ∙ ap change_count_in (history_kept x q))
-    (record {
+arrived gives s p item (Ok received.TookLacpdu) mid r j new one history t u x y = came gives s p item
+    (Ok received.TookLacpdu) mid (set_last_lacpdu p (stamped_in item) mid.histories) j.links true j new (y.1 ∙ written s (stamped_in item) mid j) t x
+    (λ q. count_heard p (stamped_in item) q mid.histories ∙ ap change_count_in (history_kept x q)) (record {
       away = λ c. refl;
       towards = λ c. refl;
       whole = λ c. refl;
-      taken = λ q. ap (λ l. option_map model_taken (taken_in (history_at (set_last_lacpdu p (stamped_in item) l) q))) (histories_kept x)
-          ∙ taken_heard p (stamped_in item) (half s j).histories history q;
+      taken = λ q. ap (λ l. option_map model_taken (taken_in (history_at (set_last_lacpdu p (stamped_in item) l) q)))
+          (histories_kept x) ∙ taken_heard p (stamped_in item) (half s j).histories history q;
       sent = λ g k. ap (λ f. sent_in (flow_at f g k)) (flows_kept x);
       collected = λ g k. ap (λ f. collected_in (flow_at f g k)) (flows_kept x);
       forced = λ g k. ap (λ f. forced_in (flow_at f g k)) (flows_kept x);
     })
   where
     written : (s : Side) (lacpdu : StampedLacpdu) (mid : HalfState) (j : WorldState)
-        → with_half s (with_last_lacpdu p lacpdu (half s (with_half s mid j))) (with_half s mid j) ≡ with_half s
-        (with_last_lacpdu p lacpdu mid) j
+        → with_half s (with_last_lacpdu p lacpdu (half s (with_half s mid j))) (with_half s mid j) ≡ with_half s (with_last_lacpdu p lacpdu mid) j
     written One lacpdu mid j = refl
     written Two lacpdu mid j = refl
 arrived gives s p item (Ok (received.Respond frame)) mid r j new one history t u x y =
@@ -280,10 +277,8 @@ pub deliver_happens : (gives : Side → ℕ → ℕ → ℕ → Type 0) (s : Sid
     (old new : WorldState) → slice_get old.links i ≡ Some l → towards s l ≡ xs → IsCabling (world_setup old).cables
     → IsSome (history_at (half s old).histories (port_at s l)) → AreItems s xs old → DeliversFrom gives s i l xs old r new
     → Happens (world_setup old) (Event.Deliver (suc i) s) (model_world old) (model_world new)
-deliver_happens gives s i l xs r old new there e one history t x =
-    subst (λ (X : Type 0). X)
-    (λ k. DeliversFirst (world_setup old) (suc i) s (sym (end_is s old.links i l there) k) (sym (line_is s i l xs old there e) k)
-    (model_world old) (model_world new)) (first xs t x)
+deliver_happens gives s i l xs r old new there e one history t x = subst (λ (X : Type 0). X) (λ k. DeliversFirst (world_setup old)
+    (suc i) s (sym (end_is s old.links i l there) k) (sym (line_is s i l xs old there e) k) (model_world old) (model_world new)) (first xs t x)
   where
     first : (xs : List ItemValue) → AreItems s xs old → DeliversFrom gives s i l xs old r new
         → DeliversFirst (world_setup old) (suc i) s (Some (port_at s l)) (map item_message xs) (model_world old) (model_world new)
@@ -303,10 +298,8 @@ pub repeat_happens : (gives : Side → ℕ → ℕ → ℕ → Type 0) (s : Side
     (old new : WorldState) → slice_get old.links i ≡ Some l → towards s l ≡ xs → IsCabling (world_setup old).cables
     → IsSome (history_at (half s old).histories (port_at s l)) → RepeatsFrom gives s l xs old r new
     → Happens (world_setup old) (Event.Repeat (suc i) s) (model_world old) (model_world new)
-repeat_happens gives s i l xs r old new there e one history x =
-    subst (λ (X : Type 0). X)
-    (λ k. RepeatsFirst (world_setup old) (suc i) s (sym (end_is s old.links i l there) k) (sym (line_is s i l xs old there e) k)
-    (model_world old) (model_world new)) (first xs x)
+repeat_happens gives s i l xs r old new there e one history x = subst (λ (X : Type 0). X) (λ k. RepeatsFirst (world_setup old)
+    (suc i) s (sym (end_is s old.links i l there) k) (sym (line_is s i l xs old there e) k) (model_world old) (model_world new)) (first xs x)
   where
     first : (xs : List ItemValue) → RepeatsFrom gives s l xs old r new
         → RepeatsFirst (world_setup old) (suc i) s (Some (port_at s l)) (map item_message xs) (model_world old) (model_world new)

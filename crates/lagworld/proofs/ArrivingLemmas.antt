@@ -53,11 +53,9 @@ heard_found p lacpdu histories i history found read = grind (arith, nat_tests, c
 pub heard_nowhere : (p : ℕ) (lacpdu : StampedLacpdu) (histories : List PortHistory) → None ≡ history_index p histories
     → histories ≡ set_last_lacpdu p lacpdu histories
 heard_nowhere p lacpdu [] none = refl
-heard_nowhere p lacpdu (history ∷ histories) none =
-    sym (heard_at p lacpdu history (history ∷ histories)
-    ∙ set_past (history ∷ histories) (position_or_len (λ l. l.number == p) (history ∷ histories)) _
-    (past (position_or_len (λ l. l.number == p) (history ∷ histories)) (length (history ∷ histories))
-    (nat_lt (position_or_len (λ l. l.number == p) (history ∷ histories)) (length (history ∷ histories))) refl none))
+heard_nowhere p lacpdu (history ∷ histories) none = sym (heard_at p lacpdu history (history ∷ histories) ∙ set_past (history ∷ histories)
+    (position_or_len (λ l. l.number == p) (history ∷ histories)) _ (past (position_or_len (λ l. l.number == p) (history ∷ histories))
+    (length (history ∷ histories)) (nat_lt (position_or_len (λ l. l.number == p) (history ∷ histories)) (length (history ∷ histories))) refl none))
   where
     past : (n m : ℕ) (b : Bool) → nat_lt n m ≡ b → None ≡ cond b (Some n) None → m ≤ n
     past n m true e h = absurd (none-some n h)

@@ -66,8 +66,7 @@ port_counted old new k e none p = rw (party_seen new.state p, party_seen old.sta
         ∙ ap (λ l. change_count_in (option_map (change_counted new.state) (history_at l p))) e
 
     counted : (o : Option PortHistory) → history_at old.histories p ≡ o → ((party_of_port new.state p ≡ party_of_port old.state p)
-        × (change_count_in (option_map (change_counted new.state) o) ≡ change_count_in o))
-        ⊎ ((party_of_port new.state p ≢ party_of_port old.state p)
+        × (change_count_in (option_map (change_counted new.state) o) ≡ change_count_in o)) ⊎ ((party_of_port new.state p ≢ party_of_port old.state p)
         × (change_count_in (option_map (change_counted new.state) o) ≡ suc (change_count_in o)))
     counted None h =
         let before = no_party (party_of_port old.state p) (λ x. none-is_some (history_at old.histories p) h (k.logged p x)) in

@@ -205,14 +205,7 @@ module _ {C : Type 0} (items : C → List Item) (limit : C → Option ℕ) where
       by_line : (o : Option LinkState) → slice_get ls i ≡ o → option_map (port_on s) (option_map link_ends o) ≡ Some p → (k : ℕ)
           × (c : ℕ × ℕ) × (suc i ≡ suc k) × (slice_get cables k ≡ Some c) × (end_of_pair s c ≡ p)
       by_line None h e = absurd (none-some p e)
-      by_line (Some l) h e = (
-        i,
-        (l.one, l.two),
-        refl,
-        ends_made items limit cables lines i l h,
-        on_side s
-            ∙ same_Some (port_on s (link_ends l)) p e,
-      )
+      by_line (Some l) h e = (i, (l.one, l.two), refl, ends_made items limit cables lines i l h, on_side s ∙ same_Some (port_on s (link_ends l)) p e)
         where
           on_side : (s : Side) → end_of_pair s (l.one, l.two) ≡ port_on s (link_ends l)
           on_side One = refl
@@ -231,8 +224,7 @@ module _ {C : Type 0} (items : C → List Item) (limit : C → Option ℕ) where
   -- each end of a cable that was made has a history
   end_logged : (config : Config) (h : HalfState) (p : ℕ) → IsFirstHalf config h → has_port config.ports.items p ≡ true
       → IsSome (history_at h.histories p)
-  end_logged config h p f x =
-      rw (f.histories, log_found config.system config.ports.items p)
+  end_logged config h p f x = rw (f.histories, log_found config.system config.ports.items p)
       (logged (find_number configured_number config.ports.items p) (port_found config.ports.items p x))
     where
       logged : (o : Option PortConfig) → IsSome o → IsSome (option_map (first_history config.system) o)

@@ -92,13 +92,10 @@ offered_calls gives s agg octets (Ok port) mid r old new one x y =
     (subst (λ (h : HalfState). IsSome (flow_at h.flows agg.0 (number_of_conversation h.state octets))) (half_there s mid old) y.0) in
     let m = x.answers.moves in
     keeping_call s ModelEvent.Offer 0 (is_accepted s port old.links) (Some (Sends_frame port agg.0 k)) (with_frame_counted agg octets mid)
-    (put_on_port s port item old.links) old new (y.2 ∙ same_joint s agg octets port mid old) (λ e. cc) refl
-    (record {
-      away = λ c. put_away s port item old.links (one s) c
-          ∙ ap (λ m. put_in (end_at (world_setup old).cables s) (model_world old).whole (is_accepted s port old.links) port m
-          ((model_world old).on_cable (peer s)) c)
-          (ap (λ t. Data t agg.0 k (length (sent_in (flow_at mid.flows agg.0 k)))) (numbered_side s)
-          ∙ ap (λ f. Data s agg.0 k (length (sent_in (flow_at f agg.0 k)))) flows);
+    (put_on_port s port item old.links) old new (y.2 ∙ same_joint s agg octets port mid old) (λ e. cc) refl (record {
+      away = λ c. put_away s port item old.links (one s) c ∙ ap (λ m. put_in (end_at (world_setup old).cables s)
+          (model_world old).whole (is_accepted s port old.links) port m ((model_world old).on_cable (peer s)) c) (ap (λ t. Data t agg.0 k (length
+          (sent_in (flow_at mid.flows agg.0 k)))) (numbered_side s) ∙ ap (λ f. Data s agg.0 k (length (sent_in (flow_at f agg.0 k)))) flows);
       towards = put_towards s port item old.links;
       whole = put_whole s port item old.links;
       taken = λ q. ap (λ o. option_map model_taken (taken_in o)) (history_kept x q);
@@ -108,10 +105,8 @@ offered_calls gives s agg octets (Ok port) mid r old new one x y =
           ∙ read_same collected_in with_sent agg.0 k (half s old).flows (λ x. refl) g j;
       forced = λ g j. ap (λ f. forced_in (flow_at (change_flow with_sent agg.0 k f) g j)) flows
           ∙ read_same forced_in with_sent agg.0 k (half s old).flows (λ x. refl) g j;
-    })
-    (told_moves (half s old).state mid.state m.2
-    (m.3 ∙ ap (λ n. Sends_frame port agg.0 n ∷ []) (same_number octets (half s old).state mid.state x.answers.conversations)) m.4)
-    (λ q. ap change_count_in (history_kept x q))
+    }) (told_moves (half s old).state mid.state m.2 (m.3 ∙ ap (λ n. Sends_frame port agg.0 n ∷ [])
+    (same_number octets (half s old).state mid.state x.answers.conversations)) m.4) (λ q. ap change_count_in (history_kept x q))
   where
     same_joint : (s : Side) (agg : AggId) (octets : List ℕ) (port : ℕ) (mid : HalfState) (old : WorldState)
         → with_item_sent s port (offered_item s port agg octets (half s (with_half s mid old)))

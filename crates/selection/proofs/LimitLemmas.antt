@@ -121,8 +121,7 @@ row_is_next aggs views agg r e =
           room = both.0;
           there = subst (λ i. slice_get views i ≡ Some r.port) (sym same) a.there;
           standby = stands_there agg r.port.choice a.stands;
-          lowest = all-from_each (λ w. w.choice ≡ Standby agg → lower w.party.port r.port.party.port ≡ false) views
-              (standby_low views low.0);
+          lowest = all-from_each (λ w. w.choice ≡ Standby agg → lower w.party.port r.port.party.port ≡ false) views (standby_low views low.0);
         },
         refl,
       ))

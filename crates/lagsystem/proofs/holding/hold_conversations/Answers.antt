@@ -12,22 +12,20 @@ loop-place-preserved g c =
     let old = c.args.distributor.now.table in
     let mid = c.loop-place.distributor.table in
     let h = c.loop-place.invariant in
-    let is : c.has_stopped.result ≡ has_stopped (get_or befores i None) (get_or system_ports i s) = c.has_stopped.ensures
-    ∙ ap (has_stopped (get_or befores i None)) c.index-system_ports-place.is in
+    let is : c.has_stopped.result ≡ has_stopped (get_or befores i None) (get_or system_ports i s) =
+    c.has_stopped.ensures ∙ ap (has_stopped (get_or befores i None)) c.index-system_ports-place.is in
     elim c.if-has_stopped.branch [
       | then-has_stopped w ↦
           let new = w.leave.new.self.table in
-          let k = subst (λ (x : SystemPort). ChangesAssignments mid new (after_leave x.number)) c.index-system_ports-place.is
-          w.leave.ensures.changed in
+          let k = subst
+          (λ (x : SystemPort). ChangesAssignments mid new (after_leave x.number)) c.index-system_ports-place.is w.leave.ensures.changed in
           rw w.distributor-is record {
-            changed = left_more befores system_ports i None s old mid new c.loop-place-test.true c.requires h.changed (sym is
-                ∙ w.if-has_stopped.true) k;
+            changed = left_more befores system_ports i None s old mid new c.loop-place-test.true c.requires h.changed
+                (sym is ∙ w.if-has_stopped.true) k;
             algorithm = w.leave.ensures.algorithm ∙ h.algorithm;
           }
-      | else-has_stopped w ↦
-          rw w.distributor-is record {
-            changed = left_same befores system_ports i None s old mid c.loop-place-test.true c.requires h.changed (sym is
-                ∙ w.if-has_stopped.false);
-            algorithm = h.algorithm;
-          }
+      | else-has_stopped w ↦ rw w.distributor-is record {
+        changed = left_same befores system_ports i None s old mid c.loop-place-test.true c.requires h.changed (sym is ∙ w.if-has_stopped.false);
+        algorithm = h.algorithm;
+      }
     ]
