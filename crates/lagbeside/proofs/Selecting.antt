@@ -101,13 +101,7 @@ all_occupied keys ports k first (key ∷ rest) a at h =
           let is = occupies_is agg o.1.port.choice o.3 in
           let here : key_of keys first ≡ Some key = subst (λ n. key_of keys n ≡ Some key) (omega arith) (at 0 key refl) in
           let same : key ≡ o.1.port.party.key = same_Some key o.1.port.party.key (sym here ∙ a.key o.0 first o.1 o.2 is.0) in
-          record {
-            index = o.0;
-            port = o.1;
-            there = o.2;
-            key = sym (ap (λ (y : Key). y.0) same) ∙ eqb-true key.0 k e;
-            number = is.1;
-          },
+          record { index = o.0; port = o.1; there = o.2; key = sym (ap (λ (y : Key). y.0) same) ∙ eqb-true key.0 k e; number = is.1 },
       all_occupied keys ports k (first + 1) rest a (λ j y e. subst (λ n. key_of keys n ≡ Some y) (omega arith) (at (suc j) y e)) both.1,
     )
 

@@ -173,15 +173,20 @@ module _ (gives : FleetAlgorithms) (x : NetworkSetup) where
 
   restarts : (s : ℕ) (old new : Fleet) → Shown x.setup old.systems old.net → Restarts gives x.far s old new → IsPlayed old new
   restarts s old new i z =
-      let first : model_view (new.systems s) ≡ first_view (x.setup s) = first_shows (new.systems s) z.promise.step.1
-      ∙ ap first_view (z.promise.configured ∙ i.setup s) in
+      let first : model_view (new.systems s) ≡ first_view (x.setup s) =
+      first_shows (new.systems s) z.promise.step.1 ∙ ap first_view (z.promise.configured ∙ i.setup s) in
       one (Restart s) old new (
         (
           z.count,
-          subst (λ (v : View). CountsNetworkChanges old.net (record old.net
-              { view = at_system old.net.view s v; towards = λ t q. cond (ends_at x s t q) [] (old.net.towards t q) }) z.count) first z.counts,
-          z.leaves ∙ ap (λ (v : View). record old.net
-              { view = at_system old.net.view s v; towards = λ t q. cond (ends_at x s t q) [] (old.net.towards t q); count = z.count }) first,
+          subst (λ (v : View). CountsNetworkChanges old.net (record old.net {
+            view = at_system old.net.view s v;
+            towards = λ t q. cond (ends_at x s t q) [] (old.net.towards t q);
+          }) z.count) first z.counts,
+          z.leaves ∙ ap (λ (v : View). record old.net {
+            view = at_system old.net.view s v;
+            towards = λ t q. cond (ends_at x s t q) [] (old.net.towards t q);
+            count = z.count;
+          }) first,
         ),
         placed s old new.systems new.net i z.others z.promise.configured (ap (λ (w : Network). w.view) z.leaves),
       )

@@ -25,12 +25,8 @@ made : (x : WorldSetup) (s : Side) (call : ModelCall) (stamp : ℕ) (ms : List (
 made x s call stamp ms old mid h c r f a = grind (arith, same_parties)
 
 abbrev pub party_of : ℕ → Party
-party_of n = record {
-  system = record { priority = n; mac = [] };
-  key = record { 0 = 1 };
-  port = record { priority = 128; number = 1 };
-  aggregatable = true;
-}
+party_of n =
+    record { system = record { priority = n; mac = [] }; key = record { 0 = 1 }; port = record { priority = 128; number = 1 }; aggregatable = true }
 
 abbrev pub setup_of : ℕ → SystemSetup
 setup_of n = record {
@@ -182,20 +178,8 @@ something_arrives = (
   Event.Emit Two 1 ∷ Event.Deliver 1 One ∷ Event.Emit One 1 ∷ Event.Deliver 1 Two ∷ Event.Emit
       Two 1 ∷ Event.Deliver 1 One ∷ Event.Offer One 1 frame ∷ Event.Deliver 1 Two ∷ [],
   w₈,
-  record (first_port (party_of 1)) {
-    partner = party_of 2;
-    synchronized = true;
-    defaulted = false;
-    aggregator = Some 1;
-    distributes = true;
-  },
-  record (first_port (party_of 2)) {
-    partner = party_of 1;
-    synchronized = true;
-    defaulted = false;
-    aggregator = Some 1;
-    distributes = true;
-  },
+  record (first_port (party_of 1)) { partner = party_of 2; synchronized = true; defaulted = false; aggregator = Some 1; distributes = true },
+  record (first_port (party_of 2)) { partner = party_of 1; synchronized = true; defaulted = false; aggregator = Some 1; distributes = true },
   fixed₀,
   (w₁, e₁, (w₂, e₂, (w₃, e₃, (w₄, e₄, (w₅, e₅, (w₆, e₆, (w₇, e₇, (w₈, e₈, refl)))))))),
   refl,

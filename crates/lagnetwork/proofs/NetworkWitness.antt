@@ -42,12 +42,8 @@ not_receive : (p : ℕ) (o : _) → Receive p o ≡ ModelCall.Configure → ⊥
 not_receive p o e = cc
 
 abbrev party_of : ℕ → ℕ → Party
-party_of n q = record {
-  system = record { priority = n; mac = [] };
-  key = record { 0 = 1 };
-  port = record { priority = 128; number = q };
-  aggregatable = true;
-}
+party_of n q =
+    record { system = record { priority = n; mac = [] }; key = record { 0 = 1 }; port = record { priority = 128; number = q }; aggregatable = true }
 
 abbrev setup_of : ℕ → SystemSetup
 setup_of n = record {
@@ -341,13 +337,8 @@ fixed₀ = grind (arith, priority_of, setup_of, chosen, eqb, party_of, same_Some
 
 -- port q, which names the same port of the other system, carries
 abbrev up : ℕ → ℕ → ℕ → PortFacts
-up n m q = record (first_port (party_of n q)) {
-  partner = party_of m q;
-  synchronized = true;
-  defaulted = false;
-  aggregator = Some 1;
-  distributes = true;
-}
+up n m q =
+    record (first_port (party_of n q)) { partner = party_of m q; synchronized = true; defaulted = false; aggregator = Some 1; distributes = true }
 
 pub one_aggregator_reaches_two : OneAggregatorReachesTwo
 one_aggregator_reaches_two = (

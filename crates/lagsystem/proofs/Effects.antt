@@ -12,14 +12,7 @@ use Rattle.lagsystem.proofs.Rows.{quiet, QuietMoves, EachMoves, settles_moves}
 
 -- a stopped port, by the bits of its partner's state
 abbrev stopped : Party → Party → Bool → Bool → Option ℕ → PortFacts
-stopped party partner s d g = record {
-  party = party;
-  partner = partner;
-  synchronized = s;
-  defaulted = d;
-  aggregator = g;
-  distributes = false;
-}
+stopped party partner s d g = record { party = party; partner = partner; synchronized = s; defaulted = d; aggregator = g; distributes = false }
 
 abbrev pub named : Info → StateBits → Party
 named info bits = record { system = info.system; key = info.key; port = info.port; aggregatable = bits.aggregation }

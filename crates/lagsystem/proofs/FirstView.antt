@@ -97,12 +97,8 @@ record Idle (party : Party) (p : Machines) : Type 0 where
 starts_idle : (s : Start) (q : Machines) → Starts (before_start s) q → Idle s.party q
 starts_idle s q h =
     let mid = h.0 in
-    let begun : Beginning s.party (start_receive (before_start s)) = record {
-      looks = ap (λ x. record (first_port s.party) { partner = x }) (sym zero_named);
-      down = refl;
-      nobody = refl;
-      where_ = inl refl;
-    } in
+    let begun : Beginning s.party (start_receive (before_start s)) =
+    record { looks = ap (λ x. record (first_port s.party) { partner = x }) (sym zero_named); down = refl; nobody = refl; where_ = inl refl } in
     let x = begins_all s.party h.1.0 (start_receive (before_start s)) mid h.1.1 begun in
     grind (arith, nat_tests, partner_synchronized, clash, same_receive_state, model_port, is_selected)
 

@@ -189,12 +189,8 @@ ran_alike s q h e = λ i. record (rest i) { stage = e i }
 pub took_and_ran : (v : Lacpdu) (s : SystemPort) (p q : Machines) (n : ℕ) (alike : Bool) → ProcessesLacpdu v s.port p
     → FiresTimes (mux_rows false) n p q → AtRest (mux_rows false) q → OnTrue alike (LooksUnchanged s (record s { port = p })
     × LooksUnchanged s (record s { port = q })) → ProcessesLacpduAndRunsMux v s alike (record s { port = q })
-took_and_ran v s p q n alike took fired rest same = record {
-  mid = record s { port = p };
-  processes = (refl, took);
-  runs = (refl, (n, fired, rest));
-  same = same;
-}
+took_and_ran v s p q n alike took fired rest same =
+    record { mid = record s { port = p }; processes = (refl, took); runs = (refl, (n, fired, rest)); same = same }
 
 -- it looks as before if the LACPDU came from its recorded partner and left that as it was, and the mux machine left the stage
 pub both_alike : (v : Lacpdu) (s : SystemPort) (p q : Machines) (n : ℕ) → ProcessesLacpdu v s.port p

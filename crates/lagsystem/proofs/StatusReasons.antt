@@ -158,17 +158,16 @@ waits_for_partner agg s i x l chosen there =
 
 waits_in : (agg : AggId) (s : SystemState) (i : ℕ) (x : SystemPort) → Heard s i x → x.port.choice ≡ Selected agg
     → same_mux_state Attached x.port.mux ≡ false → WaitsIn agg x.port.wait_while x
-waits_in agg s i x l chosen early = record
-    { chosen = chosen; mux = mux_waiting x.port.mux x.port.choice agg chosen l.idle early (settled_at s i x l.sound l.at).mux.0; wait_while = refl }
+waits_in agg s i x l chosen early = record {
+  chosen = chosen;
+  mux = mux_waiting x.port.mux x.port.choice agg chosen l.idle early (settled_at s i x l.sound l.at).mux.0;
+  wait_while = refl;
+}
 
 pub waits : (agg : AggId) (s : SystemState) (i : ℕ) (x : SystemPort) → Heard s i x → x.port.choice ≡ Selected agg
     → same_mux_state Attached x.port.mux ≡ false → nat_lt 0 x.port.wait_while ≡ true → Waits x.port.wait_while s x
-waits agg s i x l chosen early runs = record {
-  hears = l.hears;
-  agg = agg;
-  waits = waits_in agg s i x l chosen early;
-  runs = above x.port.wait_while runs;
-}
+waits agg s i x l chosen early runs =
+    record { hears = l.hears; agg = agg; waits = waits_in agg s i x l chosen early; runs = above x.port.wait_while runs }
 
 -- an aggregator that is not Ready has a member that waits
 

@@ -130,12 +130,8 @@ below-start (suc m) cs le = absurd (omega (arith, le))
 
 here : (from wanted c : ℕ) (cs : List ℕ) → 0 < wanted → wanted ≤ c → Reaches from wanted (c ∷ cs) from
 unfolding below
-here from wanted c cs p le = record {
-  steps = 0;
-  is = omega arith;
-  less = λ m z. let e = below-start m (c ∷ cs) z in omega (arith, e, p);
-  enough = omega (arith, le);
-}
+here from wanted c cs p le =
+    record { steps = 0; is = omega arith; less = λ m z. let e = below-start m (c ∷ cs) z in omega (arith, e, p); enough = omega (arith, le) }
 
 less-more : (wanted c : ℕ) (cs : List ℕ) (steps : ℕ) → c < wanted → ((m : ℕ) → m ≤ steps → below m cs < wanted - c)
     → (m : ℕ) → m ≤ suc steps → below m (c ∷ cs) < wanted

@@ -7,8 +7,7 @@ pub use Rattle.std.proofs.Common.{◌&&◌, ◌++◌, ◌+◌, ◌-◌, ◌<◌,
 pub use Rattle.std.proofs.Math.Seq.{take-append_seam, take-length}
 pub use Rattle.std.proofs.lemmas.Bool.{and_parts, cases_lt, lt-ltb, or_parts, true≢false}
 pub use Rattle.std.proofs.lemmas.Bool.Decides.{nat_tests}
-pub use Rattle.std.proofs.lemmas.List.{drop_more, ext_get_or, get_or-take, get_or_read, length-map, length-take-le, nil_from_length, take_more}
-pub use Rattle.std.proofs.lemmas.List.{take_rest}
+pub use Rattle.std.proofs.lemmas.List.{drop_more, ext_get_or, get_or_read, length-map, length-take-le, nil_from_length, take_rest}
 pub use Rattle.std.proofs.lemmas.Option.{none-some, same_Some, slice_get_within}
 pub use Rattle.std.specs.Io.KnownBytes.{Appends, Consumes, IsAtEnd}
 pub use Rattle.std.specs.List.{list_all, range_with_len}
@@ -25,12 +24,11 @@ pub use Rattle.lagtool_jobs.specs.Explained.{SaysUnreadOf, character_text, digit
 pub use Rattle.lagtool_jobs.specs.Naming.{AllNameExisting, is_cable, names_existing}
 pub use Rattle.lagtool_jobs.specs.Offered.{AreOfferFlags, HasSentNothing, IsSentWhereOffered, is_offered, offers_to}
 pub use Rattle.lagtool_jobs.specs.ReplayReport.{HasNoScript, IsReplayReport, IsReportOfScript, Replays, aggregator_flows_text, agreement_line}
-pub use Rattle.lagtool_jobs.specs.ReplayReport.{agreements_text, collected_text, empty_link, empty_links, entries_text, entry_line, flow_line}
-pub use Rattle.lagtool_jobs.specs.ReplayReport.{replay_report}
+pub use Rattle.lagtool_jobs.specs.ReplayReport.{agreements_text, empty_link, empty_links, entries_text, entry_line, flow_line, replay_report}
 pub use Rattle.lagtool_jobs.specs.ReplaySteps.{AreCounts, flows_with_counts, replay_report_with_counts}
 pub use Rattle.lagtool_jobs.specs.Scans.{ReadsOctets, ScanState, summary_after, to_write_after, unwritten}
 pub use Rattle.lagtool_jobs.specs.Vectors.{vector_line, vector_lines_from}
-pub use Rattle.lagtool_jobs.specs.Verdicts.{hex_verdict, is_fault, kind_verdict, line_verdict, payload_verdict, verdict_in, verdict_text}
+pub use Rattle.lagtool_jobs.specs.Verdicts.{hex_verdict, is_fault, line_verdict, payload_verdict, verdict_in, verdict_text}
 pub use Rattle.lagsystem.specs.First.{or_first, config_refusal as refusal_of_one}
 pub use Rattle.lagscript.specs.declared.event.Event.{Event}
 pub use Rattle.lagscript.specs.declared.fault.ScriptFault.{ScriptFault}

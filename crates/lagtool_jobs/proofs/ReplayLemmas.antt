@@ -1,8 +1,8 @@
 -- The lines of a report, one after another.
-use Rattle.lagtool_jobs.proofs.Common.{List, None, Option, Some, [], ap, append_assoc, ap₂, arith, decimal, get_or, length, option_map, refl}
-use Rattle.lagtool_jobs.proofs.Common.{slice_get, suc, sym, take, zero, ℕ, ◌++◌, ◌+◌, ◌<◌, ◌∙◌, ◌∷◌, ◌≡◌, ◌≤◌, take_more, none-some, range_with_len}
-use Rattle.lagtool_jobs.proofs.Common.{flat_map, agreement_line, agreements_text, collected_text, entries_text, entry_line, Event, Reply}
-use Rattle.lagtool_jobs.proofs.Common.{agreement_at, agreement_of, end_facts, Algorithms, WorldRuns, LinkState, WorldState}
+use Rattle.lagtool_jobs.proofs.Common.{List, None, Option, Some, [], ap, append_assoc, ap₂, arith, get_or, length, option_map, refl, slice_get, suc}
+use Rattle.lagtool_jobs.proofs.Common.{sym, take, zero, ℕ, ◌++◌, ◌+◌, ◌<◌, ◌∙◌, ◌∷◌, ◌≡◌, ◌≤◌, none-some, range_with_len, flat_map, agreement_line}
+use Rattle.lagtool_jobs.proofs.Common.{agreements_text, entries_text, entry_line, Event, Reply, agreement_at, agreement_of, end_facts, Algorithms}
+use Rattle.lagtool_jobs.proofs.Common.{WorldRuns, LinkState, WorldState}
 use Rattle.lagtool_jobs.specs.ReplayReport.{cable_numbers}
 use Rattle.std.proofs.lemmas.List.Concat.{flat_map-append}
 use Rattle.lagworld.specs.declared.agreement.Agreement.{Agreement}
@@ -25,12 +25,6 @@ range_more f a n m j e more =
     let on : m ≡ suc n = omega arith in
     sym (ap (λ k. flat_map f (range_with_len a k)) on ∙ ap (flat_map f) (last a n j e) ∙ flat_map-append f (range_with_len a n) (j ∷ [])
     ∙ ap (λ t. flat_map f (range_with_len a n) ++ t) (append_none (f j)))
-
--- the texts of some items, and of one more
-pub items_more : {X : Type 0} (f : X → List ℕ) (xs : List X) (i : ℕ) (d : X) → i < length xs → flat_map f (take i xs)
-    ++ f (get_or xs i d) ≡ flat_map f (take (i + 1) xs)
-items_more f xs i d lt = sym (ap (flat_map f) (take_more xs i d lt) ∙ flat_map-append f (take i xs)
-    (get_or xs i d ∷ []) ∙ ap (λ t. flat_map f (take i xs) ++ t) (append_none (f (get_or xs i d))))
 
 -- the lines of some entries, and of one more
 entries_next : (n i : ℕ) (es : List Event) (rs : List Reply) (e : Event) (r : Reply) → i < length es → i < length rs → entries_text n (take i es)
@@ -85,10 +79,6 @@ as_many gives old new [] [] h = refl
 as_many gives old new [] (r ∷ rs) h = absurd h
 as_many gives old new (e ∷ es) [] h = absurd h
 as_many gives old new (e ∷ es) (r ∷ rs) (mid, step, rest) = ap suc (as_many gives mid new es rs rest)
-
-pub collected_some : (xs : List ℕ) → 0 < length xs → flat_map (λ serial. 32 ∷ decimal serial) xs ≡ collected_text xs
-collected_some [] h = absurd (omega arith)
-collected_some (x ∷ xs) h = refl
 
 numbers : cable_numbers ≡ 65535
 unfolding cable_numbers

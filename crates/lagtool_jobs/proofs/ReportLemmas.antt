@@ -2,15 +2,15 @@
 use Rattle.lagtool_jobs.proofs.Common.{Bool, Err, IfErr, IfOk, List, Ok, OnOk, Option, Result, [], ap, append-nil, append_assoc, arith, cond, decimal}
 use Rattle.lagtool_jobs.proofs.Common.{drop, eqb-true, false, get_or, inl, inr, length, length-append, length-drop, min, refl, subst, suc, sym, take}
 use Rattle.lagtool_jobs.proofs.Common.{take-append-drop, take_all, true, zero, ℕ, ◌++◌, ◌+◌, ◌-◌, ◌<◌, ◌==◌, ◌∙◌, ◌∷◌, ◌≡◌, ◌≤◌, cases_lt, lt-ltb}
-use Rattle.lagtool_jobs.proofs.Common.{drop_more, get_or-take, length-take-le, take_rest, Appends, IsAtEnd, IsErrAnd, is_ok, AppendsPart, SinkState}
-use Rattle.lagtool_jobs.proofs.Common.{WritesWhole, ToolFault, NoMemory, Read, Write, ReadsOctets, ScanState, summary_after, to_write_after}
-use Rattle.lagtool_jobs.proofs.Common.{unwritten, hex_verdict, is_fault, line_verdict, verdict_text}
+use Rattle.lagtool_jobs.proofs.Common.{drop_more, length-take-le, take_rest, Appends, IsAtEnd, IsErrAnd, is_ok, AppendsPart, SinkState, WritesWhole}
+use Rattle.lagtool_jobs.proofs.Common.{ToolFault, NoMemory, Read, Write, ReadsOctets, ScanState, summary_after, to_write_after, unwritten}
+use Rattle.lagtool_jobs.proofs.Common.{hex_verdict, is_fault, line_verdict, verdict_text}
 use Rattle.lagtool_jobs.specs.CheckEnds.{Checks, Completes, HasCause, Stops}
 use Rattle.memchr.specs.Find.{Nowhere, Passes, is_byte}
 use Rattle.hex.specs.Hex.{decode_of}
 use Rattle.lagstreams.specs.Lines.{continue_line, lines_of, newline_count, without_return}
-use Rattle.lagtool_jobs.specs.CheckReport.{summary_from, summary_text, ended_lines_text, fault_count, verdict_line, check_report, check_report_from}
-use Rattle.lagtool_jobs.specs.CheckReport.{summary, verdicts_from}
+use Rattle.lagtool_jobs.specs.CheckReport.{summary_from, ended_lines_text, fault_count, verdict_line, check_report, check_report_from, summary}
+use Rattle.lagtool_jobs.specs.CheckReport.{verdicts_from}
 use Rattle.lagstreams.specs.Sources.{Fails, Gives, SourceState}
 use Rattle.lagtool_jobs.specs.declared.summary.Summary.{Summary}
 use Rattle.lagtool_jobs.specs.declared.verdict.Verdict.{Verdict}
@@ -34,12 +34,6 @@ lines_joined (b ∷ bs) rest h =
     let later = lines_joined bs rest (λ k low high. h (suc k) (omega arith) (omega (arith, high))) in
     ap (λ t. cond t ([] ∷ lines_of (bs ++ rest)) (continue_line (b ∷ []) (lines_of (bs ++ rest)))) first ∙ ap (continue_line (b ∷ [])) later
     ∙ prepend_both (b ∷ []) bs (lines_of rest)
-
--- what stands before the first newline
-pub before_newline : (xs : List ℕ) (n : ℕ) → n ≤ length xs → Nowhere (Passes (is_byte 10) xs) 0 n → InOneLine (take n xs)
-before_newline xs n le h k low high is =
-    let lt : k < n = omega (arith, length-take-le n xs le, high) in
-    h k low lt (ap (λ b. b == 10) (sym (get_or-take n xs k 0 lt)) ∙ is)
 
 long_line : (l : List ℕ) → 65536 < length l → line_verdict l ≡ TooLong
 long_line l h = ap (λ t. cond t TooLong (hex_verdict (decode_of (without_return l)))) (lt-ltb 65536 (length l) h)
@@ -176,18 +170,6 @@ pub reads_rest : {T E : Type 0} (r : Result T E) (a b c : ScanState) (all done r
 reads_rest (Ok x) a b c all done rest e p q = subst (ReadsOctets a c) (sym e) (reads_both a b c done rest p q)
 reads_rest (Err x) a b c all done rest e p q = tt
 
--- the stream ends behind some octets of a line, or behind none
-pub last_line : (n k : ℕ) (line : List ℕ) → 0 < length line
-    → (pending n k line [] ≡ verdict_line (n + 1) line ++ summary_text (record { checked = n + 1; faults = k + fault_count line }))
-    × (counts n k line [] ≡ record { checked = n + 1; faults = k + fault_count line })
-last_line n k [] h = absurd (omega arith)
-last_line n k (x ∷ xs) h = (refl, refl)
-
-pub no_last_line : (n k : ℕ) (line : List ℕ) → length line ≡ 0
-    → (pending n k line [] ≡ summary_text (record { checked = n; faults = k })) × (counts n k line [] ≡ record { checked = n; faults = k })
-no_last_line n k [] h = (refl, refl)
-no_last_line n k (x ∷ xs) h = absurd (omega arith)
-
 module _ {R W : Type 0} (remaining : R → Option (List ℕ)) (contents : W → Option (List ℕ)) where
   -- what was read so far, and what was written of its report
   pub record Told (from to : SourceState R) (old new : SinkState W) (s : ScanState) : Type 0 where
@@ -213,8 +195,11 @@ module _ {R W : Type 0} (remaining : R → Option (List ℕ)) (contents : W → 
 
 gives_both : {R : Type 0} {remaining : R → Option (List ℕ)} (a b c : SourceState R) (xs ys : List ℕ) → Gives remaining a b xs
     → Gives remaining b c ys → Gives remaining a c (xs ++ ys)
-gives_both a b c xs ys p q = record
-    { read = consumes_both _ _ _ xs ys p.read q.read; failed = q.failed ∙ p.failed; left = simp length-append (omega (arith, p.left, q.left)) }
+gives_both a b c xs ys p q = record {
+  read = consumes_both _ _ _ xs ys p.read q.read;
+  failed = q.failed ∙ p.failed;
+  left = simp length-append (omega (arith, p.left, q.left));
+}
 
 module _ {R W : Type 0} {remaining : R → Option (List ℕ)} {contents : W → Option (List ℕ)} where
   pub told_reads : {from mid to : SourceState R} {old half : SinkState W} {s t : ScanState} {ys : List ℕ}

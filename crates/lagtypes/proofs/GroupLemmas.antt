@@ -1,6 +1,5 @@
 -- Two groups are equal exactly if the pairs of ends are equal as unordered pairs.
-use Rattle.std.proofs.Common.{arith}
-use Rattle.std.proofs.Common.{◌≡◌, ◌⊎◌, Bool, Option, ap, sym, ◌∙◌, rules, if◌then◌else◌}
+use Rattle.std.proofs.Common.{arith, ◌≡◌, ◌⊎◌, Bool, Option, ap, sym, ◌∙◌, rules, if◌then◌else◌}
 use Rattle.std.specs.declared.cmp.Ordering.{Ordering}
 use Rattle.std.specs.declared.cmp.Ordering.TheVariants.{Equal}
 use Rattle.std.specs.Ordering.{is_lt, nat_cmp, ordering_then, ordering_reverse}

@@ -1,6 +1,5 @@
 -- The value that `parse` reads from a word without a plus sign is the number of the word.
-use Rattle.std.proofs.Common.{arith}
-use Rattle.std.proofs.Common.{Bool, List, None, Result, Some, cond, get_or, length, nat_lt, true, ℕ, ◌&&◌, ◌<◌, ◌≡◌, ◌≢◌}
+use Rattle.std.proofs.Common.{arith, Bool, List, None, Result, Some, cond, get_or, length, nat_lt, true, ℕ, ◌&&◌, ◌<◌, ◌≡◌, ◌≢◌}
 use Rattle.std.specs.Str.{all_ascii_digits}
 use Rattle.std.specs.Result.{OkIff, result_ok}
 use Rattle.std.specs.Str.Parse.{ParsesUnsigned, digits_value}

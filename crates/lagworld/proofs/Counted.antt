@@ -125,8 +125,11 @@ whole_left (l ∷ links) (suc (suc i)) = whole_left links (suc i)
 
 restarted : (s : Side) (h : HalfState) (v : View) (old : WorldState) → model_view h.state ≡ v
     → h.flows ≡ (half s old).flows → ((p : ℕ) → taken_in (history_at h.histories p) ≡ taken_in (history_at (half s old).histories p))
-    → model_world (after_call s h (map emptied old.links) old) ≡ record (model_world old)
-    { view = at_side (model_world old).view s v; on_cable = λ t c. []; count = (model_world (after_call s h (map emptied old.links) old)).count }
+    → model_world (after_call s h (map emptied old.links) old) ≡ record (model_world old) {
+      view = at_side (model_world old).view s v;
+      on_cable = λ t c. [];
+      count = (model_world (after_call s h (map emptied old.links) old)).count;
+    }
 restarted s h v old e flows taken = grind (arith, same_world, half_after, model_view, at_side, model_world, whole_left, nothing_left, kept_at, option_map, model_taken, taken_in, history_at, sent_in, flow_at, collected_in, forced_in)
 
 pub restart_happens : (gives : ℕ → ℕ → ℕ → Type 0) (s : Side) (old new : WorldState) → IsHalfSound (half s old) → InHalf s (HalfRestarts gives)

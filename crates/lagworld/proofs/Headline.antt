@@ -23,12 +23,8 @@ rises gives (e ∷ es) (r ∷ rs) old new h = let below = rises gives es rs h.0 
 
 -- a sound world has it
 pub headline_of : (j : WorldState) → IsSound j → Headline j
-headline_of j i = record {
-  one_partner = one_partner_of j i;
-  agree = agree_of j i;
-  in_order = in_order_of j i;
-  limited = λ s. (i.kept s).agrees.limited;
-}
+headline_of j i =
+    record { one_partner = one_partner_of j i; agree = agree_of j i; in_order = in_order_of j i; limited = λ s. (i.kept s).agrees.limited }
 
 -- and each world of a run is sound
 pub holds_all_the_way : (gives : Algorithms) (es : List Event) (rs : List Reply) (old new : WorldState) (h : WorldRuns gives old es rs new)

@@ -58,19 +58,9 @@ here : (first : ℕ) (k key : Key) (keys : List Key) (test : AggId → Bool) (ag
     → option_map aggregator_of_entry (cond (b && t) (Some (first, k)) rest) ≡ Some agg → Found first (k ∷ keys) key test agg
 here first k key keys test agg rest later true true same passed e = grind arith
 here first k key keys test agg rest later true false same passed e =
-    let found = later e in record {
-      place = suc found.place;
-      counted = omega (arith, found.counted);
-      has_key = found.has_key;
-      passes = found.passes;
-    }
+    let found = later e in record { place = suc found.place; counted = omega (arith, found.counted); has_key = found.has_key; passes = found.passes }
 here first k key keys test agg rest later false t same passed e =
-    let found = later e in record {
-      place = suc found.place;
-      counted = omega (arith, found.counted);
-      has_key = found.has_key;
-      passes = found.passes;
-    }
+    let found = later e in record { place = suc found.place; counted = omega (arith, found.counted); has_key = found.has_key; passes = found.passes }
 
 lowest-found : (first : ℕ) (keys : List Key) (key : Key) (test : AggId → Bool) (agg : AggId) → lowest_from first keys key test ≡ Some agg
     → Found first keys key test agg
