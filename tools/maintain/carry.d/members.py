@@ -56,7 +56,7 @@ daemon() {{
     $1 ip link set lag0 up
 }}
 {ends}
-whole() {{ for turn in $(seq 100); do [ "$(up here)" = {all} ] && [ "$(up there)" = {all} ] && return; sleep 0.2; done; echo "not all carry"; }}
+whole() {{ for turn in $(seq 50); do [ "$(up here)" = {all} ] && [ "$(up there)" = {all} ] && return; sleep 0.2; done; echo "not all carry"; return 1; }}
 run() {{
     there {flows} receive lag0 {count} {longer} >/mnt/received & receiver=$!
     sleep 0.3
@@ -67,7 +67,7 @@ run() {{
 }}
 {{
     uname -r
-    whole; sleep 3
+    whole || cat /run/*/log; sleep 3
     for turn in $(seq {times}); do
         run nothing : ; run near-out leave here p2; run near-in join here p2; run far-out leave there q2; run far-in join there q2
     done
@@ -81,9 +81,9 @@ leave() { $1 ip link set $2 nomaster; }
 join() { $1 ip link set $2 down; $1 ip link set $2 master lag0; }
 up() { $1 grep -c "port state: 63" /proc/net/bonding/lag0; }"""
 OF_LAGD = """daemon here p a; daemon there q b
-leave() { DAEMON --folder /run/$1 --remove $2; }
-join() { DAEMON --folder /run/$1 --add $2; }
-up() { DAEMON --folder /run/$1 --status | grep -c "may_enable: true"; }"""
+leave() { $1 DAEMON --folder /run/$1 --remove $2; }
+join() { $1 DAEMON --folder /run/$1 --add $2; }
+up() { $1 DAEMON --folder /run/$1 --status | grep -c "may_enable: true"; }"""
 WAYS = {"bonding": (False, OF_BONDING, ""), "lagd": (False, OF_LAGD, ""), "team": (False, OF_LAGD, "--plane team"), "bonding-slow": (True, OF_BONDING, ""), "lagd-slow": (True, OF_LAGD, "")}
 
 
