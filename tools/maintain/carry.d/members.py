@@ -62,7 +62,7 @@ run() {{
     sleep 0.3
     {flows} send lag0 {rate} {count} {seconds} macs >/mnt/sent & sender=$!
     sleep 2; $2 $3 $4; wait $sender $receiver
-    [ "$2" = leave ] || whole
+    [ "$2" = leave ] || {{ whole; sleep 3; }}
     echo "$1 $(cat /mnt/sent) $(cat /mnt/received)"
 }}
 {{
