@@ -1,10 +1,11 @@
 /* What a rule says of a text: its title where a status is one moment, what is seen, and what to do, in the words of the program whose text it is. */
 
-import { capitalized, joinedBy, OWN_SYSTEM, TWO_BOXES } from "./keys.js";
+import { adviceOnTwoSystems, capitalized, joinedBy, OWN_SYSTEM, TWO_BOXES } from "./keys.js";
 
 /* For each form of a text what to look at where it does not say whether a link is up, how its program counts LACPDUs, what gives its ports one key, and how it uses one link, with a spare, without LACP. */
 const BONDING = {
-    counts: "it counts no LACPDUs, so capture here (tcpdump -i PORT 'ether proto 0x8809'). If those of the other end come, they are lost in this end's receiver. If none comes, "
+    counts: "it counts no LACPDUs, so capture here (timeout 100 tcpdump -i PORT -w FILE 'ether proto 0x8809'), and explain FILE. LACPDUs of the other end that come as often as this end "
+        + "asks for them (lacp_rate fast: each second) are lost in this end's receiver. If it asks for one each second, and one comes each 30 s, that end hears nobody, either: what this end sends is lost first. If none comes, "
         + "ask for the LACP counters of the port at the other end (Cisco IOS, Arista: show lacp counters). It sends none: LACP is off there. It sends some: look at the path, "
         + "and whether this card keeps them for an agent of its own",
     key: "one speed, and full duplex", backup: "mode=active-backup",
@@ -21,7 +22,12 @@ const PROGRAMS = new Map([
     ["lagd", { counts: "compare its counts with those of the other end, or capture", key: "one key" }],
 ]);
 export const isSeveral = (list, valueOf) => new Set(list.map(valueOf).filter((it) => it !== null && it !== undefined)).size > 1;
-export const namesIn = (list) => [...new Set(list.map((it) => it.name))].join(", ");
+/* The names of ports; of those of the far end it is said once that they are. */
+export function namesIn(list) {
+    const [own, far] = [false, true].map((isFar) => [...new Set(list.filter((it) => Boolean(it.isFar) === isFar).map((it) => it.name))].join(", "));
+    return [own, far && `the far end's ${far}`].filter(Boolean).join(", ");
+}
+export const nameOfPort = (port) => namesIn([port]);
 export const isLinked = (it) => it.link !== false;
 export const dashed = (address) => address.replaceAll(":", "-");
 const heardIn = (ports) => ports.filter((it) => it.partner);
@@ -29,7 +35,7 @@ const heardIn = (ports) => ports.filter((it) => it.partner);
 /* Each value, and the ports that have it. */
 function eachOf(ports, valueOf) {
     const values = new Map();
-    for (const it of heardIn(ports)) values.set(valueOf(it), [...values.get(valueOf(it)) ?? [], it.name]);
+    for (const it of heardIn(ports)) values.set(valueOf(it), [...values.get(valueOf(it)) ?? [], nameOfPort(it)]);
     return [...values].map(([value, list]) => `${list.slice(0, 3).join(", ")}${list.length > 3 ? ` and ${list.length - 3} more` : ""}: ${value}`).join("; ");
 }
 
@@ -59,8 +65,8 @@ const partnerSaid = ({ partner: { system, port } }) => `${system ? dashed(system
 /* What to do where nobody is heard: by the other end, by this end now, or by it ever. A partner that is known sent an LACPDU, which this end has read. */
 function adviceOnUnheard(it) {
     const heard = heardIn(it.meant), named = it.meant.filter(({ far }) => far), path = "Look at its receiver, at a filter, and at the path";
-    const deaf = named.map(({ name, far }) => `${name} does not hear ${far}`).join("; ");
-    const before = heard.map((port) => `${port.name} heard ${partnerSaid(port)} before`).join("; ");
+    const deaf = named.map((port) => `${nameOfPort(port)} does not hear ${port.far}`).join("; ");
+    const before = heard.map((port) => `${nameOfPort(port)} heard ${partnerSaid(port)} before`).join("; ");
     if (it.isImplied) return `${asLong(it)}the other end sends LACPDUs, so LACP is on there, and it does not hear those of this end. ${path} from here to there.`;
     if (deaf) return `${asLong(it)}both texts have LACP, and ${deaf}. ${path} to it.`;
     if (before) return `${before}: look what changed at that port, or on the path from there. `
@@ -108,10 +114,6 @@ const isOfOneAddress = (ports) => !isSeveral(heardIn(ports), (it) => it.partner.
 const systemSaid = (ports) => ({ partner: { system, priority } }) =>
     system ? `${isOfOneAddress(ports) ? `priority ${priority} of ` : ""}${dashed(system)}` : "a system that is not named";
 
-/* What the module advises where links lead to two systems, and what goes where those cannot be one. */
-const withoutMlag = (advice, backup) =>
-    backup ? `${advice} Or, without MLAG: ${backup}, which needs no LACP, has one link in use and the other as a spare.` : advice;
-
 /* What rules say of texts; what stands not here is said as of a capture. `ports` are those of the text, `isLasting` is whether one of those that
  * are meant churns, `isImplied` whether all are the other ends; for these `implied` has the title, and `whole` where `silent`, bundles that never
  * heard a partner, have all that is meant. `meant` are the ports that are meant, and `advice` is
@@ -143,9 +145,9 @@ export const RULES = new Map([
     [29, {
         title: "links lead to two systems", said: ({ ports }) => [eachOf(ports, systemSaid(ports))],
         case: ({ ports }) => isOfOneAddress(ports) ? "links lead to one address with several system priorities" : null,
-        advice: ({ ports, form, advice }) => isOfOneAddress(ports)
+        advice: ({ ports, form }) => isOfOneAddress(ports)
             ? "These are priorities of one address: give the far end one LACP system priority; of an MLAG pair both switches the same."
-            : withoutMlag(advice, PROGRAMS.get(form).backup),
+            : adviceOnTwoSystems(PROGRAMS.get(form).backup),
     }],
     [30, {
         title: "the partner is this system itself",

@@ -1,7 +1,7 @@
 /* What a finding is in its case: a title, what to do, and lines of what is seen. The findings are the module's; this is the page's. */
 
 import { addressOf, bitsOf, isKnown, isSilent, othersBeside, roundedSeconds, SHORT_TIMEOUT } from "./records.js";
-import { crossingOf, distinct, linkName, toldOfKeys } from "./keys.js";
+import { adviceOnTwoSystems, crossingOf, distinct, linkName, toldOfKeys } from "./keys.js";
 
 /* So many seconds behind its first LACPDU an end may send faster: it starts. A gap between LACPDUs from so many seconds on is slow; where short timeouts
  * are asked for, a smaller one, and an end that keeps it in so few of its gaps. So many seconds the last LACPDUs of two ends may stand apart where a
@@ -32,6 +32,13 @@ const ofDeadLink = ({ ends }, { lacpdus }) => ({
     advice: "The link went down, or this capture lost it: look at carrier and cable (ip link, show interfaces).",
 });
 
+/* That the partner of an end that sends no more hears nobody, and so sends more seldom than that end asks: its status has the one direction as two. */
+function slowedSaid(at, other) {
+    const [before, last] = other?.frames.filter((it) => it.kind === "lacpdu").slice(-2) ?? [];
+    if (!last || !other.isLost || !at.has("short") || last.seconds - before.seconds < SLOW_GAP) return [];
+    return [`${other.short} hears nobody since, and sends each ${roundedSeconds(last.seconds - before.seconds)} alone: a status of ${at.short} says that it hears nobody, too, and its receiver need not be at fault`];
+}
+
 /* No LACPDU for longer than the timeout: dead from then on, started anew, slower than it is asked to, or frames are lost. */
 function ofSilence(finding, { records, link }) {
     if (link.ends.every((it) => isSilent(it, records.lacpdus.last))) return ofDeadLink(link, records);
@@ -45,8 +52,9 @@ function ofSilence(finding, { records, link }) {
     };
     if (isLast) return {
         isFirst: true, isEffect: link.findings.some((it) => it.at === at && ofSingle(it, { link }).isFirst), title: "an end sends nothing more",
-        lines: [`${at.short} sends nothing after ${roundedSeconds(record.last)}; the capture goes on to ${roundedSeconds(records.lacpdus.last)}`],
-        advice: "Look at this end, not at its partner: its interface, driver or fibre sends no more (the direction to the partner may be dead alone), or the system hangs or is gone.",
+        lines: [`${at.short} sends nothing after ${roundedSeconds(record.last)}; the capture goes on to ${roundedSeconds(records.lacpdus.last)}`, ...slowedSaid(at, other)],
+        advice: "Look at this end, not at its partner: its interface, driver or fibre sends no more (the direction to the partner may be dead alone), or the system hangs or is gone. "
+            + "If this was captured at its partner, the path may lose what it sends: capture at this end, too.",
     };
     if (frame && before && isPause(before, frame, link)) return {
         title: "a link is silent at both ends for a while", lines: [pauseOf(link, frame.seconds)],
@@ -165,6 +173,9 @@ const ofRate = ({ at, seconds }) => comesTwice(at) ? DOUBLED : at.record && seco
 /* What keys say where they differ, or cables that cross between more than two systems. */
 const ofKeys = (finding, { link, groups }) => toldOfKeys(link, groups) ?? {};
 
+/* What uses one link, and has a spare, in each program. */
+const BACKUP = "mode=active-backup of bonding (teamd: the runner activebackup; Open vSwitch: bond_mode=active-backup and lacp=off)";
+
 const ofSplit = (finding, { link, bundles, groups }) => {
     const system = finding.at.system, links = bundles.flatMap((it) => it.links).filter((it) => !it.isPast && it.ends.some((end) => end?.system === system));
     const crossed = crossingOf(link, groups);
@@ -176,7 +187,7 @@ const ofSplit = (finding, { link, bundles, groups }) => {
     };
     if (partners.includes(system) && partners.length === 2) return { isEffect: true }; // a loop, which rule 30 tells
     const more = partners.length > 1 && links.every((it) => it.carries) ? " Each of them carries by itself: if they are two bundles on purpose, nothing is wrong." : "";
-    return { advice: `${finding.advice}${more}` };
+    return { advice: `${adviceOnTwoSystems(BACKUP)}${more}` };
 };
 
 const CASES = new Map([[1, ofRate], [11, ofSilence], [12, ofUnheard], [14, ofSingle], [15, ofKeys], [16, ofThird], [18, ofOneWay], [23, ofRelapse], [26, ofThird], [28, ofSteps], [29, ofSplit]]);

@@ -142,7 +142,7 @@ async function readOut(file, numberOf) {
         kept.push(last);
     }
     if (last && last !== kept.at(-1)) kept.push(last);
-    const fault = told.end < 0 ? "neither pcap nor pcapng" : told.end < file.size ? `octet ${told.end}: cut short, or broken` : "";
+    const fault = !file.size ? "it is empty" : told.end < 0 ? "neither pcap nor pcapng" : told.end < file.size ? `octet ${told.end}: cut short, or broken` : "";
     return { kept, fault, isSilent: !kept.some((it) => it.isLacpdu) };
 }
 

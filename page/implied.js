@@ -4,6 +4,7 @@
 import { hexadecimal } from "./records.js";
 import { ETHERNET } from "./packets.js";
 import { captureOf } from "./files.js";
+import { nameOfPort } from "./advice.js";
 import { COLLECTING_BIT, DISTRIBUTING_BIT, EXPIRED_BIT, NO_ADDRESS, TIMEOUT_BIT } from "./status.js";
 
 const STEP_SECONDS = 2, LASTING = 94, BEGIN = 1700000000;
@@ -27,6 +28,9 @@ function filledIn(port, number) {
 
 const isSame = (one, other) => one.system === other.system && one.port === other.port && (one.priority === other.priority || !one.priority || !other.priority);
 
+/* Whether a text has the numbers of its ports: without them nobody knows which port is at the other end. */
+const hasNumber = ({ said }) => said.actor.port !== null;
+
 /* Both ends of each link, as far as texts have them; `said` is the port as its text has it. */
 export function linksOfTexts(texts) {
     const all = texts.flatMap((text, at) => text.bundles.flatMap((bundle) => bundle.ports.map((port) => ({ ...port, at, said: port }))));
@@ -36,7 +40,7 @@ export function linksOfTexts(texts) {
         if (seen.has(end)) continue;
         seen.add(end);
         const answers = (it) => end.isHeard ? isSame(end.partner, it.actor) && (!it.isHeard || isSame(it.partner, end.actor)) : it.isHeard && isSame(it.partner, end.actor);
-        const far = ends.find((it) => !seen.has(it) && it.at !== end.at && answers(it)) ?? null;
+        const far = ends.find((it) => !seen.has(it) && it.at !== end.at && [end, it].every(hasNumber) && answers(it)) ?? null;
         if (far) seen.add(far);
         links.push([end, far]);
     }
@@ -63,7 +67,7 @@ function lacpduOctets(source, actor, partner) {
 /* Who sends on a link: its end, and the other one, as a text has it or as this end was told. An implied peer has an address of its own, and is
  * left out where it has the end's system, since another LACPDU would be the same. */
 function sendersOf([end, far], number) {
-    const sender = (it, other = null) => ({ number, source: it.source || it.actor.system, actor: it.actor, partner: it.partner, of: { ...it, far: other?.name, isHeldThere: other?.isHeld } });
+    const sender = (it, other = null) => ({ number, source: it.source || it.actor.system, actor: it.actor, partner: it.partner, of: { ...it, far: other && nameOfPort(other), isHeldThere: other?.isHeld } });
     if (far) return [sender(end, far), sender(far, end)];
     if (!end.isHeard || end.actor.state & EXPIRED_BIT || end.partner.system === end.actor.system) return [sender(end)];
     return [sender(end), { number, source: `02:fe:00:00:${hexadecimal(number >> 8)}:${hexadecimal(number & 255)}`, actor: end.partner, partner: end.actor, of: { ...end, isImplied: true } }];

@@ -126,8 +126,15 @@ function ofCables(group) {
 export const OWN_SYSTEM = "bonding: ad_actor_system; Open vSwitch: other_config:lacp-system-id; teamd: hwaddr, the address of the team device";
 
 /* What is said where two boxes have one system, and two keys. */
-export const TWO_BOXES = "two boxes have one system: an MLAG pair (give both the same MLAG number; bonding: the same ad_user_port_key), "
+export const TWO_BOXES = "two boxes have one system: an MLAG pair (give both the same MLAG number: docs/TROUBLE.md has commands; bonding: the same ad_user_port_key), "
     + "or two machines with one system address (give each its own).";
+
+/* What to do where links lead to two systems; `backup` is what uses one link, and has a spare, without LACP. */
+export function adviceOnTwoSystems(backup) {
+    const without = backup ? ` Or, without MLAG: ${backup}, which needs no LACP, has one link in use and the other as a spare; before, take both ports there out of their LACP groups, since a switch may suspend them else.` : "";
+    return `Cable these links to one system, or make the two systems one (MLAG: switches of two vendors usually cannot).${without} Links that are to be two bundles want a bond each. `
+        + "LLDP says which switch a link leads to: tcpdump -vi PORT -c 1 ether proto 0x88cc (docs/TROUBLE.md).";
+}
 
 /* The links on which two machines speak for one port of a system, each with a key of its own. */
 function twinsAmong(group, system) {

@@ -137,11 +137,14 @@ async function explain(lagtool, name, files) {
 const UNREADABLE = "The browser may not read this file, or it changed while it was read. Of a capture that root made: sudo chmod a+r FILE. "
     + "Of one that still runs: end tcpdump first. Then give it again.";
 
-function refuse(name, error) {
-    const isUnread = ["NotReadableError", "NotFoundError", "SecurityError"].includes(error.name) || /could not be read/.test(error.message);
-    const said = isUnread ? UNREADABLE : `This page could not explain it: ${error.message}. lagtool capture reads files of any size.`;
+function refuseFor(name, said) {
     put(name, "", "bad", said);
     window.shown = { name, status: 2, printed: "", said };
+}
+
+function refuse(name, error) {
+    const isUnread = ["NotReadableError", "NotFoundError", "SecurityError"].includes(error.name) || /could not be read/.test(error.message);
+    refuseFor(name, isUnread ? UNREADABLE : `This page could not explain it: ${error.message}. lagtool capture reads files of any size.`);
 }
 
 async function show(lagtool, name, files) {
@@ -180,7 +183,8 @@ async function kindOf(file) {
     const text = new TextDecoder().decode(octets);
     if (/^\s*\[\[\s*system|^\s*events\s*=/m.test(text) || file.name.endsWith(".toml")) return { kind: "script", text };
     if (/^([0-9a-f]{2})+$/i.test(digitsOf(text))) return { kind: "payload", text };
-    return { kind: statusIn(text) ? "status" : text.trim() && !/[\u0001-\u0008\ufffd]/.test(text) ? "text" : "capture", text };
+    if (!text.trim()) return { kind: "empty" };
+    return { kind: statusIn(text) ? "status" : /[\u0001-\u0008\ufffd]/.test(text) ? "capture" : "text", text };
 }
 
 /* Begins to show texts of a status; gives what shows their headline. */
@@ -193,26 +197,39 @@ function showTexts(name) {
     };
 }
 
+/* Why files are not explained together; nothing where they are. */
+function apartIn({ captures, texts, empty }) {
+    const namesOf = (list) => list.map((it) => it.name).join(", ");
+    if (captures.length && texts.length) return `Captures and texts are explained apart: give ${namesOf(captures)} without ${namesOf(texts)}.`;
+    return texts.length && empty.length ? `Empty: ${namesOf(empty)}. Give ${namesOf(texts)} alone.` : "";
+}
+
 /* What takes files: captures together, and texts of a status; of what else is given the last of each kind. */
 function takerOf(lagtool) {
-    const playing = new Playing(lagtool, JSON.parse(byId("example-scripts").textContent)), payload = new Payload(lagtool), texts = new Texts(lagtool, showTexts);
+    const playing = new Playing(lagtool, JSON.parse(byId("example-scripts").textContent)), payload = new Payload(lagtool), pasting = new Texts(lagtool, showTexts);
     const loaded = (part, id) => (text) => { part.load(text); byId(id).scrollIntoView(); };
     const load = { script: loaded(playing, "scripts"), payload: loaded(payload, "payloads") };
     return async (files) => {
-        const name = files.map((it) => it.name).join(", "), captures = [], said = [];
+        const name = files.map((it) => it.name).join(", "), captures = [], texts = [], empty = [];
         try {
             for (const file of files) {
                 const { kind, text } = await kindOf(file);
-                if (kind === "capture") captures.push(file);
-                else if (kind === "status" || kind === "text") said.push(text);
+                if (kind === "empty") empty.push(file);
+                else if (kind === "capture") captures.push(file);
+                else if (kind === "status" || kind === "text") texts.push({ name: file.name, text });
                 else load[kind](text);
             }
         } catch (error) {
             clear(name);
             return refuse(name, error);
         }
-        if (captures.length) return show(lagtool, captures.map((it) => it.name).join(", "), captures);
-        return said.length ? texts.load(said) : undefined;
+        const why = apartIn({ captures, texts, empty }), read = [...captures, ...empty];
+        if (why) {
+            clear(name);
+            return refuseFor(name, why);
+        }
+        if (read.length) return show(lagtool, read.map((it) => it.name).join(", "), read);
+        return texts.length ? pasting.load(texts.map((it) => it.text)) : undefined;
     };
 }
 

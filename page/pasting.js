@@ -2,8 +2,10 @@
 
 import { statusIn } from "./status.js";
 import { foundIn } from "./implied.js";
+import { bothEnds, tooMany } from "./both.js";
 import { causesOfTexts, headlineOfTexts, linesOfTexts, rowsOfTexts } from "./standing.js";
 import { causeItem, lineItems } from "./capture.js";
+import { capitalized } from "./keys.js";
 import { byId, table } from "./shapes.js";
 
 const BOXES = ["here", "there"], HEADS = ["port", "link", "aggregator", "says", "partner", "key", "port there", "partner is"];
@@ -11,9 +13,9 @@ const UNKNOWN_TEXT = "No known status is in this text, or it is cut. Known are /
 
 /* What is said of texts; null where one of them has no form that is known. */
 export async function saidOfTexts(strings, explain) {
-    const texts = strings.map(statusIn);
-    if (texts.includes(null)) return null;
-    const causes = causesOfTexts(texts, await foundIn(texts, explain)), lines = linesOfTexts(texts);
+    const given = strings.map(statusIn);
+    if (given.includes(null)) return null;
+    const both = bothEnds(given), { texts } = both, causes = causesOfTexts(both, await foundIn(texts, explain)), lines = linesOfTexts(texts);
     return { headline: headlineOfTexts(texts, lines, causes), lines, causes, rows: rowsOfTexts(texts) };
 }
 
@@ -25,6 +27,8 @@ export class Texts {
     }
 
     load(texts) {
+        const why = tooMany(texts.length);
+        if (why) return this.show("What systems print")(["", "bad"], `${capitalized(why)}.`);
         BOXES.forEach((it, number) => { byId(it).value = texts[number] ?? ""; });
         byId("texts").open = true;
         return this.read();

@@ -2,13 +2,13 @@
  * LACPDUs that the texts imply; facts that no LACPDU has get their own words. A text is a moment: what is starting looks as what stays so. */
 
 import { bitsOf, muxSaid } from "./records.js";
-import { capitalized, counted, distinct, OWN_SYSTEM } from "./keys.js";
+import { capitalized, counted, distinct } from "./keys.js";
 import { EFFECT, FAULT, REMARK } from "./causes.js";
 import { ALONE, CARRIES, howManyCarry, IDLE, UNKNOWN } from "./summary.js";
 import { flowSaid, hashesSaid } from "./hashes.js";
 import { ACTIVITY_BIT, COLLECTING_BIT, DEFAULTED_BIT, DISTRIBUTING_BIT, EXPIRED_BIT } from "./status.js";
 import { isDenied, linksOfTexts } from "./implied.js";
-import { areTwinsApart, dashed, isLinked, isSeveral, keysFollowSpeed, namesIn, RULES, portsNamedAlike } from "./advice.js";
+import { areTwinsApart, dashed, isLinked, isSeveral, keysFollowSpeed, nameOfPort, namesIn, RULES, portsNamedAlike } from "./advice.js";
 
 const isHalf = (it) => it.speed.endsWith("half");
 const speedOf = (it) => parseInt(it.speed, 10);
@@ -24,15 +24,15 @@ const eachDone = (ports, commandOf) => ports.map(({ name }) => commandOf(name)).
 const setUp = (ports) => eachDone(ports, (name) => `ip link set ${name} up`);
 const OF_CABLE = "look at the cable and at the other end's port.";
 
-function linkFacts({ name, told, ports, hash }) {
+function linkFacts({ name, told, ports, hash, isFar }) {
     const dead = ports.filter((it) => it.link === false && !it.isWaiting && !it.isOff), setDown = dead.filter((it) => it.isSetDown), down = dead.filter((it) => !it.isSetDown);
     const held = ports.filter((it) => it.isHeld), isSetUp = down.every((it) => it.isSetDown === false);
     const off = ports.filter((it) => it.isOff), waiting = ports.filter((it) => it.isWaiting), up = ports.filter((it) => isLinked(it) && it.aggregator !== null), linked = ports.filter(isLinked);
     const parts = [...new Set(up.map((it) => it.aggregator))], standing = ports.filter((it) => it.standsBy), away = ports.filter((it) => it.isAway);
     return [
-        { name: "link-set-down", ports: setDown, title: `the link of ${namesIn(setDown)} is set down here`, advice: setUp(setDown) },
+        { name: "link-set-down", ports: setDown, title: `the link of ${namesIn(setDown)} is set down ${isFar ? "there" : "here"}`, advice: setUp(setDown) },
         { name: "link-down", ports: down, title: `the link of ${namesIn(down)} is down`,
-            advice: `Nothing of LACP is to be judged there: ${isSetUp ? "" : `if it is set down here, ${setUp(down)}; else `}${OF_CABLE}` },
+            advice: `Nothing of LACP is to be judged there: ${isSetUp ? "" : `if it is set down ${isFar ? "there" : "here"}, ${setUp(down)}; else `}${OF_CABLE}` },
         { name: "held", ports: held, title: `the host holds ${namesIn(held)} out of use`,
             advice: `${eachDone(held, (name) => `lagd --release ${name}`)}. If the file of the bundle has hold=yes, take that out, too.` },
         { name: "device-down", ports: off, title: `the device of ${told} is down: LACP has ended on ${namesIn(off)}`,
@@ -44,13 +44,13 @@ function linkFacts({ name, told, ports, hash }) {
         { name: "aggregators", ports: parts.length > 1 ? up : [], title: `${told} is in ${parts.length} parts, of which one is used`,
             advice: `${up.map((it) => `${it.name} in ${it.aggregator}`).join(", ")}: each has another partner, key or speed, or no partner.` },
         { name: "speeds", ports: isSeveral(linked, (it) => it.speed) ? linked : [], title: `the links of ${told} differ in speed or duplex`,
-            advice: `${linked.map((it) => `${it.name} ${it.speed}`).join(", ")}: look at ethtool ${namesIn(slowIn(linked))} (what both ends advertise). A link that was faster before is a cable with two good pairs, or a port with a forced speed: set autonegotiation at both ends, try another cable. All want one speed and full duplex.${linked.some(isHalf) ? " Linux bonding sends no LACPDUs at half duplex." : ""}` },
+            advice: `${linked.map((it) => `${it.name} ${it.speed}`).join(", ")}: look at ethtool ${distinct(slowIn(linked).map((it) => it.name)).join(", ")} (what both ends advertise). A link that was faster before is a cable with two good pairs, or a port with a forced speed: set autonegotiation at both ends, try another cable. All want one speed and full duplex.${linked.some(isHalf) ? " Linux bonding sends no LACPDUs at half duplex." : ""}` },
         { name: "stands-by", ports: standing, title: `${told} uses one link at a time: its ${hash?.join(" is ")}`,
             advice: `${namesIn(standing)} stands by. For all links: ovs-vsctl set port ${name} bond_mode=balance-tcp` },
     ];
 }
 
-function silentFacts({ ports }, form) {
+function silentFacts({ ports, isFar }, form) {
     const silent = ports.filter((it) => it.actor && !it.partner && isLinked(it)), passive = silent.filter((it) => isPassive(it.actor));
     const deaf = ports.filter((it) => it.actor && it.partner && isLinked(it) && it.actor.state & EXPIRED_BIT && hearsNobody(it.partner));
     const both = DEFAULTED_BIT | EXPIRED_BIT, loops = form === "bonding" || form === "ip" ? silent.filter((it) => (it.actor.state & both) === both) : [];
@@ -58,8 +58,9 @@ function silentFacts({ ports }, form) {
         { name: "passive-unheard", ports: passive, title: `passive, and hears nobody: ${namesIn(passive)}`, advice: "Set this end, or the other one, to active." },
         { name: "never-heard", ports: loops, title: `no LACPDU was ever accepted on ${namesIn(loops)}`,
             advice: "Linux drops LACPDUs of its own system (dmesg: \"An illegal loopback occurred\"): look for a loop, or for two machines with one system." },
-        { name: "deaf-there", ports: deaf, title: `the other end heard nobody first: ${namesIn(deaf)}`,
-            advice: "It said so while this end still heard it: what this end sends does not arrive there. Look at the path from here, and capture at the other end." },
+        isFar ? { name: "deaf-there", ports: deaf, title: `this end heard nobody first, as ${namesIn(deaf)} says`, advice: "What the far end sends does not arrive here: look at the path from there." }
+            : { name: "deaf-there", ports: deaf, title: `the other end heard nobody first: ${namesIn(deaf)}`,
+                advice: "It said so while this end still heard it: what this end sends does not arrive there. Look at the path from here, and capture at the other end." },
     ];
 }
 
@@ -77,48 +78,6 @@ function partnerFacts({ name, ports }) {
     ];
 }
 
-/* Two texts of different interfaces with one system. */
-function systemFacts(texts) {
-    const facts = [];
-    texts.forEach((one, at) => texts.slice(at + 1).forEach((other) => {
-        const [first, second] = [one, other].map((text) => text.bundles.flatMap((it) => it.ports)), systems = new Set(second.map((it) => it.actor?.system).filter(Boolean));
-        const both = first.filter((it) => it.actor && systems.has(it.actor.system)), sources = new Set(second.map((it) => it.source));
-        if (!both.length || first.some((it) => it.source && sources.has(it.source))) return;
-        facts.push({ name: "one-system", ports: both, title: `two texts have one system, ${dashed(both[0].actor.system)}`, advice: "It is a copied identifier, unless they are an MLAG pair." });
-    }));
-    return facts;
-}
-
-/* Whether two values are one, as far as both are said. */
-const mayBeOne = (one, other) => (one ?? null) === null || (other ?? null) === null || one === other;
-const areOneSystem = (one, other) => Boolean(one?.system) && one.system === other?.system && mayBeOne(one.priority, other.priority);
-/* Whether two ports call themselves one port of one system; ip has no numbers of ports, and one partner. */
-const areNamedAlike = ({ actor: one }, { actor: other }) => areOneSystem(one, other) && mayBeOne(one.portPriority, other.portPriority) && one.port === other.port;
-const arePartnersApart = ({ partner: one }, { partner: other }) =>
-    one !== null && other !== null && !["system", "key"].every((it) => mayBeOne(one[it], other[it]));
-
-/* Whether two bundles have one system and its ports, and lead to two groups, as no MLAG pair does. Ends of one link are not meant, which name that
- * system. */
-function areCopies(one, other) {
-    const pairs = one.ports.flatMap((port) => other.ports.filter((it) => areNamedAlike(port, it)).map((it) => [port, it]));
-    const isNamed = pairs.length > 0 && [...one.ports, ...other.ports].some(({ partner }) => areOneSystem(pairs[0][0].actor, partner));
-    return !isNamed && pairs.some(([port, it]) => arePartnersApart(port, it));
-}
-
-/* The first two bundles with one system that is copied, as a fact: with it nothing is said of how one's links differ from the other's. */
-function copiedFacts(texts) {
-    const all = texts.flatMap((text) => text.bundles.map((bundle) => ({ text, bundle })));
-    const pairs = all.flatMap((one, at) => all.slice(at + 1).map((other) => [one, other]));
-    const found = pairs.find(([one, other]) => areCopies(one.bundle, other.bundle));
-    if (!found) return [];
-    const [one, other] = found, ports = [...one.bundle.ports, ...other.bundle.ports], { system } = ports.find((it) => it.actor?.system).actor;
-    const who = one.text === other.text ? "two bundles of this text" : texts.length > 2 ? "two texts" : "both texts";
-    return [{
-        name: "copied", ports, title: `${who} are of system ${dashed(system)}: if these are two hosts, give one of them another identifier`,
-        advice: `Their partners differ in system or key, so they are no MLAG pair. What gives an identifier: ${OWN_SYSTEM}.`,
-    }];
-}
-
 /* Several bundles in one text: those of one system, or both ends of links, which are counted as more links then. */
 function severalFacts({ bundles }) {
     const systemOf = ({ ports }) => ports.find((it) => it.actor)?.actor.system;
@@ -133,11 +92,11 @@ function severalFacts({ bundles }) {
     return [{ name: "several", ports: [], title, advice }];
 }
 
-export function factsIn(texts) {
+/* The facts of texts; `between` are those that hold between them. */
+function factsIn(texts, between) {
     const bundles = texts.flatMap((text) => text.bundles.map((it) => ({ ...it, form: text.form })));
-    const facts = bundles.flatMap((it) => [...linkFacts(it), ...silentFacts(it, it.form), ...partnerFacts(it)]);
-    const copied = copiedFacts(texts);
-    return [...facts.filter((it) => it.ports.length), ...copied.length ? copied : [...systemFacts(texts), ...texts.flatMap(severalFacts)]];
+    const facts = bundles.flatMap((it) => [...linkFacts(it), ...silentFacts(it, it.form), ...partnerFacts(it)]), isCopied = between.some(({ name }) => name === "copied");
+    return [...between, ...facts.filter((it) => it.ports.length), ...isCopied ? [] : severalFacts(texts[0])];
 }
 
 /* ---- Causes ---- */
@@ -146,7 +105,7 @@ export function factsIn(texts) {
 const RANKS = ["no-lacp", "no-state", "no-root", "set-down", 30, "own-address", "never-heard", "copied", 29, 15, "apart", "device-down", "link-set-down", "link-down", "held", "speeds", "stands-by", 5, "passive-unheard", 14, "deaf-there", 12, 22, 17, 2, 3, 4, "too-few", "no-links"];
 const isUnheard = ({ rank }) => rank === 12;
 /* What calls for nothing by itself. */
-const ASIDE = ["away", "waiting", "aggregators", "same-partner-port", "one-system", "several", "note", "said"];
+const ASIDE = ["away", "waiting", "aggregators", "same-partner-port", "one-system", "not-far", "several", "note", "said"];
 
 const isCutIn = (text) => text.bundles.some((it) => it.isCut);
 /* That texts are cut, and where the first one of them is. */
@@ -201,20 +160,20 @@ function inOrder(all, bundles) {
 const isOfHeld = ({ rule, port }) => [17, 22].includes(rule) && (port.said.isHeld || port.isHeldThere);
 
 /* The causes of texts, the first one first; of a text that is cut none is named. What the hashes mean is said where all links of a bundle carry. */
-export function causesOfTexts(texts, { found, left }) {
+export function causesOfTexts({ texts, facts: between }, { found, left }) {
     const bundles = texts.flatMap((it) => it.bundles), aside = (rank) => ASIDE.includes(rank) ? REMARK : FAULT;
     const notes = texts.flatMap((it) => it.notes).map((it) => causeOf({ rank: it.name, title: it.text, advice: it.advice ?? "", kind: aside(it.name) }));
-    const said = bundles.flatMap((it) => it.ports).filter((it) => it.facts.length).map((it) => causeOf({ rank: "said", kind: REMARK, title: `${it.name}: ${it.facts.join("; ")}`, advice: "" }));
+    const said = bundles.flatMap((it) => it.ports).filter((it) => it.facts.length).map((it) => causeOf({ rank: "said", kind: REMARK, title: `${nameOfPort(it)}: ${it.facts.join("; ")}`, advice: "" }));
     const more = left ? [causeOf({ rank: "note", kind: REMARK, title: `${counted(left, "link")} beyond the first 32 are not looked at`, advice: "Give the others alone." })] : [];
     if (texts.some(isCutIn)) return [...notes, ...said];
-    const facts = factsIn(texts).map((it) => causeOf({ rank: it.name, title: it.title, advice: it.advice, ports: it.ports, kind: aside(it.name) }));
+    const facts = factsIn(texts, between).map((it) => causeOf({ rank: it.name, title: it.title, advice: it.advice, ports: it.ports, kind: aside(it.name) }));
     const isCopied = facts.some(({ rank }) => rank === "copied");
     const rules = causesOfRules(found.filter((it) => !(it.rule === 17 && isDenied(it.port.said)) && !isOfHeld(it) && !(isCopied && COMPARING.includes(it.rule))), texts[0]);
     const causes = inOrder([...notes, ...facts, ...rules].filter((it) => it.kind === FAULT), texts[0].bundles);
     const whole = causes.length ? [] : texts[0].bundles.filter(({ ports }) => ports.length > 1 && ports.every(saysCarry));
     const hashes = hashesSaid(whole).map((it) => causeOf({ rank: "hash", kind: REMARK, ...it }));
-    const meant = new Set(causes.flatMap((it) => it.ports).map((it) => it.name));
-    const isExplained = ({ rank, ports }) => rank === "aggregators" && ports.some((it) => meant.has(it.name));
+    const meant = new Set(causes.flatMap((it) => it.ports).map(nameOfPort));
+    const isExplained = ({ rank, ports }) => rank === "aggregators" && ports.some((it) => meant.has(nameOfPort(it)));
     return [...causes, ...[...notes, ...facts].filter((it) => it.kind === REMARK && !isExplained(it)), ...hashes, ...more, ...said];
 }
 
@@ -341,6 +300,6 @@ export function rowsOfTexts(texts) {
     const party = (it) => it ? [it.system ? dashed(it.system) : "not named", it.key ?? "-", it.port ?? "-", bitsOf(it.state).join(", ") || "none"] : ["nobody", "-", "-", "-"];
     return texts.flatMap((text) => text.bundles.flatMap((bundle) => bundle.ports.map((it) => {
         const link = it.link === null ? "not said" : it.isWaiting ? "waiting" : it.link ? "up" : "down";
-        return [it.name, link, `${it.aggregator ?? "-"}`, it.actor ? bitsOf(it.actor.state).join(", ") : "-", ...party(it.partner).map(String)];
+        return [nameOfPort(it), link, `${it.aggregator ?? "-"}`, it.actor ? bitsOf(it.actor.state).join(", ") : "-", ...party(it.partner).map(String)];
     })));
 }

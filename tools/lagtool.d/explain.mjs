@@ -12,6 +12,7 @@ import { captureFrom } from "../../page/files.js";
 import { areJoined } from "../../page/cases.js";
 import { statusIn } from "../../page/status.js";
 import { foundIn } from "../../page/implied.js";
+import { bothEnds, tooMany } from "../../page/both.js";
 import { areUnread, causesOfTexts, headlineOfTexts, linesOfTexts } from "../../page/standing.js";
 
 const PAGE = new URL("../../docs/try.html", import.meta.url), MODULE = /<script type="application\/x-base64" id="module">([^<]*)</;
@@ -48,9 +49,10 @@ async function ofCaptures(lagtool, files) {
     return { headline, lines, note, causes, counts: countsOf(causes), said: [...faults, said].filter(Boolean).join("\n"), isUnread: !lines.length, placeOf: (packet) => records.placeOf(packet) };
 }
 
-async function ofTexts(lagtool, texts) {
+async function ofTexts(lagtool, given) {
+    const both = bothEnds(given), { texts } = both;
     const explain = async (capture) => lagtool.capture(new Uint8Array(await capture.arrayBuffer()), { json: true }).printed.split("\n").filter(Boolean).map((it) => JSON.parse(it));
-    const causes = causesOfTexts(texts, await foundIn(texts, explain)), lines = linesOfTexts(texts), [headline] = headlineOfTexts(texts, lines, causes);
+    const causes = causesOfTexts(both, await foundIn(texts, explain)), lines = linesOfTexts(texts), [headline] = headlineOfTexts(texts, lines, causes);
     return { headline, lines, causes, said: texts.some((text) => text.bundles.some((it) => it.isCut)) ? headline : "", isUnread: areUnread(texts, causes) };
 }
 
@@ -60,22 +62,29 @@ async function opened(path) {
     if (!octets) accessSync(path, constants.R_OK); // it says which error it is
     const file = Object.assign(octets ? new Blob([octets]) : await openAsBlob(path), { name: octets ? "standard input" : basename(path) });
     const text = file.size > MOST_TEXT ? "\0" : (octets ?? readFileSync(path)).toString("utf8");
-    return { file, status: text.includes("\0") ? null : statusIn(text), isText: !text.includes("\0") && text.trim() !== "", isEmpty: text.trim() === "" };
+    return { file, status: text.includes("\0") ? null : statusIn(text), isText: !text.includes("\0"), isEmpty: text.trim() === "" };
+}
+
+/* The files that are to be explained, each with its path; a file that cannot be explained beside them stops it, and an empty one does not. */
+async function given(paths) {
+    const files = [];
+    for (const path of paths) files.push({ path, ...await opened(path).catch((error) => { throw new Error(`cannot read ${path}: ${ERRORS[error.code] ?? error.message}`); }) });
+    const full = files.filter((it) => !it.isEmpty), unknown = full.find((it) => !it.status && it.isText), texts = full.filter((it) => it.status);
+    if (!full.length) throw new Error("the input is empty: did the command before it fail?");
+    if (unknown) throw new Error(`cannot read ${unknown.path}: neither a capture nor a known status`);
+    const pathsOf = (list) => list.map((it) => it.path).join(" ");
+    if (texts.length && texts.length < full.length) throw new Error(`captures and texts are explained apart: give ${pathsOf(full.filter((it) => !it.status))} without ${pathsOf(texts)}`);
+    if (tooMany(texts.length)) throw new Error(tooMany(texts.length));
+    return { full, texts, empty: files.filter((it) => it.isEmpty).map((it) => `cannot read ${it.path}: it is empty`) };
 }
 
 async function main(paths) {
-    if (!paths.length) throw new Error("lagtool explain FILE..: captures, or what systems print of LACP; of both ends the other one second");
-    const lagtool = await Lagtool.of(Buffer.from(MODULE.exec(readFileSync(PAGE, "latin1"))[1], "base64")), files = [];
-    for (const path of paths) files.push(await opened(path).catch((error) => { throw new Error(`cannot read ${path}: ${ERRORS[error.code] ?? error.message}`); }));
-    if (files.every((it) => it.isEmpty)) throw new Error("the input is empty: did the command before it fail?");
-    const texts = files.map((it) => it.status).filter(Boolean), unknown = files.findIndex((it) => !it.status && it.isText);
-    if (unknown >= 0) throw new Error(`cannot read ${paths[unknown]}: neither a capture nor a known status`);
-    const of = (isText) => paths.filter((_, number) => Boolean(files[number].status) === isText).join(" ");
-    if (texts.length && texts.length < files.length) throw new Error(`captures and texts are explained apart: give ${of(false)} without ${of(true)}`);
-    const told = texts.length ? await ofTexts(lagtool, texts) : await ofCaptures(lagtool, files.map((it) => it.file));
+    if (!paths.length) throw new Error("lagtool explain FILE..: captures, or what a system prints of LACP, and behind it what the far end prints");
+    const lagtool = await Lagtool.of(Buffer.from(MODULE.exec(readFileSync(PAGE, "latin1"))[1], "base64")), { full, texts, empty } = await given(paths);
+    const told = texts.length ? await ofTexts(lagtool, texts.map((it) => it.status)) : await ofCaptures(lagtool, full.map((it) => it.file)), said = [...empty, told.said.trim()].filter(Boolean).join("\n");
     console.log(textOfAll(told));
-    if (told.said) console.error(`lagtool: ${told.said.trim()}`);
-    if (told.said || told.isUnread) return 2;
+    if (said) console.error(`lagtool: ${said}`);
+    if (said || told.isUnread) return 2;
     return Number(told.causes.some((it) => it.kind === FAULT) || told.lines.some((it) => it.how !== CARRIES));
 }
 

@@ -13,8 +13,8 @@ TEXTS = os.path.join(CRATES, "lagtool", "src", "help.rt")
 EXPLAIN = """\
   lagtool explain FILE..  Says which links of a bundle carry, and why not; in a clone alone, by node
       FILE..: Captures of the members, all of them at once; or what systems print (/proc/net/bonding/bond0,
-              ip -d -j link, teamdctl team0 state dump, ovs-appctl lacp/show, lagd --status): this end's
-              text, then the far end's if it is there; or - for standard input
+              ip -d -j link, teamdctl team0 state dump, ovs-appctl lacp/show, lagd --status): two texts at
+              most, this end's, then the far end's if it is there; or - for standard input
       Status 0: each link carries, and no cause holds. Status 1: something is found. Status 2: a file
       cannot be read, or has no LACPDU.
 

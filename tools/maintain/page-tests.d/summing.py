@@ -85,6 +85,8 @@ def of_crossing(tests: Tests, browser: Browser, folder: str) -> None:
         headline, _, lines = said_of(browser, path)
         wanted = [f"{len(far)} of {len(far)} links carry, {how}. Links of one system lead to two systems.", f"carries apart, both ways: {SYSTEM}1 leads to {SYSTEM}3 on {where}"]
         tests.same(f"{len(far)} links to two switches", [headline, lines[0].split(": ", 1)[1]], wanted)
+        words = "switches of two vendors usually cannot", "Or, without MLAG: mode=active-backup of bonding", "take both ports there out of their LACP groups", "ether proto 0x88cc"
+        tests.same("it says what goes without MLAG, and how a switch is found", [it in browser.value(ADVICE) for it in words], [True] * 4)
     made.behind(path)
     tests.same("captures one behind the other are sorted", said_of(browser, path)[:2], [f"2 of 2 links carry, {EACH}. Keys differ within one pair of systems.", ["Keys differ within one pair of systems"]])
     made.often(path)
@@ -127,7 +129,9 @@ def of_ends(tests: Tests, browser: Browser, folder: str) -> None:
         tests.same(name, said_of(browser, path), [headline, causes, lines])
     made.dead(path)
     browser.choose(path)
-    tests.same("lacp_rate is not blamed for a dead end", "lacp_rate" in browser.value("document.getElementById('findings').textContent"), False)
+    said, slowed = browser.value("document.getElementById('findings').textContent"), f"{SYSTEM}2 port 2 hears nobody since, and sends each 30.0 s alone: a status of {SYSTEM}1 port 2 says that it hears nobody, too"
+    words = "lacp_rate", "If this was captured at its partner, the path may lose what it sends: capture at this end, too.", slowed
+    tests.same("of a dead end: lacp_rate is not blamed, the path may be, and its own status has the one direction as two", [it in said for it in words], [False, True, True])
     made.keyed(path, [(10, 10)])
     one = "The link carries, both ways. It is one link: of a bundle capture all links, since keys and partners are compared between them."
     tests.same("one link of a bundle", said_of(browser, path), [one, [], [link(1, up)]])

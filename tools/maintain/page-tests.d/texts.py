@@ -255,14 +255,18 @@ def of_partner_states(tests: Tests) -> None:
             file.write(text)
             file.flush()
         both = subprocess.run(["node", EXPLAIN, one.name, other.name], stdin=subprocess.DEVNULL, capture_output=True, text=True).stdout
-    tests.same("the same with the text of the deaf end", ["both texts have LACP, and q2 does not hear p2." in both, "channel-group" in both], [True, False])
+    tests.same("the same with the text of the deaf end", ["both texts have LACP, and the far end's q2 does not hear p2." in both, "channel-group" in both], [True, False])
     far = "The numbers of the ports there lie far apart"
     for port, is_two in (3, False), (32770, True):
         said = told_of(second_port(7, 15, 16, port))[1]
         found = [it in said for it in (far, "one MLAG number", "each has another partner, key or speed")]
         tests.same(f"keys that differ, with port {port} there", found, [is_two, True, False])
     for name, word in ("third-bonding.txt", "mode=active-backup"), ("third-teamd.json", "the runner activebackup"):
-        tests.same(f"{name}: what goes without MLAG", f"without MLAG: {word}, which needs no LACP" in told_of(read_text(os.path.join(STATUS, name)))[1], True)
+        said = told_of(read_text(os.path.join(STATUS, name)))[1]
+        words = f"without MLAG: {word}, which needs no LACP", "take both ports there out of their LACP groups", "want a bond each", "ether proto 0x88cc"
+        tests.same(f"{name}: what goes without MLAG, and how a switch is found", [it in said for it in words], [True] * 4)
+    receiver = "If it asks for one each second, and one comes each 30 s, that end hears nobody, either"
+    tests.same("of bonding that hears nobody: what a capture then says", receiver in told_of(read_text(os.path.join(STATUS, "deaf-bonding.txt")))[1], True)
 
 
 def of_one_file(tests: Tests) -> None:
