@@ -10,6 +10,8 @@ import warnings
 from typing import Optional
 
 import pytest
+from niwhopera._library import functions
+from niwhopera._numbers import NiwQueue
 from niwhopera import MOST_CONVERSATIONS, Carried, Closed, FrameCounts, Full, HeldFrames, LagError, Move, NoMemory, Released, Status, next_move
 
 
@@ -101,6 +103,13 @@ def test_more_memory_than_there_is_is_refused() -> None:
     with HeldFrames[int](65535, 1, most) as held:
         held.put(65534, 7)
         assert held.next(65534) == 7
+
+
+def test_a_frame_is_told_by_64_bits() -> None:
+    library, queue, frame = functions(), NiwQueue(), 2**64 - 1
+    assert library.queue_new(queue, 1, 1, 1) == library.queue_put(queue, 0, frame) == 0
+    assert library.queue_oldest(queue, 0).frame == library.queue_next(queue, 0).frame == frame
+    assert library.queue_free(queue) == 0
 
 
 def test_held_frames_are_neither_copied_nor_called_by_another_thread() -> None:

@@ -13,7 +13,6 @@ from typing import Any, Callable
 import niwhopera
 import pytest
 from niwhopera import _library
-from frame_view import Side, lacpdu, marker
 from niwhopera import (
     PORT_STATUS_TEXTS,
     Algorithm,
@@ -21,10 +20,15 @@ from niwhopera import (
     Closed,
     Config,
     Held,
+    Info,
+    Lacpdu,
     LagError,
     Mac,
+    Marker,
+    MarkerKind,
     MuxState,
     PortConfig,
+    PortId,
     PortStatus,
     Reason,
     ReceivedKind,
@@ -34,12 +38,14 @@ from niwhopera import (
     System,
     SystemId,
     WireFault,
+    control_frame,
 )
 
 OWN, OTHER = Mac("02:00:00:00:00:01"), Mac("02-00-00-00-00-02")
 PORT = PortConfig(number=3, key=7, mac=Mac("020000000103"), priority=11)
 CONFIG = Config(SystemId(32768, OWN), (PORT, dataclasses.replace(PORT, number=5)), (7, 7), max_delay=9, first_marker=77)
 ALL_STATES = State.ACTIVITY | State.TIMEOUT | State.AGGREGATION
+NOBODY = Info(SystemId(0, Mac(bytes(6))), 0, PortId(0, 0), State(0))
 
 
 def test_a_mac_address_is_read_in_each_notation() -> None:
@@ -156,8 +162,8 @@ def test_a_port_shows_what_it_is_and_sends() -> None:
         system.tick(10)
         assert system.due() == (5,) and system.is_due(5) and system.ntt(5)
         [(port, sent)] = list(system.transmissions())
-        wanted = Side(32768, OWN, 7, 11, 5, ALL_STATES | State.DEFAULTED | State.EXPIRED)
-        assert port == 5 and sent.frame == lacpdu(PORT.mac, wanted, Side(state=State.TIMEOUT), max_delay=9)
+        wanted = Info(SystemId(32768, OWN), 7, PortId(11, 5), ALL_STATES | State.DEFAULTED | State.EXPIRED)
+        assert port == 5 and sent.frame == control_frame(PORT.mac, Lacpdu(wanted, dataclasses.replace(NOBODY, state=State.TIMEOUT), 9))
         view = system.views()[1]
         assert (view.port, view.up, view.standby, view.defaulted, view.aggregator) == (5, True, False, True, None)
         assert view.port_status is PortStatus.NO_LACPDU and view.text == PORT_STATUS_TEXTS[2] == "no LACPDU came in time"
@@ -170,16 +176,16 @@ def test_what_comes_is_told() -> None:
         assert system.receive(3, b"").kind is ReceivedKind.DISABLED
         system.set_link(3, True)
         assert system.receive(3, b"\0" * 13).kind is ReceivedKind.DROPPED
-        frame = lacpdu(OTHER, Side(4096, OTHER, 19, 21, 23, ALL_STATES), Side())
+        frame = control_frame(OTHER, Lacpdu(Info(SystemId(4096, OTHER), 19, PortId(21, 23), ALL_STATES), NOBODY))
         assert system.receive(3, frame).kind is ReceivedKind.TOOK_LACPDU
         assert str(system.partner(3)) == "4096/02-00-00-00-00-02 key 19 port 21/23 state 07"
         assert system.receive(3, frame[:60]).fault is WireFault.SHORT
         for at, octet, fault in ((14, 3, WireFault.OTHER_SUBTYPE), (17, 19, WireFault.BAD_LENGTH)):
             assert system.receive(3, frame[:at] + bytes([octet]) + frame[at + 1 :]).fault is fault
-        asked = marker(OTHER, 1, 23, OTHER, 0xFFFFFFFF)
-        assert system.receive(3, asked).response == marker(PORT.mac, 2, 23, OTHER, 0xFFFFFFFF)
-        assert system.receive(3, marker(OTHER, 3, 23, OTHER, 1)).fault is WireFault.MARKER_TLV
-        assert system.receive(3, bytearray(marker(OTHER, 2, 3, OWN, 77))).released == 0
+        asked = control_frame(OTHER, Marker(MarkerKind.INFORMATION, 23, OTHER, 0xFFFFFFFF))
+        assert system.receive(3, asked).response == control_frame(PORT.mac, Marker(MarkerKind.RESPONSE, 23, OTHER, 0xFFFFFFFF))
+        assert system.receive(3, asked[:16] + b"\3" + asked[17:]).fault is WireFault.MARKER_TLV
+        assert system.receive(3, bytearray(control_frame(OTHER, Marker(MarkerKind.RESPONSE, 3, OWN, 77)))).released == 0
 
 
 def test_an_algorithm_picks_the_port() -> None:
@@ -199,8 +205,8 @@ def come_up(system: System) -> None:
         system.set_link(port, True)
     for bits in (ALL_STATES, ALL_STATES | State.SYNCHRONIZATION):
         for port in (3, 5):
-            actor = Side(4096, OTHER, 19, 21, port, bits)
-            system.receive(port, lacpdu(OTHER, actor, Side(32768, OWN, 7, 11, port, ALL_STATES)))
+            actor = Info(SystemId(4096, OTHER), 19, PortId(21, port), bits)
+            system.receive(port, control_frame(OTHER, Lacpdu(actor, Info(SystemId(32768, OWN), 7, PortId(11, port), ALL_STATES))))
         system.tick(20)
     assert system.distributing(1) == (3, 5)
 

@@ -81,7 +81,7 @@ def test_a_warm_start_tells_its_peer_nothing_new(world: TwoSystems) -> None:
     saved = [SavedPort(port, 899, sent.frame) for port, sent in peer.transmissions()]
     before = peer.views()
     with System.resume(config(1), saved) as warm:
-        assert (warm.distributing(1), warm.next_marker(), warm.load(1)) == ((1, 2), 1, 0)
+        assert (warm.distributing(1), warm.next_marker(), warm.load(1), warm.current_while(1)) == ((1, 2), 1, 0, 1)
         for port, sent in warm.transmissions():
             assert peer.receive(port, sent.frame).kind is ReceivedKind.TOOK_LACPDU
         assert peer.views() == before and warm.due() == ()

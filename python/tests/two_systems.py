@@ -5,8 +5,7 @@ from __future__ import annotations
 from collections import defaultdict, deque
 from typing import DefaultDict, Deque
 
-from frame_view import actor_of, marker_number
-from niwhopera import Config, Mac, PortConfig, ReceivedKind, SentKind, System, SystemId
+from niwhopera import Config, Lacpdu, Mac, PortConfig, ReceivedKind, System, SystemId, decode
 
 
 def config(system: int) -> Config:
@@ -49,7 +48,8 @@ class TwoSystems:
         sent = self.systems[system].transmit(port)
         if sent is None:
             return "nothing"
-        what = f"lacpdu {int(actor_of(sent.frame).state):02x}" if sent.kind is SentKind.LACPDU else f"marker {marker_number(sent.frame)}"
+        pdu = decode(sent.frame[14:])
+        what = f"lacpdu {int(pdu.actor.state):02x}" if isinstance(pdu, Lacpdu) else f"marker {pdu.id}"
         return f"{what} {self.put(system, port, sent.frame)}"
 
     def deliver(self, cable: int, to: int) -> str:

@@ -77,10 +77,8 @@ def build_harness(cache: str, library: str) -> str:
     compiles = [
         ["gcc", "-O2", "-DPREFIX=gcc_", "-c", f"{sources}/codec.c", "-o", f"{built}/codec_gcc.o"],
         ["clang", "-O3", "-DPREFIX=clang_", "-c", f"{sources}/codec.c", "-o", f"{built}/codec_clang.o"],
-        ["gcc", "-O2", "-c", f"{sources}/heap.c", "-o", f"{built}/heap.o"],
     ]
-    links = [f"{built}/codec_gcc.o", f"{built}/codec_clang.o", f"{built}/heap.o", library, runtime()]
-    links += [f"-Wl,--wrap={name}" for name in ("malloc", "realloc", "free")]
+    links = [f"{built}/codec_gcc.o", f"{built}/codec_clang.o", library, runtime()]
     words = ["rustc", "--edition", "2024", "-O", f"{sources}/main.rs", "-o", f"{built}/harness"]
     for compile_words in compiles:
         log_run(cache, "harness", compile_words)

@@ -10,8 +10,7 @@ import struct
 import subprocess
 from typing import Callable, Iterator, Optional
 
-from building import log_run
-from repository import PROGRAM, Missing
+from repository import PROGRAM
 
 COUNT = 100_000
 # A row of the table: a program, its seconds if it is here, and how many runs were wrong.
@@ -109,18 +108,6 @@ def on_links() -> Iterator[bytes]:
                 yield record(now + 20 + system, header(system, port) + lacpdu(port, system, partner))
 
 
-def among_data() -> Iterator[bytes]:
-    """Data of one link in frames of 60 to 1,514 octets, 10,000 a second, and the LACPDUs of both ends, one a second each."""
-    for second in itertools.count():
-        for number in range(10_000):
-            now = second * 1_000_000 + number * 100
-            length = (60, 1514, 60, 1514, 590, 60, 1514, 200, 60, 1514)[number % 10]
-            packet = struct.pack(">BBHHHBBH4s4sHHHH", 69, 0, length - 14, number, 0, 64, 17, 0, bytes(4), bytes(4), 1, 2, length - 34, 0)
-            yield record(now, HEADER[:12].replace(b"\x80", b"\0") + b"\x08\0" + packet.ljust(length - 14, b"\0"))
-        for system, partner in ((1, 9), (9, 1)):
-            yield record(second * 1_000_000 + 999_980 + system, header(system, 1) + lacpdu(1, system, partner))
-
-
 def write_capture(file: str, records: Iterator[bytes]) -> None:
     with open(file, "wb") as capture:
         capture.write(struct.pack("<IHHiIII", 0xA1B2C3D4, 2, 4, 0, 0, 65535, 1))
@@ -157,78 +144,39 @@ def write_script(folder: str) -> str:
     return "".join(told)
 
 
-def timed(words: list[str], env: dict[str, str] | None = None) -> tuple[float, str]:
+def timed(words: list[str]) -> tuple[float, str]:
     """Runs the words; answers their CPU seconds, and what they print."""
-    with subprocess.Popen(words, stdout=subprocess.PIPE, stderr=subprocess.DEVNULL, env=env) as ran:
+    with subprocess.Popen(words, stdout=subprocess.PIPE, stderr=subprocess.DEVNULL) as ran:
         printed = ran.stdout.read() if ran.stdout else b""
         _, status, used = os.wait4(ran.pid, 0)
         ran.returncode = os.waitstatus_to_exitcode(status)
     return used.ru_utime + used.ru_stime, printed.decode()
 
 
-def least(words: list[str], is_right: Callable[[str], bool], env: dict[str, str] | None = None, runs: int = RUNS) -> tuple[float, int]:
+def least(words: list[str], is_right: Callable[[str], bool], runs: int = RUNS) -> tuple[float, int]:
     """The least CPU time of some runs, and how many printed something wrong."""
-    ended = [timed(words, env) for _ in range(runs)]
+    ended = [timed(words) for _ in range(runs)]
     return min(time for time, _ in ended), sum(not is_right(printed) for _, printed in ended)
 
 
-def fetched(cache: str) -> str:
-    """Debian's packages of tcpdump and tshark with all that this machine lacks of theirs, unpacked and not installed."""
-    root = f"{cache}/programs"
-    if os.path.isdir(root) or not shutil.which("apt-get"):
-        return root
-    state = f"{cache}/apt"
-    for folder in (f"{state}/lists/partial", f"{state}/packages/archives/partial"):
-        os.makedirs(folder, exist_ok=True)
-    options = ["-o", f"Dir::State::Lists={state}/lists", "-o", f"Dir::Cache={state}/packages", "-o", "Debug::NoLocking=1"]
-    try:
-        log_run(cache, "apt", ["apt-get", *options, "update"])
-        log_run(cache, "apt", ["apt-get", *options, "install", "-y", "-d", "--no-install-recommends", "tcpdump", "tshark"])
-        for name in os.listdir(f"{state}/packages/archives"):
-            if name.endswith(".deb"):
-                log_run(cache, "apt", ["dpkg-deb", "-x", f"{state}/packages/archives/{name}", f"{root}.new"])
-        os.rename(f"{root}.new", root)
-    except (Missing, OSError):
-        shutil.rmtree(f"{root}.new", ignore_errors=True)
-    return root
+def beside(words: list[str], is_right: Callable[[str], bool]) -> tuple[float | None, int]:
+    """The same of another program; no time where that is not in PATH."""
+    return least(words, is_right, 3) if shutil.which(words[0]) else (None, 0)
 
 
-def find(name: str, root: str) -> tuple[str, dict[str, str] | None] | None:
-    """The program of this name, here or among the packages, and its environment; None if it is in neither."""
-    if shutil.which(name):
-        return name, None
-    if not os.path.isfile(f"{root}/usr/bin/{name}"):
-        return None
-    libraries = [folder for folder, _, names in os.walk(f"{root}/usr/lib") if any(".so" in it for it in names)]
-    return f"{root}/usr/bin/{name}", {**os.environ, "LD_LIBRARY_PATH": ":".join(libraries)}
-
-
-def captured(file: str, what: str, last: str, tcpdump: tuple[str, dict[str, str] | None] | None) -> list[Row]:
-    """Rows of a capture: the program, whose last line is known, and tcpdump, which prints a line for each frame."""
-    ours = least([PROGRAM, "capture", file], lambda it: it.endswith(f"\n{last}\n"))
-    words = ["-n", *AS_ROOT, "-r", file]
-    theirs = least([tcpdump[0], *words], lambda it: it.count("\n") == COUNT, tcpdump[1]) if tcpdump else (None, 0)
-    return [(f"lagtool capture of {what}", *ours), (f"tcpdump -n of {what}", *theirs)]
-
-
-def measure(cache: str, fetches: bool) -> list[Row]:
+def measure(cache: str) -> list[Row]:
     """Rows of the program: name, seconds, wrong runs; the seconds of a program that is not here are None."""
-    folder, root = f"{cache}/frames", fetched(cache) if fetches else f"{cache}/programs"
+    folder = f"{cache}/frames"
     os.makedirs(folder, exist_ok=True)
     checked, replayed = write_frames(folder), write_script(folder)
     write_capture(f"{folder}/links.pcap", on_links())
-    write_capture(f"{folder}/data.pcap", among_data())
-    what = f"{COUNT:,} frames"
+    what, last = f"{COUNT:,} frames", f"packets {COUNT} slow {COUNT} ends 4 findings 0"
     rows: list[Row] = [(f"lagtool check of {what}", *least([PROGRAM, "check", f"{folder}/frames.hex"], lambda it: it == checked))]
-    beside = [
-        ("tcpdump -vv", ["-vv", *AS_ROOT, "-r", f"{folder}/frames.pcap"], lambda it: it.count("LACPv1,") == COUNT * 8 // 10),
-        ("tshark", ["-r", f"{folder}/frames.pcap"], lambda it: it.count("\n") == COUNT),
-    ]
-    for name, words, is_right in beside:
-        found = find(name.split()[0], root)
-        rows.append((f"{name} of {what}", *(least([found[0], *words], is_right, found[1], 3) if found else (None, 0))))
-    tcpdump = find("tcpdump", root)
-    rows += captured(f"{folder}/links.pcap", f"{what}, two links", f"packets {COUNT} slow {COUNT} ends 4 findings 0", tcpdump)
-    rows += captured(f"{folder}/data.pcap", f"{what}, data", f"packets {COUNT} slow 18 ends 2 findings 0", tcpdump)
+    frames, links = [*AS_ROOT, "-r", f"{folder}/frames.pcap"], [*AS_ROOT, "-r", f"{folder}/links.pcap"]
+    # tcpdump and tshark print a line for each frame.
+    rows.append((f"tcpdump -vv of {what}", *beside(["tcpdump", "-vv", *frames], lambda it: it.count("LACPv1,") == COUNT * 8 // 10)))
+    rows.append((f"tshark of {what}", *beside(["tshark", *frames[-2:]], lambda it: it.count("\n") == COUNT)))
+    rows.append((f"lagtool capture of {what}, two links", *least([PROGRAM, "capture", links[-1]], lambda it: it.endswith(f"\n{last}\n"))))
+    rows.append(("tcpdump -n of it", *beside(["tcpdump", "-n", *links], lambda it: it.count("\n") == COUNT)))
     replay = least([PROGRAM, "replay", f"{folder}/events.toml"], lambda it: it == replayed)
     return rows + [(f"lagtool replay of {COUNT:,} events", *replay)]

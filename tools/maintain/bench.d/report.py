@@ -140,14 +140,6 @@ def crowded_rows(table: Table, m: Measured) -> None:
     table.goal("the lowest time of the slowest call where ports find no aggregator", max(times) / 1000, WORST / 1000, " us")
 
 
-def memory_rows(table: Table, m: Measured) -> None:
-    kinds, (allocations,) = m.names("later")[0], m.counts["later", m.names("later")[0]]
-    rows = [([name, *map(str, m.counts["memory", name])], True) for name in m.names("memory")]
-    rows.append(([f"{kinds} kinds of calls afterwards", str(allocations), "-"], allocations == 0))
-    table.section(["memory", "allocations", "octets"], rows)
-    table.goal(f"allocations of {kinds} kinds of calls after new", float(allocations), 0)
-
-
 def program_rows(table: Table, programs: list[tuple[str, float | None, int]]) -> None:
     ours: float | None = None
     rows = []
@@ -180,7 +172,6 @@ def print_table(text: str, programs: list[tuple[str, float | None, int]] | None)
     limit_rows(table, m)
     offer_rows(table, m)
     crowded_rows(table, m)
-    memory_rows(table, m)
     if programs:
         program_rows(table, programs)
     table.print_goals()

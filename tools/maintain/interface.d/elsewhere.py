@@ -3,7 +3,6 @@
 from __future__ import annotations
 
 import re
-import textwrap
 
 from lag_h import OWN_TEXTS, replaced
 from library import RENAMED
@@ -36,12 +35,6 @@ def symbols(text: str, exports: list[Export], release: str) -> str:
 def released(text: str, before: str, release: str) -> str:
     """A text that names the release, behind these words."""
     return replaced(text, rf"({re.escape(before)})(\d+\.\d+\.\d+)()", f"the release behind {before!r}", release)
-
-
-def called(text: str, exports: list[Export]) -> str:
-    """live.d/calls.c with the list of all exports, each of which it has to call."""
-    listed = textwrap.fill(" ".join(f"EXPORT({it.name})," for it in exports), 132, initial_indent="    ", subsequent_indent="    ")
-    return replaced(text, r"(#define EXPORT\(name\) [^\n]*\n)(.*?)(\n\};)", "the list of exports in calls.c", listed)
 
 
 def refusals(exports: list[Export]) -> str:

@@ -189,3 +189,15 @@ def exports(text: str, known: Structs) -> list[Export]:
     if len(found) != text.count("#[unsafe(no_mangle)]"):
         raise Missing("an export of lagffi is not written as this program reads it")
     return found
+
+
+def nulls(exports: list[Export]) -> str:
+    """A program that hands each function each of its pointers as a null pointer, and prints those that it does not refuse."""
+    rows = []
+    for it in exports:
+        status = "" if it.answer == "uint32_t" else ".status"
+        for null in (field for field in it.given if "*" in field.kind):
+            words = ", ".join("0" if field is null else "room" if "*" in field.kind else "1" for field in it.given)
+            rows.append(f'    wrong += niw_{it.name}({words}){status} != NIW_NULL && puts("niw_{it.name}: {null.name}") >= 0;')
+    head = '#include <stdio.h>\n#include "lag.h"\n\nint main(void) {\n    static uint64_t space[512];\n    void *room = space;\n    int wrong = 0;\n'
+    return head + "\n".join(rows) + "\n    return wrong > 0;\n}\n"

@@ -8,7 +8,7 @@ from repository import Missing
 
 TYPES = {0x7E: "u64", 0x7F: "u32"}
 # The sections by their numbers; the others hold nothing that C wants, or may not be there.
-CUSTOM, TYPE, IMPORT, FUNCTION, TABLE, GLOBAL, EXPORT, START, ELEMENT, CODE, DATA, COUNT = 0, 1, 2, 3, 4, 6, 7, 8, 9, 10, 11, 12
+CUSTOM, TYPE, IMPORT, FUNCTION, EXPORT, CODE, DATA, COUNT = 0, 1, 2, 3, 7, 10, 11, 12
 
 
 class Signature(NamedTuple):
@@ -109,7 +109,6 @@ class Module:
         self.functions: list[Imported | Function] = []
         self.globals: list[str] = []
         self.exports: dict[str, int] = {}
-        self.names: dict[int, str] = {}
         self.data = bytearray()
         self.size = 0
         self.declared: list[int] = []
@@ -147,17 +146,13 @@ class Module:
             raise Missing(f"the module has a section {number}, of which C is not made: tables, globals of its own or a start")
 
     def custom(self, it: Reader) -> None:
-        """The size of the data, and the names of functions."""
+        """The size of the data."""
         name = it.text()
-        while name in ("dylink.0", "name") and it.at < len(it.octets):
+        while name == "dylink.0" and it.at < len(it.octets):
             part, length = it.octet(), it.number()
             inner = Reader(it.take(length))
-            if name == "dylink.0" and part == 1:
+            if part == 1:
                 self.size = inner.number()
-            elif name == "name" and part == 1:
-                for _ in range(inner.number()):
-                    which = inner.number()
-                    self.names[which] = inner.text()
 
     def imported(self, it: Reader) -> None:
         _, name, kind = it.text(), it.text(), it.octet()

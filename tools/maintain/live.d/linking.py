@@ -63,9 +63,9 @@ def ran(program: str) -> CompletedProcess[str]:
 
 
 def build_calls(folder: str, libraries: Sequence[str]) -> str:
-    """Builds the program that calls each function; answers its path."""
+    """Builds the program of calls; answers its path."""
     words = ["-std=c11", "-Wall", "-Wextra", "-Werror", *COUNTED]
-    names = ("calls", "checks", "conversations", "payloads", "queues", "resuming", "settings", "active_aggregator", "observing")
+    names = ("calls", "checks", "conversations", "payloads")
     return build(os.path.join(folder, "calls"), [f"{MAINTAIN}/live.d/{name}.c" for name in names], libraries, *words)
 
 

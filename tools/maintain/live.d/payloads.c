@@ -55,8 +55,6 @@ static void check_decode(void) {
     check_refused_payload(0, 3, lacpdu_octets, NIW_FAULT_OTHER_SUBTYPE);
     check_refused_payload(23, 19, lacpdu_octets, NIW_FAULT_BAD_LENGTH);
     check_refused_payload(2, 3, marker_octets, NIW_FAULT_MARKER_TLV);
-    it = niw_decode(NULL, 0, &pdu);
-    CHECK(it.status == NIW_NULL && it.fault == 0 && niw_decode(octets, sizeof octets, NULL).status == NIW_NULL);
 }
 
 static void check_encode(void) {
@@ -73,7 +71,6 @@ static void check_encode(void) {
     CHECK(niw_encode(&lacpdu, octets, sizeof octets) == NIW_OK && memcmp(octets, lacpdu_octets, NIW_PAYLOAD_LENGTH) == 0);
     CHECK(memcmp(octets + NIW_PAYLOAD_LENGTH, behind, sizeof behind) == 0);
     CHECK(niw_encode(&marker, octets, NIW_PAYLOAD_LENGTH) == NIW_OK && memcmp(octets, marker_octets, NIW_PAYLOAD_LENGTH) == 0);
-    CHECK(niw_encode(NULL, octets, sizeof octets) == NIW_NULL && niw_encode(&marker, NULL, NIW_PAYLOAD_LENGTH) == NIW_NULL);
 }
 
 void check_payloads(void) {

@@ -288,14 +288,8 @@ WAY_ROWS: dict[str, Callable[[Guest], str]] = {"frames lost, and longest gap": s
                                                "systemctl restart": restarts}  # fmt: skip
 
 
-# The rows that are tried beside the boot, where not all are.
-chosen: list[str] = []
-
-
 def tried(guest: Guest, name: str, row: Callable[[Guest], str]) -> str:
     """One row; what fails in it is a check that failed."""
-    if chosen and name not in chosen and not name.startswith("boots"):
-        return "-"
     print(f"{name}:", flush=True)
     began = time.monotonic()
     try:

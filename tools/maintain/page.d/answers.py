@@ -24,6 +24,7 @@ WAYS: list[tuple[list[str], dict[str, bool]]] = [
 ]
 SLOW = bytes.fromhex("0180c2000002")  # with what the frames of the slow protocols begin
 FRAME = 124  # octets of one
+CHANCES = 150
 MAC = b"0200000000ff"
 # Words that are no octets, and some that are.
 WORDS = [b"", b"0", b"zz", b"00g0", "é0".encode(), b"\xff", b"01 01", b"0101", b"0A0b"]
@@ -63,13 +64,13 @@ def frames_in(captures: list[bytes], chance: random.Random, count: int) -> list[
     return [it if number % 2 else changed(it, chance) for number, it in enumerate(chosen)]
 
 
-def all_jobs(seed: int, count: int) -> list[Job]:
-    """The jobs, of which so many captures, scripts and frames each are made by chance."""
-    chance = random.Random(seed)
+def all_jobs() -> list[Job]:
+    """The jobs, of which CHANCES captures, scripts and frames each are made by chance."""
+    chance = random.Random(1)
     captures, scripts = read(os.path.join(EXAMPLES, "captures"), (".pcap", ".pcapng")), read(EXAMPLES, (".toml",))
-    frames = frames_in(captures, chance, count)
-    captures += [changed(chance.choice(captures), chance) for _ in range(count)]
-    scripts += [changed(chance.choice(scripts), chance) for _ in range(count)]
+    frames = frames_in(captures, chance, CHANCES)
+    captures += [changed(chance.choice(captures), chance) for _ in range(CHANCES)]
+    scripts += [changed(chance.choice(scripts), chance) for _ in range(CHANCES)]
     jobs = [Job("vectors", [], {}, [b"vectors"])]
     for octets in captures:
         for words, options in WAYS:
@@ -106,11 +107,11 @@ def of_module(octets: bytes, jobs: list[Job], folder: str) -> list[Answer]:
     return [(status, printed, said) for status, printed, said in json.loads(read_text(at["answers.json"]))]
 
 
-def compared(octets: bytes, lagtool: str, folder: str, seed: int, count: int) -> tuple[int, list[str]]:
+def compared(octets: bytes, lagtool: str, folder: str) -> tuple[int, list[str]]:
     """How many answers are equal, and which are not."""
     if not os.access(lagtool, os.X_OK):
         raise Missing(f"there is no program {lagtool}: tools/lagtool --prove makes it, and LAGTOOL may name it")
-    jobs = all_jobs(seed, count)
+    jobs = all_jobs()
     other = []
     for number, (job, came) in enumerate(zip(jobs, of_module(octets, jobs, folder), strict=True)):
         wanted = of_program(lagtool, job, folder)

@@ -66,11 +66,6 @@ def test_the_ends_of_its_cables_say_of_which_kind_a_case_is(
     assert (made.kind(world), [it.ends[0] for it in made.heard(world)]) == (kind, heard)
 
 
-@pytest.mark.parametrize(("keys", "most"), [([1], 1), ([1, 2, 2], 2), ([2, 1, 1, 2, 1], 3)])
-def test_the_most_ports_of_a_key(keys: list[int], most: int) -> None:
-    assert rounds.Case.most_of_a_key([rounds.Port(key, True, True, True) for key in keys]) == most
-
-
 @pytest.mark.parametrize("kind", rounds.ROUNDS)
 def test_in_a_round_each_system_ticks_once_and_its_ports_are_asked_behind_that(kind: str) -> None:
     made, world = case(kind, [2, 1])
@@ -93,15 +88,6 @@ def test_what_is_sent_in_a_late_round_may_stay_for_one_more(kind: str, left: int
         assert came + flies == 2 * played
         most = max(most, flies)
     assert most == left
-
-
-def test_a_frame_goes_to_the_other_end_of_its_cable_and_a_cut_cable_takes_none() -> None:
-    _, world = case("healthy", [2, 1])
-    world.put(0, 1, b"one")
-    assert [list(it.towards[1]) for it in world.cables] == [[b"one"], []]
-    world.cut(world.cables[0])
-    world.put(0, 1, b"more")
-    assert not any(line for it in world.cables for line in it.towards)
 
 
 def test_control_frames_alone_are_repeated() -> None:
@@ -138,17 +124,6 @@ def test_each_bound_is_that_of_its_rounds_and_cables(monkeypatch: pytest.MonkeyP
     assert (found[3] is None) == (late_by < 0) and all(it in (found[3] or "") for it in wrong if late_by == 0)
     looked = bounds.values() if kind == "healthy" else [bounds[rounds.is_known], bounds[rounds.is_agreed]]
     assert played == [max(looked) + rounds.BEYOND]
-
-
-@pytest.mark.parametrize("seed", range(20))
-def test_ports_that_share_an_aggregator_are_aggregatable_and_have_one_key(seed: int) -> None:
-    made = rounds.Case(random.Random(seed))
-    assert not made.shared or all(port.key == 1 and port.aggregatable for ports in made.ports for port in ports)
-    configure: list[dict[str, Any]] = []
-    system = SimpleNamespace(configure=lambda port, **values: configure.append(values))
-    for _ in range(5):
-        made.configure(system, 0, 1)
-    assert all(it["key"] == made.ports[0][0].key and (it["aggregatable"] or not made.shared) for it in configure)
 
 
 @pytest.mark.parametrize("most", [1, 6])

@@ -145,11 +145,6 @@ WRITTEN_ENUM = """    NIW_OK = 0,
 """
 
 
-def test_an_export_has_its_sentence_its_refusals_and_its_parameters() -> None:
-    assert (TELL.said, TELL.refuses) == (["Tells the end of a port,", "and no more."], ["NIW_BUFFER", "NIW_NO_SYSTEM", "NIW_NO_PORT"])
-    assert (TICK.answer, TICK.parameters()) == ("uint32_t", "struct niw_system *handle")
-
-
 @pytest.mark.parametrize(
     ("old", "new", "told"),
     [
@@ -168,13 +163,6 @@ def test_an_export_without_its_lines_is_refused(old: str, new: str, told: str) -
 def test_functions_are_written_in_their_places_and_new_ones_behind_the_one_before() -> None:
     assert lag_h.with_functions(HEADER, [TELL, TICK]) == WRITTEN
     assert lag_h.with_functions(WRITTEN, [TELL, TICK]) == WRITTEN
-
-
-def test_fields_lie_as_c_lays_them() -> None:
-    # 1 octet, 6 of them, then 4 at a multiple of 4, and 2: 14, rounded up to a multiple of 4.
-    assert STRUCTS.layout("niw_end") == (16, 4, {"what": 0, "mac": 1, "count": 8, "port": 12})
-    assert STRUCTS.layout("niw_system_fault") == (32, 8, {"up": 0, "end": 4, "at": 24})
-    assert '_Static_assert(offsetof(struct niw_end, count) == 8, "offset of niw_end.count");\n' in STRUCTS.assertions()
 
 
 def test_a_type_that_c_has_not_is_refused() -> None:
@@ -197,12 +185,6 @@ def test_a_header_has_each_enumerator_once() -> None:
 def test_a_constant_has_one_number() -> None:
     with pytest.raises(numbering.Missing, match="NIW_NOT_HERE has two numbers in the sources"):
         numbering.of_sources("const NOT_HERE: u32 = 7;\nconst NOT_HERE: u32 = 8;", {})
-
-
-def test_variants_have_numbers_lines_and_texts() -> None:
-    assert numbering.variants(ENUM, "SystemFault") == KNOWN
-    source = ENUM.replace('Other(what) => write!(f, "{what}")', 'Other(_) => f.write_str("something else")')
-    assert numbering.variants(source, "SystemFault")[2].text == "something else"
 
 
 @pytest.mark.parametrize(("old", "new"), [("NoRoad => 1", "NoRoad => 2"), ("::Other(_) => 4,", ""), ("    /// 4: this is wrong.\n", "")])

@@ -1,4 +1,4 @@
-"""What the guests of tools/maintain/machines are made of, and how their tables look."""
+"""What the guests of tools/maintain/machines are made of, and what they answer."""
 
 from __future__ import annotations
 
@@ -9,9 +9,8 @@ from pathlib import Path
 import pytest
 
 import loading
-from repository import Missing
 
-machines = loading.program("machines")
+loading.program("machines")  # what its modules import is looked up then
 filing = loading.module("machines.d", "filing")
 guests = loading.module("machines.d", "guest")
 tree = loading.module("machines.d", "tree")
@@ -40,16 +39,3 @@ def test_a_late_answer_is_not_that_of_the_next_script(tmp_path: Path) -> None:
             guest.run("sleep 1; echo first", 0.3)
         assert guest.run("echo second; exit 3") == (3, "second") and guest.text("echo third") == "third"
         process.kill()
-
-
-def test_words_name_guests() -> None:
-    assert machines.chosen(["6.12/igb", "router"]) == ["6.12/igb", "router"]
-    assert machines.chosen(["6.1/all"]) == ["6.1/virtio", "6.1/e1000e", "6.1/igb", "6.1/vmxnet3"]
-    assert machines.chosen([]) == list(machines.TASKS)
-    with pytest.raises(Missing, match="no guest 5.10/igb"):
-        machines.chosen(["5.10/igb"])
-
-
-def test_a_table_has_a_column_for_each_guest() -> None:
-    told = {"6.1/igb": machines.Told({"a": "1", "b": "2"}, 2, 0, ""), "6.12/igb": machines.Told({"a": "3"}, 1, 0, "")}
-    assert machines.table(told) == "||6.1/igb|6.12/igb|\n|---|---|---|\n|a|1|3|\n|b|2|-|"

@@ -1,4 +1,4 @@
-"""tools/maintain/peers: which peers its words name, its tables, and a trial that does not run to its end."""
+"""tools/maintain/peers: a peer that there is not, and a trial that does not run to its end."""
 
 from __future__ import annotations
 
@@ -22,12 +22,6 @@ def counted(monkeypatch: pytest.MonkeyPatch) -> dict[str, int]:
     return counts
 
 
-@pytest.mark.parametrize(("words", "names"), [([], []), (["teamd"], ["teamd"]), (["bonding", "openvswitch"], ["bonding", "openvswitch"])])
-def test_the_words_name_peers(monkeypatch: pytest.MonkeyPatch, words: list[str], names: list[str]) -> None:
-    monkeypatch.setattr(sys, "argv", ["peers", *words])
-    assert peers.read_words().peers == names
-
-
 def test_a_peer_that_there_is_not_is_refused(monkeypatch: pytest.MonkeyPatch) -> None:
     monkeypatch.setattr(sys, "argv", ["peers", "teamd", "nobody"])
     with pytest.raises(Missing, match="no peer nobody: openvswitch, testpmd, teamd, bonding"):
@@ -37,17 +31,6 @@ def test_a_peer_that_there_is_not_is_refused(monkeypatch: pytest.MonkeyPatch) ->
 def test_each_flow_is_a_frame_of_its_own() -> None:
     frames = peers.conform.frames_of_flows()
     assert len(set(frames)) == len(frames) == 64 and {it[12:14] for it in frames} == {b"\x08\x00"}
-
-
-def test_a_table() -> None:
-    assert peers.table(["peer", "seconds"], [["teamd", "1.5"], ["bonding", "2"]]) == (
-        "| peer | seconds |\n| --- | --- |\n| teamd | 1.5 |\n| bonding | 2 |"
-    )
-
-
-def test_a_trial_gives_its_row(counted: dict[str, int]) -> None:
-    assert peers.attempt("teamd", lambda: ["teamd", "1.5"]) == ["teamd", "1.5"]
-    assert counted == {"passed": 0, "failed": 0}
 
 
 def test_a_peer_that_cannot_be_had_is_skipped(counted: dict[str, int], capsys: pytest.CaptureFixture[str]) -> None:

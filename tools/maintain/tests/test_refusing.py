@@ -65,18 +65,3 @@ def test_a_run_that_does_not_pass_is_counted() -> None:
 def test_each_test_that_it_runs_stands(crate: str, test: str) -> None:
     *modules, name = test.split("::")
     assert re.search(rf"#\[test\]\nfn {name}\(", loading.text_of(os.path.join("crates", crate, "src", *modules) + ".rt"))
-
-
-def test_the_words_name_a_test_of_a_crate(monkeypatch: pytest.MonkeyPatch) -> None:
-    monkeypatch.setattr(sys, "argv", ["refuse-memory", "tests_world", "worlds::a"])
-    assert memory.chosen() == [("tests_world", "worlds::a")]
-    monkeypatch.setattr(sys, "argv", ["refuse-memory"])
-    assert memory.chosen() == memory.TESTS
-
-
-@pytest.mark.parametrize("words", [["nothing", "a"], ["tests_world"]])
-def test_words_that_name_none_are_refused(monkeypatch: pytest.MonkeyPatch, words: list[str]) -> None:
-    monkeypatch.setattr(sys, "argv", ["refuse-memory", *words])
-    with pytest.raises(SystemExit) as ended:
-        memory.chosen()
-    assert ended.value.code == 2

@@ -1,4 +1,4 @@
-"""What tools/maintain/refuse-program and tools/maintain/examples say of a run that is not as wanted."""
+"""What tools/maintain/refuse-program says of a run that is not as wanted."""
 
 from __future__ import annotations
 
@@ -9,7 +9,6 @@ import pytest
 import loading
 
 refuse = loading.program("refuse-program")
-examples = loading.program("examples")
 
 WHOLE = CompletedProcess([], 0, b"one\ntwo\n", b"")
 
@@ -27,15 +26,3 @@ WHOLE = CompletedProcess([], 0, b"one\ntwo\n", b"")
 def test_a_refused_run_ends_with_its_text_and_a_part_of_the_output(status: int, printed: bytes, said: bytes, why: str | None) -> None:
     found = refuse.why_not(CompletedProcess([], status, printed, said), WHOLE, "out of memory")
     assert found == why if why is None else found.startswith(why)
-
-
-@pytest.mark.parametrize(
-    ("stored", "printed", "said"),
-    [
-        ("a\nb\n", "a\nc\n", "line 2 is stored as 'b', and came as 'c'"),
-        ("a\nb\n", "a\n", "line 2 is stored as 'b', and came as ''"),
-        ("a\n", "a", "the last line ends otherwise"),
-    ],
-)
-def test_the_first_line_that_differs_is_told(stored: str, printed: str, said: str) -> None:
-    assert examples.first_difference(stored, printed) == said

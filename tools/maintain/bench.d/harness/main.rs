@@ -4,7 +4,6 @@
 //! A time is the least of many repeats, in nanoseconds of this thread.
 
 mod codec;
-mod heap;
 mod system;
 mod time;
 
@@ -94,17 +93,6 @@ fn jobs(word: &str) -> Vec<Named> {
     chosen.map(|(words, scene, kind)| (words, Job::new(scene, kind))).collect()
 }
 
-fn print_memory() {
-    for conversations in [256, 4096] {
-        for ports in PORTS {
-            let (blocks, octets) = heap::making(&together(ports, 0, conversations));
-            println!("memory\t{ports} ports and aggregators of {conversations} conversations\t{blocks}\t{octets}");
-        }
-    }
-    let (kinds, allocations) = heap::later();
-    println!("later\t{kinds}\t{allocations}");
-}
-
 fn print_codecs(codecs: &codec::Codecs) {
     for (what, times) in codec::WHAT.iter().zip(codecs.least) {
         for (name, time) in codec::NAMES.iter().zip(times) {
@@ -130,5 +118,4 @@ fn main() {
     for (words, job) in &jobs {
         println!("{words}\t{}\t{}\t{}", job.time(), job.calls, job.wrong);
     }
-    print_memory();
 }

@@ -32,8 +32,7 @@ unsafe extern "C" {
 
 #[derive(Clone, Copy, Debug, PartialEq)]
 pub enum Kind {
-    Make = 0,
-    TakeSame,
+    TakeSame = 1,
     TakeSync,
     TakeKey,
     Tick,
@@ -128,7 +127,6 @@ pub fn run(scene: &Scene, kind: Kind, rounds: u32) -> (f64, Counts) {
 fn calls_of(scene: &Scene, kind: Kind) -> u64 {
     let ports = u64::from(scene.ports);
     match kind {
-        Make => 0,
         Tick | Restart | Drive => 1,
         Move => 2,
         TickFlushing => 58,
