@@ -25,7 +25,8 @@ take_aloud() {
 }
 # None starts while the killed one is a process, also one that this shell, which is the first program of the guest, has not waited for.
 kill_it() { killed=$(cat /run/teamd/team0.pid); kill -9 $killed; while kill -0 $killed 2>/dev/null; do sleep 0.01; done; }
-end() { $T -k -t team0; sleep 0.3; }
+end_it() { $T -k -t team0; }
+end() { end_it; sleep 0.3; }
 item() { teamdctl team0 state item get "$1"; }
 # Each port of the team: its state, and whether frames pass on it; then the carrier.
 state() {

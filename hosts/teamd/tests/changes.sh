@@ -16,12 +16,20 @@ end; alone() { $T -g -d -N -t team0 "$@" -c '{"device":"team0","runner":{"name":
 alone -r; for n in 1 2; do teamdctl team0 port config update eth$n "{\"prio\": 0, \"lacp_prio\": $((6 + n)), \"lacp_key\": 5}" 2>/dev/null; done
 ip link set eth1 down; ip link set eth1 master team0; ip link set eth1 up; teamdctl team0 port add eth2; ip link set team0 up; until_state "$BOTH" 12; sleep 1
 is "ports that are configured by teamdctl alone" "$BOTH 5 7, 5 8" "$(state) $(told far1), $(told far2)"
-for way in "-o" "-o -n"; do
+for way in "-o" "-r -o" "-o -n"; do
     from=$(date +%s%N); kill_it; alone $way; away=$((($(date +%s%N) - from) / 1000000)); teamdctl team0 port add eth1; sleep 1.5
     [ $away -lt 1500 ] || { echo "row: it started after $away ms, so that the peer may have stopped its links"; until_state "$BOTH" 10; }
     is "a teamd that follows by $way, and has no ports in its configuration: both carry with them" "$BOTH 5 7, 5 8" "$(state) $(told far1), $(told far2)"
 done
-end; ip link del team0; begin; until_state "$BOTH" 10; sleep 1
+# With -N the ports stay in the device with each other runner, too, and the next teamd has them as they are.
+in_device() { for n in 1 2; do basename "$(readlink /sys/class/net/eth$n/master)"; done | paste -s -d' '; }
+end; ip link del team0
+for runner in activebackup roundrobin broadcast random loadbalance; do
+    other() { $T -d -N -t team0 "$@" -c "{\"runner\":{\"name\":\"$runner\"},\"ports\":{\"eth1\":{},\"eth2\":{}}}" 2>>/run/log; }
+    other -r; ip link set team0 up; sleep 1; end; left=$(in_device); other -o; sleep 1
+    is "-N and -o -N with the runner $runner" "team0 team0, team0 team0, carrier 1" "$left, $(in_device), carrier $(cat /sys/class/net/team0/carrier)"; end; ip link del team0
+done
+begin; until_state "$BOTH" 10; sleep 1
 ip link set team0 address 52:54:00:00:0c:77; sleep 1; until_state "$BOTH" 10; is "another address of the device: both carry" "$BOTH" "$(state)"
 is "the peer has it" "52:54:00:00:0c:77" "$(ip netns exec far sed -n 's/.*Partner Mac Address: //p' /proc/net/bonding/bond0)"
 ip link set eth1 down; sleep 1; is "a link goes down: the other one carries" "eth1 disabled false, eth2 current true, carrier 1" "$(state)"; ip link set eth1 up; end

@@ -9,20 +9,24 @@ trip "SIGKILL, -o after 1 s" 8 'kill_it; sleep 1; take'; lost_none "the same 1 s
 trip "SIGKILL, -o after 6 s" 16 'kill_it; sleep 6; take'; until_state "$BOTH" 10; is "after longer than the timeout both negotiate, and carry" "$BOTH" "$(state)"
 end
 N=1; begin; until_state "$BOTH" 10; sleep 1
-for k in 1 2 3; do trip "SIGTERM with -N, -o -N" 8 '$T -k -t team0; take'; lost_none "a clean restart loses nothing ($k)"; done
+for k in $(seq 10); do trip "SIGTERM with -N, -o -N" 8 'end_it; take'; lost_none "a clean restart loses nothing ($k)"; done
 until_state "$BOTH" 10; is "both carry in the end" "$BOTH" "$(state)"
 N=; end
-# With long timeouts at both ends a peer waits for 90 s, and an LACPDU goes every 30 s. So it matters how old the peer's last one is when teamd is killed: how
+# With long timeouts at both ends a peer waits for 90 s, and an LACPDU goes every 30 s. So it matters how old the peer's last one is when teamd ends: how
 # many seconds ago it came, the file tells, which is written with each.
 heard_ago() { echo $(($(date +%s) - $(stat -c %Y $F))); }
 until_heard_ago() { for _ in $(seq 700); do [ "$(heard_ago)" -eq "$1" ] && break; sleep 0.1; done; }
-kill_and_take() { ago=$(heard_ago); kill_it; sleep "$1"; take; } # after so many seconds
-told_trip() { trip "long timeouts, SIGKILL, -o after $1 s" "$2" "kill_and_take $1"; echo "row: killed $ago s after the peer's last LACPDU"; }
-ip -n far link del bond0; bond slow; FAST=false BEARS=58000; begin; until_state "$BOTH" 10
-# The second one follows before the peer would send by itself, whose LACPDUs of the pause are lost: it counts on what the first one asked for.
-until_heard_ago 5; told_trip 25 35; lost_none "with long timeouts a teamd that was killed is followed without loss 25 s later"
-is "both carry after those" "$BOTH" "$(state)"
-told_trip 50 60; lost_none "the same 50 s later, 20 s after the first one"; is "both carry after these" "$BOTH" "$(state)"
-# The peer's next LACPDU is due soon: without a question the third one comes 90 s after the last one, when the timeout of this end has passed.
-until_heard_ago 20; told_trip 50 75; lost_none "the same 50 s later, shortly before the peer's next LACPDU"; is "both carry in the end of long timeouts" "$BOTH" "$(state)"
-end
+stop_and_take() { ago=$(heard_ago); $STOP; sleep "$1"; take; } # after so many seconds
+told_trip() { trip "long timeouts, $WAY, -o after $1 s" "$2" "stop_and_take $1"; echo "row: ended $ago s after the peer's last LACPDU"; }
+ip -n far link del bond0; bond slow; FAST=false BEARS=58000
+for WAY in SIGKILL "SIGTERM with -N"; do
+    STOP=kill_it; [ "$WAY" = SIGKILL ] || { STOP=end_it; N=1; }
+    begin; until_state "$BOTH" 10
+    # The second one follows before the peer would send by itself, whose LACPDUs of the pause are lost: it counts on what the first one asked for.
+    until_heard_ago 5; told_trip 25 35; lost_none "long timeouts, $WAY: a teamd that ended is followed without loss 25 s later"
+    is "both carry after those" "$BOTH" "$(state)"
+    told_trip 50 60; lost_none "$WAY: the same 50 s later, 20 s after the first one"; is "both carry after these" "$BOTH" "$(state)"
+    # The peer's next LACPDU is due soon: without a question the third one comes 90 s after the last one, when the timeout of this end has passed.
+    until_heard_ago 20; told_trip 50 75; lost_none "$WAY: the same 50 s later, shortly before the peer's next LACPDU"; is "both carry in the end of long timeouts" "$BOTH" "$(state)"
+    end
+done

@@ -19,7 +19,7 @@ from switches import words_of
 
 TESTS = os.path.join(HOSTS, "teamd", "tests")
 # How long a guest may take, in seconds.
-LONGEST = {"conform": 2400, "speed": 5400, "many": 3600}
+LONGEST = {"restarts": 2400, "conform": 2400, "speed": 5400, "many": 3600}
 USUAL, UNDER_VALGRIND = 1200, 3600
 NAMES = "restarts", "changes", "files"
 # Those that --beside runs with teamd as it is, too.
@@ -59,6 +59,7 @@ def place(built: Built) -> str:
             shutil.copy(it, f"{folder}/lib")
         shutil.copy(built.flows(), folder)
         shutil.copy(built.shared(), folder)
+        built.compile("-shared", "-fPIC", "-o", f"{folder}/kept.so", os.path.join(TESTS, "kept.c"))
     return folder
 
 
@@ -160,7 +161,6 @@ def valgrind(built: Built) -> None:
         raise Skipped("there is no valgrind (Debian: valgrind)")
     folder = place(built)
     shutil.copy(program(built), f"{folder}/teamd-for-valgrind")
-    built.compile("-shared", "-fPIC", "-o", f"{folder}/kept.so", os.path.join(TESTS, "kept.c"))
     wrapper = f"{built.folder}/valgrind-teamd"
     write_text(wrapper, VALGRIND)
     os.chmod(wrapper, 0o755)
