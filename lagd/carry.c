@@ -153,7 +153,3 @@ void end_carry_tick(struct carry *carry) {
     for (uint16_t port = 1; !carry->process->broken && port <= carry->ports->count; port++) wake_sleeper(carry, port);
     carry->plane->changed = carry->to_balance = true;
 }
-
-void pass_carry_tick(struct protocol *protocol) {
-    if (!protocol->process->broken) CALL(protocol->plane->carrying->tick, protocol->plane);
-}

@@ -94,7 +94,6 @@ void suspect_partner(struct probe *own);
 
 /* resume.c */
 void resume_conversations(struct plane *plane, bool goes_on);
-void release_former_members(struct plane *plane);
 
 /* carry.c */
 void go_on_in(struct carry *carry, uint16_t aggregator);

@@ -53,7 +53,7 @@ static void write_text_of_carry(struct control *control) {
     unsigned told = 0;
     add(control->report, "  carry: %s, carrier %s, hash %s, flight %u ms, ", settings->carry, carrier, hash_text(settings->hash), settings->flight);
     CALL(carrying->show_markers, control);
-    add(control->report, "%s%s", way_text(settings), control->plane->queueing->text);
+    add(control->report, "%s%s", control->plane->way, control->plane->queueing->text);
     for (unsigned i = carrying->first_count; i < carrying->end_count; i++)
         add(control->report, "%s %s %" PRIu64, told++ % 5 == 0 ? "\n  data:" : "", CARRY_COUNTERS[i].name, control->carry->counts[i]);
     CALL(carrying->show_waiting, control, AS_TEXT);
@@ -65,7 +65,7 @@ static void write_json_of_carry(struct control *control) {
     add_string(control->report, control->settings->carry);
     add(control->report, ",\"up\":%s,\"carrier\":%s,\"aggregator\":%u,\"hash\":\"%s\",\"flight\":%u,\"way\":\"%s\",",
         control->protocol->halt.down ? "false" : "true", has_carrier(control->device) ? "true" : "false", control->carry->active,
-        hash_text(control->settings->hash), control->settings->flight, way_text(control->settings));
+        hash_text(control->settings->hash), control->settings->flight, control->plane->way);
     CALL(carrying->show_waiting, control, AS_JSON);
     for (unsigned i = carrying->first_count; i < carrying->end_count; i++)
         add(control->report, ",\"%s\":%" PRIu64, CARRY_COUNTERS[i].name, control->carry->counts[i]);

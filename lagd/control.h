@@ -26,6 +26,10 @@ void read_options(struct process *process, int argc, char **argv, struct options
 
 /* possible.c */
 int check_machine(struct control *control, const struct options *options);
+int check_team(struct control *control, const struct options *options);
+int check_tap(struct control *control, const struct options *options);
+int check_fast(struct control *control, const struct options *options);
+int check_all_queues(struct control *control, const struct options *options);
 
 /* status.c */
 void serve_caller(struct control *control, uint32_t caller);

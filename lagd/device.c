@@ -231,9 +231,10 @@ void use_team_device(struct device *own, int index) {
     if (!own->process->resuming) set_carrier(own, false);
 }
 
-void end_tap(int index) {
+/* A device that the last daemon had outlive itself goes. */
+void leave_tap(struct plane *plane UNUSED, int index, bool owned) {
     char room[IF_NAMESIZE];
-    int fd = if_indextoname((unsigned)index, room) ? open("/dev/net/tun", O_RDWR | O_CLOEXEC) : -1;
+    int fd = owned && if_indextoname((unsigned)index, room) ? open("/dev/net/tun", O_RDWR | O_CLOEXEC) : -1;
     if (fd < 0) return;
     if (attach_tap(fd, room)) (void)ioctl(fd, TUNSETPERSIST, 0);
     close(fd);

@@ -35,7 +35,7 @@ void limit_mtu(struct device *own, uint32_t most);
 void pass_tap_tick(struct device *own);
 bool read_tap_mac(struct device *own, uint8_t *mac);
 bool is_tap_up(struct device *own);
-void end_tap(int index);
+void leave_tap(struct plane *plane, int index, bool owned);
 void keep_tap(struct plane *plane, bool keeps);
 
 #endif

@@ -594,10 +594,8 @@ void end_resuming(struct protocol *protocol);
 
 /* carry.c */
 void settle_carry(struct plane *plane);
-void pass_carry_tick(struct protocol *protocol);
 
 /* tap/host.c */
-void open_carry(struct protocol *protocol);
 void end_carry(struct plane *plane);
 void remove_all_members(struct protocol *protocol);
 

@@ -79,9 +79,10 @@ static bool apply_port(struct protocol *protocol, uint16_t port, const struct se
 /* Takes what can be changed; answers how many ports have something else now. */
 static unsigned apply_settings(struct protocol *protocol, const struct settings *wanted) {
     struct settings *now = protocol->settings;
-    /* Whether data is carried in the same way: what only one way has is taken with it, at a restart. */
-    bool alike = strcmp(now->carry, wanted->carry) == 0 && now->plane == wanted->plane && now->all_queues == wanted->all_queues;
+    bool alike = true; /* whether data is carried in the same way: what only one way has is taken with it, at a restart */
     unsigned changed = 0;
+    for (const struct key *key = BUNDLE_KEYS; key->name; key++)
+        alike = alike && (key->change != WAY_OF_DATA || is_same_value(key, wanted, now));
     now->active = wanted->active;
     now->short_timeout = wanted->short_timeout;
     now->port_priority = wanted->port_priority;

@@ -1,6 +1,5 @@
 /* How a daemon goes on where the last one was: the peer hears of no other state, and each conversation stays on its link. */
-#include "tap/tap.h"
-#include "team/team.h"
+#include "carry.h"
 
 /* For how long LACPDUs of an end hold, in milliseconds, by its or its peer's LACP_Timeout (IEEE 802.1AX-2014, 6.4.4). */
 #define SHORT_TIMEOUT 3000
@@ -63,18 +62,6 @@ static void set_other_links(struct protocol *protocol, const bool *back) {
         if (link->up && !back[link - protocol->ports->links]
             && !is_done(protocol->process, niw_set_link(&protocol->own_system, link->settings.number, true), "niw_set_link"))
             return;
-}
-
-/* What were members, and are no more, get what they had. */
-void release_former_members(struct plane *plane) {
-    const struct inherited *inherited = plane->carry->process->inherited;
-    for (const struct inherited_link *was = inherited->links; was < inherited->links + inherited->link_count; was++) {
-        bool stays = false;
-        EACH_LINK(link, plane->carry->ports) stays = stays || (link->socket >= 0 && link->index == was->index);
-        if (stays) continue;
-        leave_team_port(plane->team, was->index);
-        put_back(plane->tap, was->index, was->mac);
-    }
 }
 
 /* Before the interfaces are taken up: whether there is something to go on with. Where no data is carried any more, or by the team driver, what

@@ -74,11 +74,6 @@ static bool is_name_of_device(const char *text) {
     return strlen(text) < DEVICE_ROOM && !strchr(text, '%') && is_name(text, strlen(text));
 }
 
-const char *way_text(const struct settings *settings) {
-    if (settings->plane == PLANE_TEAM) return "team";
-    return settings->fast ? "fast" : settings->offload ? "offload" : "plain";
-}
-
 static const char *const HASHES[] = {[HASH_LAYER2] = "layer2", [HASH_LAYER2_3] = "layer2+3", [HASH_LAYER3_4] = "layer3+4",
     [HASH_ENCAP3_4] = "encap3+4", [HASH_VLAN_SRCMAC] = "vlan+srcmac", NULL};
 static const char *const SELECTIONS[] = {[SELECT_COUNT] = "count", [SELECT_BANDWIDTH] = "bandwidth", [SELECT_PRIORITY] = "priority",
@@ -133,9 +128,9 @@ const struct key BUNDLE_KEYS[] = {
         .change = AT_ONCE, .value = "PROGRAM", .help = "is run when the bundle becomes up, degraded or down"},
     {"state-dir", 'T', TEXT(state_dir, "a path that begins with /, of at most 175 characters", is_path), .restart = "another state-dir",
         .value = "FOLDER", .help = "keeps there what a start after a reboot goes on from"},
-    {"carry", 'C', TEXT(carry, "a name of an interface of at most 15 characters", is_name_of_device), .restart = "another carry",
+    {"carry", 'C', TEXT(carry, "a name of an interface of at most 15 characters", is_name_of_device), .restart = "another carry", .change = WAY_OF_DATA,
         .value = "NAME", .help = "carries the data of a device of this name, which it makes, with the MAC address of the system"},
-    {"plane", 'P', WORD(plane, ONE_OF([PLANE_TAP] = "tap", [PLANE_TEAM] = "team")), .restart = "another plane",
+    {"plane", 'P', WORD(plane, ONE_OF([PLANE_TAP] = "tap", [PLANE_TEAM] = "team")), .restart = "another plane", .change = WAY_OF_DATA,
         .help = "what that device is: a TAP device, as if not given, or one of the kernel's team driver,\nby which the kernel carries"},
     {"members", 'B', WORD(follow, ONE_OF("given", "follow")), .change = WITH_DATA,
         .help = "with --plane team, who says which interfaces are ports: given here, or follow: whoever puts\n"
@@ -151,7 +146,7 @@ const struct key BUNDLE_KEYS[] = {
         .help = "passes frames of several segments, which the kernel or the card cuts"},
     {"fast", 'K', SWITCH(fast, "yes", "no"), .restart = "another offload or fast",
         .help = "the kernel passes data on by itself (Linux 6.6), of several segments too"},
-    {"queues", 'Q', WORD(all_queues, ONE_OF("one", "all")), .restart = "another queues",
+    {"queues", 'Q', WORD(all_queues, ONE_OF("one", "all")), .restart = "another queues", .change = WAY_OF_DATA,
         .help = "how many queues of its members data goes by: one, if not given; all (Linux 6.6): each\nconversation by one of them"},
     /* A processor takes what its card gave it within a few milliseconds; this is more than ten programs on it have in turn, of 4 ms each. */
     {"answer-after", 'A', MILLISECONDS(answer_after, 1, 500), .usual = 50, .change = WITH_DATA,

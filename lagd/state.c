@@ -2,7 +2,7 @@
  * before the first frame of a conversation goes on another link. It goes with each stop of which the peers are told. With state-dir there is a
  * copy for the first daemon after a reboot, which knows interfaces by their names, and times by the clock on the wall. It may be on a disk that
  * takes long, so a process of its own writes it. */
-#include "team/team.h"
+#include "carry.h"
 
 #include <dirent.h>
 #include <limits.h>
@@ -59,11 +59,12 @@ uint64_t boottime(void) {
 }
 
 /* The settings by which the rest means something. */
-static const char *way(const struct settings *settings, char room[static WAY_ROOM]) {
+static const char *way(const struct carry *carry, char room[static WAY_ROOM]) {
+    const struct settings *settings = carry->settings;
     char system[32];
     struct system_id own = own_system(settings);
-    snprintf(room, WAY_ROOM, "%s/%s/%s/%u/%s", system_text(&own, system), settings->carry[0]
-        ? settings->carry : "-", hash_text(settings->hash), settings->hash_seed, way_text(settings));
+    snprintf(room, WAY_ROOM, "%s/%s%s/%s/%u/%s", system_text(&own, system), settings->carry, carry->plane->carrying->nameless,
+        hash_text(settings->hash), settings->hash_seed, carry->plane->way);
     return room;
 }
 
@@ -91,7 +92,7 @@ static void write_state(struct state *own, FILE *file) {
     struct protocol *protocol = carry->protocol;
     struct niw_marker marker = niw_next_marker(&protocol->own_system);
     char boot[BOOT_ROOM], room[WAY_ROOM], mac[32];
-    fprintf(file, "lagd %u\nboot %s\nway %s\n", FORM_VERSION, boot_id(boot), way(carry->settings, room));
+    fprintf(file, "lagd %u\nboot %s\nway %s\n", FORM_VERSION, boot_id(boot), way(carry, room));
     fprintf(file, "space %" PRIu64 "\nwritten %" PRIu64 "\n", own->space, boottime());
     if (own->copy_folder >= 0) fprintf(file, "wall %" PRIu64 "\n", milliseconds_of(CLOCK_REALTIME));
     fprintf(file, "marker %" PRIu32 "\n", is_done(carry->process, marker.status, "niw_next_marker") && marker.left ? marker.id : 0);
@@ -407,11 +408,8 @@ static bool read_rest(struct inherited *inherited, FILE *file) {
  * are found. `way` is that of the last daemon. */
 static void keep_interfaces(struct state *own, const char *way) {
     struct inherited *inherited = own->carry->process->inherited, last = *inherited;
-    const char *plane = strrchr(way, '/');
-    if (plane && strcmp(plane, "/team") == 0)
-        leave_team(own->carry->plane->team, last.tap, last.persists);
-    else if (last.persists)
-        end_tap(last.tap);
+    const char *word = strrchr(way, '/');
+    leave_device(own->carry->plane, word ? word + 1 : way, last.tap, last.persists);
     *inherited = (struct inherited){.others = true, .link_count = last.link_count, .space = last.space, .written = last.written, .wall = last.wall,
         .marker = last.marker};
     memcpy(inherited->links, last.links, sizeof inherited->links);
@@ -452,7 +450,7 @@ static const char *read_state(struct state *own, FILE *file, bool is_copy) {
     if (!is_copy && strcmp(boot, boot_id(now)) != 0) return "it is of another boot";
     if (!read_rest(inherited, file)) return "it is cut off, or wrong";
     if (ferror(file)) return "it cannot be read";
-    bool is_same_way = strcmp(given, way(own->carry->settings, room)) == 0;
+    bool is_same_way = strcmp(given, way(own->carry, room)) == 0;
     if (is_copy) return is_same_way ? bring_over(inherited) : "it belongs to other settings";
     if (inherited->space != 0 && inherited->space != own->space) return "it is of another network namespace";
     if (!is_same_way) keep_interfaces(own, given);

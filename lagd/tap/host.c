@@ -156,6 +156,7 @@ void lose_data(struct plane *plane, uint16_t port) {
     tap->answers[port - 1].count = 0; /* whoever asked there asks again */
 }
 
+/* Makes the device, and all room that frames ever take. */
 void open_tap_plane(struct plane *plane) {
     struct tap_plane *tap = plane->tap;
     struct host *own = &tap->host;
@@ -180,11 +181,6 @@ void end_tap_plane(struct plane *plane) {
     remove_all_members(tap->protocol);
     CALL(plane->passing->end, tap);
     end_held(tap);
-}
-
-/* Makes what carries the data, and all room that frames ever take. */
-void open_carry(struct protocol *protocol) {
-    if (protocol->settings->carry[0]) CALL(protocol->plane->carrying->open, protocol->plane);
 }
 
 void remove_all_members(struct protocol *protocol) {

@@ -189,13 +189,14 @@ static void free_inherited_ports(const struct inherited *inherited, int index) {
 
 /* By other settings nothing goes on: the ports of the device are free, and it goes if the last daemon made it. Where another daemon has it,
  * all stays as it is. */
-void leave_team(struct team_plane *team, int index, bool with_device) {
+void leave_team(struct plane *plane, int index, bool owned) {
+    struct team_plane *team = plane->team;
     struct interface device;
     if (!find_team_driver(team) || !ask_interface(index, NULL, &device) || strcmp(device.kind, TEAM_KIND) != 0) return;
     int held = lock_interface(team->process, index);
     if (held < 0) return;
     free_inherited_ports(team->process->inherited, index);
-    if (with_device) (void)remove_device(index);
+    if (owned) (void)remove_device(index);
     close_stored(&team->process->store, "lock", index, held);
 }
 

@@ -73,7 +73,7 @@ int open_team_port(struct plane *plane, struct link *link);
 void close_team_port(struct plane *plane, struct link *link);
 bool is_still_team_port(struct plane *plane, const struct link *link, int master);
 void give_team_addresses(struct team_plane *team);
-void leave_team(struct team_plane *team, int index, bool with_device);
+void leave_team(struct plane *plane, int index, bool owned);
 void leave_team_port(struct team_plane *team, int index);
 
 /* buckets.c */

@@ -455,7 +455,7 @@ static void pass_time(struct end *end, unsigned ticks) {
         CHECK(niw_tick(&lagd->protocol.own_system) == NIW_OK);
         lagd->protocol.ticks++;
         read_views(&lagd->protocol);
-        pass_carry_tick(&lagd->protocol);
+        if (!lagd->process.broken) CALL(lagd->plane.carrying->tick, &lagd->plane);
         end_emptying(end);
         if (now / 1000 != (now - TICK) / 1000) allow_bundle_line(&lagd->protocol.bundle);
         events++;
