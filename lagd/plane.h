@@ -1,4 +1,4 @@
-/* What carries the data, as tables of functions. plane.c chooses them; nobody else asks which ones they are. */
+/* What carries the data, as tables of functions, each beside its functions. plane.c chooses them; nobody else asks which ones they are. */
 #ifndef LAGD_PLANE_H
 #define LAGD_PLANE_H
 

@@ -234,19 +234,10 @@ void close_guard(struct tap_plane *tap, const struct link *link, struct guard *g
 void put_back(struct tap_plane *tap, int index, const uint8_t *mac);
 
 /* members.c */
-int open_member(struct plane *plane, struct link *link);
-void close_member(struct plane *plane, struct link *link);
-void forget_member(struct plane *plane, uint16_t port);
-void drain_member(struct plane *plane, uint16_t port);
+extern const struct carrying TAP_DEVICE;
+extern const struct queueing ONE_QUEUE, ALL_QUEUES;
 void send_new_marker(struct plane *plane, struct link *link, const uint8_t *frame);
-void follow_speed(struct plane *plane, const struct link *link);
-bool renew_for_discipline(struct plane *plane, struct link *link);
-void move_member(struct plane *plane, struct link *link, const uint8_t *mac);
-void follow_member_mtu(struct plane *plane, struct link *link, uint32_t mtu);
-bool follow_member_queues(struct tap_plane *tap, struct link *link);
-bool send_by_one_queue(struct tap_plane *tap, struct link *link, const uint8_t *marker, bool again);
 bool give_marker(struct tap_plane *tap, struct link *link, const uint8_t *marker, struct msghdr *message);
-void watch_queues(struct tap_plane *tap);
 unsigned member_queues(const struct member *member);
 void put_back_members(int status, void *given);
 bool is_fast(const struct member *member);
@@ -255,8 +246,6 @@ void put_data(struct tap_plane *tap, uint16_t port, uint16_t number, uint8_t *pa
 void flush_data(struct tap_plane *tap);
 void receive_data(struct tap_plane *tap, uint16_t port);
 bool send_marker_again(struct tap_plane *tap, uint16_t port);
-void accept_only_response(struct tap_plane *tap, struct link *link, const struct arrival *arrival, uint32_t id);
-void accept_response_of_queue(struct tap_plane *tap, struct link *link, const struct arrival *arrival, uint32_t id);
 void count_losses(struct tap_plane *tap);
 
 /* hash.c */
@@ -295,21 +284,10 @@ int load_program(const struct settings *settings, const char *name, const struct
 const char *program_fault(void);
 
 /* fast.c */
-void start_fast(struct tap_plane *tap);
-void end_fast(struct tap_plane *tap);
+extern const struct passing BY_KERNEL;
 int open_fast_receiver(struct tap_plane *tap, const struct link *link);
 void close_fast_receiver(const struct fast_programs *own, const struct link *link);
-void pass_on(struct tap_plane *tap);
-void withdraw(struct tap_plane *tap);
-void withdraw_port(struct tap_plane *tap, uint16_t port);
-void set_collecting(struct tap_plane *tap);
-void count_fast_frames(struct tap_plane *tap);
-void pass_fast_tick(struct tap_plane *tap);
-void note_read(struct tap_plane *tap, unsigned packets, bool drained);
-void open_host(struct tap_plane *tap, bool open);
-void follow_host_queue(struct tap_plane *tap, const char *discipline);
 int fast_member_of(struct plane *plane, uint16_t number);
-void resume_fast(struct tap_plane *tap);
 
 /* spread.c: queues of an interface, and the processors that serve them */
 unsigned count_entries(int index, const char *begin);

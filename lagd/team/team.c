@@ -1,6 +1,6 @@
 /* The plane of the team driver: a team device in the place of the TAP device, and members that are its ports. The kernel passes all data by
  * itself, also while no daemon runs: the next one takes the device over. */
-#include "team.h"
+#include "control.h"
 #include "netlink.h"
 
 #include <net/if.h>
@@ -141,7 +141,7 @@ static bool make_port(struct team_plane *team, int index, bool up) {
 }
 
 /* Makes an interface a port of the device; answers 0, or -errno. One that belongs to another device stays there. */
-int open_team_port(struct plane *plane, struct link *link) {
+static int open_team_port(struct plane *plane, struct link *link) {
     struct team_plane *team = plane->team;
     struct interface port;
     uint8_t mac[ETH_ALEN];
@@ -158,7 +158,7 @@ int open_team_port(struct plane *plane, struct link *link) {
     return fault;
 }
 
-void close_team_port(struct plane *plane, struct link *link) {
+static void close_team_port(struct plane *plane, struct link *link) {
     struct team_plane *team = plane->team;
     if (!team->taken[link - team->ports->links]) return;
     team->taken[link - team->ports->links] = false;
@@ -168,7 +168,7 @@ void close_team_port(struct plane *plane, struct link *link) {
 
 /* Whether an interface is still a port of the device, as the kernel tells another master, or none: that may be older than what the daemon
  * did. */
-bool is_still_team_port(struct plane *plane, const struct link *link, int master) {
+static bool is_still_team_port(struct plane *plane, const struct link *link, int master) {
     struct team_plane *team = plane->team;
     struct interface now;
     if (!team->taken[link - team->ports->links] || master == tap_index(team->device) || !ask_interface(link->index, NULL, &now))
@@ -189,7 +189,7 @@ static void free_inherited_ports(const struct inherited *inherited, int index) {
 
 /* By other settings nothing goes on: the ports of the device are free, and it goes if the last daemon made it. Where another daemon has it,
  * all stays as it is. */
-void leave_team(struct plane *plane, int index, bool owned) {
+static void leave_team(struct plane *plane, int index, bool owned) {
     struct team_plane *team = plane->team;
     struct interface device;
     if (!find_team_driver(team) || !ask_interface(index, NULL, &device) || strcmp(device.kind, TEAM_KIND) != 0) return;
@@ -213,7 +213,7 @@ static void end_team(int status UNUSED, void *given) {
 }
 
 /* Opens the device: it has no carrier, unless the data of the last daemon goes on. */
-void open_team(struct plane *plane) {
+static void open_team(struct plane *plane) {
     struct team_plane *team = plane->team;
     const char *name = team->settings->carry;
     const uint8_t *mac = team->settings->config.mac;
@@ -235,9 +235,17 @@ void open_team(struct plane *plane) {
     start_buckets(team);
 }
 
-void end_team_plane(struct plane *plane) {
+static void end_team_plane(struct plane *plane) {
     struct team_plane *team = plane->team;
     set_carrier(team->device, false);
     remove_all_members(team->protocol);
     end_team(DONE, team);
 }
+
+const struct carrying TEAM_DEVICE = {
+    .open = open_team, .end = end_team_plane, .lose_device = lose_device, .leave = leave_team, .give_carrier = give_team_carrier,
+    .add = open_team_port, .remove = close_team_port, .still_has = is_still_team_port, .settle = settle_team, .tick = pass_tick_of_team,
+    .keeps_aggregator = hears_peer, .frames_heard = team_frames_received, .resume = resume_conversations, .go_on = choose_ports,
+    .member_of = bucket_member_of, .end_resuming = release_former_members, .check = check_team, .show = show_carry, .show_member = show_member,
+    .show_waiting = show_waiting_buckets, .first_count = MOVES, .end_count = WOKEN + 1, .administers = true, .nameless = "",
+};

@@ -22,7 +22,7 @@ static struct lagd tested, *lagd = &tested;
 const char *const program = "markers";
 
 /* Its members have one queue. */
-static const struct queueing ONE_QUEUE = {.markers_at_once = 1};
+static const struct queueing OF_ONE_QUEUE = {.markers_at_once = 1};
 
 static uint64_t now = 5 * MINUTE;
 static unsigned lines; /* that were said */
@@ -199,7 +199,7 @@ static void check_budgets(void) {
 
 int main(void) {
     join_parts(lagd);
-    lagd->plane.queueing = &ONE_QUEUE;
+    lagd->plane.queueing = &OF_ONE_QUEUE;
     memcpy(lagd->settings.config.mac, OWN, sizeof OWN);
     check_slow();
     check_mute();

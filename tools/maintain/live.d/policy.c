@@ -285,7 +285,7 @@ static const struct carrying FRAMES = {.settle = settle_frames, .tick = pass_tic
     .frames_heard = frames_handed_up, .tell_host = tell_speed_and_carrier, .go_on = settle_carry,
     .note_response = note_response};
 static const struct passing BY_DAEMON = {0};
-static const struct queueing ONE_QUEUE = {.accept_response = accept_any, .answer = answer, .markers_at_once = 1};
+static const struct queueing OF_ONE_QUEUE = {.accept_response = accept_any, .answer = answer, .markers_at_once = 1};
 
 /* The link of a port is up or down for an end. */
 static void set_link_of(struct end *end, uint16_t port, bool up) {
@@ -309,7 +309,7 @@ static void make_end(struct end *end, uint8_t which) {
     join_parts(lagd);
     lagd->plane.carrying = &FRAMES;
     lagd->plane.passing = &BY_DAEMON;
-    lagd->plane.queueing = &ONE_QUEUE;
+    lagd->plane.queueing = &OF_ONE_QUEUE;
     lagd->plane.changed = lagd->process.has_started = true;
     lagd->ports.count = lagd->settings.port_count = PORTS;
     lagd->settings.flight = FLIGHT;
