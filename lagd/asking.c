@@ -38,20 +38,17 @@ static bool is_socket(const char *name, char bundle[static NAME_ROOM]) {
     return true;
 }
 
-static int is_visible(const struct dirent *entry) {
-    return entry->d_name[0] != '.';
-}
-
 /* Finds the status sockets in a folder, and in the folders in it. */
 static void find_sockets(struct asking *own, const char *folder, bool deeper) {
     struct dirent **entries = NULL;
-    int found = scandir(folder, &entries, is_visible, alphasort);
+    int found = scandir(folder, &entries, NULL, alphasort);
     if (found < 0 && errno == EACCES) own->denied = strdup(folder);
     for (int i = 0; i < found; i++) {
         char path[sizeof own->daemons->path];
-        bool fits = snprintf(path, sizeof path, "%s/%s", folder, entries[i]->d_name) < (int)sizeof path;
+        const char *name = entries[i]->d_name;
+        bool fits = name[0] != '.' && snprintf(path, sizeof path, "%s/%s", folder, name) < (int)sizeof path;
         struct stat file;
-        if (fits && own->count < MOST_DAEMONS && is_socket(entries[i]->d_name, own->daemons[own->count].bundle))
+        if (fits && own->count < MOST_DAEMONS && is_socket(name, own->daemons[own->count].bundle))
             memcpy(own->daemons[own->count++].path, path, sizeof path);
         else if (fits && deeper && lstat(path, &file) == 0 && S_ISDIR(file.st_mode))
             find_sockets(own, path, false);
@@ -65,29 +62,26 @@ static int address_of(const char *path, struct sockaddr_un *to) {
     char folder[sizeof ((struct daemon *)NULL)->path];
     const char *name = strrchr(path, '/') + 1;
     snprintf(folder, sizeof folder, "%.*s", (int)(name - path), path);
-    int opened = open(folder, O_PATH | O_DIRECTORY | O_CLOEXEC);
+    CLOSED_FILE int opened = open(folder, O_PATH | O_DIRECTORY | O_CLOEXEC);
     *to = (struct sockaddr_un){.sun_family = AF_UNIX};
     if (opened < 0) return -errno;
-    if (snprintf(to->sun_path, sizeof to->sun_path, "/proc/self/fd/%d/%s", opened, name) < (int)sizeof to->sun_path) return opened;
-    close(opened);
-    return -ENAMETOOLONG;
+    int length = snprintf(to->sun_path, sizeof to->sun_path, "/proc/self/fd/%d/%s", opened, name);
+    return length < (int)sizeof to->sun_path ? kept_open(&opened) : -ENAMETOOLONG;
 }
 
 /* Connects with a daemon and asks it; or -errno. It waits no longer than PATIENCE: one that is stopped may answer nobody. */
 static int ask(const char *path, const char *question) {
     struct sockaddr_un to;
     struct timeval patience = {PATIENCE / 1000, 0};
-    int folder = address_of(path, &to), opened, fault = 0;
+    CLOSED_FILE int folder = address_of(path, &to);
     if (folder < 0) return folder;
-    opened = socket(AF_UNIX, SOCK_STREAM | SOCK_CLOEXEC, 0);
+    CLOSED_FILE int opened = socket(AF_UNIX, SOCK_STREAM | SOCK_CLOEXEC, 0);
     if (opened < 0 || setsockopt(opened, SOL_SOCKET, SO_SNDTIMEO, &patience, sizeof patience) < 0
         || connect(opened, (struct sockaddr *)&to, sizeof to) < 0)
-        fault = last_fault();
+        return last_fault();
     /* One that refuses may have closed the connection already, and said why. */
-    if (fault == 0) (void)send(opened, question, strlen(question), MSG_NOSIGNAL);
-    close(folder);
-    if (fault != 0 && opened >= 0) close(opened);
-    return fault != 0 ? fault : opened;
+    (void)send(opened, question, strlen(question), MSG_NOSIGNAL);
+    return kept_open(&opened);
 }
 
 static bool is_refusal(struct process *process, const char *path, const char *text) {
@@ -190,12 +184,11 @@ static const char *question_of(const struct options *options) {
 /* Asks a daemon, and whether it answers before it is watched. One that does not has a line. */
 static bool ask_one(struct asking *own, struct daemon *daemon) {
     bool watched = own->options->action == WATCH;
-    int fd = ask(daemon->path, question_of(own->options));
+    CLOSED_FILE int fd = ask(daemon->path, question_of(own->options));
     daemon->may_ask = fd != -EACCES && fd != -EPERM;
     if (!daemon->may_ask) own->denied = daemon->path;
     if (fd < 0) complain(own->process, "%s: its daemon does not answer: %s", daemon->path, strerror(-fd));
     if (fd >= 0) daemon->answer = read_answer(own->process, fd, daemon->path);
-    if (fd >= 0) close(fd);
     daemon->fd = watched && fd >= 0 ? ask(daemon->path, own->options->json ? "watch-json\n" : "watch\n") : -1;
     return watched ? daemon->fd >= 0 : daemon->answer != NULL;
 }
@@ -206,10 +199,9 @@ static char *tell_order(struct asking *own, const char *path, const char *what) 
     char order[QUESTION_ROOM], *answer;
     if (snprintf(order, sizeof order, "%s %s\n", what, interface) >= (int)sizeof order || strchr(interface, '\n'))
         stop(WRONG_WORD, "expected the name of an interface", interface);
-    int fd = ask(path, order);
+    CLOSED_FILE int fd = ask(path, order);
     if (fd < 0) stop(REFUSED, path, strerror(-fd));
     answer = read_answer(own->process, fd, path);
-    close(fd);
     if (answer) answer[strcspn(answer, "\n")] = 0;
     return answer;
 }
@@ -218,10 +210,9 @@ static char *tell_order(struct asking *own, const char *path, const char *what) 
 static const char *find_daemon(struct asking *own) {
     const char *found = NULL;
     EACH_DAEMON(it, own) {
-        int fd = ask(it->path, "");
+        CLOSED_FILE int fd = ask(it->path, "");
         if (fd == -EACCES) own->denied = it->path;
         if (fd < 0) continue;
-        close(fd);
         if (found) stop(WRONG_WORD, "more than one lagd is here: give the folder of one by --folder", own->options->folder);
         found = it->path;
     }

@@ -116,7 +116,7 @@ static void lose_interface(struct protocol *protocol, struct link *link) {
 /* An interface is there. A port goes by its name, and the TAP device by its number. */
 static void follow_present(struct protocol *protocol, const struct interface *interface) {
     bool known = false;
-    if (interface->index == tap_index(protocol->device)) {
+    if (interface->index == protocol->device->index) {
         protocol->changes.tap_named = true;
         protocol->plane->changed = true;
         follow_tap(protocol->device, interface->carrier, interface->discipline);
@@ -139,7 +139,7 @@ static void follow_present(struct protocol *protocol, const struct interface *in
 }
 
 static void follow_absent(struct protocol *protocol, const struct interface *interface) {
-    if (interface->index == tap_index(protocol->device)) CALL(protocol->plane->carrying->lose_device, protocol->plane);
+    if (interface->index == protocol->device->index) CALL(protocol->plane->carrying->lose_device, protocol->plane);
     EACH_LINK(link, protocol->ports) {
         if (link->index != interface->index) continue;
         lose_interface(protocol, link);
@@ -149,7 +149,7 @@ static void follow_absent(struct protocol *protocol, const struct interface *int
 
 /* Queueing disciplines came or went. Which one an interface has now is asked: of its usual one the kernel does not tell. */
 static void note_discipline(struct protocol *protocol, const struct tcmsg *info) {
-    bool ours = info->tcm_ifindex == tap_index(protocol->device);
+    bool ours = info->tcm_ifindex == protocol->device->index;
     EACH_LINK(link, protocol->ports) {
         if (link->socket < 0 || link->index != info->tcm_ifindex) continue;
         link->has_new_queues = true;

@@ -3,8 +3,6 @@
 
 struct lagd *make_lagd(void) {
     struct lagd *lagd = make_room(sizeof *lagd);
-    lagd->device = make_device(&lagd->process, &lagd->plane);
-    lagd->state = make_state(&lagd->carry);
     join_parts(lagd);
     lagd->control.report = make_room(sizeof *lagd->control.report);
     choose_no_plane(&lagd->plane);

@@ -8,7 +8,7 @@ struct device {
     struct process *process;
     struct plane *plane;
     int tap, asker; /* `asker`: a socket for questions about interfaces */
-    int number; /* of the device, its index; 0: there is none */
+    int index; /* 0: there is none */
     bool carrier; /* which was set last */
     bool carrier_told; /* which it had, as the kernel told last */
     unsigned carrier_ticks; /* for how long it was up and had none, and was to have one */
@@ -21,8 +21,6 @@ struct device {
 };
 
 /* device.c */
-struct device *make_device(struct process *process, struct plane *plane);
-int tap_index(const struct device *own);
 void follow_tap(struct device *own, bool has_carrier, const char *discipline);
 int open_tap(struct device *own, const char *name, const uint8_t *mac);
 void use_team_device(struct device *own, int index);

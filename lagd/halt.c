@@ -51,7 +51,7 @@ void follow_device(struct protocol *protocol, bool up) {
 
 /* The device was opened. Where no port goes on, no peer has to be told. */
 void start_halt(struct protocol *protocol) {
-    protocol->halt.down = tap_index(protocol->device) != 0 && !is_tap_up(protocol->device);
+    protocol->halt.down = protocol->device->index != 0 && !is_tap_up(protocol->device);
     protocol->halt.silent = protocol->halt.down && !protocol->process->resuming;
 }
 

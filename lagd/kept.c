@@ -9,9 +9,8 @@ static void name_file(const struct link *link, const char *kind, const char *beh
 
 /* The number of this boot; "unknown" where it may not be read, as under the unit, whose folder does not outlive a boot. */
 const char *boot_id(char room[static BOOT_ROOM]) {
-    FILE *file = fopen("/proc/sys/kernel/random/boot_id", "re");
+    CLOSED_STREAM FILE *file = fopen("/proc/sys/kernel/random/boot_id", "re");
     if (!file || fscanf(file, "%63s", room) != 1) snprintf(room, BOOT_ROOM, "unknown");
-    if (file) fclose(file);
     return room;
 }
 
@@ -62,12 +61,11 @@ void drop_kept(int folder, const struct link *link, const char *kind) {
 void recall_settings(int folder, const struct link *link, struct kept *kept) {
     struct ethtool_channels *queues = &kept->queues;
     char end[8] = "";
-    FILE *file = read_kept(folder, link, "member");
+    CLOSED_STREAM FILE *file = read_kept(folder, link, "member");
     *kept = (struct kept){0};
     if (!file) return;
     int found = fscanf(file, " joins=%u queues=%u %u %u %u rps=%" PROCESSORS_LENGTH "s %7s", &kept->joins, &queues->rx_count, &queues->tx_count,
         &queues->other_count, &queues->combined_count, kept->steered, end); /* the last line says that the file is whole */
-    fclose(file);
     if (found != 7 || strcmp(end, "end") != 0) *kept = (struct kept){0};
     if (strcmp(kept->steered, "-") == 0) kept->steered[0] = 0;
 }

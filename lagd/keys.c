@@ -107,10 +107,8 @@ static bool ask_by(int socket, int index, void *value) {
 }
 
 bool ask_driver(int index, void *value) {
-    int fd = socket(AF_UNIX, SOCK_DGRAM | SOCK_CLOEXEC, 0);
-    bool done = fd >= 0 && ask_by(fd, index, value);
-    if (fd >= 0) close(fd);
-    return done;
+    CLOSED_FILE int fd = socket(AF_UNIX, SOCK_DGRAM | SOCK_CLOEXEC, 0);
+    return fd >= 0 && ask_by(fd, index, value);
 }
 
 /* The first answer is how many words a mask has, below 0. */

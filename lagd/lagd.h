@@ -314,6 +314,26 @@ static inline int last_fault(void) {
     return errno > 0 ? -errno : -EIO;
 }
 
+/* A file of this is closed where its block ends, and errno stays as it is. */
+#define CLOSED_FILE __attribute__((cleanup(close_held)))
+#define CLOSED_STREAM __attribute__((cleanup(close_stream)))
+static inline void close_held(const int *file) {
+    int fault = errno;
+    if (*file >= 0) close(*file);
+    errno = fault;
+}
+/* One that is handed on, and so stays open. */
+static inline int kept_open(int *file) {
+    int handed = *file;
+    *file = -1;
+    return handed;
+}
+static inline void close_stream(FILE *const *stream) {
+    int fault = errno;
+    if (*stream) fclose(*stream);
+    errno = fault;
+}
+
 #define MUST_USE __attribute__((warn_unused_result)) /* the answer tells whether the library did it: else nothing that depends on it is done */
 #define UNUSED __attribute__((unused)) /* of a word that a function is handed since others of its kind want it */
 
@@ -368,6 +388,8 @@ const char *holder_of(const struct ports *ports, int index, char room[static HOL
 /* links.c */
 bool open_link(struct protocol *protocol, struct link *link, int index);
 void close_link(struct protocol *protocol, struct link *link);
+int open_in_sys(int index, const char *what, int flags);
+bool read_text(int fd, char *text, size_t room);
 bool has_new_carrier(struct link *link);
 void send_frame(struct protocol *protocol, struct link *link, const uint8_t *frame);
 

@@ -55,25 +55,21 @@ static bool give_past_data(struct link *link, const uint8_t *frame) {
 }
 
 /* Reads a file of an interface, from its beginning; answers whether there was something. */
-static bool read_text(int fd, char *text, size_t room) {
+bool read_text(int fd, char *text, size_t room) {
     ssize_t length = fd < 0 ? -1 : pread(fd, text, room - 1, 0);
     if (length > 0) text[length] = 0;
     return length > 0;
 }
 
-/* The file in which the kernel counts how often the carrier of an interface came and went; or -1, where /sys has another network
- * namespace. It stays the same interface's where that gets another name. */
-static int open_carrier(int index) {
+/* Opens a file or a folder that /sys has of an interface; or -1, as where /sys has another network namespace. It stays the same interface's where
+ * that gets another name. */
+int open_in_sys(int index, const char *what, int flags) {
     char name[IF_NAMESIZE], path[64], text[16];
-    int folder, number, opened = -1;
     if (!if_indextoname((unsigned)index, name)) return -1;
     snprintf(path, sizeof path, "/sys/class/net/%s", name);
-    folder = open(path, O_PATH | O_DIRECTORY | O_CLOEXEC);
-    number = folder < 0 ? -1 : openat(folder, "ifindex", O_RDONLY | O_CLOEXEC);
-    if (read_text(number, text, sizeof text) && atoi(text) == index) opened = openat(folder, "carrier_changes", O_RDONLY | O_CLOEXEC);
-    if (number >= 0) close(number);
-    if (folder >= 0) close(folder);
-    return opened;
+    CLOSED_FILE int folder = open(path, O_PATH | O_DIRECTORY | O_CLOEXEC);
+    CLOSED_FILE int number = folder < 0 ? -1 : openat(folder, "ifindex", O_RDONLY | O_CLOEXEC);
+    return read_text(number, text, sizeof text) && atoi(text) == index ? openat(folder, what, flags | O_CLOEXEC) : -1;
 }
 
 /* Whether the carrier of a link may have changed since this was asked last. */
@@ -109,7 +105,7 @@ bool open_link(struct protocol *protocol, struct link *link, int index) {
     bool taken = link->trouble == 0;
     if (taken) put_stored(&protocol->process->store, "lock", index, link->lock);
     if (taken) put_stored(&protocol->process->store, "lacp", index, link->socket);
-    link->carrier_file = open_carrier(index);
+    link->carrier_file = open_in_sys(index, "carrier_changes", O_RDONLY); /* how often that came and went */
     link->carrier_changes[0] = 0;
     link->trouble_ticks = TROUBLE_TICKS;
     link->unsent = link->queued = false;

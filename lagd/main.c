@@ -103,7 +103,7 @@ static void pass_second(struct lagd *lagd) {
     allow_bundle_line(&lagd->protocol.bundle);
     pass_revert_second(&lagd->protocol);
     watch_changes(&lagd->protocol);
-    (void)save_state(lagd->state, false);
+    (void)save_state(&lagd->state, false);
     notify("WATCHDOG=1");
 }
 
@@ -159,7 +159,7 @@ static void serve_all_data(struct tap_plane *tap, const struct epoll_event *even
 /* The next daemon is to go on, if it can. */
 static void leave_state(struct lagd *lagd) {
     CALL(lagd->plane.carrying->keep_device, &lagd->plane, true);
-    lagd->process.has_left = save_state(lagd->state, true);
+    lagd->process.has_left = save_state(&lagd->state, true);
     if (!lagd->process.has_left) {
         CALL(lagd->plane.carrying->keep_device, &lagd->plane, false);
         return;
@@ -221,7 +221,7 @@ static void run(struct lagd *lagd, int signals, int clock, const char *file) {
         if (ends || !(ends_now || lagd->process.broken)) continue;
         ends = true;
         notify("STOPPING=1");
-        end_state(lagd->state);
+        end_state(&lagd->state);
         tell_end(&lagd->protocol);
     }
 }
@@ -244,7 +244,7 @@ static int run_daemon(struct lagd *lagd, const struct options *options) {
     lagd->process.folder = open_folder(options->folder);
     open_store(&lagd->process);
     choose_plane(&lagd->plane, &lagd->settings);
-    recall_state(lagd->state);
+    recall_state(&lagd->state);
     make_system(&lagd->protocol);
     begin_resuming(&lagd->protocol);
     CALL(lagd->plane.carrying->open, &lagd->plane);
@@ -260,7 +260,7 @@ static int run_daemon(struct lagd *lagd, const struct options *options) {
     halt_if_down(&lagd->protocol);
     leave_left_ports(&lagd->protocol);
     end_resuming(&lagd->protocol);
-    (void)save_state(lagd->state, false);
+    (void)save_state(&lagd->state, false);
     tell_changes(&lagd->protocol);
     settle_carry(&lagd->plane);
     notify_bundle(&lagd->protocol.bundle, READY);

@@ -226,7 +226,7 @@ bool may_put_in(struct protocol *protocol, const struct link *link) {
 
 /* Whether an interface is no port, as others choose the ports of the device and it is not in there. */
 bool stays_outside(struct protocol *protocol, struct link *link, int master) {
-    bool outside = !may_put_in(protocol, link) && master != tap_index(protocol->device);
+    bool outside = !may_put_in(protocol, link) && master != protocol->device->index;
     link->changed = link->changed || link->outside != outside;
     link->outside = outside;
     return outside;
@@ -255,7 +255,7 @@ void follow_port(struct protocol *protocol, const struct interface *interface) {
     struct port_settings settings = unset_port();
     struct interface now;
     struct link *link = free_place(protocol->ports);
-    if (!protocol->settings->follow || interface->master == 0 || interface->master != tap_index(protocol->device) || interface->type != ARPHRD_ETHER)
+    if (!protocol->settings->follow || interface->master == 0 || interface->master != protocol->device->index || interface->type != ARPHRD_ETHER)
         return;
     if (!link || !ask_interface(interface->index, NULL, &now) || now.master != interface->master) return;
     memcpy(settings.name, interface->name, sizeof interface->name);
@@ -267,7 +267,7 @@ void follow_port(struct protocol *protocol, const struct interface *interface) {
 /* The interface of a port that the device alone has was given another name: it is the same port. Answers whether it is. */
 bool accept_name(struct protocol *protocol, const struct link *link, const struct interface *interface) {
     char *name = protocol->settings->ports[link->settings.number - 1].name;
-    if (!link->followed || link->leaving || interface->master != tap_index(protocol->device) || link_of(protocol->ports, interface->name))
+    if (!link->followed || link->leaving || interface->master != protocol->device->index || link_of(protocol->ports, interface->name))
         return false;
     (void)say(protocol->process, LOG_NOTICE | ABOUT_PORT, "port %u %s: its name is %s now", link->settings.number, name, interface->name);
     memcpy(name, interface->name, sizeof interface->name);

@@ -17,10 +17,9 @@ static int tell(struct process *process, const struct options *options, const ch
 
 /* Whether the kernel has a program run at an interface, as Linux does from 6.6 on: then it misses the interface alone. 0, or -errno. */
 int fault_of_programs(const struct settings *settings) {
-    int program = load_program(settings, "dropper", NULL), attached;
+    CLOSED_FILE int program = load_program(settings, "dropper", NULL);
     if (program < 0) return program;
-    attached = attach_program(program, NO_INDEX, false);
-    close(program);
+    int attached = attach_program(program, NO_INDEX, false);
     return attached == -ENODEV ? 0 : attached;
 }
 

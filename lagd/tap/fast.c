@@ -28,9 +28,9 @@ static int load(struct tap_plane *tap, const char *name, const struct fast_maps 
 
 /* Has a program run at the TAP device; answers what keeps it there. */
 static int keep_program(struct tap_plane *tap, const char *name, const struct fast_maps *maps, bool egress) {
-    int program = load(tap, name, maps), opened = attach_stored(&tap->process->store, name, program, tap_index(tap->device), egress);
+    CLOSED_FILE int program = load(tap, name, maps);
+    int opened = attach_stored(&tap->process->store, name, program, tap->device->index, egress);
     if (opened < 0) stop(REFUSED, "fast: no program of an interface, which Linux has from 6.6 on", strerror(-opened));
-    close(program);
     return opened;
 }
 
@@ -38,7 +38,7 @@ static int keep_program(struct tap_plane *tap, const char *name, const struct fa
 static void *open_map(struct tap_plane *tap, int number, uint32_t size, uint32_t count, int *map) {
     int left = tap->process->inherited->tap;
     *map = claim_stored(&tap->process->store, "map", number);
-    void *at = *map >= 0 && left != 0 && left == tap_index(tap->device) ? map_again(size, count, *map) : NULL;
+    void *at = *map >= 0 && left != 0 && left == tap->device->index ? map_again(size, count, *map) : NULL;
     if (at) return at;
     if (*map >= 0) close_stored(&tap->process->store, "map", number, *map);
     at = make_map(size, count, map);
@@ -99,8 +99,8 @@ static void end_fast(struct tap_plane *tap) {
     open_host(tap, false);
     for (uint16_t number = 0; number < CONVERSATIONS; number++) clear_row(&own->rows[number]);
     for (uint16_t i = 0; i < tap->ports->count; i++) __atomic_store_n(&own->entries[i].up_to, 0, __ATOMIC_SEQ_CST);
-    if (own->sender >= 0) detach_stored(&tap->process->store, "sender", tap_index(tap->device), own->sender);
-    if (own->handover >= 0) detach_stored(&tap->process->store, "handover", tap_index(tap->device), own->handover);
+    if (own->sender >= 0) detach_stored(&tap->process->store, "sender", tap->device->index, own->sender);
+    if (own->handover >= 0) detach_stored(&tap->process->store, "handover", tap->device->index, own->handover);
     own->sender = own->handover = -1;
 }
 
@@ -279,7 +279,7 @@ static void set_collecting(struct tap_plane *tap) {
     EACH_LINK_AS_IS(link, tap->ports) {
         bool up = any_up && link->view.aggregator == tap->carry->active && (link->view.state & NIW_STATE_COLLECTING) != 0
             && is_fast(&tap->members[link->settings.number - 1]);
-        __atomic_store_n(&own->entries[link - tap->ports->links].up_to, up ? (uint64_t)tap_index(tap->device) : 0, __ATOMIC_SEQ_CST);
+        __atomic_store_n(&own->entries[link - tap->ports->links].up_to, up ? (uint64_t)tap->device->index : 0, __ATOMIC_SEQ_CST);
     }
 }
 

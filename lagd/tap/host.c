@@ -16,7 +16,7 @@ void lose_device(struct plane *plane) {
     if (tap->process->broken) return;
     tap->process->broken = true;
     CALL(plane->passing->end, tap);
-    tap->device->number = 0;
+    tap->device->index = 0;
     tap->device->carrier = false;
     drop_stored(&tap->process->store, "tap", 0);
     if (own->tap >= 0) await_no_more(tap->process->epoll_file, own->tap);
@@ -169,7 +169,7 @@ void open_tap_plane(struct plane *plane) {
     CALL(plane->queueing->start, tap);
     need(on_exit(put_back_members, tap) == 0, "on_exit");
     own->tap = open_tap(tap->device, tap->settings->carry, tap->settings->config.mac);
-    gather(tap->process, tap_index(tap->device));
+    gather(tap->process, tap->device->index);
     CALL(plane->passing->start, tap);
     if (!await_input(tap->process->epoll_file, own->tap, HOST)) stop(REFUSED, "epoll", strerror(errno));
 }

@@ -91,7 +91,7 @@ static bool set_up_data(int fd, int index, const struct guard *guard) {
 /* Opens a socket of a member; answers it, or -errno. One for all protocols has markers before the filters and bridges of an administrator,
  * which may take frames away there. Where the kernel hands up what comes, nothing comes by that for data. */
 static int open_socket(struct tap_plane *tap, const struct link *link, const struct guard *guard, enum socket_kind kind) {
-    int index = kind == MARKERS ? tap_index(tap->device) : link->index;
+    int index = kind == MARKERS ? tap->device->index : link->index;
     struct sockaddr_ll address = {.sll_family = AF_PACKET, .sll_protocol = htons(kind == DIRECT ? ETH_P_SLOW : ETH_P_ALL), .sll_ifindex = index};
     int fd = packet_socket(tap->process, SOCKET_NAMES[kind], link->index, index, SOCK_RAW);
     bool only_sends = kind == DATA && guard->fast, filtered;

@@ -12,31 +12,23 @@
 #define NAME_OCTETS 32
 /* The most processors that are named for RPS. */
 #define MOST_PROCESSORS 32
-#define PATH_OCTETS 128
+#define PATH_OCTETS 64
 /* Which processors take what an interface of one queue receives (RPS). */
 #define STEERING "rx-0/rps_cpus"
 
 /* What a queue has: the processors that take what it received (RPS), and those, and the queues that received, whose frames it sends (XPS). */
 enum setting { TAKEN_BY, SENT_FOR, SENT_BEHIND, SETTINGS };
 
-/* The path of a file or folder in that of the queues of an interface in /sys; answers whether it is of this interface. */
-static bool path_of(int index, const char *what, char path[static PATH_OCTETS]) {
-    char name[IF_NAMESIZE];
-    int found = 0;
-    if (!if_indextoname((unsigned)index, name)) return false;
-    snprintf(path, PATH_OCTETS, "/sys/class/net/%s/ifindex", name);
-    FILE *file = fopen(path, "re");
-    if (!file) return false;
-    if (fscanf(file, "%d", &found) != 1) found = 0;
-    fclose(file);
-    snprintf(path, PATH_OCTETS, "/sys/class/net/%s/queues/%s", name, what);
-    return found == index;
+/* Opens what the queues of an interface have in /sys; or -1. */
+static int open_of_queue(int index, const char *what, int flags) {
+    char path[PATH_OCTETS];
+    snprintf(path, sizeof path, "queues/%s", what);
+    return open_in_sys(index, path, flags);
 }
 
 unsigned count_entries(int index, const char *begin) {
-    char path[PATH_OCTETS];
     unsigned count = 0;
-    DIR *folder = path_of(index, "", path) ? opendir(path) : NULL;
+    DIR *folder = fdopendir(open_of_queue(index, "", O_RDONLY | O_DIRECTORY)); /* which has the file then: without one there is no folder */
     for (const struct dirent *entry; folder && (entry = readdir(folder));) count += strncmp(entry->d_name, begin, strlen(begin)) == 0;
     if (folder) closedir(folder);
     return count;
@@ -48,19 +40,15 @@ unsigned count_sending_queues(int index) {
 
 /* Reads the line of a file: of a queue, the processors as a mask in hexadecimal. One that is too long is none. */
 static bool read_line(int index, const char *what, char line[static PROCESSORS_ROOM]) {
-    char path[PATH_OCTETS];
-    FILE *file = path_of(index, what, path) ? fopen(path, "re") : NULL;
-    bool done = file && fgets(line, PROCESSORS_ROOM, file) && strchr(line, '\n');
-    if (file) fclose(file);
+    CLOSED_FILE int file = open_of_queue(index, what, O_RDONLY);
+    bool done = read_text(file, line, PROCESSORS_ROOM) && strchr(line, '\n');
     if (done) line[strcspn(line, "\n")] = 0;
     return done;
 }
 
 static bool set_processors(int index, const char *what, const char *mask) {
-    char path[PATH_OCTETS];
-    FILE *file = path_of(index, what, path) ? fopen(path, "we") : NULL;
-    bool done = file && fputs(mask, file) >= 0;
-    return file && fclose(file) == 0 && done;
+    CLOSED_FILE int file = open_of_queue(index, what, O_WRONLY | O_TRUNC);
+    return file >= 0 && write(file, mask, strlen(mask)) == (ssize_t)strlen(mask);
 }
 
 /* Whether GRO of an interface keeps frames for less than half the time for which a response to a marker waits. Without a time of its own it
@@ -140,8 +128,8 @@ static bool is_setting(const char *name) {
 
 /* Whether an interface is one of a card, each of whose queues is served by one processor at a time. */
 static bool is_card(int index) {
-    char path[PATH_OCTETS];
-    return path_of(index, "../device", path) && access(path, F_OK) == 0;
+    CLOSED_FILE int device = open_in_sys(index, "device", O_PATH);
+    return device >= 0;
 }
 
 /* What a queue is to have in the place of what it has now, for which `mask` is room: NULL where that may stay. */
@@ -163,9 +151,8 @@ static bool copy_known(FILE *file, FILE *next) {
 static bool is_known(int folder, const struct link *link, const char *wanted) {
     char name[NAME_OCTETS], mask[PROCESSORS_ROOM];
     bool found = false;
-    FILE *file = read_kept(folder, link, "queues");
+    CLOSED_STREAM FILE *file = read_kept(folder, link, "queues");
     while (file && !found && fscanf(file, READ_LINE, name, mask) == 2) found = strcmp(name, wanted) == 0;
-    if (file) fclose(file);
     return found;
 }
 
@@ -222,12 +209,10 @@ static const char *fault_of_spreading(int folder, const struct link *link, const
 /* Whether a member may keep all its queues once it has them, as far as that is seen before: giving them may take its link down. Where it is
  * known that settings of them are to be changed, these must be changeable, as far as the first one tells. */
 bool may_spread(int folder, const struct link *link) {
-    char name[NAME_OCTETS], path[PATH_OCTETS];
-    FILE *file = read_kept(folder, link, "queues");
+    char name[NAME_OCTETS];
+    CLOSED_STREAM FILE *file = read_kept(folder, link, "queues");
     bool changes = file && fscanf(file, "%31s", name) == 1;
-    if (file) fclose(file);
-    int opened = changes && path_of(link->index, "tx-0/xps_cpus", path) ? open(path, O_WRONLY | O_CLOEXEC) : -1;
-    if (opened >= 0) close(opened);
+    CLOSED_FILE int opened = changes ? open_of_queue(link->index, "tx-0/xps_cpus", O_WRONLY) : -1;
     return !link->stacked && may_have_order(link->index) && (!changes || opened >= 0);
 }
 
@@ -279,12 +264,10 @@ bool has_usual_queues(struct tap_plane *tap, const struct guard *guard) {
 void gather_back(int folder, const struct link *link, bool whole) {
     char name[NAME_OCTETS], interface[IF_NAMESIZE], mask[PROCESSORS_ROOM], now[PROCESSORS_ROOM];
     bool done = whole && if_indextoname((unsigned)link->index, interface);
-    FILE *file = read_kept(folder, link, "queues");
-    if (!file) return;
-    while (fscanf(file, READ_LINE, name, mask) == 2) {
+    CLOSED_STREAM FILE *file = read_kept(folder, link, "queues");
+    while (file && fscanf(file, READ_LINE, name, mask) == 2) {
         if (!is_setting(name) || set_processors(link->index, name, mask)) continue;
         if (read_line(link->index, name, now) && strcmp(now, mask) != 0) done = false;
     }
-    fclose(file);
-    if (done) drop_kept(folder, link, "queues");
+    if (file && done) drop_kept(folder, link, "queues");
 }

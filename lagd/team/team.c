@@ -93,7 +93,7 @@ static bool find_device(struct process *process, const char *name, struct interf
 static void configure_driver(struct team_plane *team, const char *mode_now) {
     const uint32_t counted_every = 1; /* what each bucket has sent, in units of 100 ms */
     struct sock_filter steps[MOST_HASH_STEPS];
-    int index = tap_index(team->device);
+    int index = team->device->index;
     size_t octets = make_team_hash(team->settings, steps) * sizeof *steps;
     need(strcmp(mode_now, MODE) == 0 || set_option(team, index, "mode", TYPE_STRING, MODE, sizeof MODE), "team: mode " MODE);
     need(set_option(team, index, "bpf_hash_func", TYPE_BINARY, steps, octets), "team: bpf_hash_func");
@@ -129,7 +129,7 @@ void give_team_addresses(struct team_plane *team) {
 /* Takes an interface out of the device, by which it goes down: also where the device is gone, or somebody else took it out. */
 void leave_team_port(struct team_plane *team, int index) {
     struct interface port;
-    if (!team->opened || !ask_interface(index, NULL, &port) || (port.master != 0 && port.master != tap_index(team->device))) return;
+    if (!team->opened || !ask_interface(index, NULL, &port) || (port.master != 0 && port.master != team->device->index)) return;
     bool up = port.master == 0 || (port.flags & IFF_UP);
     if ((port.master == 0 || set_master(index, 0)) && up) (void)set_interface_up(index, true);
 }
@@ -137,7 +137,7 @@ void leave_team_port(struct team_plane *team, int index) {
 /* Makes an interface a new port of the device, which takes it while it is down, and passes no data on it until it is told to: the driver would
  * at once. */
 static bool make_port(struct team_plane *team, int index, bool up) {
-    return (!up || set_interface_up(index, false)) && set_master(index, tap_index(team->device)) && set_port_enabled(team, index, false);
+    return (!up || set_interface_up(index, false)) && set_master(index, team->device->index) && set_port_enabled(team, index, false);
 }
 
 /* Makes an interface a port of the device; answers 0, or -errno. One that belongs to another device stays there. */
@@ -148,7 +148,7 @@ static int open_team_port(struct plane *plane, struct link *link) {
     int fault = 0;
     if (!ask_interface(link->index, NULL, &port) || !read_tap_mac(team->device, mac)) return last_fault();
     bool up = (port.flags & IFF_UP) != 0;
-    if (port.master != tap_index(team->device) && (port.master != 0 || !may_put_in(team->protocol, link))) return -EBUSY;
+    if (port.master != team->device->index && (port.master != 0 || !may_put_in(team->protocol, link))) return -EBUSY;
     if (port.master == 0 && !make_port(team, link->index, up)) fault = last_fault();
     if (fault == 0 && memcmp(port.mac, mac, sizeof mac) != 0) fault = give_address(link->index, mac);
     team->taken[link - team->ports->links] = fault == 0;
@@ -171,9 +171,9 @@ static void close_team_port(struct plane *plane, struct link *link) {
 static bool is_still_team_port(struct plane *plane, const struct link *link, int master) {
     struct team_plane *team = plane->team;
     struct interface now;
-    if (!team->taken[link - team->ports->links] || master == tap_index(team->device) || !ask_interface(link->index, NULL, &now))
+    if (!team->taken[link - team->ports->links] || master == team->device->index || !ask_interface(link->index, NULL, &now))
         return true;
-    if (now.master == tap_index(team->device)) return true;
+    if (now.master == team->device->index) return true;
     (void)say(team->process, LOG_WARNING | ABOUT_DATA, "port %u %s: it was taken out of %s", link->settings.number, link->name,
         team->settings->carry);
     return false;
@@ -206,8 +206,8 @@ static void end_team(int status UNUSED, void *given) {
     struct team_plane *team = given;
     if (!team->opened || team->process->has_left) return;
     EACH_LINK(link, team->ports) close_team_port(team->plane, link);
-    if (tap_index(team->device) != 0) free_inherited_ports(team->process->inherited, tap_index(team->device));
-    if (team->plane->owns_device && tap_index(team->device) != 0) (void)remove_device(tap_index(team->device));
+    if (team->device->index != 0) free_inherited_ports(team->process->inherited, team->device->index);
+    if (team->plane->owns_device && team->device->index != 0) (void)remove_device(team->device->index);
     if (team->lock >= 0) close_stored(&team->process->store, "lock", team->locked, team->lock);
     team->opened = false;
 }
@@ -230,7 +230,7 @@ static void open_team(struct plane *plane) {
         plane->owns_device = plane->is_new = true;
         use_team_device(team->device, device.index);
     }
-    need(read_team(team, tap_index(team->device), &now), "team");
+    need(read_team(team, team->device->index, &now), "team");
     configure_driver(team, now.mode);
     start_buckets(team);
 }

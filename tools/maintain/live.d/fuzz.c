@@ -155,7 +155,7 @@ static void fuzz_state(const uint8_t *octets, size_t length) {
     (void)fwrite(octets, 1, length, file);
     fclose(file);
     lagd->inherited = (struct inherited){0};
-    recall_state(lagd->state);
+    recall_state(&lagd->state);
     (void)unlink(name);
     begin_resuming(&lagd->protocol);
     resume_data(&lagd->protocol, resume(&lagd->protocol));

@@ -60,7 +60,6 @@ struct waiting_packet {
 /* One end, and what is known of its frames. */
 struct end {
     struct lagd lagd;
-    struct device device;
     struct wire wires[PORTS + 1]; /* what it sent */
     struct waiting_packet out[BATCH * PORTS];
     unsigned out_count;
@@ -304,8 +303,6 @@ static void make_end(struct end *end, uint8_t which) {
     struct lagd *lagd = &end->lagd;
     struct niw_port ports[PORTS];
     const uint16_t keys[KEYS] = {1, 2};
-    lagd->device = &end->device;
-    end->device.most_mtu = ETH_DATA_LEN;
     join_parts(lagd);
     lagd->plane.carrying = &FRAMES;
     lagd->plane.passing = &BY_DAEMON;
