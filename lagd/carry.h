@@ -90,7 +90,6 @@ struct carry {
 void note_response(struct plane *plane, const struct link *link);
 void go_on_answering(struct carry *carry, enum answering last);
 void look_at_partner(struct carry *carry);
-void suspect_partner(struct probe *own);
 
 /* resume.c */
 void resume_conversations(struct plane *plane, bool goes_on);
@@ -109,6 +108,9 @@ void begin_carry_tick(struct carry *carry);
 void note_heard(struct carry *carry);
 void end_carry_tick(struct carry *carry);
 void suspect_aggregator(struct carry *carry, uint32_t aggregator);
+
+/* flight.c */
+bool distributes(struct protocol *protocol, uint16_t port, bool wanted);
 
 /* moves.c */
 void ask_moves(struct carry *carry);

@@ -51,7 +51,7 @@ static void write_text_of_carry(struct control *control) {
     const struct settings *settings = control->settings;
     const char *carrier = has_carrier(control->device) ? "on" : control->protocol->halt.down ? "off, the device is down" : "off";
     unsigned told = 0;
-    add(control->report, "  carry: %s, carrier %s, hash %s, flight %u ms, ", settings->carry, carrier, hash_text(settings->hash), settings->flight);
+    add(control->report, "  carry: %s, carrier %s, hash %s, flight %u ms, ", settings->carry, carrier, HASHES[settings->hash], settings->flight);
     CALL(carrying->show_markers, control);
     add(control->report, "%s%s", control->plane->way, control->plane->queueing->text);
     for (unsigned i = carrying->first_count; i < carrying->end_count; i++)
@@ -65,7 +65,7 @@ static void write_json_of_carry(struct control *control) {
     add_string(control->report, control->settings->carry);
     add(control->report, ",\"up\":%s,\"carrier\":%s,\"aggregator\":%u,\"hash\":\"%s\",\"flight\":%u,\"way\":\"%s\",",
         control->protocol->halt.down ? "false" : "true", has_carrier(control->device) ? "true" : "false", control->carry->active,
-        hash_text(control->settings->hash), control->settings->flight, control->plane->way);
+        HASHES[control->settings->hash], control->settings->flight, control->plane->way);
     CALL(carrying->show_waiting, control, AS_JSON);
     for (unsigned i = carrying->first_count; i < carrying->end_count; i++)
         add(control->report, ",\"%s\":%" PRIu64, CARRY_COUNTERS[i].name, control->carry->counts[i]);

@@ -99,7 +99,7 @@ static void follow_link(struct protocol *protocol, struct link *link, const stru
         if (!link->away) link->counts[LOSSES]--; /* which set_link counts */
         set_link(protocol, port, false);
     }
-    if ((lost && !spared) || !carrier) forget_carrier(link);
+    if ((lost && !spared) || !carrier) set_waiting(link, false);
     bool up = carrier && !protocol->halt.silent && is_restored(protocol, link);
     if (up && !link->up) fit_queue(protocol->plane, link);
     if (up) apply_speed(protocol, link);

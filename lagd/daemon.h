@@ -44,7 +44,13 @@ static inline void join_parts(struct lagd *lagd) {
         for (enum socket_kind kind = DATA; kind < SOCKETS; kind++) lagd->tap.members[i].sockets[kind] = -1;
 }
 
-/* daemon.c */
-struct lagd *make_lagd(void);
+/* A daemon is made: its memory goes with the program. */
+static inline struct lagd *make_lagd(void) {
+    struct lagd *lagd = make_room(sizeof *lagd);
+    join_parts(lagd);
+    lagd->control.report = make_room(sizeof *lagd->control.report);
+    choose_no_plane(&lagd->plane);
+    return lagd;
+}
 
 #endif

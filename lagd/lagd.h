@@ -343,7 +343,7 @@ const char *status_text(unsigned status);
 #define ALL_COUNTS ((unsigned)LIBRARY_COUNTS + COUNTS)
 struct count_text count_text(unsigned place);
 uint64_t count_at(const struct link *link, unsigned place);
-const char *bundle_state_text(enum bundle_state state);
+extern const char *const BUNDLE_STATE_TEXTS[BUNDLE_STATES];
 const char *system_text(const struct system_id *system, char room[static 32]);
 const char *mac_text(const uint8_t *mac, char room[static 32]);
 const char *time_text(time_t time, char room[static 32]);
@@ -374,7 +374,8 @@ void need(bool done, const char *what);
 bool is_done(struct process *process, uint32_t status, const char *call) MUST_USE;
 bool is_told(struct process *process, struct niw_number answer, const char *call, uint64_t *number) MUST_USE;
 bool say(struct process *process, int level, const char *format, ...) __attribute__((format(printf, 3, 4)));
-void complain(struct process *process, const char *format, ...) __attribute__((format(printf, 2, 3)));
+/* Tells what is wrong with a file. */
+#define complain(process, ...) ((void)say(process, LOG_WARNING | ABOUT_FILE, __VA_ARGS__))
 size_t escape(char *text, size_t room, const char *from, size_t length, bool lines);
 
 /* address.c */
@@ -425,7 +426,7 @@ void look_for_twins(struct protocol *protocol);
 
 /* restore.c */
 bool is_restored(struct protocol *protocol, struct link *link);
-void forget_carrier(struct link *link);
+void set_waiting(struct link *link, bool waits);
 bool has_waited(struct protocol *protocol, const struct link *link);
 void note_carrier(const struct settings *settings, struct link *link);
 bool is_spared(struct protocol *protocol, struct link *link, bool carrier, bool lost);
@@ -521,17 +522,12 @@ struct worth { /* of an aggregator, by the ports that carry there */
 struct worth worth_of(struct protocol *protocol, uint16_t aggregator);
 uint64_t patience_with(struct protocol *protocol, uint16_t active, uint16_t other);
 void follow_peer(struct protocol *protocol, uint16_t aggregator);
-void go_on_selecting(struct choice *own, uint16_t aggregator, bool follows);
 void choose_aggregator(struct protocol *protocol, struct bundle *now);
 bool is_as_good_as_any(struct protocol *protocol, uint16_t aggregator);
 
 /* bundle.c */
 void look_at_bundle(struct protocol *protocol);
-void allow_bundle_line(struct bundle *bundle);
 void end_bundle(struct protocol *protocol);
-
-/* hook.c */
-void run_hook(struct protocol *protocol, const char *path, enum bundle_state before);
 
 /* reload.c */
 void reload(struct protocol *protocol, const char *file);
@@ -596,7 +592,6 @@ void await_no_more(int epoll_file, int fd);
 /* options.c */
 const char *read_port(struct words *words, char *text, struct settings *settings, const char **found);
 
-#define QUESTION_ROOM 256 /* a question has a name of an interface at most, with its words */
 /* status.c */
 #define REFUSAL "refused: " /* begins the answer to who has no place */
 void open_status(struct process *process, const char *folder);

@@ -100,7 +100,7 @@ static void pass_second(struct lagd *lagd) {
         if (link->lines < MOST_LINES) link->lines++;
     }
     look_for_twins(&lagd->protocol);
-    allow_bundle_line(&lagd->protocol.bundle);
+    if (lagd->protocol.bundle.lines < MOST_LINES) lagd->protocol.bundle.lines++;
     pass_revert_second(&lagd->protocol);
     watch_changes(&lagd->protocol);
     (void)save_state(&lagd->state, false);

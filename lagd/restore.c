@@ -16,7 +16,7 @@ static bool is_over(struct protocol *protocol, const struct link *link) {
     return milliseconds() - link->steady_since >= protocol->settings->wait_to_restore * (uint64_t)1000 || is_short_of_links(protocol);
 }
 
-static void set_waiting(struct link *link, bool waits) {
+void set_waiting(struct link *link, bool waits) {
     link->changed = link->changed || link->waits != waits;
     link->waits = waits;
 }
@@ -28,10 +28,6 @@ bool is_restored(struct protocol *protocol, struct link *link) {
     if (!link->waits) link->steady_since = milliseconds();
     set_waiting(link, !is_over(protocol, link));
     return !link->waits;
-}
-
-void forget_carrier(struct link *link) {
-    set_waiting(link, false);
 }
 
 /* The carrier of a link is there, and had not gone since the last call. One that came back a moment ago may go again as soon: only where it was

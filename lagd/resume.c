@@ -51,11 +51,6 @@ static void recall_partner(struct process *process, struct link *link) {
     link->lacpdus_at[MOST_LACPDUS - 1] = was->spoken - process->inherited->ahead;
 }
 
-static bool is_distributing(struct protocol *protocol, uint16_t port) {
-    struct niw_truth answer = niw_distributes(&protocol->own_system, port);
-    return is_done(protocol->process, answer.status, "niw_distributes") && answer.is;
-}
-
 /* The links that are up, and do not go on, come up for the library, too. */
 static void set_other_links(struct protocol *protocol, const bool *back) {
     EACH_LINK(link, protocol->ports)
@@ -115,7 +110,7 @@ static void stay(struct carry *carry, uint16_t number, uint16_t port) {
 static uint16_t port_on(struct carry *carry, int index) {
     EACH_LINK(link, carry->ports)
         if (index != 0 && link->socket >= 0 && link->index == index && link->view.aggregator == carry->active
-            && is_distributing(carry->protocol, link->settings.number))
+            && distributes(carry->protocol, link->settings.number, true))
             return link->settings.number;
     return 0;
 }
@@ -142,7 +137,7 @@ void resume_data(struct protocol *protocol, unsigned count) {
     if (goes_on) { /* which is no change of the bundle */
         protocol->bundle.state = inherited->bundle.state;
         protocol->bundle.changed_at = inherited->bundle.changed_at;
-        go_on_selecting(&protocol->choice, inherited->bundle.aggregator, inherited->follows);
+        protocol->choice = (struct choice){inherited->bundle.aggregator, inherited->follows ? inherited->bundle.aggregator : 0};
     }
     CALL(protocol->plane->carrying->resume, protocol->plane, goes_on);
 }

@@ -108,11 +108,5 @@ void follow_peer(struct protocol *protocol, uint16_t aggregator) {
             protocol->settings->name, aggregator);
     else
         (void)say(protocol->process, LOG_WARNING | ABOUT_BUNDLE, "bundle %s: the peer sends in aggregator %u: it carries, whatever select=%s prefers",
-            protocol->settings->name, aggregator, selection_text(protocol->settings->select));
-}
-
-/* The aggregator is that of the last daemon, which may have followed the peer there. */
-void go_on_selecting(struct choice *own, uint16_t aggregator, bool follows) {
-    own->last = aggregator;
-    own->followed = follows ? aggregator : 0;
+            protocol->settings->name, aggregator, SELECTIONS[protocol->settings->select]);
 }

@@ -74,18 +74,10 @@ static bool is_name_of_device(const char *text) {
     return strlen(text) < DEVICE_ROOM && !strchr(text, '%') && is_name(text, strlen(text));
 }
 
-static const char *const HASHES[] = {[HASH_LAYER2] = "layer2", [HASH_LAYER2_3] = "layer2+3", [HASH_LAYER3_4] = "layer3+4",
+const char *const HASHES[] = {[HASH_LAYER2] = "layer2", [HASH_LAYER2_3] = "layer2+3", [HASH_LAYER3_4] = "layer3+4",
     [HASH_ENCAP3_4] = "encap3+4", [HASH_VLAN_SRCMAC] = "vlan+srcmac", NULL};
-static const char *const SELECTIONS[] = {[SELECT_COUNT] = "count", [SELECT_BANDWIDTH] = "bandwidth", [SELECT_PRIORITY] = "priority",
+const char *const SELECTIONS[] = {[SELECT_COUNT] = "count", [SELECT_BANDWIDTH] = "bandwidth", [SELECT_PRIORITY] = "priority",
     [SELECT_PRIORITY_STABLE] = "priority-stable", NULL};
-
-const char *hash_text(enum hash hash) {
-    return HASHES[hash];
-}
-
-const char *selection_text(enum selection selection) {
-    return SELECTIONS[selection];
-}
 
 /* Parts of a row: the place of a value in a struct, and what else its kind wants. */
 #define IN(type, field) .at = offsetof(struct type, field), .size = sizeof ((struct type *)NULL)->field

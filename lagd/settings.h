@@ -118,6 +118,8 @@ struct key {
 
 /* The keys of a bundle, in the order of the help, up to one without a name. */
 extern const struct key BUNDLE_KEYS[], PORT_KEYS[];
+/* The words of a hash, and of a selection. */
+extern const char *const HASHES[], *const SELECTIONS[];
 
 /* What is wrong with all of it: what was expected, and the key that says otherwise; NULL where nothing is, or no key does. */
 struct lack {
@@ -129,8 +131,6 @@ struct words { /* in a row */
 };
 
 struct settings usual_settings(void);
-const char *hash_text(enum hash hash);
-const char *selection_text(enum selection selection);
 const char *partner_text(const struct settings *settings, char room[static 32]);
 void add_word(struct words *words, const char *joint, const char *word);
 const char *list_choice(struct words *words, const struct key *key, const char *joint, const char *last_joint);

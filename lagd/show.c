@@ -53,7 +53,7 @@ static void add_time(struct report *report, enum form form, time_t time) {
 /* Which aggregator carries, and what each one has of what decides that. */
 static void add_selection(struct report *report, struct protocol *protocol) {
     enum selection by = protocol->settings->select;
-    add(report, "  select: %s", selection_text(by));
+    add(report, "  select: %s", SELECTIONS[by]);
     if (protocol->choice.followed != 0)
         add(report, ", but it follows the peer, which sends in aggregator %u alone", protocol->bundle.aggregator);
     for (uint16_t aggregator = 1; aggregator <= protocol->aggregator_count; aggregator++) {
@@ -71,7 +71,7 @@ static void add_bundle(struct control *control) {
     const struct bundle *bundle = &control->protocol->bundle;
     char text[32];
     add(control->report, "---- %s ----\n", settings->name);
-    add(control->report, "  status: %s, %u of %u links carry", bundle_state_text(bundle->state), bundle->carrying, bundle->links);
+    add(control->report, "  status: %s, %u of %u links carry", BUNDLE_STATE_TEXTS[bundle->state], bundle->carrying, bundle->links);
     EACH_LINK(link, control->ports)
         if (link->away) add(control->report, ", but the carrier of %s is away", link->name);
     add(control->report, "\n");
@@ -233,7 +233,7 @@ static void add_json_bundle(struct control *control) {
     add(control->report, "\"bundle\":");
     add_string(control->report, control->settings->name);
     add(control->report, ",\"state\":\"%s\",\"links\":%u,\"carrying\":%u,\"away\":%u,\"aggregator\":%u",
-        bundle_state_text(control->protocol->bundle.state), control->protocol->bundle.links,
+        BUNDLE_STATE_TEXTS[control->protocol->bundle.state], control->protocol->bundle.links,
         control->protocol->bundle.carrying, count_away(control->ports), control->protocol->bundle.aggregator);
     add_time(control->report, AS_JSON, control->protocol->bundle.changed_at);
 }
@@ -249,7 +249,7 @@ void write_json(struct control *control) {
     add(report, ",\"system_priority\":%u,\"system\":\"%s\"", settings->config.priority, mac_text(settings->config.mac, mac));
     add(report, ",\"key\":%u,\"collector_max_delay\":%u", settings->key, settings->config.max_delay);
     add(report, ",\"min_links\":%u,\"max_links\":%u", settings->min_links, settings->config.max_links);
-    add(report, ",\"select\":\"%s\",\"follows_peer\":%s,\"seconds\":%" PRIu64 ",", selection_text(settings->select),
+    add(report, ",\"select\":\"%s\",\"follows_peer\":%s,\"seconds\":%" PRIu64 ",", SELECTIONS[settings->select],
         control->protocol->choice.followed != 0 ? "true" : "false", seconds_since(control->protocol->began));
     CALL(control->plane->carrying->show, control, AS_JSON);
     add(report, "\"ports\":[");

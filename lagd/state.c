@@ -41,7 +41,7 @@ static const char *way(const struct carry *carry, char room[static WAY_ROOM]) {
     char system[32];
     struct system_id own = own_system(settings);
     snprintf(room, WAY_ROOM, "%s/%s%s/%s/%u/%s", system_text(&own, system), settings->carry, carry->plane->carrying->nameless,
-        hash_text(settings->hash), settings->hash_seed, carry->plane->way);
+        HASHES[settings->hash], settings->hash_seed, carry->plane->way);
     return room;
 }
 

@@ -132,7 +132,7 @@ void set_link(struct protocol *protocol, uint16_t port, bool up) {
 }
 
 void lose_link(struct protocol *protocol, struct link *link) {
-    forget_carrier(link);
+    set_waiting(link, false);
     set_link(protocol, link->settings.number, false);
     close_link(protocol, link);
     (void)print_change(protocol, link);

@@ -7,7 +7,7 @@
 #define UNANSWERED 3000
 
 /* Whether the library tells that a port distributes, or that it does not. */
-static bool distributes(struct protocol *protocol, uint16_t port, bool wanted) {
+bool distributes(struct protocol *protocol, uint16_t port, bool wanted) {
     struct niw_truth answer = niw_distributes(&protocol->own_system, port);
     return is_done(protocol->process, answer.status, "niw_distributes") && answer.is == wanted;
 }
@@ -34,7 +34,7 @@ static void set_free(struct carry *carry, struct conversation *conversation, uin
     struct niw_system *system = &carry->protocol->own_system;
     uint32_t status = held ? niw_force(system, conversation->home, number) : niw_rest(system, conversation->home, number);
     if (!is_done(carry->process, status, held ? "niw_force" : "niw_rest")) return;
-    if (held && conversation->home == carry->active) suspect_partner(&carry->probe);
+    if (held && conversation->home == carry->active && carry->probe.peer == ANSWERS) carry->probe.peer = NOT_ASKED; /* it did not answer in time */
     carry->counts[held ? FORCED : RESTED]++;
     carry->plane->changed = true;
     conversation->since = 0;

@@ -209,7 +209,7 @@ void put_host(struct tap_plane *tap, uint8_t *packet, size_t length) {
 
 /* lines, and the carrier of the device, */
 ANSWERS(bool say, true, struct process *process, int level, const char *format, ...)
-ANSWERS(const char *selection_text, "", enum selection selection)
+const char *const SELECTIONS[] = {"", "", "", ""};
 static bool any_distributes(struct lagd *lagd) {
     for (uint16_t port = 1; port <= PORTS; port++)
         if (niw_distributes(&lagd->protocol.own_system, port).is) return true;
@@ -275,7 +275,6 @@ NOTHING(pass_tap_tick, struct device *device)
 NOTHING(announce_soon, struct announce *own)
 ANSWERS(uint32_t sum_speeds, 1000, struct tap_plane *tap)
 NOTHING(set_speed, struct device *device, uint32_t megabits)
-NOTHING(run_hook, struct protocol *protocol, const char *path, enum bundle_state before)
 /* The device is up here, and no port comes or goes. */
 ANSWERS(uint16_t count_links, PORTS, const struct ports *ports)
 NOTHING(tell_watchers_of, struct control *control, const struct link *link)
@@ -454,7 +453,7 @@ static void pass_time(struct end *end, unsigned ticks) {
         read_views(&lagd->protocol);
         if (!lagd->process.broken) CALL(lagd->plane.carrying->tick, &lagd->plane);
         end_emptying(end);
-        if (now / 1000 != (now - TICK) / 1000) allow_bundle_line(&lagd->protocol.bundle);
+        if (now / 1000 != (now - TICK) / 1000 && lagd->protocol.bundle.lines < MOST_LINES) lagd->protocol.bundle.lines++;
         events++;
     }
     check_waiting(end);
