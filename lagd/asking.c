@@ -237,12 +237,10 @@ static int order_daemon(struct asking *own) {
     return fflush(stdout) == 0 ? DONE : REFUSED;
 }
 
-int ask_daemons(struct control *control, const struct options *options) {
+int ask_daemons(struct process *process, struct report *report, const struct options *options) {
     static struct asking own; /* its answers stay until the program ends */
     unsigned answers = 0;
-    own.process = control->process;
-    own.report = control->report;
-    own.options = options;
+    own = (struct asking){.process = process, .report = report, .options = options};
     find_sockets(&own, options->folder, true);
     if (options->action == ORDER) return order_daemon(&own);
     if (options->action == SHOW_CONFIG) (void)find_daemon(&own); /* a file has one bundle */

@@ -54,7 +54,7 @@ static bool take_up(struct protocol *protocol, struct link *link, const struct i
     memcpy(link->discipline, interface->discipline, sizeof link->discipline);
     if (interface->has_mac) memcpy(link->mac, interface->mac, sizeof link->mac);
     link->stacked = is_stacked(interface);
-    if (open_link(protocol, link, interface->index)) {
+    if (open_link(protocol->process, protocol->plane, link, interface->index)) {
         link->kernel_losses = interface->losses;
         link->puts_in = false;
         return true;
@@ -92,8 +92,8 @@ static void follow_link(struct protocol *protocol, struct link *link, const stru
         lost = losses > 0;
         link->counts[LOSSES] += losses;
     }
-    bool other = carrier && (lost || link->away) && has_other_speed(protocol, link);
-    bool spared = (interface->flags & IFF_UP) && is_spared(protocol, link, carrier, lost) && !other;
+    bool other = carrier && (lost || link->away) && has_other_speed(protocol->settings, link);
+    bool spared = (interface->flags & IFF_UP) && is_spared(protocol->process, link, carrier, lost) && !other;
     if (spared && !carrier) return;
     if ((lost || other) && !spared && link->up) {
         if (!link->away) link->counts[LOSSES]--; /* which set_link counts */
@@ -235,9 +235,9 @@ void ask_now(struct protocol *protocol) {
     watch_changes(protocol);
 }
 
-void ask_links(struct protocol *protocol) {
-    EACH_LINK(link, protocol->ports)
-        if (link->socket >= 0) (void)ask_for(&protocol->changes, link->index, 0);
+void ask_links(struct changes *own, const struct ports *ports) {
+    EACH_LINK_AS_IS(link, ports)
+        if (link->socket >= 0) (void)ask_for(own, link->index, 0);
 }
 
 /* Looks at carriers, at each tick and where one is suspected: the kernel counts at once that one came or went, but tells of those that go

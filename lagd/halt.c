@@ -29,7 +29,7 @@ static void begin_halt(struct protocol *protocol) {
 static void end_halt(struct protocol *protocol) {
     hold_or_release_ports(protocol);
     protocol->halt.silent = false;
-    ask_links(protocol);
+    ask_links(&protocol->changes, protocol->ports);
 }
 
 /* The kernel told of the device, which is up or down. At the start the ports of the last daemon go on first, so that their peers can be told. */

@@ -387,8 +387,8 @@ int lock_interface(struct process *process, int index);
 const char *holder_of(const struct ports *ports, int index, char room[static HOLDER_ROOM]);
 
 /* links.c */
-bool open_link(struct protocol *protocol, struct link *link, int index);
-void close_link(struct protocol *protocol, struct link *link);
+bool open_link(struct process *process, struct plane *plane, struct link *link, int index);
+void close_link(struct plane *plane, struct store *store, struct link *link);
 int open_in_sys(int index, const char *what, int flags);
 bool read_text(int fd, char *text, size_t room);
 bool has_new_carrier(struct link *link);
@@ -410,14 +410,14 @@ void accept_response(struct protocol *protocol, struct link *link, const struct 
 void forget_partner(const struct settings *settings, struct link *link);
 bool may_be_partner(const struct link *link, const uint8_t *frame, struct system_id *actor);
 void note_actor(const struct settings *settings, struct link *link, const struct system_id *actor, const uint8_t *frame);
-void tell_strangers(struct protocol *protocol, struct link *link);
+void tell_strangers(struct process *process, uint64_t ticks, struct link *link);
 
 /* markers.c */
 bool read_response(struct process *process, const struct arrival *arrival, struct niw_pdu *pdu);
 bool is_partners_response(const struct settings *settings, const struct link *link, const struct arrival *arrival, const struct niw_pdu *response);
 void note_odd_marker(struct link *link, const struct arrival *arrival, enum count count);
-bool may_answer(struct protocol *protocol, struct link *link, const struct arrival *arrival);
-void tell_markers(struct protocol *protocol, struct link *link);
+bool may_answer(const struct settings *settings, const struct plane *plane, struct link *link, const struct arrival *arrival);
+void tell_markers(struct process *process, uint64_t ticks, struct link *link);
 
 #define MARKERS_AT_ONCE 16 /* how many come in the place of one, of a partner whose members have several queues, where ours have */
 
@@ -429,7 +429,7 @@ bool is_restored(struct protocol *protocol, struct link *link);
 void set_waiting(struct link *link, bool waits);
 bool has_waited(struct protocol *protocol, const struct link *link);
 void note_carrier(const struct settings *settings, struct link *link);
-bool is_spared(struct protocol *protocol, struct link *link, bool carrier, bool lost);
+bool is_spared(const struct process *process, struct link *link, bool carrier, bool lost);
 
 /* revert.c */
 void pass_revert_second(struct protocol *protocol);
@@ -441,7 +441,7 @@ void receive_changes(struct protocol *protocol);
 void read_messages(struct protocol *protocol, const void *messages, size_t length);
 void watch_changes(struct protocol *protocol);
 void lose_member(struct protocol *protocol, struct link *link);
-void ask_links(struct protocol *protocol);
+void ask_links(struct changes *own, const struct ports *ports);
 void ask_now(struct protocol *protocol);
 void watch_carriers(struct protocol *protocol, bool all);
 
@@ -449,13 +449,13 @@ void watch_carriers(struct protocol *protocol, bool all);
 void choose_slots(struct protocol *protocol);
 void make_keys(struct protocol *protocol, uint16_t keys[static NIW_MOST_PORTS]);
 bool has_aggregator(const struct keys *own, uint16_t given);
-uint16_t free_key(struct protocol *protocol, uint16_t behind, const struct link *but);
+uint16_t free_key(const struct keys *own, const struct ports *ports, uint16_t behind, const struct link *but);
 uint16_t choose_key(struct protocol *protocol, const struct link *link);
 bool ask_driver(int index, void *value);
 struct speed read_speed(int socket, int index);
 bool write_speed(int socket, int index, uint32_t megabits);
 void apply_speed(struct protocol *protocol, struct link *link);
-bool has_other_speed(struct protocol *protocol, const struct link *link);
+bool has_other_speed(const struct settings *settings, const struct link *link);
 const char *speed_text(const struct speed *speed, char room[static 40]);
 
 /* system.c */
@@ -482,14 +482,14 @@ uint16_t count_links(const struct ports *ports);
 bool place_ports(struct protocol *protocol, struct settings *settings);
 void keep_left_ports(struct protocol *protocol);
 void leave_left_ports(struct protocol *protocol);
-void begin_link(struct protocol *protocol, uint16_t port);
+void begin_link(const struct settings *settings, struct ports *ports, uint16_t port);
 void join_port(struct protocol *protocol, struct link *link, const struct port_settings *settings);
 void leave_port(struct protocol *protocol, struct link *link);
 bool begin_hold(struct protocol *protocol, struct link *link);
 void stay_port(struct protocol *protocol, struct link *link);
 void pass_leaving_tick(struct protocol *protocol);
 struct interface;
-bool may_put_in(struct protocol *protocol, const struct link *link);
+bool may_put_in(const struct protocol *protocol, const struct link *link);
 bool stays_outside(struct protocol *protocol, struct link *link, int master);
 void tell_taken_out(struct protocol *protocol, struct link *link);
 void follow_port(struct protocol *protocol, const struct interface *interface);
@@ -506,8 +506,8 @@ void pass_halt_tick(struct protocol *protocol);
 void read_views(struct protocol *protocol);
 void print_all_changes(struct protocol *protocol);
 bool print_change(struct protocol *protocol, struct link *link);
-struct facts facts_of(struct protocol *protocol, const struct link *link);
-bool carries(struct protocol *protocol, const struct link *link);
+struct facts facts_of(const struct protocol *protocol, const struct link *link);
+bool carries(const struct protocol *protocol, const struct link *link);
 uint16_t count_away(const struct ports *ports);
 
 /* select.c */
@@ -519,8 +519,8 @@ struct worth { /* of an aggregator, by the ports that carry there */
     uint64_t system;   /* the better one of both ends, */
     uint32_t port;     /* and its best port: priority and number */
 };
-struct worth worth_of(struct protocol *protocol, uint16_t aggregator);
-uint64_t patience_with(struct protocol *protocol, uint16_t active, uint16_t other);
+struct worth worth_of(const struct protocol *protocol, uint16_t aggregator);
+uint64_t patience_with(const struct protocol *protocol, uint16_t active, uint16_t other);
 void follow_peer(struct protocol *protocol, uint16_t aggregator);
 void choose_aggregator(struct protocol *protocol, struct bundle *now);
 bool is_as_good_as_any(struct protocol *protocol, uint16_t aggregator);
@@ -604,17 +604,17 @@ void tell_watchers_of(struct control *control, const struct link *link);
 uint64_t boottime(void);
 uint32_t first_marker_left(const struct inherited *inherited);
 bool was_away_briefly(const struct inherited *inherited);
-void begin_resuming(struct protocol *protocol);
+void begin_resuming(struct process *process, struct plane *plane);
 unsigned resume(struct protocol *protocol);
 void resume_data(struct protocol *protocol, unsigned count);
-void end_resuming(struct protocol *protocol);
+void end_resuming(struct plane *plane, struct store *store);
 
 /* carry.c */
 void settle_carry(struct plane *plane);
 
 /* tap/host.c */
 void end_carry(struct plane *plane);
-void remove_all_members(struct protocol *protocol);
+void remove_all_members(struct plane *plane, struct ports *ports);
 
 /* tap/guard.c, tap/members.c */
 void fit_queue(const struct plane *plane, const struct link *link);

@@ -117,7 +117,8 @@ static bool say_text(struct process *process, int level, const char *text) {
     return write_line(output(process), line, (size_t)used);
 }
 
-/* Prints a line of text that a terminal only shows; what is wrong with a file stands on standard error at the start. Answers whether it was printed. */
+/* Prints a text as a line that a terminal only shows; what is wrong with a file stands on standard error at the start. Answers whether it was
+ * printed. */
 bool say(struct process *process, int level, const char *format, ...) {
     char raw[LONGEST_TEXT], text[LONGEST_TEXT];
     va_list given;

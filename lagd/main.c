@@ -246,7 +246,7 @@ static int run_daemon(struct lagd *lagd, const struct options *options) {
     choose_plane(&lagd->plane, &lagd->settings);
     recall_state(&lagd->state);
     make_system(&lagd->protocol);
-    begin_resuming(&lagd->protocol);
+    begin_resuming(&lagd->process, &lagd->plane);
     CALL(lagd->plane.carrying->open, &lagd->plane);
     start_halt(&lagd->protocol);
     need(await_input(lagd->process.epoll_file, open_changes(&lagd->protocol), CHANGES), "epoll");
@@ -259,7 +259,7 @@ static int run_daemon(struct lagd *lagd, const struct options *options) {
     resume_data(&lagd->protocol, resumed);
     halt_if_down(&lagd->protocol);
     leave_left_ports(&lagd->protocol);
-    end_resuming(&lagd->protocol);
+    end_resuming(&lagd->plane, &lagd->process.store);
     (void)save_state(&lagd->state, false);
     tell_changes(&lagd->protocol);
     settle_carry(&lagd->plane);
@@ -278,5 +278,5 @@ int main(int argc, char **argv) {
     read_options(&lagd->process, argc, argv, &options);
     if (options.action == RUN_BUNDLE) return run_daemon(lagd, &options);
     if (options.action == CHECK) return check_machine(&lagd->control, &options);
-    return ask_daemons(&lagd->control, &options);
+    return ask_daemons(&lagd->process, lagd->control.report, &options);
 }

@@ -26,12 +26,12 @@ static struct link *link_of(struct ports *ports, const char *name) {
 }
 
 /* The number that a port has, or had in the last daemon; 0 for none. */
-static uint16_t number_of(struct protocol *protocol, const char *name) {
-    const struct inherited *inherited = protocol->process->inherited;
-    const struct link *link = link_of(protocol->ports, name);
+static uint16_t number_of(const struct process *process, struct ports *ports, const char *name) {
+    const struct inherited *inherited = process->inherited;
+    const struct link *link = link_of(ports, name);
     if (link) return link->settings.number;
-    for (unsigned i = 0; !protocol->process->has_started && i < inherited->port_count; i++)
-        if (strcmp(inherited->ports[i].name, name) == 0 && inherited->ports[i].number <= protocol->ports->slots) return inherited->ports[i].number;
+    for (unsigned i = 0; !process->has_started && i < inherited->port_count; i++)
+        if (strcmp(inherited->ports[i].name, name) == 0 && inherited->ports[i].number <= ports->slots) return inherited->ports[i].number;
     return 0;
 }
 
@@ -52,7 +52,7 @@ static bool number_ports(struct protocol *protocol, const struct port_settings *
         if (inherited->ports[i].number <= protocol->ports->slots && has_carried(inherited, &inherited->ports[i]))
             taken[inherited->ports[i].number] = true;
     for (uint16_t i = 0; i < count; i++) {
-        numbers[i] = number_of(protocol, given[i].name);
+        numbers[i] = number_of(protocol->process, protocol->ports, given[i].name);
         taken[numbers[i]] = true;
     }
     for (uint16_t i = 0, lowest = 0; i < count; i++) {
@@ -90,21 +90,21 @@ void keep_left_ports(struct protocol *protocol) {
         if (port->number > protocol->ports->slots || link->used || !has_carried(inherited, port)) continue;
         memcpy(settings->ports[port->number - 1].name, port->name, sizeof port->name);
         if (port->number > settings->port_count) settings->port_count = port->number;
-        begin_link(protocol, port->number);
+        begin_link(settings, protocol->ports, port->number);
         link->left_over = !settings->follow;
         link->followed = settings->follow;
     }
 }
 
 /* A port begins, as the settings have it. What the library tells of it stays. */
-void begin_link(struct protocol *protocol, uint16_t port) {
-    struct link *link = &protocol->ports->links[port - 1];
-    *link = (struct link){.name = protocol->settings->ports[port - 1].name, .settings = port_of(protocol->settings, port), .socket = -1, .lock = -1,
+void begin_link(const struct settings *settings, struct ports *ports, uint16_t port) {
+    struct link *link = &ports->links[port - 1];
+    *link = (struct link){.name = settings->ports[port - 1].name, .settings = port_of(settings, port), .socket = -1, .lock = -1,
         .carrier_file = -1, .lines = MOST_LINES, .changed = true, .view = link->view};
     link->key = link->settings.key;
     link->used = link->name[0] != 0;
-    link->held = wants_hold(protocol->settings, port);
-    forget_partner(protocol->settings, link);
+    link->held = wants_hold(settings, port);
+    forget_partner(settings, link);
 }
 
 /* Gives the library what the settings have of a port; answers whether it took that. */
@@ -121,7 +121,7 @@ void join_port(struct protocol *protocol, struct link *link, const struct port_s
     uint16_t port = link->settings.number;
     protocol->settings->ports[port - 1] = *settings;
     if (port > protocol->ports->count) protocol->settings->port_count = protocol->ports->count = port;
-    begin_link(protocol, port);
+    begin_link(protocol->settings, protocol->ports, port);
     link->puts_in = true;
     CALL(protocol->plane->carrying->forget, protocol->plane, port);
     if (!configure(protocol, link)) return;
@@ -136,7 +136,7 @@ static void end_leaving(struct protocol *protocol, struct link *link) {
     if (link->socket >= 0) lose_link(protocol, link);
     (void)say(protocol->process, LOG_NOTICE | ABOUT_PORT, "port %u %s: it left the bundle", port, link->name);
     protocol->settings->ports[port - 1] = unset_port();
-    begin_link(protocol, port);
+    begin_link(protocol->settings, protocol->ports, port);
     protocol->plane->changed = true;
     look_at_bundle(protocol);
 }
@@ -220,7 +220,7 @@ void leave_left_ports(struct protocol *protocol) {
 
 /* Whether the daemon puts an interface into the device: where others choose its ports, only what the administrator asked for, and what a file has as
  * the device is made. */
-bool may_put_in(struct protocol *protocol, const struct link *link) {
+bool may_put_in(const struct protocol *protocol, const struct link *link) {
     return !protocol->settings->follow || link->puts_in || (!protocol->process->has_started && protocol->plane->is_new);
 }
 

@@ -35,8 +35,7 @@ const char *mac_text(const uint8_t *mac, char room[static 32]) {
 
 /* PRIORITY,MAC. */
 const char *system_text(const struct system_id *system, char room[static 32]) {
-    char mac[32];
-    snprintf(room, 32, "%u,%.17s", system->priority, mac_text(system->mac, mac));
+    snprintf(room, 32, "%u,%.17s", system->priority, mac_text(system->mac, TEXT_ROOM));
     return room;
 }
 

@@ -50,11 +50,11 @@ bool has_waited(struct protocol *protocol, const struct link *link) {
 /* The kernel told of a link whether its carrier is there, and whether it was lost since: answers whether the link stays up all the same. What is
  * there at the start counts as steady. For the library its port is operable for so long (port_enabled of IEEE 802.1AX-2014, 6.4.12, leaves to the
  * hardware when it is not). */
-bool is_spared(struct protocol *protocol, struct link *link, bool carrier, bool lost) {
-    bool spared = link->up && (lost || !carrier) && !is_lost(protocol->settings, link);
+bool is_spared(const struct process *process, struct link *link, bool carrier, bool lost) {
+    bool spared = link->up && (lost || !carrier) && !is_lost(process->settings, link);
     if (spared && !carrier && !link->away && !lost) link->counts[LOSSES]++; /* of a kernel that does not count them */
-    if (carrier && (lost || link->away || (!link->up && !link->waits && protocol->process->has_started))) link->returned_at = milliseconds();
-    if (carrier) note_carrier(protocol->settings, link);
+    if (carrier && (lost || link->away || (!link->up && !link->waits && process->has_started))) link->returned_at = milliseconds();
+    if (carrier) note_carrier(process->settings, link);
     if (!spared && !carrier) return false;
     link->changed = link->changed || link->away != !carrier;
     link->away = !carrier;

@@ -17,8 +17,8 @@ static const struct inherited_link *inherited_of(const struct inherited *inherit
 
 /* Whether an LACPDU of then still holds. What is of later than now is of another clock; what is of before this boot wraps around, and still
  * counts right. */
-static bool holds(const struct protocol *protocol, uint64_t then, bool short_timeout) {
-    return protocol->resumed_at - then < (uint64_t)(short_timeout ? SHORT_TIMEOUT : LONG_TIMEOUT);
+static bool holds(uint64_t now, uint64_t then, bool short_timeout) {
+    return now - then < (uint64_t)(short_timeout ? SHORT_TIMEOUT : LONG_TIMEOUT);
 }
 
 /* Whether a port goes on: its carrier did not go, neither end has given the other one up, and its partner may be that. */
@@ -26,17 +26,17 @@ static bool goes_on(struct protocol *protocol, const struct link *link) {
     const struct inherited_link *was = link->up && !link->held ? inherited_of(protocol->process->inherited, link) : NULL;
     struct system_id actor;
     return was && was->carried && (was->losses == link->kernel_losses || protocol->process->inherited->ahead != 0)
-        && holds(protocol, was->heard, link->settings.short_timeout)
-        && holds(protocol, was->spoken, (was->lacpdu[ACTOR_STATE] & NIW_STATE_TIMEOUT) != 0)
+        && holds(protocol->resumed_at, was->heard, link->settings.short_timeout)
+        && holds(protocol->resumed_at, was->spoken, (was->lacpdu[ACTOR_STATE] & NIW_STATE_TIMEOUT) != 0)
         && may_be_partner(link, was->lacpdu, &actor);
 }
 
 /* What the library goes on from. Where an LACPDU of the peer was missed, the next one may come too late: a peer that reads its LACP_Timeout wrong
  * sends at once (update_NTT, IEEE 802.1AX-2014, 6.4.9), and until it has, an LACPDU goes to it each second. */
-static struct niw_saved saved_of(struct protocol *protocol, const struct link *link) {
-    const struct inherited_link *was = inherited_of(protocol->process->inherited, link);
+static struct niw_saved saved_of(const struct inherited *inherited, const struct link *link, uint64_t now) {
+    const struct inherited_link *was = inherited_of(inherited, link);
     struct niw_saved saved = {.port = link->settings.number, .aggregator = was->aggregator};
-    saved.age = (uint32_t)((protocol->resumed_at - was->heard) / NIW_TICK_MILLISECONDS);
+    saved.age = (uint32_t)((now - was->heard) / NIW_TICK_MILLISECONDS);
     memcpy(saved.frame, was->lacpdu, sizeof saved.frame);
     if (saved.age > SLOW_PERIODIC) saved.frame[ACTOR_STATE] |= NIW_STATE_TIMEOUT;
     return saved;
@@ -61,21 +61,19 @@ static void set_other_links(struct protocol *protocol, const bool *back) {
 
 /* Before the interfaces are taken up: whether there is something to go on with. Where no data is carried any more, or by the team driver, what
  * was set of members is set back. */
-void begin_resuming(struct protocol *protocol) {
-    struct process *process = protocol->process;
+void begin_resuming(struct process *process, struct plane *plane) {
     for (unsigned i = 0; i < process->inherited->link_count; i++) process->resuming = process->resuming || process->inherited->links[i].carried;
-    if (process->inherited->others && !protocol->plane->carrying->keeps_members) release_former_members(protocol->plane);
+    if (process->inherited->others && !plane->carrying->keeps_members) release_former_members(plane);
 }
 
 /* Tells what became of the links of the last daemon, if some are there. */
-static void tell_links(struct protocol *protocol, unsigned count) {
+static void tell_links(struct process *process, const struct ports *ports, unsigned count) {
     unsigned known = 0;
-    EACH_LINK(link, protocol->ports) known += link->socket >= 0 && inherited_of(protocol->process->inherited, link) != NULL;
-    if (known > 0 && protocol->process->inherited->others)
-        (void)say(protocol->process, LOG_WARNING | ABOUT_HANDOVER, "the state that the last daemon left is not used: it belongs to other settings");
+    EACH_LINK_AS_IS(link, ports) known += link->socket >= 0 && inherited_of(process->inherited, link) != NULL;
+    if (known > 0 && process->inherited->others)
+        (void)say(process, LOG_WARNING | ABOUT_HANDOVER, "the state that the last daemon left is not used: it belongs to other settings");
     else if (known > 0)
-        (void)say(protocol->process, LOG_NOTICE | ABOUT_HANDOVER, "%u of %u links go on where the last daemon left them", count,
-            count_links(protocol->ports));
+        (void)say(process, LOG_NOTICE | ABOUT_HANDOVER, "%u of %u links go on where the last daemon left them", count, count_links(ports));
 }
 
 /* Once the interfaces are taken up: the ports that distributed do so again. The others come after them, so that none takes the place of one
@@ -86,7 +84,8 @@ unsigned resume(struct protocol *protocol) {
     size_t count = 0;
     protocol->resumed_at = boottime() + protocol->process->inherited->ahead;
     EACH_LINK(link, protocol->ports)
-        if (protocol->process->resuming && goes_on(protocol, link)) saved[count++] = saved_of(protocol, link);
+        if (protocol->process->resuming && goes_on(protocol, link))
+            saved[count++] = saved_of(protocol->process->inherited, link, protocol->resumed_at);
     count = resume_system(protocol, saved, count);
     for (size_t i = 0; i < count; i++) {
         back[saved[i].port - 1] = true;
@@ -95,7 +94,7 @@ unsigned resume(struct protocol *protocol) {
     if (protocol->process->resuming) set_other_links(protocol, back);
     protocol->process->resuming = false;
     send_due(protocol);
-    tell_links(protocol, (unsigned)count);
+    tell_links(protocol->process, protocol->ports, (unsigned)count);
     return (unsigned)count;
 }
 
@@ -142,8 +141,8 @@ void resume_data(struct protocol *protocol, unsigned count) {
     CALL(protocol->plane->carrying->resume, protocol->plane, goes_on);
 }
 
-void end_resuming(struct protocol *protocol) {
-    CALL(protocol->plane->carrying->end_resuming, protocol->plane);
-    drop_unclaimed(&protocol->process->store);
+void end_resuming(struct plane *plane, struct store *store) {
+    CALL(plane->carrying->end_resuming, plane);
+    drop_unclaimed(store);
 }
 

@@ -216,8 +216,7 @@ static const char *value_text(const struct key *key, const struct settings *sett
 }
 
 bool is_same_value(const struct key *key, const struct settings *one, const struct settings *other) {
-    char room[32], other_room[32];
-    return strcmp(value_text(key, one, room), value_text(key, other, other_room)) == 0;
+    return strcmp(value_text(key, one, TEXT_ROOM), value_text(key, other, TEXT_ROOM)) == 0;
 }
 
 /* Copies a value, but for a system or a partner, which stand in several places. */

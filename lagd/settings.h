@@ -126,6 +126,9 @@ struct lack {
     const char *expected, *key;
 };
 
+/* Room for a short text, for the block in which this stands. */
+#define TEXT_ROOM (char[32]){0}
+
 struct words { /* in a row */
     char text[512];
 };

@@ -38,9 +38,8 @@ uint64_t boottime(void) {
 /* The settings by which the rest means something. */
 static const char *way(const struct carry *carry, char room[static WAY_ROOM]) {
     const struct settings *settings = carry->settings;
-    char system[32];
     struct system_id own = own_system(settings);
-    snprintf(room, WAY_ROOM, "%s/%s%s/%s/%u/%s", system_text(&own, system), settings->carry, carry->plane->carrying->nameless,
+    snprintf(room, WAY_ROOM, "%s/%s%s/%s/%u/%s", system_text(&own, TEXT_ROOM), settings->carry, carry->plane->carrying->nameless,
         HASHES[settings->hash], settings->hash_seed, carry->plane->way);
     return room;
 }

@@ -72,7 +72,7 @@ void make_system(struct protocol *protocol) {
     if (protocol->settings->config.first_marker == 0) protocol->settings->config.first_marker = random_marker();
     choose_slots(protocol);
     if (!place_ports(protocol, protocol->settings)) stop(WRONG_WORD, "too many interfaces", protocol->settings->name);
-    for (uint16_t port = 1; port <= NIW_MOST_PORTS; port++) begin_link(protocol, port);
+    for (uint16_t port = 1; port <= NIW_MOST_PORTS; port++) begin_link(protocol->settings, protocol->ports, port);
     keep_left_ports(protocol);
     protocol->ports->count = protocol->settings->port_count;
     make_keys(protocol, protocol->aggregator_keys);
@@ -134,7 +134,7 @@ void set_link(struct protocol *protocol, uint16_t port, bool up) {
 void lose_link(struct protocol *protocol, struct link *link) {
     set_waiting(link, false);
     set_link(protocol, link->settings.number, false);
-    close_link(protocol, link);
+    close_link(protocol->plane, &protocol->process->store, link);
     (void)print_change(protocol, link);
 }
 
@@ -165,7 +165,7 @@ void expect_lacpdu(struct link *link) {
 
 /* Takes each port out of its aggregator, by a key that none has, and so tells the peers that they have to stop. */
 void tell_end(struct protocol *protocol) {
-    uint16_t key = free_key(protocol, 0, NULL);
+    uint16_t key = free_key(&protocol->keys, protocol->ports, 0, NULL);
     EACH_LINK(link, protocol->ports) {
         struct niw_change leave = {.key = key, .priority = link->settings.priority, .aggregatable = link->settings.aggregatable};
         uint32_t status = niw_configure(&protocol->own_system, link->settings.number, &leave).status;

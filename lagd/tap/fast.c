@@ -20,15 +20,15 @@ static bool wait_for_programs(void) {
 }
 
 /* Loads a program of the kernel; a fault ends the daemon. */
-static int load(struct tap_plane *tap, const char *name, const struct fast_maps *maps) {
-    int program = load_program(tap->settings, name, maps);
+static int load(const struct settings *settings, const char *name, const struct fast_maps *maps) {
+    int program = load_program(settings, name, maps);
     if (program < 0) stop(REFUSED, "fast: the kernel takes no program", program_fault());
     return program;
 }
 
 /* Has a program run at the TAP device; answers what keeps it there. */
 static int keep_program(struct tap_plane *tap, const char *name, const struct fast_maps *maps, bool egress) {
-    CLOSED_FILE int program = load(tap, name, maps);
+    CLOSED_FILE int program = load(tap->settings, name, maps);
     int opened = attach_stored(&tap->process->store, name, program, tap->device->index, egress);
     if (opened < 0) stop(REFUSED, "fast: no program of an interface, which Linux has from 6.6 on", strerror(-opened));
     return opened;
@@ -75,7 +75,7 @@ static void start_fast(struct tap_plane *tap) {
     own->places = open_map(tap, 3, sizeof *own->places, PLACES, &maps.places);
     begin_counts(tap);
     if (own->host->mac == 0) memcpy(&own->host->mac, tap->settings->config.mac, ETH_ALEN);
-    own->receiver = load(tap, "receiver", &maps);
+    own->receiver = load(tap->settings, "receiver", &maps);
     own->handover = keep_program(tap, "handover", &maps, false);
     own->sender = keep_program(tap, "sender", &maps, true);
 }
@@ -361,6 +361,10 @@ static void pass_fast_tick(struct tap_plane *tap) {
     if (tap->carry->probe.peer == MUTE) withdraw_resting(tap);
     EACH_CONVERSATION(conversation, tap->carry) any = suspect(tap, conversation) || any;
     if (any) wait_or_end(tap);
+}
+
+static int check_fast(struct control *control, const struct options *options) {
+    return check_programs(control->process, options, "fast", true);
 }
 
 const struct passing BY_KERNEL = {

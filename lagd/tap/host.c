@@ -178,14 +178,14 @@ void end_tap_plane(struct plane *plane) {
     struct tap_plane *tap = plane->tap;
     await_no_more(tap->process->epoll_file, tap->host.tap);
     set_carrier(tap->device, false);
-    remove_all_members(tap->protocol);
+    remove_all_members(plane, tap->ports);
     CALL(plane->passing->end, tap);
     end_held(tap);
 }
 
-void remove_all_members(struct protocol *protocol) {
-    EACH_LINK(link, protocol->ports)
-        if (link->socket >= 0) CALL(protocol->plane->carrying->remove, protocol->plane, link);
+void remove_all_members(struct plane *plane, struct ports *ports) {
+    EACH_LINK(link, ports)
+        if (link->socket >= 0) CALL(plane->carrying->remove, plane, link);
 }
 
 /* The daemon ends, or the library refused a call: no data goes or comes from here on. */

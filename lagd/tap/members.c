@@ -458,6 +458,10 @@ void receive_data(struct tap_plane *tap, uint16_t port) {
         if (member->sockets[kind] >= 0) receive_packets(tap, port, kind);
 }
 
+static int check_tap(struct control *control, const struct options *options) {
+    return access("/dev/net/tun", F_OK) == 0 ? DONE : tell_lack(control->process, options, "carry", "there is no /dev/net/tun", REFUSED);
+}
+
 const struct carrying TAP_DEVICE = {
     .open = open_tap_plane, .end = end_tap_plane, .lose_device = lose_device, .keep_device = keep_tap, .leave = leave_tap,
     .give_carrier = give_tap_carrier, .settle_mtu = settle_tap_mtu, .add = open_member, .remove = close_member, .renew = renew_for_discipline,
@@ -474,6 +478,10 @@ const struct queueing ONE_QUEUE = {
     .set = join_queues, .send_marker = send_by_one_queue, .accept_response = accept_only_response, .answer = answer_at_once, .text = "",
     .markers_at_once = 1,
 };
+
+static int check_all_queues(struct control *control, const struct options *options) {
+    return check_programs(control->process, options, "queues", false);
+}
 
 const struct queueing ALL_QUEUES = {
     .check = check_all_queues, .start = start_all_queues, .fifos_of = count_sending_queues, .set = keep_queues, .follow = follow_member_queues,

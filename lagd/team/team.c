@@ -5,6 +5,7 @@
 
 #include <net/if.h>
 #include <poll.h>
+#include <sched.h>
 
 #define MODE "loadbalance"
 /* The mode of a device that has none yet. */
@@ -14,7 +15,7 @@
 #define MOST_TRIES 10
 
 /* Whether the driver takes the mode: at a device of its own, which stays. */
-bool has_team_mode(const struct team_plane *team) {
+static bool has_team_mode(const struct team_plane *team) {
     static const uint8_t mac[ETH_ALEN] = {2, 0, 0, 0, 0, 1};
     struct interface device;
     return make_team_device("team0", mac, ETH_DATA_LEN) && ask_interface(0, "team0", &device)
@@ -238,8 +239,19 @@ static void open_team(struct plane *plane) {
 static void end_team_plane(struct plane *plane) {
     struct team_plane *team = plane->team;
     set_carrier(team->device, false);
-    remove_all_members(team->protocol);
+    remove_all_members(plane, team->ports);
     end_team(DONE, team);
+}
+
+/* Whether the kernel has the team driver, and its mode, which is another module: answers how the program ends. The mode is tried in a network
+ * namespace that ends with the program, where that may be made. */
+static int check_team(struct control *control, const struct options *options) {
+    struct team_plane *team = control->team;
+    bool is_apart = unshare(CLONE_NEWNET) == 0, has_driver = find_team_driver(team);
+    if (!has_driver && errno == EPERM) return tell_lack(team->process, options, "plane", "not known without CAP_NET_ADMIN", DONE);
+    if (!has_driver) return tell_lack(team->process, options, "plane", "this kernel has no team driver", REFUSED);
+    if (!is_apart || has_team_mode(team)) return DONE;
+    return tell_lack(team->process, options, "plane", "the team driver of this kernel has no mode loadbalance", REFUSED);
 }
 
 const struct carrying TEAM_DEVICE = {

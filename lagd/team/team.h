@@ -67,7 +67,6 @@ size_t make_team_hash(const struct settings *settings, struct sock_filter steps[
 
 /* team.c */
 extern const struct carrying TEAM_DEVICE;
-bool has_team_mode(const struct team_plane *team);
 void give_team_addresses(struct team_plane *team);
 void leave_team_port(struct team_plane *team, int index);
 

@@ -157,7 +157,7 @@ static void fuzz_state(const uint8_t *octets, size_t length) {
     lagd->inherited = (struct inherited){0};
     recall_state(&lagd->state);
     (void)unlink(name);
-    begin_resuming(&lagd->protocol);
+    begin_resuming(&lagd->process, &lagd->plane);
     resume_data(&lagd->protocol, resume(&lagd->protocol));
 }
 
