@@ -1,18 +1,15 @@
 /* Asks the daemons of this network namespace: for their status, for their counts, or for each change. */
 #include "control.h"
+#include "sockets.h"
 
-#include <dirent.h>
 #include <poll.h>
-#include <sys/un.h>
 
 #define PATIENCE 2000 /* milliseconds that a daemon may take for its answer */
-#define MOST_DAEMONS 256
 #define MOST_ANSWERED 8388608 /* octets of the answer of each */
 #define PART_OF_ANSWER 65536  /* for which room is made at a time */
 
 struct daemon {
-    char path[512];
-    char bundle[NAME_ROOM];
+    const char *path, *bundle;
     int fd;
     bool may_ask;
     char *answer; /* whole, with a zero behind it */
@@ -22,6 +19,7 @@ struct asking {
     struct process *process;
     struct report *report;
     const struct options *options;
+    struct found found;
     struct daemon daemons[MOST_DAEMONS];
     unsigned count;
     const char *denied; /* what may not be looked at, if there is something */
@@ -29,56 +27,13 @@ struct asking {
 
 #define EACH_DAEMON(it, own) for (struct daemon *it = (own)->daemons; it < (own)->daemons + (own)->count; it++)
 
-/* Whether a file is the status socket of a daemon of this namespace, of which bundle. */
-static bool is_socket(const char *name, char bundle[static NAME_ROOM]) {
-    char head[32];
-    size_t length = (size_t)snprintf(head, sizeof head, "%lu.", network_namespace()), whole = strlen(name);
-    if (strncmp(name, head, length) != 0 || whole <= length + 5 || strcmp(name + whole - 5, ".sock") != 0) return false;
-    snprintf(bundle, NAME_ROOM, "%.*s", (int)(whole - length - 5), name + length);
-    return true;
-}
-
-/* Finds the status sockets in a folder, and in the folders in it. */
-static void find_sockets(struct asking *own, const char *folder, bool deeper) {
-    struct dirent **entries = NULL;
-    int found = scandir(folder, &entries, NULL, alphasort);
-    if (found < 0 && errno == EACCES) own->denied = strdup(folder);
-    for (int i = 0; i < found; i++) {
-        char path[sizeof own->daemons->path];
-        const char *name = entries[i]->d_name;
-        bool fits = name[0] != '.' && snprintf(path, sizeof path, "%s/%s", folder, name) < (int)sizeof path;
-        struct stat file;
-        if (fits && own->count < MOST_DAEMONS && is_socket(name, own->daemons[own->count].bundle))
-            memcpy(own->daemons[own->count++].path, path, sizeof path);
-        else if (fits && deeper && lstat(path, &file) == 0 && S_ISDIR(file.st_mode))
-            find_sockets(own, path, false);
-        free(entries[i]);
-    }
-    free(entries);
-}
-
-/* The address of a socket, whose whole path may be longer than an address: by its folder, which is opened; answers that, or -errno. */
-static int address_of(const char *path, struct sockaddr_un *to) {
-    char folder[sizeof ((struct daemon *)NULL)->path];
-    const char *name = strrchr(path, '/') + 1;
-    snprintf(folder, sizeof folder, "%.*s", (int)(name - path), path);
-    CLOSED_FILE int opened = open(folder, O_PATH | O_DIRECTORY | O_CLOEXEC);
-    *to = (struct sockaddr_un){.sun_family = AF_UNIX};
-    if (opened < 0) return -errno;
-    int length = snprintf(to->sun_path, sizeof to->sun_path, "/proc/self/fd/%d/%s", opened, name);
-    return length < (int)sizeof to->sun_path ? kept_open(&opened) : -ENAMETOOLONG;
-}
-
 /* Connects with a daemon and asks it; or -errno. It waits no longer than PATIENCE: one that is stopped may answer nobody. */
 static int ask(const char *path, const char *question) {
-    struct sockaddr_un to;
     struct timeval patience = {PATIENCE / 1000, 0};
-    CLOSED_FILE int folder = address_of(path, &to);
-    if (folder < 0) return folder;
     CLOSED_FILE int opened = socket(AF_UNIX, SOCK_STREAM | SOCK_CLOEXEC, 0);
-    if (opened < 0 || setsockopt(opened, SOL_SOCKET, SO_SNDTIMEO, &patience, sizeof patience) < 0
-        || connect(opened, (struct sockaddr *)&to, sizeof to) < 0)
-        return last_fault();
+    if (opened < 0 || setsockopt(opened, SOL_SOCKET, SO_SNDTIMEO, &patience, sizeof patience) < 0) return last_fault();
+    int fault = connect_to(opened, path);
+    if (fault < 0) return fault;
     /* One that refuses may have closed the connection already, and said why. */
     (void)send(opened, question, strlen(question), MSG_NOSIGNAL);
     return kept_open(&opened);
@@ -241,7 +196,10 @@ int ask_daemons(struct process *process, struct report *report, const struct opt
     static struct asking own; /* its answers stay until the program ends */
     unsigned answers = 0;
     own = (struct asking){.process = process, .report = report, .options = options};
-    find_sockets(&own, options->folder, true);
+    find_sockets(&own.found, options->folder, true);
+    own.denied = own.found.denied;
+    for (; own.count < own.found.count; own.count++)
+        own.daemons[own.count] = (struct daemon){.path = own.found.sockets[own.count].path, .bundle = own.found.sockets[own.count].bundle};
     if (options->action == ORDER) return order_daemon(&own);
     if (options->action == SHOW_CONFIG) (void)find_daemon(&own); /* a file has one bundle */
     EACH_DAEMON(it, &own) answers += ask_one(&own, it);

@@ -16,8 +16,6 @@ struct report {
 struct control {
     PARTS
     struct carry *carry;
-    struct tap_plane *tap;
-    struct team_plane *team;
     struct report *report;
 };
 

@@ -37,8 +37,6 @@ static inline void join_parts(struct lagd *lagd) {
     JOIN(&lagd->control, lagd);
     lagd->carry.state = &lagd->state;
     lagd->tap.carry = lagd->team.carry = lagd->control.carry = &lagd->carry;
-    lagd->control.tap = &lagd->tap;
-    lagd->control.team = &lagd->team;
     lagd->tap.dropper = lagd->tap.answer_timer = lagd->tap.host.tap = lagd->tap.fast.sender = lagd->tap.fast.handover = lagd->team.lock = -1;
     for (unsigned i = 0; i < NIW_MOST_PORTS; i++)
         for (enum socket_kind kind = DATA; kind < SOCKETS; kind++) lagd->tap.members[i].sockets[kind] = -1;

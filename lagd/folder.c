@@ -6,11 +6,6 @@
 #define SO_NETNS_COOKIE 71
 #endif
 
-unsigned long network_namespace(void) {
-    struct stat file;
-    return stat("/proc/self/ns/net", &file) == 0 ? (unsigned long)file.st_ino : 0;
-}
-
 /* A number that this network namespace alone ever has on this machine, or 0 where the kernel tells none: that of network_namespace may be another
  * one's once it is gone. */
 uint64_t namespace_cookie(void) {

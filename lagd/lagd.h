@@ -25,6 +25,7 @@
 #include "lag.h"
 #include "plane.h"
 #include "settings.h"
+#include "sockets.h"
 
 #define VERSION NIW_VERSION_TEXT
 
@@ -542,7 +543,6 @@ int try_folder(const char *folder, const char **fault);
 int open_folder(const char *folder);
 FILE *open_in(int folder, const char *name, int flags, const char *mode);
 const char *fault_of_owner(int opened);
-unsigned long network_namespace(void);
 uint64_t namespace_cookie(void);
 
 /* bpf.c */

@@ -246,7 +246,7 @@ static void end_team_plane(struct plane *plane) {
 /* Whether the kernel has the team driver, and its mode, which is another module: answers how the program ends. The mode is tried in a network
  * namespace that ends with the program, where that may be made. */
 static int check_team(struct control *control, const struct options *options) {
-    struct team_plane *team = control->team;
+    struct team_plane *team = control->plane->team;
     bool is_apart = unshare(CLONE_NEWNET) == 0, has_driver = find_team_driver(team);
     if (!has_driver && errno == EPERM) return tell_lack(team->process, options, "plane", "not known without CAP_NET_ADMIN", DONE);
     if (!has_driver) return tell_lack(team->process, options, "plane", "this kernel has no team driver", REFUSED);
