@@ -110,12 +110,12 @@ void end_carry_tick(struct carry *carry);
 void suspect_aggregator(struct carry *carry, uint32_t aggregator);
 
 /* flight.c */
-bool distributes(struct protocol *protocol, uint16_t port, bool wanted);
+bool is_told_distributing(struct protocol *protocol, uint16_t port, bool wanted);
 
 /* moves.c */
 void ask_moves(struct carry *carry);
-bool can_empty(struct plane *plane, uint16_t port);
-bool empty_port(struct plane *plane, uint16_t port);
+bool can_empty(struct plane *plane, const struct link *link);
+bool empty_port(struct plane *plane, const struct link *link);
 void balance(struct carry *carry);
 
 /* announce.c */

@@ -76,7 +76,6 @@ void lose_member(struct protocol *protocol, struct link *link) {
  * it went. IFF_RUNNING may be a second old, and IFF_LOWER_UP is the carrier itself. An interface that is made has no queues until it is
  * up: once it has others, whether the kernel may pass on what goes there is seen anew. */
 static void follow_link(struct protocol *protocol, struct link *link, const struct interface *interface) {
-    uint16_t port = link->settings.number;
     const unsigned carried = IFF_UP | IFF_RUNNING | IFF_LOWER_UP;
     bool carrier = (interface->flags & carried) == carried, lost = false;
     if (interface->has_mac) follow_address(protocol->plane, link, interface->mac);
@@ -97,14 +96,14 @@ static void follow_link(struct protocol *protocol, struct link *link, const stru
     if (spared && !carrier) return;
     if ((lost || other) && !spared && link->up) {
         if (!link->away) link->counts[LOSSES]--; /* which set_link counts */
-        set_link(protocol, port, false);
+        set_link(protocol, link, false);
     }
     if ((lost && !spared) || !carrier) set_waiting(link, false);
     bool up = carrier && !protocol->halt.silent && is_restored(protocol, link);
     if (up && !link->up) fit_queue(protocol->plane, link);
     if (up) apply_speed(protocol, link);
     if (up) CALL(protocol->plane->carrying->follow_speed, protocol->plane, link);
-    set_link(protocol, port, up);
+    set_link(protocol, link, up);
 }
 
 /* The interface of a port is gone, or has another name now. Where the device alone said that it is a port, it is none any more. */

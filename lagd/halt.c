@@ -6,13 +6,13 @@
 #define MOST_TICKS 15
 
 static void hold_or_release_ports(struct protocol *protocol) {
-    for (uint16_t port = 1; port <= protocol->ports->count; port++)
-        if (!apply_hold(protocol, port)) return;
+    EACH_LINK_AS_IS(link, protocol->ports)
+        if (!apply_hold(protocol, link)) return;
 }
 
 static void fall_silent(struct protocol *protocol) {
     protocol->halt.silent = true;
-    for (uint16_t port = 1; port <= protocol->ports->count; port++) set_link(protocol, port, false);
+    EACH_LINK(link, protocol->ports) set_link(protocol, link, false);
 }
 
 /* Tells each peer that its port is out of use, and then nothing more. */

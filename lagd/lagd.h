@@ -462,8 +462,8 @@ const char *speed_text(const struct speed *speed, char room[static 40]);
 /* system.c */
 void make_system(struct protocol *protocol);
 size_t resume_system(struct protocol *protocol, struct niw_saved *saved, size_t count);
-void set_link(struct protocol *protocol, uint16_t port, bool up);
-bool apply_hold(struct protocol *protocol, uint16_t port) MUST_USE;
+void set_link(struct protocol *protocol, struct link *link, bool up);
+bool apply_hold(struct protocol *protocol, const struct link *link) MUST_USE;
 void lose_link(struct protocol *protocol, struct link *link);
 void send_due(struct protocol *protocol);
 void settle_calls(struct protocol *protocol);

@@ -114,7 +114,7 @@ static bool configure(struct protocol *protocol, struct link *link) {
     link->settings.key = change.key;
     return is_done(protocol->process, niw_configure(&protocol->own_system, port, &change).status, "niw_configure")
         && is_done(protocol->process, niw_set_mode(&protocol->own_system, port, link->settings.active, link->settings.short_timeout), "niw_set_mode")
-        && apply_hold(protocol, port);
+        && apply_hold(protocol, link);
 }
 
 void join_port(struct protocol *protocol, struct link *link, const struct port_settings *settings) {
@@ -123,7 +123,7 @@ void join_port(struct protocol *protocol, struct link *link, const struct port_s
     if (port > protocol->ports->count) protocol->settings->port_count = protocol->ports->count = port;
     begin_link(protocol->settings, protocol->ports, port);
     link->puts_in = true;
-    CALL(protocol->plane->carrying->forget, protocol->plane, port);
+    CALL(protocol->plane->carrying->forget, protocol->plane, link);
     if (!configure(protocol, link)) return;
     (void)say(protocol->process, LOG_NOTICE | ABOUT_PORT, "port %u %s: it joins the bundle", port, link->name);
     ask_now(protocol);
@@ -144,25 +144,23 @@ static void end_leaving(struct protocol *protocol, struct link *link) {
 /* A port is to be out of use, or to be used again; answers whether that is done. First its conversations move to others, behind markers, so that
  * nothing of ours is on its way there once the peer takes nothing more. */
 bool begin_hold(struct protocol *protocol, struct link *link) {
-    uint16_t port = link->settings.number;
     bool out_of_use = link->held || link->leaving;
     link->leaves_since = milliseconds();
     link->left_at = 0;
-    link->emptying = out_of_use && ASK(protocol->plane->carrying->can_empty, false, protocol->plane, port);
+    link->emptying = out_of_use && ASK(protocol->plane->carrying->can_empty, false, protocol->plane, link);
     protocol->plane->changed = true;
     if (link->emptying) return true;
-    if (out_of_use) CALL(protocol->plane->carrying->drain, protocol->plane, port);
-    return apply_hold(protocol, port);
+    if (out_of_use) CALL(protocol->plane->carrying->drain, protocol->plane, link);
+    return apply_hold(protocol, link);
 }
 
 /* A port that is emptied is held, once it is empty, or after a while. */
 static void end_emptying(struct protocol *protocol, struct link *link) {
-    uint16_t port = link->settings.number;
-    if (link->up && milliseconds() - link->leaves_since < MOST_WAIT && !ASK(protocol->plane->carrying->empty, true, protocol->plane, port)) return;
+    if (link->up && milliseconds() - link->leaves_since < MOST_WAIT && !ASK(protocol->plane->carrying->empty, true, protocol->plane, link)) return;
     link->emptying = false;
     link->leaves_since = milliseconds();
-    CALL(protocol->plane->carrying->drain, protocol->plane, port);
-    if (apply_hold(protocol, port)) settle_calls(protocol);
+    CALL(protocol->plane->carrying->drain, protocol->plane, link);
+    if (apply_hold(protocol, link)) settle_calls(protocol);
 }
 
 /* A port goes: its peer is told, and its conversations leave it. One whose link is down is gone at once. */
@@ -234,12 +232,11 @@ bool stays_outside(struct protocol *protocol, struct link *link, int master) {
 
 /* Others took a port out of the device: its peer is told, as far as the interface still sends. */
 void tell_taken_out(struct protocol *protocol, struct link *link) {
-    uint16_t port = link->settings.number;
     if (!protocol->settings->follow || !protocol->process->has_started) return;
     link->puts_in = false;
-    if (!is_done(protocol->process, niw_hold(&protocol->own_system, port, true), "niw_hold")) return;
+    if (!is_done(protocol->process, niw_hold(&protocol->own_system, link->settings.number, true), "niw_hold")) return;
     send_due(protocol);
-    if (apply_hold(protocol, port)) link->changed = true;
+    if (apply_hold(protocol, link)) link->changed = true;
 }
 
 /* A number that no port has, as its place, or NULL. */

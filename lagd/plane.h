@@ -42,11 +42,11 @@ struct carrying {
     void (*move)(struct plane *plane, struct link *link, const uint8_t *mac); /* it has another MAC address */
     void (*follow_mtu)(struct plane *plane, struct link *link, uint32_t mtu); /* it has this one; 0 of one that is a member no more */
     void (*follow_speed)(struct plane *plane, const struct link *link); /* its link is up, and may have another speed */
-    bool (*can_empty)(struct plane *plane, uint16_t port); /* whether its conversations can move behind markers */
-    bool (*empty)(struct plane *plane, uint16_t port);   /* moves them to other ports: whether none is left, or can leave so */
-    void (*drain)(struct plane *plane, uint16_t port);   /* hands up what waits at a port that is to be held */
-    void (*lose)(struct plane *plane, uint16_t port);    /* its link goes down */
-    void (*forget)(struct plane *plane, uint16_t port);  /* another interface is to be this port: its counts begin anew */
+    bool (*can_empty)(struct plane *plane, const struct link *link); /* whether its conversations can move behind markers */
+    bool (*empty)(struct plane *plane, const struct link *link); /* moves them to other ports: whether none is left, or can leave so */
+    void (*drain)(struct plane *plane, struct link *link); /* hands up what waits at a port that is to be held */
+    void (*lose)(struct plane *plane, const struct link *link); /* its link goes down */
+    void (*forget)(struct plane *plane, const struct link *link); /* another interface is to be this port: its counts begin anew */
     void (*send_marker)(struct plane *plane, struct link *link, const uint8_t *marker); /* one is due */
     void (*note_response)(struct plane *plane, const struct link *link); /* its partner answered a marker */
     bool (*still_has)(struct plane *plane, const struct link *link, int master); /* whether an interface of this master is a port still */

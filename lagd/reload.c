@@ -12,8 +12,8 @@ static const char *restart_for(const struct settings *now, const struct keys *ke
 
 /* Gives a port what the library can change; answers whether anything differs. The aggregators keep the keys that they were made with: a port
  * that is given another key keeps the one that it has. */
-static bool change_port(struct protocol *protocol, uint16_t port, const struct settings *wanted) {
-    struct link *link = &protocol->ports->links[port - 1];
+static bool change_port(struct protocol *protocol, struct link *link, const struct settings *wanted) {
+    uint16_t port = link->settings.number;
     struct niw_port *now = &link->settings, next = port_of(wanted, port);
     struct niw_change change = {.priority = next.priority, .aggregatable = next.aggregatable};
     bool hold = wants_hold(wanted, port);
@@ -72,7 +72,7 @@ static bool apply_port(struct protocol *protocol, uint16_t port, const struct se
     stay_port(protocol, link);
     link->followed = false;
     protocol->settings->ports[port - 1] = wanted->ports[port - 1];
-    return change_port(protocol, port, wanted) || was_leaving;
+    return change_port(protocol, link, wanted) || was_leaving;
 }
 
 /* Takes what can be changed; answers how many ports have something else now. */

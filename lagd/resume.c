@@ -109,7 +109,7 @@ static void stay(struct carry *carry, uint16_t number, uint16_t port) {
 static uint16_t port_on(struct carry *carry, int index) {
     EACH_LINK(link, carry->ports)
         if (index != 0 && link->socket >= 0 && link->index == index && link->view.aggregator == carry->active
-            && distributes(carry->protocol, link->settings.number, true))
+            && is_told_distributing(carry->protocol, link->settings.number, true))
             return link->settings.number;
     return 0;
 }

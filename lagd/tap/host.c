@@ -143,17 +143,17 @@ void serve_data(struct tap_plane *tap, uint32_t tag) {
     if (tap->process->broken) return;
     if (tag == RESPONSES) serve_answers(tap);
     if (tag >= MEMBERS && tag < RESPONSES) {
-        receive_data(tap, (uint16_t)(tag - MEMBERS + 1));
+        receive_data(tap, &tap->ports->links[tag - MEMBERS]);
         if (tap->plane->changed) send_due(tap->protocol);
     }
     settle_carry(tap->plane);
     if (tag == HOST) read_host(tap);
 }
 
-void lose_data(struct plane *plane, uint16_t port) {
+void lose_data(struct plane *plane, const struct link *link) {
     struct tap_plane *tap = plane->tap;
-    CALL(plane->passing->withdraw_port, tap, port);
-    tap->answers[port - 1].count = 0; /* whoever asked there asks again */
+    CALL(plane->passing->withdraw_port, tap, link->settings.number);
+    tap->answers[link - tap->ports->links].count = 0; /* whoever asked there asks again */
 }
 
 /* Makes the device, and all room that frames ever take. */

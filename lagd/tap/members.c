@@ -236,13 +236,13 @@ static void close_member(struct plane *plane, struct link *link) {
     struct tap_plane *tap = plane->tap;
     struct member *member = member_of(tap, link);
     if (!is_open(member)) return;
-    lose_data(plane, link->settings.number);
+    lose_data(plane, link);
     count_loss(member);
     release_member(tap, link, member);
 }
 
-static void forget_member(struct plane *plane, uint16_t port) {
-    struct member *member = &plane->tap->members[port - 1];
+static void forget_member(struct plane *plane, const struct link *link) {
+    struct member *member = member_of(plane->tap, link);
     memset(member->counts, 0, sizeof member->counts);
     member->mtu = member->megabits = 0;
     member->has_marker = false;
@@ -415,9 +415,8 @@ static void accept_packet(struct tap_plane *tap, struct link *link, struct mmsgh
 
 /* Takes the packets that wait in a socket of a member, some at most. What the kernel tells of links comes before them: what was sent after
  * a link went is not handed up before it. */
-static void receive_packets(struct tap_plane *tap, uint16_t port, enum socket_kind kind) {
-    struct link *link = &tap->ports->links[port - 1];
-    struct member *member = &tap->members[port - 1];
+static void receive_packets(struct tap_plane *tap, struct link *link, enum socket_kind kind) {
+    struct member *member = member_of(tap, link);
     struct mmsghdr messages[BATCH];
     struct iovec parts[BATCH];
     struct sockaddr_ll from[BATCH];
@@ -428,7 +427,8 @@ static void receive_packets(struct tap_plane *tap, uint16_t port, enum socket_ki
             .msg_iov = &parts[i], .msg_iovlen = 1, .msg_control = controls[i], .msg_controllen = sizeof controls[i]};
     }
     int got = recvmmsg(member->sockets[kind], messages, BATCH, MSG_DONTWAIT, NULL);
-    if (kind == DATA) note_unread(&tap->answers[port - 1], got > 0 ? (unsigned)got : 0, got >= 0 ? got < BATCH : errno == EAGAIN);
+    if (kind == DATA)
+        note_unread(&tap->answers[link - tap->ports->links], got > 0 ? (unsigned)got : 0, got >= 0 ? got < BATCH : errno == EAGAIN);
     if (got < 0 && errno == EINVAL) { /* the kernel has a frame of segments that it cannot describe: it is lost */
         member->counts[DATA_RECEIVED]++;
         member->counts[WRONG_LENGTH]++;
@@ -442,20 +442,20 @@ static void receive_packets(struct tap_plane *tap, uint16_t port, enum socket_ki
 }
 
 /* Takes all that waits at a member, but for a flood, before its port is held: what came before that is collected. */
-static void drain_member(struct plane *plane, uint16_t port) {
+static void drain_member(struct plane *plane, struct link *link) {
     struct tap_plane *tap = plane->tap;
-    bool more = is_open(&tap->members[port - 1]);
+    bool more = is_open(member_of(tap, link));
     for (unsigned turn = 0; more && turn < MOST_DRAINED && !tap->process->broken; turn++) {
         tap->carry->more_waits = false;
-        receive_data(tap, port);
+        receive_data(tap, link);
         more = tap->carry->more_waits;
     }
 }
 
-void receive_data(struct tap_plane *tap, uint16_t port) {
-    const struct member *member = &tap->members[port - 1];
+void receive_data(struct tap_plane *tap, struct link *link) {
+    const struct member *member = member_of(tap, link);
     for (enum socket_kind kind = member->sockets[MARKERS] < 0 ? DATA : MARKERS; kind < SOCKETS; kind++)
-        if (member->sockets[kind] >= 0) receive_packets(tap, port, kind);
+        if (member->sockets[kind] >= 0) receive_packets(tap, link, kind);
 }
 
 static int check_tap(struct control *control, const struct options *options) {

@@ -199,7 +199,7 @@ void recall_settings(int folder, const struct link *link, struct kept *kept);
 /* host.c */
 void lose_device(struct plane *plane);
 void serve_data(struct tap_plane *tap, uint32_t tag);
-void lose_data(struct plane *plane, uint16_t port);
+void lose_data(struct plane *plane, const struct link *link);
 void open_tap_plane(struct plane *plane);
 void end_tap_plane(struct plane *plane);
 void read_host(struct tap_plane *tap);
@@ -244,7 +244,7 @@ bool is_fast(const struct member *member);
 uint32_t sum_speeds(struct tap_plane *tap);
 void put_data(struct tap_plane *tap, uint16_t port, uint16_t number, uint8_t *packet, size_t length);
 void flush_data(struct tap_plane *tap);
-void receive_data(struct tap_plane *tap, uint16_t port);
+void receive_data(struct tap_plane *tap, struct link *link);
 bool send_marker_again(struct tap_plane *tap, uint16_t port);
 void count_losses(struct tap_plane *tap);
 

@@ -225,7 +225,7 @@ void notify_bundle(const struct bundle *bundle, const char *what) {
 
 NOTHING(keep_port, struct state *state, uint16_t number, uint16_t port)
 /* the library, */
-ANSWERS(bool carries, link->view.port_status == NIW_PORT_STATUS_DISTRIBUTING, struct protocol *protocol, const struct link *link)
+ANSWERS(bool carries, link->view.port_status == NIW_PORT_STATUS_DISTRIBUTING, const struct protocol *protocol, const struct link *link)
 void read_views(struct protocol *protocol) {
     struct niw_view views[NIW_MOST_PORTS];
     uint64_t changed;
@@ -433,7 +433,7 @@ static void hold(struct end *end, uint16_t port, bool held) {
 /* A port is to be held: it is emptied first, where that can be, as lagd/membership.c does. */
 static void begin_to_hold(struct end *end, uint16_t port) {
     struct link *link = &end->lagd.ports.links[port - 1];
-    link->emptying = can_empty(&end->lagd.plane, port);
+    link->emptying = can_empty(&end->lagd.plane, link);
     end->lagd.plane.changed = true;
     if (!link->emptying) hold(end, port, true);
 }
@@ -441,7 +441,7 @@ static void begin_to_hold(struct end *end, uint16_t port) {
 /* The ports that are emptied are held then. */
 static void end_emptying(struct end *end) {
     for (uint16_t port = 1; port <= PORTS; port++)
-        if (end->lagd.ports.links[port - 1].emptying && empty_port(&end->lagd.plane, port)) hold(end, port, true);
+        if (end->lagd.ports.links[port - 1].emptying && empty_port(&end->lagd.plane, &end->lagd.ports.links[port - 1])) hold(end, port, true);
 }
 
 /* Some ticks passed, and are made up, as lagd/main.c does. */
