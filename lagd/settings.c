@@ -335,7 +335,8 @@ static const char *key_of_data(const struct settings *settings) {
     return NULL;
 }
 
-/* What has to be given and is not, or what contradicts itself: the first of these. */
+/* What has to be given and is not, or what contradicts itself: the first of these. Which keys go together is data of this table: what the daemon
+ * does goes by the tables that plane.c chooses. */
 struct lack lack_of(const struct settings *settings) {
     const char *data = key_of_data(settings), *carry = settings->carry;
     const uint16_t most = settings->config.max_links;

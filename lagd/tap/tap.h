@@ -32,7 +32,7 @@ struct guard {
     struct kept before; /* what the interface had */
     bool spread;        /* whether it keeps all its queues */
     unsigned queues;    /* by how many of them data goes */
-    unsigned channels;  /* how many it has, as spread.c has it */
+    unsigned channels;  /* how many it has, as guard.c has it */
     int chooser;        /* what keeps the program there by which a frame of the daemon goes by its queue, or -1 */
 };
 
@@ -219,10 +219,12 @@ enum classifier set_classifier(int program, int index);
 void drop_classifier(int index);
 
 /* guard.c */
-/* Why an interface is no member such as others. */
-#define DISORDER "its queueing discipline is neither noqueue, bfifo nor pfifo"
-#define STACKED "it stands on another interface, whose queues are not seen"
-void warn_of(struct process *process, const struct link *link, const char *what, const char *why);
+unsigned count_sending_queues(int index);
+void gather(struct process *process, int index);
+void start_all_queues(struct tap_plane *tap);
+bool has_usual_queues(struct tap_plane *tap, const struct guard *guard);
+bool is_spread_anew(uint64_t seconds, const struct link *link, const struct guard *guard);
+void move_former(struct process *process, struct link *link, const uint8_t *mac);
 void open_guard(struct tap_plane *tap, struct link *link, struct guard *guard);
 void keep_from_stack(struct tap_plane *tap, const struct link *link, struct guard *guard);
 void run_fast_programs(struct tap_plane *tap, const struct link *link, struct guard *guard);
@@ -288,24 +290,6 @@ extern const struct passing BY_KERNEL;
 int open_fast_receiver(struct tap_plane *tap, const struct link *link);
 void close_fast_receiver(const struct fast_programs *own, const struct link *link);
 int fast_member_of(struct plane *plane, uint16_t number);
-
-/* spread.c: queues of an interface, and the processors that serve them */
-unsigned count_entries(int index, const char *begin);
-unsigned count_sending_queues(int index);
-unsigned channels_of(int index);
-bool keeps_briefly(const struct settings *settings, int index);
-bool read_steering(int index, char mask[static PROCESSORS_ROOM]);
-bool steer(const struct link *link);
-bool steer_back(int index, const char *mask);
-void gather(struct process *process, int index);
-void start_all_queues(struct tap_plane *tap);
-void spread(struct tap_plane *tap, const struct link *link, struct guard *guard);
-void stop_spreading(struct store *store, const struct link *link, struct guard *guard);
-bool has_usual_queues(struct tap_plane *tap, const struct guard *guard);
-bool is_spread_anew(uint64_t seconds, const struct link *link, const struct guard *guard);
-void move_former(struct process *process, struct link *link, const uint8_t *mac);
-void gather_back(int folder, const struct link *link, bool whole);
-bool may_spread(int folder, const struct link *link);
 
 /* held.c */
 void start_held(struct tap_plane *tap);
