@@ -83,7 +83,7 @@ static void make_ports(void) {
     lagd->process.folder = open_folder(folder);
     open_status(&lagd->process, folder);
     lagd->process.has_started = true;
-    set_link(&lagd->protocol, 1, true);
+    set_link(&lagd->protocol, &lagd->ports.links[0], true);
     set_link(&lagd->protocol, 2, true);
 }
 
