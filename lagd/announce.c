@@ -132,7 +132,7 @@ static void find_places(struct carry *carry) {
     struct announce *own = &carry->announce;
     unsigned before = 0;
     memset(own->places, 0, sizeof own->places);
-    own->places[0].index = tap_index(carry->device);
+    own->places[0].index = carry->device->index;
     own->place_count = read_tap_mac(carry->device, own->places[0].mac) ? 1 : 0;
     for (unsigned level = 0; level < MOST_LEVELS && before != own->place_count; level++) {
         before = level == 0 ? 0 : own->place_count; /* the first one tells the bridge of the device alone, where that has a lower number */

@@ -1,18 +1,15 @@
 /* Asks the daemons of this network namespace: for their status, for their counts, or for each change. */
 #include "control.h"
+#include "sockets.h"
 
-#include <dirent.h>
 #include <poll.h>
-#include <sys/un.h>
 
 #define PATIENCE 2000 /* milliseconds that a daemon may take for its answer */
-#define MOST_DAEMONS 256
 #define MOST_ANSWERED 8388608 /* octets of the answer of each */
 #define PART_OF_ANSWER 65536  /* for which room is made at a time */
 
 struct daemon {
-    char path[512];
-    char bundle[NAME_ROOM];
+    const char *path, *bundle;
     int fd;
     bool may_ask;
     char *answer; /* whole, with a zero behind it */
@@ -22,6 +19,7 @@ struct asking {
     struct process *process;
     struct report *report;
     const struct options *options;
+    struct found found;
     struct daemon daemons[MOST_DAEMONS];
     unsigned count;
     const char *denied; /* what may not be looked at, if there is something */
@@ -29,65 +27,16 @@ struct asking {
 
 #define EACH_DAEMON(it, own) for (struct daemon *it = (own)->daemons; it < (own)->daemons + (own)->count; it++)
 
-/* Whether a file is the status socket of a daemon of this namespace, of which bundle. */
-static bool is_socket(const char *name, char bundle[static NAME_ROOM]) {
-    char head[32];
-    size_t length = (size_t)snprintf(head, sizeof head, "%lu.", network_namespace()), whole = strlen(name);
-    if (strncmp(name, head, length) != 0 || whole <= length + 5 || strcmp(name + whole - 5, ".sock") != 0) return false;
-    snprintf(bundle, NAME_ROOM, "%.*s", (int)(whole - length - 5), name + length);
-    return true;
-}
-
-static int is_visible(const struct dirent *entry) {
-    return entry->d_name[0] != '.';
-}
-
-/* Finds the status sockets in a folder, and in the folders in it. */
-static void find_sockets(struct asking *own, const char *folder, bool deeper) {
-    struct dirent **entries = NULL;
-    int found = scandir(folder, &entries, is_visible, alphasort);
-    if (found < 0 && errno == EACCES) own->denied = strdup(folder);
-    for (int i = 0; i < found; i++) {
-        char path[sizeof own->daemons->path];
-        bool fits = snprintf(path, sizeof path, "%s/%s", folder, entries[i]->d_name) < (int)sizeof path;
-        struct stat file;
-        if (fits && own->count < MOST_DAEMONS && is_socket(entries[i]->d_name, own->daemons[own->count].bundle))
-            memcpy(own->daemons[own->count++].path, path, sizeof path);
-        else if (fits && deeper && lstat(path, &file) == 0 && S_ISDIR(file.st_mode))
-            find_sockets(own, path, false);
-        free(entries[i]);
-    }
-    free(entries);
-}
-
-/* The address of a socket, whose whole path may be longer than an address: by its folder, which is opened; answers that, or -errno. */
-static int address_of(const char *path, struct sockaddr_un *to) {
-    char folder[sizeof ((struct daemon *)NULL)->path];
-    const char *name = strrchr(path, '/') + 1;
-    snprintf(folder, sizeof folder, "%.*s", (int)(name - path), path);
-    int opened = open(folder, O_PATH | O_DIRECTORY | O_CLOEXEC);
-    *to = (struct sockaddr_un){.sun_family = AF_UNIX};
-    if (opened < 0) return -errno;
-    if (snprintf(to->sun_path, sizeof to->sun_path, "/proc/self/fd/%d/%s", opened, name) < (int)sizeof to->sun_path) return opened;
-    close(opened);
-    return -ENAMETOOLONG;
-}
-
 /* Connects with a daemon and asks it; or -errno. It waits no longer than PATIENCE: one that is stopped may answer nobody. */
 static int ask(const char *path, const char *question) {
-    struct sockaddr_un to;
     struct timeval patience = {PATIENCE / 1000, 0};
-    int folder = address_of(path, &to), opened, fault = 0;
-    if (folder < 0) return folder;
-    opened = socket(AF_UNIX, SOCK_STREAM | SOCK_CLOEXEC, 0);
-    if (opened < 0 || setsockopt(opened, SOL_SOCKET, SO_SNDTIMEO, &patience, sizeof patience) < 0
-        || connect(opened, (struct sockaddr *)&to, sizeof to) < 0)
-        fault = last_fault();
+    CLOSED_FILE int opened = socket(AF_UNIX, SOCK_STREAM | SOCK_CLOEXEC, 0);
+    if (opened < 0 || setsockopt(opened, SOL_SOCKET, SO_SNDTIMEO, &patience, sizeof patience) < 0) return last_fault();
+    int fault = connect_to(opened, path);
+    if (fault < 0) return fault;
     /* One that refuses may have closed the connection already, and said why. */
-    if (fault == 0) (void)send(opened, question, strlen(question), MSG_NOSIGNAL);
-    close(folder);
-    if (fault != 0 && opened >= 0) close(opened);
-    return fault != 0 ? fault : opened;
+    (void)send(opened, question, strlen(question), MSG_NOSIGNAL);
+    return kept_open(&opened);
 }
 
 static bool is_refusal(struct process *process, const char *path, const char *text) {
@@ -190,12 +139,11 @@ static const char *question_of(const struct options *options) {
 /* Asks a daemon, and whether it answers before it is watched. One that does not has a line. */
 static bool ask_one(struct asking *own, struct daemon *daemon) {
     bool watched = own->options->action == WATCH;
-    int fd = ask(daemon->path, question_of(own->options));
+    CLOSED_FILE int fd = ask(daemon->path, question_of(own->options));
     daemon->may_ask = fd != -EACCES && fd != -EPERM;
     if (!daemon->may_ask) own->denied = daemon->path;
     if (fd < 0) complain(own->process, "%s: its daemon does not answer: %s", daemon->path, strerror(-fd));
     if (fd >= 0) daemon->answer = read_answer(own->process, fd, daemon->path);
-    if (fd >= 0) close(fd);
     daemon->fd = watched && fd >= 0 ? ask(daemon->path, own->options->json ? "watch-json\n" : "watch\n") : -1;
     return watched ? daemon->fd >= 0 : daemon->answer != NULL;
 }
@@ -206,10 +154,9 @@ static char *tell_order(struct asking *own, const char *path, const char *what) 
     char order[QUESTION_ROOM], *answer;
     if (snprintf(order, sizeof order, "%s %s\n", what, interface) >= (int)sizeof order || strchr(interface, '\n'))
         stop(WRONG_WORD, "expected the name of an interface", interface);
-    int fd = ask(path, order);
+    CLOSED_FILE int fd = ask(path, order);
     if (fd < 0) stop(REFUSED, path, strerror(-fd));
     answer = read_answer(own->process, fd, path);
-    close(fd);
     if (answer) answer[strcspn(answer, "\n")] = 0;
     return answer;
 }
@@ -218,10 +165,9 @@ static char *tell_order(struct asking *own, const char *path, const char *what) 
 static const char *find_daemon(struct asking *own) {
     const char *found = NULL;
     EACH_DAEMON(it, own) {
-        int fd = ask(it->path, "");
+        CLOSED_FILE int fd = ask(it->path, "");
         if (fd == -EACCES) own->denied = it->path;
         if (fd < 0) continue;
-        close(fd);
         if (found) stop(WRONG_WORD, "more than one lagd is here: give the folder of one by --folder", own->options->folder);
         found = it->path;
     }
@@ -246,13 +192,14 @@ static int order_daemon(struct asking *own) {
     return fflush(stdout) == 0 ? DONE : REFUSED;
 }
 
-int ask_daemons(struct control *control, const struct options *options) {
+int ask_daemons(struct process *process, struct report *report, const struct options *options) {
     static struct asking own; /* its answers stay until the program ends */
     unsigned answers = 0;
-    own.process = control->process;
-    own.report = control->report;
-    own.options = options;
-    find_sockets(&own, options->folder, true);
+    own = (struct asking){.process = process, .report = report, .options = options};
+    find_sockets(&own.found, options->folder, true);
+    own.denied = own.found.denied;
+    for (; own.count < own.found.count; own.count++)
+        own.daemons[own.count] = (struct daemon){.path = own.found.sockets[own.count].path, .bundle = own.found.sockets[own.count].bundle};
     if (options->action == ORDER) return order_daemon(&own);
     if (options->action == SHOW_CONFIG) (void)find_daemon(&own); /* a file has one bundle */
     EACH_DAEMON(it, &own) answers += ask_one(&own, it);

@@ -1,9 +1,48 @@
-/* The bundle as a whole: up where all its links carry, degraded where some do, down where fewer than min-links do. */
+/* The bundle as a whole: up where all its links carry, degraded where some do, down where fewer than min-links do; and the program that is run where
+ * that changes. */
 #include "lagd.h"
 
-/* One more change may be told: another second passed. */
-void allow_bundle_line(struct bundle *bundle) {
-    if (bundle->lines < MOST_LINES) bundle->lines++;
+#include <signal.h>
+#include <spawn.h>
+#include <sys/prctl.h>
+
+/* Starts a program in a session of its own, which has no signal blocked or ignored, reads nothing, and prints to standard error. It has the timer
+ * slack that the daemon was started with: a child inherits what holds at its start. Answers 0, or errno. */
+static int start(const char *path, char *const *environment) {
+    char *words[] = {(char *)(uintptr_t)path, NULL};
+    posix_spawnattr_t attributes;
+    posix_spawn_file_actions_t files;
+    sigset_t none, all;
+    pid_t child;
+    sigemptyset(&none);
+    sigfillset(&all);
+    posix_spawnattr_init(&attributes);
+    posix_spawnattr_setsigmask(&attributes, &none);
+    posix_spawnattr_setsigdefault(&attributes, &all);
+    posix_spawnattr_setflags(&attributes, POSIX_SPAWN_SETSIGMASK | POSIX_SPAWN_SETSIGDEF | POSIX_SPAWN_SETSID);
+    posix_spawn_file_actions_init(&files);
+    posix_spawn_file_actions_addopen(&files, STDIN_FILENO, "/dev/null", O_RDONLY, 0);
+    posix_spawn_file_actions_adddup2(&files, STDERR_FILENO, STDOUT_FILENO);
+    (void)prctl(PR_SET_TIMERSLACK, 0); /* the one that it began with */
+    int fault = posix_spawn(&child, path, &files, &attributes, words, environment);
+    (void)prctl(PR_SET_TIMERSLACK, TIMER_SLACK);
+    posix_spawn_file_actions_destroy(&files);
+    posix_spawnattr_destroy(&attributes);
+    return fault;
+}
+
+/* Runs the program. Nobody waits for it. */
+static void run_hook(struct protocol *protocol, const char *path, enum bundle_state before) {
+    char name[NAME_ROOM + 16], state[32], previous[32], links_text[32], carrying[32], aggregator[32];
+    char *environment[] = {"PATH=/usr/sbin:/usr/bin:/sbin:/bin", name, state, previous, links_text, carrying, aggregator, NULL};
+    snprintf(name, sizeof name, "LAGD_BUNDLE=%s", protocol->settings->name);
+    snprintf(state, sizeof state, "LAGD_STATE=%s", BUNDLE_STATE_TEXTS[protocol->bundle.state]);
+    snprintf(previous, sizeof previous, "LAGD_PREVIOUS=%s", BUNDLE_STATE_TEXTS[before]);
+    snprintf(links_text, sizeof links_text, "LAGD_LINKS=%u", protocol->bundle.links);
+    snprintf(carrying, sizeof carrying, "LAGD_CARRYING=%u", protocol->bundle.carrying);
+    snprintf(aggregator, sizeof aggregator, "LAGD_AGGREGATOR=%u", protocol->bundle.aggregator);
+    int fault = start(path, environment);
+    if (fault) (void)say(protocol->process, LOG_WARNING | ABOUT_HOOK, "hook %s: %s", path, strerror(fault));
 }
 
 static void enter(struct protocol *protocol, const struct bundle *now) {
@@ -14,7 +53,7 @@ static void enter(struct protocol *protocol, const struct bundle *now) {
         protocol->bundle.counts[now->state]++;
     }
     (void)say(protocol->process, (now->state == BUNDLE_UP ? LOG_NOTICE : LOG_WARNING) | ABOUT_BUNDLE,
-        "bundle %s: %s, %u of %u links carry, aggregator %u", protocol->settings->name, bundle_state_text(now->state), now->carrying, now->links,
+        "bundle %s: %s, %u of %u links carry, aggregator %u", protocol->settings->name, BUNDLE_STATE_TEXTS[now->state], now->carrying, now->links,
         now->aggregator);
     tell_watchers_of(protocol->control, NULL);
     notify_bundle(&protocol->bundle, "");

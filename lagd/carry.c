@@ -127,8 +127,8 @@ void settle_carry(struct plane *plane) {
 /* A port on defaults sends an LACPDU each 30 s only, so a link that was silent for more than 6 s would be long in coming back. As one
  * whose link came up it sends one each second. It is done to ports that carry nothing, after a second, and then after twice as long each
  * time. */
-static void wake_sleeper(struct carry *carry, uint16_t port) {
-    const struct link *link = &carry->ports->links[port - 1];
+static void wake_sleeper(struct carry *carry, const struct link *link) {
+    uint16_t port = link->settings.number;
     bool sleeps = link->up && link->view.receive_state == NIW_RECEIVE_DEFAULTED && (carry->active == 0 || link->view.aggregator != carry->active);
     unsigned *after = &carry->wakes_after[port - 1], *ticks = &carry->on_defaults[port - 1];
     uint64_t load;
@@ -150,10 +150,7 @@ void begin_carry_tick(struct carry *carry) {
 }
 
 void end_carry_tick(struct carry *carry) {
-    for (uint16_t port = 1; !carry->process->broken && port <= carry->ports->count; port++) wake_sleeper(carry, port);
+    EACH_LINK_AS_IS(link, carry->ports)
+        if (!carry->process->broken) wake_sleeper(carry, link);
     carry->plane->changed = carry->to_balance = true;
-}
-
-void pass_carry_tick(struct protocol *protocol) {
-    if (!protocol->process->broken) CALL(protocol->plane->carrying->tick, protocol->plane);
 }

@@ -90,11 +90,9 @@ struct carry {
 void note_response(struct plane *plane, const struct link *link);
 void go_on_answering(struct carry *carry, enum answering last);
 void look_at_partner(struct carry *carry);
-void suspect_partner(struct probe *own);
 
 /* resume.c */
 void resume_conversations(struct plane *plane, bool goes_on);
-void release_former_members(struct plane *plane);
 
 /* carry.c */
 void go_on_in(struct carry *carry, uint16_t aggregator);
@@ -111,10 +109,13 @@ void note_heard(struct carry *carry);
 void end_carry_tick(struct carry *carry);
 void suspect_aggregator(struct carry *carry, uint32_t aggregator);
 
+/* flight.c */
+bool is_told_distributing(struct protocol *protocol, uint16_t port, bool wanted);
+
 /* moves.c */
 void ask_moves(struct carry *carry);
-bool can_empty(struct plane *plane, uint16_t port);
-bool empty_port(struct plane *plane, uint16_t port);
+bool can_empty(struct plane *plane, const struct link *link);
+bool empty_port(struct plane *plane, const struct link *link);
 void balance(struct carry *carry);
 
 /* announce.c */

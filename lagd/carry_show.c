@@ -17,7 +17,7 @@ void show_markers(struct control *control) {
 void show_frames_waiting(struct control *control, enum form form) {
     uint64_t waiting;
     unsigned fast = 0;
-    if (!count_all_held(control->tap, &waiting)) return;
+    if (!count_all_held(control->plane->tap, &waiting)) return;
     for (unsigned i = 0; i < CONVERSATIONS; i++) fast += control->carry->conversations[i].fast.port > 0;
     switch (form) {
     case AS_TEXT: add(control->report, "\n  waiting: %" PRIu64 ", conversations of the kernel: %u\n", waiting, fast); break;
@@ -33,7 +33,7 @@ void show_frames_waiting(struct control *control, enum form form) {
 
 /* What waits where the driver holds no frame. */
 void show_waiting_buckets(struct control *control, enum form form) {
-    unsigned waiting = count_waiting_buckets(control->team);
+    unsigned waiting = count_waiting_buckets(control->plane->team);
     switch (form) {
     case AS_TEXT: add(control->report, "\n  waiting: %u conversations, until they are still\n", waiting); break;
     case AS_JSON: add(control->report, "\"waiting_conversations\":%u", waiting); break;
@@ -43,7 +43,7 @@ void show_waiting_buckets(struct control *control, enum form form) {
 }
 
 void show_queues(struct control *control, const struct link *link, enum form form) {
-    add(control->report, form == AS_JSON ? ",\"queues\":%u" : " queues %u", member_queues(&control->tap->members[link->settings.number - 1]));
+    add(control->report, form == AS_JSON ? ",\"queues\":%u" : " queues %u", member_queues(&control->plane->tap->members[link->settings.number - 1]));
 }
 
 static void write_text_of_carry(struct control *control) {
@@ -51,9 +51,9 @@ static void write_text_of_carry(struct control *control) {
     const struct settings *settings = control->settings;
     const char *carrier = has_carrier(control->device) ? "on" : control->protocol->halt.down ? "off, the device is down" : "off";
     unsigned told = 0;
-    add(control->report, "  carry: %s, carrier %s, hash %s, flight %u ms, ", settings->carry, carrier, hash_text(settings->hash), settings->flight);
+    add(control->report, "  carry: %s, carrier %s, hash %s, flight %u ms, ", settings->carry, carrier, HASHES[settings->hash], settings->flight);
     CALL(carrying->show_markers, control);
-    add(control->report, "%s%s", way_text(settings), control->plane->queueing->text);
+    add(control->report, "%s%s", control->plane->way, control->plane->queueing->text);
     for (unsigned i = carrying->first_count; i < carrying->end_count; i++)
         add(control->report, "%s %s %" PRIu64, told++ % 5 == 0 ? "\n  data:" : "", CARRY_COUNTERS[i].name, control->carry->counts[i]);
     CALL(carrying->show_waiting, control, AS_TEXT);
@@ -65,7 +65,7 @@ static void write_json_of_carry(struct control *control) {
     add_string(control->report, control->settings->carry);
     add(control->report, ",\"up\":%s,\"carrier\":%s,\"aggregator\":%u,\"hash\":\"%s\",\"flight\":%u,\"way\":\"%s\",",
         control->protocol->halt.down ? "false" : "true", has_carrier(control->device) ? "true" : "false", control->carry->active,
-        hash_text(control->settings->hash), control->settings->flight, way_text(control->settings));
+        HASHES[control->settings->hash], control->settings->flight, control->plane->way);
     CALL(carrying->show_waiting, control, AS_JSON);
     for (unsigned i = carrying->first_count; i < carrying->end_count; i++)
         add(control->report, ",\"%s\":%" PRIu64, CARRY_COUNTERS[i].name, control->carry->counts[i]);
@@ -86,12 +86,12 @@ static void write_metrics_of_carry(struct control *control) {
         snprintf(name, sizeof name, "port_%s_total", MEMBER_COUNTERS[i].name);
         add_head(control->report, name, "counter", MEMBER_COUNTERS[i].help);
         EACH_LINK(link, control->ports)
-            if (link->used) add_port_value(control, name, link, control->tap->members[link->settings.number - 1].counts[i]);
+            if (link->used) add_port_value(control, name, link, control->plane->tap->members[link->settings.number - 1].counts[i]);
     }
 }
 
 void show_carry(struct control *control, enum form form) {
-    CALL(control->plane->passing->count, control->tap);
+    CALL(control->plane->passing->count, control->plane->tap);
     switch (form) {
     case AS_TEXT: write_text_of_carry(control); break;
     case AS_JSON: write_json_of_carry(control); break;
@@ -108,7 +108,7 @@ void show_member(struct control *control, const struct link *link, enum form for
     add(control->report, form == AS_JSON ? ",\"data\":{\"busy_conversations\":%u" : "  data: busy_conversations %u", busy);
     for (unsigned i = 0; i < control->plane->carrying->member_counts; i++)
         add(control->report, form == AS_JSON ? ",\"%s\":%" PRIu64 : " %s %" PRIu64, MEMBER_COUNTERS[i].name,
-            control->tap->members[link->settings.number - 1].counts[i]);
+            control->plane->tap->members[link->settings.number - 1].counts[i]);
     CALL(control->plane->queueing->show, control, link, form);
     add(control->report, form == AS_JSON ? "}" : "\n");
 }

@@ -54,7 +54,7 @@ static bool take_up(struct protocol *protocol, struct link *link, const struct i
     memcpy(link->discipline, interface->discipline, sizeof link->discipline);
     if (interface->has_mac) memcpy(link->mac, interface->mac, sizeof link->mac);
     link->stacked = is_stacked(interface);
-    if (open_link(protocol, link, interface->index)) {
+    if (open_link(protocol->process, protocol->plane, link, interface->index)) {
         link->kernel_losses = interface->losses;
         link->puts_in = false;
         return true;
@@ -76,7 +76,6 @@ void lose_member(struct protocol *protocol, struct link *link) {
  * it went. IFF_RUNNING may be a second old, and IFF_LOWER_UP is the carrier itself. An interface that is made has no queues until it is
  * up: once it has others, whether the kernel may pass on what goes there is seen anew. */
 static void follow_link(struct protocol *protocol, struct link *link, const struct interface *interface) {
-    uint16_t port = link->settings.number;
     const unsigned carried = IFF_UP | IFF_RUNNING | IFF_LOWER_UP;
     bool carrier = (interface->flags & carried) == carried, lost = false;
     if (interface->has_mac) follow_address(protocol->plane, link, interface->mac);
@@ -92,19 +91,19 @@ static void follow_link(struct protocol *protocol, struct link *link, const stru
         lost = losses > 0;
         link->counts[LOSSES] += losses;
     }
-    bool other = carrier && (lost || link->away) && has_other_speed(protocol, link);
-    bool spared = (interface->flags & IFF_UP) && is_spared(protocol, link, carrier, lost) && !other;
+    bool other = carrier && (lost || link->away) && has_other_speed(protocol->settings, link);
+    bool spared = (interface->flags & IFF_UP) && is_spared(protocol->process, link, carrier, lost) && !other;
     if (spared && !carrier) return;
     if ((lost || other) && !spared && link->up) {
         if (!link->away) link->counts[LOSSES]--; /* which set_link counts */
-        set_link(protocol, port, false);
+        set_link(protocol, link, false);
     }
-    if ((lost && !spared) || !carrier) forget_carrier(link);
+    if ((lost && !spared) || !carrier) set_waiting(link, false);
     bool up = carrier && !protocol->halt.silent && is_restored(protocol, link);
     if (up && !link->up) fit_queue(protocol->plane, link);
     if (up) apply_speed(protocol, link);
     if (up) CALL(protocol->plane->carrying->follow_speed, protocol->plane, link);
-    set_link(protocol, port, up);
+    set_link(protocol, link, up);
 }
 
 /* The interface of a port is gone, or has another name now. Where the device alone said that it is a port, it is none any more. */
@@ -116,7 +115,7 @@ static void lose_interface(struct protocol *protocol, struct link *link) {
 /* An interface is there. A port goes by its name, and the TAP device by its number. */
 static void follow_present(struct protocol *protocol, const struct interface *interface) {
     bool known = false;
-    if (interface->index == tap_index(protocol->device)) {
+    if (interface->index == protocol->device->index) {
         protocol->changes.tap_named = true;
         protocol->plane->changed = true;
         follow_tap(protocol->device, interface->carrier, interface->discipline);
@@ -139,7 +138,7 @@ static void follow_present(struct protocol *protocol, const struct interface *in
 }
 
 static void follow_absent(struct protocol *protocol, const struct interface *interface) {
-    if (interface->index == tap_index(protocol->device)) CALL(protocol->plane->carrying->lose_device, protocol->plane);
+    if (interface->index == protocol->device->index) CALL(protocol->plane->carrying->lose_device, protocol->plane);
     EACH_LINK(link, protocol->ports) {
         if (link->index != interface->index) continue;
         lose_interface(protocol, link);
@@ -149,7 +148,7 @@ static void follow_absent(struct protocol *protocol, const struct interface *int
 
 /* Queueing disciplines came or went. Which one an interface has now is asked: of its usual one the kernel does not tell. */
 static void note_discipline(struct protocol *protocol, const struct tcmsg *info) {
-    bool ours = info->tcm_ifindex == tap_index(protocol->device);
+    bool ours = info->tcm_ifindex == protocol->device->index;
     EACH_LINK(link, protocol->ports) {
         if (link->socket < 0 || link->index != info->tcm_ifindex) continue;
         link->has_new_queues = true;
@@ -235,9 +234,9 @@ void ask_now(struct protocol *protocol) {
     watch_changes(protocol);
 }
 
-void ask_links(struct protocol *protocol) {
-    EACH_LINK(link, protocol->ports)
-        if (link->socket >= 0) (void)ask_for(&protocol->changes, link->index, 0);
+void ask_links(struct changes *own, const struct ports *ports) {
+    EACH_LINK_AS_IS(link, ports)
+        if (link->socket >= 0) (void)ask_for(own, link->index, 0);
 }
 
 /* Looks at carriers, at each tick and where one is suspected: the kernel counts at once that one came or went, but tells of those that go

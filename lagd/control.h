@@ -16,8 +16,6 @@ struct report {
 struct control {
     PARTS
     struct carry *carry;
-    struct tap_plane *tap;
-    struct team_plane *team;
     struct report *report;
 };
 
@@ -26,6 +24,8 @@ void read_options(struct process *process, int argc, char **argv, struct options
 
 /* possible.c */
 int check_machine(struct control *control, const struct options *options);
+int tell_lack(struct process *process, const struct options *options, const char *key, const char *what, int status);
+int check_programs(struct process *process, const struct options *options, const char *key, bool waits);
 
 /* status.c */
 void serve_caller(struct control *control, uint32_t caller);
@@ -52,6 +52,6 @@ void add_value_of(struct report *report, const char *name, const char *bundle, u
 void add_port_value(struct control *control, const char *name, const struct link *link, uint64_t value);
 
 /* asking.c */
-int ask_daemons(struct control *control, const struct options *options);
+int ask_daemons(struct process *process, struct report *report, const struct options *options);
 
 #endif

@@ -9,40 +9,46 @@ struct lagd {
     struct settings settings; /* those that hold now */
     struct inherited inherited;
     struct ports ports;
-    struct device *device;
+    struct device device;
     struct plane plane;
     struct protocol protocol;
     struct carry carry;
     struct tap_plane tap;
     struct team_plane team;
-    struct state *state;
+    struct state state;
     struct control control;
 };
 
 /* Joins the parts of a daemon that has nothing yet, and is zeros. What is large is set by its fields: what nobody uses takes no memory. */
 #define JOIN(part, lagd) \
     ((part)->process = &(lagd)->process, (part)->settings = &(lagd)->settings, (part)->ports = &(lagd)->ports, \
-        (part)->protocol = &(lagd)->protocol, (part)->device = (lagd)->device, (part)->plane = &(lagd)->plane)
+        (part)->protocol = &(lagd)->protocol, (part)->device = &(lagd)->device, (part)->plane = &(lagd)->plane)
 static inline void join_parts(struct lagd *lagd) {
     lagd->process = (struct process){.settings = &lagd->settings, .inherited = &lagd->inherited, .epoll_file = -1, .output = -1, .journal = -1,
         .status.listener = -1};
-    lagd->plane = (struct plane){.device = lagd->device, .carry = &lagd->carry, .tap = &lagd->tap, .team = &lagd->team, .changed = true};
-    lagd->protocol = (struct protocol){.process = &lagd->process, .settings = &lagd->settings, .ports = &lagd->ports, .device = lagd->device,
+    lagd->device = (struct device){.process = &lagd->process, .plane = &lagd->plane, .tap = -1, .asker = -1, .most_mtu = ETH_DATA_LEN};
+    lagd->state = (struct state){.carry = &lagd->carry, .copy_folder = -1, .lock = -1, .copied = -1};
+    lagd->plane = (struct plane){.device = &lagd->device, .carry = &lagd->carry, .tap = &lagd->tap, .team = &lagd->team, .changed = true};
+    lagd->protocol = (struct protocol){.process = &lagd->process, .settings = &lagd->settings, .ports = &lagd->ports, .device = &lagd->device,
         .plane = &lagd->plane, .control = &lagd->control, .bundle.lines = MOST_LINES};
     JOIN(&lagd->carry, lagd);
     JOIN(&lagd->tap, lagd);
     JOIN(&lagd->team, lagd);
     JOIN(&lagd->control, lagd);
-    lagd->carry.state = lagd->state;
+    lagd->carry.state = &lagd->state;
     lagd->tap.carry = lagd->team.carry = lagd->control.carry = &lagd->carry;
-    lagd->control.tap = &lagd->tap;
-    lagd->control.team = &lagd->team;
     lagd->tap.dropper = lagd->tap.answer_timer = lagd->tap.host.tap = lagd->tap.fast.sender = lagd->tap.fast.handover = lagd->team.lock = -1;
     for (unsigned i = 0; i < NIW_MOST_PORTS; i++)
         for (enum socket_kind kind = DATA; kind < SOCKETS; kind++) lagd->tap.members[i].sockets[kind] = -1;
 }
 
-/* daemon.c */
-struct lagd *make_lagd(void);
+/* A daemon is made: its memory goes with the program. */
+static inline struct lagd *make_lagd(void) {
+    struct lagd *lagd = make_room(sizeof *lagd);
+    join_parts(lagd);
+    lagd->control.report = make_room(sizeof *lagd->control.report);
+    choose_no_plane(&lagd->plane);
+    return lagd;
+}
 
 #endif

@@ -22,16 +22,10 @@
 /* For how many ticks the carrier may be another one than was set: the kernel takes up to a second to tell. */
 #define CARRIER_TICKS 15
 
-struct device *make_device(struct process *process, struct plane *plane) {
-    struct device *made = make_room(sizeof *made);
-    *made = (struct device){.process = process, .plane = plane, .tap = -1, .asker = -1, .most_mtu = ETH_DATA_LEN};
-    return made;
-}
-
 /* Asks the kernel something of the device, or for something. The device goes by its index: it may have another name than it was given. */
 static bool ask_tap(struct device *own, unsigned long what, struct ifreq *request) {
-    struct ifreq named = {.ifr_ifindex = own->number};
-    if (own->number == 0 || ioctl(own->asker, SIOCGIFNAME, &named) < 0) return false;
+    struct ifreq named = {.ifr_ifindex = own->index};
+    if (own->index == 0 || ioctl(own->asker, SIOCGIFNAME, &named) < 0) return false;
     memcpy(request->ifr_name, named.ifr_name, sizeof request->ifr_name);
     return ioctl(own->asker, what, request) == 0;
 }
@@ -42,7 +36,7 @@ bool give_tap_carrier(struct plane *plane, bool on) {
 
 /* The carrier of the device, which is on while data is carried. What the kernel refuses has one line, and is tried again at each tick. */
 void set_carrier(struct device *own, bool on) {
-    if (own->carrier == on || own->number == 0) return;
+    if (own->carrier == on || own->index == 0) return;
     if (!on) CALL(own->plane->passing->open_host, own->plane->tap, false);
     if (ASK(own->plane->carrying->give_carrier, true, own->plane, on)) {
         own->carrier = on;
@@ -57,10 +51,10 @@ void set_carrier(struct device *own, bool on) {
 
 /* The device has this speed from now on, in Mb/s, or none that is known. A kernel that does not take it has one line. */
 void set_speed(struct device *own, uint32_t megabits) {
-    if (own->speed == megabits || own->number == 0) return;
+    if (own->speed == megabits || own->index == 0) return;
     own->speed = megabits;
     errno = EOPNOTSUPP; /* where the kernel tells none, either */
-    if (write_speed(own->asker, own->number, megabits) || own->speed_reported) return;
+    if (write_speed(own->asker, own->index, megabits) || own->speed_reported) return;
     own->speed_reported = true;
     (void)say(own->process, LOG_WARNING | ABOUT_CARRIER, "carry %s: its speed stays: %s", own->process->settings->carry, strerror(errno));
 }
@@ -106,10 +100,6 @@ void pass_tap_tick(struct device *own) {
             "carry %s: it has no carrier, though links carry: who took it away may set it on again", own->process->settings->carry);
 }
 
-int tap_index(const struct device *own) {
-    return own->number;
-}
-
 /* The MAC address that the device has now: whoever administers it may change it. */
 bool read_tap_mac(struct device *own, uint8_t *mac) {
     struct ifreq request = {0};
@@ -135,10 +125,9 @@ static void choose_segments(struct device *own) {
 
 /* Whether a file still has a device of this network namespace, under the name that is told. */
 static bool is_here(int fd, struct ifreq *device) {
-    int space = ioctl(fd, TUNGETDEVNETNS);
+    CLOSED_FILE int space = ioctl(fd, TUNGETDEVNETNS);
     struct stat found;
     bool same = space < 0 || (fstat(space, &found) == 0 && (unsigned long)found.st_ino == network_namespace());
-    if (space >= 0) close(space);
     return same && ioctl(fd, TUNGETIFF, device) == 0 && (device->ifr_flags & IFF_TAP) && (device->ifr_flags & IFF_VNET_HDR);
 }
 
@@ -162,7 +151,7 @@ static void set_up(struct device *own, const uint8_t *mac) {
     queue.ifr_qlen = HOST_QUEUE;
     (void)ask_tap(own, SIOCSIFTXQLEN, &queue);
     settle_tap_mtu(own->plane);
-    CALL(own->plane->passing->set_up_device, own->number);
+    CALL(own->plane->passing->set_up_device, own->index);
 }
 
 /* Takes the device that the last daemon left with the manager of services, whatever an administrator named it since; answers whether there is one. */
@@ -171,8 +160,8 @@ static bool take_stored(struct device *own, const char *name) {
     struct ifreq device = {0};
     int fd = claim_stored(&own->process->store, "tap", 0);
     if (fd < 0) return false;
-    own->number = is_here(fd, &device) ? (int)if_nametoindex(device.ifr_name) : 0;
-    if (own->number == 0 || (inherited->tap == 0 ? strcmp(device.ifr_name, name) != 0 : own->number != inherited->tap)) {
+    own->index = is_here(fd, &device) ? (int)if_nametoindex(device.ifr_name) : 0;
+    if (own->index == 0 || (inherited->tap == 0 ? strcmp(device.ifr_name, name) != 0 : own->index != inherited->tap)) {
         close_stored(&own->process->store, "tap", 0, fd);
         return false;
     }
@@ -198,9 +187,9 @@ static bool make_tap(struct device *own, const char *name) {
     own->tap = open("/dev/net/tun", O_RDWR | O_NONBLOCK | O_CLOEXEC);
     if (own->tap < 0) stop(REFUSED, "no TAP device", strerror(errno));
     if (!attach_tap(own->tap, used)) stop(REFUSED, name, strerror(errno));
-    own->number = (int)if_nametoindex(used);
-    if (own->number == 0) stop(REFUSED, name, strerror(errno));
-    return before == (unsigned)own->number && own->number == inherited->tap;
+    own->index = (int)if_nametoindex(used);
+    if (own->index == 0) stop(REFUSED, name, strerror(errno));
+    return before == (unsigned)own->index && own->index == inherited->tap;
 }
 
 /* Opens the device. Its carrier stays where the data of the last daemon goes on, and so do frames that wait there, unless they are old. */
@@ -209,7 +198,7 @@ int open_tap(struct device *own, const char *name, const uint8_t *mac) {
     if (own->asker < 0) stop(REFUSED, "no TAP device", strerror(errno));
     const struct inherited *inherited = own->process->inherited;
     uint8_t scrap[ETH_HLEN];
-    bool was_stored = take_stored(own, name), goes_on = was_stored ? own->number == inherited->tap : make_tap(own, name);
+    bool was_stored = take_stored(own, name), goes_on = was_stored ? own->index == inherited->tap : make_tap(own, name);
     own->carrier = true; /* which older kernels set of a device that is made */
     if (!was_stored || !goes_on || !own->process->resuming) set_carrier(own, false);
     bool is_old = was_stored && !was_away_briefly(inherited);
@@ -226,17 +215,16 @@ int open_tap(struct device *own, const char *name, const uint8_t *mac) {
 void use_team_device(struct device *own, int index) {
     own->asker = socket(AF_UNIX, SOCK_DGRAM | SOCK_CLOEXEC, 0);
     if (own->asker < 0) stop(REFUSED, "no team device", strerror(errno));
-    own->number = index;
+    own->index = index;
     own->carrier = true;
     if (!own->process->resuming) set_carrier(own, false);
 }
 
-void end_tap(int index) {
+/* A device that the last daemon had outlive itself goes. */
+void leave_tap(struct plane *plane UNUSED, int index, bool owned) {
     char room[IF_NAMESIZE];
-    int fd = if_indextoname((unsigned)index, room) ? open("/dev/net/tun", O_RDWR | O_CLOEXEC) : -1;
-    if (fd < 0) return;
-    if (attach_tap(fd, room)) (void)ioctl(fd, TUNSETPERSIST, 0);
-    close(fd);
+    CLOSED_FILE int fd = owned && if_indextoname((unsigned)index, room) ? open("/dev/net/tun", O_RDWR | O_CLOEXEC) : -1;
+    if (fd >= 0 && attach_tap(fd, room)) (void)ioctl(fd, TUNSETPERSIST, 0);
 }
 
 /* The next daemon gets the device as it is, by its name where no manager of services keeps it; or it is to go with this one. */

@@ -8,7 +8,7 @@ struct device {
     struct process *process;
     struct plane *plane;
     int tap, asker; /* `asker`: a socket for questions about interfaces */
-    int number; /* of the device, its index; 0: there is none */
+    int index; /* 0: there is none */
     bool carrier; /* which was set last */
     bool carrier_told; /* which it had, as the kernel told last */
     unsigned carrier_ticks; /* for how long it was up and had none, and was to have one */
@@ -21,8 +21,6 @@ struct device {
 };
 
 /* device.c */
-struct device *make_device(struct process *process, struct plane *plane);
-int tap_index(const struct device *own);
 void follow_tap(struct device *own, bool has_carrier, const char *discipline);
 int open_tap(struct device *own, const char *name, const uint8_t *mac);
 void use_team_device(struct device *own, int index);
@@ -35,7 +33,7 @@ void limit_mtu(struct device *own, uint32_t most);
 void pass_tap_tick(struct device *own);
 bool read_tap_mac(struct device *own, uint8_t *mac);
 bool is_tap_up(struct device *own);
-void end_tap(int index);
+void leave_tap(struct plane *plane, int index, bool owned);
 void keep_tap(struct plane *plane, bool keeps);
 
 #endif

@@ -100,17 +100,11 @@ static void name_bundle(const char *path, struct settings *wanted) {
 /* Opens a file, if it is a regular one of no more than LONGEST_FILE octets; else NULL, and a line. */
 static FILE *open_file(struct process *process, const char *path) {
     struct stat found;
-    int opened = open(path, O_RDONLY | O_CLOEXEC | O_NONBLOCK | O_NOCTTY);
-    const char *fault = NULL;
-    FILE *file = NULL;
-    if (opened < 0 || fstat(opened, &found) < 0)
-        fault = strerror(errno);
-    else if (!S_ISREG(found.st_mode) || found.st_size > LONGEST_FILE)
-        fault = "expected a regular file of at most 65536 octets";
-    else if (!(file = fdopen(opened, "r")))
-        fault = strerror(errno);
-    if (fault) complain(process, "%s: %s", path, fault);
-    if (fault && opened >= 0) close(opened);
+    CLOSED_FILE int opened = open(path, O_RDONLY | O_CLOEXEC | O_NONBLOCK | O_NOCTTY);
+    bool is_there = opened >= 0 && fstat(opened, &found) == 0, is_right = is_there && S_ISREG(found.st_mode) && found.st_size <= LONGEST_FILE;
+    FILE *file = is_right ? fdopen(opened, "r") : NULL;
+    if (file) (void)kept_open(&opened);
+    else complain(process, "%s: %s", path, is_there && !is_right ? "expected a regular file of at most 65536 octets" : strerror(errno));
     return file;
 }
 
@@ -126,14 +120,13 @@ bool look_at_all(struct process *process, const char *path, const struct setting
 
 /* Reads a file; answers whether it is right. There is a line for each fault. */
 bool read_file(struct process *process, const char *path, struct settings *wanted) {
-    struct reading reading = {.process = process, .path = path, .settings = wanted};
+    CLOSED_STREAM FILE *file = open_file(process, path);
+    struct reading reading = {.process = process, .file = file, .path = path, .settings = wanted};
     *wanted = usual_settings();
     name_bundle(path, wanted);
-    reading.file = open_file(process, path);
-    if (!reading.file) return false;
+    if (!file) return false;
     ini_allow_multiline = false;
     ini_allow_inline_comments = false;
     (void)ini_parse_stream(next_line, &reading, parse_pair, &reading);
-    fclose(reading.file);
     return reading.faults == 0 && look_at_all(process, path, wanted);
 }

@@ -6,29 +6,20 @@
 #define SO_NETNS_COOKIE 71
 #endif
 
-unsigned long network_namespace(void) {
-    struct stat file;
-    return stat("/proc/self/ns/net", &file) == 0 ? (unsigned long)file.st_ino : 0;
-}
-
 /* A number that this network namespace alone ever has on this machine, or 0 where the kernel tells none: that of network_namespace may be another
  * one's once it is gone. */
 uint64_t namespace_cookie(void) {
     uint64_t cookie = 0;
     socklen_t length = sizeof cookie;
-    int asker = socket(AF_UNIX, SOCK_DGRAM | SOCK_CLOEXEC, 0);
-    if (asker < 0 || getsockopt(asker, SOL_SOCKET, SO_NETNS_COOKIE, &cookie, &length) < 0) cookie = 0;
-    if (asker >= 0) close(asker);
-    return cookie;
+    CLOSED_FILE int asker = socket(AF_UNIX, SOCK_DGRAM | SOCK_CLOEXEC, 0);
+    return getsockopt(asker, SOL_SOCKET, SO_NETNS_COOKIE, &cookie, &length) == 0 ? cookie : 0;
 }
 
 /* Opens a file of a folder, for who owns it alone, and follows no link; or answers NULL, and errno tells why not. */
 FILE *open_in(int folder, const char *name, int flags, const char *mode) {
-    int opened = openat(folder, name, flags | O_NOFOLLOW | O_CLOEXEC, 0600);
+    CLOSED_FILE int opened = openat(folder, name, flags | O_NOFOLLOW | O_CLOEXEC, 0600);
     FILE *file = opened < 0 ? NULL : fdopen(opened, mode);
-    int fault = errno;
-    if (!file && opened >= 0) close(opened);
-    errno = fault;
+    if (file) (void)kept_open(&opened);
     return file;
 }
 
@@ -44,16 +35,14 @@ const char *fault_of_owner(int opened) {
  * one that others may write, and a symbolic link to one are refused: whoever has it could put a link or a socket of his own in it. */
 int try_folder(const char *folder, const char **fault) {
     const int flags = O_RDONLY | O_DIRECTORY | O_NOFOLLOW | O_CLOEXEC;
-    int opened = open(folder, flags); /* one that is there needs nothing of its disk */
+    CLOSED_FILE int opened = open(folder, flags); /* one that is there needs nothing of its disk */
     bool made = opened < 0 && errno == ENOENT && mkdir(folder, 0755) == 0;
     if (made || (opened < 0 && errno == EEXIST)) opened = open(folder, flags);
     *fault = errno == ELOOP || errno == ENOTDIR ? "a symbolic link, or no folder" : NULL;
     if (opened < 0) return -1;
     if (made) (void)fchmod(opened, 0755); /* whatever the umask is */
     *fault = fault_of_owner(opened);
-    if (!*fault) return opened;
-    close(opened);
-    return -1;
+    return *fault ? -1 : kept_open(&opened);
 }
 
 /* Opens the folder, without which there is no daemon. */

@@ -70,7 +70,7 @@ static void hand_over(struct protocol *protocol, struct link *link, const struct
         return;
     if (received.what == NIW_RECEIVED_TOOK_LACPDU && actor) note_actor(protocol->settings, link, actor, arrival->frame);
     if (received.what != NIW_RECEIVED_RESPOND) return;
-    if (!may_answer(protocol, link, arrival) || !protocol->plane->queueing->answer(protocol->plane->tap, link, response))
+    if (!may_answer(protocol->settings, protocol->plane, link, arrival) || !protocol->plane->queueing->answer(protocol->plane->tap, link, response))
         note_odd_marker(link, arrival, RESPONSES_UNSENT);
 }
 
@@ -148,16 +148,15 @@ void receive_frames(struct protocol *protocol, uint16_t port) {
 }
 
 /* Tells of strangers on a link, if there are more than were told of: at once, and then every 10 s at most. */
-void tell_strangers(struct protocol *protocol, struct link *link) {
+void tell_strangers(struct process *process, uint64_t ticks, struct link *link) {
     struct strangers *strangers = &link->strangers;
     uint64_t foreign = link->counts[FOREIGN_RECEIVED], changes = link->counts[PARTNER_CHANGES];
-    char system[32], source[32];
-    if (foreign + changes == strangers->reported || protocol->ticks < strangers->tell_at) return;
-    if (!say(protocol->process, LOG_WARNING | ABOUT_STRANGER,
+    if (foreign + changes == strangers->reported || ticks < strangers->tell_at) return;
+    if (!say(process, LOG_WARNING | ABOUT_STRANGER,
         "port %u %s: another system speaks, last %s from %s: %" PRIu64 " LACPDUs not taken, %" PRIu64
-            " changes of the partner", link->settings.number, link->name, system_text(&strangers->system, system),
-            mac_text(strangers->source, source), foreign, changes))
+            " changes of the partner", link->settings.number, link->name, system_text(&strangers->system, TEXT_ROOM),
+            mac_text(strangers->source, TEXT_ROOM), foreign, changes))
         return;
     strangers->reported = foreign + changes;
-    strangers->tell_at = protocol->ticks + STRANGERS_TICKS;
+    strangers->tell_at = ticks + STRANGERS_TICKS;
 }

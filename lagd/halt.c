@@ -6,13 +6,13 @@
 #define MOST_TICKS 15
 
 static void hold_or_release_ports(struct protocol *protocol) {
-    for (uint16_t port = 1; port <= protocol->ports->count; port++)
-        if (!apply_hold(protocol, port)) return;
+    EACH_LINK_AS_IS(link, protocol->ports)
+        if (!apply_hold(protocol, link)) return;
 }
 
 static void fall_silent(struct protocol *protocol) {
     protocol->halt.silent = true;
-    for (uint16_t port = 1; port <= protocol->ports->count; port++) set_link(protocol, port, false);
+    EACH_LINK(link, protocol->ports) set_link(protocol, link, false);
 }
 
 /* Tells each peer that its port is out of use, and then nothing more. */
@@ -29,7 +29,7 @@ static void begin_halt(struct protocol *protocol) {
 static void end_halt(struct protocol *protocol) {
     hold_or_release_ports(protocol);
     protocol->halt.silent = false;
-    ask_links(protocol);
+    ask_links(&protocol->changes, protocol->ports);
 }
 
 /* The kernel told of the device, which is up or down. At the start the ports of the last daemon go on first, so that their peers can be told. */
@@ -51,7 +51,7 @@ void follow_device(struct protocol *protocol, bool up) {
 
 /* The device was opened. Where no port goes on, no peer has to be told. */
 void start_halt(struct protocol *protocol) {
-    protocol->halt.down = tap_index(protocol->device) != 0 && !is_tap_up(protocol->device);
+    protocol->halt.down = protocol->device->index != 0 && !is_tap_up(protocol->device);
     protocol->halt.silent = protocol->halt.down && !protocol->process->resuming;
 }
 

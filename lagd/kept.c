@@ -3,23 +3,22 @@
 #include "tap/tap.h"
 
 /* The name of a file, or with `.new` behind it that of the one that is to take its place. */
-static void name_file(const struct link *link, const char *kind, const char *behind, char room[static 64]) {
+static const char *name_of(const struct link *link, const char *kind, const char *behind, char room[static 64]) {
     snprintf(room, 64, "%lu.%d.%s%s", network_namespace(), link->index, kind, behind);
+    return room;
 }
 
 /* The number of this boot; "unknown" where it may not be read, as under the unit, whose folder does not outlive a boot. */
 const char *boot_id(char room[static BOOT_ROOM]) {
-    FILE *file = fopen("/proc/sys/kernel/random/boot_id", "re");
+    CLOSED_STREAM FILE *file = fopen("/proc/sys/kernel/random/boot_id", "re");
     if (!file || fscanf(file, "%63s", room) != 1) snprintf(room, BOOT_ROOM, "unknown");
-    if (file) fclose(file);
     return room;
 }
 
 /* Opens what is kept of an interface, behind the head; or answers NULL. What is of another boot, or another interface, counts for nothing. */
 FILE *read_kept(int folder, const struct link *link, const char *kind) {
     char name[64], boot[BOOT_ROOM], now[BOOT_ROOM], mac[32], own[32];
-    name_file(link, kind, "", name);
-    FILE *file = open_in(folder, name, O_RDONLY, "r");
+    FILE *file = open_in(folder, name_of(link, kind, "", name), O_RDONLY, "r");
     if (!file) return NULL;
     if (fscanf(file, "boot=%63s mac=%31s", boot, mac) == 2 && strcmp(boot, boot_id(now)) == 0 && strcmp(mac, mac_text(link->mac, own)) == 0)
         return file;
@@ -30,8 +29,7 @@ FILE *read_kept(int folder, const struct link *link, const char *kind) {
 /* Begins a file that end_kept puts in the place of the one that is there; or answers NULL, and errno tells why not. */
 FILE *begin_kept(int folder, const struct link *link, const char *kind) {
     char next[64], boot[BOOT_ROOM], mac[32];
-    name_file(link, kind, ".new", next);
-    FILE *file = open_in(folder, next, O_WRONLY | O_CREAT | O_TRUNC, "w");
+    FILE *file = open_in(folder, name_of(link, kind, ".new", next), O_WRONLY | O_CREAT | O_TRUNC, "w");
     if (file) fprintf(file, "boot=%s\nmac=%s\n", boot_id(boot), mac_text(link->mac, mac));
     return file;
 }
@@ -39,35 +37,30 @@ FILE *begin_kept(int folder, const struct link *link, const char *kind) {
 /* Ends it; answers whether it is there, and else what was there before still is, and errno tells why. */
 bool end_kept(int folder, const struct link *link, const char *kind, FILE *file, bool done) {
     char next[64], name[64];
-    name_file(link, kind, ".new", next);
-    name_file(link, kind, "", name);
     done = done && !ferror(file);
-    done = fclose(file) == 0 && done && renameat(folder, next, folder, name) == 0;
+    done = fclose(file) == 0 && done && renameat(folder, name_of(link, kind, ".new", next), folder, name_of(link, kind, "", name)) == 0;
     int fault = errno;
-    if (!done) (void)unlinkat(folder, next, 0);
+    if (!done) (void)unlinkat(folder, name_of(link, kind, ".new", next), 0);
     errno = fault;
     return done;
 }
 
 /* Removes what is kept of an interface, and what a daemon that was killed began of it. */
 void drop_kept(int folder, const struct link *link, const char *kind) {
-    char next[64], name[64];
-    name_file(link, kind, ".new", next);
-    name_file(link, kind, "", name);
-    (void)unlinkat(folder, next, 0);
-    (void)unlinkat(folder, name, 0);
+    char name[64];
+    (void)unlinkat(folder, name_of(link, kind, ".new", name), 0);
+    (void)unlinkat(folder, name_of(link, kind, "", name), 0);
 }
 
 /* What an interface had before an earlier daemon changed it; zeros, where nobody knows. */
 void recall_settings(int folder, const struct link *link, struct kept *kept) {
     struct ethtool_channels *queues = &kept->queues;
     char end[8] = "";
-    FILE *file = read_kept(folder, link, "member");
+    CLOSED_STREAM FILE *file = read_kept(folder, link, "member");
     *kept = (struct kept){0};
     if (!file) return;
     int found = fscanf(file, " joins=%u queues=%u %u %u %u rps=%" PROCESSORS_LENGTH "s %7s", &kept->joins, &queues->rx_count, &queues->tx_count,
         &queues->other_count, &queues->combined_count, kept->steered, end); /* the last line says that the file is whole */
-    fclose(file);
     if (found != 7 || strcmp(end, "end") != 0) *kept = (struct kept){0};
     if (strcmp(kept->steered, "-") == 0) kept->steered[0] = 0;
 }

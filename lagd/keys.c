@@ -18,19 +18,18 @@ bool has_aggregator(const struct keys *own, uint16_t given) {
 }
 
 /* Whether a key is one of aggregators, or of a port that is not this one. */
-static bool is_key_of_any(struct protocol *protocol, uint16_t key, const struct link *but) {
-    struct keys *own = &protocol->keys;
+static bool is_key_of_any(const struct keys *own, const struct ports *ports, uint16_t key, const struct link *but) {
     for (uint16_t i = 0; i < own->known_count; i++)
         if (own->known[i].key == key || own->known[i].given == key) return true;
-    EACH_LINK(link, protocol->ports)
+    EACH_LINK_AS_IS(link, ports)
         if (link != but && (link->key == key || link->settings.key == key)) return true;
     return false;
 }
 
 /* The next key behind this one that no aggregator and no port has, but for this port, if there is one. */
-uint16_t free_key(struct protocol *protocol, uint16_t behind, const struct link *but) {
+uint16_t free_key(const struct keys *own, const struct ports *ports, uint16_t behind, const struct link *but) {
     do behind++;
-    while (is_key_of_any(protocol, behind, but));
+    while (is_key_of_any(own, ports, behind, but));
     return behind;
 }
 
@@ -60,7 +59,8 @@ void make_keys(struct protocol *protocol, uint16_t keys[static NIW_MOST_PORTS]) 
     for (uint16_t i = 0; i < protocol->ports->slots; i++)
         if (!has_aggregator(own, protocol->ports->links[i].key)) add_key(own, protocol->ports->links[i].key, protocol->ports->links[i].key);
     for (uint16_t i = 0, given = own->known_count; i < given; i++)
-        for (uint16_t speed = 1; speed < own->speeds; speed++) add_key(own, own->known[i].given, free_key(protocol, own->known[i].key, NULL));
+        for (uint16_t speed = 1; speed < own->speeds; speed++)
+            add_key(own, own->known[i].given, free_key(own, protocol->ports, own->known[i].key, NULL));
     for (uint16_t speed = 0; speed < own->speeds; speed++)
         for (uint16_t port = 0; port < protocol->ports->slots; port++)
             keys[protocol->aggregator_count++] = key_for(own, protocol->ports->links[port].key, speed);
@@ -87,7 +87,7 @@ uint16_t choose_key(struct protocol *protocol, const struct link *link) {
         if (key->used && is_same_speed(&key->speed, &link->speed)) return key->key;
         if (!unused && !is_in_use(protocol->ports, key)) unused = key;
     }
-    if (!unused) return free_key(protocol, link->key, link);
+    if (!unused) return free_key(own, protocol->ports, link->key, link);
     unused->used = true;
     unused->speed = link->speed;
     return unused->key;
@@ -107,10 +107,8 @@ static bool ask_by(int socket, int index, void *value) {
 }
 
 bool ask_driver(int index, void *value) {
-    int fd = socket(AF_UNIX, SOCK_DGRAM | SOCK_CLOEXEC, 0);
-    bool done = fd >= 0 && ask_by(fd, index, value);
-    if (fd >= 0) close(fd);
-    return done;
+    CLOSED_FILE int fd = socket(AF_UNIX, SOCK_DGRAM | SOCK_CLOEXEC, 0);
+    return fd >= 0 && ask_by(fd, index, value);
 }
 
 /* The first answer is how many words a mask has, below 0. */
@@ -154,8 +152,8 @@ void apply_speed(struct protocol *protocol, struct link *link) {
 }
 
 /* Whether a link that is up has come back at another speed, which with key-by-speed has another key. */
-bool has_other_speed(struct protocol *protocol, const struct link *link) {
-    if (!protocol->settings->key_by_speed || !link->up || !link->has_speed) return false;
+bool has_other_speed(const struct settings *settings, const struct link *link) {
+    if (!settings->key_by_speed || !link->up || !link->has_speed) return false;
     struct speed now = read_speed(link->socket, link->index);
     return !is_same_speed(&now, &link->speed);
 }

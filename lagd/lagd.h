@@ -25,6 +25,7 @@
 #include "lag.h"
 #include "plane.h"
 #include "settings.h"
+#include "sockets.h"
 
 #define VERSION NIW_VERSION_TEXT
 
@@ -314,6 +315,26 @@ static inline int last_fault(void) {
     return errno > 0 ? -errno : -EIO;
 }
 
+/* A file of this is closed where its block ends, and errno stays as it is. */
+#define CLOSED_FILE __attribute__((cleanup(close_held)))
+#define CLOSED_STREAM __attribute__((cleanup(close_stream)))
+static inline void close_held(const int *file) {
+    int fault = errno;
+    if (*file >= 0) close(*file);
+    errno = fault;
+}
+/* One that is handed on, and so stays open. */
+static inline int kept_open(int *file) {
+    int handed = *file;
+    *file = -1;
+    return handed;
+}
+static inline void close_stream(FILE *const *stream) {
+    int fault = errno;
+    if (*stream) fclose(*stream);
+    errno = fault;
+}
+
 #define MUST_USE __attribute__((warn_unused_result)) /* the answer tells whether the library did it: else nothing that depends on it is done */
 #define UNUSED __attribute__((unused)) /* of a word that a function is handed since others of its kind want it */
 
@@ -323,7 +344,7 @@ const char *status_text(unsigned status);
 #define ALL_COUNTS ((unsigned)LIBRARY_COUNTS + COUNTS)
 struct count_text count_text(unsigned place);
 uint64_t count_at(const struct link *link, unsigned place);
-const char *bundle_state_text(enum bundle_state state);
+extern const char *const BUNDLE_STATE_TEXTS[BUNDLE_STATES];
 const char *system_text(const struct system_id *system, char room[static 32]);
 const char *mac_text(const uint8_t *mac, char room[static 32]);
 const char *time_text(time_t time, char room[static 32]);
@@ -354,7 +375,8 @@ void need(bool done, const char *what);
 bool is_done(struct process *process, uint32_t status, const char *call) MUST_USE;
 bool is_told(struct process *process, struct niw_number answer, const char *call, uint64_t *number) MUST_USE;
 bool say(struct process *process, int level, const char *format, ...) __attribute__((format(printf, 3, 4)));
-void complain(struct process *process, const char *format, ...) __attribute__((format(printf, 2, 3)));
+/* Tells what is wrong with a file. */
+#define complain(process, ...) ((void)say(process, LOG_WARNING | ABOUT_FILE, __VA_ARGS__))
 size_t escape(char *text, size_t room, const char *from, size_t length, bool lines);
 
 /* address.c */
@@ -366,8 +388,10 @@ int lock_interface(struct process *process, int index);
 const char *holder_of(const struct ports *ports, int index, char room[static HOLDER_ROOM]);
 
 /* links.c */
-bool open_link(struct protocol *protocol, struct link *link, int index);
-void close_link(struct protocol *protocol, struct link *link);
+bool open_link(struct process *process, struct plane *plane, struct link *link, int index);
+void close_link(struct plane *plane, struct store *store, struct link *link);
+int open_in_sys(int index, const char *what, int flags);
+bool read_text(int fd, char *text, size_t room);
 bool has_new_carrier(struct link *link);
 void send_frame(struct protocol *protocol, struct link *link, const uint8_t *frame);
 
@@ -387,14 +411,14 @@ void accept_response(struct protocol *protocol, struct link *link, const struct 
 void forget_partner(const struct settings *settings, struct link *link);
 bool may_be_partner(const struct link *link, const uint8_t *frame, struct system_id *actor);
 void note_actor(const struct settings *settings, struct link *link, const struct system_id *actor, const uint8_t *frame);
-void tell_strangers(struct protocol *protocol, struct link *link);
+void tell_strangers(struct process *process, uint64_t ticks, struct link *link);
 
 /* markers.c */
 bool read_response(struct process *process, const struct arrival *arrival, struct niw_pdu *pdu);
 bool is_partners_response(const struct settings *settings, const struct link *link, const struct arrival *arrival, const struct niw_pdu *response);
 void note_odd_marker(struct link *link, const struct arrival *arrival, enum count count);
-bool may_answer(struct protocol *protocol, struct link *link, const struct arrival *arrival);
-void tell_markers(struct protocol *protocol, struct link *link);
+bool may_answer(const struct settings *settings, const struct plane *plane, struct link *link, const struct arrival *arrival);
+void tell_markers(struct process *process, uint64_t ticks, struct link *link);
 
 #define MARKERS_AT_ONCE 16 /* how many come in the place of one, of a partner whose members have several queues, where ours have */
 
@@ -403,10 +427,10 @@ void look_for_twins(struct protocol *protocol);
 
 /* restore.c */
 bool is_restored(struct protocol *protocol, struct link *link);
-void forget_carrier(struct link *link);
+void set_waiting(struct link *link, bool waits);
 bool has_waited(struct protocol *protocol, const struct link *link);
 void note_carrier(const struct settings *settings, struct link *link);
-bool is_spared(struct protocol *protocol, struct link *link, bool carrier, bool lost);
+bool is_spared(const struct process *process, struct link *link, bool carrier, bool lost);
 
 /* revert.c */
 void pass_revert_second(struct protocol *protocol);
@@ -418,7 +442,7 @@ void receive_changes(struct protocol *protocol);
 void read_messages(struct protocol *protocol, const void *messages, size_t length);
 void watch_changes(struct protocol *protocol);
 void lose_member(struct protocol *protocol, struct link *link);
-void ask_links(struct protocol *protocol);
+void ask_links(struct changes *own, const struct ports *ports);
 void ask_now(struct protocol *protocol);
 void watch_carriers(struct protocol *protocol, bool all);
 
@@ -426,20 +450,20 @@ void watch_carriers(struct protocol *protocol, bool all);
 void choose_slots(struct protocol *protocol);
 void make_keys(struct protocol *protocol, uint16_t keys[static NIW_MOST_PORTS]);
 bool has_aggregator(const struct keys *own, uint16_t given);
-uint16_t free_key(struct protocol *protocol, uint16_t behind, const struct link *but);
+uint16_t free_key(const struct keys *own, const struct ports *ports, uint16_t behind, const struct link *but);
 uint16_t choose_key(struct protocol *protocol, const struct link *link);
 bool ask_driver(int index, void *value);
 struct speed read_speed(int socket, int index);
 bool write_speed(int socket, int index, uint32_t megabits);
 void apply_speed(struct protocol *protocol, struct link *link);
-bool has_other_speed(struct protocol *protocol, const struct link *link);
+bool has_other_speed(const struct settings *settings, const struct link *link);
 const char *speed_text(const struct speed *speed, char room[static 40]);
 
 /* system.c */
 void make_system(struct protocol *protocol);
 size_t resume_system(struct protocol *protocol, struct niw_saved *saved, size_t count);
-void set_link(struct protocol *protocol, uint16_t port, bool up);
-bool apply_hold(struct protocol *protocol, uint16_t port) MUST_USE;
+void set_link(struct protocol *protocol, struct link *link, bool up);
+bool apply_hold(struct protocol *protocol, const struct link *link) MUST_USE;
 void lose_link(struct protocol *protocol, struct link *link);
 void send_due(struct protocol *protocol);
 void settle_calls(struct protocol *protocol);
@@ -459,14 +483,14 @@ uint16_t count_links(const struct ports *ports);
 bool place_ports(struct protocol *protocol, struct settings *settings);
 void keep_left_ports(struct protocol *protocol);
 void leave_left_ports(struct protocol *protocol);
-void begin_link(struct protocol *protocol, uint16_t port);
+void begin_link(const struct settings *settings, struct ports *ports, uint16_t port);
 void join_port(struct protocol *protocol, struct link *link, const struct port_settings *settings);
 void leave_port(struct protocol *protocol, struct link *link);
 bool begin_hold(struct protocol *protocol, struct link *link);
 void stay_port(struct protocol *protocol, struct link *link);
 void pass_leaving_tick(struct protocol *protocol);
 struct interface;
-bool may_put_in(struct protocol *protocol, const struct link *link);
+bool may_put_in(const struct protocol *protocol, const struct link *link);
 bool stays_outside(struct protocol *protocol, struct link *link, int master);
 void tell_taken_out(struct protocol *protocol, struct link *link);
 void follow_port(struct protocol *protocol, const struct interface *interface);
@@ -483,8 +507,8 @@ void pass_halt_tick(struct protocol *protocol);
 void read_views(struct protocol *protocol);
 void print_all_changes(struct protocol *protocol);
 bool print_change(struct protocol *protocol, struct link *link);
-struct facts facts_of(struct protocol *protocol, const struct link *link);
-bool carries(struct protocol *protocol, const struct link *link);
+struct facts facts_of(const struct protocol *protocol, const struct link *link);
+bool carries(const struct protocol *protocol, const struct link *link);
 uint16_t count_away(const struct ports *ports);
 
 /* select.c */
@@ -496,20 +520,15 @@ struct worth { /* of an aggregator, by the ports that carry there */
     uint64_t system;   /* the better one of both ends, */
     uint32_t port;     /* and its best port: priority and number */
 };
-struct worth worth_of(struct protocol *protocol, uint16_t aggregator);
-uint64_t patience_with(struct protocol *protocol, uint16_t active, uint16_t other);
+struct worth worth_of(const struct protocol *protocol, uint16_t aggregator);
+uint64_t patience_with(const struct protocol *protocol, uint16_t active, uint16_t other);
 void follow_peer(struct protocol *protocol, uint16_t aggregator);
-void go_on_selecting(struct choice *own, uint16_t aggregator, bool follows);
 void choose_aggregator(struct protocol *protocol, struct bundle *now);
 bool is_as_good_as_any(struct protocol *protocol, uint16_t aggregator);
 
 /* bundle.c */
 void look_at_bundle(struct protocol *protocol);
-void allow_bundle_line(struct bundle *bundle);
 void end_bundle(struct protocol *protocol);
-
-/* hook.c */
-void run_hook(struct protocol *protocol, const char *path, enum bundle_state before);
 
 /* reload.c */
 void reload(struct protocol *protocol, const char *file);
@@ -524,7 +543,6 @@ int try_folder(const char *folder, const char **fault);
 int open_folder(const char *folder);
 FILE *open_in(int folder, const char *name, int flags, const char *mode);
 const char *fault_of_owner(int opened);
-unsigned long network_namespace(void);
 uint64_t namespace_cookie(void);
 
 /* bpf.c */
@@ -574,7 +592,6 @@ void await_no_more(int epoll_file, int fd);
 /* options.c */
 const char *read_port(struct words *words, char *text, struct settings *settings, const char **found);
 
-#define QUESTION_ROOM 256 /* a question has a name of an interface at most, with its words */
 /* status.c */
 #define REFUSAL "refused: " /* begins the answer to who has no place */
 void open_status(struct process *process, const char *folder);
@@ -587,19 +604,17 @@ void tell_watchers_of(struct control *control, const struct link *link);
 uint64_t boottime(void);
 uint32_t first_marker_left(const struct inherited *inherited);
 bool was_away_briefly(const struct inherited *inherited);
-void begin_resuming(struct protocol *protocol);
+void begin_resuming(struct process *process, struct plane *plane);
 unsigned resume(struct protocol *protocol);
 void resume_data(struct protocol *protocol, unsigned count);
-void end_resuming(struct protocol *protocol);
+void end_resuming(struct plane *plane, struct store *store);
 
 /* carry.c */
 void settle_carry(struct plane *plane);
-void pass_carry_tick(struct protocol *protocol);
 
 /* tap/host.c */
-void open_carry(struct protocol *protocol);
 void end_carry(struct plane *plane);
-void remove_all_members(struct protocol *protocol);
+void remove_all_members(struct plane *plane, struct ports *ports);
 
 /* tap/guard.c, tap/members.c */
 void fit_queue(const struct plane *plane, const struct link *link);

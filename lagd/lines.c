@@ -117,31 +117,16 @@ static bool say_text(struct process *process, int level, const char *text) {
     return write_line(output(process), line, (size_t)used);
 }
 
-/* Forms a text that a terminal only shows. */
-static void form(char text[static LONGEST_TEXT], const char *format, va_list given) {
-    char raw[LONGEST_TEXT];
-    int length = vsnprintf(raw, sizeof raw, format, given);
-    (void)escape(text, LONGEST_TEXT, raw, length < (int)sizeof raw ? (size_t)length : sizeof raw - 1, false);
-}
-
+/* Prints a text as a line that a terminal only shows; what is wrong with a file stands on standard error at the start. Answers whether it was
+ * printed. */
 bool say(struct process *process, int level, const char *format, ...) {
-    char text[LONGEST_TEXT];
+    char raw[LONGEST_TEXT], text[LONGEST_TEXT];
     va_list given;
     va_start(given, format);
-    form(text, format, given);
+    int length = vsnprintf(raw, sizeof raw, format, given);
     va_end(given);
-    return say_text(process, level, text);
-}
-
-/* Tells what is wrong with a file: at the start on standard error, and later by a line. */
-void complain(struct process *process, const char *format, ...) {
-    char text[LONGEST_TEXT];
-    va_list given;
-    va_start(given, format);
-    form(text, format, given);
-    va_end(given);
-    if (process->has_started)
-        (void)say_text(process, LOG_WARNING | ABOUT_FILE, text);
-    else
-        write_error(text);
+    (void)escape(text, sizeof text, raw, length < (int)sizeof raw ? (size_t)length : sizeof raw - 1, false);
+    if (process->has_started || (level & KINDS) != ABOUT_FILE) return say_text(process, level, text);
+    write_error(text);
+    return true;
 }

@@ -55,25 +55,21 @@ static bool give_past_data(struct link *link, const uint8_t *frame) {
 }
 
 /* Reads a file of an interface, from its beginning; answers whether there was something. */
-static bool read_text(int fd, char *text, size_t room) {
+bool read_text(int fd, char *text, size_t room) {
     ssize_t length = fd < 0 ? -1 : pread(fd, text, room - 1, 0);
     if (length > 0) text[length] = 0;
     return length > 0;
 }
 
-/* The file in which the kernel counts how often the carrier of an interface came and went; or -1, where /sys has another network
- * namespace. It stays the same interface's where that gets another name. */
-static int open_carrier(int index) {
+/* Opens a file or a folder that /sys has of an interface; or -1, as where /sys has another network namespace. It stays the same interface's where
+ * that gets another name. */
+int open_in_sys(int index, const char *what, int flags) {
     char name[IF_NAMESIZE], path[64], text[16];
-    int folder, number, opened = -1;
     if (!if_indextoname((unsigned)index, name)) return -1;
     snprintf(path, sizeof path, "/sys/class/net/%s", name);
-    folder = open(path, O_PATH | O_DIRECTORY | O_CLOEXEC);
-    number = folder < 0 ? -1 : openat(folder, "ifindex", O_RDONLY | O_CLOEXEC);
-    if (read_text(number, text, sizeof text) && atoi(text) == index) opened = openat(folder, "carrier_changes", O_RDONLY | O_CLOEXEC);
-    if (number >= 0) close(number);
-    if (folder >= 0) close(folder);
-    return opened;
+    CLOSED_FILE int folder = open(path, O_PATH | O_DIRECTORY | O_CLOEXEC);
+    CLOSED_FILE int number = folder < 0 ? -1 : openat(folder, "ifindex", O_RDONLY | O_CLOEXEC);
+    return read_text(number, text, sizeof text) && atoi(text) == index ? openat(folder, what, flags | O_CLOEXEC) : -1;
 }
 
 /* Whether the carrier of a link may have changed since this was asked last. */
@@ -93,35 +89,35 @@ static void close_files(struct store *store, struct link *link) {
 }
 
 /* Opens what an interface that is taken up has; answers 0, or -errno. */
-static int open_files(struct protocol *protocol, struct link *link, int index) {
+static int open_files(struct process *process, struct plane *plane, struct link *link, int index) {
     link->index = index;
-    link->lock = lock_interface(protocol->process, index);
+    link->lock = lock_interface(process, index);
     if (link->lock < 0) return link->lock;
-    link->socket = open_socket(protocol->process, index);
+    link->socket = open_socket(process, index);
     if (link->socket < 0) return link->socket;
-    if (!await_input(protocol->process->epoll_file, link->socket, link->settings.number)) return last_fault();
-    return ASK(protocol->plane->carrying->add, 0, protocol->plane, link);
+    if (!await_input(process->epoll_file, link->socket, link->settings.number)) return last_fault();
+    return ASK(plane->carrying->add, 0, plane, link);
 }
 
 /* Takes up the interface of this number; answers whether it did, and else `trouble` has why not. */
-bool open_link(struct protocol *protocol, struct link *link, int index) {
-    link->trouble = -open_files(protocol, link, index);
+bool open_link(struct process *process, struct plane *plane, struct link *link, int index) {
+    link->trouble = -open_files(process, plane, link, index);
     bool taken = link->trouble == 0;
-    if (taken) put_stored(&protocol->process->store, "lock", index, link->lock);
-    if (taken) put_stored(&protocol->process->store, "lacp", index, link->socket);
-    link->carrier_file = open_carrier(index);
+    if (taken) put_stored(&process->store, "lock", index, link->lock);
+    if (taken) put_stored(&process->store, "lacp", index, link->socket);
+    link->carrier_file = open_in_sys(index, "carrier_changes", O_RDONLY); /* how often that came and went */
     link->carrier_changes[0] = 0;
     link->trouble_ticks = TROUBLE_TICKS;
     link->unsent = link->queued = false;
     link->changed = true;
-    if (!taken) close_files(&protocol->process->store, link);
+    if (!taken) close_files(&process->store, link);
     return taken;
 }
 
-void close_link(struct protocol *protocol, struct link *link) {
-    CALL(protocol->plane->carrying->remove, protocol->plane, link);
-    CALL(protocol->plane->carrying->follow_mtu, protocol->plane, link, 0);
-    close_files(&protocol->process->store, link);
+void close_link(struct plane *plane, struct store *store, struct link *link) {
+    CALL(plane->carrying->remove, plane, link);
+    CALL(plane->carrying->follow_mtu, plane, link, 0);
+    close_files(store, link);
     link->unsent = false;
     link->changed = true;
 }

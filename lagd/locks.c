@@ -22,7 +22,7 @@ static unsigned long inode_of(int fd) {
 
 /* Finds the lock of an interface that is not this socket; answers 0, or -errno where the kernel does not tell. */
 static int find_lock(int index, int but, struct lock *found) {
-    FILE *file = fopen("/proc/self/net/packet", "re");
+    CLOSED_STREAM FILE *file = fopen("/proc/self/net/packet", "re");
     unsigned long own = inode_of(but);
     char line[256];
     *found = (struct lock){0};
@@ -34,9 +34,7 @@ static int find_lock(int index, int but, struct lock *found) {
         if (sscanf(line, "%*s %*s %*s %x %d %*s %*s %u %lu", &protocol, &at, &lock.user, &lock.inode) != 4) continue;
         if (protocol == PROTOCOL && at == index && lock.inode != own) *found = lock;
     }
-    int fault = ferror(file) ? -EIO : 0;
-    fclose(file);
-    return fault;
+    return ferror(file) ? -EIO : 0;
 }
 
 /* Takes the lock of an interface; or answers -errno: -EADDRINUSE where somebody has it. Of two that take it at once one at least sees the

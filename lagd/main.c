@@ -49,16 +49,16 @@ static bool is_ignored(int signal) {
     return sigaction(signal, NULL, &action) == 0 && action.sa_handler == SIG_IGN;
 }
 
-/* Opens the signals that end the daemon, SIGUSR1 too, SIGHUP, and SIGUSR2 where it carries data. A log that may not grow (SIGXFSZ), a reader
- * that is gone (SIGPIPE) and a hook that ends (SIGCHLD) do not disturb it. */
-static int open_signals(const struct settings *settings) {
+/* Opens the signals that end the daemon, SIGUSR1 too, SIGHUP, and SIGUSR2. A log that may not grow (SIGXFSZ), a reader that is gone (SIGPIPE)
+ * and a hook that ends (SIGCHLD) do not disturb it. */
+static int open_signals(void) {
     /* These would end the program at once, beside those of a fault in it. */
     static const int ends[] = {SIGHUP, SIGINT, SIGQUIT, SIGALRM, SIGVTALRM, SIGPROF, SIGIO, SIGPWR, SIGXCPU, SIGSTKFLT};
     sigset_t taken;
     sigemptyset(&taken);
     sigaddset(&taken, SIGTERM);
     sigaddset(&taken, SIGUSR1);
-    if (settings->carry[0]) sigaddset(&taken, SIGUSR2);
+    sigaddset(&taken, SIGUSR2);
     for (size_t i = 0; i < sizeof ends / sizeof *ends; i++)
         if (!is_ignored(ends[i])) sigaddset(&taken, ends[i]);
     for (int it = SIGRTMIN; it <= SIGRTMAX; it++)
@@ -66,7 +66,6 @@ static int open_signals(const struct settings *settings) {
     sigprocmask(SIG_BLOCK, &taken, NULL);
     signal(SIGPIPE, SIG_IGN);
     signal(SIGXFSZ, SIG_IGN);
-    if (!settings->carry[0]) signal(SIGUSR2, SIG_IGN);
     signal(SIGCHLD, SIG_IGN);
     int fd = signalfd(-1, &taken, SFD_CLOEXEC);
     need(fd >= 0, "no signals");
@@ -76,12 +75,12 @@ static int open_signals(const struct settings *settings) {
 /* Drops what is not needed once the sockets are open, for good: no program that it starts gets more, or has any. CAP_NET_RAW stays, for an
  * interface that comes later, and CAP_NET_ADMIN beside it where it carries data, as far as they are there. Its user stays who he was: who is
  * root may set files of /sys back, and runs the hooks. The unit has another one. */
-static void drop_privileges(struct process *process) {
+static void drop_privileges(struct process *process, bool administers) {
     (void)prctl(PR_SET_NO_NEW_PRIVS, 1, 0, 0, 0);
     (void)prctl(PR_CAP_AMBIENT, PR_CAP_AMBIENT_CLEAR_ALL, 0, 0, 0);
     bool known = capng_get_caps_process() == 0;
     bool raw = known && capng_have_capability(CAPNG_EFFECTIVE, CAP_NET_RAW);
-    bool admin = known && process->settings->carry[0] && capng_have_capability(CAPNG_EFFECTIVE, CAP_NET_ADMIN);
+    bool admin = known && administers && capng_have_capability(CAPNG_EFFECTIVE, CAP_NET_ADMIN);
     capng_clear(CAPNG_SELECT_BOTH);
     if (raw) (void)capng_update(CAPNG_ADD, CAPNG_EFFECTIVE | CAPNG_PERMITTED, CAP_NET_RAW);
     if (admin) (void)capng_update(CAPNG_ADD, CAPNG_EFFECTIVE | CAPNG_PERMITTED, CAP_NET_ADMIN);
@@ -101,10 +100,10 @@ static void pass_second(struct lagd *lagd) {
         if (link->lines < MOST_LINES) link->lines++;
     }
     look_for_twins(&lagd->protocol);
-    allow_bundle_line(&lagd->protocol.bundle);
+    if (lagd->protocol.bundle.lines < MOST_LINES) lagd->protocol.bundle.lines++;
     pass_revert_second(&lagd->protocol);
     watch_changes(&lagd->protocol);
-    (void)save_state(lagd->state, false);
+    (void)save_state(&lagd->state, false);
     notify("WATCHDOG=1");
 }
 
@@ -112,7 +111,7 @@ static void pass_tick(struct lagd *lagd) {
     if (!pass_system_tick(&lagd->protocol)) return;
     pass_halt_tick(&lagd->protocol);
     pass_leaving_tick(&lagd->protocol);
-    pass_carry_tick(&lagd->protocol);
+    if (!lagd->process.broken) CALL(lagd->plane.carrying->tick, &lagd->plane);
     if (lagd->protocol.ticks % SECOND == 0) pass_second(lagd);
 }
 
@@ -160,7 +159,7 @@ static void serve_all_data(struct tap_plane *tap, const struct epoll_event *even
 /* The next daemon is to go on, if it can. */
 static void leave_state(struct lagd *lagd) {
     CALL(lagd->plane.carrying->keep_device, &lagd->plane, true);
-    lagd->process.has_left = save_state(lagd->state, true);
+    lagd->process.has_left = save_state(&lagd->state, true);
     if (!lagd->process.has_left) {
         CALL(lagd->plane.carrying->keep_device, &lagd->plane, false);
         return;
@@ -222,7 +221,7 @@ static void run(struct lagd *lagd, int signals, int clock, const char *file) {
         if (ends || !(ends_now || lagd->process.broken)) continue;
         ends = true;
         notify("STOPPING=1");
-        end_state(lagd->state);
+        end_state(&lagd->state);
         tell_end(&lagd->protocol);
     }
 }
@@ -238,30 +237,30 @@ static void keep_standard_files(void) {
 static int run_daemon(struct lagd *lagd, const struct options *options) {
     lagd->settings = options->settings;
     (void)prctl(PR_SET_TIMERSLACK, TIMER_SLACK);
-    int signals = open_signals(&lagd->settings);
+    int signals = open_signals();
     lagd->process.epoll_file = epoll_create1(EPOLL_CLOEXEC);
     need(lagd->process.epoll_file >= 0, "epoll");
     if (lagd->settings.system_auto) read_own_address(&lagd->settings);
     lagd->process.folder = open_folder(options->folder);
     open_store(&lagd->process);
     choose_plane(&lagd->plane, &lagd->settings);
-    recall_state(lagd->state);
+    recall_state(&lagd->state);
     make_system(&lagd->protocol);
-    begin_resuming(&lagd->protocol);
-    open_carry(&lagd->protocol);
+    begin_resuming(&lagd->process, &lagd->plane);
+    CALL(lagd->plane.carrying->open, &lagd->plane);
     start_halt(&lagd->protocol);
     need(await_input(lagd->process.epoll_file, open_changes(&lagd->protocol), CHANGES), "epoll");
     open_status(&lagd->process, options->folder);
     int clock = open_clock();
     need(await_input(lagd->process.epoll_file, signals, SIGNALS) && await_input(lagd->process.epoll_file, clock, CLOCK), "epoll");
-    drop_privileges(&lagd->process);
+    drop_privileges(&lagd->process, lagd->plane.carrying->administers);
     unsigned resumed = resume(&lagd->protocol);
     lagd->process.has_started = true;
     resume_data(&lagd->protocol, resumed);
     halt_if_down(&lagd->protocol);
     leave_left_ports(&lagd->protocol);
-    end_resuming(&lagd->protocol);
-    (void)save_state(lagd->state, false);
+    end_resuming(&lagd->plane, &lagd->process.store);
+    (void)save_state(&lagd->state, false);
     tell_changes(&lagd->protocol);
     settle_carry(&lagd->plane);
     notify_bundle(&lagd->protocol.bundle, READY);
@@ -279,5 +278,5 @@ int main(int argc, char **argv) {
     read_options(&lagd->process, argc, argv, &options);
     if (options.action == RUN_BUNDLE) return run_daemon(lagd, &options);
     if (options.action == CHECK) return check_machine(&lagd->control, &options);
-    return ask_daemons(&lagd->control, &options);
+    return ask_daemons(&lagd->process, lagd->control.report, &options);
 }

@@ -36,9 +36,9 @@ void note_odd_marker(struct link *link, const struct arrival *arrival, enum coun
 
 /* Whether a marker is answered: any second has marker-responses of them at most, and a quarter at most of markers that are not the
  * partner's. */
-bool may_answer(struct protocol *protocol, struct link *link, const struct arrival *arrival) {
+bool may_answer(const struct settings *settings, const struct plane *plane, struct link *link, const struct arrival *arrival) {
     struct answered *answered = &link->markers.answered;
-    unsigned partner = 0, others = 0, most = protocol->settings->marker_responses * protocol->plane->queueing->markers_at_once;
+    unsigned partner = 0, others = 0, most = settings->marker_responses * plane->queueing->markers_at_once;
     bool other = !is_from_partner(link, arrival);
     uint64_t slot = milliseconds() / SLOT;
     for (uint64_t passed = answered->slot + 1; passed <= slot && passed <= answered->slot + ANSWERED_SLOTS; passed++)
@@ -54,14 +54,13 @@ bool may_answer(struct protocol *protocol, struct link *link, const struct arriv
 }
 
 /* Tells of responses that are not the partner's, and of markers that are not answered: at once, and then every 10 s at most. */
-void tell_markers(struct protocol *protocol, struct link *link) {
+void tell_markers(struct process *process, uint64_t ticks, struct link *link) {
     uint64_t foreign = link->counts[FOREIGN_RESPONSES], unanswered = link->counts[RESPONSES_UNSENT];
-    char source[32];
-    if (foreign + unanswered == link->markers.reported || protocol->ticks < link->markers.tell_at) return;
-    if (!say(protocol->process, LOG_WARNING | ABOUT_MARKERS,
+    if (foreign + unanswered == link->markers.reported || ticks < link->markers.tell_at) return;
+    if (!say(process, LOG_WARNING | ABOUT_MARKERS,
             "port %u %s: Marker PDUs, last from %s: %" PRIu64 " responses that are not the partner's, %" PRIu64 " markers not answered",
-            link->settings.number, link->name, mac_text(link->markers.source, source), foreign, unanswered))
+            link->settings.number, link->name, mac_text(link->markers.source, TEXT_ROOM), foreign, unanswered))
         return;
     link->markers.reported = foreign + unanswered;
-    link->markers.tell_at = protocol->ticks + LINE_TICKS;
+    link->markers.tell_at = ticks + LINE_TICKS;
 }

@@ -26,12 +26,12 @@ static struct link *link_of(struct ports *ports, const char *name) {
 }
 
 /* The number that a port has, or had in the last daemon; 0 for none. */
-static uint16_t number_of(struct protocol *protocol, const char *name) {
-    const struct inherited *inherited = protocol->process->inherited;
-    const struct link *link = link_of(protocol->ports, name);
+static uint16_t number_of(const struct process *process, struct ports *ports, const char *name) {
+    const struct inherited *inherited = process->inherited;
+    const struct link *link = link_of(ports, name);
     if (link) return link->settings.number;
-    for (unsigned i = 0; !protocol->process->has_started && i < inherited->port_count; i++)
-        if (strcmp(inherited->ports[i].name, name) == 0 && inherited->ports[i].number <= protocol->ports->slots) return inherited->ports[i].number;
+    for (unsigned i = 0; !process->has_started && i < inherited->port_count; i++)
+        if (strcmp(inherited->ports[i].name, name) == 0 && inherited->ports[i].number <= ports->slots) return inherited->ports[i].number;
     return 0;
 }
 
@@ -52,7 +52,7 @@ static bool number_ports(struct protocol *protocol, const struct port_settings *
         if (inherited->ports[i].number <= protocol->ports->slots && has_carried(inherited, &inherited->ports[i]))
             taken[inherited->ports[i].number] = true;
     for (uint16_t i = 0; i < count; i++) {
-        numbers[i] = number_of(protocol, given[i].name);
+        numbers[i] = number_of(protocol->process, protocol->ports, given[i].name);
         taken[numbers[i]] = true;
     }
     for (uint16_t i = 0, lowest = 0; i < count; i++) {
@@ -90,21 +90,21 @@ void keep_left_ports(struct protocol *protocol) {
         if (port->number > protocol->ports->slots || link->used || !has_carried(inherited, port)) continue;
         memcpy(settings->ports[port->number - 1].name, port->name, sizeof port->name);
         if (port->number > settings->port_count) settings->port_count = port->number;
-        begin_link(protocol, port->number);
+        begin_link(settings, protocol->ports, port->number);
         link->left_over = !settings->follow;
         link->followed = settings->follow;
     }
 }
 
 /* A port begins, as the settings have it. What the library tells of it stays. */
-void begin_link(struct protocol *protocol, uint16_t port) {
-    struct link *link = &protocol->ports->links[port - 1];
-    *link = (struct link){.name = protocol->settings->ports[port - 1].name, .settings = port_of(protocol->settings, port), .socket = -1, .lock = -1,
+void begin_link(const struct settings *settings, struct ports *ports, uint16_t port) {
+    struct link *link = &ports->links[port - 1];
+    *link = (struct link){.name = settings->ports[port - 1].name, .settings = port_of(settings, port), .socket = -1, .lock = -1,
         .carrier_file = -1, .lines = MOST_LINES, .changed = true, .view = link->view};
     link->key = link->settings.key;
     link->used = link->name[0] != 0;
-    link->held = wants_hold(protocol->settings, port);
-    forget_partner(protocol->settings, link);
+    link->held = wants_hold(settings, port);
+    forget_partner(settings, link);
 }
 
 /* Gives the library what the settings have of a port; answers whether it took that. */
@@ -114,16 +114,16 @@ static bool configure(struct protocol *protocol, struct link *link) {
     link->settings.key = change.key;
     return is_done(protocol->process, niw_configure(&protocol->own_system, port, &change).status, "niw_configure")
         && is_done(protocol->process, niw_set_mode(&protocol->own_system, port, link->settings.active, link->settings.short_timeout), "niw_set_mode")
-        && apply_hold(protocol, port);
+        && apply_hold(protocol, link);
 }
 
 void join_port(struct protocol *protocol, struct link *link, const struct port_settings *settings) {
     uint16_t port = link->settings.number;
     protocol->settings->ports[port - 1] = *settings;
     if (port > protocol->ports->count) protocol->settings->port_count = protocol->ports->count = port;
-    begin_link(protocol, port);
+    begin_link(protocol->settings, protocol->ports, port);
     link->puts_in = true;
-    CALL(protocol->plane->carrying->forget, protocol->plane, port);
+    CALL(protocol->plane->carrying->forget, protocol->plane, link);
     if (!configure(protocol, link)) return;
     (void)say(protocol->process, LOG_NOTICE | ABOUT_PORT, "port %u %s: it joins the bundle", port, link->name);
     ask_now(protocol);
@@ -136,7 +136,7 @@ static void end_leaving(struct protocol *protocol, struct link *link) {
     if (link->socket >= 0) lose_link(protocol, link);
     (void)say(protocol->process, LOG_NOTICE | ABOUT_PORT, "port %u %s: it left the bundle", port, link->name);
     protocol->settings->ports[port - 1] = unset_port();
-    begin_link(protocol, port);
+    begin_link(protocol->settings, protocol->ports, port);
     protocol->plane->changed = true;
     look_at_bundle(protocol);
 }
@@ -144,25 +144,23 @@ static void end_leaving(struct protocol *protocol, struct link *link) {
 /* A port is to be out of use, or to be used again; answers whether that is done. First its conversations move to others, behind markers, so that
  * nothing of ours is on its way there once the peer takes nothing more. */
 bool begin_hold(struct protocol *protocol, struct link *link) {
-    uint16_t port = link->settings.number;
     bool out_of_use = link->held || link->leaving;
     link->leaves_since = milliseconds();
     link->left_at = 0;
-    link->emptying = out_of_use && ASK(protocol->plane->carrying->can_empty, false, protocol->plane, port);
+    link->emptying = out_of_use && ASK(protocol->plane->carrying->can_empty, false, protocol->plane, link);
     protocol->plane->changed = true;
     if (link->emptying) return true;
-    if (out_of_use) CALL(protocol->plane->carrying->drain, protocol->plane, port);
-    return apply_hold(protocol, port);
+    if (out_of_use) CALL(protocol->plane->carrying->drain, protocol->plane, link);
+    return apply_hold(protocol, link);
 }
 
 /* A port that is emptied is held, once it is empty, or after a while. */
 static void end_emptying(struct protocol *protocol, struct link *link) {
-    uint16_t port = link->settings.number;
-    if (link->up && milliseconds() - link->leaves_since < MOST_WAIT && !ASK(protocol->plane->carrying->empty, true, protocol->plane, port)) return;
+    if (link->up && milliseconds() - link->leaves_since < MOST_WAIT && !ASK(protocol->plane->carrying->empty, true, protocol->plane, link)) return;
     link->emptying = false;
     link->leaves_since = milliseconds();
-    CALL(protocol->plane->carrying->drain, protocol->plane, port);
-    if (apply_hold(protocol, port)) settle_calls(protocol);
+    CALL(protocol->plane->carrying->drain, protocol->plane, link);
+    if (apply_hold(protocol, link)) settle_calls(protocol);
 }
 
 /* A port goes: its peer is told, and its conversations leave it. One whose link is down is gone at once. */
@@ -220,13 +218,13 @@ void leave_left_ports(struct protocol *protocol) {
 
 /* Whether the daemon puts an interface into the device: where others choose its ports, only what the administrator asked for, and what a file has as
  * the device is made. */
-bool may_put_in(struct protocol *protocol, const struct link *link) {
+bool may_put_in(const struct protocol *protocol, const struct link *link) {
     return !protocol->settings->follow || link->puts_in || (!protocol->process->has_started && protocol->plane->is_new);
 }
 
 /* Whether an interface is no port, as others choose the ports of the device and it is not in there. */
 bool stays_outside(struct protocol *protocol, struct link *link, int master) {
-    bool outside = !may_put_in(protocol, link) && master != tap_index(protocol->device);
+    bool outside = !may_put_in(protocol, link) && master != protocol->device->index;
     link->changed = link->changed || link->outside != outside;
     link->outside = outside;
     return outside;
@@ -234,12 +232,11 @@ bool stays_outside(struct protocol *protocol, struct link *link, int master) {
 
 /* Others took a port out of the device: its peer is told, as far as the interface still sends. */
 void tell_taken_out(struct protocol *protocol, struct link *link) {
-    uint16_t port = link->settings.number;
     if (!protocol->settings->follow || !protocol->process->has_started) return;
     link->puts_in = false;
-    if (!is_done(protocol->process, niw_hold(&protocol->own_system, port, true), "niw_hold")) return;
+    if (!is_done(protocol->process, niw_hold(&protocol->own_system, link->settings.number, true), "niw_hold")) return;
     send_due(protocol);
-    if (apply_hold(protocol, port)) link->changed = true;
+    if (apply_hold(protocol, link)) link->changed = true;
 }
 
 /* A number that no port has, as its place, or NULL. */
@@ -255,7 +252,7 @@ void follow_port(struct protocol *protocol, const struct interface *interface) {
     struct port_settings settings = unset_port();
     struct interface now;
     struct link *link = free_place(protocol->ports);
-    if (!protocol->settings->follow || interface->master == 0 || interface->master != tap_index(protocol->device) || interface->type != ARPHRD_ETHER)
+    if (!protocol->settings->follow || interface->master == 0 || interface->master != protocol->device->index || interface->type != ARPHRD_ETHER)
         return;
     if (!link || !ask_interface(interface->index, NULL, &now) || now.master != interface->master) return;
     memcpy(settings.name, interface->name, sizeof interface->name);
@@ -267,7 +264,7 @@ void follow_port(struct protocol *protocol, const struct interface *interface) {
 /* The interface of a port that the device alone has was given another name: it is the same port. Answers whether it is. */
 bool accept_name(struct protocol *protocol, const struct link *link, const struct interface *interface) {
     char *name = protocol->settings->ports[link->settings.number - 1].name;
-    if (!link->followed || link->leaving || interface->master != tap_index(protocol->device) || link_of(protocol->ports, interface->name))
+    if (!link->followed || link->leaving || interface->master != protocol->device->index || link_of(protocol->ports, interface->name))
         return false;
     (void)say(protocol->process, LOG_NOTICE | ABOUT_PORT, "port %u %s: its name is %s now", link->settings.number, name, interface->name);
     memcpy(name, interface->name, sizeof interface->name);

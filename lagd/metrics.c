@@ -41,7 +41,7 @@ static void add_state_values(struct control *control, const char *name, const ch
     for (unsigned state = 0; state < BUNDLE_STATES; state++) {
         add(control->report, "lagd_%s{", name);
         add_label(control->report, "bundle", control->settings->name);
-        add(control->report, ",state=\"%s\"} %" PRIu64 "\n", bundle_state_text(state), values[state]);
+        add(control->report, ",state=\"%s\"} %" PRIu64 "\n", BUNDLE_STATE_TEXTS[state], values[state]);
     }
 }
 

@@ -26,10 +26,7 @@ uint64_t count_at(const struct link *link, unsigned place) {
     return count;
 }
 
-const char *bundle_state_text(enum bundle_state state) {
-    static const char *const texts[BUNDLE_STATES] = {"down", "degraded", "up"};
-    return texts[state];
-}
+const char *const BUNDLE_STATE_TEXTS[BUNDLE_STATES] = {"down", "degraded", "up"};
 
 const char *mac_text(const uint8_t *mac, char room[static 32]) {
     snprintf(room, 32, "%02x:%02x:%02x:%02x:%02x:%02x", mac[0], mac[1], mac[2], mac[3], mac[4], mac[5]);
@@ -38,8 +35,7 @@ const char *mac_text(const uint8_t *mac, char room[static 32]) {
 
 /* PRIORITY,MAC. */
 const char *system_text(const struct system_id *system, char room[static 32]) {
-    char mac[32];
-    snprintf(room, 32, "%u,%.17s", system->priority, mac_text(system->mac, mac));
+    snprintf(room, 32, "%u,%.17s", system->priority, mac_text(system->mac, TEXT_ROOM));
     return room;
 }
 

@@ -1,4 +1,4 @@
-/* What carries the data, as tables of functions. plane.c chooses them; nobody else asks which ones they are. */
+/* What carries the data, as tables of functions, each beside its functions. plane.c chooses them; nobody else asks which ones they are. */
 #ifndef LAGD_PLANE_H
 #define LAGD_PLANE_H
 
@@ -13,6 +13,7 @@ struct device;
 struct guard;
 struct link;
 struct msghdr;
+struct options;
 struct plane;
 struct settings;
 struct tap_plane;
@@ -32,6 +33,7 @@ struct carrying {
     void (*end)(struct plane *plane);                   /* nothing goes or comes from here on, and members are as they were */
     void (*lose_device)(struct plane *plane);           /* it was deleted, or moved to another namespace */
     void (*keep_device)(struct plane *plane, bool keeps); /* it outlives the daemon, or goes with it */
+    void (*leave)(struct plane *plane, int index, bool owned); /* the last daemon had it by other settings: it is free, and goes if it `owned` it */
     bool (*give_carrier)(struct plane *plane, bool on); /* whether the kernel does so */
     void (*settle_mtu)(struct plane *plane); /* the longest MTU that each member takes, or a lower one of an administrator */
     int (*add)(struct plane *plane, struct link *link); /* takes an interface up: 0, or -errno */
@@ -40,11 +42,11 @@ struct carrying {
     void (*move)(struct plane *plane, struct link *link, const uint8_t *mac); /* it has another MAC address */
     void (*follow_mtu)(struct plane *plane, struct link *link, uint32_t mtu); /* it has this one; 0 of one that is a member no more */
     void (*follow_speed)(struct plane *plane, const struct link *link); /* its link is up, and may have another speed */
-    bool (*can_empty)(struct plane *plane, uint16_t port); /* whether its conversations can move behind markers */
-    bool (*empty)(struct plane *plane, uint16_t port);   /* moves them to other ports: whether none is left, or can leave so */
-    void (*drain)(struct plane *plane, uint16_t port);   /* hands up what waits at a port that is to be held */
-    void (*lose)(struct plane *plane, uint16_t port);    /* its link goes down */
-    void (*forget)(struct plane *plane, uint16_t port);  /* another interface is to be this port: its counts begin anew */
+    bool (*can_empty)(struct plane *plane, const struct link *link); /* whether its conversations can move behind markers */
+    bool (*empty)(struct plane *plane, const struct link *link); /* moves them to other ports: whether none is left, or can leave so */
+    void (*drain)(struct plane *plane, struct link *link); /* hands up what waits at a port that is to be held */
+    void (*lose)(struct plane *plane, const struct link *link); /* its link goes down */
+    void (*forget)(struct plane *plane, const struct link *link); /* another interface is to be this port: its counts begin anew */
     void (*send_marker)(struct plane *plane, struct link *link, const uint8_t *marker); /* one is due */
     void (*note_response)(struct plane *plane, const struct link *link); /* its partner answered a marker */
     bool (*still_has)(struct plane *plane, const struct link *link, int master); /* whether an interface of this master is a port still */
@@ -58,16 +60,20 @@ struct carrying {
     int (*member_of)(struct plane *plane, uint16_t number); /* the interface by which the kernel has a conversation go, or 0 */
     void (*end_resuming)(struct plane *plane);           /* what were members of the last daemon, and are no more, have what they had before */
     unsigned (*frames_waiting)(struct plane *plane);     /* in the daemon, as far as that is known */
+    int (*check)(struct control *control, const struct options *options); /* says what this machine lacks: how the program ends */
     void (*show)(struct control *control, enum form form);   /* the device and its counts */
     void (*show_member)(struct control *control, const struct link *link, enum form form);
     void (*show_markers)(struct control *control);           /* in a line of text */
     void (*show_waiting)(struct control *control, enum form form); /* what waits to go, or to move */
     unsigned first_count, end_count, member_counts;    /* the counts that it has, and how many of a member */
     bool keeps_members; /* whether what the last daemon set of members may be of use */
+    bool administers;   /* whether it changes interfaces as long as it runs, for which it keeps CAP_NET_ADMIN */
+    const char *nameless; /* what stands for the name of the device in a state, where there is none */
 };
 
 /* Who passes frames on: the daemon alone, or the kernel, too (`fast`). */
 struct passing {
+    int (*check)(struct control *control, const struct options *options); /* as that of the device */
     void (*start)(struct tap_plane *tap);                         /* loads what the kernel is to run; a fault ends the program */
     void (*end)(struct tap_plane *tap);                           /* the kernel passes nothing on any more */
     void (*set_up_device)(int index);                         /* it is new */
@@ -88,6 +94,7 @@ struct passing {
 
 /* By how many queues of a member its data goes: one, or all. */
 struct queueing {
+    int (*check)(struct control *control, const struct options *options); /* as that of the device */
     void (*start)(struct tap_plane *tap); /* a fault ends the program */
     unsigned (*fifos_of)(int index); /* how many disciplines that keep the order a member gets */
     /* False where that is looked at again once it has queues; `again`: after its discipline changed. */
@@ -107,6 +114,7 @@ struct plane {
     const struct carrying *carrying;
     const struct passing *passing;
     const struct queueing *queueing;
+    const char *way; /* what the status calls it, and a state, as its last word */
     bool segments;   /* whether frames of several segments are passed */
     bool wants_fifo; /* whether members get a queueing discipline that keeps the order */
     bool renews;     /* whether a member with another one is taken up anew */
@@ -123,5 +131,7 @@ struct plane {
 /* plane.c */
 void choose_no_plane(struct plane *plane);
 void choose_plane(struct plane *plane, const struct settings *settings);
+void leave_device(struct plane *plane, const char *way, int index, bool owned);
+void release_former_members(struct plane *plane);
 
 #endif

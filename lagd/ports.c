@@ -2,7 +2,7 @@
 #include "lagd.h"
 
 /* The status of a port, with what the library does not know of it. */
-static uint8_t status_of(struct protocol *protocol, const struct link *link) {
+static uint8_t status_of(const struct protocol *protocol, const struct link *link) {
     uint8_t status = link->view.port_status;
     if (link->socket < 0) return link->outside ? OUTSIDE : MISSING;
     if (protocol->halt.down) return DEVICE_DOWN;
@@ -14,7 +14,7 @@ static uint8_t status_of(struct protocol *protocol, const struct link *link) {
     return link->view.defaulted ? WITHOUT_PARTNER : status;
 }
 
-bool carries(struct protocol *protocol, const struct link *link) {
+bool carries(const struct protocol *protocol, const struct link *link) {
     uint8_t status = status_of(protocol, link);
     return status == NIW_PORT_STATUS_DISTRIBUTING || status == WITHOUT_PARTNER || status == AWAY;
 }
@@ -25,7 +25,7 @@ uint16_t count_away(const struct ports *ports) {
     return count;
 }
 
-struct facts facts_of(struct protocol *protocol, const struct link *link) {
+struct facts facts_of(const struct protocol *protocol, const struct link *link) {
     const struct niw_view *view = &link->view;
     struct facts facts = {
         .status = status_of(protocol, link),
@@ -72,16 +72,16 @@ static bool is_same(const struct facts *one, const struct facts *other) {
         && one->partner_port == other->partner_port;
 }
 
-static bool print_facts(struct protocol *protocol, const struct link *link, const struct facts *facts, bool watched) {
+static bool print_facts(struct process *process, const struct ports *ports, const struct link *link, const struct facts *facts, bool watched) {
     char whose[96] = "no partner", system[32], trouble[128] = "", holder[HOLDER_ROOM];
     int level = (facts->status == NIW_PORT_STATUS_DISTRIBUTING ? LOG_NOTICE : LOG_WARNING) | (watched ? WATCHED : 0) | ABOUT_PORT;
     if (!facts->defaulted)
         snprintf(whose, sizeof whose, "partner %s key %u port %u", system_text(&facts->partner, system), facts->partner_key, facts->partner_port);
     if (link->trouble == EADDRINUSE)
-        snprintf(trouble, sizeof trouble, ", another lagd has the interface: %s", holder_of(protocol->ports, link->index, holder));
+        snprintf(trouble, sizeof trouble, ", another lagd has the interface: %s", holder_of(ports, link->index, holder));
     else if (link->trouble)
         snprintf(trouble, sizeof trouble, ", %s", strerror(link->trouble));
-    return say(protocol->process, level, "port %u %s: %s, aggregator %u, %s%s", link->settings.number, link->name, status_text(facts->status),
+    return say(process, level, "port %u %s: %s, aggregator %u, %s%s", link->settings.number, link->name, status_text(facts->status),
         facts->aggregator, whose, trouble);
 }
 
@@ -96,7 +96,7 @@ bool print_change(struct protocol *protocol, struct link *link) {
     }
     link->watched = true;
     link->shown = facts;
-    link->changed = !same && !print_facts(protocol, link, &facts, watched);
+    link->changed = !same && !print_facts(protocol->process, protocol->ports, link, &facts, watched);
     if (same || link->changed) return false;
     link->reported = true;
     link->printed = facts;
@@ -107,7 +107,7 @@ bool print_change(struct protocol *protocol, struct link *link) {
 void print_all_changes(struct protocol *protocol) {
     EACH_LINK(link, protocol->ports) {
         if (link->changed && link->lines > 0 && print_change(protocol, link)) link->lines--;
-        tell_strangers(protocol, link);
-        tell_markers(protocol, link);
+        tell_strangers(protocol->process, protocol->ticks, link);
+        tell_markers(protocol->process, protocol->ticks, link);
     }
 }

@@ -14,11 +14,6 @@ void go_on_answering(struct carry *carry, enum answering last) {
     own->peer = own->reported = last;
 }
 
-/* The peer did not answer a marker in time. */
-void suspect_partner(struct probe *own) {
-    if (own->peer == ANSWERS) own->peer = NOT_ASKED;
-}
-
 /* Another partner may answer markers where the last one did not. */
 void look_at_partner(struct carry *carry) {
     struct probe *own = &carry->probe;

@@ -2,19 +2,18 @@
 #include "lagd.h"
 
 /* What cannot be changed without a restart, or NULL. */
-static const char *restart_for(struct protocol *protocol, const struct settings *wanted) {
+static const char *restart_for(const struct settings *now, const struct keys *keys, const struct settings *wanted) {
     for (const struct key *key = BUNDLE_KEYS; key->name; key++)
-        if (key->restart && !is_same_value(key, wanted, protocol->settings)) return key->restart;
+        if (key->restart && !is_same_value(key, wanted, now)) return key->restart;
     for (uint16_t port = 1; port <= wanted->port_count; port++)
-        if (wanted->ports[port - 1].name[0] && !has_aggregator(&protocol->keys, port_of(wanted, port).key))
-            return "a key that no port had at the start";
+        if (wanted->ports[port - 1].name[0] && !has_aggregator(keys, port_of(wanted, port).key)) return "a key that no port had at the start";
     return NULL;
 }
 
 /* Gives a port what the library can change; answers whether anything differs. The aggregators keep the keys that they were made with: a port
  * that is given another key keeps the one that it has. */
-static bool change_port(struct protocol *protocol, uint16_t port, const struct settings *wanted) {
-    struct link *link = &protocol->ports->links[port - 1];
+static bool change_port(struct protocol *protocol, struct link *link, const struct settings *wanted) {
+    uint16_t port = link->settings.number;
     struct niw_port *now = &link->settings, next = port_of(wanted, port);
     struct niw_change change = {.priority = next.priority, .aggregatable = next.aggregatable};
     bool hold = wants_hold(wanted, port);
@@ -39,14 +38,14 @@ static bool change_port(struct protocol *protocol, uint16_t port, const struct s
 }
 
 /* Who may be the partner changes for each link at once. One that is no longer pinned is so by who speaks next. */
-static void change_policy(struct protocol *protocol, const struct settings *wanted) {
-    bool same = wanted->policy == protocol->settings->policy && memcmp(&wanted->partner, &protocol->settings->partner, sizeof wanted->partner) == 0;
-    protocol->settings->policy = wanted->policy;
-    protocol->settings->partner = wanted->partner;
+static void change_policy(struct settings *now, struct ports *ports, const struct settings *wanted) {
+    bool same = wanted->policy == now->policy && memcmp(&wanted->partner, &now->partner, sizeof wanted->partner) == 0;
+    now->policy = wanted->policy;
+    now->partner = wanted->partner;
     if (same) return;
-    EACH_LINK(link, protocol->ports) {
-        forget_partner(protocol->settings, link);
-        if (protocol->settings->policy != PARTNER_FIRST || !link->up || link->view.defaulted) continue;
+    EACH_LINK(link, ports) {
+        forget_partner(now, link);
+        if (now->policy != PARTNER_FIRST || !link->up || link->view.defaulted) continue;
         link->pinned = true;
         link->partner.priority = link->view.partner_priority;
         memcpy(link->partner.mac, link->view.partner_mac, sizeof link->partner.mac);
@@ -73,23 +72,24 @@ static bool apply_port(struct protocol *protocol, uint16_t port, const struct se
     stay_port(protocol, link);
     link->followed = false;
     protocol->settings->ports[port - 1] = wanted->ports[port - 1];
-    return change_port(protocol, port, wanted) || was_leaving;
+    return change_port(protocol, link, wanted) || was_leaving;
 }
 
 /* Takes what can be changed; answers how many ports have something else now. */
 static unsigned apply_settings(struct protocol *protocol, const struct settings *wanted) {
     struct settings *now = protocol->settings;
-    /* Whether data is carried in the same way: what only one way has is taken with it, at a restart. */
-    bool alike = strcmp(now->carry, wanted->carry) == 0 && now->plane == wanted->plane && now->all_queues == wanted->all_queues;
+    bool alike = true; /* whether data is carried in the same way: what only one way has is taken with it, at a restart */
     unsigned changed = 0;
+    for (const struct key *key = BUNDLE_KEYS; key->name; key++)
+        alike = alike && (key->change != WAY_OF_DATA || is_same_value(key, wanted, now));
     now->active = wanted->active;
     now->short_timeout = wanted->short_timeout;
     now->port_priority = wanted->port_priority;
     if (has_aggregator(&protocol->keys, wanted->key)) now->key = wanted->key;
     for (uint16_t port = 1; port <= protocol->ports->slots; port++) changed += apply_port(protocol, port, wanted);
     limit_links(protocol, wanted->config.max_links);
-    change_policy(protocol, wanted);
-    if (wanted->select != now->select) ask_links(protocol); /* for their speeds */
+    change_policy(now, protocol->ports, wanted);
+    if (wanted->select != now->select) ask_links(&protocol->changes, protocol->ports); /* for their speeds */
     for (const struct key *key = BUNDLE_KEYS; key->name; key++)
         if (key->change == AT_ONCE || (key->change == WITH_DATA && alike)) copy_setting(key, wanted, now);
     EACH_LINK(link, protocol->ports) {
@@ -117,7 +117,7 @@ void reload(struct protocol *protocol, const char *file) {
         (void)say(protocol->process, LOG_WARNING | ABOUT_RESTART,
             "%s: more ports than there is room for: a restart of this bundle is needed, and nothing is changed", file);
     } else {
-        const char *rest = restart_for(protocol, &wanted);
+        const char *rest = restart_for(protocol->settings, &protocol->keys, &wanted);
         unsigned changed = apply_settings(protocol, &wanted);
         (void)say(protocol->process, LOG_NOTICE | ABOUT_RELOAD, "%s: read again, %u ports changed", file, changed);
         if (rest) (void)say(protocol->process, LOG_WARNING | ABOUT_RESTART, "%s: %s: a restart of this bundle is needed", file, rest);

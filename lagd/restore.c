@@ -16,7 +16,7 @@ static bool is_over(struct protocol *protocol, const struct link *link) {
     return milliseconds() - link->steady_since >= protocol->settings->wait_to_restore * (uint64_t)1000 || is_short_of_links(protocol);
 }
 
-static void set_waiting(struct link *link, bool waits) {
+void set_waiting(struct link *link, bool waits) {
     link->changed = link->changed || link->waits != waits;
     link->waits = waits;
 }
@@ -28,10 +28,6 @@ bool is_restored(struct protocol *protocol, struct link *link) {
     if (!link->waits) link->steady_since = milliseconds();
     set_waiting(link, !is_over(protocol, link));
     return !link->waits;
-}
-
-void forget_carrier(struct link *link) {
-    set_waiting(link, false);
 }
 
 /* The carrier of a link is there, and had not gone since the last call. One that came back a moment ago may go again as soon: only where it was
@@ -54,11 +50,11 @@ bool has_waited(struct protocol *protocol, const struct link *link) {
 /* The kernel told of a link whether its carrier is there, and whether it was lost since: answers whether the link stays up all the same. What is
  * there at the start counts as steady. For the library its port is operable for so long (port_enabled of IEEE 802.1AX-2014, 6.4.12, leaves to the
  * hardware when it is not). */
-bool is_spared(struct protocol *protocol, struct link *link, bool carrier, bool lost) {
-    bool spared = link->up && (lost || !carrier) && !is_lost(protocol->settings, link);
+bool is_spared(const struct process *process, struct link *link, bool carrier, bool lost) {
+    bool spared = link->up && (lost || !carrier) && !is_lost(process->settings, link);
     if (spared && !carrier && !link->away && !lost) link->counts[LOSSES]++; /* of a kernel that does not count them */
-    if (carrier && (lost || link->away || (!link->up && !link->waits && protocol->process->has_started))) link->returned_at = milliseconds();
-    if (carrier) note_carrier(protocol->settings, link);
+    if (carrier && (lost || link->away || (!link->up && !link->waits && process->has_started))) link->returned_at = milliseconds();
+    if (carrier) note_carrier(process->settings, link);
     if (!spared && !carrier) return false;
     link->changed = link->changed || link->away != !carrier;
     link->away = !carrier;

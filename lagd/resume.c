@@ -1,6 +1,5 @@
 /* How a daemon goes on where the last one was: the peer hears of no other state, and each conversation stays on its link. */
-#include "tap/tap.h"
-#include "team/team.h"
+#include "carry.h"
 
 /* For how long LACPDUs of an end hold, in milliseconds, by its or its peer's LACP_Timeout (IEEE 802.1AX-2014, 6.4.4). */
 #define SHORT_TIMEOUT 3000
@@ -18,8 +17,8 @@ static const struct inherited_link *inherited_of(const struct inherited *inherit
 
 /* Whether an LACPDU of then still holds. What is of later than now is of another clock; what is of before this boot wraps around, and still
  * counts right. */
-static bool holds(const struct protocol *protocol, uint64_t then, bool short_timeout) {
-    return protocol->resumed_at - then < (uint64_t)(short_timeout ? SHORT_TIMEOUT : LONG_TIMEOUT);
+static bool holds(uint64_t now, uint64_t then, bool short_timeout) {
+    return now - then < (uint64_t)(short_timeout ? SHORT_TIMEOUT : LONG_TIMEOUT);
 }
 
 /* Whether a port goes on: its carrier did not go, neither end has given the other one up, and its partner may be that. */
@@ -27,17 +26,17 @@ static bool goes_on(struct protocol *protocol, const struct link *link) {
     const struct inherited_link *was = link->up && !link->held ? inherited_of(protocol->process->inherited, link) : NULL;
     struct system_id actor;
     return was && was->carried && (was->losses == link->kernel_losses || protocol->process->inherited->ahead != 0)
-        && holds(protocol, was->heard, link->settings.short_timeout)
-        && holds(protocol, was->spoken, (was->lacpdu[ACTOR_STATE] & NIW_STATE_TIMEOUT) != 0)
+        && holds(protocol->resumed_at, was->heard, link->settings.short_timeout)
+        && holds(protocol->resumed_at, was->spoken, (was->lacpdu[ACTOR_STATE] & NIW_STATE_TIMEOUT) != 0)
         && may_be_partner(link, was->lacpdu, &actor);
 }
 
 /* What the library goes on from. Where an LACPDU of the peer was missed, the next one may come too late: a peer that reads its LACP_Timeout wrong
  * sends at once (update_NTT, IEEE 802.1AX-2014, 6.4.9), and until it has, an LACPDU goes to it each second. */
-static struct niw_saved saved_of(struct protocol *protocol, const struct link *link) {
-    const struct inherited_link *was = inherited_of(protocol->process->inherited, link);
+static struct niw_saved saved_of(const struct inherited *inherited, const struct link *link, uint64_t now) {
+    const struct inherited_link *was = inherited_of(inherited, link);
     struct niw_saved saved = {.port = link->settings.number, .aggregator = was->aggregator};
-    saved.age = (uint32_t)((protocol->resumed_at - was->heard) / NIW_TICK_MILLISECONDS);
+    saved.age = (uint32_t)((now - was->heard) / NIW_TICK_MILLISECONDS);
     memcpy(saved.frame, was->lacpdu, sizeof saved.frame);
     if (saved.age > SLOW_PERIODIC) saved.frame[ACTOR_STATE] |= NIW_STATE_TIMEOUT;
     return saved;
@@ -52,11 +51,6 @@ static void recall_partner(struct process *process, struct link *link) {
     link->lacpdus_at[MOST_LACPDUS - 1] = was->spoken - process->inherited->ahead;
 }
 
-static bool is_distributing(struct protocol *protocol, uint16_t port) {
-    struct niw_truth answer = niw_distributes(&protocol->own_system, port);
-    return is_done(protocol->process, answer.status, "niw_distributes") && answer.is;
-}
-
 /* The links that are up, and do not go on, come up for the library, too. */
 static void set_other_links(struct protocol *protocol, const bool *back) {
     EACH_LINK(link, protocol->ports)
@@ -65,35 +59,21 @@ static void set_other_links(struct protocol *protocol, const bool *back) {
             return;
 }
 
-/* What were members, and are no more, get what they had. */
-void release_former_members(struct plane *plane) {
-    const struct inherited *inherited = plane->carry->process->inherited;
-    for (const struct inherited_link *was = inherited->links; was < inherited->links + inherited->link_count; was++) {
-        bool stays = false;
-        EACH_LINK(link, plane->carry->ports) stays = stays || (link->socket >= 0 && link->index == was->index);
-        if (stays) continue;
-        leave_team_port(plane->team, was->index);
-        put_back(plane->tap, was->index, was->mac);
-    }
-}
-
 /* Before the interfaces are taken up: whether there is something to go on with. Where no data is carried any more, or by the team driver, what
  * was set of members is set back. */
-void begin_resuming(struct protocol *protocol) {
-    struct process *process = protocol->process;
+void begin_resuming(struct process *process, struct plane *plane) {
     for (unsigned i = 0; i < process->inherited->link_count; i++) process->resuming = process->resuming || process->inherited->links[i].carried;
-    if (process->inherited->others && !protocol->plane->carrying->keeps_members) release_former_members(protocol->plane);
+    if (process->inherited->others && !plane->carrying->keeps_members) release_former_members(plane);
 }
 
 /* Tells what became of the links of the last daemon, if some are there. */
-static void tell_links(struct protocol *protocol, unsigned count) {
+static void tell_links(struct process *process, const struct ports *ports, unsigned count) {
     unsigned known = 0;
-    EACH_LINK(link, protocol->ports) known += link->socket >= 0 && inherited_of(protocol->process->inherited, link) != NULL;
-    if (known > 0 && protocol->process->inherited->others)
-        (void)say(protocol->process, LOG_WARNING | ABOUT_HANDOVER, "the state that the last daemon left is not used: it belongs to other settings");
+    EACH_LINK_AS_IS(link, ports) known += link->socket >= 0 && inherited_of(process->inherited, link) != NULL;
+    if (known > 0 && process->inherited->others)
+        (void)say(process, LOG_WARNING | ABOUT_HANDOVER, "the state that the last daemon left is not used: it belongs to other settings");
     else if (known > 0)
-        (void)say(protocol->process, LOG_NOTICE | ABOUT_HANDOVER, "%u of %u links go on where the last daemon left them", count,
-            count_links(protocol->ports));
+        (void)say(process, LOG_NOTICE | ABOUT_HANDOVER, "%u of %u links go on where the last daemon left them", count, count_links(ports));
 }
 
 /* Once the interfaces are taken up: the ports that distributed do so again. The others come after them, so that none takes the place of one
@@ -104,7 +84,8 @@ unsigned resume(struct protocol *protocol) {
     size_t count = 0;
     protocol->resumed_at = boottime() + protocol->process->inherited->ahead;
     EACH_LINK(link, protocol->ports)
-        if (protocol->process->resuming && goes_on(protocol, link)) saved[count++] = saved_of(protocol, link);
+        if (protocol->process->resuming && goes_on(protocol, link))
+            saved[count++] = saved_of(protocol->process->inherited, link, protocol->resumed_at);
     count = resume_system(protocol, saved, count);
     for (size_t i = 0; i < count; i++) {
         back[saved[i].port - 1] = true;
@@ -113,7 +94,7 @@ unsigned resume(struct protocol *protocol) {
     if (protocol->process->resuming) set_other_links(protocol, back);
     protocol->process->resuming = false;
     send_due(protocol);
-    tell_links(protocol, (unsigned)count);
+    tell_links(protocol->process, protocol->ports, (unsigned)count);
     return (unsigned)count;
 }
 
@@ -128,7 +109,7 @@ static void stay(struct carry *carry, uint16_t number, uint16_t port) {
 static uint16_t port_on(struct carry *carry, int index) {
     EACH_LINK(link, carry->ports)
         if (index != 0 && link->socket >= 0 && link->index == index && link->view.aggregator == carry->active
-            && is_distributing(carry->protocol, link->settings.number))
+            && is_told_distributing(carry->protocol, link->settings.number, true))
             return link->settings.number;
     return 0;
 }
@@ -155,13 +136,13 @@ void resume_data(struct protocol *protocol, unsigned count) {
     if (goes_on) { /* which is no change of the bundle */
         protocol->bundle.state = inherited->bundle.state;
         protocol->bundle.changed_at = inherited->bundle.changed_at;
-        go_on_selecting(&protocol->choice, inherited->bundle.aggregator, inherited->follows);
+        protocol->choice = (struct choice){inherited->bundle.aggregator, inherited->follows ? inherited->bundle.aggregator : 0};
     }
     CALL(protocol->plane->carrying->resume, protocol->plane, goes_on);
 }
 
-void end_resuming(struct protocol *protocol) {
-    CALL(protocol->plane->carrying->end_resuming, protocol->plane);
-    drop_unclaimed(&protocol->process->store);
+void end_resuming(struct plane *plane, struct store *store) {
+    CALL(plane->carrying->end_resuming, plane);
+    drop_unclaimed(store);
 }
 

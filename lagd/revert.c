@@ -64,8 +64,8 @@ void limit_links(struct protocol *protocol, uint16_t most) {
     if (most != 0 && !hold_surplus(protocol, most, marked)) return;
     if (!is_done(protocol->process, niw_set_max_links(&protocol->own_system, most), "niw_set_max_links")) return;
     protocol->settings->config.max_links = most;
-    for (uint16_t i = 0; i < protocol->ports->count; i++)
-        if (marked[i] && !apply_hold(protocol, (uint16_t)(i + 1))) return;
+    EACH_LINK_AS_IS(link, protocol->ports)
+        if (marked[link - protocol->ports->links] && !apply_hold(protocol, link)) return;
 }
 
 /* A second passed. One port gives way at most: it leaves its aggregator, and comes back to stand by. What is on its way there leaves it behind a
@@ -78,7 +78,7 @@ void pass_revert_second(struct protocol *protocol) {
         if (!next || !last || identifier_of(next) >= identifier_of(last)) continue;
         if (!all_distribute(protocol->ports, aggregator) || !is_ready(protocol, next)) continue;
         if (!is_done(protocol->process, niw_hold(&protocol->own_system, last->settings.number, true), "niw_hold")) return;
-        if (!apply_hold(protocol, last->settings.number)) return;
+        if (!apply_hold(protocol, last)) return;
         (void)say(protocol->process, LOG_NOTICE | ABOUT_PORT, "port %u %s: it makes way for port %u %s", last->settings.number, last->name,
             next->settings.number, next->name);
         protocol->plane->changed = true;

@@ -15,7 +15,7 @@ static uint64_t number_of(uint16_t priority, const uint8_t *mac) {
 
 /* What an aggregator is worth: all 0 where none of its ports carries. The identifier of a port is that of the end with the better system, so that
  * both ends put ports into the same order. */
-struct worth worth_of(struct protocol *protocol, uint16_t aggregator) {
+struct worth worth_of(const struct protocol *protocol, uint16_t aggregator) {
     uint64_t own = number_of(protocol->settings->config.priority, protocol->settings->config.mac);
     struct worth worth = {0};
     EACH_LINK(link, protocol->ports) {
@@ -48,7 +48,7 @@ static bool is_worth_more(const struct settings *settings, const struct worth *o
 }
 
 /* The aggregator that is worth most, where `before` carried last. */
-static uint16_t best_after(struct protocol *protocol, uint16_t before) {
+static uint16_t best_after(const struct protocol *protocol, uint16_t before) {
     struct worth best = worth_of(protocol, before);
     uint16_t chosen = best.links > 0 ? before : 0;
     EACH_LINK(link, protocol->ports) {
@@ -91,7 +91,7 @@ bool is_as_good_as_any(struct protocol *protocol, uint16_t aggregator) {
 
 /* For how long the partner of the active aggregator may send in another one alone until this end goes there, as PATIENCE has it; 0: for ever.
  * The end with the better system waits for longer, so that not both go. */
-uint64_t patience_with(struct protocol *protocol, uint16_t active, uint16_t other) {
+uint64_t patience_with(const struct protocol *protocol, uint16_t active, uint16_t other) {
     struct worth now = worth_of(protocol, active), next = worth_of(protocol, other);
     uint64_t own = number_of(protocol->settings->config.priority, protocol->settings->config.mac);
     if (protocol->settings->select == SELECT_COUNT || !next.has_partner || now.partner != next.partner) return 0;
@@ -108,11 +108,5 @@ void follow_peer(struct protocol *protocol, uint16_t aggregator) {
             protocol->settings->name, aggregator);
     else
         (void)say(protocol->process, LOG_WARNING | ABOUT_BUNDLE, "bundle %s: the peer sends in aggregator %u: it carries, whatever select=%s prefers",
-            protocol->settings->name, aggregator, selection_text(protocol->settings->select));
-}
-
-/* The aggregator is that of the last daemon, which may have followed the peer there. */
-void go_on_selecting(struct choice *own, uint16_t aggregator, bool follows) {
-    own->last = aggregator;
-    own->followed = follows ? aggregator : 0;
+            protocol->settings->name, aggregator, SELECTIONS[protocol->settings->select]);
 }

@@ -74,23 +74,10 @@ static bool is_name_of_device(const char *text) {
     return strlen(text) < DEVICE_ROOM && !strchr(text, '%') && is_name(text, strlen(text));
 }
 
-const char *way_text(const struct settings *settings) {
-    if (settings->plane == PLANE_TEAM) return "team";
-    return settings->fast ? "fast" : settings->offload ? "offload" : "plain";
-}
-
-static const char *const HASHES[] = {[HASH_LAYER2] = "layer2", [HASH_LAYER2_3] = "layer2+3", [HASH_LAYER3_4] = "layer3+4",
+const char *const HASHES[] = {[HASH_LAYER2] = "layer2", [HASH_LAYER2_3] = "layer2+3", [HASH_LAYER3_4] = "layer3+4",
     [HASH_ENCAP3_4] = "encap3+4", [HASH_VLAN_SRCMAC] = "vlan+srcmac", NULL};
-static const char *const SELECTIONS[] = {[SELECT_COUNT] = "count", [SELECT_BANDWIDTH] = "bandwidth", [SELECT_PRIORITY] = "priority",
+const char *const SELECTIONS[] = {[SELECT_COUNT] = "count", [SELECT_BANDWIDTH] = "bandwidth", [SELECT_PRIORITY] = "priority",
     [SELECT_PRIORITY_STABLE] = "priority-stable", NULL};
-
-const char *hash_text(enum hash hash) {
-    return HASHES[hash];
-}
-
-const char *selection_text(enum selection selection) {
-    return SELECTIONS[selection];
-}
 
 /* Parts of a row: the place of a value in a struct, and what else its kind wants. */
 #define IN(type, field) .at = offsetof(struct type, field), .size = sizeof ((struct type *)NULL)->field
@@ -133,9 +120,9 @@ const struct key BUNDLE_KEYS[] = {
         .change = AT_ONCE, .value = "PROGRAM", .help = "is run when the bundle becomes up, degraded or down"},
     {"state-dir", 'T', TEXT(state_dir, "a path that begins with /, of at most 175 characters", is_path), .restart = "another state-dir",
         .value = "FOLDER", .help = "keeps there what a start after a reboot goes on from"},
-    {"carry", 'C', TEXT(carry, "a name of an interface of at most 15 characters", is_name_of_device), .restart = "another carry",
+    {"carry", 'C', TEXT(carry, "a name of an interface of at most 15 characters", is_name_of_device), .restart = "another carry", .change = WAY_OF_DATA,
         .value = "NAME", .help = "carries the data of a device of this name, which it makes, with the MAC address of the system"},
-    {"plane", 'P', WORD(plane, ONE_OF([PLANE_TAP] = "tap", [PLANE_TEAM] = "team")), .restart = "another plane",
+    {"plane", 'P', WORD(plane, ONE_OF([PLANE_TAP] = "tap", [PLANE_TEAM] = "team")), .restart = "another plane", .change = WAY_OF_DATA,
         .help = "what that device is: a TAP device, as if not given, or one of the kernel's team driver,\nby which the kernel carries"},
     {"members", 'B', WORD(follow, ONE_OF("given", "follow")), .change = WITH_DATA,
         .help = "with --plane team, who says which interfaces are ports: given here, or follow: whoever puts\n"
@@ -151,7 +138,7 @@ const struct key BUNDLE_KEYS[] = {
         .help = "passes frames of several segments, which the kernel or the card cuts"},
     {"fast", 'K', SWITCH(fast, "yes", "no"), .restart = "another offload or fast",
         .help = "the kernel passes data on by itself (Linux 6.6), of several segments too"},
-    {"queues", 'Q', WORD(all_queues, ONE_OF("one", "all")), .restart = "another queues",
+    {"queues", 'Q', WORD(all_queues, ONE_OF("one", "all")), .restart = "another queues", .change = WAY_OF_DATA,
         .help = "how many queues of its members data goes by: one, if not given; all (Linux 6.6): each\nconversation by one of them"},
     /* A processor takes what its card gave it within a few milliseconds; this is more than ten programs on it have in turn, of 4 ms each. */
     {"answer-after", 'A', MILLISECONDS(answer_after, 1, 500), .usual = 50, .change = WITH_DATA,
@@ -229,8 +216,7 @@ static const char *value_text(const struct key *key, const struct settings *sett
 }
 
 bool is_same_value(const struct key *key, const struct settings *one, const struct settings *other) {
-    char room[32], other_room[32];
-    return strcmp(value_text(key, one, room), value_text(key, other, other_room)) == 0;
+    return strcmp(value_text(key, one, TEXT_ROOM), value_text(key, other, TEXT_ROOM)) == 0;
 }
 
 /* Copies a value, but for a system or a partner, which stand in several places. */
@@ -349,7 +335,8 @@ static const char *key_of_data(const struct settings *settings) {
     return NULL;
 }
 
-/* What has to be given and is not, or what contradicts itself: the first of these. */
+/* What has to be given and is not, or what contradicts itself: the first of these. Which keys go together is data of this table: what the daemon
+ * does goes by the tables that plane.c chooses. */
 struct lack lack_of(const struct settings *settings) {
     const char *data = key_of_data(settings), *carry = settings->carry;
     const uint16_t most = settings->config.max_links;

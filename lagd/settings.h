@@ -97,7 +97,8 @@ enum kind { /* what a key has for a value */
 enum change { /* how a reload takes a new value */
     NOT_COPIED, /* reload.c applies it to each port, or it takes a restart */
     AT_ONCE,
-    WITH_DATA, /* at once if data is carried in the same way */
+    WITH_DATA, /* at once if data is carried in the same way, */
+    WAY_OF_DATA, /* which these tell: they take a restart */
 };
 
 /* A key of a bundle or of a port: the file has its name, and so has the long option of a bundle. */
@@ -117,20 +118,22 @@ struct key {
 
 /* The keys of a bundle, in the order of the help, up to one without a name. */
 extern const struct key BUNDLE_KEYS[], PORT_KEYS[];
+/* The words of a hash, and of a selection. */
+extern const char *const HASHES[], *const SELECTIONS[];
 
 /* What is wrong with all of it: what was expected, and the key that says otherwise; NULL where nothing is, or no key does. */
 struct lack {
     const char *expected, *key;
 };
 
+/* Room for a short text, for the block in which this stands. */
+#define TEXT_ROOM (char[32]){0}
+
 struct words { /* in a row */
     char text[512];
 };
 
 struct settings usual_settings(void);
-const char *hash_text(enum hash hash);
-const char *selection_text(enum selection selection);
-const char *way_text(const struct settings *settings);
 const char *partner_text(const struct settings *settings, char room[static 32]);
 void add_word(struct words *words, const char *joint, const char *word);
 const char *list_choice(struct words *words, const struct key *key, const char *joint, const char *last_joint);

@@ -45,15 +45,15 @@ static void add_number(struct report *report, enum form form, const char *text, 
 }
 
 static void add_time(struct report *report, enum form form, time_t time) {
-    char text[32], zoned[40];
-    snprintf(zoned, sizeof zoned, "%sZ", time_text(time, text));
+    char zoned[40];
+    snprintf(zoned, sizeof zoned, "%sZ", time_text(time, TEXT_ROOM));
     add_words(report, form, "last change", "last_change", time ? zoned : NULL);
 }
 
 /* Which aggregator carries, and what each one has of what decides that. */
 static void add_selection(struct report *report, struct protocol *protocol) {
     enum selection by = protocol->settings->select;
-    add(report, "  select: %s", selection_text(by));
+    add(report, "  select: %s", SELECTIONS[by]);
     if (protocol->choice.followed != 0)
         add(report, ", but it follows the peer, which sends in aggregator %u alone", protocol->bundle.aggregator);
     for (uint16_t aggregator = 1; aggregator <= protocol->aggregator_count; aggregator++) {
@@ -69,17 +69,16 @@ static void add_selection(struct report *report, struct protocol *protocol) {
 static void add_bundle(struct control *control) {
     const struct settings *settings = control->settings;
     const struct bundle *bundle = &control->protocol->bundle;
-    char text[32];
     add(control->report, "---- %s ----\n", settings->name);
-    add(control->report, "  status: %s, %u of %u links carry", bundle_state_text(bundle->state), bundle->carrying, bundle->links);
+    add(control->report, "  status: %s, %u of %u links carry", BUNDLE_STATE_TEXTS[bundle->state], bundle->carrying, bundle->links);
     EACH_LINK(link, control->ports)
         if (link->away) add(control->report, ", but the carrier of %s is away", link->name);
     add(control->report, "\n");
-    add(control->report, "  sys_id: %s\n  sys_priority: %u\n", mac_text(settings->config.mac, text), settings->config.priority);
+    add(control->report, "  sys_id: %s\n  sys_priority: %u\n", mac_text(settings->config.mac, TEXT_ROOM), settings->config.priority);
     add(control->report, "  aggregation key: %u\n  lacp_time: %s\n", settings->key, settings->short_timeout ? "fast" : "slow");
     add(control->report, "  aggregator: %u\n  min_links: %u\n  max_links: %u\n", bundle->aggregator, settings->min_links, settings->config.max_links);
     add_selection(control->report, control->protocol);
-    add(control->report, "  partner: %s%s\n", partner_text(settings, text), settings->partner_required ? ", required" : "");
+    add(control->report, "  partner: %s%s\n", partner_text(settings, TEXT_ROOM), settings->partner_required ? ", required" : "");
     add_time(control->report, AS_TEXT, bundle->changed_at);
     add(control->report, "  uptime: %" PRIu64 " s, lagd %s\n", seconds_since(control->protocol->began), VERSION);
 }
@@ -97,9 +96,8 @@ static void add_state(struct report *report, enum form form, uint64_t state) {
 
 /* One end of a port: its system, port number, priorities, key and state. */
 static void add_side(struct report *report, enum form form, const char *whose, const uint8_t *mac, const unsigned numbers[static 4], uint64_t state) {
-    char text[32];
     if (form == AS_TEXT) {
-        add(report, "\n  %s sys_id: %s\n  %s sys_priority: %u\n", whose, mac_text(mac, text), whose, numbers[0]);
+        add(report, "\n  %s sys_id: %s\n  %s sys_priority: %u\n", whose, mac_text(mac, TEXT_ROOM), whose, numbers[0]);
         add(report, "  %s port_id: %u\n  %s port_priority: %u\n", whose, numbers[1], whose, numbers[2]);
         add(report, "  %s key: %u\n  %s state:", whose, numbers[3], whose);
     } else
@@ -133,12 +131,11 @@ static bool read_view(struct protocol *protocol, const struct link *link, struct
 static void add_both_ends(struct report *report, enum form form, const struct view *view) {
     const struct niw_actor *own = &view->own;
     const struct niw_info *partner = &view->partner;
-    char mac[32];
     if (form == AS_JSON) add(report, ",\"actor\":{");
     add_side(report, form, "actor", own->system_mac, (unsigned[]){own->system_priority, own->port, own->port_priority, own->key}, view->state);
     if (form == AS_JSON)
         add(report, ",\"partner\":{\"defaulted\":%s,\"system_priority\":%u,\"system\":\"%s\",", view->facts.defaulted ? "true" : "false",
-            partner->system_priority, mac_text(partner->system_mac, mac));
+            partner->system_priority, mac_text(partner->system_mac, TEXT_ROOM));
     add_side(report, form, "partner", partner->system_mac,
         (unsigned[]){partner->system_priority, partner->port, partner->port_priority, partner->key}, partner->state);
 }
@@ -146,8 +143,7 @@ static void add_both_ends(struct report *report, enum form form, const struct vi
 static void add_strangers(struct control *control, const struct link *link, enum form form) {
     const struct strangers *others = &link->strangers;
     const char *twin = link->twin > 0 ? control->ports->links[link->twin - 1].name : NULL;
-    char system[32], source[32];
-    add_words(control->report, form, "pinned to", "pinned", link->pinned ? system_text(&link->partner, system) : NULL);
+    add_words(control->report, form, "pinned to", "pinned", link->pinned ? system_text(&link->partner, TEXT_ROOM) : NULL);
     if (form == AS_TEXT && twin) add(control->report, "  partner port: that of %s, too\n", twin);
     if (form == AS_JSON) {
         add_row(control->report, form, NULL, "same_partner_port", twin ? "" : NULL);
@@ -157,7 +153,7 @@ static void add_strangers(struct control *control, const struct link *link, enum
         add_row(control->report, form, NULL, "other_system", NULL);
     else
         add(control->report, form == AS_TEXT ? "  other system: %s from %s\n" : ",\"other_system\":{\"system\":\"%s\",\"source\":\"%s\"}",
-            system_text(&others->system, system), mac_text(others->source, source));
+            system_text(&others->system, TEXT_ROOM), mac_text(others->source, TEXT_ROOM));
 }
 
 static void add_counts(struct report *report, const struct link *link, enum form form) {
@@ -233,7 +229,7 @@ static void add_json_bundle(struct control *control) {
     add(control->report, "\"bundle\":");
     add_string(control->report, control->settings->name);
     add(control->report, ",\"state\":\"%s\",\"links\":%u,\"carrying\":%u,\"away\":%u,\"aggregator\":%u",
-        bundle_state_text(control->protocol->bundle.state), control->protocol->bundle.links,
+        BUNDLE_STATE_TEXTS[control->protocol->bundle.state], control->protocol->bundle.links,
         control->protocol->bundle.carrying, count_away(control->ports), control->protocol->bundle.aggregator);
     add_time(control->report, AS_JSON, control->protocol->bundle.changed_at);
 }
@@ -243,13 +239,12 @@ void write_json(struct control *control) {
     struct report *report = control->report;
     const struct settings *settings = control->settings;
     const char *between = "";
-    char mac[32];
     add(report, "{\"lagd\":\"%s\",", VERSION);
     add_json_bundle(control);
-    add(report, ",\"system_priority\":%u,\"system\":\"%s\"", settings->config.priority, mac_text(settings->config.mac, mac));
+    add(report, ",\"system_priority\":%u,\"system\":\"%s\"", settings->config.priority, mac_text(settings->config.mac, TEXT_ROOM));
     add(report, ",\"key\":%u,\"collector_max_delay\":%u", settings->key, settings->config.max_delay);
     add(report, ",\"min_links\":%u,\"max_links\":%u", settings->min_links, settings->config.max_links);
-    add(report, ",\"select\":\"%s\",\"follows_peer\":%s,\"seconds\":%" PRIu64 ",", selection_text(settings->select),
+    add(report, ",\"select\":\"%s\",\"follows_peer\":%s,\"seconds\":%" PRIu64 ",", SELECTIONS[settings->select],
         control->protocol->choice.followed != 0 ? "true" : "false", seconds_since(control->protocol->began));
     CALL(control->plane->carrying->show, control, AS_JSON);
     add(report, "\"ports\":[");
@@ -264,8 +259,7 @@ void write_json(struct control *control) {
 
 /* A change of a port, or of the bundle, where `link` is null, in a line. */
 void write_json_event(struct control *control, const struct link *link) {
-    char text[32];
-    add(control->report, "{\"time\":\"%sZ\",\"event\":\"%s\",", time_text(time(NULL), text), link ? "port" : "bundle");
+    add(control->report, "{\"time\":\"%sZ\",\"event\":\"%s\",", time_text(time(NULL), TEXT_ROOM), link ? "port" : "bundle");
     if (link) {
         add(control->report, "\"bundle\":");
         add_string(control->report, control->settings->name);
@@ -280,15 +274,14 @@ void write_json_event(struct control *control, const struct link *link) {
 /* The settings that hold now, as a file has them: without ports that leave, and those that the device alone has. */
 void write_config(struct control *control) {
     const char *value;
-    char room[32];
     add(control->report, "# %s\n[Bundle]\n", control->settings->name);
     for (const struct key *key = BUNDLE_KEYS; key->name; key++)
-        if ((value = value_to_give(key, control->settings, room))) add(control->report, "%s=%s\n", key->name, value);
+        if ((value = value_to_give(key, control->settings, TEXT_ROOM))) add(control->report, "%s=%s\n", key->name, value);
     EACH_LINK(link, control->ports) {
         const struct port_settings *port = &control->settings->ports[link - control->ports->links];
         if (!link->used || link->leaving || link->followed) continue;
         add(control->report, "\n[Port %s]\n", port->name);
         for (const struct key *key = PORT_KEYS; key->name; key++)
-            if ((value = value_of_own(key, port, room))) add(control->report, "%s=%s\n", key->name, value);
+            if ((value = value_of_own(key, port, TEXT_ROOM))) add(control->report, "%s=%s\n", key->name, value);
     }
 }

@@ -2,7 +2,7 @@
  * before the first frame of a conversation goes on another link. It goes with each stop of which the peers are told. With state-dir there is a
  * copy for the first daemon after a reboot, which knows interfaces by their names, and times by the clock on the wall. It may be on a disk that
  * takes long, so a process of its own writes it. */
-#include "team/team.h"
+#include "carry.h"
 
 #include <dirent.h>
 #include <limits.h>
@@ -31,39 +31,16 @@
 /* A fault of a copy: who writes it waits for the disk. */
 #define HANGS (-ETIME)
 
-struct state {
-    struct carry *carry; /* what is saved, as far as it concerns data */
-    FILE *file; /* the state that was written last, or NULL */
-    int copy_folder, lock; /* state-dir, or -1, and the file by which this bundle has its copy there */
-    int copied; /* by which a process tells what became of the copy that it writes, or -1: none does */
-    pid_t copier;
-    uint64_t copied_at, copied_ports; /* when it began, and of which ports, a bit for each */
-    bool has_copy; /* whether something may be there */
-    bool copy_failed; /* whether the last one did, which has a line */
-    uint64_t space; /* the namespace_cookie of this network namespace */
-    int members[CONVERSATIONS]; /* the interface of each conversation that it has, or 0 */
-    bool over; /* whether the peers are told of the end */
-    bool failed; /* whether the last writing did, which has a line */
-    char name[NAME_ROOM + 32], copy_name[NAME_ROOM + 32];
-};
-
-struct state *make_state(struct carry *carry) {
-    struct state *made = make_room(sizeof *made);
-    made->carry = carry;
-    made->copy_folder = made->lock = made->copied = -1;
-    return made;
-}
-
 uint64_t boottime(void) {
     return milliseconds_of(CLOCK_BOOTTIME);
 }
 
 /* The settings by which the rest means something. */
-static const char *way(const struct settings *settings, char room[static WAY_ROOM]) {
-    char system[32];
+static const char *way(const struct carry *carry, char room[static WAY_ROOM]) {
+    const struct settings *settings = carry->settings;
     struct system_id own = own_system(settings);
-    snprintf(room, WAY_ROOM, "%s/%s/%s/%u/%s", system_text(&own, system), settings->carry[0]
-        ? settings->carry : "-", hash_text(settings->hash), settings->hash_seed, way_text(settings));
+    snprintf(room, WAY_ROOM, "%s/%s%s/%s/%u/%s", system_text(&own, TEXT_ROOM), settings->carry, carry->plane->carrying->nameless,
+        HASHES[settings->hash], settings->hash_seed, carry->plane->way);
     return room;
 }
 
@@ -91,14 +68,14 @@ static void write_state(struct state *own, FILE *file) {
     struct protocol *protocol = carry->protocol;
     struct niw_marker marker = niw_next_marker(&protocol->own_system);
     char boot[BOOT_ROOM], room[WAY_ROOM], mac[32];
-    fprintf(file, "lagd %u\nboot %s\nway %s\n", FORM_VERSION, boot_id(boot), way(carry->settings, room));
+    fprintf(file, "lagd %u\nboot %s\nway %s\n", FORM_VERSION, boot_id(boot), way(carry, room));
     fprintf(file, "space %" PRIu64 "\nwritten %" PRIu64 "\n", own->space, boottime());
     if (own->copy_folder >= 0) fprintf(file, "wall %" PRIu64 "\n", milliseconds_of(CLOCK_REALTIME));
     fprintf(file, "marker %" PRIu32 "\n", is_done(carry->process, marker.status, "niw_next_marker") && marker.left ? marker.id : 0);
     fprintf(file, "bundle %u %u %lld\n", protocol->bundle.state, protocol->bundle.aggregator, (long long)protocol->bundle.changed_at);
     if (protocol->choice.followed != 0) fputs("follows\n", file);
-    if (tap_index(carry->device) != 0)
-        fprintf(file, "tap %d %d %" PRIu32 " %u\n", tap_index(carry->device), carry->plane->owns_device,
+    if (carry->device->index != 0)
+        fprintf(file, "tap %d %d %" PRIu32 " %u\n", carry->device->index, carry->plane->owns_device,
             carry->device->less_mtu, carry->probe.peer);
     EACH_LINK(link, carry->ports)
         if (link->used) fprintf(file, "port %u %d %s\n", link->settings.number, link->socket >= 0 ? link->index : 0, link->name);
@@ -170,13 +147,11 @@ void keep_port(struct state *own, uint16_t number, uint16_t port) {
 
 /* Removes a state, or what it has, on the disk too if it `lasts`; answers 0, or -errno. */
 static int remove_file(int folder, const char *name, bool lasts) {
-    int emptied = -1, fault = unlinkat(folder, name, 0) < 0 ? last_fault() : 0;
+    int fault = unlinkat(folder, name, 0) < 0 ? last_fault() : 0;
     if (fault == -ENOENT) return 0;
-    if (fault < 0) emptied = openat(folder, name, O_WRONLY | O_TRUNC | O_NOFOLLOW | O_CLOEXEC);
+    CLOSED_FILE int emptied = fault < 0 ? openat(folder, name, O_WRONLY | O_TRUNC | O_NOFOLLOW | O_CLOEXEC) : -1;
     if (fault < 0 && emptied < 0) return last_fault();
-    fault = lasts && fsync(emptied < 0 ? folder : emptied) < 0 ? last_fault() : 0;
-    if (emptied >= 0) close(emptied);
-    return fault;
+    return lasts && fsync(emptied < 0 ? folder : emptied) < 0 ? last_fault() : 0;
 }
 
 static const char *fault_text(int fault) {
@@ -407,11 +382,8 @@ static bool read_rest(struct inherited *inherited, FILE *file) {
  * are found. `way` is that of the last daemon. */
 static void keep_interfaces(struct state *own, const char *way) {
     struct inherited *inherited = own->carry->process->inherited, last = *inherited;
-    const char *plane = strrchr(way, '/');
-    if (plane && strcmp(plane, "/team") == 0)
-        leave_team(own->carry->plane->team, last.tap, last.persists);
-    else if (last.persists)
-        end_tap(last.tap);
+    const char *word = strrchr(way, '/');
+    leave_device(own->carry->plane, word ? word + 1 : way, last.tap, last.persists);
     *inherited = (struct inherited){.others = true, .link_count = last.link_count, .space = last.space, .written = last.written, .wall = last.wall,
         .marker = last.marker};
     memcpy(inherited->links, last.links, sizeof inherited->links);
@@ -452,7 +424,7 @@ static const char *read_state(struct state *own, FILE *file, bool is_copy) {
     if (!is_copy && strcmp(boot, boot_id(now)) != 0) return "it is of another boot";
     if (!read_rest(inherited, file)) return "it is cut off, or wrong";
     if (ferror(file)) return "it cannot be read";
-    bool is_same_way = strcmp(given, way(own->carry->settings, room)) == 0;
+    bool is_same_way = strcmp(given, way(own->carry, room)) == 0;
     if (is_copy) return is_same_way ? bring_over(inherited) : "it belongs to other settings";
     if (inherited->space != 0 && inherited->space != own->space) return "it is of another network namespace";
     if (!is_same_way) keep_interfaces(own, given);
@@ -495,17 +467,14 @@ static void open_copy_folder(struct state *own) {
 /* Reads what the last daemon left. What counts for nothing has a line, and the daemon starts anew. */
 void recall_state(struct state *own) {
     const struct settings *settings = own->carry->settings;
-    FILE *file;
     snprintf(own->name, sizeof own->name, "%lu.%s.state", network_namespace(), settings->name);
     snprintf(own->copy_name, sizeof own->copy_name, "%s.state", settings->name);
     own->space = namespace_cookie();
     open_copy_folder(own);
-    file = open_state(own->carry->process->folder, own->name);
+    CLOSED_STREAM FILE *file = open_state(own->carry->process->folder, own->name);
     bool is_copy = !file && own->copy_folder >= 0;
     if (is_copy) file = open_state(own->copy_folder, own->copy_name);
-    if (!file) return;
-    const char *fault = read_state(own, file, is_copy);
-    fclose(file);
+    const char *fault = file ? read_state(own, file, is_copy) : NULL;
     if (!fault) return;
     *own->carry->process->inherited = (struct inherited){0};
     (void)say(own->carry->process, LOG_WARNING | ABOUT_HANDOVER, "the state that the last daemon left is not used: %s", fault);

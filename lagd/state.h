@@ -5,6 +5,7 @@
 #include "lagd.h"
 
 #include <net/ethernet.h>
+#include <sys/types.h>
 
 /* Where an LACPDU has the state of its actor (IEEE 802.1AX-2014, 6.4.2.3). */
 #define ACTOR_STATE (ETH_HLEN + 18)
@@ -48,11 +49,24 @@ struct inherited {
     int members[CONVERSATIONS];   /* of each conversation the interface that it was on, or 0 */
 };
 
-struct carry;
-struct state;
+/* How the state is written. */
+struct state {
+    struct carry *carry; /* what is saved, as far as it concerns data */
+    FILE *file; /* the state that was written last, or NULL */
+    int copy_folder, lock; /* state-dir, or -1, and the file by which this bundle has its copy there */
+    int copied; /* by which a process tells what became of the copy that it writes, or -1: none does */
+    pid_t copier;
+    uint64_t copied_at, copied_ports; /* when it began, and of which ports, a bit for each */
+    bool has_copy; /* whether something may be there */
+    bool copy_failed; /* whether the last one did, which has a line */
+    uint64_t space; /* the namespace_cookie of this network namespace */
+    int members[CONVERSATIONS]; /* the interface of each conversation that it has, or 0 */
+    bool over; /* whether the peers are told of the end */
+    bool failed; /* whether the last writing did, which has a line */
+    char name[NAME_ROOM + 32], copy_name[NAME_ROOM + 32];
+};
 
 /* state.c */
-struct state *make_state(struct carry *carry);
 void recall_state(struct state *own);
 bool save_state(struct state *own, bool leaves);
 void keep_port(struct state *own, uint16_t number, uint16_t port);

@@ -191,10 +191,8 @@ static void remove_socket(int status UNUSED, void *given) {
 }
 
 static bool is_taken(const struct sockaddr_un *address) {
-    int asker = socket(AF_UNIX, SOCK_STREAM | SOCK_NONBLOCK | SOCK_CLOEXEC, 0);
-    bool taken = asker >= 0 && (connect(asker, (const struct sockaddr *)address, sizeof *address) == 0 || errno == EAGAIN);
-    if (asker >= 0) close(asker);
-    return taken;
+    CLOSED_FILE int asker = socket(AF_UNIX, SOCK_STREAM | SOCK_NONBLOCK | SOCK_CLOEXEC, 0);
+    return asker >= 0 && (connect(asker, (const struct sockaddr *)address, sizeof *address) == 0 || errno == EAGAIN);
 }
 
 /* The status socket, named for the namespace and the bundle: one that is left there, at which nobody listens, is nobody's. Its user and

@@ -24,7 +24,7 @@ void notify(const char *what UNUSED) {
 }
 
 void notify_bundle(const struct bundle *bundle UNUSED, const char *what UNUSED) {
-    (void)sd_notifyf(0, "%sSTATUS=%s, %u of %u links carry", what, bundle_state_text(bundle->state), bundle->carrying, bundle->links);
+    (void)sd_notifyf(0, "%sSTATUS=%s, %u of %u links carry", what, BUNDLE_STATE_TEXTS[bundle->state], bundle->carrying, bundle->links);
 }
 
 static void name_stored(const char *kind, int number, char room[static NAME_OF_FILE]) {

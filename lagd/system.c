@@ -28,10 +28,9 @@ static uint32_t random_marker(void) {
 }
 
 /* Holds a port that nothing may use, whatever its link does, or lets it go; answers whether that is done. */
-bool apply_hold(struct protocol *protocol, uint16_t port) {
-    const struct link *link = &protocol->ports->links[port - 1];
+bool apply_hold(struct protocol *protocol, const struct link *link) {
     bool hold = ((link->held || link->leaving) && !link->emptying) || protocol->halt.down;
-    return is_done(protocol->process, niw_hold(&protocol->own_system, port, hold), "niw_hold");
+    return is_done(protocol->process, niw_hold(&protocol->own_system, link->settings.number, hold), "niw_hold");
 }
 
 /* Puts a system into the empty handle, whose ports have their settings and keys of now: a warm one, where some of them were saved. */
@@ -46,8 +45,8 @@ static struct niw_made put_system(struct protocol *protocol, const struct niw_sa
 }
 
 static void hold_by_settings(struct protocol *protocol) {
-    for (uint16_t port = 1; port <= protocol->ports->count; port++)
-        if (protocol->ports->links[port - 1].held && !apply_hold(protocol, port)) return;
+    EACH_LINK_AS_IS(link, protocol->ports)
+        if (link->held && !apply_hold(protocol, link)) return;
 }
 
 /* Makes the system anew, with these ports as they were. One that the library refuses comes up as the others do. Answers how many are back. */
@@ -72,7 +71,7 @@ void make_system(struct protocol *protocol) {
     if (protocol->settings->config.first_marker == 0) protocol->settings->config.first_marker = random_marker();
     choose_slots(protocol);
     if (!place_ports(protocol, protocol->settings)) stop(WRONG_WORD, "too many interfaces", protocol->settings->name);
-    for (uint16_t port = 1; port <= NIW_MOST_PORTS; port++) begin_link(protocol, port);
+    for (uint16_t port = 1; port <= NIW_MOST_PORTS; port++) begin_link(protocol->settings, protocol->ports, port);
     keep_left_ports(protocol);
     protocol->ports->count = protocol->settings->port_count;
     make_keys(protocol, protocol->aggregator_keys);
@@ -114,8 +113,7 @@ void send_again(struct protocol *protocol) {
         if (link->unsent && !link->tried) send_frame(protocol, link, link->frame);
 }
 
-void set_link(struct protocol *protocol, uint16_t port, bool up) {
-    struct link *link = &protocol->ports->links[port - 1];
+void set_link(struct protocol *protocol, struct link *link, bool up) {
     if (link->up == up) return;
     link->up = up;
     link->unsent = false;
@@ -124,17 +122,19 @@ void set_link(struct protocol *protocol, uint16_t port, bool up) {
         if (!protocol->halt.silent && !link->away) link->counts[LOSSES]++;
         link->away = false;
         forget_partner(protocol->settings, link);
-        CALL(protocol->plane->carrying->lose, protocol->plane, port);
+        CALL(protocol->plane->carrying->lose, protocol->plane, link);
     }
-    if (protocol->process->resuming || !is_done(protocol->process, niw_set_link(&protocol->own_system, port, up), "niw_set_link")) return;
+    if (protocol->process->resuming
+        || !is_done(protocol->process, niw_set_link(&protocol->own_system, link->settings.number, up), "niw_set_link"))
+        return;
     settle_calls(protocol);
     (void)print_change(protocol, link);
 }
 
 void lose_link(struct protocol *protocol, struct link *link) {
-    forget_carrier(link);
-    set_link(protocol, link->settings.number, false);
-    close_link(protocol, link);
+    set_waiting(link, false);
+    set_link(protocol, link, false);
+    close_link(protocol->plane, &protocol->process->store, link);
     (void)print_change(protocol, link);
 }
 
@@ -165,7 +165,7 @@ void expect_lacpdu(struct link *link) {
 
 /* Takes each port out of its aggregator, by a key that none has, and so tells the peers that they have to stop. */
 void tell_end(struct protocol *protocol) {
-    uint16_t key = free_key(protocol, 0, NULL);
+    uint16_t key = free_key(&protocol->keys, protocol->ports, 0, NULL);
     EACH_LINK(link, protocol->ports) {
         struct niw_change leave = {.key = key, .priority = link->settings.priority, .aggregatable = link->settings.aggregatable};
         uint32_t status = niw_configure(&protocol->own_system, link->settings.number, &leave).status;

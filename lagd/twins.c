@@ -18,7 +18,6 @@ static uint16_t twin_of(const struct ports *ports, const struct link *link) {
 }
 
 void look_for_twins(struct protocol *protocol) {
-    char system[32];
     EACH_LINK(link, protocol->ports) {
         uint16_t twin = twin_of(protocol->ports, link);
         link->twin_seconds = twin == 0 ? 0 : link->twin_seconds + 1;
@@ -27,6 +26,6 @@ void look_for_twins(struct protocol *protocol) {
         struct facts facts = facts_of(protocol, link);
         (void)say(protocol->process, LOG_WARNING | ABOUT_STRANGER,
             "port %u %s: its partner is port %u of %s, and so is that of port %u %s: two hosts may have this system", link->settings.number,
-            link->name, facts.partner_port, system_text(&facts.partner, system), twin, protocol->ports->links[twin - 1].name);
+            link->name, facts.partner_port, system_text(&facts.partner, TEXT_ROOM), twin, protocol->ports->links[twin - 1].name);
     }
 }

@@ -51,16 +51,17 @@ void note_unread(struct answers *answers, unsigned packets, bool drained) {
 }
 
 /* Sends what is due on a port, behind the data that came before. */
-static void answer_due(struct tap_plane *tap, uint16_t port) {
-    struct answers *answers = &tap->answers[port - 1];
+static void answer_due(struct tap_plane *tap, struct link *link) {
+    struct answers *answers = &tap->answers[link - tap->ports->links];
+    const struct member *member = &tap->members[link - tap->ports->links];
     uint64_t now = milliseconds();
     if (answers->count == 0 || answers->waiting[answers->first].due > now) return;
-    if (!is_fast(&tap->members[port - 1])) receive_data(tap, port);
-    bool fast = is_fast(&tap->members[port - 1]);
+    if (!is_fast(member)) receive_data(tap, link);
+    bool fast = is_fast(member);
     while (answers->count > 0) {
         const struct answer *answer = &answers->waiting[answers->first];
         if (answer->due > now || (answer->unread > 0 && !fast)) return;
-        send_frame(tap->protocol, &tap->ports->links[port - 1], answer->frame);
+        send_frame(tap->protocol, link, answer->frame);
         answers->first = (answers->first + 1) % MOST_ANSWERS;
         answers->count--;
     }
@@ -69,6 +70,6 @@ static void answer_due(struct tap_plane *tap, uint16_t port) {
 void serve_answers(struct tap_plane *tap) {
     uint64_t passed;
     (void)!read(tap->answer_timer, &passed, sizeof passed);
-    for (uint16_t port = 1; port <= tap->ports->count; port++) answer_due(tap, port);
+    EACH_LINK(link, tap->ports) answer_due(tap, link);
     wake(tap);
 }

@@ -2,7 +2,7 @@
  * kernel/programs.bpf.c read: the member on which its frames go, or none, and how many are on their way to the daemon. The daemon names a
  * member only while none is, and takes the name back before a marker goes: then it waits until each frame for which the old row was
  * read is with the member. All that the kernel runs is held by files of this process, and ends with it. */
-#include "tap.h"
+#include "control.h"
 
 #include <linux/membarrier.h>
 #include <sys/syscall.h>
@@ -20,17 +20,17 @@ static bool wait_for_programs(void) {
 }
 
 /* Loads a program of the kernel; a fault ends the daemon. */
-static int load(struct tap_plane *tap, const char *name, const struct fast_maps *maps) {
-    int program = load_program(tap->settings, name, maps);
+static int load(const struct settings *settings, const char *name, const struct fast_maps *maps) {
+    int program = load_program(settings, name, maps);
     if (program < 0) stop(REFUSED, "fast: the kernel takes no program", program_fault());
     return program;
 }
 
 /* Has a program run at the TAP device; answers what keeps it there. */
 static int keep_program(struct tap_plane *tap, const char *name, const struct fast_maps *maps, bool egress) {
-    int program = load(tap, name, maps), opened = attach_stored(&tap->process->store, name, program, tap_index(tap->device), egress);
+    CLOSED_FILE int program = load(tap->settings, name, maps);
+    int opened = attach_stored(&tap->process->store, name, program, tap->device->index, egress);
     if (opened < 0) stop(REFUSED, "fast: no program of an interface, which Linux has from 6.6 on", strerror(-opened));
-    close(program);
     return opened;
 }
 
@@ -38,7 +38,7 @@ static int keep_program(struct tap_plane *tap, const char *name, const struct fa
 static void *open_map(struct tap_plane *tap, int number, uint32_t size, uint32_t count, int *map) {
     int left = tap->process->inherited->tap;
     *map = claim_stored(&tap->process->store, "map", number);
-    void *at = *map >= 0 && left != 0 && left == tap_index(tap->device) ? map_again(size, count, *map) : NULL;
+    void *at = *map >= 0 && left != 0 && left == tap->device->index ? map_again(size, count, *map) : NULL;
     if (at) return at;
     if (*map >= 0) close_stored(&tap->process->store, "map", number, *map);
     at = make_map(size, count, map);
@@ -65,7 +65,7 @@ static void begin_counts(struct tap_plane *tap) {
 }
 
 /* Loads all that the kernel is to run, while the daemon may. */
-void start_fast(struct tap_plane *tap) {
+static void start_fast(struct tap_plane *tap) {
     struct fast_programs *own = &tap->fast;
     struct fast_maps maps;
     need(wait_for_programs(), "fast: the kernel cannot wait for its programs (membarrier)");
@@ -75,7 +75,7 @@ void start_fast(struct tap_plane *tap) {
     own->places = open_map(tap, 3, sizeof *own->places, PLACES, &maps.places);
     begin_counts(tap);
     if (own->host->mac == 0) memcpy(&own->host->mac, tap->settings->config.mac, ETH_ALEN);
-    own->receiver = load(tap, "receiver", &maps);
+    own->receiver = load(tap->settings, "receiver", &maps);
     own->handover = keep_program(tap, "handover", &maps, false);
     own->sender = keep_program(tap, "sender", &maps, true);
 }
@@ -85,14 +85,22 @@ static void clear_row(struct fast_row *row) {
     (void)__atomic_and_fetch(&row->word, ~(uint64_t)UINT32_MAX, __ATOMIC_SEQ_CST);
 }
 
+/* Frames of the host are taken for a while from here on, or no longer. Where its device has no carrier, the queue behind the program loses
+ * each frame, and a row that counted it would keep it; so they are lost before they are counted. Those of a host whose daemon is stopped go
+ * nowhere once the peer may have given the links up. */
+static void open_host(struct tap_plane *tap, bool open) {
+    if (!tap->fast.host) return; /* its tables are still to be made */
+    __atomic_store_n(&tap->fast.host->open_until, open ? (milliseconds() + OPEN_FOR) * 1000000 : 0, __ATOMIC_SEQ_CST);
+}
+
 /* Nothing is passed on any more, from the first line on. */
-void end_fast(struct tap_plane *tap) {
+static void end_fast(struct tap_plane *tap) {
     struct fast_programs *own = &tap->fast;
     open_host(tap, false);
     for (uint16_t number = 0; number < CONVERSATIONS; number++) clear_row(&own->rows[number]);
     for (uint16_t i = 0; i < tap->ports->count; i++) __atomic_store_n(&own->entries[i].up_to, 0, __ATOMIC_SEQ_CST);
-    if (own->sender >= 0) detach_stored(&tap->process->store, "sender", tap_index(tap->device), own->sender);
-    if (own->handover >= 0) detach_stored(&tap->process->store, "handover", tap_index(tap->device), own->handover);
+    if (own->sender >= 0) detach_stored(&tap->process->store, "sender", tap->device->index, own->sender);
+    if (own->handover >= 0) detach_stored(&tap->process->store, "handover", tap->device->index, own->handover);
     own->sender = own->handover = -1;
 }
 
@@ -165,7 +173,7 @@ static void count_handed_up(struct tap_plane *tap, uint16_t port) {
     if (uncollected > 0) suspect_aggregator(tap->carry, tap->ports->links[port - 1].view.aggregator);
 }
 
-void count_fast_frames(struct tap_plane *tap) {
+static void count_fast_frames(struct tap_plane *tap) {
     uint64_t overflowed = take(&tap->fast.host->overflowed), unfit = take(&tap->fast.host->unfit);
     EACH_CONVERSATION(conversation, tap->carry) count_passed(tap, conversation);
     for (uint16_t port = 1; port <= tap->ports->count; port++) count_handed_up(tap, port);
@@ -212,7 +220,7 @@ int fast_member_of(struct plane *plane, uint16_t number) {
 }
 
 /* The kernel goes on passing what stays on its port, and nothing else of what it passed on for the last daemon. */
-void resume_fast(struct tap_plane *tap) {
+static void resume_fast(struct tap_plane *tap) {
     bool any = false;
     EACH_CONVERSATION(conversation, tap->carry) {
         struct fast_row *row = row_of(tap, conversation);
@@ -229,7 +237,7 @@ void resume_fast(struct tap_plane *tap) {
 }
 
 /* Takes back what is no longer on the port where the kernel passes it on, before a marker goes there; all, where the library does not tell. */
-void withdraw(struct tap_plane *tap) {
+static void withdraw(struct tap_plane *tap) {
     bool told = ask_ports(tap->protocol, tap->carry->active, tap->carry->port_of);
     EACH_CONVERSATION(conversation, tap->carry) {
         uint16_t port = conversation->fast.port, now = told ? tap->carry->port_of[number_in(tap->carry, conversation)] : 0;
@@ -239,7 +247,7 @@ void withdraw(struct tap_plane *tap) {
 }
 
 /* The link of a port goes down, or its interface: before the library hears of it. */
-void withdraw_port(struct tap_plane *tap, uint16_t port) {
+static void withdraw_port(struct tap_plane *tap, uint16_t port) {
     __atomic_store_n(&tap->fast.entries[port - 1].up_to, 0, __ATOMIC_SEQ_CST);
     EACH_CONVERSATION(conversation, tap->carry)
         if (conversation->fast.port == port) clear_row(row_of(tap, conversation));
@@ -250,7 +258,7 @@ void withdraw_port(struct tap_plane *tap, uint16_t port) {
 
 /* The TAP device has this queueing discipline now. One that may hold frames holds them behind the program that counts them, where nobody
  * sees them, and would not have what the kernel passes on: with it the daemon has all data. */
-void follow_host_queue(struct tap_plane *tap, const char *discipline) {
+static void follow_host_queue(struct tap_plane *tap, const char *discipline) {
     struct fast_programs *own = &tap->fast;
     bool holds = !keeps_order(discipline) && strcmp(discipline, "pfifo_fast") != 0
         && strcmp(discipline, "noop") != 0; /* it has that one until it is up */
@@ -265,22 +273,14 @@ void follow_host_queue(struct tap_plane *tap, const char *discipline) {
 
 /* Frames go up by the kernel from the ports that collect in the active aggregator, while the TAP device is up: else the kernel would lose
  * markers, too, which go up behind the data. */
-void set_collecting(struct tap_plane *tap) {
+static void set_collecting(struct tap_plane *tap) {
     struct fast_programs *own = &tap->fast;
     bool any_up = own->sender >= 0 && tap->carry->active != 0 && is_tap_up(tap->device);
     EACH_LINK_AS_IS(link, tap->ports) {
         bool up = any_up && link->view.aggregator == tap->carry->active && (link->view.state & NIW_STATE_COLLECTING) != 0
             && is_fast(&tap->members[link->settings.number - 1]);
-        __atomic_store_n(&own->entries[link - tap->ports->links].up_to, up ? (uint64_t)tap_index(tap->device) : 0, __ATOMIC_SEQ_CST);
+        __atomic_store_n(&own->entries[link - tap->ports->links].up_to, up ? (uint64_t)tap->device->index : 0, __ATOMIC_SEQ_CST);
     }
-}
-
-/* Frames of the host are taken for a while from here on, or no longer. Where its device has no carrier, the queue behind the program loses
- * each frame, and a row that counted it would keep it; so they are lost before they are counted. Those of a host whose daemon is stopped go
- * nowhere once the peer may have given the links up. */
-void open_host(struct tap_plane *tap, bool open) {
-    if (!tap->fast.host) return; /* its tables are still to be made */
-    __atomic_store_n(&tap->fast.host->open_until, open ? (milliseconds() + OPEN_FOR) * 1000000 : 0, __ATOMIC_SEQ_CST);
 }
 
 /* Lets the kernel pass on a conversation of which nothing waits here, if nothing is on its way here. */
@@ -293,7 +293,7 @@ static void pass(struct tap_plane *tap, struct conversation *conversation) {
 }
 
 /* After all that was put was sent: what was taken counts no more, and the kernel gets what it may pass on. */
-void pass_on(struct tap_plane *tap) {
+static void pass_on(struct tap_plane *tap) {
     EACH_CONVERSATION(conversation, tap->carry) {
         if (!conversation->fast.touched) continue;
         conversation->fast.touched = false;
@@ -322,7 +322,7 @@ static void confirm_loss(struct tap_plane *tap, struct conversation *conversatio
  * program counts just now. More of `left` was lost behind the program that counted it, by a queue without a carrier or without room, and
  * no read takes it off: with MOST_LEFT of it no frame would ever come here again. What is taken off too early makes it less than 0, and is
  * put back. It only tells how many may wait, so a frame too many is lost by the kernel, which counts it. The order rests on the rows. */
-void note_read(struct tap_plane *tap, unsigned packets, bool drained) {
+static void note_read(struct tap_plane *tap, unsigned packets, bool drained) {
     struct fast_programs *own = &tap->fast;
     if (tap->process->broken) return;
     int64_t left = __atomic_sub_fetch(&own->host->left, packets, __ATOMIC_SEQ_CST);
@@ -352,7 +352,7 @@ static void withdraw_resting(struct tap_plane *tap) {
     settle_cleared(tap);
 }
 
-void pass_fast_tick(struct tap_plane *tap) {
+static void pass_fast_tick(struct tap_plane *tap) {
     bool any = false;
     (void)read_tap_mac(tap->device, (uint8_t *)&tap->fast.host->mac);
     withdraw(tap);
@@ -362,3 +362,14 @@ void pass_fast_tick(struct tap_plane *tap) {
     EACH_CONVERSATION(conversation, tap->carry) any = suspect(tap, conversation) || any;
     if (any) wait_or_end(tap);
 }
+
+static int check_fast(struct control *control, const struct options *options) {
+    return check_programs(control->process, options, "fast", true);
+}
+
+const struct passing BY_KERNEL = {
+    .check = check_fast, .start = start_fast, .end = end_fast, .set_up_device = give_no_queue, .run_programs = run_fast_programs,
+    .count = count_fast_frames, .withdraw = withdraw, .withdraw_port = withdraw_port, .pass_on = pass_on, .note_read = note_read,
+    .open_host = open_host, .follow_discipline = follow_host_queue, .set_collecting = set_collecting, .read_host = read_host,
+    .tick = pass_fast_tick, .resume = resume_fast, .steers = true,
+};

@@ -7,7 +7,7 @@
 #define UNANSWERED 3000
 
 /* Whether the library tells that a port distributes, or that it does not. */
-static bool distributes(struct protocol *protocol, uint16_t port, bool wanted) {
+bool is_told_distributing(struct protocol *protocol, uint16_t port, bool wanted) {
     struct niw_truth answer = niw_distributes(&protocol->own_system, port);
     return is_done(protocol->process, answer.status, "niw_distributes") && answer.is == wanted;
 }
@@ -17,7 +17,7 @@ static bool distributes(struct protocol *protocol, uint16_t port, bool wanted) {
 static void watch_port(struct tap_plane *tap, uint16_t port) {
     struct carry *carry = tap->carry;
     uint64_t held, freed, *since = &tap->silent_since[port - 1];
-    bool holds = (tap->ports->links[port - 1].view.defaulted || distributes(tap->protocol, port, false))
+    bool holds = (tap->ports->links[port - 1].view.defaulted || is_told_distributing(tap->protocol, port, false))
         && is_told(tap->process, niw_held(&tap->protocol->own_system, port), "niw_held", &held) && held > 0;
     if (!holds || *since == 0) *since = holds ? carry->time : 0;
     if (!holds || carry->time - *since < tap->settings->flight) return;
@@ -34,7 +34,7 @@ static void set_free(struct carry *carry, struct conversation *conversation, uin
     struct niw_system *system = &carry->protocol->own_system;
     uint32_t status = held ? niw_force(system, conversation->home, number) : niw_rest(system, conversation->home, number);
     if (!is_done(carry->process, status, held ? "niw_force" : "niw_rest")) return;
-    if (held && conversation->home == carry->active) suspect_partner(&carry->probe);
+    if (held && conversation->home == carry->active && carry->probe.peer == ANSWERS) carry->probe.peer = NOT_ASKED; /* it did not answer in time */
     carry->counts[held ? FORCED : RESTED]++;
     carry->plane->changed = true;
     conversation->since = 0;
@@ -46,7 +46,7 @@ static void watch_held(struct carry *carry, struct conversation *conversation, u
     bool held = is_held(state), answered = held && carry->probe.peer != MUTE && carry->settings->flight < UNANSWERED;
     if (conversation->since == 0) conversation->since = carry->time;
     if (carry->time - conversation->since < (answered ? UNANSWERED : carry->settings->flight)) return;
-    if (held && !distributes(carry->protocol, state->port, true)) return;
+    if (held && !is_told_distributing(carry->protocol, state->port, true)) return;
     set_free(carry, conversation, number, held);
 }
 

@@ -16,7 +16,7 @@ void lose_device(struct plane *plane) {
     if (tap->process->broken) return;
     tap->process->broken = true;
     CALL(plane->passing->end, tap);
-    tap->device->number = 0;
+    tap->device->index = 0;
     tap->device->carrier = false;
     drop_stored(&tap->process->store, "tap", 0);
     if (own->tap >= 0) await_no_more(tap->process->epoll_file, own->tap);
@@ -143,19 +143,20 @@ void serve_data(struct tap_plane *tap, uint32_t tag) {
     if (tap->process->broken) return;
     if (tag == RESPONSES) serve_answers(tap);
     if (tag >= MEMBERS && tag < RESPONSES) {
-        receive_data(tap, (uint16_t)(tag - MEMBERS + 1));
+        receive_data(tap, &tap->ports->links[tag - MEMBERS]);
         if (tap->plane->changed) send_due(tap->protocol);
     }
     settle_carry(tap->plane);
     if (tag == HOST) read_host(tap);
 }
 
-void lose_data(struct plane *plane, uint16_t port) {
+void lose_data(struct plane *plane, const struct link *link) {
     struct tap_plane *tap = plane->tap;
-    CALL(plane->passing->withdraw_port, tap, port);
-    tap->answers[port - 1].count = 0; /* whoever asked there asks again */
+    CALL(plane->passing->withdraw_port, tap, link->settings.number);
+    tap->answers[link - tap->ports->links].count = 0; /* whoever asked there asks again */
 }
 
+/* Makes the device, and all room that frames ever take. */
 void open_tap_plane(struct plane *plane) {
     struct tap_plane *tap = plane->tap;
     struct host *own = &tap->host;
@@ -168,7 +169,7 @@ void open_tap_plane(struct plane *plane) {
     CALL(plane->queueing->start, tap);
     need(on_exit(put_back_members, tap) == 0, "on_exit");
     own->tap = open_tap(tap->device, tap->settings->carry, tap->settings->config.mac);
-    gather(tap->process, tap_index(tap->device));
+    gather(tap->process, tap->device->index);
     CALL(plane->passing->start, tap);
     if (!await_input(tap->process->epoll_file, own->tap, HOST)) stop(REFUSED, "epoll", strerror(errno));
 }
@@ -177,19 +178,14 @@ void end_tap_plane(struct plane *plane) {
     struct tap_plane *tap = plane->tap;
     await_no_more(tap->process->epoll_file, tap->host.tap);
     set_carrier(tap->device, false);
-    remove_all_members(tap->protocol);
+    remove_all_members(plane, tap->ports);
     CALL(plane->passing->end, tap);
     end_held(tap);
 }
 
-/* Makes what carries the data, and all room that frames ever take. */
-void open_carry(struct protocol *protocol) {
-    if (protocol->settings->carry[0]) CALL(protocol->plane->carrying->open, protocol->plane);
-}
-
-void remove_all_members(struct protocol *protocol) {
-    EACH_LINK(link, protocol->ports)
-        if (link->socket >= 0) CALL(protocol->plane->carrying->remove, protocol->plane, link);
+void remove_all_members(struct plane *plane, struct ports *ports) {
+    EACH_LINK(link, ports)
+        if (link->socket >= 0) CALL(plane->carrying->remove, plane, link);
 }
 
 /* The daemon ends, or the library refused a call: no data goes or comes from here on. */

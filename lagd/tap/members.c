@@ -1,5 +1,5 @@
 /* Members: a packet socket of each for data and markers, and what is sent there many at a time. */
-#include "tap.h"
+#include "control.h"
 
 #include <linux/filter.h>
 #include <linux/if_packet.h>
@@ -91,7 +91,7 @@ static bool set_up_data(int fd, int index, const struct guard *guard) {
 /* Opens a socket of a member; answers it, or -errno. One for all protocols has markers before the filters and bridges of an administrator,
  * which may take frames away there. Where the kernel hands up what comes, nothing comes by that for data. */
 static int open_socket(struct tap_plane *tap, const struct link *link, const struct guard *guard, enum socket_kind kind) {
-    int index = kind == MARKERS ? tap_index(tap->device) : link->index;
+    int index = kind == MARKERS ? tap->device->index : link->index;
     struct sockaddr_ll address = {.sll_family = AF_PACKET, .sll_protocol = htons(kind == DIRECT ? ETH_P_SLOW : ETH_P_ALL), .sll_ifindex = index};
     int fd = packet_socket(tap->process, SOCKET_NAMES[kind], link->index, index, SOCK_RAW);
     bool only_sends = kind == DATA && guard->fast, filtered;
@@ -136,7 +136,7 @@ static int open_sockets(struct tap_plane *tap, const struct link *link, struct m
     return 0;
 }
 
-int open_member(struct plane *plane, struct link *link) {
+static int open_member(struct plane *plane, struct link *link) {
     struct tap_plane *tap = plane->tap;
     struct member *member = member_of(tap, link);
     if (!filter(link->socket, false)) return last_fault();
@@ -177,7 +177,7 @@ bool reopen_member(struct plane *plane, struct link *link) {
     return ASK(plane->carrying->renew, true, plane, link);
 }
 
-bool renew_for_discipline(struct plane *plane, struct link *link) {
+static bool renew_for_discipline(struct plane *plane, struct link *link) {
     struct tap_plane *tap = plane->tap;
     struct member *member = member_of(tap, link);
     if (!is_open(member)) return true;
@@ -193,7 +193,7 @@ void follow_address(struct plane *plane, struct link *link, const uint8_t *mac) 
 }
 
 /* What a member had before it was one stays known by its new MAC address, also where this daemon is killed. */
-void move_member(struct plane *plane, struct link *link, const uint8_t *mac) {
+static void move_member(struct plane *plane, struct link *link, const uint8_t *mac) {
     const struct member *member = member_of(plane->tap, link);
     if (!is_open(member)) return;
     move_former(plane->tap->process, link, mac);
@@ -201,7 +201,7 @@ void move_member(struct plane *plane, struct link *link, const uint8_t *mac) {
 }
 
 /* A queueing discipline of an interface changed: where each queue has one of the daemon, others may have put another one there, or taken theirs. */
-bool follow_member_queues(struct tap_plane *tap, struct link *link) {
+static bool follow_member_queues(struct tap_plane *tap, struct link *link) {
     struct member *member = member_of(tap, link);
     bool kept = link->has_fifos ? have_order(link->index) : member->guard.in_order || !may_have_order(link->index);
     if (!is_open(member) || kept) return true;
@@ -209,7 +209,7 @@ bool follow_member_queues(struct tap_plane *tap, struct link *link) {
 }
 
 /* Each second a member is taken up anew whose queues others changed, or that has the number of queues of the others by now. */
-void watch_queues(struct tap_plane *tap) {
+static void watch_queues(struct tap_plane *tap) {
     if (tap->protocol->ticks % SECOND != 0) return;
     EACH_LINK(link, tap->ports) {
         const struct member *member = member_of(tap, link);
@@ -232,17 +232,17 @@ void count_losses(struct tap_plane *tap) {
     for (uint16_t i = 0; i < tap->ports->count; i++) count_loss(&tap->members[i]);
 }
 
-void close_member(struct plane *plane, struct link *link) {
+static void close_member(struct plane *plane, struct link *link) {
     struct tap_plane *tap = plane->tap;
     struct member *member = member_of(tap, link);
     if (!is_open(member)) return;
-    lose_data(plane, link->settings.number);
+    lose_data(plane, link);
     count_loss(member);
     release_member(tap, link, member);
 }
 
-void forget_member(struct plane *plane, uint16_t port) {
-    struct member *member = &plane->tap->members[port - 1];
+static void forget_member(struct plane *plane, const struct link *link) {
+    struct member *member = member_of(plane->tap, link);
     memset(member->counts, 0, sizeof member->counts);
     member->mtu = member->megabits = 0;
     member->has_marker = false;
@@ -258,7 +258,7 @@ void put_back_members(int status UNUSED, void *given) {
 }
 
 /* The TAP device takes what each member takes; 0: there is no such member any more. */
-void follow_member_mtu(struct plane *plane, struct link *link, uint32_t mtu) {
+static void follow_member_mtu(struct plane *plane, struct link *link, uint32_t mtu) {
     struct tap_plane *tap = plane->tap;
     uint32_t least = UINT32_MAX;
     if (member_of(tap, link)->mtu == mtu) return;
@@ -270,7 +270,7 @@ void follow_member_mtu(struct plane *plane, struct link *link, uint32_t mtu) {
     if (least != UINT32_MAX) limit_mtu(tap->device, least);
 }
 
-void follow_speed(struct plane *plane, const struct link *link) {
+static void follow_speed(struct plane *plane, const struct link *link) {
     uint32_t now = read_speed(link->socket, link->index).megabits;
     member_of(plane->tap, link)->megabits = now == (uint32_t)SPEED_UNKNOWN ? 0 : now;
     plane->changed = true;
@@ -324,7 +324,7 @@ bool give_marker(struct tap_plane *tap, struct link *link, const uint8_t *marker
     return is_done(tap->process, niw_count_sent(&link->counters, marker, NIW_FRAME), "niw_count_sent");
 }
 
-bool send_by_one_queue(struct tap_plane *tap, struct link *link, const uint8_t *marker, bool again UNUSED) {
+static bool send_by_one_queue(struct tap_plane *tap, struct link *link, const uint8_t *marker, bool again UNUSED) {
     struct msghdr message = {0};
     return give_marker(tap, link, marker, &message);
 }
@@ -352,12 +352,12 @@ bool send_marker_again(struct tap_plane *tap, uint16_t port) {
     return member->has_marker && send_marker(tap, &tap->ports->links[port - 1], member->marker, true);
 }
 
-void accept_only_response(struct tap_plane *tap, struct link *link, const struct arrival *arrival, uint32_t id UNUSED) {
+static void accept_only_response(struct tap_plane *tap, struct link *link, const struct arrival *arrival, uint32_t id UNUSED) {
     accept_response(tap->protocol, link, arrival);
 }
 
 /* Accepts a response to a marker of one queue: the library has the last one that was missing. */
-void accept_response_of_queue(struct tap_plane *tap, struct link *link, const struct arrival *arrival, uint32_t id) {
+static void accept_response_of_queue(struct tap_plane *tap, struct link *link, const struct arrival *arrival, uint32_t id) {
     uint8_t frame[NIW_FRAME];
     struct arrival last = {frame, sizeof frame, arrival->packet_type, arrival->index, arrival->tagged};
     if (!ends_flight(&tap->queues[link->settings.number - 1], &id)) {
@@ -415,9 +415,8 @@ static void accept_packet(struct tap_plane *tap, struct link *link, struct mmsgh
 
 /* Takes the packets that wait in a socket of a member, some at most. What the kernel tells of links comes before them: what was sent after
  * a link went is not handed up before it. */
-static void receive_packets(struct tap_plane *tap, uint16_t port, enum socket_kind kind) {
-    struct link *link = &tap->ports->links[port - 1];
-    struct member *member = &tap->members[port - 1];
+static void receive_packets(struct tap_plane *tap, struct link *link, enum socket_kind kind) {
+    struct member *member = member_of(tap, link);
     struct mmsghdr messages[BATCH];
     struct iovec parts[BATCH];
     struct sockaddr_ll from[BATCH];
@@ -428,7 +427,8 @@ static void receive_packets(struct tap_plane *tap, uint16_t port, enum socket_ki
             .msg_iov = &parts[i], .msg_iovlen = 1, .msg_control = controls[i], .msg_controllen = sizeof controls[i]};
     }
     int got = recvmmsg(member->sockets[kind], messages, BATCH, MSG_DONTWAIT, NULL);
-    if (kind == DATA) note_unread(&tap->answers[port - 1], got > 0 ? (unsigned)got : 0, got >= 0 ? got < BATCH : errno == EAGAIN);
+    if (kind == DATA)
+        note_unread(&tap->answers[link - tap->ports->links], got > 0 ? (unsigned)got : 0, got >= 0 ? got < BATCH : errno == EAGAIN);
     if (got < 0 && errno == EINVAL) { /* the kernel has a frame of segments that it cannot describe: it is lost */
         member->counts[DATA_RECEIVED]++;
         member->counts[WRONG_LENGTH]++;
@@ -442,18 +442,49 @@ static void receive_packets(struct tap_plane *tap, uint16_t port, enum socket_ki
 }
 
 /* Takes all that waits at a member, but for a flood, before its port is held: what came before that is collected. */
-void drain_member(struct plane *plane, uint16_t port) {
+static void drain_member(struct plane *plane, struct link *link) {
     struct tap_plane *tap = plane->tap;
-    bool more = is_open(&tap->members[port - 1]);
+    bool more = is_open(member_of(tap, link));
     for (unsigned turn = 0; more && turn < MOST_DRAINED && !tap->process->broken; turn++) {
         tap->carry->more_waits = false;
-        receive_data(tap, port);
+        receive_data(tap, link);
         more = tap->carry->more_waits;
     }
 }
 
-void receive_data(struct tap_plane *tap, uint16_t port) {
-    const struct member *member = &tap->members[port - 1];
+void receive_data(struct tap_plane *tap, struct link *link) {
+    const struct member *member = member_of(tap, link);
     for (enum socket_kind kind = member->sockets[MARKERS] < 0 ? DATA : MARKERS; kind < SOCKETS; kind++)
-        if (member->sockets[kind] >= 0) receive_packets(tap, port, kind);
+        if (member->sockets[kind] >= 0) receive_packets(tap, link, kind);
 }
+
+static int check_tap(struct control *control, const struct options *options) {
+    return access("/dev/net/tun", F_OK) == 0 ? DONE : tell_lack(control->process, options, "carry", "there is no /dev/net/tun", REFUSED);
+}
+
+const struct carrying TAP_DEVICE = {
+    .open = open_tap_plane, .end = end_tap_plane, .lose_device = lose_device, .keep_device = keep_tap, .leave = leave_tap,
+    .give_carrier = give_tap_carrier, .settle_mtu = settle_tap_mtu, .add = open_member, .remove = close_member, .renew = renew_for_discipline,
+    .move = move_member, .follow_mtu = follow_member_mtu, .follow_speed = follow_speed, .can_empty = can_empty, .empty = empty_port,
+    .drain = drain_member, .lose = lose_data, .forget = forget_member, .send_marker = send_new_marker, .note_response = note_response,
+    .settle = settle_frames, .tick = pass_tick_of_frames, .keeps_aggregator = hears_peer, .frames_heard = frames_handed_up,
+    .tell_host = tell_speed_and_carrier, .resume = resume_conversations, .go_on = settle_carry, .member_of = fast_member_of,
+    .end_resuming = release_former_members, .frames_waiting = count_frames_waiting, .check = check_tap, .show = show_carry,
+    .show_member = show_member, .show_markers = show_markers, .show_waiting = show_frames_waiting, .end_count = CARRY_COUNTS,
+    .member_counts = MEMBER_COUNTS, .keeps_members = true, .administers = true, .nameless = "",
+};
+
+const struct queueing ONE_QUEUE = {
+    .set = join_queues, .send_marker = send_by_one_queue, .accept_response = accept_only_response, .answer = answer_at_once, .text = "",
+    .markers_at_once = 1,
+};
+
+static int check_all_queues(struct control *control, const struct options *options) {
+    return check_programs(control->process, options, "queues", false);
+}
+
+const struct queueing ALL_QUEUES = {
+    .check = check_all_queues, .start = start_all_queues, .fifos_of = count_sending_queues, .set = keep_queues, .follow = follow_member_queues,
+    .watch = watch_queues, .mark = mark_conversation, .send_marker = send_by_queues, .accept_response = accept_response_of_queue,
+    .answer = answer_later, .show = show_queues, .text = ", all queues", .markers_at_once = MARKERS_AT_ONCE,
+};

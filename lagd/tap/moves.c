@@ -53,20 +53,20 @@ static bool level(struct carry *carry) {
 }
 
 /* Whether the conversations of a port can move behind markers to others that carry. */
-bool can_empty(struct plane *plane, uint16_t port) {
-    struct carry *carry = plane->carry;
+bool can_empty(struct plane *plane, const struct link *link) {
+    const struct carry *carry = plane->carry;
     unsigned others = 0;
-    for (uint16_t i = 0; i < carry->active_count; i++) others += carry->active_ports[i] != port;
-    return others > 0 && carry->probe.peer == ANSWERS && carry->active != 0
-        && carry->ports->links[port - 1].view.aggregator == carry->active;
+    for (uint16_t i = 0; i < carry->active_count; i++) others += carry->active_ports[i] != link->settings.number;
+    return others > 0 && carry->probe.peer == ANSWERS && carry->active != 0 && link->view.aggregator == carry->active;
 }
 
 /* Moves the conversations of a port to those that carry fewest; answers whether none is left there, or can leave so. */
-bool empty_port(struct plane *plane, uint16_t port) {
+bool empty_port(struct plane *plane, const struct link *link) {
     struct carry *carry = plane->carry;
+    uint16_t port = link->settings.number;
     unsigned loads[NIW_MOST_PORTS + 1] = {0};
     uint64_t load, held;
-    if (!can_empty(plane, port) || !ask_ports(carry->protocol, carry->active, carry->port_of)) return true;
+    if (!can_empty(plane, link) || !ask_ports(carry->protocol, carry->active, carry->port_of)) return true;
     for (uint16_t number = 0; number < CONVERSATIONS; number++) loads[carry->port_of[number]]++;
     for (uint16_t number = 0; number < CONVERSATIONS; number++) {
         if (carry->port_of[number] != port) continue;

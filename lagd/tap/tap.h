@@ -32,7 +32,7 @@ struct guard {
     struct kept before; /* what the interface had */
     bool spread;        /* whether it keeps all its queues */
     unsigned queues;    /* by how many of them data goes */
-    unsigned channels;  /* how many it has, as spread.c has it */
+    unsigned channels;  /* how many it has, as guard.c has it */
     int chooser;        /* what keeps the program there by which a frame of the daemon goes by its queue, or -1 */
 };
 
@@ -199,7 +199,7 @@ void recall_settings(int folder, const struct link *link, struct kept *kept);
 /* host.c */
 void lose_device(struct plane *plane);
 void serve_data(struct tap_plane *tap, uint32_t tag);
-void lose_data(struct plane *plane, uint16_t port);
+void lose_data(struct plane *plane, const struct link *link);
 void open_tap_plane(struct plane *plane);
 void end_tap_plane(struct plane *plane);
 void read_host(struct tap_plane *tap);
@@ -219,10 +219,12 @@ enum classifier set_classifier(int program, int index);
 void drop_classifier(int index);
 
 /* guard.c */
-/* Why an interface is no member such as others. */
-#define DISORDER "its queueing discipline is neither noqueue, bfifo nor pfifo"
-#define STACKED "it stands on another interface, whose queues are not seen"
-void warn_of(struct process *process, const struct link *link, const char *what, const char *why);
+unsigned count_sending_queues(int index);
+void gather(struct process *process, int index);
+void start_all_queues(struct tap_plane *tap);
+bool has_usual_queues(struct tap_plane *tap, const struct guard *guard);
+bool is_spread_anew(uint64_t seconds, const struct link *link, const struct guard *guard);
+void move_former(struct process *process, struct link *link, const uint8_t *mac);
 void open_guard(struct tap_plane *tap, struct link *link, struct guard *guard);
 void keep_from_stack(struct tap_plane *tap, const struct link *link, struct guard *guard);
 void run_fast_programs(struct tap_plane *tap, const struct link *link, struct guard *guard);
@@ -234,29 +236,18 @@ void close_guard(struct tap_plane *tap, const struct link *link, struct guard *g
 void put_back(struct tap_plane *tap, int index, const uint8_t *mac);
 
 /* members.c */
-int open_member(struct plane *plane, struct link *link);
-void close_member(struct plane *plane, struct link *link);
-void forget_member(struct plane *plane, uint16_t port);
-void drain_member(struct plane *plane, uint16_t port);
+extern const struct carrying TAP_DEVICE;
+extern const struct queueing ONE_QUEUE, ALL_QUEUES;
 void send_new_marker(struct plane *plane, struct link *link, const uint8_t *frame);
-void follow_speed(struct plane *plane, const struct link *link);
-bool renew_for_discipline(struct plane *plane, struct link *link);
-void move_member(struct plane *plane, struct link *link, const uint8_t *mac);
-void follow_member_mtu(struct plane *plane, struct link *link, uint32_t mtu);
-bool follow_member_queues(struct tap_plane *tap, struct link *link);
-bool send_by_one_queue(struct tap_plane *tap, struct link *link, const uint8_t *marker, bool again);
 bool give_marker(struct tap_plane *tap, struct link *link, const uint8_t *marker, struct msghdr *message);
-void watch_queues(struct tap_plane *tap);
 unsigned member_queues(const struct member *member);
 void put_back_members(int status, void *given);
 bool is_fast(const struct member *member);
 uint32_t sum_speeds(struct tap_plane *tap);
 void put_data(struct tap_plane *tap, uint16_t port, uint16_t number, uint8_t *packet, size_t length);
 void flush_data(struct tap_plane *tap);
-void receive_data(struct tap_plane *tap, uint16_t port);
+void receive_data(struct tap_plane *tap, struct link *link);
 bool send_marker_again(struct tap_plane *tap, uint16_t port);
-void accept_only_response(struct tap_plane *tap, struct link *link, const struct arrival *arrival, uint32_t id);
-void accept_response_of_queue(struct tap_plane *tap, struct link *link, const struct arrival *arrival, uint32_t id);
 void count_losses(struct tap_plane *tap);
 
 /* hash.c */
@@ -295,39 +286,10 @@ int load_program(const struct settings *settings, const char *name, const struct
 const char *program_fault(void);
 
 /* fast.c */
-void start_fast(struct tap_plane *tap);
-void end_fast(struct tap_plane *tap);
+extern const struct passing BY_KERNEL;
 int open_fast_receiver(struct tap_plane *tap, const struct link *link);
 void close_fast_receiver(const struct fast_programs *own, const struct link *link);
-void pass_on(struct tap_plane *tap);
-void withdraw(struct tap_plane *tap);
-void withdraw_port(struct tap_plane *tap, uint16_t port);
-void set_collecting(struct tap_plane *tap);
-void count_fast_frames(struct tap_plane *tap);
-void pass_fast_tick(struct tap_plane *tap);
-void note_read(struct tap_plane *tap, unsigned packets, bool drained);
-void open_host(struct tap_plane *tap, bool open);
-void follow_host_queue(struct tap_plane *tap, const char *discipline);
 int fast_member_of(struct plane *plane, uint16_t number);
-void resume_fast(struct tap_plane *tap);
-
-/* spread.c: queues of an interface, and the processors that serve them */
-unsigned count_entries(int index, const char *begin);
-unsigned count_sending_queues(int index);
-unsigned channels_of(int index);
-bool keeps_briefly(const struct settings *settings, int index);
-bool read_steering(int index, char mask[static PROCESSORS_ROOM]);
-bool steer(const struct link *link);
-bool steer_back(int index, const char *mask);
-void gather(struct process *process, int index);
-void start_all_queues(struct tap_plane *tap);
-void spread(struct tap_plane *tap, const struct link *link, struct guard *guard);
-void stop_spreading(struct store *store, const struct link *link, struct guard *guard);
-bool has_usual_queues(struct tap_plane *tap, const struct guard *guard);
-bool is_spread_anew(uint64_t seconds, const struct link *link, const struct guard *guard);
-void move_former(struct process *process, struct link *link, const uint8_t *mac);
-void gather_back(int folder, const struct link *link, bool whole);
-bool may_spread(int folder, const struct link *link);
 
 /* held.c */
 void start_held(struct tap_plane *tap);

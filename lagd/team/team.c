@@ -1,10 +1,11 @@
 /* The plane of the team driver: a team device in the place of the TAP device, and members that are its ports. The kernel passes all data by
  * itself, also while no daemon runs: the next one takes the device over. */
-#include "team.h"
+#include "control.h"
 #include "netlink.h"
 
 #include <net/if.h>
 #include <poll.h>
+#include <sched.h>
 
 #define MODE "loadbalance"
 /* The mode of a device that has none yet. */
@@ -14,7 +15,7 @@
 #define MOST_TRIES 10
 
 /* Whether the driver takes the mode: at a device of its own, which stays. */
-bool has_team_mode(const struct team_plane *team) {
+static bool has_team_mode(const struct team_plane *team) {
     static const uint8_t mac[ETH_ALEN] = {2, 0, 0, 0, 0, 1};
     struct interface device;
     return make_team_device("team0", mac, ETH_DATA_LEN) && ask_interface(0, "team0", &device)
@@ -93,7 +94,7 @@ static bool find_device(struct process *process, const char *name, struct interf
 static void configure_driver(struct team_plane *team, const char *mode_now) {
     const uint32_t counted_every = 1; /* what each bucket has sent, in units of 100 ms */
     struct sock_filter steps[MOST_HASH_STEPS];
-    int index = tap_index(team->device);
+    int index = team->device->index;
     size_t octets = make_team_hash(team->settings, steps) * sizeof *steps;
     need(strcmp(mode_now, MODE) == 0 || set_option(team, index, "mode", TYPE_STRING, MODE, sizeof MODE), "team: mode " MODE);
     need(set_option(team, index, "bpf_hash_func", TYPE_BINARY, steps, octets), "team: bpf_hash_func");
@@ -129,7 +130,7 @@ void give_team_addresses(struct team_plane *team) {
 /* Takes an interface out of the device, by which it goes down: also where the device is gone, or somebody else took it out. */
 void leave_team_port(struct team_plane *team, int index) {
     struct interface port;
-    if (!team->opened || !ask_interface(index, NULL, &port) || (port.master != 0 && port.master != tap_index(team->device))) return;
+    if (!team->opened || !ask_interface(index, NULL, &port) || (port.master != 0 && port.master != team->device->index)) return;
     bool up = port.master == 0 || (port.flags & IFF_UP);
     if ((port.master == 0 || set_master(index, 0)) && up) (void)set_interface_up(index, true);
 }
@@ -137,18 +138,18 @@ void leave_team_port(struct team_plane *team, int index) {
 /* Makes an interface a new port of the device, which takes it while it is down, and passes no data on it until it is told to: the driver would
  * at once. */
 static bool make_port(struct team_plane *team, int index, bool up) {
-    return (!up || set_interface_up(index, false)) && set_master(index, tap_index(team->device)) && set_port_enabled(team, index, false);
+    return (!up || set_interface_up(index, false)) && set_master(index, team->device->index) && set_port_enabled(team, index, false);
 }
 
 /* Makes an interface a port of the device; answers 0, or -errno. One that belongs to another device stays there. */
-int open_team_port(struct plane *plane, struct link *link) {
+static int open_team_port(struct plane *plane, struct link *link) {
     struct team_plane *team = plane->team;
     struct interface port;
     uint8_t mac[ETH_ALEN];
     int fault = 0;
     if (!ask_interface(link->index, NULL, &port) || !read_tap_mac(team->device, mac)) return last_fault();
     bool up = (port.flags & IFF_UP) != 0;
-    if (port.master != tap_index(team->device) && (port.master != 0 || !may_put_in(team->protocol, link))) return -EBUSY;
+    if (port.master != team->device->index && (port.master != 0 || !may_put_in(team->protocol, link))) return -EBUSY;
     if (port.master == 0 && !make_port(team, link->index, up)) fault = last_fault();
     if (fault == 0 && memcmp(port.mac, mac, sizeof mac) != 0) fault = give_address(link->index, mac);
     team->taken[link - team->ports->links] = fault == 0;
@@ -158,7 +159,7 @@ int open_team_port(struct plane *plane, struct link *link) {
     return fault;
 }
 
-void close_team_port(struct plane *plane, struct link *link) {
+static void close_team_port(struct plane *plane, struct link *link) {
     struct team_plane *team = plane->team;
     if (!team->taken[link - team->ports->links]) return;
     team->taken[link - team->ports->links] = false;
@@ -168,12 +169,12 @@ void close_team_port(struct plane *plane, struct link *link) {
 
 /* Whether an interface is still a port of the device, as the kernel tells another master, or none: that may be older than what the daemon
  * did. */
-bool is_still_team_port(struct plane *plane, const struct link *link, int master) {
+static bool is_still_team_port(struct plane *plane, const struct link *link, int master) {
     struct team_plane *team = plane->team;
     struct interface now;
-    if (!team->taken[link - team->ports->links] || master == tap_index(team->device) || !ask_interface(link->index, NULL, &now))
+    if (!team->taken[link - team->ports->links] || master == team->device->index || !ask_interface(link->index, NULL, &now))
         return true;
-    if (now.master == tap_index(team->device)) return true;
+    if (now.master == team->device->index) return true;
     (void)say(team->process, LOG_WARNING | ABOUT_DATA, "port %u %s: it was taken out of %s", link->settings.number, link->name,
         team->settings->carry);
     return false;
@@ -189,13 +190,14 @@ static void free_inherited_ports(const struct inherited *inherited, int index) {
 
 /* By other settings nothing goes on: the ports of the device are free, and it goes if the last daemon made it. Where another daemon has it,
  * all stays as it is. */
-void leave_team(struct team_plane *team, int index, bool with_device) {
+static void leave_team(struct plane *plane, int index, bool owned) {
+    struct team_plane *team = plane->team;
     struct interface device;
     if (!find_team_driver(team) || !ask_interface(index, NULL, &device) || strcmp(device.kind, TEAM_KIND) != 0) return;
     int held = lock_interface(team->process, index);
     if (held < 0) return;
     free_inherited_ports(team->process->inherited, index);
-    if (with_device) (void)remove_device(index);
+    if (owned) (void)remove_device(index);
     close_stored(&team->process->store, "lock", index, held);
 }
 
@@ -205,14 +207,14 @@ static void end_team(int status UNUSED, void *given) {
     struct team_plane *team = given;
     if (!team->opened || team->process->has_left) return;
     EACH_LINK(link, team->ports) close_team_port(team->plane, link);
-    if (tap_index(team->device) != 0) free_inherited_ports(team->process->inherited, tap_index(team->device));
-    if (team->plane->owns_device && tap_index(team->device) != 0) (void)remove_device(tap_index(team->device));
+    if (team->device->index != 0) free_inherited_ports(team->process->inherited, team->device->index);
+    if (team->plane->owns_device && team->device->index != 0) (void)remove_device(team->device->index);
     if (team->lock >= 0) close_stored(&team->process->store, "lock", team->locked, team->lock);
     team->opened = false;
 }
 
 /* Opens the device: it has no carrier, unless the data of the last daemon goes on. */
-void open_team(struct plane *plane) {
+static void open_team(struct plane *plane) {
     struct team_plane *team = plane->team;
     const char *name = team->settings->carry;
     const uint8_t *mac = team->settings->config.mac;
@@ -229,14 +231,33 @@ void open_team(struct plane *plane) {
         plane->owns_device = plane->is_new = true;
         use_team_device(team->device, device.index);
     }
-    need(read_team(team, tap_index(team->device), &now), "team");
+    need(read_team(team, team->device->index, &now), "team");
     configure_driver(team, now.mode);
     start_buckets(team);
 }
 
-void end_team_plane(struct plane *plane) {
+static void end_team_plane(struct plane *plane) {
     struct team_plane *team = plane->team;
     set_carrier(team->device, false);
-    remove_all_members(team->protocol);
+    remove_all_members(plane, team->ports);
     end_team(DONE, team);
 }
+
+/* Whether the kernel has the team driver, and its mode, which is another module: answers how the program ends. The mode is tried in a network
+ * namespace that ends with the program, where that may be made. */
+static int check_team(struct control *control, const struct options *options) {
+    struct team_plane *team = control->plane->team;
+    bool is_apart = unshare(CLONE_NEWNET) == 0, has_driver = find_team_driver(team);
+    if (!has_driver && errno == EPERM) return tell_lack(team->process, options, "plane", "not known without CAP_NET_ADMIN", DONE);
+    if (!has_driver) return tell_lack(team->process, options, "plane", "this kernel has no team driver", REFUSED);
+    if (!is_apart || has_team_mode(team)) return DONE;
+    return tell_lack(team->process, options, "plane", "the team driver of this kernel has no mode loadbalance", REFUSED);
+}
+
+const struct carrying TEAM_DEVICE = {
+    .open = open_team, .end = end_team_plane, .lose_device = lose_device, .leave = leave_team, .give_carrier = give_team_carrier,
+    .add = open_team_port, .remove = close_team_port, .still_has = is_still_team_port, .settle = settle_team, .tick = pass_tick_of_team,
+    .keeps_aggregator = hears_peer, .frames_heard = team_frames_received, .resume = resume_conversations, .go_on = choose_ports,
+    .member_of = bucket_member_of, .end_resuming = release_former_members, .check = check_team, .show = show_carry, .show_member = show_member,
+    .show_waiting = show_waiting_buckets, .first_count = MOVES, .end_count = WOKEN + 1, .administers = true, .nameless = "",
+};

@@ -66,14 +66,8 @@ bool read_team(const struct team_plane *team, int index, struct team_now *now);
 size_t make_team_hash(const struct settings *settings, struct sock_filter steps[static MOST_HASH_STEPS]);
 
 /* team.c */
-bool has_team_mode(const struct team_plane *team);
-void open_team(struct plane *plane);
-void end_team_plane(struct plane *plane);
-int open_team_port(struct plane *plane, struct link *link);
-void close_team_port(struct plane *plane, struct link *link);
-bool is_still_team_port(struct plane *plane, const struct link *link, int master);
+extern const struct carrying TEAM_DEVICE;
 void give_team_addresses(struct team_plane *team);
-void leave_team(struct team_plane *team, int index, bool with_device);
 void leave_team_port(struct team_plane *team, int index);
 
 /* buckets.c */

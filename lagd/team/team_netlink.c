@@ -63,7 +63,7 @@ bool set_address(int index, const uint8_t *mac) {
 }
 
 bool give_team_carrier(struct plane *plane, bool on) {
-    return set_attribute(tap_index(plane->device), IFLA_CARRIER, &(uint8_t){on}, 1);
+    return set_attribute(plane->device->index, IFLA_CARRIER, &(uint8_t){on}, 1);
 }
 
 static union message message_of_team(const struct team_plane *team, uint8_t command, unsigned flags, int index) {
@@ -100,11 +100,11 @@ bool set_option(const struct team_plane *team, int index, const char *name, enum
 }
 
 bool set_port_enabled(const struct team_plane *team, int port, bool enabled) {
-    return set_option_at(team, tap_index(team->device), "enabled", (struct place){port, -1}, TYPE_FLAG, enabled ? "" : NULL, 0);
+    return set_option_at(team, team->device->index, "enabled", (struct place){port, -1}, TYPE_FLAG, enabled ? "" : NULL, 0);
 }
 
 bool set_bucket(const struct team_plane *team, uint16_t bucket, int port) {
-    return set_option_at(team, tap_index(team->device), "lb_tx_hash_to_port_mapping", (struct place){0, bucket}, TYPE_U32, &port, sizeof port);
+    return set_option_at(team, team->device->index, "lb_tx_hash_to_port_mapping", (struct place){0, bucket}, TYPE_U32, &port, sizeof port);
 }
 
 static bool is_text(const struct nlattr *attribute, const char *text) {

@@ -95,16 +95,16 @@ def daemon(folder: str, lag: str, processor: Processor = AMD64) -> str:
 
 
 def subagent(folder: str) -> str:
-    """The subagent of snmpd, by its own Makefile in a copy of its folder."""
+    """The subagent of snmpd, by its own Makefile in a copy of the folder of the daemon, some of whose files it has."""
     lacks = [package for name, package in SUBAGENT_LIBRARIES.items() if subprocess.run(["pkg-config", "--exists", name]).returncode]
     if lacks:
         raise Missing(f"lagd-snmp wants more (Debian: apt install {' '.join(lacks)})")
     shutil.rmtree(folder, ignore_errors=True)
-    shutil.copytree(os.path.join(DAEMON, "snmp"), folder, ignore=shutil.ignore_patterns("out"))
-    flags = f"-O2 -fPIE -fstack-protector-strong -D_FORTIFY_SOURCE=2 -ffile-prefix-map={folder}=lagd/snmp -ffile-prefix-map={TOP}=."
+    shutil.copytree(DAEMON, folder, ignore=shutil.ignore_patterns("out"))
+    flags = f"-O2 -fPIE -fstack-protector-strong -D_FORTIFY_SOURCE=2 -ffile-prefix-map={folder}=lagd -ffile-prefix-map={TOP}=."
     words = [f"CRATE={CRATES}/lagffi", f"CFLAGS={flags}", "LDFLAGS=-pie -Wl,-z,relro,-z,now"]
-    printed("make", "-s", "-C", folder, f"CC={AMD64.compiler}", *words)
-    return os.path.join(folder, "out", "lagd-snmp")
+    printed("make", "-s", "-C", os.path.join(folder, "snmp"), f"CC={AMD64.compiler}", *words)
+    return os.path.join(folder, "snmp", "out", "lagd-snmp")
 
 
 def of_subagent() -> list[File]:

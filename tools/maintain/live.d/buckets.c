@@ -134,7 +134,6 @@ bool read_team(const struct team_plane *team, int index, struct team_now *now) {
 
 /* What the daemon has beside. */
 ANSWERS(uint64_t milliseconds, lagd->carry.time, void)
-ANSWERS(int tap_index, DEVICE, const struct device *own)
 NOTHING(give_team_addresses, struct team_plane *team)
 NOTHING(begin_carry_tick, struct carry *carry)
 NOTHING(note_heard, struct carry *carry)
@@ -279,6 +278,7 @@ static void check_unread(void) {
 int main(void) {
     unsigned wrong = 0, unspread = 0, calms = 0;
     join_parts(lagd);
+    lagd->device.index = DEVICE;
     lagd->settings.flight = FLIGHT;
     lagd->ports.count = PORTS;
     srandom(1);

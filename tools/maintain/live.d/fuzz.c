@@ -83,8 +83,8 @@ static void make_ports(void) {
     lagd->process.folder = open_folder(folder);
     open_status(&lagd->process, folder);
     lagd->process.has_started = true;
-    set_link(&lagd->protocol, 1, true);
-    set_link(&lagd->protocol, 2, true);
+    set_link(&lagd->protocol, &lagd->ports.links[0], true);
+    set_link(&lagd->protocol, &lagd->ports.links[1], true);
 }
 
 static void fuzz_file(const uint8_t *octets, size_t length) {
@@ -135,7 +135,7 @@ static void fuzz_caller(const uint8_t *octets, size_t length) {
     (void)send(asker, octets + 1 + first, length - 1 - first, MSG_NOSIGNAL);
     serve_all();
     for (int part = 0; part < 4 && recv(asker, scrap, sizeof scrap, 0) > 0; part++) serve_all();
-    set_link(&lagd->protocol, 2, !lagd->ports.links[1].up); /* whoever watches is told */
+    set_link(&lagd->protocol, &lagd->ports.links[1], !lagd->ports.links[1].up); /* whoever watches is told */
     close(asker);
     serve_all();
     pass_tick_of_callers(&lagd->process);
@@ -155,9 +155,9 @@ static void fuzz_state(const uint8_t *octets, size_t length) {
     (void)fwrite(octets, 1, length, file);
     fclose(file);
     lagd->inherited = (struct inherited){0};
-    recall_state(lagd->state);
+    recall_state(&lagd->state);
     (void)unlink(name);
-    begin_resuming(&lagd->protocol);
+    begin_resuming(&lagd->process, &lagd->plane);
     resume_data(&lagd->protocol, resume(&lagd->protocol));
 }
 

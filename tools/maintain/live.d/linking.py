@@ -99,7 +99,7 @@ def has_subagent() -> bool:
 
 
 def subagent_sources() -> list[str]:
-    return sorted(glob.glob(f"{DAEMON}/snmp/*.c"))
+    return [*sorted(glob.glob(f"{DAEMON}/snmp/*.c")), os.path.join(DAEMON, "sockets.c")]
 
 
 def build_planes(folder: str, libraries: Sequence[str]) -> str:

@@ -22,7 +22,7 @@ static struct lagd tested, *lagd = &tested;
 const char *const program = "markers";
 
 /* Its members have one queue. */
-static const struct queueing ONE_QUEUE = {.markers_at_once = 1};
+static const struct queueing OF_ONE_QUEUE = {.markers_at_once = 1};
 
 static uint64_t now = 5 * MINUTE;
 static unsigned lines; /* that were said */
@@ -143,8 +143,8 @@ static void check_forged(void) {
     CHECK(!respond(STRANGER, 1, last_id) && !respond(PARTNER, 2, last_id) && !respond(STRANGER, 0, 0) && lagd->carry.probe.peer == MUTE);
     for (uint32_t id = 0; id < 1000; id++) CHECK(respond(PARTNER, 1, id) && lagd->carry.probe.peer == MUTE);
     CHECK(lines == 1 && lagd->ports.links[0].counts[FOREIGN_RESPONSES] == 3);
-    tell_markers(&lagd->protocol, &lagd->ports.links[0]);
-    tell_markers(&lagd->protocol, &lagd->ports.links[0]);
+    tell_markers(&lagd->process, lagd->protocol.ticks, &lagd->ports.links[0]);
+    tell_markers(&lagd->process, lagd->protocol.ticks, &lagd->ports.links[0]);
     CHECK(lines == 2);
     CHECK(respond(PARTNER, 1, last_id) && lagd->carry.probe.peer == ANSWERS);
 }
@@ -158,7 +158,7 @@ static unsigned most_answered(const uint8_t *source, unsigned step, unsigned *al
     write_frame(frame, source, NIW_MARKER_INFORMATION, 1, 1);
     for (unsigned passed = 0; passed < MINUTE; passed += step) {
         now += step;
-        if (may_answer(&lagd->protocol, &lagd->ports.links[0], &arrival)) times[count++] = now;
+        if (may_answer(&lagd->settings, &lagd->plane, &lagd->ports.links[0], &arrival)) times[count++] = now;
     }
     for (unsigned first = 0; first < count; first++) {
         unsigned end = first;
@@ -189,8 +189,8 @@ static void check_budgets(void) {
         uint8_t marker[NIW_FRAME];
         struct arrival arrival = {.frame = marker, .length = sizeof marker};
         write_frame(marker, PARTNER, NIW_MARKER_INFORMATION, 1, turn);
-        for (unsigned forged = 0; forged < 30; forged++, now += 5) (void)may_answer(&lagd->protocol, &lagd->ports.links[0], &strange);
-        CHECK(may_answer(&lagd->protocol, &lagd->ports.links[0], &arrival));
+        for (unsigned forged = 0; forged < 30; forged++, now += 5) (void)may_answer(&lagd->settings, &lagd->plane, &lagd->ports.links[0], &strange);
+        CHECK(may_answer(&lagd->settings, &lagd->plane, &lagd->ports.links[0], &arrival));
     }
     lagd->ports.links[0].heard = false;
     now += MINUTE;
@@ -199,7 +199,7 @@ static void check_budgets(void) {
 
 int main(void) {
     join_parts(lagd);
-    lagd->plane.queueing = &ONE_QUEUE;
+    lagd->plane.queueing = &OF_ONE_QUEUE;
     memcpy(lagd->settings.config.mac, OWN, sizeof OWN);
     check_slow();
     check_mute();

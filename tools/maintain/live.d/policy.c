@@ -60,7 +60,6 @@ struct waiting_packet {
 /* One end, and what is known of its frames. */
 struct end {
     struct lagd lagd;
-    struct device device;
     struct wire wires[PORTS + 1]; /* what it sent */
     struct waiting_packet out[BATCH * PORTS];
     unsigned out_count;
@@ -210,7 +209,7 @@ void put_host(struct tap_plane *tap, uint8_t *packet, size_t length) {
 
 /* lines, and the carrier of the device, */
 ANSWERS(bool say, true, struct process *process, int level, const char *format, ...)
-ANSWERS(const char *selection_text, "", enum selection selection)
+const char *const SELECTIONS[] = {"", "", "", ""};
 static bool any_distributes(struct lagd *lagd) {
     for (uint16_t port = 1; port <= PORTS; port++)
         if (niw_distributes(&lagd->protocol.own_system, port).is) return true;
@@ -226,7 +225,7 @@ void notify_bundle(const struct bundle *bundle, const char *what) {
 
 NOTHING(keep_port, struct state *state, uint16_t number, uint16_t port)
 /* the library, */
-ANSWERS(bool carries, link->view.port_status == NIW_PORT_STATUS_DISTRIBUTING, struct protocol *protocol, const struct link *link)
+ANSWERS(bool carries, link->view.port_status == NIW_PORT_STATUS_DISTRIBUTING, const struct protocol *protocol, const struct link *link)
 void read_views(struct protocol *protocol) {
     struct niw_view views[NIW_MOST_PORTS];
     uint64_t changed;
@@ -276,7 +275,6 @@ NOTHING(pass_tap_tick, struct device *device)
 NOTHING(announce_soon, struct announce *own)
 ANSWERS(uint32_t sum_speeds, 1000, struct tap_plane *tap)
 NOTHING(set_speed, struct device *device, uint32_t megabits)
-NOTHING(run_hook, struct protocol *protocol, const char *path, enum bundle_state before)
 /* The device is up here, and no port comes or goes. */
 ANSWERS(uint16_t count_links, PORTS, const struct ports *ports)
 NOTHING(tell_watchers_of, struct control *control, const struct link *link)
@@ -285,7 +283,7 @@ static const struct carrying FRAMES = {.settle = settle_frames, .tick = pass_tic
     .frames_heard = frames_handed_up, .tell_host = tell_speed_and_carrier, .go_on = settle_carry,
     .note_response = note_response};
 static const struct passing BY_DAEMON = {0};
-static const struct queueing ONE_QUEUE = {.accept_response = accept_any, .answer = answer, .markers_at_once = 1};
+static const struct queueing OF_ONE_QUEUE = {.accept_response = accept_any, .answer = answer, .markers_at_once = 1};
 
 /* The link of a port is up or down for an end. */
 static void set_link_of(struct end *end, uint16_t port, bool up) {
@@ -304,12 +302,10 @@ static void make_end(struct end *end, uint8_t which) {
     struct lagd *lagd = &end->lagd;
     struct niw_port ports[PORTS];
     const uint16_t keys[KEYS] = {1, 2};
-    lagd->device = &end->device;
-    end->device.most_mtu = ETH_DATA_LEN;
     join_parts(lagd);
     lagd->plane.carrying = &FRAMES;
     lagd->plane.passing = &BY_DAEMON;
-    lagd->plane.queueing = &ONE_QUEUE;
+    lagd->plane.queueing = &OF_ONE_QUEUE;
     lagd->plane.changed = lagd->process.has_started = true;
     lagd->ports.count = lagd->settings.port_count = PORTS;
     lagd->settings.flight = FLIGHT;
@@ -437,7 +433,7 @@ static void hold(struct end *end, uint16_t port, bool held) {
 /* A port is to be held: it is emptied first, where that can be, as lagd/membership.c does. */
 static void begin_to_hold(struct end *end, uint16_t port) {
     struct link *link = &end->lagd.ports.links[port - 1];
-    link->emptying = can_empty(&end->lagd.plane, port);
+    link->emptying = can_empty(&end->lagd.plane, link);
     end->lagd.plane.changed = true;
     if (!link->emptying) hold(end, port, true);
 }
@@ -445,7 +441,7 @@ static void begin_to_hold(struct end *end, uint16_t port) {
 /* The ports that are emptied are held then. */
 static void end_emptying(struct end *end) {
     for (uint16_t port = 1; port <= PORTS; port++)
-        if (end->lagd.ports.links[port - 1].emptying && empty_port(&end->lagd.plane, port)) hold(end, port, true);
+        if (end->lagd.ports.links[port - 1].emptying && empty_port(&end->lagd.plane, &end->lagd.ports.links[port - 1])) hold(end, port, true);
 }
 
 /* Some ticks passed, and are made up, as lagd/main.c does. */
@@ -455,9 +451,9 @@ static void pass_time(struct end *end, unsigned ticks) {
         CHECK(niw_tick(&lagd->protocol.own_system) == NIW_OK);
         lagd->protocol.ticks++;
         read_views(&lagd->protocol);
-        pass_carry_tick(&lagd->protocol);
+        if (!lagd->process.broken) CALL(lagd->plane.carrying->tick, &lagd->plane);
         end_emptying(end);
-        if (now / 1000 != (now - TICK) / 1000) allow_bundle_line(&lagd->protocol.bundle);
+        if (now / 1000 != (now - TICK) / 1000 && lagd->protocol.bundle.lines < MOST_LINES) lagd->protocol.bundle.lines++;
         events++;
     }
     check_waiting(end);

@@ -338,7 +338,7 @@ int main(int argc, char **argv) {
     if (argc != 2 && argc != 3) return 2;
     if (argc == 3) {
         lagd->settings.hash_seed = (uint16_t)atoi(argv[2]);
-        for (lagd->settings.hash = HASH_LAYER2; strcmp(hash_text(lagd->settings.hash), argv[1]) != 0; lagd->settings.hash++) continue;
+        for (lagd->settings.hash = HASH_LAYER2; strcmp(HASHES[lagd->settings.hash], argv[1]) != 0; lagd->settings.hash++) continue;
     }
     if (make_own_system() && load_all()) {
         host->open_until = UINT64_MAX;

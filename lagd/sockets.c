@@ -1,0 +1,63 @@
+/* Finds the status sockets of daemons, and connects with them. */
+#ifndef _GNU_SOURCE
+#define _GNU_SOURCE
+#endif
+#include "sockets.h"
+
+#include <dirent.h>
+#include <errno.h>
+#include <fcntl.h>
+#include <stdio.h>
+#include <stdlib.h>
+#include <string.h>
+#include <sys/socket.h>
+#include <sys/stat.h>
+#include <sys/un.h>
+#include <unistd.h>
+
+unsigned long network_namespace(void) {
+    struct stat file;
+    return stat("/proc/self/ns/net", &file) == 0 ? (unsigned long)file.st_ino : 0;
+}
+
+/* Whether a file is the status socket of a daemon of this namespace, of which bundle. */
+static bool is_socket(const char *name, struct found_socket *socket) {
+    char head[32];
+    size_t length = (size_t)snprintf(head, sizeof head, "%lu.", network_namespace()), whole = strlen(name);
+    if (strncmp(name, head, length) != 0 || whole <= length + 5 || strcmp(name + whole - 5, ".sock") != 0) return false;
+    snprintf(socket->bundle, sizeof socket->bundle, "%.*s", (int)(whole - length - 5), name + length);
+    return true;
+}
+
+/* Finds the status sockets in a folder, and in the folders in it. */
+void find_sockets(struct found *found, const char *folder, bool deeper) {
+    struct dirent **entries = NULL;
+    int count = scandir(folder, &entries, NULL, alphasort);
+    if (count < 0 && errno == EACCES && !found->denied) found->denied = strdup(folder);
+    for (int i = 0; i < count; i++) {
+        char path[SOCKET_PATH_ROOM];
+        const char *name = entries[i]->d_name;
+        bool fits = name[0] != '.' && snprintf(path, sizeof path, "%s/%s", folder, name) < (int)sizeof path;
+        struct stat file;
+        if (fits && found->count < MOST_DAEMONS && is_socket(name, &found->sockets[found->count]))
+            memcpy(found->sockets[found->count++].path, path, sizeof path);
+        else if (fits && deeper && lstat(path, &file) == 0 && S_ISDIR(file.st_mode))
+            find_sockets(found, path, false);
+        free(entries[i]);
+    }
+    free(entries);
+}
+
+/* Connects with a socket whose whole path may be longer than an address: by its folder. Answers 0, or -errno. */
+int connect_to(int fd, const char *path) {
+    char folder[SOCKET_PATH_ROOM];
+    const char *name = strrchr(path, '/') + 1;
+    struct sockaddr_un to = {.sun_family = AF_UNIX};
+    snprintf(folder, sizeof folder, "%.*s", (int)(name - path), path);
+    int opened = open(folder, O_PATH | O_DIRECTORY | O_CLOEXEC);
+    if (opened < 0) return -errno;
+    int length = snprintf(to.sun_path, sizeof to.sun_path, "/proc/self/fd/%d/%s", opened, name);
+    int fault = length >= (int)sizeof to.sun_path ? -ENAMETOOLONG : connect(fd, (const struct sockaddr *)&to, sizeof to) < 0 ? -errno : 0;
+    close(opened);
+    return fault;
+}
