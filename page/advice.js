@@ -2,25 +2,34 @@
 
 import { adviceOnTwoSystems, capitalized, joinedBy, OWN_SYSTEM, TWO_BOXES } from "./keys.js";
 
-/* For each form of a text what to look at where it does not say whether a link is up, how its program counts LACPDUs, what gives its ports one key, and how it uses one link, with a spare, without LACP. */
+/* For each form of a text what to look at where it does not say whether a link is up, how its program counts LACPDUs (of bonding, which counts none, what a
+ * capture tells), what sets it to active, what gives its ports one key, and how it uses one link, with a spare, without LACP. */
 const BONDING = {
-    counts: "it counts no LACPDUs, so capture here (timeout 100 tcpdump -i PORT -w FILE 'ether proto 0x8809'), and explain FILE. LACPDUs of the other end that come as often as this end "
-        + "asks for them (lacp_rate fast: each second) are lost in this end's receiver. If it asks for one each second, and one comes each 30 s, that end hears nobody, either: what this end sends is lost first. If none comes, "
-        + "ask for the LACP counters of the port at the other end (Cisco IOS, Arista: show lacp counters). It sends none: LACP is off there. It sends some: look at the path, "
-        + "and whether this card keeps them for an agent of its own",
+    told: [
+        "LACPDUs of the other end come as often as this end asks for them (lacp_rate fast: each second): they are lost in this end's receiver.",
+        "If it asks for one each second, and one comes each 30 s, that end hears nobody, either: what this end sends is lost first.",
+        "None comes: look whether the port at the other end is in a bundle with LACP (switch: channel-group, mode active, not on; Linux bonding: mode=802.3ad). "
+            + "If it is, ask for the LACP counters of that port (Cisco IOS, Arista: show lacp counters). It sends none: LACP is off there. "
+            + "It sends some: look at the path, and whether this card keeps them for an agent of its own.",
+    ],
+    active: (name) => `This end has lacp_active off. Its bond has to be down for it, which takes its routes: ip link set ${name} down; ip link set ${name} type bond lacp_active on; ip link set ${name} up`,
     key: "one speed, and full duplex", backup: "mode=active-backup",
 };
 const PROGRAMS = new Map([
     ["bonding", BONDING],
     ["ip", BONDING],
-    ["teamd", { ...BONDING, key: "one lacp_key, one speed, and full duplex", backup: "the runner activebackup" }],
+    ["teamd", { ...BONDING, active: () => 'This end has "active": false in its runner: true there', key: "one lacp_key, one speed, and full duplex", backup: "the runner activebackup" }],
     ["openvswitch", {
         link: "look at ip link first, for ovs-appctl lacp/show does not say whether the link is up; if it is, ",
         counts: "compare the counts of ovs-appctl lacp/show-stats with those of the other end, or capture",
+        active: (name) => `This end has lacp=passive: ovs-vsctl set port ${name} lacp=active`,
         key: "one bond (other_config:lacp-aggregation-key)", backup: "bond_mode=active-backup and lacp=off",
     }],
-    ["lagd", { counts: "compare its counts with those of the other end, or capture", key: "one key" }],
+    ["lagd", { counts: "compare its counts with those of the other end, or capture", active: () => "This end has activity=passive in its file: activity=active, and a reload", key: "one key" }],
 ]);
+const COMMANDS_AT = "docs/TROUBLE.md";
+/* What sets this end to active, of a bond of this name. */
+export const adviceOnPassive = (form, name) => `${PROGRAMS.get(form).active(name)} (each program: ${COMMANDS_AT}). Or set the other end to active.`;
 export const isSeveral = (list, valueOf) => new Set(list.map(valueOf).filter((it) => it !== null && it !== undefined)).size > 1;
 /* The names of ports; of those of the far end it is said once that they are. */
 export function namesIn(list) {
@@ -62,6 +71,9 @@ const asLong = ({ isLasting }) => isLasting ? "It has been so for 60 s or more, 
 /* The partner of a port, with its port there. */
 const partnerSaid = ({ partner: { system, port } }) => `${system ? dashed(system) : "a system that is not named"}${port ? ` port ${port}` : ""}`;
 
+/* What a capture says of who is deaf, where the program counts nothing. */
+const toldInCapture = (meant, form) => meant.some(({ far }) => far) ? [] : PROGRAMS.get(form).told ?? [];
+
 /* What to do where nobody is heard: by the other end, by this end now, or by it ever. A partner that is known sent an LACPDU, which this end has read. */
 function adviceOnUnheard(it) {
     const heard = heardIn(it.meant), named = it.meant.filter(({ far }) => far), path = "Look at its receiver, at a filter, and at the path";
@@ -71,10 +83,17 @@ function adviceOnUnheard(it) {
     if (deaf) return `${asLong(it)}both texts have LACP, and ${deaf}. ${path} to it.`;
     if (before) return `${before}: look what changed at that port, or on the path from there. `
         + "It is so for 3 s: if it comes again and again, LACPDUs are lost, or come too seldom.";
-    const { link = "", counts } = PROGRAMS.get(it.form);
+    const { link = "", counts, told } = PROGRAMS.get(it.form);
+    if (told) return `${asLong(it)}capture here, since no status says who is deaf: ${captureOf(it.meant)}. In it:`;
     return `${asLong(it)}${link}look whether the port at the other end is in a bundle with LACP `
         + "(switch: channel-group, mode active, not on; Linux bonding: mode=802.3ad). "
         + `If it is, no status says who is deaf: ${counts}.`;
+}
+
+/* The command that captures the first of these ports, and explains it. */
+function captureOf(ports) {
+    const name = ports.find((it) => !it.isFar)?.name ?? "PORT";
+    return `timeout 100 tcpdump -i ${name} -w ${name}.pcap 'ether proto 0x8809', and explain ${name}.pcap`;
 }
 
 /* The title where no member of a bundle ever heard a partner; null where one did. */
@@ -115,15 +134,15 @@ const systemSaid = (ports) => ({ partner: { system, priority } }) =>
     system ? `${isOfOneAddress(ports) ? `priority ${priority} of ` : ""}${dashed(system)}` : "a system that is not named";
 
 /* What rules say of texts; what stands not here is said as of a capture. `ports` are those of the text, `isLasting` is whether one of those that
- * are meant churns, `isImplied` whether all are the other ends; for these `implied` has the title, and `whole` where `silent`, bundles that never
+ * are meant churns, `isImplied` whether all are the other ends, and `device` what the bond is called; for these `implied` has the title, and `whole` where `silent`, bundles that never
  * heard a partner, have all that is meant. `meant` are the ports that are meant, and `advice` is
  * the module's. `case` has another title where one is due. */
 export const RULES = new Map([
-    [5, { title: "both ends are passive" }],
+    [5, { title: "both ends are passive", advice: ({ form, device }) => adviceOnPassive(form, device) }],
     [12, {
         title: "a port hears nobody", advice: adviceOnUnheard, whole: wholeUnheard,
         implied: (names) => names.includes(",") ? `the far ends of ${names} do not hear this end` : `the far end of ${names} does not hear this end`,
-        said: ({ ports, form, meant, isImplied }) => isImplied || heardIn(meant).length ? [] : aloneSaid(ports, form),
+        said: ({ ports, form, meant, isImplied }) => isImplied || heardIn(meant).length ? [] : [...toldInCapture(meant, form), ...aloneSaid(ports, form)],
     }],
     [14, {
         title: "one end is individual",

@@ -60,12 +60,10 @@ function areOfOneLink(one, other) {
     return ways.some((way) => isNamed(...way)) && !ways.some((way) => isNamedOtherwise(...way));
 }
 
-/* The bundles of the second text that are those of the far end, as far as a text says its system. */
+/* The bundles of the second text that are those of the far end; those that are cut are told as such. */
 function farIn(first, second) {
-    const own = first.bundles.map(systemOf);
-    if (own.every((it) => it === null)) return second.bundles;
-    const isAgain = (it) => own.includes(systemOf(it)) && shareSource(first, second);
-    return second.bundles.filter((it) => systemOf(it) === null || (!isAgain(it) && first.bundles.some((one) => areOfOneLink(one, it))));
+    const own = first.bundles.map(systemOf), isAgain = (it) => own.includes(systemOf(it)) && shareSource(first, second);
+    return second.bundles.filter((it) => it.isCut || (systemOf(it) !== null && !isAgain(it) && first.bundles.some((one) => areOfOneLink(one, it))));
 }
 
 const addressesOf = (systems) => joinedBy(distinct(systems).map(dashed)) || NOBODY;
@@ -82,9 +80,25 @@ function ofPriorities(first, actors, who) {
     return found ? { name: "not-far", title: `${who} has the system priority ${found[0]}, and the first one names ${found[1]}: not used`, advice: "Read both texts anew, at one time." } : null;
 }
 
+/* Whether none of these bundles has an LACPDU, as those of bonding that were not read by root. */
+const areMute = (bundles) => bundles.every((it) => systemOf(it) === null);
+
+/* What is said where a text has no LACPDUs, which alone say whose end it is; null where both have some. */
+function ofMute(first, second, left) {
+    const [here, there] = [first.bundles, left].map(areMute), which = here && there ? "both texts have" : here ? "the first text has" : "the second text has";
+    if (!here && !there) return null;
+    if (shareSource(first, second)) return {
+        name: "not-far", title: "both texts are of one host, as an interface of both says: the second one is not used",
+        advice: here && !there ? "It has the LACPDUs, and the first one has none: give it alone." : "Give the far end's.",
+    };
+    return { name: "not-far", title: `${which} no LACPDUs, so nobody can say whose end the other is: the second one is not used`, advice: "Give texts that have them: of bonding, read by root." };
+}
+
 /* What is said of bundles of the second text that are not of the far end, and are not used; `isPart` is whether others of it are. */
 function unusedFact(first, second, left, isPart) {
-    const actors = left.map(actorOf), same = actors.find(({ system }) => first.bundles.map(systemOf).includes(system)), [here, there] = [first.bundles, left].map(partnersIn);
+    const mute = ofMute(first, second, left);
+    if (mute) return mute;
+    const actors = left.map(actorOf).filter(Boolean), same = actors.find(({ system }) => first.bundles.map(systemOf).includes(system)), [here, there] = [first.bundles, left].map(partnersIn);
     if (same) return ofOneSystem(same.system, shareSource(first, second));
     const who = `${isPart ? `${joinedBy(left.map(({ told }) => told.replace(/ of the text$/, "")))} of the second text` : "the second text"} (system ${addressesOf(actors.map((it) => it.system))})`;
     return ofPriorities(first, actors, who) ?? (here === NOBODY && there === NOBODY ? {
@@ -111,9 +125,9 @@ function withPriorities(text, other) {
     return { ...text, bundles: text.bundles.map((it) => ({ ...it, ports: it.ports.map((port) => ({ ...port, partner: filled(port.partner) })) })) };
 }
 
-/* The texts that are explained, of one end or of both, and facts that hold between texts, also one that is not used. */
+/* The texts that are explained, of one end or of both, and facts that hold between texts, also one that is not used. Beside a text that is cut nothing is. */
 export function bothEnds([first, second]) {
-    if (!second) return { texts: [first], facts: copiedFacts([first]) };
+    if (!second || first.bundles.some((it) => it.isCut)) return { texts: [first], facts: copiedFacts([first]) };
     const far = farIn(first, second), left = second.bundles.filter((it) => !far.includes(it) && !it.isCut), copied = copiedFacts([first, second]);
     const facts = copied.length || !left.length ? copied : [{ ports: [], ...unusedFact(first, second, left, far.length > 0) }];
     if (left.length && left.length === second.bundles.length) return { texts: [first], facts };

@@ -8,6 +8,9 @@ import { adviceOnTwoSystems, crossingOf, distinct, linkName, toldOfKeys } from "
  * link goes down, and so few two that are one; of an end that is there twice so many of its LACPDUs are the second of two. */
 const START = 3, SLOW_GAP = 10, FAST_GAP = 1.4, FEW = 0.25, MARGIN = 1.1, AT_ONCE = 0.01, MOSTLY = 0.4;
 
+/* What sets a system to active, in each program. */
+const WAYS_ACTIVE = "bonding: lacp_active on, while the bond is down; teamd: \"active\": true of the runner; Open vSwitch: lacp=active; lagd: activity=active";
+
 export const frameOf = (finding) => finding.at.frames.find((it) => it.packet === finding.packet);
 
 const has = (frame, bit) => bitsOf(frame.actor.state).includes(bit);
@@ -38,6 +41,8 @@ function slowedSaid(at, other) {
     if (!last || !other.isLost || !at.has("short") || last.seconds - before.seconds < SLOW_GAP) return [];
     return [`${other.short} hears nobody since, and sends each ${roundedSeconds(last.seconds - before.seconds)} alone: a status of ${at.short} says that it hears nobody, too, and its receiver need not be at fault`];
 }
+
+const ofPassive = () => ({ advice: `Set LACP to active at one end at least (${WAYS_ACTIVE}; switch: mode active). docs/TROUBLE.md has the commands.` });
 
 /* No LACPDU for longer than the timeout: dead from then on, started anew, slower than it is asked to, or frames are lost. */
 function ofSilence(finding, { records, link }) {
@@ -190,7 +195,7 @@ const ofSplit = (finding, { link, bundles, groups }) => {
     return { advice: `${adviceOnTwoSystems(BACKUP)}${more}` };
 };
 
-const CASES = new Map([[1, ofRate], [11, ofSilence], [12, ofUnheard], [14, ofSingle], [15, ofKeys], [16, ofThird], [18, ofOneWay], [23, ofRelapse], [26, ofThird], [28, ofSteps], [29, ofSplit]]);
+const CASES = new Map([[1, ofRate], [5, ofPassive], [11, ofSilence], [12, ofUnheard], [14, ofSingle], [15, ofKeys], [16, ofThird], [18, ofOneWay], [23, ofRelapse], [26, ofThird], [28, ofSteps], [29, ofSplit]]);
 
 /* What is told of a finding, which stands at `place`: a link of a bundle, of the bundles and records of a capture. */
 export const toldOf = (finding, place) => CASES.get(finding.rule)?.(finding, place) ?? {};

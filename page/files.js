@@ -128,6 +128,9 @@ function once(kept) {
     });
 }
 
+/* Why a file is no capture, by its first octets. */
+const whyUnknown = async (file) => /^1f8b/.test(textOf(new Uint8Array(await file.slice(0, 2).arrayBuffer()))) ? "packed by gzip: unpack it first" : "neither pcap nor pcapng";
+
 /* What one file gives: its slow protocols frames, and its last packet, up to which it goes; whether it has LACPDUs, and why it cannot be read to its
  * end. `numberOf` gives interfaces their numbers. */
 async function readOut(file, numberOf) {
@@ -142,7 +145,7 @@ async function readOut(file, numberOf) {
         kept.push(last);
     }
     if (last && last !== kept.at(-1)) kept.push(last);
-    const fault = !file.size ? "it is empty" : told.end < 0 ? "neither pcap nor pcapng" : told.end < file.size ? `octet ${told.end}: cut short, or broken` : "";
+    const fault = !file.size ? "it is empty" : told.end < 0 ? await whyUnknown(file) : told.end < file.size ? `octet ${told.end}: cut short, or broken` : "";
     return { kept, fault, isSilent: !kept.some((it) => it.isLacpdu) };
 }
 

@@ -8,7 +8,7 @@ import { ALONE, CARRIES, howManyCarry, IDLE, UNKNOWN } from "./summary.js";
 import { flowSaid, hashesSaid } from "./hashes.js";
 import { ACTIVITY_BIT, COLLECTING_BIT, DEFAULTED_BIT, DISTRIBUTING_BIT, EXPIRED_BIT } from "./status.js";
 import { isDenied, linksOfTexts } from "./implied.js";
-import { areTwinsApart, dashed, isLinked, isSeveral, keysFollowSpeed, nameOfPort, namesIn, RULES, portsNamedAlike } from "./advice.js";
+import { adviceOnPassive, areTwinsApart, dashed, isLinked, isSeveral, keysFollowSpeed, nameOfPort, namesIn, RULES, portsNamedAlike } from "./advice.js";
 
 const isHalf = (it) => it.speed.endsWith("half");
 const speedOf = (it) => parseInt(it.speed, 10);
@@ -50,12 +50,13 @@ function linkFacts({ name, told, ports, hash, isFar }) {
     ];
 }
 
-function silentFacts({ ports, isFar }, form) {
+function silentFacts(bundle, form) {
+    const { ports, isFar } = bundle;
     const silent = ports.filter((it) => it.actor && !it.partner && isLinked(it)), passive = silent.filter((it) => isPassive(it.actor));
     const deaf = ports.filter((it) => it.actor && it.partner && isLinked(it) && it.actor.state & EXPIRED_BIT && hearsNobody(it.partner));
     const both = DEFAULTED_BIT | EXPIRED_BIT, loops = form === "bonding" || form === "ip" ? silent.filter((it) => (it.actor.state & both) === both) : [];
     return [
-        { name: "passive-unheard", ports: passive, title: `passive, and hears nobody: ${namesIn(passive)}`, advice: "Set this end, or the other one, to active." },
+        { name: "passive-unheard", ports: passive, title: `passive, and hears nobody: ${namesIn(passive)}`, advice: isFar ? "Set that end, or this one, to active." : adviceOnPassive(form, deviceOf([bundle])) },
         { name: "never-heard", ports: loops, title: `no LACPDU was ever accepted on ${namesIn(loops)}`,
             advice: "Linux drops LACPDUs of its own system (dmesg: \"An illegal loopback occurred\"): look for a loop, or for two machines with one system." },
         isFar ? { name: "deaf-there", ports: deaf, title: `this end heard nobody first, as ${namesIn(deaf)} says`, advice: "What the far end sends does not arrive here: look at the path from there." }
@@ -128,6 +129,9 @@ function toldAs({ rule, isImplied, port }, bundles) {
     return rule === 12 ? `${rule} ${at} ${isImplied} ${Boolean(port.far)} ${port.said.partner !== null}` : `${rule} ${at}`;
 }
 
+/* What the device of a bundle is called, in a command; a text of bonding does not say it. */
+const deviceOf = (bundles) => bundles.length === 1 && !bundles[0].name.includes(" ") ? bundles[0].name : "BOND";
+
 function causesOfRules(found, { bundles, form }) {
     const rules = distinct(found.map((it) => toldAs(it, bundles))).map((told) => found.filter((it) => toldAs(it, bundles) === told));
     return rules.map((list) => {
@@ -135,7 +139,7 @@ function causesOfRules(found, { bundles, form }) {
         const near = bundles.filter((it) => meant.some((port) => it.ports.includes(port.said)));
         const ports = (near.length ? near : bundles).flatMap((it) => it.ports);
         const who = here.length ? namesIn(here.map((it) => it.port)) : `the other end of ${namesIn(meant)}`;
-        const seen = { ports, form, advice, meant: meant.map(({ said, far }) => ({ ...said, far })), isLasting: meant.some((it) => it.isLasting), isImplied: !here.length };
+        const seen = { ports, form, advice, device: deviceOf(near), meant: meant.map(({ said, far }) => ({ ...said, far })), isLasting: meant.some((it) => it.isLasting), isImplied: !here.length };
         const silent = near.filter(hasNoPartner), isOfSeveral = silent.length < bundles.length;
         const plain = (!here.length && own.implied?.(namesIn(meant))) || `${own.case?.(seen) ?? own.title ?? name}: ${who}`;
         const title = own.whole?.({ ...seen, silent, isOfSeveral }) ?? plain;

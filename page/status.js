@@ -117,20 +117,22 @@ function cutOf(text, members, active, least) {
     return SLAVE.startsWith(last) ? `"${last}" is its last line` : "";
 }
 
-function bondOf(text) {
+/* A bond: its name, if the text has it, and its part of the text. */
+function bondOf([, name, text]) {
     const [head, ...parts] = text.split(/^(?=Slave Interface: )/m), said = valuesIn(head), notes = [], mode = said.get("Bonding Mode") ?? "";
+    const told = name ? `the bond ${name}` : "the bond", called = name ?? told;
     const early = { isCut: true, cut: "it ends before the mode of the bond" };
-    if (!/^Bonding Mode: .*\n/m.test(head)) return { bundles: [bundleOfText("the bond", "the bond", [], early)], notes };
-    if (!mode.includes("802.3ad")) return { bundles: [], notes: [noLacp("this bond does not speak LACP", mode)] };
+    if (!/^Bonding Mode: .*\n/m.test(head)) return { bundles: [bundleOfText(called, told, [], early)], notes };
+    if (!mode.includes("802.3ad")) return { bundles: [], notes: [noLacp(`${name ? told : "this bond"} does not speak LACP`, mode)] };
     const found = /Active Aggregator Info:\s*\n\s*Aggregator ID: (\d+)[\s\S]*?Number of ports: (\d+)/.exec(head), active = found ? Number(found[1]) : null;
     const hash = /^(\S+)/.exec(said.get("Transmit Hash Policy") ?? "")?.[1], isHeard = macOf(said.get("Partner Mac Address")) !== NO_ADDRESS;
     if (!found) notes.push({ name: "no-root", text: "the text lacks the LACPDUs", advice: "Read the file as root (sudo cat /proc/net/bonding/bond0), or take ip -d -j link." });
     if (said.get("MII Polling Interval (ms)") === "0") notes.push({ name: "note", text: "miimon is 0: a link that goes down is not noticed" });
     const members = parts.map((it) => memberOfBonding(it, active, isHeard)), ports = members.map(({ port }) => port);
     const carrying = ports.filter((it) => it.isUsed).length, least = Number(said.get("Min links") ?? 0);
-    if (said.get("MII Status") === "down" && carrying && carrying < least) notes.push(tooFew("the bond", carrying, least, "min_links"));
+    if (said.get("MII Status") === "down" && carrying && carrying < least) notes.push(tooFew(told, carrying, least, "min_links"));
     const cut = cutOf(text, members, active, found ? Number(found[2]) : 0);
-    return { bundles: [bundleOfText("the bond", "the bond", ports, { isCut: cut !== "", cut, hash: hash ? ["xmit_hash_policy", hash] : null })], notes };
+    return { bundles: [bundleOfText(called, told, ports, { isCut: cut !== "", cut, hash: hash ? ["xmit_hash_policy", hash] : null })], notes };
 }
 
 /* Several texts of one form, one behind the other, as one; each note once. */
@@ -139,11 +141,13 @@ function joinedTexts(form, all) {
     return { form, bundles: all.flatMap((it) => it.bundles), notes: [...notes.values()] };
 }
 
-/* One text, or several one behind the other (cat /proc/net/bonding/*); it does not have the names of the bonds. */
+/* Each bond of a text, with the name that tail has in a line before it: ==> /proc/net/bonding/bond0 <==. */
+const BONDS = /^(?:==> (?:.*\/)?(.+) <==\n)?(Ethernet Channel Bonding Driver: [\s\S]*?)(?=^==> .* <==$|^Ethernet Channel|(?![\s\S]))/gm;
+
+/* One text, or several one behind the other (tail -v -n +1 /proc/net/bonding/*); without these lines it does not have the names of the bonds. */
 function bonding(text) {
-    const parts = text.split(/^(?=Ethernet Channel Bonding Driver: )/m).filter((it) => it.startsWith("Ethernet"));
-    const found = joinedTexts("bonding", parts.map(bondOf)), { bundles } = found;
-    if (bundles.length > 1) bundles.forEach((it, number) => { it.name = it.told = `bond ${number + 1} of the text`; });
+    const found = joinedTexts("bonding", [...text.matchAll(BONDS)].map(bondOf)), { bundles } = found;
+    if (bundles.length > 1) bundles.forEach((it, number) => { if (it.name === "the bond") it.name = it.told = `bond ${number + 1} of the text`; });
     return found;
 }
 

@@ -116,7 +116,7 @@ export function linesOf(records, bundles) {
     const groups = keyGroups(bundles), ofBundle = ({ links }) => links.filter((it) => !it.isPast).map((it) => lineOf(it, groups, records.lacpdus.last, links));
     const lines = bundles.flatMap(ofBundle).filter(Boolean);
     lines.sort((one, other) => one.port - other.port);
-    const whyOf = (name) => `no LACPDU is in the file ${name}: neither end sends on that link, as where LACP is off, or both ends are passive`;
+    const whyOf = (name) => `no LACPDU is in the file ${name}: if it is of the bond itself, which has none, leave it out. Else neither end sends on that link, as where LACP is off, or both ends are passive`;
     if (lines.length) lines.push(...records.silent.map((name) => ({ link: null, name, how: IDLE, why: whyOf(name) })));
     return [IDLE, CARRIES_APART, UNKNOWN, CARRIES].flatMap((how) => lines.filter((it) => it.how === how));
 }
