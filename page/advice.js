@@ -84,14 +84,14 @@ function adviceOnUnheard(it) {
     if (before) return `${before}: look what changed at that port, or on the path from there. `
         + "It is so for 3 s: if it comes again and again, LACPDUs are lost, or come too seldom.";
     const { link = "", counts, told } = PROGRAMS.get(it.form);
-    if (told) return `${asLong(it)}capture here, since no status says who is deaf: ${captureOf(it.meant)}. In it:`;
+    if (told) return `${asLong(it)}capture here, since no status says who is deaf: ${captureCommand(it.meant)}. In it:`;
     return `${asLong(it)}${link}look whether the port at the other end is in a bundle with LACP `
         + "(switch: channel-group, mode active, not on; Linux bonding: mode=802.3ad). "
         + `If it is, no status says who is deaf: ${counts}.`;
 }
 
 /* The command that captures the first of these ports, and explains it. */
-function captureOf(ports) {
+function captureCommand(ports) {
     const name = ports.find((it) => !it.isFar)?.name ?? "PORT";
     return `timeout 100 tcpdump -i ${name} -w ${name}.pcap 'ether proto 0x8809', and explain ${name}.pcap`;
 }

@@ -2,6 +2,7 @@
  * the module says does not rest on this, where one file is given that has whole packets. */
 
 import { COOKED, COOKED_2, ETHERNET, IF_TSRESOL, INTERFACE, PACKET, PIECE, Reading, SECTION, SLOW, TAGS } from "./packets.js";
+import { movesOf } from "./spans.js";
 
 /* Octets of an LACPDU: up to the end of the partner's; all of it. Behind the partner's: the collector's TLV, and the terminator. */
 const BOTH_ENDS = 42, WHOLE = 110, COLLECTOR = [3, 16];
@@ -114,16 +115,17 @@ function sameLinks(kept, count) {
     return first;
 }
 
-/* Frames of a source that several files hold at one time stand once: those of the file that has most of them, and of others what lies outside. */
-function once(kept) {
-    const spans = new Map();
+/* Frames of a source that several files hold of one link at one time stand once: those of the file that has most of them, and of others what lies
+ * outside. */
+function once(kept, linkOf) {
+    const spans = new Map(), placeOf = ({ number, source }) => `${linkOf(number)} ${source}`;
     for (const it of kept) {
-        const files = spans.set(it.source, spans.get(it.source) ?? new Map()).get(it.source), span = files.get(it.file) ?? { file: it.file, count: 0, from: it.time, to: it.time };
+        const place = placeOf(it), files = spans.set(place, spans.get(place) ?? new Map()).get(place), span = files.get(it.file) ?? { file: it.file, count: 0, from: it.time, to: it.time };
         files.set(it.file, { ...span, count: span.count + 1, from: it.time < span.from ? it.time : span.from, to: it.time > span.to ? it.time : span.to });
     }
-    const orders = new Map([...spans].map(([source, files]) => [source, [...files.values()].sort((one, other) => other.count - one.count)]));
-    return kept.filter(({ source, file, time }) => {
-        const order = orders.get(source), before = order.slice(0, order.findIndex((it) => it.file === file));
+    const orders = new Map([...spans].map(([place, files]) => [place, [...files.values()].sort((one, other) => other.count - one.count)]));
+    return kept.filter((one) => {
+        const { file, time } = one, order = orders.get(placeOf(one)), before = order.slice(0, order.findIndex((it) => it.file === file));
         return before.every((it) => time < it.from || time > it.to);
     });
 }
@@ -131,13 +133,14 @@ function once(kept) {
 /* Why a file is no capture, by its first octets. */
 const whyUnknown = async (file) => /^1f8b/.test(textOf(new Uint8Array(await file.slice(0, 2).arrayBuffer()))) ? "packed by gzip: unpack it first" : "neither pcap nor pcapng";
 
-/* What one file gives: its slow protocols frames, and its last packet, up to which it goes; whether it has LACPDUs, and why it cannot be read to its
+/* What one file gives: its slow protocols frames, when it begins, and its last packet, up to which it goes; whether it has LACPDUs, and why it cannot be read to its
  * end. `numberOf` gives interfaces their numbers. */
 async function readOut(file, numberOf) {
     const told = { end: -1 }, kept = [];
-    let last = null;
+    let last = null, begin = null;
     for await (const it of packetsOf(file, told)) {
         const { octets, original, from } = it, at = payloadAt(it), index = from.link === COOKED_2 ? new DataView(octets.buffer, octets.byteOffset).getUint32(4) : null;
+        begin ??= it.time ?? 0n;
         last = { file, time: it.time ?? 0n, of: it.number, number: numberOf(from, index), octets: new Uint8Array(14), source: "", isLacpdu: false, comment: it.comment };
         if (at < 0) continue;
         const ether = etherOf(wholeOf(octets, original, at), from.link, at);
@@ -146,7 +149,7 @@ async function readOut(file, numberOf) {
     }
     if (last && last !== kept.at(-1)) kept.push(last);
     const fault = !file.size ? "it is empty" : told.end < 0 ? await whyUnknown(file) : told.end < file.size ? `octet ${told.end}: cut short, or broken` : "";
-    return { kept, fault, isSilent: !kept.some((it) => it.isLacpdu) };
+    return { file, stem: stemOf(file.name ?? ""), kept, from: begin, fault, isSilent: !kept.some((it) => it.isLacpdu) };
 }
 
 /* Numbers for the interfaces of a file, and their names by these. */
@@ -166,31 +169,34 @@ function numbering(names, file, isAlone) {
 
 /* Slow protocols frames of files as one capture, by their times. `names` has
  * whence each interface is, `places` for each packet its file and its number there, `faults` what cannot be read, `silent` the files that can
- * be read and have no LACPDU, and `doubled` how many frames stand in several files and are taken once. Packets that were cut get whole. */
+ * be read and have no LACPDU, and `doubled` how many frames stand in several files and are taken once. Packets that were cut get whole. Files of
+ * different times end together; `apart` says so. */
 export async function merged(files) {
-    const all = [], faults = [], silent = [], names = new Map();
+    const given = [], faults = [], silent = [], names = new Map();
     for (const file of files) {
-        const { numberOf, name } = numbering(names, file, files.length === 1), { kept, fault, isSilent } = await readOut(file, numberOf);
+        const { numberOf, name } = numbering(names, file, files.length === 1), it = await readOut(file, numberOf);
         name();
-        all.push(...kept);
-        if (fault) faults.push(`cannot read ${file.name}: ${fault}`);
-        else if (isSilent) silent.push(stemOf(file.name));
+        given.push(it);
+        if (it.fault) faults.push(`cannot read ${file.name}: ${it.fault}`);
+        else if (it.isSilent) silent.push(it.stem);
     }
-    const first = sameLinks(all, names.size), kept = once(all).sort((one, other) => one.time < other.time ? -1 : Number(one.time > other.time));
+    const all = given.flatMap(({ kept }) => kept), first = sameLinks(all, names.size), linkOf = (number) => first[number], { moves, apart, note } = movesOf(given, linkOf);
+    const kept = once(all, linkOf).map((it) => ({ ...it, time: it.time + (moves.get(it.file) ?? 0n) })).sort((one, other) => one.time < other.time ? -1 : Number(one.time > other.time));
     const places = new Map(kept.map(({ file, of }, number) => [number + 1, { file: file.name, number: of }]));
     const comments = new Map(kept.flatMap(({ comment }, number) => comment ? [[number + 1, comment]] : []));
-    const capture = captureOf([...names.keys()].map(() => ETHERNET), kept.map((it) => ({ ...it, number: first[it.number] })));
-    return { capture, names, places, comments, faults, silent, doubled: all.length - kept.length };
+    const capture = captureOf([...names.keys()].map(() => ETHERNET), kept.map((it) => ({ ...it, number: linkOf(it.number) })));
+    return { capture, names, places, comments, faults, silent, apart, moved: note, doubled: all.length - kept.length };
 }
 
 /* What is read: one capture as it is, with what it says of interfaces and packets; several as one, one whose LACPDUs are cut made whole, and one
  * that joins captures sorted by time, where `numbers` has those of its packets. Packets and text are those of `source`. */
 export async function captureFrom(files, isJoined = false) {
     const looked = files.length === 1 ? await lookedAt(files[0]) : null;
-    if (looked && !looked.cut && !isJoined) return { capture: files[0], source: files[0], ...looked, places: new Map(), numbers: new Map(), faults: [], silent: [], note: "" };
+    if (looked && !looked.cut && !isJoined) return { capture: files[0], source: files[0], ...looked, places: new Map(), numbers: new Map(), faults: [], silent: [], apart: "", note: "" };
     const found = await merged(files), notes = [];
     if (looked?.cut) notes.push(`Its packets are cut behind ${looked.cut} octets: both ends are in them, and what follows, as CollectorMaxDelay, is taken as 0.`);
     if (isJoined) notes.push("It joins captures one behind the other: its packets are sorted by time.");
+    if (found.moved) notes.push(found.moved);
     if (found.doubled) notes.push(`${found.doubled} frames stand in several files: they are taken once.`);
     const numbers = new Map(isJoined ? [...found.places].map(([packet, { number }]) => [packet, number]) : []);
     return { ...found, comments: isJoined ? looked.comments : found.comments, source: isJoined ? files[0] : found.capture, places: files.length > 1 ? found.places : new Map(), numbers, note: notes.join(" ") };

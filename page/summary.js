@@ -162,8 +162,14 @@ function apartSaid(lines, all) {
     return groups < all ? `as ${groups} groups, of which a bond uses one` : "each by itself: a bond uses one of its links";
 }
 
-/* The headline: how many links carry, and the first cause; with how it looks. */
-export function headlineOf(lines, causes) {
+/* The headline, with how it looks: `apart` says that the captures are of different times. */
+export function headlineOf(lines, causes, apart) {
+    const [said, look] = headlineIn(lines, causes);
+    return apart && said ? [`${apart} ${said}`, "bad"] : [said, look];
+}
+
+/* How many links carry, and the first cause; with how it looks. */
+function headlineIn(lines, causes) {
     const [cause] = causes.filter(({ kind }) => kind === FAULT), all = lines.length;
     const those = lines.filter(({ how }) => how === CARRIES_APART), apart = those.length;
     const carry = apart + lines.filter(({ how }) => how === CARRIES).length, more = causes.filter(({ kind }) => kind === FAULT).length - 1;

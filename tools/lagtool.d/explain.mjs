@@ -42,11 +42,16 @@ async function recordsOf(lagtool, files, isJoined = false) {
     return !isJoined && areJoined(records) ? recordsOf(lagtool, files, true) : { ...given, said, records };
 }
 
+/* Why captures cannot be read, or not to their end; of one alone the module says it, without its name. */
+function faultsOf(files, faults, said) {
+    return [...faults, said.trim().replace(/^cannot read: /, () => `cannot read ${files[0].name}: `)].filter(Boolean);
+}
+
 async function ofCaptures(lagtool, files) {
-    const { records, said, faults, note } = await recordsOf(lagtool, files);
-    const bundles = bundlesOf(records), causes = causesOf(records, bundles), lines = linesOf(records, bundles), [found] = headlineOf(lines, causes);
-    const headline = found || "No LACPDU is in this capture: capture the members of the bond (eth0, eth1), not the bond; look whether LACP is on, and whether both ends are passive.";
-    return { headline, lines, note, causes, counts: countsOf(causes), said: [...faults, said].filter(Boolean).join("\n"), isUnread: !lines.length, placeOf: (packet) => records.placeOf(packet) };
+    const { records, said, faults, apart, note } = await recordsOf(lagtool, files), unread = faultsOf(files, faults, said);
+    const bundles = bundlesOf(records), causes = causesOf(records, bundles), lines = linesOf(records, bundles), [found] = headlineOf(lines, causes, apart);
+    const isNothing = unread.length >= files.length && !records.frames, headline = found || isNothing ? found : "No LACPDU is in this capture: capture the members of the bond (eth0, eth1), not the bond; look whether LACP is on, and whether both ends are passive.";
+    return { headline, lines, note, causes, counts: countsOf(causes), said: unread.join("\n"), isApart: apart !== "", isUnread: !lines.length, placeOf: (packet) => records.placeOf(packet) };
 }
 
 async function ofTexts(lagtool, given) {
@@ -82,10 +87,10 @@ async function main(paths) {
     if (!paths.length) throw new Error("lagtool explain FILE..: captures, or what a system prints of LACP, and behind it what the far end prints");
     const lagtool = await Lagtool.of(Buffer.from(MODULE.exec(readFileSync(PAGE, "latin1"))[1], "base64")), { full, texts, empty } = await given(paths);
     const told = texts.length ? await ofTexts(lagtool, texts.map((it) => it.status)) : await ofCaptures(lagtool, full.map((it) => it.file)), said = [...empty, told.said.trim()].filter(Boolean).join("\n");
-    console.log(textOfAll(told));
+    if (told.headline) console.log(textOfAll(told));
     if (said) console.error(`lagtool: ${said}`);
     if (said || told.isUnread) return 2;
-    return Number(told.causes.some((it) => it.kind === FAULT) || told.lines.some((it) => it.how !== CARRIES));
+    return Number(told.isApart || told.causes.some((it) => it.kind === FAULT) || told.lines.some((it) => it.how !== CARRIES));
 }
 
 main(process.argv.slice(2)).catch((error) => {

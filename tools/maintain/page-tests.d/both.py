@@ -80,6 +80,25 @@ def of_far_ends(tests: Tests) -> None:
     tests.same("who is deaf there", ["A port hears nobody: the far end's q2." in said, "the far end's q2 does not hear p2." in said], [True, True])
 
 
+def of_mute(tests: Tests) -> None:
+    """A text without LACPDUs, as bonding has it without root, does not say whose end it is, nor is it the far end of another one."""
+    ours, plain, keys = status("healthy-bonding.txt"), status("healthy-bonding-user.txt"), moved(status("keys-bonding.txt"), "07")
+    away, alone = moved(plain, "07"), "It has the LACPDUs, and the first one has none: give it alone."
+    one = "remark: both texts are of one host, as an interface of both says: the second one is not used"
+    cases = {
+        "the first one has none, and is of this host": (plain, ours, one, alone),
+        "the second one has none, and is of this host": (ours, plain, one, "Give the far end's."),
+        "the first one has none": (away, ours, "the first text has", ""),
+        "the second one has none": (keys, plain, "the second text has", ""),
+        "neither has any": (plain, away, "both texts have", ""),
+    }
+    for name, (here, there, said, advice) in cases.items():
+        told = told_of_two(here, there)
+        remark = said if said.startswith("remark") else f"remark: {said} no LACPDUs, so nobody can say whose end the other is: the second one is not used"
+        found = [remark in remarks(told), advice in told, "far end's p" in told, told.partition("\n")[0].startswith("The text lacks the LACPDUs." if here in (plain, away) else told_of_two(here, here)[:16])]
+        tests.same(f"LACPDUs of two texts: {name}", found, [True, True, False, True])
+
+
 def of_counts(tests: Tests, browser: Browser) -> None:
     """More than two texts, a text beside a capture, and empty files."""
     paths = [os.path.join(STATUS, it) for it in ("keys-bonding.txt", "third-bonding.txt", "healthy-bonding.txt")]
@@ -109,4 +128,5 @@ def of_counts(tests: Tests, browser: Browser) -> None:
 def of_both(tests: Tests, browser: Browser) -> None:
     of_others(tests, browser)
     of_far_ends(tests)
+    of_mute(tests)
     of_counts(tests, browser)

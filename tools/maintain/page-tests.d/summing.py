@@ -3,11 +3,13 @@
 from __future__ import annotations
 
 import os
+import subprocess
 from typing import Any, Callable
 
 import made
 from browser import Browser
 from stored import Tests
+from texts import EXPLAIN
 
 LINES = "[...document.querySelectorAll('#lines > li')].map((it) => it.textContent)"
 HEADLINE = "document.getElementById('verdict').textContent"
@@ -29,6 +31,7 @@ def of_summaries(tests: Tests, browser: Browser, folder: str) -> None:
     of_crossing(tests, browser, folder)
     of_ends(tests, browser, folder)
     of_files(tests, browser, folder)
+    of_packed(tests, folder)
     of_many(tests, browser, folder)
     of_unreadable(tests, browser, folder)
 
@@ -155,20 +158,23 @@ def of_files(tests: Tests, browser: Browser, folder: str) -> None:
     places = browser.value("[...document.querySelectorAll('#findings a')].map((it) => it.textContent)")
     tests.same("a packet is named by its file", [it.split(" packet ")[0] for it in places], ["eth1.pcap", "eth1.pcap"])
     of_doubled(tests, browser, folder)
+    of_times(tests, browser, os.path.join(folder, "times"))
+    of_one_source(tests, browser, folder)
     of_one_system(tests, browser, os.path.join(folder, "one-system"))
     empty = os.path.join(folder, "eth4.pcap")
     made.pcap(empty, [])
     browser.begin(paths[0], empty)
-    silent = "does not carry: no LACPDU is in the file eth4: neither end sends on that link, as where LACP is off, or both ends are passive"
-    wanted = [0, "1 of 2 links carries. No LACPDU is in the file eth4: neither end", f"eth4: {silent}"]
-    tests.same("a file without an LACPDU is a link that does not carry", [browser.shown()["status"], *browser.value(f"[{HEADLINE}.slice(0, 64), {LINES}[0]]")], wanted)
+    bond = "no LACPDU is in the file eth4: if it is of the bond itself, which has none, leave it out"
+    silent = f"does not carry: {bond}. Else neither end sends on that link, as where LACP is off, or both ends are passive"
+    wanted = [0, f"1 of 2 links carries. N{bond[1:]}.", f"eth4: {silent}"]
+    tests.same("a file without an LACPDU is a link that does not carry", [browser.shown()["status"], *browser.value(f"[{HEADLINE}.split(' Else')[0], {LINES}[0]]")], wanted)
     broken = os.path.join(folder, "eth3.pcap.gz")
     with open(broken, "wb") as out:
         out.write(b"\x1f\x8b\x08" + bytes(40))
     with open(paths[1], "rb+") as it:
         it.truncate(os.path.getsize(paths[1]) - 7)
     browser.begin(*paths, broken)
-    wanted = [2, f"cannot read eth2.pcap: octet {os.path.getsize(paths[1]) - 133}: cut short, or broken\ncannot read eth3.pcap.gz: neither pcap nor pcapng"]
+    wanted = [2, f"cannot read eth2.pcap: octet {os.path.getsize(paths[1]) - 133}: cut short, or broken\ncannot read eth3.pcap.gz: packed by gzip: unpack it first"]
     tests.same("of several files those that cannot be read are named", [browser.shown()[it] for it in ("status", "said")], wanted)
     path = os.path.join(folder, "named.pcapng")
     made.named(path, ["eth0", "eth1"], "look <b>here")
@@ -177,6 +183,61 @@ def of_files(tests: Tests, browser: Browser, folder: str) -> None:
     browser.value("document.querySelectorAll('#links details').forEach((it) => { it.open = true; }), 1")
     browser.settle()
     tests.same("a comment stands at its packet", browser.value("[...document.querySelectorAll('.frames em')].map((it) => it.textContent)"), [" look <b>here"])
+
+
+def links_at(folder: str, times: list[range], keys: tuple[int, int] = (8, 8), source: bytes = b"") -> list[str]:
+    """A file for each link of the systems 1 and 2, with LACPDUs at these times; of several keys the first link does not carry."""
+    os.makedirs(folder, exist_ok=True)
+    paths = []
+    for port, (seconds, key) in enumerate(zip(times, keys), 1):
+        state = made.FAST if key == keys[-1] else made.FAST_DOWN
+        one, other = made.Party(1, 7, port, state), made.Party(2, key, port, state)
+        paths.append(os.path.join(folder, f"eth{port}.pcap"))
+        made.capture(paths[-1], made.sends(one, other, map(float, seconds), source), made.sends(other, one, (it + 0.1 for it in seconds)))
+    return paths
+
+
+def of_times(tests: Tests, browser: Browser, folder: str) -> None:
+    """Captures one behind the other are told first, and their links are compared; that one ends earlier is no silence. Links that go down, or come up, in
+    captures of one time are no such captures."""
+    words = "These captures are of different times ({}): capture all links at once. As if they were of one time: "
+    after, late = "eth1: 0.0 to 59.1 s; eth2: 90.0 to 149.1 s", "eth1: 0.0 to 59.1 s; eth2: 10.0 to 69.1 s"
+    both, keys, one = f"2 links carry, both ways: {HASH}", "1 of 2 links carries. Keys differ within one pair of systems.", "1 of 2 links carries. Both ends of a link send nothing more."
+    cases = {
+        "one behind the other": ([range(60), range(90, 150)], (8, 8), words.format(after) + both, True),
+        "one behind the other, with two keys": ([range(60), range(90, 150)], (9, 8), words.format(after) + keys, True),
+        "for 10 s each": ([range(10), range(12, 22)], (8, 8), words.format("eth1: 0.0 to 9.1 s; eth2: 12.0 to 21.1 s") + both, True),
+        "begun 10 s apart": ([range(60), range(10, 70)], (8, 8), both, True),
+        "with long timeouts, at one time": ([range(3, 4), range(10, 11)], (8, 8), both, False),
+        "a link that goes down": ([range(60), range(20)], (8, 8), one, False),
+        "a link that goes down, and one that comes up": ([range(50), range(25, 100)], (8, 8), one, False),
+    }
+    for name, (times, two, headline, is_moved) in cases.items():
+        paths = links_at(folder, times, two)
+        browser.begin(*paths)
+        browser.shown()
+        said = browser.value(f"[{HEADLINE}, document.getElementById('lasts').textContent]")
+        tests.same(f"captures {name}", [said[0], "as if they ended together" in said[1]], [headline, is_moved])
+        ended = subprocess.run(["node", EXPLAIN, *paths], stdin=subprocess.DEVNULL, capture_output=True, text=True)
+        tests.same(f"captures {name}, as text", [ended.returncode, ended.stdout.partition("\n")[0], late in ended.stdout], [int(headline != both), headline, "10 s apart" in name])
+
+
+def of_one_source(tests: Tests, browser: Browser, folder: str) -> None:
+    """A system that sends from one address on all links: each of its LACPDUs counts, in the file of its link."""
+    browser.begin(*links_at(os.path.join(folder, "one-source"), [range(20), range(20)], (8, 8), bytes([2, 0, 0, 0, 1, 9])))
+    browser.shown()
+    said = browser.value(f"[{HEADLINE}, document.getElementById('lasts').textContent.includes('several files')]")
+    tests.same("two links, on which a system has one source address", said, [f"2 links carry, both ways: {HASH}", False])
+
+
+def of_packed(tests: Tests, folder: str) -> None:
+    """A capture that is packed is not said to have no LACPDU."""
+    path = os.path.join(folder, "eth9.pcap.gz")
+    with open(path, "wb") as out:
+        out.write(b"\x1f\x8b\x08" + bytes(40))
+    for given, why in ([path], "octet 0: packed by gzip: unpack it first"), ([path, path], "packed by gzip: unpack it first"):
+        ended = subprocess.run(["node", EXPLAIN, *given], stdin=subprocess.DEVNULL, capture_output=True, text=True)
+        tests.same(f"{len(given)} captures, packed", [ended.returncode, ended.stdout, ended.stderr.splitlines()[0]], [2, "", f"lagtool: cannot read eth9.pcap.gz: {why}"])
 
 
 def of_one_system(tests: Tests, browser: Browser, folder: str) -> None:

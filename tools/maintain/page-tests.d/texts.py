@@ -304,6 +304,50 @@ def of_hashes(tests: Tests) -> None:
     tests.same("so are the LACPDUs of bond/show alone", [told_of(shown)[0], "ovs-appctl lacp/show has them" in told_of(shown)[1]], [2, True])
 
 
+def of_passive(tests: Tests) -> None:
+    """What sets a passive end to active, in the words of its program, with the name of the bond where the text has it."""
+    bond, links = read_text(os.path.join(STATUS, "healthy-bonding.txt")).replace("port state: 63", "port state: 62"), json.loads(read_text(os.path.join(STATUS, "healthy-ip.json")))
+    for it in links[1:3]:
+        it["linkinfo"]["info_slave_data"]["ad_actor_oper_port_state"] = it["linkinfo"]["info_slave_data"]["ad_partner_oper_port_state"] = 62
+    show = read_text(os.path.join(STATUS, "healthy-open-vswitch.txt")).replace(": activity ", ": ")
+    team, lagd = (read_text(os.path.join(STATUS, f"healthy-{it}")) for it in ("teamd.json", "lagd.txt"))
+    cases = {
+        "bonding": (bond, "ip link set BOND down; ip link set BOND type bond lacp_active on; ip link set BOND up"),
+        "bonding, named": (f"==> /proc/net/bonding/bond7 <==\n{bond}", "ip link set bond7 type bond lacp_active on"),
+        "ip": (json.dumps(links), "ip link set bond0 type bond lacp_active on"),
+        "teamd": (team.replace('"state": 61', '"state": 60').replace('"state": 63', '"state": 62'), '"active": false in its runner'),
+        "Open vSwitch": (show, "lacp=active"),
+        "lagd": (lagd.replace(": activity ", ": "), "activity=active, and a reload"),
+    }
+    for name, (text, command) in cases.items():
+        said = told_of(text)[1]
+        tests.same(f"two passive ends, by {name}", [said.partition("\n")[0].startswith("0 of 2 links carry. Both ends are passive:"), command in said], [True, True])
+    one = read_text(os.path.join(STATUS, "passive-bonding.txt"))
+    tests.same("a passive end that hears nobody", "type bond lacp_active on" in told_of(one)[1], True)
+
+
+def of_names(tests: Tests) -> None:
+    """Bonds have the names that tail writes before them; without these they are counted."""
+    keys, down = (read_text(os.path.join(STATUS, f"{it}-bonding.txt")) for it in ("keys", "passive"))
+    down = down.replace("02:00:00:01:0a:", "02:00:00:01:0d:")
+    named = f"==> /proc/net/bonding/bond0 <==\n{keys}\n==> /proc/net/bonding/up link <==\n{down}"
+    said, counted = told_of(named), told_of(f"{keys}\n{down}")
+    found = ["The bond bond0 is of the system" in said[1], "the bond up link is of the system" in said[1], "Bond 1 of the text is" in counted[1], "of the text" in said[1]]
+    tests.same("bonds by their names", [*found, said[0], said[1].partition("\n")[0] == counted[1].partition("\n")[0].replace("bond 2 of the text", "the bond up link")], [True, True, True, False, 1, True])
+    alone = told_of(f"==> /proc/net/bonding/bond0 <==\n{keys}")
+    tests.same("a bond that is alone, by its name", alone, told_of(keys))
+    static = f"==> bond4 <==\n{keys.replace('IEEE 802.3ad Dynamic link aggregation', 'load balancing (xor)')}"
+    tests.same("which bond speaks no LACP", told_of(static)[1].partition("\n")[0], 'The bond bond4 does not speak LACP: its mode is "load balancing (xor)".')
+
+
+def of_order(tests: Tests) -> None:
+    """Of bonding that hears nobody on a link the capture comes first, then what it tells."""
+    said = told_of(read_text(os.path.join(STATUS, "deaf-bonding.txt")))[1]
+    words = "timeout 100 tcpdump -i p2 -w p2.pcap", "LACPDUs of the other end come as often", "If it asks for one each second", "None comes: look whether the port at the other end", "show lacp counters"
+    places = [said.find(it) for it in words]
+    tests.same("of a deaf link the capture comes first", [-1 in places, places == sorted(places), said[places[0] :].count("\n") >= len(words) - 2], [False, True, True])
+
+
 def of_texts(tests: Tests, browser: Browser) -> None:
     for row in truths():
         text, other = (read_text(os.path.join(STATUS, row[name])) if row[name] else "" for name in ("text", "other end"))
@@ -314,7 +358,7 @@ def of_texts(tests: Tests, browser: Browser) -> None:
     of_ways(tests, browser)
     of_cuts(tests, browser)
     of_explain(tests, browser)
-    for it in of_words, of_endings, of_programs, of_away, of_a_device_that_is_down, of_waiting, of_held, of_set_down, of_nothing, of_speeds, of_partners, of_partner_states, of_one_file, of_hashes:
+    for it in of_words, of_endings, of_programs, of_away, of_a_device_that_is_down, of_waiting, of_held, of_set_down, of_nothing, of_speeds, of_partners, of_partner_states, of_passive, of_names, of_order, of_one_file, of_hashes:
         it(tests)
     passive = read_text(os.path.join(STATUS, "healthy-bonding.txt")).replace("port state: 63", "port state: 62")
     tests.same("two passive ends do not carry, as in a capture", pasted(browser, passive)[0], "0 of 2 links carry. Both ends are passive: p1, p2.")
