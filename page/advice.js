@@ -12,7 +12,7 @@ const BONDING = {
             + "If it is, ask for the LACP counters of that port (Cisco IOS, Arista: show lacp counters). It sends none: LACP is off there. "
             + "It sends some: look at the path, and whether this card keeps them for an agent of its own.",
     ],
-    active: (name) => `This end has lacp_active off. Its bond has to be down for it, which takes its routes: ip link set ${name} down; ip link set ${name} type bond lacp_active on; ip link set ${name} up`,
+    active: (name) => `This end has lacp_active off. Its bond has to be down for it, which takes routes and IPv6 addresses: ip link set ${name} down; ip link set ${name} type bond lacp_active on; ip link set ${name} up`,
     key: "one speed, and full duplex", backup: "mode=active-backup",
 };
 const PROGRAMS = new Map([

@@ -1,7 +1,7 @@
 /* lagtool explain FILE..: the first lines of docs/try.html as text, of captures (several links at once) or of what systems print: a headline, a line
  * a link, then the causes, each with what to do and what follows from it. It reads a capture into memory. The findings are those of the module of
  * docs/try.html; the order, the advice and what is read out of a status are not proved. The status is 0 where each link carries and no cause holds still,
- * 1 where something is found, 2 where a file cannot be read, or has no LACPDU. */
+ * 1 where something is found, or captures are of different times, 2 where a file cannot be read, or has no LACPDU. */
 import { accessSync, constants, openAsBlob, readFileSync } from "node:fs";
 import { basename } from "node:path";
 import { Lagtool } from "../../page/module.js";

@@ -15,8 +15,8 @@ EXPLAIN = """\
       FILE..: Captures of the members, all of them at once; or what systems print (/proc/net/bonding/bond0,
               ip -d -j link, teamdctl team0 state dump, ovs-appctl lacp/show, lagd --status): two texts at
               most, this end's, then the far end's if it is there; or - for standard input
-      Status 0: each link carries, and no cause holds. Status 1: something is found. Status 2: a file
-      cannot be read, or has no LACPDU.
+      Status 0: each link carries, and no cause holds. Status 1: something is found, or captures are of
+      different times. Status 2: a file cannot be read, or has no LACPDU.
 
       Example: lagtool explain /proc/net/bonding/bond0
 """

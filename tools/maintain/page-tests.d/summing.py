@@ -185,12 +185,12 @@ def of_files(tests: Tests, browser: Browser, folder: str) -> None:
     tests.same("a comment stands at its packet", browser.value("[...document.querySelectorAll('.frames em')].map((it) => it.textContent)"), [" look <b>here"])
 
 
-def links_at(folder: str, times: list[range], keys: tuple[int, int] = (8, 8), source: bytes = b"") -> list[str]:
+def links_at(folder: str, times: list[range], keys: tuple[int, int] = (8, 8), source: bytes = b"", up: int = made.FAST) -> list[str]:
     """A file for each link of the systems 1 and 2, with LACPDUs at these times; of several keys the first link does not carry."""
     os.makedirs(folder, exist_ok=True)
     paths = []
     for port, (seconds, key) in enumerate(zip(times, keys), 1):
-        state = made.FAST if key == keys[-1] else made.FAST_DOWN
+        state = up if key == keys[-1] else made.FAST_DOWN
         one, other = made.Party(1, 7, port, state), made.Party(2, key, port, state)
         paths.append(os.path.join(folder, f"eth{port}.pcap"))
         made.capture(paths[-1], made.sends(one, other, map(float, seconds), source), made.sends(other, one, (it + 0.1 for it in seconds)))
@@ -213,7 +213,7 @@ def of_times(tests: Tests, browser: Browser, folder: str) -> None:
         "a link that goes down, and one that comes up": ([range(50), range(25, 100)], (8, 8), one, False),
     }
     for name, (times, two, headline, is_moved) in cases.items():
-        paths = links_at(folder, times, two)
+        paths = links_at(folder, times, two, up=made.UP if "long" in name else made.FAST)
         browser.begin(*paths)
         browser.shown()
         said = browser.value(f"[{HEADLINE}, document.getElementById('lasts').textContent]")
