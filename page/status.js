@@ -65,11 +65,12 @@ const times = (number) => Number(number) === 1 ? "once" : `${number} times`;
 
 /* ---- /proc/net/bonding/NAME ---- */
 
+/* What an end says; null where a line of it is missing. */
 function partyOfBonding(part, side, keyName) {
     const [, found] = part.split(new RegExp(`^[ \\t]*details ${side} lacp pdu:[ \\t]*\\n`, "m"));
     if (found === undefined) return null;
     const it = valuesIn(found.replace(/^\s*details [\s\S]*/m, ""));
-    if (numberOf(it.get("port state")) === null) return null;
+    if (!it.get("system mac address") || ["system priority", keyName, "port priority", "port number", "port state"].some((key) => numberOf(it.get(key)) === null)) return null;
     return {
         priority: numberOf(it.get("system priority")), system: macOf(it.get("system mac address")), key: numberOf(it.get(keyName)),
         portPriority: numberOf(it.get("port priority")), port: numberOf(it.get("port number")), state: numberOf(it.get("port state")),
@@ -100,7 +101,7 @@ function memberOfBonding(part, active, isHeard) {
         name: it.get("Slave Interface"), link, source: macOf(it.get("Permanent HW addr")), actor, partner: knownPartner(actor, partner), aggregator, isUsed, isAlone,
         isLasting: SIDES.some((side) => isChurned(it, side)), speed: `${it.get("Speed")} ${it.get("Duplex")}`, facts: factsOfBonding(it),
     });
-    return { port, isWhole: it.has("Partner Churned Count") && (active === null || (actor !== null && partner !== null)) };
+    return { port, isWhole: it.has("MII Status") && it.has("Partner Churned Count") && (active === null || (actor !== null && partner !== null)) };
 }
 
 /* What each part of a port begins with. */

@@ -340,6 +340,17 @@ def of_names(tests: Tests) -> None:
     tests.same("which bond speaks no LACP", told_of(static)[1].partition("\n")[0], 'The bond bond4 does not speak LACP: its mode is "load balancing (xor)".')
 
 
+def of_lines(tests: Tests) -> None:
+    """Lines of a bond that are not known change nothing; without one that says whether a link is up, or of an LACPDU, nothing is judged."""
+    bond = read_text(os.path.join(STATUS, "healthy-bonding.txt"))
+    tests.same("lines of another driver", told_of(bond.replace("LACP rate:", "New line: 5\nLACP rate:").replace("Slave queue", "New count: 7\nSlave queue")), told_of(bond))
+    for name in "MII Status", "system priority", "system mac address", "port key", "oper key", "port priority", "port number", "port state":
+        head, first, *others = bond.split("Slave Interface: ")
+        lines = [it for it in first.split("\n") if not it.strip().startswith(f"{name}:")]
+        ended, said = told_of("Slave Interface: ".join([head, "\n".join(lines), *others]))
+        tests.same(f"a bond without the line {name}", [ended, said.partition(". ")[0]], [2, "The text is cut: the part of p1 is not whole"])
+
+
 def of_order(tests: Tests) -> None:
     """Of bonding that hears nobody on a link the capture comes first, then what it tells."""
     said = told_of(read_text(os.path.join(STATUS, "deaf-bonding.txt")))[1]
@@ -358,7 +369,7 @@ def of_texts(tests: Tests, browser: Browser) -> None:
     of_ways(tests, browser)
     of_cuts(tests, browser)
     of_explain(tests, browser)
-    for it in of_words, of_endings, of_programs, of_away, of_a_device_that_is_down, of_waiting, of_held, of_set_down, of_nothing, of_speeds, of_partners, of_partner_states, of_passive, of_names, of_order, of_one_file, of_hashes:
+    for it in of_words, of_endings, of_programs, of_away, of_a_device_that_is_down, of_waiting, of_held, of_set_down, of_nothing, of_speeds, of_partners, of_partner_states, of_passive, of_names, of_lines, of_order, of_one_file, of_hashes:
         it(tests)
     passive = read_text(os.path.join(STATUS, "healthy-bonding.txt")).replace("port state: 63", "port state: 62")
     tests.same("two passive ends do not carry, as in a capture", pasted(browser, passive)[0], "0 of 2 links carry. Both ends are passive: p1, p2.")
