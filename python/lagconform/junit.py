@@ -129,7 +129,8 @@ def point(run: Run, number: int, it: Result, cause: str) -> Iterable[str]:
         yield f"ok {name} # SKIP {plain(f'{it.verdict}: {it.why}')}"
     else:
         yield f"{'not ok' if kind else 'ok'} {name}"
-    yield from ["  ---", f"  clause: {json.dumps(it.test.clause)}", *(["  causes:", item(cause)] if cause else []), *([f"  late: {json.dumps(late)}"] if late else [])]
+    yield from ["  ---", f"  clause: {json.dumps(it.test.clause)}", *(["  causes:", item(cause)] if cause else [])]
+    yield from [f"  late: {json.dumps(late)}"] if late else []
     if kind in ("failure", "error"):
         told_why = message(run, it) if it.verdict == PASS else it.why
         yield from [f"  message: {json.dumps(told_why)}", f"  severity: {it.verdict}", f"  basis: {it.basis}", "  data:"]

@@ -126,8 +126,10 @@ def add_tests(it: argparse.ArgumentParser) -> None:
     it.add_argument("--not", metavar="TEST", action="append", dest="left_out", default=[], help="tests to leave out; may be given again")
     it.add_argument("--long", action="store_true", help=f"run tests of more than {LONG} s, too; with --memory they always run")
     it.add_argument("--repeat", metavar="N", type=times, default=1, help="run each test N times; its verdict is the worst of them")
-    it.add_argument("--resume", metavar="FILE", help="take verdicts over from the JSON of a run of this device and build; run the other tests, and what came to no answer or passed while the bench was late")
-    it.add_argument("--strict", action="store_true", help="a test without an answer, a pass while the bench was late, and a known fail that passes, count as fails, in JUnit and TAP, too")
+    others = "those without an answer and those that passed while the bench was late run again"
+    it.add_argument("--resume", metavar="FILE", help=f"take verdicts over from the JSON of a run of this device and build, and run the other tests; {others}")
+    strict = "a test without an answer, a pass while the bench was late and a known fail that passes count as fails, in JUnit and TAP, too"
+    it.add_argument("--strict", action="store_true", help=strict)
     it.add_argument("--keep-going", action="store_true", help="run the others where five tests in turn came to nothing; the status stays as without it")
     it.add_argument("--shadow", action="store_true", help="tell where the engine would have sent another LACPDU in the device's place")
     it.add_argument("--seed", type=int, help=f"the seed of random frames ({SEED}, or that of the run that --resume names)")

@@ -271,6 +271,7 @@ def test_a_file_that_is_no_text_is_refused(tmp_path: Path) -> None:
     for name, why in ("octets", "octet 6 is ff"), ("long", "more than"), ("fifo", "no regular file"), ("/dev/urandom", "no regular file"), (".", "Is a directory"):
         with pytest.raises(refusals.Refused, match=why):
             files.read_text("--known", str(tmp_path / name))
+    assert files.read_text("--known", os.devnull) == ""
 
 
 def test_one_link_runs_tests_of_one_link(run, capsys: pytest.CaptureFixture[str]) -> None:  # type: ignore[no-untyped-def]

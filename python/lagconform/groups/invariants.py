@@ -67,7 +67,7 @@ def whole(b: Bench) -> None:
     echoes = [it for it in slow if not is_whole(it) and it.octets[17:30] in sent]
     wrong = [it for it in slow if not is_whole(it) and it not in echoes]
     text = f"{len(wrong)} of {len(slow)} frames are something else{f': {wrong[0].fault}' if wrong else ''}; has to be none"
-    b.claim(not wrong, text, *wrong[:4], bears=SURE, causes=("MK-02", "MK-09") if all(map(is_marker, wrong)) else ())
+    b.claim(not wrong, text, *wrong[:4], bears=SURE, causes=("MK-02", "MK-01", "MK-09") if all(map(is_marker, wrong)) else ())
     if echoes:
         b.note(f"{number_of(len(echoes), 'response')} to wrong markers of the bench may be as wrong: packet {echoes[0].number}: {echoes[0].fault}")
 
