@@ -369,6 +369,7 @@ def test_a_run_that_never_began_leaves_what_it_was_to_resume(run, tmp_path: Path
     assert f"No test has a result: {NONE.replace('none0', 'link1')}" in (tmp_path / "r.html").read_text()
     assert run(Device, "--only", "FM-0*", "--only", "MK-01", "--resume", "r.json", "--json", "r.json") == 0
     assert json.loads((tmp_path / "r.json").read_text())["counts"]["pass"] == 10
+    assert run(Device, "--only", "MK-01", "--resume", "r.json") == 0 and "\n0 tests on 2 links\n" in capsys.readouterr().out
 
 
 @pytest.mark.parametrize(
