@@ -51,8 +51,8 @@ def is_marker(frame: Frame) -> bool:
 
 
 @group.test("03", "6.4.2, 6.5.3", "The proved codec reads each LACPDU and Marker PDU", "look at all LACPDUs and Marker PDUs of the device: subtypes 1 and 2",
-            rule="niwhopera.decode refuses none; TLV types as they have to be; 124 octets or more; told alone: an echo of a marker that the bench sent wrong",
-            takes=0.1)  # fmt: skip
+            rule="niwhopera.decode refuses none but echoes of markers that the bench sent wrong, which are told; TLV types as they have to be; "
+            "124 octets or more", takes=0.1)  # fmt: skip
 def whole(b: Bench) -> None:
     """Each LACPDU and Marker PDU of the whole run has the right shape. The response to a marker that the bench sent wrong (MK-08, MK-09) may be as wrong.
     Other Slow Protocols, as OAM and ESMC, are not looked at."""
