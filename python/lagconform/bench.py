@@ -398,11 +398,14 @@ class Bench:
 
     # What a test claims.
 
-    def claim(self, holds: object, text: str, *frames: Optional[Frame], bears: float = 0.0, late: Optional[float] = None, in_flood: bool = False) -> bool:
+    def claim(
+        self, holds: object, text: str, *frames: Optional[Frame], bears: float = 0.0, late: Optional[float] = None, in_flood: bool = False,
+        causes: Sequence[str] = (),
+    ) -> bool:  # fmt: skip
         """Claims that something holds, as these frames show; answers whether it does. A bench that is up to `bears` seconds late, or loses frames,
-        makes it no less true; nor, `in_flood`, does a flood."""
+        makes it no less true; nor, `in_flood`, does a flood. A fail of the tests `causes` explains why it does not hold."""
         assert self.result
-        self.result.claims.append(Claim(bool(holds), text, tuple(it.number for it in frames if it), bears, late, in_flood))
+        self.result.claims.append(Claim(bool(holds), text, tuple(it.number for it in frames if it), bears, late, in_flood, tuple(causes)))
         return bool(holds)
 
     def holds(self, holds: object, statement: str, *frames: Optional[Frame], bears: float = 0.0) -> bool:

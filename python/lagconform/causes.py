@@ -60,7 +60,8 @@ def above(it: Result, failed: dict[str, Result]) -> list[str]:
         first = next(name for name, one in failed.items() if one.crashed == it.crashed)
         return [first] if first != test.id else []
     unread = [name for name in FORMS if name in failed and UNREAD in failed and test.group != "FM"]
-    named = [name for name in test.causes if name in failed and name != test.id]
+    claimed = [name for claim in it.claims if not claim.holds for name in claim.causes]
+    named = [name for name in (*test.causes, *claimed) if name in failed and name != test.id]
     few = [name for name in FEW if lateness(it) is not None and name in failed and test.id not in FEW]
     stays = [STAYS] if STAYS in failed and test.group not in APART and test.id not in APART else []
     return unread or named or of_kind(test.id, failed) or few or stays

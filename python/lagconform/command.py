@@ -222,7 +222,7 @@ def beginning(given: argparse.Namespace, tests: Sequence[Test], links: int) -> s
     """How many tests run, and how long; in memory no time passes that anybody waits for."""
     minutes = max(1, round(sum(it.takes for it in tests) * given.repeat / 60))
     times = f", each {given.repeat} times" if given.repeat > 1 else ""
-    return f"{number_of(len(tests), 'test')} on {number_of(links, 'link')}{times}" + ("" if given.memory else f", some {minutes} min")
+    return f"{number_of(len(tests), 'test')} on {number_of(links, 'link')}{times}" + ("" if given.memory or not tests else f", some {minutes} min")
 
 
 def taken_over(given: argparse.Namespace, before: Sequence[Result]) -> list[str]:
@@ -256,7 +256,7 @@ def finish(given: argparse.Namespace, run: Run, status: int, ended: bool) -> int
         return status
     fails = status == FAILS or bool(known.new_fails(run.results))
     if run.strict and status != NO_VERDICT:
-        fails = fails or bool(gone) or any(it.verdict in (ERROR, INCONCLUSIVE) for it in run.results)
+        fails = fails or bool(gone) or any(it.verdict in (ERROR, INCONCLUSIVE) or it.passed_late(run.bench.slack) for it in run.results)
     return FAILS if fails and stand_there else NO_VERDICT if status or broke or ended or not stand_there else 0
 
 
@@ -278,7 +278,7 @@ def planned(given: argparse.Namespace) -> Plan:
     if not before:
         return Plan(tests, claimed, reasons, conditions(given, claimed))
     given.system = given.system or before.base  # the bench goes on with the system that it had
-    there = taken(before, tests) + kept(before, [it for it in TESTS if it not in tests and not matches(it, given.left_out)])
+    there = taken(before, tests, given.slack) + kept(before, [it for it in TESTS if it not in tests and not matches(it, given.left_out)])
     whole = [*tests, *(it.test for it in there)]
     plan = Plan(ordered(it for it in TESTS if it in whole), claimed, reasons, conditions(given, claimed), there)
     check(before, plan.conditions)

@@ -35,7 +35,7 @@ def read_text(option: str, path: str, longest: int = LONGEST) -> str:
     """The text of the file of an option."""
     try:
         with open(os.open(path, os.O_RDONLY | os.O_NONBLOCK | os.O_CLOEXEC), "rb") as it:
-            if not stat.S_ISREG(os.fstat(it.fileno()).st_mode):
+            if not stat.S_ISREG(os.fstat(it.fileno()).st_mode) and not are_same(path, os.devnull):
                 raise Refused(f"{path} is no regular file")
             octets = it.read(longest + 1)
     except OSError as why:
@@ -46,6 +46,13 @@ def read_text(option: str, path: str, longest: int = LONGEST) -> str:
         return octets.decode("utf-8")
     except UnicodeDecodeError as why:
         raise Refused(f"{path} is no text in UTF-8: octet {why.start} is {octets[why.start]:02x}") from why
+
+
+def import_beside(path: str) -> None:
+    """Lets a file of Python import what stands beside it, as `python FILE` does."""
+    folder = os.path.dirname(os.path.realpath(path))
+    if folder not in sys.path:
+        sys.path.insert(0, folder)
 
 
 def check_writable(paths: Sequence[Optional[str]]) -> None:

@@ -12,7 +12,7 @@ from xml.sax.saxutils import quoteattr
 from .causes import explained
 from .model import CAVEAT, ERROR, FAIL, INCONCLUSIVE, PASS, Result
 from .pdus import told
-from .report import Run
+from .report import Run, lateness
 
 # What a run is to JUnit that did not come to its end, and the counts of a suite of that alone.
 EARLY = "the run ended early"
@@ -23,24 +23,27 @@ UNWANTED = re.compile("[^\t\n\r\x20-\ud7ff\ue000-\ufffd\U00010000-\U0010ffff]")
 
 def tag(run: Run, it: Result) -> str:
     """What a result is to JUnit. A known fail is skipped; so is what came to no answer, unless the run is strict: then it is an error, as it makes
-    the status 1, and so is a known fail that passes. A test that broke is an error in any run."""
+    the status 1, and so are a known fail that passes, and what passed while the bench was late. A test that broke is an error in any run."""
     if it.verdict == PASS:
-        return "error" if it.obsolete and run.strict else ""
+        return "error" if run.strict and (it.obsolete or it.passed_late(run.bench.slack)) else ""
     if it.verdict == FAIL and not it.known:
         return "failure"
     return "error" if it.verdict == ERROR or it.verdict == INCONCLUSIVE and run.strict else "skipped"
 
 
-def message(it: Result) -> str:
+def message(run: Run, it: Result) -> str:
     """Why a result is as it is."""
     if it.obsolete:
         return f"a known fail that passes: {it.obsolete}"
+    if late := lateness(it, run.bench.slack):
+        return f"{it.verdict}: {late}"
     return f"known: {it.known}: {it.why}" if it.known else f"{it.verdict}: {it.why}" if it.verdict != FAIL else it.why
 
 
 def words(run: Run, it: Result) -> list[str]:
     """What was looked at in a test, with what the packets say that show it."""
-    said = [f"{it.test.title}: {it.test.clause}; rule by {it.test.basis}: {it.test.rule}", *it.notes]
+    late = lateness(it, run.bench.slack)
+    said = [f"{it.test.title}: {it.test.clause}; rule by {it.test.basis}: {it.test.rule}", *([late] if late else []), *it.notes]
     for claim in it.claims:
         said.append(f"{'holds' if claim.holds else 'FAILS'}: {claim.text}")
         if not claim.holds:
@@ -58,8 +61,9 @@ def properties(told_of: Mapping[str, str]) -> str:
 def case(run: Run, it: Result, cause: str) -> str:
     """A result as a case of JUnit, with what explains its fail, if so. Its name is the number of its test, which stays where a title gets other words."""
     out = f'<testcase classname={quoteattr(it.test.group)} name={quoteattr(it.test.id)} time="{it.end - it.begin:.3f}">'
-    out += properties({"title": it.test.title, "clause": it.test.clause, **({"causes": cause} if cause else {})})
-    kind, text = tag(run, it), message(it)
+    late = lateness(it, run.bench.slack)
+    out += properties({"title": it.test.title, "clause": it.test.clause, **({"causes": cause} if cause else {}), **({"late": late} if late else {})})
+    kind, text = tag(run, it), message(run, it)
     body = escape("\n".join(words(run, it)))
     if kind == "skipped":
         out += f"<skipped message={quoteattr(text)}/>"
@@ -115,8 +119,9 @@ def item(text: str) -> str:
 
 
 def point(run: Run, number: int, it: Result, cause: str) -> Iterable[str]:
-    """A result as a test point of TAP. Behind it stand as YAML its clause, what explains its fail, if so, and what failed."""
-    kind = tag(run, it)
+    """A result as a test point of TAP. Behind it stand as YAML its clause, what explains its fail, if so, how late the bench was in what passed, if so,
+    and what failed."""
+    kind, late = tag(run, it), lateness(it, run.bench.slack)
     name = f"{number} - {plain(f'{it.test.id} {it.test.title}')}"
     if it.known:
         yield f"not ok {name} # TODO {plain(it.known)}"
@@ -125,8 +130,9 @@ def point(run: Run, number: int, it: Result, cause: str) -> Iterable[str]:
     else:
         yield f"{'not ok' if kind else 'ok'} {name}"
     yield from ["  ---", f"  clause: {json.dumps(it.test.clause)}", *(["  causes:", item(cause)] if cause else [])]
+    yield from [f"  late: {json.dumps(late)}"] if late else []
     if kind in ("failure", "error"):
-        told_why = message(it) if it.obsolete else it.why
+        told_why = message(run, it) if it.verdict == PASS else it.why
         yield from [f"  message: {json.dumps(told_why)}", f"  severity: {it.verdict}", f"  basis: {it.basis}", "  data:"]
         yield from map(item, words(run, it))
     yield "  ..."

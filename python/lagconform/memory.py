@@ -16,6 +16,7 @@ from typing import Any, Callable, Deque, Iterator, Optional, Sequence
 from niwhopera import Mac
 
 from .child import NEEDED, Child
+from .files import import_beside
 from .hanging import limited
 from .pdus import COUNT_AT, DATA, SENDERS
 from .refusals import Refused
@@ -295,6 +296,7 @@ def loaded(path: str) -> Stack:
     try:
         if not path.endswith(".py"):
             return Library(path)
+        import_beside(path)
         with limited(where):
             kind: Optional[Any] = runpy.run_path(path).get("Device")
         if not isinstance(kind, type) or not issubclass(kind, Stack):

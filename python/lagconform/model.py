@@ -54,7 +54,8 @@ class Frame:
 @dataclass(frozen=True)
 class Claim:
     """One thing that was looked at, and the packets that show it. A machine that is up to `bears` seconds late, or loses frames, does not make
-    it false. `late` is by how many seconds something came too late. A flood does not make it false either, if `in_flood`."""
+    it false. `late` is by how many seconds something came too late. A flood does not make it false either, if `in_flood`. `causes` are tests whose fail
+    explains it, where it does not hold, beside those of its test."""
 
     holds: bool
     text: str
@@ -62,6 +63,7 @@ class Claim:
     bears: float = 0.0
     late: Optional[float] = None
     in_flood: bool = False
+    causes: tuple[str, ...] = ()
 
 
 # So late a machine may be where its lateness makes nothing false, as four LACPDUs in a second, whose times are the kernel's. One that stands still
@@ -137,6 +139,10 @@ class Result:
     def basis(self) -> str:
         """What carries the verdict: the rule of the test, or that the stack broke."""
         return CRASH if self.crashed else self.test.basis
+
+    def passed_late(self, slack: float) -> bool:
+        """Whether it passed while the bench was later than that, which may have hidden a fault."""
+        return self.verdict == PASS and self.late > slack
 
     @property
     def packets(self) -> dict[int, bool]:

@@ -24,10 +24,10 @@ SEED = 1
 ABOUT = """Tests a device which runs LACP at the far end of one to four cables, by frames alone.
 
 It prints a line for each test, and in the end the count of each verdict. The status is 0 if nothing failed but what --known has, 1 if
-something did (with --strict also if a test broke or came to no answer, or a known fail passes), 2 if the bench could not run to its end, a
-test broke by a fault of its own, a report could not be written, or, also with --strict, no test came to pass or fail, 3 if the device sent
-no LACPDU before the first test, and 130 after SIGINT. It wants CAP_NET_RAW, and the interfaces for itself: in no bond, in no bridge, and with
-no other program that speaks LACP there.
+something did (with --strict also if a test broke, came to no answer or passed while the bench was late, or a known fail passes), 2 if the
+bench could not run to its end, a test broke by a fault of its own, a report could not be written, or, also with --strict, no test came to
+pass or fail, 3 if the device sent no LACPDU before the first test, and 130 after SIGINT. It wants CAP_NET_RAW, and the interfaces for
+itself: in no bond, in no bridge, and with no other program that speaks LACP there.
 
 With --memory it wants none of these: the device is a stack in a file, and a run of all tests, the long ones too, takes seconds.
 
@@ -126,8 +126,10 @@ def add_tests(it: argparse.ArgumentParser) -> None:
     it.add_argument("--not", metavar="TEST", action="append", dest="left_out", default=[], help="tests to leave out; may be given again")
     it.add_argument("--long", action="store_true", help=f"run tests of more than {LONG} s, too; with --memory they always run")
     it.add_argument("--repeat", metavar="N", type=times, default=1, help="run each test N times; its verdict is the worst of them")
-    it.add_argument("--resume", metavar="FILE", help="take verdicts over from the JSON of a run of this device and build, and run the other tests")
-    it.add_argument("--strict", action="store_true", help="a test without an answer, and a known fail that passes, count as fails, in JUnit and TAP, too")
+    others = "those without an answer and those that passed while the bench was late run again"
+    it.add_argument("--resume", metavar="FILE", help=f"take verdicts over from the JSON of a run of this device and build, and run the other tests; {others}")
+    strict = "a test without an answer, a pass while the bench was late and a known fail that passes count as fails, in JUnit and TAP, too"
+    it.add_argument("--strict", action="store_true", help=strict)
     it.add_argument("--keep-going", action="store_true", help="run the others where five tests in turn came to nothing; the status stays as without it")
     it.add_argument("--shadow", action="store_true", help="tell where the engine would have sent another LACPDU in the device's place")
     it.add_argument("--seed", type=int, help=f"the seed of random frames ({SEED}, or that of the run that --resume names)")

@@ -6,7 +6,7 @@ import os
 import re
 import runpy
 
-from .files import unread
+from .files import import_beside, unread
 from .groups import GROUPS, TESTS
 from .model import Group
 from .refusals import MOST_LINKS, Refused
@@ -17,6 +17,7 @@ NAME, NUMBER = re.compile("[A-Z][A-Z0-9]*"), re.compile("[0-9]+[a-z]?")
 
 def load(path: str) -> None:
     """Puts the tests of a file among those of the bench."""
+    import_beside(path)
     try:
         found = list(dict.fromkeys(it for it in runpy.run_path(path).values() if isinstance(it, Group) and it not in GROUPS))
     except (Exception, SystemExit) as why:

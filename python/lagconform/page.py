@@ -10,7 +10,7 @@ from .bench import Bench
 from .model import CAVEAT, ERROR, FAIL, INCONCLUSIVE, VERDICTS, Frame, Result, Test
 from .pdus import SLOW, end, told
 from .refusals import MOST_LINKS
-from .report import Run, summary, why
+from .report import Run, lateness, summary, why
 
 # A picture has at most so many arrows; what stands within so many places of a packet that is named stays.
 MOST, NEAR, MORE = 60, 3, 40
@@ -120,8 +120,8 @@ def section(b: Bench, it: Result) -> Iterable[str]:
     test = it.test
     yield f'<details class="t {short(it)}" id="{test.id}"{" open" if it.verdict == FAIL else ""}>'
     yield f"<summary><h3>{test.id} {escape(test.title)}: {verdict(it)}</h3></summary>"
-    if it.why:
-        yield f'<p class="no">{escape(it.why)}</p>'
+    if it.why or it.passed_late(b.slack):
+        yield f'<p class="no">{escape(it.why or lateness(it, b.slack))}</p>'
     span = f"{it.first} to {it.last}, at {it.begin:.1f} to {it.end:.1f} s" if it.last else ""
     basis = f"{test.clause}; the rule is carried by {test.basis}"
     expected = [("clause", basis), ("steps", "; ".join(test.steps)), ("expected", test.rule), ("tolerance", test.tolerance), ("known", it.known)]
@@ -174,6 +174,12 @@ def unanswered(results: Sequence[Result]) -> str:
     return f"<h2>Without an answer</h2><ul>{''.join(out)}</ul>" if out else ""
 
 
+def late(results: Sequence[Result], slack: float) -> str:
+    """What passed while the bench was late."""
+    out = [f"<li>{link_to(it)} {escape(it.test.title)}: {escape(lateness(it, slack))}</li>" for it in results if it.passed_late(slack)]
+    return f"<h2>Passed while the bench was late</h2><ul>{''.join(out)}</ul>" if out else ""
+
+
 def clauses(results: Sequence[Result], tests: Sequence[Test]) -> str:
     """The matrix of clauses, of all tests that there are."""
     out = ["<tr><th>clause</th><th>verdict</th><th>tests</th></tr>"]
@@ -208,7 +214,7 @@ def of_nothing(device: str, why: str) -> str:
 
 def as_html(run: Run, titles: dict[str, str], tests: Sequence[Test]) -> str:
     """The whole run as a page, which begins with what failed; `titles` has those of the groups, and `tests` are all that there are."""
-    out = [*beginning(run.about.get("device", "device"), summary(run.results)), fails(run.results), unanswered(run.results)]
+    out = [*beginning(run.about.get("device", "device"), summary(run.results)), fails(run.results), unanswered(run.results), late(run.results, run.bench.slack)]
     out.append(rows(run.about.items()))
     if run.shadow:
         differences = "".join(f"<li>packet {it.frame.number}: {escape(it.what)}</li>" for it in run.shadow.differences[:100])

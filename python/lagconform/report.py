@@ -9,7 +9,7 @@ from typing import Mapping, Optional, Sequence
 from . import causes, matrix
 from .bench import Bench
 from .edition import edition
-from .model import CAVEAT, CRASH, FAIL, PASS, PROFILE, VERDICTS, Result, Test
+from .model import CAVEAT, CRASH, FAIL, PROFILE, VERDICTS, Result, Test
 from .pdus import end, mac
 from .shadow import Shadow
 
@@ -34,6 +34,11 @@ class Run:
 def why(it: Result) -> str:
     """The last line of the reason of a verdict."""
     return it.why.strip().splitlines()[-1] if it.why.strip() else ""
+
+
+def lateness(it: Result, slack: float) -> str:
+    """How late the bench was in a test that passed so; nothing where it was in time, or the test did not pass."""
+    return f"the bench was up to {it.late:.2f} s late, more than --slack {slack:g}, which may have hidden a fault" if it.passed_late(slack) else ""
 
 
 def line(it: Result) -> str:
@@ -90,7 +95,8 @@ def record(b: Bench, it: Result) -> dict[str, object]:
     return {
         **about_test(it.test), "basis": it.basis, "verdict": it.verdict, "why": it.why, "known": it.known, "notes": it.notes, "times": it.times,
         "crashed": it.crashed, "seconds": [round(it.begin, 3), round(it.end, 3)], "late": round(it.late, 3), "packets": [it.first, it.last],
-        "claims": [{"holds": claim.holds, "text": claim.text, "packets": claim.packets} for claim in it.claims], "frames": frames,
+        "claims": [{"holds": it.holds, "text": it.text, "packets": it.packets, **({"causes": it.causes} if it.causes else {})} for it in it.claims],
+        "frames": frames,
     }  # fmt: skip
 
 
@@ -139,7 +145,7 @@ def closing(run: Run) -> list[str]:
         out.append(f"shadow: {run.shadow.text}")
         for it in run.shadow.differences[:5]:
             out.append(f"shadow: packet {it.frame.number}: {it.what}")
-    if late := [it for it in run.results if it.verdict == PASS and it.late > run.bench.slack]:
+    if late := [it for it in run.results if it.passed_late(run.bench.slack)]:
         told = f"the bench was up to {max(it.late for it in late):.2f} s late, more than --slack {run.bench.slack:g}, in what passed"
-        out.append(f"late: {told}: {', '.join(it.test.id for it in late)}")
+        out.append(f"late: {told}: {', '.join(it.test.id for it in late)}{'; by --strict that is no answer' if run.strict else ''}")
     return [*out, f"{summary(run.results)}. {CAVEAT}"]

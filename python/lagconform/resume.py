@@ -20,7 +20,7 @@ from .report import FORMAT
 
 # What JSON has the first system of the bench by, among what a run was made with.
 SYSTEM = "system"
-# A test with another verdict runs again.
+# A test with another verdict runs again, and so does one that passed while the bench was late.
 TAKEN = (PASS, FAIL, NOT_APPLICABLE)
 
 
@@ -85,13 +85,14 @@ def check(before: Earlier, now: Mapping[str, object]) -> None:
             )
 
 
-def taken(before: Earlier, tests: Sequence[Test]) -> list[Result]:
+def taken(before: Earlier, tests: Sequence[Test], slack: float) -> list[Result]:
     """The results of these tests that an earlier run has. Their packets are those of its own capture, and are not named here. What looks at all frames
     of a run looks at those of this one, too, unless it failed there, or nothing else is left to run."""
-    found = {it["id"]: it for it in before.records if it["verdict"] in TAKEN}
-    over = all(it.id in found for it in tests if it.group != WHOLE_RUN)
-    stays = [it for it in tests if it.id in found and (over or it.group != WHOLE_RUN or found[it.id]["verdict"] == FAIL)]
-    return of_records(before, stays, found)
+    records = {it["id"]: it for it in before.records if it["verdict"] in TAKEN}
+    found = of_records(before, [it for it in tests if it.id in records], records)
+    stay = [it for it in found if it.test.group != WHOLE_RUN and not it.passed_late(slack)]
+    over = len(stay) == sum(it.group != WHOLE_RUN for it in tests)
+    return [*stay, *(it for it in found if it.test.group == WHOLE_RUN and (over or it.verdict == FAIL))]
 
 
 def kept(before: Earlier, others: Sequence[Test]) -> list[Result]:
@@ -110,6 +111,6 @@ def of_records(before: Earlier, tests: Sequence[Test], found: Mapping[str, Mappi
 
 def of_record(path: str, test: Test, told: Mapping[str, Any]) -> Result:
     """A result of its record."""
-    claims = [Claim(bool(it["holds"]), str(it["text"]), ()) for it in told["claims"]]
+    claims = [Claim(bool(it["holds"]), str(it["text"]), (), causes=tuple(map(str, it.get("causes", ())))) for it in told["claims"]]
     notes = [*map(str, told["notes"]), f"of the run in {path}"]
-    return Result(test, str(told["verdict"]), str(told["why"]), claims, notes, crashed=str(told.get("crashed", "")))
+    return Result(test, str(told["verdict"]), str(told["why"]), claims, notes, late=float(told["late"]), crashed=str(told.get("crashed", "")))

@@ -190,7 +190,8 @@ def judge(b: Bench, result: Result, flood: Flood = Flood()) -> None:
     elif result.verdict == PASS and result.test.group == WHOLE_RUN and not b.ran:
         result.verdict, result.why = INCONCLUSIVE, "no other test ran, and so there were no frames to look at"
     b.latest = max(b.latest, b.late)
-    result.last, result.end, result.late = len(b.frames), b.now(), b.latest if result.test.group == WHOLE_RUN else b.late
+    result.last, result.end = len(b.frames), b.now()
+    result.late = round(b.latest if result.test.group == WHOLE_RUN else b.late, 3)  # as JSON has it, so that --resume sees what was seen here
     if flood.text:
         result.stuck = result.stuck or flood.hides
         result.notes.append(flood.text)

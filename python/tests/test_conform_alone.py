@@ -5,7 +5,9 @@ from __future__ import annotations
 import inspect
 import json
 import re
+import sys
 from pathlib import Path
+from xml.etree import ElementTree
 from typing import Iterator, Optional, Sequence, Type
 
 import pytest
@@ -78,6 +80,7 @@ def test_where_data_of_one_aggregator_comes_on_one_link_the_reason_is_right() ->
 def run(monkeypatch: pytest.MonkeyPatch, tmp_path: Path) -> Iterator[object]:
     """Runs the command beside a stack in a file; its status."""
     kept, groups = list(TESTS), list(GROUPS)
+    monkeypatch.setattr(sys, "path", list(sys.path))
 
     def begin(kind: Type[Device], *words: str) -> int:
         (tmp_path / "device.py").write_text(f"from {kind.__module__} import {kind.__name__} as Device\n")
@@ -116,6 +119,45 @@ def test_a_resumed_run_keeps_the_verdicts_of_tests_that_it_was_not_asked_for(run
     assert json.loads((tmp_path / "s.json").read_text())["counts"][INCONCLUSIVE] == 1
     assert run(KeyUnchecked, "--only", "FM-01", "--not", "RX-07c", "--resume", "r.json", "--json", "s.json") == 0
     assert json.loads((tmp_path / "s.json").read_text())["counts"][INCONCLUSIVE] == 0
+
+
+class Stalls(Device):
+    """The machine stands still for half a second in the first test."""
+
+    stall = 0.5
+
+    def ticked(self) -> None:
+        if self.stall and self.now > 3:
+            self._lagconform.clock += self.stall
+            self.stall = 0
+
+
+def test_what_passed_beside_a_late_bench_is_told_until_it_ran_again(run, tmp_path: Path, capsys: pytest.CaptureFixture[str], monkeypatch: pytest.MonkeyPatch) -> None:  # type: ignore[no-untyped-def]
+    words, late = ["--only", "FM-01", "--only", "FM-02", "--only", "MX-01", "--only", "IV-01"], "the bench was up to 0.50 s late, more than --slack 0.15"
+    reports = ["--json", "r.json", "--junit", "r.xml", "--tap", "r.tap", "--report", "r.html"]
+
+    def told() -> tuple[dict[str, float], str]:
+        whole, said = json.loads((tmp_path / "r.json").read_text()), capsys.readouterr().out
+        page, case = (tmp_path / "r.html").read_text(), ElementTree.parse(tmp_path / "r.xml").getroot()[0][1]
+        seconds, is_late = {it["id"]: it["late"] for it in whole["tests"]}, f"\nlate: {late}, in what passed: FM-01, IV-01" in said
+        assert whole["about"]["the bench was late"] == f"{max(seconds.values()):.3f} s at most" and whole["counts"][PASS] == 4
+        assert is_late == (case[0][2:] != []) == (f'  late: "{late}, which' in (tmp_path / "r.tap").read_text()) == ("Passed while the bench was late" in page)
+        return seconds, said
+
+    was = {"FM-01": 0.5, "FM-02": 0.0, "MX-01": 0.0, "IV-01": 0.5}
+    assert run(Stalls, *words, *reports) == 0 and told()[0] == was
+    assert run(Stalls, "--only", "FM-02", "--resume", "r.json", *reports) == 0
+    seconds, said = told()
+    assert seconds == was and said.startswith("0 tests on 3 links\nlate: ")
+    assert run(Stalls, "--only", "FM-02", "--resume", "r.json", "--strict", *reports) == 1
+    assert told()[1].startswith(f"0 tests on 3 links\nlate: {late}, in what passed: FM-01, IV-01; by --strict that is no answer\n")
+    errors = list(ElementTree.parse(tmp_path / "r.xml").getroot().iter("error"))
+    assert [(it.get("type"), it.get("message")) for it in errors] == [("pass by PROFILE", f"pass: {late}, which may have hidden a fault")] * 2
+    assert re.findall("^not ok.*", (tmp_path / "r.tap").read_text(), re.M) == ["not ok 1 - FM-01 Destination, source and type", f"not ok 4 - IV-01 {BY_NAME['IV-01'].title}"]
+    monkeypatch.setattr(Stalls, "stall", 0)
+    assert run(Stalls, "--only", "FM-0[12]", "--only", "IV-01", "--resume", "r.json", "--strict", *reports) == 0
+    seconds, said = told()
+    assert set(seconds.values()) == {0.0} and said.startswith("2 tests on 3 links\npass           FM-01   ")
 
 
 def test_a_resumed_run_looks_at_its_own_frames_too(run, tmp_path: Path) -> None:  # type: ignore[no-untyped-def]
@@ -271,6 +313,16 @@ def test_verdicts_of_a_file_of_tests_that_changed_are_not_taken_over(run, tmp_pa
     assert run(Device, "--tests", "lab.py", "--only", "LAB-01", "--json", "r.json") == 0
     (tmp_path / "lab.py").write_text(OWN.replace('"LAB"', '"LABS"'))
     assert run(Device, "--tests", "lab.py", "--only", "LABS-01", "--resume", "r.json") == 2 and "own tests was " in capsys.readouterr().err
+
+
+def test_a_stack_and_a_file_of_tests_import_what_stands_beside_them(run, tmp_path: Path, monkeypatch: pytest.MonkeyPatch) -> None:  # type: ignore[no-untyped-def]
+    monkeypatch.chdir(tmp_path)
+    for folder, name in ("stack", "of_the_stack"), ("lab", "of_the_lab"):
+        (tmp_path / folder).mkdir()
+        (tmp_path / folder / f"{name}.py").write_text("from conform_device import Device\n")
+    (tmp_path / "stack" / "device.py").write_text("from of_the_stack import Device\n")
+    (tmp_path / "lab" / "lab.py").write_text(f"import of_the_lab\n{OWN}")
+    assert command.main(["--memory", "stack/device.py", "--tests", "lab/lab.py", "--only", "LAB-01"]) == 0
 
 
 def test_a_group_of_two_names_is_one_group(run, tmp_path: Path) -> None:  # type: ignore[no-untyped-def]

@@ -271,6 +271,7 @@ def test_a_file_that_is_no_text_is_refused(tmp_path: Path) -> None:
     for name, why in ("octets", "octet 6 is ff"), ("long", "more than"), ("fifo", "no regular file"), ("/dev/urandom", "no regular file"), (".", "Is a directory"):
         with pytest.raises(refusals.Refused, match=why):
             files.read_text("--known", str(tmp_path / name))
+    assert files.read_text("--known", os.devnull) == ""
 
 
 def test_one_link_runs_tests_of_one_link(run, capsys: pytest.CaptureFixture[str]) -> None:  # type: ignore[no-untyped-def]
@@ -368,6 +369,7 @@ def test_a_run_that_never_began_leaves_what_it_was_to_resume(run, tmp_path: Path
     assert f"No test has a result: {NONE.replace('none0', 'link1')}" in (tmp_path / "r.html").read_text()
     assert run(Device, "--only", "FM-0*", "--only", "MK-01", "--resume", "r.json", "--json", "r.json") == 0
     assert json.loads((tmp_path / "r.json").read_text())["counts"]["pass"] == 10
+    assert run(Device, "--only", "MK-01", "--resume", "r.json") == 0 and "\n0 tests on 2 links\n" in capsys.readouterr().out
 
 
 @pytest.mark.parametrize(

@@ -113,16 +113,16 @@ class Doubled(Device):
 KINDS = [LongTimeouts, Passive, SpokenTo, PassiveOfLongTimeouts, Individual, Independent, AtTicks, LongTicks, OneSource, SecondVersion, Doubled]
 
 
-def found_by(kind: Type[Device], tests: Sequence[Case], phase: float = 0.037) -> list[Result]:
+def found_by(kind: Type[Device], tests: Sequence[Case], phase: float = 0.037, links: int = 2) -> list[Result]:
     """What tests find beside a device of a kind, whose clock has a phase."""
-    world = World(kind())
+    world = World(kind(), links)
     world.due = phase
     return play(world, tests)
 
 
 @pytest.mark.parametrize("kind", KINDS, ids=[it.__name__ for it in KINDS])
 def test_a_right_device_of_another_kind_fails_nothing(kind: Type[Device]) -> None:
-    results = found_by(kind, [it for it in TESTS if it.id != "PT-07"])
+    results = found_by(kind, [it for it in TESTS if it.id != "PT-07"], links=3)
     assert not [f"{it.test.id} {it.verdict}: {it.why}" for it in results if it.verdict in (FAIL, INCONCLUSIVE)]
 
 

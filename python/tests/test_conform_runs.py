@@ -13,12 +13,12 @@ from contextlib import ExitStack
 from dataclasses import replace
 from pathlib import Path
 from textwrap import dedent, indent
-from typing import Iterable, Iterator, Sequence, Type
+from typing import Iterable, Iterator, Optional, Sequence, Type
 
 import pytest
 from conform_device import Device, World, beside, put
 from conform_faults import CutOff, DataTwice, KeyUnchecked, PartnerLength, RestartsOnChange, SecondFallsSilent, SecondPartnerKey, WrongEcho
-from conform_frames import OtherId, VersionChecked
+from conform_frames import BadLengths, OtherId, Responds, VersionChecked
 from conform_machines import NoNtt
 
 from lagconform import causes, child, command, floods, matrix, memory, page, report
@@ -395,6 +395,39 @@ def test_the_cause_is_the_fault(bench, kind: Type[Device], root: str, others: li
     run_all(b, ordered(BY_NAME[it] for it in [root, *others]), results.append)
     found = causes.grouped(results)
     assert [it.name for it in found] == [root] and [it.test.id for it in found[0].explains] == others
+
+
+class EchoesLength(OtherId):
+    """Answers a marker of length 15 by the same length."""
+
+    def took(self, port: int, frame: bytes) -> None:
+        if frame[15:18] == b"\1\1\x0f" and (response := self.says_back(frame, frame[:16] + b"\2" + frame[17:])):
+            self.send(port, response)
+
+
+class EchoesLengthRight(EchoesLength):
+    """The rest of its responses is right."""
+
+    def says_back(self, marker: bytes, response: bytes) -> Optional[bytes]:
+        return response
+
+
+class LengthAlone(Responds):
+    """Its responses have length 15."""
+
+    def says_back(self, marker: bytes, response: bytes) -> Optional[bytes]:
+        return put(response, 3, b"\x0f")
+
+
+def test_an_echo_of_a_wrong_marker_is_told_and_no_cause_of_its_own(bench) -> None:  # type: ignore[no-untyped-def]
+    for kind, roots in (EchoesLengthRight, []), (EchoesLength, ["MK-02"]), (LengthAlone, ["MK-01"]), (BadLengths, ["IV-03"]):
+        b, results = bench(kind), list[Result]()
+        meet(b)
+        run_all(b, [BY_NAME[it] for it in ("MK-01", "MK-02", "MK-09", "IV-03")], results.append)
+        whole = results[-1]
+        assert [it.name for it in causes.grouped(results)] == roots and (whole.verdict == FAIL) == bool(roots), (kind, whole.why)
+        echoes = [it for it in whole.notes if re.fullmatch("1 response to wrong markers of the bench may be as wrong: packet [0-9]+: .*octet 3 is 15", it)]
+        assert len(echoes) == (kind is EchoesLengthRight), whole.notes
 
 
 def test_what_a_device_tells_wrong_on_one_link_is_told_with_the_link(bench) -> None:  # type: ignore[no-untyped-def]

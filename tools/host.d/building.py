@@ -30,7 +30,7 @@ class Order(NamedTuple):
 
 
 class Host(NamedTuple):
-    """A host: its source package, whether Debian's packaging is a must, and what is done."""
+    """A host: its source package, whether it is built with Debian's packaging, and what is done."""
 
     source: str
     wants_packaging: bool

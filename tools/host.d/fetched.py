@@ -88,7 +88,7 @@ class Sources:
         for it in [version] if version else (self.versions(name) if self.may_fetch else newest_first(known)):
             source = self.files(name, it)
             if source.original and (source.described or not wants_packaging):
-                say(f"{name} {it}: " + ("with Debian's packaging" if source.described else "the archive of its authors; Debian's packaging is not to be had"))
+                say(f"{name} {it}: " + ("with Debian's packaging" if wants_packaging else "the archive of its authors, without patches of a package"))
                 return source
             missing.append(it)
         listed = f" (listed: {', '.join(missing)})" if missing else ""

@@ -45,21 +45,31 @@ def in_sync(b: Bench) -> None:
     b.claim(not wrong, f"{len(wrong)} of {len(found)} LACPDUs tell Distributing for a partner out of sync; has to be none", *wrong[:4], bears=SURE)
 
 
+def is_marker(frame: Frame) -> bool:
+    """Whether a frame has the subtype of Marker PDUs."""
+    return frame.octets[12:15] == SLOW + b"\2"
+
+
 @group.test("03", "6.4.2, 6.5.3", "The proved codec reads each LACPDU and Marker PDU", "look at all LACPDUs and Marker PDUs of the device: subtypes 1 and 2",
-            rule="niwhopera.decode refuses none; TLV types as they have to be; 124 octets", takes=0.1)  # fmt: skip
+            rule="niwhopera.decode refuses none but echoes of markers that the bench sent wrong, which are told; TLV types as they have to be; "
+            "124 octets or more", takes=0.1)  # fmt: skip
 def whole(b: Bench) -> None:
-    """Each LACPDU and Marker PDU of the whole run has the right shape. Other Slow Protocols, as OAM and ESMC, are not looked at."""
+    """Each LACPDU and Marker PDU of the whole run has the right shape. The response to a marker that the bench sent wrong (MK-08, MK-09) may be as wrong.
+    Other Slow Protocols, as OAM and ESMC, are not looked at."""
     slow = [it for it in b.frames if not it.out and is_of_lag(it.octets)]
-    sent = {it.octets[17:30] for it in b.frames if it.out and it.octets[12:15] == SLOW + b"\2"}  # whose response may be as wrong
 
     def is_whole(it: Frame) -> bool:
         types = (16, 36, 56) if it.lacpdu else ()
         right = all(it.octets[at : at + 1] == bytes([number]) for number, at in enumerate(types, 1))
         return it.pdu is not None and right and len(it.octets) >= 124
 
-    wrong = [it for it in slow if not is_whole(it) and it.octets[17:30] not in sent]
+    sent = {it.octets[17:30] for it in b.frames if it.out and is_marker(it) and not is_whole(it)}
+    echoes = [it for it in slow if not is_whole(it) and it.octets[17:30] in sent]
+    wrong = [it for it in slow if not is_whole(it) and it not in echoes]
     text = f"{len(wrong)} of {len(slow)} frames are something else{f': {wrong[0].fault}' if wrong else ''}; has to be none"
-    b.claim(not wrong, text, *wrong[:4], bears=SURE)
+    b.claim(not wrong, text, *wrong[:4], bears=SURE, causes=("MK-02", "MK-01", "MK-09") if all(map(is_marker, wrong)) else ())
+    if echoes:
+        b.note(f"{number_of(len(echoes), 'response')} to wrong markers of the bench may be as wrong: packet {echoes[0].number}: {echoes[0].fault}")
 
 
 @group.test("04", "6.4.9 (recordPDU)", "The partner that it tells is one that it was told", "look at all LACPDUs of the run whose partner is one of our systems",

@@ -241,7 +241,8 @@ def another_hash(programs: Programs) -> None:
 
 
 def hand_over(programs: Programs, name: str, more: Sequence[str] = (), queues: int = 1) -> None:
-    """The daemon of one way hands over under a manager, and is killed: the sending end, twice, and the receiving one."""
+    """The daemon of one way hands over under a manager, and is killed: the sending end, twice, and the receiving one. A peer whose partner waited so
+    long for a processor that its LACPDU came too late may see it; then a line says so, and order alone is looked at."""
     for space, end, events in (OURS, "sends", ("handed over", "handed over again", "killed")), (THEIRS, "receives", ("handed over", "killed")):
         with managed(programs, [*WAYS[name], *more], space=space, queues=queues) as (kept, peer):
             before = seen(peer), device_number(space)
@@ -249,6 +250,12 @@ def hand_over(programs: Programs, name: str, more: Sequence[str] = (), queues: i
                 signals = (signal.SIGKILL, RESTARTS) if event == "killed" else (signal.SIGUSR1, 0.0)
                 outcome = flows_through(programs, partial(kept.again, *signals))
                 what, most = f"{name}, the end that {end} is {event}", IN_HAND if event == "killed" else 0
+                if (seen(peer), device_number(space)) != before and outcome.waited >= LATE:
+                    check_order(outcome, what, kept.text(), kept.printed()[-3000:])
+                    print(f"inconclusive: {what}: the peer saw it; {late(outcome)}", flush=True)
+                    wait_for_links(kept, peer)
+                    before = seen(peer), device_number(space)
+                    continue
                 check_unseen(what, kept, peer, before, outcome)
                 check_lost(outcome, most, what, kept)
 
