@@ -1,6 +1,6 @@
 /* A chip that spreads frames over 256 hash buckets, each with a row that names a port, by rows.h: one aggregator for the LAG, in which a port that hears nobody
- * is held. A port leaves, a cable is pulled, and one falls silent; each comes back, and gets its share of the rows. Two such switches are joined by a cable at
- * each port, and their chips are played here. Each row sends a frame a tick, on cables of unlike delay: none of a bucket may come late or twice. */
+ * is held. A port leaves, a cable is pulled, and one falls silent; each comes back, and gets its share of the rows. A chip is reset, and writes to both fail.
+ * Two such switches are joined by a cable at each port, and their chips are played here. Each row sends a frame a tick, on cables of unlike delay: none of a bucket may come late or twice. */
 #include <stdio.h>
 
 #define PORTS 4
@@ -10,7 +10,7 @@
 
 #include "rows.h"
 
-_Static_assert(sizeof(struct rows) == 2308 + 1028 * LAGS + 4 * PORTS, "docs/FIRMWARE.md tells this size");
+_Static_assert(sizeof(struct rows) == 2312 + 1028 * LAGS + 4 * PORTS, "docs/FIRMWARE.md tells this size");
 
 struct packet {
     uint32_t arrives;
@@ -36,8 +36,8 @@ struct box {
 
 static struct box one, two;
 static const uint32_t DELAYS[PORTS] = {1, 3, 1, 4};
-static uint32_t now, silent;
-static unsigned late, twice, markers;
+static uint32_t now, silent, chance = 1;
+static unsigned late, twice, markers, fails; /* `fails`: of 1,000 writes to a chip */
 
 static struct box *box_of(const struct loop *loop) {
     return loop == &one.loop ? &one : &two;
@@ -45,6 +45,18 @@ static struct box *box_of(const struct loop *loop) {
 
 static struct rows *rows_of(struct loop *here) {
     return &box_of(here)->rows;
+}
+
+/* A number below 1,000, the same on each processor. */
+static unsigned drawn(void) {
+    chance = chance * UINT32_C(1664525) + UINT32_C(1013904223);
+    return (chance >> 16) % 1000;
+}
+
+/* Whether a write reaches the chip. */
+static bool writes(struct box *box) {
+    box->loop.failed = box->loop.failed || drawn() < fails;
+    return !box->loop.failed;
 }
 
 /* Puts a packet on the cable of a port; data and control frames take one queue, so a marker is behind the data. */
@@ -73,17 +85,17 @@ static void chip_send(struct loop *here, uint16_t port, const uint8_t *frame, si
 
 static void chip_block(struct loop *here, uint32_t ports, bool blocked) {
     struct box *box = box_of(here);
-    box->blocked = blocked ? box->blocked | ports : box->blocked & ~ports;
+    if (writes(box)) box->blocked = blocked ? box->blocked | ports : box->blocked & ~ports;
 }
 
 static void chip_set_trunk(struct loop *here, uint16_t lag, uint32_t ports) {
     (void)lag;
-    box_of(here)->trunk = ports;
+    if (writes(box_of(here))) box_of(here)->trunk = ports;
 }
 
 static void chip_set_row(struct loop *here, uint16_t lag, uint16_t row, uint16_t port) {
     (void)lag;
-    box_of(here)->row[row] = port;
+    if (writes(box_of(here))) box_of(here)->row[row] = port;
 }
 
 static void chip_flush(struct loop *here, uint16_t lag) {
@@ -115,7 +127,7 @@ static void arrive(struct box *box) {
 
 static void forward(struct box *box) {
     for (uint16_t row = 0; row < ROWS; row++)
-        if (box->row[row] != 0) put(box, box->row[row], (struct packet){.is_data = true, .row = row, .serial = ++box->sent[row]});
+        if (box->row[row] != 0 && !(box->blocked & bit_of(box->row[row]))) put(box, box->row[row], (struct packet){.is_data = true, .row = row, .serial = ++box->sent[row]});
 }
 
 static void run(unsigned ticks) {
@@ -155,6 +167,34 @@ static void show(const char *what) {
     printf("%s: rows of ports 1 to 4: %u %u %u %u; clear: %u\n", what, counts[1], counts[2], counts[3], counts[4], counts[0]);
 }
 
+/* The chip of the first one loses all that it was told. */
+static void reset(void) {
+    one.trunk = one.blocked = 0;
+    memset(one.row, 0, sizeof one.row);
+    chip_again(&one.loop);
+}
+
+/* Links go and come, and ports leave and join, while writes to both chips fail. */
+static void mix(unsigned times) {
+    for (unsigned i = 0; i < times; i++) {
+        struct loop *loop = drawn() % 2 ? &one.loop : &two.loop;
+        uint16_t port = (uint16_t)(1 + drawn() % PORTS);
+        unsigned what = drawn() % 4;
+        fails = i % 20;
+        if (what == 0) set_links(port, false);
+        if (what == 1) set_links(port, true);
+        if (what == 2) leave(loop, port);
+        if (what == 3) join(loop, port, 1);
+        run(drawn() % 50);
+    }
+    fails = 0;
+    for (uint16_t port = 1; port <= PORTS; port++) {
+        set_links(port, true);
+        join(&one.loop, port, 1);
+        join(&two.loop, port, 1);
+    }
+}
+
 int main(void) {
 #ifdef NIW_POOL
     static _Alignas(16) uint8_t room[2 * NIW_MEMORY(PORTS, LAGS, ROWS)];
@@ -188,6 +228,11 @@ int main(void) {
     silent = 0;
     run(350);
     show("it carries again");
+    reset();
+    show("the chip is reset");
+    mix(1000);
+    run(100);
+    show("writes to both chips failed");
     printf("markers: %u; frames of a bucket that came late: %u, twice: %u\n", markers, late, twice);
     niw_free(&one.loop.system);
     niw_free(&two.loop.system);
