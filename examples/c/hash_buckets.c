@@ -1,6 +1,6 @@
 /* A chip that spreads frames over 256 hash buckets, each with a row that names a port, by rows.h: one aggregator for the LAG, in which a port that hears nobody
- * is held. A port leaves, a cable is pulled, and one falls silent; each comes back, and gets its share of the rows. A chip is reset, and writes to both fail.
- * Two such switches are joined by a cable at each port, and their chips are played here. Each row sends a frame a tick, on cables of unlike delay: none of a bucket may come late or twice. */
+ * is held. A port leaves, a cable is pulled, and one falls silent; each comes back, and gets its share of the rows. A chip is reset, writes to both fail, and
+ * the firmware of one starts again, warm, while rows move. Two such switches are joined by a cable at each port, and their chips are played here. Each row sends a frame a tick, on cables of unlike delay: none of a bucket may come late or twice. */
 #include <stdio.h>
 
 #define PORTS 4
@@ -24,7 +24,9 @@ struct packet {
 /* A switch, and the cables that lead to it. */
 struct box {
     struct loop loop;
-    struct rows rows;
+    struct kept kept;
+    struct rows rows; /* which a reset of the processor leaves alone, as `kept` */
+    uint8_t number;
     uint32_t trunk, blocked;
     uint16_t row[ROWS]; /* of the chip */
     uint32_t sent[ROWS], collected[ROWS];
@@ -34,7 +36,7 @@ struct box {
     unsigned next, waiting;
 };
 
-static struct box one, two;
+static struct box one = {.number = 1}, two = {.number = 2};
 static const uint32_t DELAYS[PORTS] = {1, 3, 1, 4};
 static uint32_t now, silent, chance = 1;
 static unsigned late, twice, markers, fails; /* `fails`: of 1,000 writes to a chip */
@@ -103,7 +105,7 @@ static void chip_flush(struct loop *here, uint16_t lag) {
 }
 
 static void heard(struct loop *here, uint16_t port, const uint8_t *frame, size_t length, uint32_t what) {
-    (void)here, (void)port, (void)frame, (void)length, (void)what;
+    keep_lacpdu(&box_of(here)->kept, here, port, frame, length, what);
 }
 
 /* The chip collects data of the ports of the trunk. */
@@ -136,18 +138,21 @@ static void run(unsigned ticks) {
         now++;
         for (unsigned i = 0; i < 2; i++) {
             arrive(boxes[i]);
-            turn(&boxes[i]->loop, 1);
+            if (boxes[i]->loop.system.live) turn(&boxes[i]->loop, 1);
             forward(boxes[i]);
         }
     }
 }
 
-static bool make(struct box *box, uint8_t number) {
-    struct niw_config config = {.priority = 32768, .mac = {2, 0, 0, 0, 0, number}, .first_marker = 1, .conversations = ROWS};
-    struct niw_port ports[PORTS];
-    for (uint16_t i = 0; i < PORTS; i++)
-        ports[i] = (struct niw_port){(uint16_t)(i + 1), 128, {2, 0, 0, 0, (uint8_t)(i + 1), number}, 0, true, true, true};
-    if (begin(&box->loop, &config, ports) != NIW_OK) return false;
+static struct niw_config config_of(const struct box *box) {
+    return (struct niw_config){.priority = 32768, .mac = {2, 0, 0, 0, 0, box->number}, .first_marker = 1, .conversations = ROWS};
+}
+
+static bool make(struct box *box) {
+    struct niw_config config = config_of(box);
+    for (uint16_t port = 1; port <= PORTS; port++)
+        box->kept.ports[port - 1] = (struct niw_port){port, 128, {2, 0, 0, 0, (uint8_t)port, box->number}, 0, true, true, true};
+    if (begin(&box->loop, &config, box->kept.ports) != NIW_OK) return false;
     for (uint16_t port = 1; port <= PORTS; port++) {
         join(&box->loop, port, 1);
         set_link(&box->loop, port, true);
@@ -174,25 +179,58 @@ static void reset(void) {
     chip_again(&one.loop);
 }
 
-/* Links go and come, and ports leave and join, while writes to both chips fail. */
-static void mix(unsigned times) {
-    for (unsigned i = 0; i < times; i++) {
-        struct loop *loop = drawn() % 2 ? &one.loop : &two.loop;
-        uint16_t port = (uint16_t)(1 + drawn() % PORTS);
-        unsigned what = drawn() % 4;
-        fails = i % 20;
-        if (what == 0) set_links(port, false);
-        if (what == 1) set_links(port, true);
-        if (what == 2) leave(loop, port);
-        if (what == 3) join(loop, port, 1);
-        run(drawn() % 50);
-    }
-    fails = 0;
+/* A port of the first one leaves or joins, or a cable is pulled, or put in. */
+static void change(void) {
+    uint16_t port = (uint16_t)(1 + drawn() % PORTS);
+    unsigned what = drawn() % 4;
+    if (what < 2) set_links(port, what == 1);
+    else if (what == 2) leave(&one.loop, port);
+    else join(&one.loop, port, 1);
+}
+
+static void put_back(void) {
     for (uint16_t port = 1; port <= PORTS; port++) {
         set_links(port, true);
         join(&one.loop, port, 1);
-        join(&two.loop, port, 1);
     }
+    run(300);
+}
+
+static void show_failing(void) {
+    for (unsigned times = 0; times < 1000; times++) {
+        fails = times % 20;
+        change();
+        run(drawn() % 50);
+    }
+    fails = 0;
+    put_back();
+    show("up to 19 of 1,000 writes failed at both ends, in 1,000 changes");
+}
+
+static bool is_moving(void) {
+    bool is = false;
+    for (unsigned row = 0; row < ROWS; row++) is = is || one.row[row] == 0;
+    return is;
+}
+
+/* The firmware of the first one starts again while its chip forwards, behind each change: at once, or when rows move. */
+static void show_restarts(void) {
+    unsigned went = 0, moving = 0;
+    for (unsigned times = 0; times < 1000; times++) {
+        change();
+        for (unsigned ticks = drawn() % 100; ticks > 0 && !is_moving(); ticks--) run(1);
+        moving += is_moving();
+        keep(&one.kept, &one.loop);
+        niw_free(&one.loop.system);
+        uint32_t away = 1 + drawn() % 3;
+        run(away);
+        went += resume(&one.loop, &one.kept, away, config_of(&one)) == NIW_OK;
+        if (!one.loop.system.live) make(&one);
+        run(drawn() % 100);
+    }
+    put_back();
+    printf("%u of 1,000 warm starts went well, %u of them while rows moved\n", went, moving);
+    show("all ports join");
 }
 
 int main(void) {
@@ -201,7 +239,7 @@ int main(void) {
     niw_give_memory(room, sizeof room);
 #endif
     silent = bit_of(4);
-    if (!make(&one, 1) || !make(&two, 2)) return 1;
+    if (!make(&one) || !make(&two)) return 1;
     run(100);
     show("port 4 hears nobody");
     silent = 0;
@@ -230,9 +268,8 @@ int main(void) {
     show("it carries again");
     reset();
     show("the chip is reset");
-    mix(1000);
-    run(100);
-    show("writes to both chips failed");
+    show_failing();
+    show_restarts();
     printf("markers: %u; frames of a bucket that came late: %u, twice: %u\n", markers, late, twice);
     niw_free(&one.loop.system);
     niw_free(&two.loop.system);

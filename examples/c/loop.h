@@ -123,7 +123,7 @@ static void chip_again(struct loop *here) {
         chip_flush(here, lag);
     }
     forget_rows(here);
-    chip_block(here, all & here->alone, false);
+    if (here->alone) chip_block(here, all & here->alone, false);
     settle(here);
 }
 
@@ -227,13 +227,74 @@ static inline const char *why_out(struct loop *here, uint16_t port) {
  * should not forward until the ports joined. `here` is all zero before, but for `keys`, or its system was freed: one that has a system keeps it, and the
  * answer is NIW_HAS_SYSTEM. A call that is refused tells the chip nothing. */
 static inline uint32_t begin(struct loop *here, const struct niw_config *config, const struct niw_port *ports) {
+    const uint32_t all = UINT32_MAX >> (32 - PORTS);
     uint16_t keys[LAGS];
     if (here->system.live) return NIW_HAS_SYSTEM;
     for (uint16_t lag = 1; lag <= LAGS; lag++) keys[lag - 1] = key_of(here, lag);
-    *here = (struct loop){.system = NIW_EMPTY, .alone = UINT32_MAX, .keys = here->keys, .ticks = SECOND};
+    *here = (struct loop){.system = NIW_EMPTY, .keys = here->keys, .ticks = SECOND};
     uint32_t status = niw_new(&here->system, config, keys, LAGS, ports, PORTS).status;
-    if (status == NIW_OK) chip_again(here);
-    return status;
+    if (status != NIW_OK) return status;
+    chip_again(here);
+    here->alone = UINT32_MAX;
+    chip_block(here, all, false);
+    return NIW_OK;
+}
+
+/* What a warm start wants, in memory that a reset leaves alone, or in flash; with rows `struct rows`, too. */
+struct kept {
+    struct loop loop;
+    uint32_t next_marker;
+    struct niw_port ports[PORTS]; /* number and address are those that `begin` took */
+    struct niw_saved last[PORTS]; /* the last LACPDU of each port; `age` is the tick at which it came */
+};
+
+/* For `heard`. */
+static inline void keep_lacpdu(struct kept *kept, const struct loop *here, uint16_t port, const uint8_t *frame, size_t length, uint32_t what) {
+    struct niw_saved *last = &kept->last[port - 1];
+    if (what != NIW_RECEIVED_TOOK_LACPDU) return;
+    last->port = port, last->age = here->ticks;
+    for (size_t i = 0; i < length && i < NIW_FRAME; i++) last->frame[i] = frame[i];
+}
+
+/* Before a planned restart; behind each turn, where a crash is to be one. What `join` and niw_set_mode gave a port the library knows, and which ports carry,
+ * with a partner, in which aggregator. */
+static inline void keep(struct kept *kept, struct loop *here) {
+    for (uint16_t port = 1; port <= PORTS; port++) {
+        struct niw_actor own = niw_party(&here->system, port);
+        uint64_t state = niw_state(&here->system, port).number;
+        bool carries = niw_distributes(&here->system, port).is && !niw_defaulted(&here->system, port).is;
+        struct niw_port *its = &kept->ports[port - 1];
+        its->priority = own.port_priority, its->key = own.key, its->aggregatable = own.aggregatable;
+        its->active = state & NIW_STATE_ACTIVITY, its->short_timeout = state & NIW_STATE_TIMEOUT;
+        kept->last[port - 1].aggregator = carries ? (uint16_t)niw_choice(&here->system, port).number : 0;
+    }
+    kept->loop = *here;
+    kept->next_marker = niw_next_marker(&here->system).id;
+}
+
+/* In the place of `begin`: what was kept `away` ticks ago goes on, and the chip is not written. Ports that did not carry begin anew. If refused, begin. */
+static inline uint32_t resume(struct loop *here, const struct kept *kept, uint32_t away, struct niw_config config) {
+    struct niw_saved saved[PORTS];
+    uint16_t keys[LAGS];
+    size_t count = 0;
+    *here = kept->loop;
+    here->system = (struct niw_system)NIW_EMPTY;
+    here->held = 0;
+    here->ticks += away;
+    config.first_marker = kept->next_marker;
+    for (uint16_t lag = 1; lag <= LAGS; lag++) keys[lag - 1] = key_of(here, lag);
+    for (uint16_t port = 1; port <= PORTS; port++) {
+        if (kept->last[port - 1].aggregator == 0) continue;
+        saved[count] = kept->last[port - 1];
+        saved[count++].age = here->ticks - kept->last[port - 1].age;
+    }
+    uint32_t status = niw_resume(&here->system, &config, keys, LAGS, kept->ports, PORTS, saved, count).status;
+    if (status != NIW_OK) return status;
+    adopt_rows(here);
+    for (uint16_t port = 1; port <= PORTS; port++)
+        if (here->up & ~here->alone & bit_of(port) && !niw_is_up(&here->system, port).is) niw_set_link(&here->system, port, true);
+    settle(here);
+    return NIW_OK;
 }
 
 #endif

@@ -19,14 +19,6 @@
 
 struct trapped { size_t length; uint8_t octets[NIW_FRAME]; };
 
-/* What a reset of the processor keeps, or what flash has: the last LACPDU of each port, with the tick at which it came, and the loop as it was told last. */
-struct kept {
-    struct niw_saved last[PORTS];
-    struct niw_port ports[PORTS];
-    struct loop loop;
-    uint32_t next_marker;
-};
-
 struct box {
     struct loop loop;
     struct kept kept;
@@ -48,7 +40,7 @@ struct box {
     uint16_t lent; /* the port whose oldest frame the loop reads, or 0 */
 };
 
-static struct box one = {.number = 1}, two = {.number = 2};
+static struct box one = {.number = 1}, two = {.number = 2, .loop.keys = 10};
 static uint32_t silent, chance = 1;
 
 static struct box *box_of(const struct loop *loop) {
@@ -156,82 +148,25 @@ static bool has_rows(const struct box *box) { return (void)box, true; }
 /* Counts the frame, and keeps the last LACPDU. */
 static void heard(struct loop *here, uint16_t port, const uint8_t *frame, size_t length, uint32_t what) {
     struct box *box = box_of(here);
-    struct niw_saved *last = &box->kept.last[port - 1];
     niw_count_received(&box->counters[port - 1], frame, length, what);
-    if (what != NIW_RECEIVED_TOOK_LACPDU) return;
-    *last = (struct niw_saved){.port = port, .age = here->ticks};
-    memcpy(last->frame, frame, length < NIW_FRAME ? length : NIW_FRAME);
+    keep_lacpdu(&box->kept, here, port, frame, length, what);
 }
 
 static struct niw_config config_of(const struct box *box) {
     return (struct niw_config){.priority = 32768, .mac = {2, 0, 0, 0, 0, box->number}, .first_marker = 1, .conversations = NIW_FEW_CONVERSATIONS};
 }
 
-static struct niw_port port_of(const struct box *box, uint16_t port) {
-    return (struct niw_port){port, 128, {2, 0, 0, 0, (uint8_t)port, box->number}, 0, true, true, true};
-}
-
 /* A start of the firmware from nothing: its ports join their LAGs, and their links are up. */
 static uint32_t start(struct box *box) {
     struct niw_config config = config_of(box);
-    struct niw_port ports[PORTS];
-    for (uint16_t port = 1; port <= PORTS; port++) ports[port - 1] = port_of(box, port);
+    for (uint16_t port = 1; port <= PORTS; port++)
+        box->kept.ports[port - 1] = (struct niw_port){port, 128, {2, 0, 0, 0, (uint8_t)port, box->number}, 0, true, true, true};
     box->forwards = false;
-    uint32_t status = begin(&box->loop, &config, ports);
+    uint32_t status = begin(&box->loop, &config, box->kept.ports);
     if (status != NIW_OK) return status;
     for (uint16_t port = 1; port <= PORTS; port++) join(&box->loop, port, bit_of(port) & FIRST ? 1 : 2);
     for (uint16_t port = 1; port <= PORTS; port++) set_link(&box->loop, port, true);
     box->forwards = true;
-    return NIW_OK;
-}
-
-/* Notes what a warm start wants, before a planned restart; behind each turn, where a crash is to be one. What `join` and niw_set_mode gave a port the library
- * knows, and which ports carry, with a partner, in which aggregator. */
-static void keep(struct box *box) {
-    struct niw_system *system = &box->loop.system;
-    for (uint16_t port = 1; port <= PORTS; port++) {
-        struct niw_actor own = niw_party(system, port);
-        uint64_t state = niw_state(system, port).number;
-        bool carries = niw_distributes(system, port).is && !niw_defaulted(system, port).is;
-        struct niw_port *kept = &box->kept.ports[port - 1];
-        *kept = port_of(box, port);
-        kept->priority = own.port_priority, kept->key = own.key, kept->aggregatable = own.aggregatable;
-        kept->active = state & NIW_STATE_ACTIVITY, kept->short_timeout = state & NIW_STATE_TIMEOUT;
-        box->kept.last[port - 1].aggregator = carries ? (uint16_t)niw_choice(system, port).number : 0;
-    }
-    box->kept.loop = box->loop;
-    box->kept.next_marker = niw_next_marker(system).id;
-}
-
-/* Another start: what was kept `away` ticks ago goes on, and the chip is not written. Ports that did not carry begin anew. If refused, start from nothing. */
-static uint32_t resume(struct box *box, uint32_t away) {
-    const struct loop *old = &box->kept.loop;
-    struct loop *here = &box->loop;
-    struct niw_config config = config_of(box);
-    struct niw_saved saved[PORTS];
-    uint16_t keys[LAGS];
-    size_t count = 0;
-    config.first_marker = box->kept.next_marker;
-    for (uint16_t lag = 1; lag <= LAGS; lag++) keys[lag - 1] = key_of(old, lag);
-    for (uint16_t port = 1; port <= PORTS; port++) {
-        const struct niw_saved *last = &box->kept.last[port - 1];
-        if (last->aggregator == 0) continue;
-        saved[count] = *last;
-        saved[count++].age = old->ticks - last->age + away;
-    }
-    *here = *old;
-    here->system = (struct niw_system)NIW_EMPTY, here->held = 0, here->ticks = SECOND;
-    memset(here->responses, 0, sizeof here->responses);
-    for (uint16_t port = 1; port <= PORTS; port++) {
-        here->left[port] = here->ticks;
-        box->kept.last[port - 1].age = here->ticks - (old->ticks - box->kept.last[port - 1].age + away);
-    }
-    uint32_t status = niw_resume(&here->system, &config, keys, LAGS, box->kept.ports, PORTS, saved, count).status;
-    if (status != NIW_OK) return status;
-    adopt_rows(here);
-    for (uint16_t port = 1; port <= PORTS; port++)
-        if (here->up & ~here->alone & bit_of(port) && !niw_is_up(&here->system, port).is) niw_set_link(&here->system, port, true);
-    settle(here);
     return NIW_OK;
 }
 
@@ -343,7 +278,7 @@ static void show_restart(bool warm, uint32_t away) {
     unsigned empty = 0;
     silent = bit_of(8);
     run(100, ALL & ~silent);
-    keep(&one);
+    keep(&one.kept, &one.loop);
     niw_free(&one.loop.system);
     memset(one.waiting, 0, sizeof one.waiting);
     one.lent = 0;
@@ -352,7 +287,7 @@ static void show_restart(bool warm, uint32_t away) {
         empty += !carry(ALL & ~silent);
     }
     unsigned before = one.writes;
-    uint32_t status = warm ? resume(&one, away) : start(&one);
+    uint32_t status = warm ? resume(&one.loop, &one.kept, away, config_of(&one)) : start(&one);
     printf("a %s start after %u ticks: %s, with %u writes to the chip", warm ? "warm" : "cold", (unsigned)away, niw_status_text(status), one.writes - before);
     if (status == NIW_STALE) start(&one);
     for (unsigned passed = 0; passed < 100; passed++) {
