@@ -2,7 +2,8 @@
  * of the trunk change, behind markers, if the peer answers them. A program includes this file in place of loop.h, and gives two functions more. One aggregator
  * a LAG will do, as there. hash_buckets.c is such a program, and so is restarts_rows.c.
  *
- * `chip_send` sends behind the data that rows sent on its port: it waits until each queue of the port is empty, or takes the same queue. */
+ * `chip_send` sends behind the data that rows sent on its port: it waits until each queue of the port is empty, or takes the same queue. Before `begin` the
+ * struct is all zero. */
 #ifndef ROWS_H
 #define ROWS_H
 
