@@ -81,7 +81,8 @@ static bool show(const char *what, uint16_t keys) {
         for (unsigned i = 0; i < 3; i++) turn(&boxes[i].loop, 1);
     printf("%s: trunks %x and %x, that of the peer %x\n", what, (unsigned)one->trunk, (unsigned)other->trunk, (unsigned)peer->trunk);
     printf("  of port 3: %s; at the peer: %s\n", why_out(&other->loop, 3), why_out(&peer->loop, 3));
-    printf("  the peer's ports 1 and 3 lead to the keys %u and %u\n", niw_partner(&peer->loop.system, 1).key, niw_partner(&peer->loop.system, 3).key);
+    printf("  ports 1 and 3 lead to the keys %u and %u", niw_partner(&one->loop.system, 1).key, niw_partner(&other->loop.system, 3).key);
+    printf(", and at the peer to %u and %u\n", niw_partner(&peer->loop.system, 1).key, niw_partner(&peer->loop.system, 3).key);
     for (unsigned i = 0; i < 3; i++) niw_free(&boxes[i].loop.system);
     return true;
 }
