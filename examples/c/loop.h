@@ -1,6 +1,6 @@
 /* The loop of a switch whose chip spreads frames by a hash of its own: LACP over lag.h, and nothing of a board. No conversation is offered and no marker
- * sent. A LAG has its number as key, and one aggregator, which has room for one partner. A program defines PORTS (32 at most) and LAGS, includes this file,
- * and gives the functions of its chip. One task calls what stands here, or each task that holds one lock; no interrupt does. pool.c and restarts.c are such
+ * sent. A LAG has one key, and one aggregator, which has room for one partner. A program defines PORTS (32 at most) and LAGS, includes this file, and gives
+ * the functions of its chip. One task calls what stands here, or each task that holds one lock; no interrupt does. pool.c and restarts.c are such
  * programs. A chip with a row for each conversation takes rows.h, which includes this file. */
 #ifndef LOOP_H
 #define LOOP_H
@@ -23,6 +23,8 @@ struct loop {
     uint32_t held;        /* the ports that niw_hold holds */
     uint32_t trunk[LAGS]; /* what the chip was told: bit 0 has data of port 1 taken and sent */
     uint32_t least[LAGS]; /* with fewer ports than these a LAG passes no data, and the peer goes on sending; set it behind `begin`, then `settle` */
+    uint16_t keys;        /* LAG 1 has the key behind this one, LAG 2 the next; set it before `begin`, other in each handle of one MAC address */
+    bool failed;          /* a write to the chip failed: the next turn with ticks tells it all anew, and no LACPDU goes out before */
     uint32_t ticks;
     uint32_t left[PORTS + 1]; /* the tick at which a port left */
     struct { uint32_t when[RESPONSES]; unsigned oldest; } responses[PORTS + 1];
@@ -30,7 +32,7 @@ struct loop {
 
 /* What the program gives. `chip_next`: the oldest frame to 01-80-C2-00-00-02 of subtype 1 or 2 (LACP, Marker) that waits, without its FCS and the tag of the
  * chip; or NULL. Its octets stay until the next `chip_next`. A port that is blocked passes control frames alone. `chip_flush` forgets what was learned on a
- * LAG. */
+ * LAG. A write to the chip that fails sets `failed`; while that is set nothing is written. */
 static const uint8_t *chip_next(struct loop *here, uint16_t *port, size_t *length);
 static void chip_send(struct loop *here, uint16_t port, const uint8_t *frame, size_t length);
 static void chip_block(struct loop *here, uint32_t ports, bool blocked);
@@ -40,16 +42,25 @@ static void chip_flush(struct loop *here, uint16_t lag);
 /* This, too: a frame was handed to the library, which answered `what`. For counts, a capture and a warm start; empty without these. */
 static void heard(struct loop *here, uint16_t port, const uint8_t *frame, size_t length, uint32_t what);
 
-/* By rows.h: clears the rows of the chip whose conversation is no longer on its port, and fills those that are clear. */
+/* By rows.h: clears the rows of the chip whose conversation is no longer on its port; fills those that are clear; clears all; has the library take those of a
+ * chip that went on. */
 static void clear_rows(struct loop *here);
 static void fill_rows(struct loop *here);
+static void forget_rows(struct loop *here);
+static inline void adopt_rows(struct loop *here);
 #ifndef HAS_ROWS
 static void clear_rows(struct loop *here) { (void)here; }
 static void fill_rows(struct loop *here) { (void)here; }
+static void forget_rows(struct loop *here) { (void)here; }
+static inline void adopt_rows(struct loop *here) { (void)here; }
 #endif
 
 static uint32_t bit_of(uint16_t port) {
     return UINT32_C(1) << (port - 1);
+}
+
+static uint16_t key_of(const struct loop *here, uint16_t lag) {
+    return (uint16_t)(here->keys + lag);
 }
 
 /* A port that hears nobody, whose link is down, that is of no LAG or of another speed is held, lest it keep the others out; one that hears nobody is let go
@@ -94,10 +105,26 @@ static void settle(struct loop *here) {
     hold_ports(here);
     clear_rows(here);
     tell_chip(here);
+    if (here->failed) return;
     uint64_t due = niw_due(&here->system).number;
     for (uint16_t port = 1; port <= PORTS; port++)
         if (due >> (port - 1) & 1 && niw_transmit(&here->system, port, frame, sizeof frame).is) chip_send(here, port, frame, sizeof frame);
     fill_rows(here);
+}
+
+/* Tells the chip all of it anew: once it was reset, and by `turn` where a write to it failed. */
+static void chip_again(struct loop *here) {
+    const uint32_t all = UINT32_MAX >> (32 - PORTS);
+    here->failed = false;
+    chip_block(here, all, true);
+    for (uint16_t lag = 1; lag <= LAGS; lag++) {
+        here->trunk[lag - 1] = 0;
+        chip_set_trunk(here, lag, 0);
+        chip_flush(here, lag);
+    }
+    forget_rows(here);
+    if (here->alone) chip_block(here, all & here->alone, false);
+    settle(here);
 }
 
 /* Whether the port has answered fewer than ten markers within a second; it notes this one, then. */
@@ -152,6 +179,7 @@ static inline bool turn(struct loop *here, uint32_t ticks) {
     for (; taken < FRAMES_TURN && (frame = chip_next(here, &port, &length)); taken++) take(here, port, frame, length);
     if (ticks > 1) pass(here, ticks);
     settle(here);
+    if (here->failed && ticks > 0) chip_again(here);
     return taken == FRAMES_TURN;
 }
 
@@ -163,7 +191,7 @@ static inline void set_link(struct loop *here, uint16_t port, bool up) {
 
 /* The user puts a port, from 1 to PORTS, into a LAG, from 1 to LAGS; it may be in another one. */
 static inline void join(struct loop *here, uint16_t port, uint16_t lag) {
-    struct niw_change change = {.key = lag, .priority = 128, .aggregatable = true};
+    struct niw_change change = {.key = key_of(here, lag), .priority = 128, .aggregatable = true};
     uint32_t bit = bit_of(port);
     if (here->alone & bit) chip_block(here, bit, true);
     here->alone &= ~bit;
@@ -196,23 +224,76 @@ static inline const char *why_out(struct loop *here, uint16_t port) {
 }
 
 /* Makes the system of these ports, which have no key of a LAG and are alone. Whatever the chip had before, it has empty trunks then, and blocks no port; it
- * should not forward until the ports joined. `here` is all zero before, or its system was freed: one that has a system keeps it, and the answer is
- * NIW_HAS_SYSTEM. A call that is refused tells the chip nothing. */
+ * should not forward until the ports joined. `here` is all zero before, but for `keys`, or its system was freed: one that has a system keeps it, and the
+ * answer is NIW_HAS_SYSTEM. A call that is refused tells the chip nothing. */
 static inline uint32_t begin(struct loop *here, const struct niw_config *config, const struct niw_port *ports) {
     const uint32_t all = UINT32_MAX >> (32 - PORTS);
     uint16_t keys[LAGS];
     if (here->system.live) return NIW_HAS_SYSTEM;
-    for (uint16_t lag = 1; lag <= LAGS; lag++) keys[lag - 1] = lag;
-    *here = (struct loop){.system = NIW_EMPTY, .ticks = SECOND};
+    for (uint16_t lag = 1; lag <= LAGS; lag++) keys[lag - 1] = key_of(here, lag);
+    *here = (struct loop){.system = NIW_EMPTY, .keys = here->keys, .ticks = SECOND};
     uint32_t status = niw_new(&here->system, config, keys, LAGS, ports, PORTS).status;
     if (status != NIW_OK) return status;
-    chip_block(here, all, true);
-    for (uint16_t lag = 1; lag <= LAGS; lag++) {
-        chip_set_trunk(here, lag, 0);
-        chip_flush(here, lag);
-    }
+    chip_again(here);
     here->alone = UINT32_MAX;
     chip_block(here, all, false);
+    return NIW_OK;
+}
+
+/* What a warm start wants, in memory that a reset leaves alone, or in flash; with rows `struct rows`, too. */
+struct kept {
+    struct loop loop;
+    uint32_t next_marker;
+    struct niw_port ports[PORTS]; /* number and address are those that `begin` took */
+    struct niw_saved last[PORTS]; /* the last LACPDU of each port; `age` is the tick at which it came */
+};
+
+/* For `heard`. */
+static inline void keep_lacpdu(struct kept *kept, const struct loop *here, uint16_t port, const uint8_t *frame, size_t length, uint32_t what) {
+    struct niw_saved *last = &kept->last[port - 1];
+    if (what != NIW_RECEIVED_TOOK_LACPDU) return;
+    last->port = port, last->age = here->ticks;
+    for (size_t i = 0; i < length && i < NIW_FRAME; i++) last->frame[i] = frame[i];
+}
+
+/* Before a planned restart; behind each turn, where a crash is to be one. What `join` and niw_set_mode gave a port the library knows, and which ports carry,
+ * with a partner, in which aggregator. */
+static inline void keep(struct kept *kept, struct loop *here) {
+    for (uint16_t port = 1; port <= PORTS; port++) {
+        struct niw_actor own = niw_party(&here->system, port);
+        uint64_t state = niw_state(&here->system, port).number;
+        bool carries = niw_distributes(&here->system, port).is && !niw_defaulted(&here->system, port).is;
+        struct niw_port *its = &kept->ports[port - 1];
+        its->priority = own.port_priority, its->key = own.key, its->aggregatable = own.aggregatable;
+        its->active = state & NIW_STATE_ACTIVITY, its->short_timeout = state & NIW_STATE_TIMEOUT;
+        kept->last[port - 1].aggregator = carries ? (uint16_t)niw_choice(&here->system, port).number : 0;
+    }
+    kept->loop = *here;
+    kept->next_marker = niw_next_marker(&here->system).id;
+}
+
+/* In the place of `begin`: what was kept `away` ticks ago goes on, and the chip is not written. Ports that did not carry begin anew. If refused, begin. */
+static inline uint32_t resume(struct loop *here, const struct kept *kept, uint32_t away, struct niw_config config) {
+    struct niw_saved saved[PORTS];
+    uint16_t keys[LAGS];
+    size_t count = 0;
+    *here = kept->loop;
+    here->system = (struct niw_system)NIW_EMPTY;
+    here->held = 0;
+    here->ticks += away;
+    config.first_marker = kept->next_marker;
+    for (uint16_t lag = 1; lag <= LAGS; lag++) keys[lag - 1] = key_of(here, lag);
+    for (uint16_t port = 1; port <= PORTS; port++) {
+        if (kept->last[port - 1].aggregator == 0) continue;
+        saved[count] = kept->last[port - 1];
+        saved[count++].age = here->ticks - kept->last[port - 1].age;
+    }
+    uint32_t status = niw_resume(&here->system, &config, keys, LAGS, kept->ports, PORTS, saved, count).status;
+    if (status != NIW_OK) return status;
+    adopt_rows(here);
+    for (uint16_t port = 1; port <= PORTS; port++)
+        if (here->up & ~here->alone & bit_of(port) && !niw_is_up(&here->system, port).is) niw_set_link(&here->system, port, true);
+    settle(here);
     return NIW_OK;
 }
 

@@ -15,7 +15,7 @@
 
 #include "loop.h"
 
-_Static_assert(sizeof(void *) != 4 || sizeof(struct loop) == 32 + 8 * LAGS + 48 * (PORTS + 1), "docs/FIRMWARE.md tells this size");
+_Static_assert(sizeof(void *) != 4 || sizeof(struct loop) == 36 + 8 * LAGS + 48 * (PORTS + 1), "docs/FIRMWARE.md tells this size");
 
 static _Alignas(16) uint8_t room[2 * NIW_MEMORY(PORTS, LAGS, ROWS)];
 

@@ -11,25 +11,25 @@
 #define FIRST UINT32_C(0x0f) /* the ports of LAG 1 */
 #define QUEUE 4              /* frames of a port that may wait */
 
+#ifdef WITH_ROWS
+#include "rows.h"
+#else
 #include "loop.h"
+#endif
 
 struct trapped { size_t length; uint8_t octets[NIW_FRAME]; };
-
-/* What a reset of the processor keeps, or what flash has: the last LACPDU of each port, with the tick at which it came, and the loop as it was told last. */
-struct kept {
-    struct niw_saved last[PORTS];
-    struct niw_port ports[PORTS];
-    struct loop loop;
-};
 
 struct box {
     struct loop loop;
     struct kept kept;
+#ifdef WITH_ROWS
+    struct rows rows; /* which the reset leaves alone, too */
+    uint16_t row[LAGS][ROWS];
+#endif
     uint8_t number;
     uint32_t trunk[LAGS], blocked; /* the registers of the chip, which stay while the firmware starts again */
     uint32_t by_itself;            /* the ports that the chip forwards on as on any port */
     bool forwards, dead;           /* `dead`: the chip is in its reset, and passes nothing */
-    bool failed;                   /* a write failed, and `chip_again` was not called since */
     bool strayed, lied;
     unsigned fails;  /* of 100 writes to the chip */
     unsigned writes; /* that reached it */
@@ -40,7 +40,7 @@ struct box {
     uint16_t lent; /* the port whose oldest frame the loop reads, or 0 */
 };
 
-static struct box one = {.number = 1}, two = {.number = 2};
+static struct box one = {.number = 1}, two = {.number = 2, .loop.keys = 10};
 static uint32_t silent, chance = 1;
 
 static struct box *box_of(const struct loop *loop) {
@@ -55,8 +55,8 @@ static unsigned drawn(void) {
 
 /* Whether a write reaches the chip. */
 static bool writes(struct box *box) {
-    bool goes = !box->failed && !box->dead && drawn() >= box->fails;
-    box->failed = box->failed || !goes;
+    bool goes = !box->loop.failed && !box->dead && drawn() >= box->fails;
+    box->loop.failed = box->loop.failed || !goes;
     box->writes += goes;
     return goes;
 }
@@ -81,12 +81,11 @@ static const uint8_t *chip_next(struct loop *here, uint16_t *port, size_t *lengt
     return NULL;
 }
 
-/* A chip whose registers are not what the loop has says nothing to the peer. */
 static void chip_send(struct loop *here, uint16_t port, const uint8_t *frame, size_t length) {
     struct box *box = box_of(here), *to = box == &one ? &two : &one;
     struct niw_pdu pdu;
     uint16_t at = (uint16_t)(port - 1);
-    if (box->failed || box->dead) return;
+    if (box->dead) return;
     niw_count_sent(&box->counters[at], frame, length);
     if (niw_decode(frame + 14, length - 14, &pdu).status == NIW_OK && pdu.subtype == NIW_SUBTYPE_LACPDU)
         box->lied = box->lied || (pdu.actor.state & (NIW_STATE_COLLECTING | NIW_STATE_DISTRIBUTING) && !(passes(box) & bit_of(port)));
@@ -112,44 +111,58 @@ static void chip_flush(struct loop *here, uint16_t lag) {
     (void)lag, (void)writes(box_of(here));
 }
 
+#ifdef WITH_ROWS
+static struct rows *rows_of(struct loop *here) {
+    return &box_of(here)->rows;
+}
+
+static void chip_set_row(struct loop *here, uint16_t lag, uint16_t row, uint16_t port) {
+    if (writes(box_of(here))) box_of(here)->row[lag - 1][row] = port;
+}
+
+/* The rows of a chip behind a reset. */
+static void lose_rows(struct box *box) {
+    memset(box->row, 0, sizeof box->row);
+}
+
+/* Whether the chip has the list of the loop, each row of each LAG names a port of its trunk, and each of these has its share. */
+static bool has_rows(const struct box *box) {
+    for (unsigned lag = 0; lag < LAGS; lag++) {
+        unsigned of[PORTS + 1] = {0}, ports = 0;
+        if (memcmp(box->row[lag], box->rows.port[lag], sizeof box->row[lag]) != 0) return false;
+        for (uint16_t row = 0; row < ROWS; row++) of[box->row[lag][row]]++;
+        for (uint16_t port = 1; port <= PORTS; port++) ports += (box->trunk[lag] & bit_of(port)) != 0;
+        for (uint16_t port = 1; port <= PORTS; port++) {
+            bool passes = box->trunk[lag] & bit_of(port);
+            if (passes ? of[port] < ROWS / ports || of[port] > ROWS / ports + 1 : of[port] > 0) return false;
+        }
+        if (ports && of[0]) return false;
+    }
+    return true;
+}
+#else
+static void lose_rows(struct box *box) { (void)box; }
+static bool has_rows(const struct box *box) { return (void)box, true; }
+#endif
+
 /* Counts the frame, and keeps the last LACPDU. */
 static void heard(struct loop *here, uint16_t port, const uint8_t *frame, size_t length, uint32_t what) {
     struct box *box = box_of(here);
-    struct niw_saved *last = &box->kept.last[port - 1];
     niw_count_received(&box->counters[port - 1], frame, length, what);
-    if (what != NIW_RECEIVED_TOOK_LACPDU) return;
-    *last = (struct niw_saved){.port = port, .age = here->ticks};
-    memcpy(last->frame, frame, length < NIW_FRAME ? length : NIW_FRAME);
-}
-
-/* Tells the chip all of it anew. */
-static void chip_again(struct loop *here) {
-    const uint32_t all = UINT32_MAX >> (32 - PORTS);
-    chip_block(here, all, true);
-    for (uint16_t lag = 1; lag <= LAGS; lag++) {
-        here->trunk[lag - 1] = 0;
-        chip_set_trunk(here, lag, 0);
-        chip_flush(here, lag);
-    }
-    chip_block(here, all & here->alone, false);
-    settle(here);
+    keep_lacpdu(&box->kept, here, port, frame, length, what);
 }
 
 static struct niw_config config_of(const struct box *box) {
     return (struct niw_config){.priority = 32768, .mac = {2, 0, 0, 0, 0, box->number}, .first_marker = 1, .conversations = NIW_FEW_CONVERSATIONS};
 }
 
-static struct niw_port port_of(const struct box *box, uint16_t port) {
-    return (struct niw_port){port, 128, {2, 0, 0, 0, (uint8_t)port, box->number}, 0, true, true, true};
-}
-
 /* A start of the firmware from nothing: its ports join their LAGs, and their links are up. */
 static uint32_t start(struct box *box) {
     struct niw_config config = config_of(box);
-    struct niw_port ports[PORTS];
-    for (uint16_t port = 1; port <= PORTS; port++) ports[port - 1] = port_of(box, port);
+    for (uint16_t port = 1; port <= PORTS; port++)
+        box->kept.ports[port - 1] = (struct niw_port){port, 128, {2, 0, 0, 0, (uint8_t)port, box->number}, 0, true, true, true};
     box->forwards = false;
-    uint32_t status = begin(&box->loop, &config, ports);
+    uint32_t status = begin(&box->loop, &config, box->kept.ports);
     if (status != NIW_OK) return status;
     for (uint16_t port = 1; port <= PORTS; port++) join(&box->loop, port, bit_of(port) & FIRST ? 1 : 2);
     for (uint16_t port = 1; port <= PORTS; port++) set_link(&box->loop, port, true);
@@ -157,75 +170,24 @@ static uint32_t start(struct box *box) {
     return NIW_OK;
 }
 
-/* Notes what a warm start wants, before a planned restart; behind each turn, where a crash is to be one. What `join` and niw_set_mode gave a port the library
- * knows, and which ports carry, with a partner, in which aggregator. */
-static void keep(struct box *box) {
-    struct niw_system *system = &box->loop.system;
-    for (uint16_t port = 1; port <= PORTS; port++) {
-        struct niw_actor own = niw_party(system, port);
-        uint64_t state = niw_state(system, port).number;
-        bool carries = niw_distributes(system, port).is && !niw_defaulted(system, port).is;
-        struct niw_port *kept = &box->kept.ports[port - 1];
-        *kept = port_of(box, port);
-        kept->priority = own.port_priority, kept->key = own.key, kept->aggregatable = own.aggregatable;
-        kept->active = state & NIW_STATE_ACTIVITY, kept->short_timeout = state & NIW_STATE_TIMEOUT;
-        box->kept.last[port - 1].aggregator = carries ? (uint16_t)niw_choice(system, port).number : 0;
-    }
-    box->kept.loop = box->loop;
-}
-
-/* Another start: what was kept `away` ticks ago goes on, and the chip is not written. Ports that did not carry begin anew. If refused, start from nothing. */
-static uint32_t resume(struct box *box, uint32_t away) {
-    const struct loop *old = &box->kept.loop;
-    struct loop *here = &box->loop;
-    struct niw_config config = config_of(box);
-    struct niw_saved saved[PORTS];
-    uint16_t keys[LAGS];
-    size_t count = 0;
-    for (uint16_t lag = 1; lag <= LAGS; lag++) keys[lag - 1] = lag;
-    for (uint16_t port = 1; port <= PORTS; port++) {
-        const struct niw_saved *last = &box->kept.last[port - 1];
-        if (last->aggregator == 0) continue;
-        saved[count] = *last;
-        saved[count++].age = old->ticks - last->age + away;
-    }
-    *here = (struct loop){.system = NIW_EMPTY, .ticks = SECOND, .up = old->up, .alone = old->alone, .leaving = old->leaving, .other_speed = old->other_speed};
-    memcpy(here->trunk, old->trunk, sizeof here->trunk);
-    memcpy(here->least, old->least, sizeof here->least);
-    for (uint16_t port = 1; port <= PORTS; port++) {
-        here->left[port] = here->ticks;
-        box->kept.last[port - 1].age = here->ticks - (old->ticks - box->kept.last[port - 1].age + away);
-    }
-    uint32_t status = niw_resume(&here->system, &config, keys, LAGS, box->kept.ports, PORTS, saved, count).status;
-    if (status != NIW_OK) return status;
-    for (uint16_t port = 1; port <= PORTS; port++)
-        if (here->up & ~here->alone & bit_of(port) && !niw_is_up(&here->system, port).is) niw_set_link(&here->system, port, true);
-    settle(here);
-    return NIW_OK;
-}
-
 /* Notes a port that passes data outside a trunk; one that was alone and joined does so until a write goes. */
 static void look(struct box *box) {
-    uint32_t may = box->trunk[0] | box->trunk[1] | box->loop.alone | (box->failed ? box->by_itself : 0);
+    uint32_t may = box->trunk[0] | box->trunk[1] | box->loop.alone | (box->loop.failed ? box->by_itself : 0);
     if (box->forwards && ALL & ~box->blocked & ~may) box->strayed = true;
 }
 
-/* A tick of one end: its task, and what it owes a chip whose write failed. */
+/* A tick of one end. */
 static void pass_one(struct box *box) {
     static struct niw_view views[NIW_MOST_PORTS];
     if (!box->loop.system.live) return; /* the firmware is away */
     turn(&box->loop, 1);
-    if (box->failed && !box->dead) {
-        box->failed = false;
-        chip_again(&box->loop);
-    }
     niw_views(&box->loop.system, views, NIW_MOST_PORTS);
     for (uint16_t i = 0; i < PORTS; i++) niw_churn_tick(&box->churn[i], views[i].up, views[i].state, views[i].partner_state);
     look(box);
 }
 
 static bool carry(uint32_t ports) {
-    return (passes(&one) & passes(&two)) == ports;
+    return (passes(&one) & passes(&two)) == ports && has_rows(&one) && has_rows(&two);
 }
 
 /* So many ticks of 100 ms; answers after how many both chips pass these ports, and no others, from then on; else 0. */
@@ -252,7 +214,8 @@ static void show_reset(unsigned ticks) {
         run(1, 0);
         if (!out && !passes(&two)) out = passed;
     }
-    one.dead = one.failed = false;
+    one.dead = false;
+    lose_rows(&one);
     one.trunk[0] = one.trunk[1] = one.blocked = one.by_itself = 0;
     chip_again(&one.loop);
     one.forwards = true;
@@ -315,7 +278,7 @@ static void show_restart(bool warm, uint32_t away) {
     unsigned empty = 0;
     silent = bit_of(8);
     run(100, ALL & ~silent);
-    keep(&one);
+    keep(&one.kept, &one.loop);
     niw_free(&one.loop.system);
     memset(one.waiting, 0, sizeof one.waiting);
     one.lent = 0;
@@ -324,7 +287,7 @@ static void show_restart(bool warm, uint32_t away) {
         empty += !carry(ALL & ~silent);
     }
     unsigned before = one.writes;
-    uint32_t status = warm ? resume(&one, away) : start(&one);
+    uint32_t status = warm ? resume(&one.loop, &one.kept, away, config_of(&one)) : start(&one);
     printf("a %s start after %u ticks: %s, with %u writes to the chip", warm ? "warm" : "cold", (unsigned)away, niw_status_text(status), one.writes - before);
     if (status == NIW_STALE) start(&one);
     for (unsigned passed = 0; passed < 100; passed++) {

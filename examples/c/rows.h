@@ -1,9 +1,9 @@
 /* loop.h for a chip that looks up the port of a frame in a table, with a row for each hash bucket of each LAG. Frames of a bucket stay in order when the ports
  * of the trunk change, behind markers, if the peer answers them. A program includes this file in place of loop.h, and gives two functions more. One aggregator
- * a LAG will do, as there. hash_buckets.c is such a program.
+ * a LAG will do, as there. hash_buckets.c is such a program, and so is restarts_rows.c.
  *
  * `chip_send` sends behind the data that rows sent on its port: it waits until each queue of the port is empty, or takes the same queue. Before `begin` the
- * struct is all zero, and so are the rows of the chip. */
+ * struct is all zero. */
 #ifndef ROWS_H
 #define ROWS_H
 
@@ -18,6 +18,8 @@ struct rows {
     uint16_t since[LAGS][ROWS]; /* the tick at which a row was cleared, its low 16 bits */
     uint32_t level[LAGS];       /* the ports that have their shares, or 0 */
     uint32_t asked[PORTS + 1];  /* the tick of the last probe */
+    uint16_t adopted;           /* the tick of a warm start, its low 16 bits; and whether a row was clear then, whose frames may be on their way */
+    bool waits;
     struct niw_carried carried[ROWS]; /* of one call, as is `changed` */
     bool changed[ROWS];
 };
@@ -78,6 +80,25 @@ static void clear_rows(struct loop *here) {
     }
 }
 
+/* Clears each row of a chip that has nobody knows what. `clear_rows` writes those anew whose conversation stays on its port. */
+static void forget_rows(struct loop *here) {
+    for (uint16_t lag = 1; lag <= LAGS; lag++) {
+        rows_of(here)->level[lag - 1] = 0;
+        for (uint16_t row = 0; row < ROWS; row++) set_row(here, lag, row, 0);
+    }
+}
+
+/* Behind niw_resume, and before the first `settle`: the rows go on as the list has them. */
+static inline void adopt_rows(struct loop *here) {
+    struct rows *rows = rows_of(here);
+    rows->adopted = (uint16_t)here->ticks;
+    rows->waits = false;
+    for (uint16_t port = 1; port <= PORTS; port++) rows->asked[port] = 0;
+    for (uint16_t lag = 1; lag <= LAGS; lag++)
+        for (uint16_t row = 0; row < ROWS; row++)
+            if (niw_adopt(&here->system, lag, row, rows->port[lag - 1][row]) != NIW_OK && here->trunk[lag - 1]) rows->waits = true;
+}
+
 /* Offers a bucket. One that waits for longer than its frames can be on their way is freed without a response: its link died silently, or its peer answers
  * none. */
 static struct niw_number offer(struct loop *here, uint16_t lag, uint16_t row) {
@@ -90,6 +111,8 @@ static struct niw_number offer(struct loop *here, uint16_t lag, uint16_t row) {
 /* Offers each bucket whose row is clear; the answered port goes into the row. */
 static void fill_rows(struct loop *here) {
     struct rows *rows = rows_of(here);
+    if (rows->waits && (uint16_t)(here->ticks - rows->adopted) <= WORST_DELAY) return;
+    rows->waits = false;
     for (uint16_t lag = 1; lag <= LAGS; lag++) {
         if (here->trunk[lag - 1] == 0) continue;
         for (uint16_t row = 0; row < ROWS; row++) {

@@ -2,12 +2,18 @@
  * played here: what it sends goes to the bench. Put your own chip, or your own loop, in its place. In a clone, after `make library`:
  *
  *   cc -shared -fPIC -DNIW_POOL -Icrates/lagffi/include -o out/device_pool.so examples/conform/device_pool.c c/lag.c
- *   tools/lagconform --memory out/device_pool.so */
+ *   tools/lagconform --memory out/device_pool.so
+ *
+ * By -DWITH_ROWS it is the loop of rows.h beside it, and the chip has a row for each hash bucket. */
 #include "device.h"
 
 #define PORTS 4
 #define LAGS 1
+#ifdef WITH_ROWS
+#include "../c/rows.h"
+#else
 #include "../c/loop.h"
+#endif
 
 enum { FLOWS = 64 };
 
@@ -71,15 +77,40 @@ void device_take(unsigned link, const unsigned char *frame, size_t size) {
     turn(&loop, 0);
 }
 
+/* The port that the chip has for a flow, or 0. */
+#ifdef WITH_ROWS
+static struct rows rows;
+static uint16_t row_of_chip[ROWS];
+
+static struct rows *rows_of(struct loop *here) {
+    return (void)here, &rows;
+}
+
+static void chip_set_row(struct loop *here, uint16_t lag, uint16_t row, uint16_t port) {
+    (void)here, (void)lag;
+    row_of_chip[row] = port;
+}
+
+static uint16_t port_of(unsigned number) {
+    uint16_t port = row_of_chip[number % ROWS];
+    return port && trunk & ~blocked & bit_of(port) ? port : 0;
+}
+#else
+static uint16_t port_of(unsigned number) {
+    uint16_t ports[PORTS], count = 0;
+    for (uint16_t port = 1; port <= PORTS; port++)
+        if (trunk & ~blocked & bit_of(port)) ports[count++] = port;
+    return count > 0 ? ports[number % count] : 0;
+}
+#endif
+
 /* The chip's hash: a frame of the client's flow of this number, UDP from 198.18.0.0/16, goes out on a port of the trunk. */
 static void send_flow(unsigned number) {
     uint8_t frame[60] = {2, 0, 0, 0, 0xf0, (uint8_t)(number * 37 % 251), 2, 0, 0, 0, 0xf1, (uint8_t)number, 8, 0, 0x45, 0, 0, 0x26, 0, 0, 0, 0, 0x40, 0x11,
         0, 0, 198, 18, 0, (uint8_t)number, 198, 19, 0, (uint8_t)number};
-    uint16_t ports[PORTS], count = 0;
+    uint16_t port = port_of(number);
     for (unsigned at = 0; at < 4; at++) frame[42 + at] = (uint8_t)(loop.ticks >> (24 - 8 * at)); /* the order of the flow's frames */
-    for (uint16_t port = 1; port <= PORTS; port++)
-        if (trunk & ~blocked & bit_of(port)) ports[count++] = port;
-    if (count > 0) put(bench, ports[number % count], frame, sizeof frame);
+    if (port != 0) put(bench, port, frame, sizeof frame);
 }
 
 void device_tick(void) {

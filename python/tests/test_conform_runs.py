@@ -618,10 +618,12 @@ def linked_to(example: str) -> list[str]:
 
 
 @needs_library
-@pytest.mark.parametrize("example", ["device.c", "device_pool.c"])
-def test_the_example_in_c_passes_all(example: str, tmp_path: Path, capsys: pytest.CaptureFixture[str], monkeypatch: pytest.MonkeyPatch) -> None:
+@pytest.mark.parametrize("example, words", [("device.c", []), ("device_pool.c", []), ("device_pool.c", ["-DWITH_ROWS"])])
+def test_the_example_in_c_passes_all(
+    example: str, words: list[str], tmp_path: Path, capsys: pytest.CaptureFixture[str], monkeypatch: pytest.MonkeyPatch
+) -> None:
     made = str(tmp_path / "device.so")
-    line = ["cc", "-Wall", "-Wextra", "-Wconversion", "-Werror", "-shared", "-fPIC", f"-I{HEADER}", "-o", made, str(EXAMPLES / example)]
+    line = ["cc", "-Wall", "-Wextra", "-Wconversion", "-Werror", "-shared", "-fPIC", f"-I{HEADER}", "-o", made, str(EXAMPLES / example), *words]
     subprocess.run([*line, *linked_to(example)], check=True)
     assert command.main(["--memory", made, "--strict"]) == 0
     assert f"\n{len(TESTS) - 1} pass, 0 fail, 1 not applicable{LAST}" in capsys.readouterr().out

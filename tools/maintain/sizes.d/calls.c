@@ -100,6 +100,9 @@ static void pass_until_one_is_left(void) { niw_ticks(&here.system, niw_ticks_unt
 
 int main(void) {
     peer = (struct niw_system)NIW_EMPTY; /* a program without start-up code has what its file has where zeros should be */
+#ifdef ROWS_OF_A_CHIP
+    rows.waits = false;
+#endif
     niw_give_memory(room, sizeof room);
     describe(2);
     niw_new(&peer, &config, keys, LAGS, ports, PORTS);
