@@ -1,6 +1,5 @@
 /* Asks the daemons of this network namespace: for their status, for their counts, or for each change. */
 #include "control.h"
-#include "sockets.h"
 
 #include <poll.h>
 
@@ -74,7 +73,7 @@ static void print(const char *text, size_t length) {
 }
 
 /* Prints the metrics of all: each metric has one head, and the values of all daemons below it. */
-static void print_metrics(struct asking *own) {
+static void print_metrics(const struct asking *own) {
     const char *at[MOST_DAEMONS];
     for (unsigned i = 0; i < own->count; i++) at[i] = own->daemons[i].answer ? own->daemons[i].answer : "";
     for (bool more = true; more;) {
@@ -149,7 +148,7 @@ static bool ask_one(struct asking *own, struct daemon *daemon) {
 }
 
 /* Tells a daemon an order; answers what it said, without the line end. */
-static char *tell_order(struct asking *own, const char *path, const char *what) {
+static char *tell_order(const struct asking *own, const char *path, const char *what) {
     const char *interface = own->options->interface;
     char order[QUESTION_ROOM], *answer;
     if (snprintf(order, sizeof order, "%s %s\n", what, interface) >= (int)sizeof order || strchr(interface, '\n'))

@@ -249,7 +249,7 @@ void watch_carriers(struct protocol *protocol, bool all) {
     EACH_LINK(link, protocol->ports) {
         bool changed = link->socket >= 0 && has_new_carrier(link);
         if (!changed && link->up && !link->away) note_carrier(protocol->settings, link);
-        if (changed || (link->socket >= 0 && has_waited(protocol, link))) any = ask_for(&protocol->changes, link->index, 0) || any;
+        if (changed || (link->socket >= 0 && choose_whether_waited(protocol, link))) any = ask_for(&protocol->changes, link->index, 0) || any;
     }
     if (any) receive_changes(protocol);
 }

@@ -23,7 +23,7 @@
 #define CARRIER_TICKS 15
 
 /* Asks the kernel something of the device, or for something. The device goes by its index: it may have another name than it was given. */
-static bool ask_tap(struct device *own, unsigned long what, struct ifreq *request) {
+static bool ask_tap(const struct device *own, unsigned long what, struct ifreq *request) {
     struct ifreq named = {.ifr_ifindex = own->index};
     if (own->index == 0 || ioctl(own->asker, SIOCGIFNAME, &named) < 0) return false;
     memcpy(request->ifr_name, named.ifr_name, sizeof request->ifr_name);
@@ -101,7 +101,7 @@ void pass_tap_tick(struct device *own) {
 }
 
 /* The MAC address that the device has now: whoever administers it may change it. */
-bool read_tap_mac(struct device *own, uint8_t *mac) {
+bool read_tap_mac(const struct device *own, uint8_t *mac) {
     struct ifreq request = {0};
     if (!ask_tap(own, SIOCGIFHWADDR, &request)) return false;
     memcpy(mac, request.ifr_hwaddr.sa_data, ETH_ALEN);
@@ -109,13 +109,13 @@ bool read_tap_mac(struct device *own, uint8_t *mac) {
 }
 
 /* Whether the host has the device up, whatever its name is now. */
-bool is_tap_up(struct device *own) {
+bool is_tap_up(const struct device *own) {
     struct ifreq request = {0};
     return ask_tap(own, SIOCGIFFLAGS, &request) && (request.ifr_flags & IFF_UP) != 0;
 }
 
 /* Has the host hand over frames of several segments, and without checksums, where they are passed; each packet tells before its frame. */
-static void choose_segments(struct device *own) {
+static void choose_segments(const struct device *own) {
     unsigned long wanted = TUN_F_CSUM | TUN_F_TSO4 | TUN_F_TSO6 | TUN_F_TSO_ECN;
     unsigned long more = own->plane->segments ? TUN_F_USO4 | TUN_F_USO6 : 0;
     if (ioctl(own->tap, TUNSETVNETHDRSZ, &(int){(int)head_octets()}) < 0
@@ -142,7 +142,7 @@ static void go_on_with_tap(struct device *own) {
 
 /* Sets up a device that is new to the daemon, or to its settings. It gets its MAC address before anything else: whoever brings it up has a
  * link-local address of it. */
-static void set_up(struct device *own, const uint8_t *mac) {
+static void set_up(const struct device *own, const uint8_t *mac) {
     struct ifreq address = {0}, queue = {0};
     address.ifr_hwaddr.sa_family = ARPHRD_ETHER;
     memcpy(address.ifr_hwaddr.sa_data, mac, ETH_ALEN);

@@ -31,8 +31,8 @@ bool has_carrier(const struct device *own);
 void set_speed(struct device *own, uint32_t megabits);
 void limit_mtu(struct device *own, uint32_t most);
 void pass_tap_tick(struct device *own);
-bool read_tap_mac(struct device *own, uint8_t *mac);
-bool is_tap_up(struct device *own);
+bool read_tap_mac(const struct device *own, uint8_t *mac);
+bool is_tap_up(const struct device *own);
 void leave_tap(struct plane *plane, int index, bool owned);
 void keep_tap(struct plane *plane, bool keeps);
 

@@ -316,9 +316,9 @@ static inline int last_fault(void) {
 }
 
 /* A file of this is closed where its block ends, and errno stays as it is. */
-#define CLOSED_FILE __attribute__((cleanup(close_held)))
+#define CLOSED_FILE __attribute__((cleanup(close_file)))
 #define CLOSED_STREAM __attribute__((cleanup(close_stream)))
-static inline void close_held(const int *file) {
+static inline void close_file(const int *file) {
     int fault = errno;
     if (*file >= 0) close(*file);
     errno = fault;
@@ -428,7 +428,7 @@ void look_for_twins(struct protocol *protocol);
 /* restore.c */
 bool is_restored(struct protocol *protocol, struct link *link);
 void set_waiting(struct link *link, bool waits);
-bool has_waited(struct protocol *protocol, const struct link *link);
+bool choose_whether_waited(struct protocol *protocol, const struct link *link);
 void note_carrier(const struct settings *settings, struct link *link);
 bool is_spared(const struct process *process, struct link *link, bool carrier, bool lost);
 
@@ -607,7 +607,6 @@ bool was_away_briefly(const struct inherited *inherited);
 void begin_resuming(struct process *process, struct plane *plane);
 unsigned resume(struct protocol *protocol);
 void resume_data(struct protocol *protocol, unsigned count);
-void end_resuming(struct plane *plane, struct store *store);
 
 /* carry.c */
 void settle_carry(struct plane *plane);

@@ -25,13 +25,13 @@ size_t escape(char *text, size_t room, const char *from, size_t length, bool lin
 }
 
 /* Standard output; of a pipe or a terminal an opening of our own, at which no write waits. */
-static int output(struct process *process) {
+static int output(int *opened) {
     struct stat file;
-    if (process->output >= 0) return process->output;
+    if (*opened >= 0) return *opened;
     if (isatty(STDOUT_FILENO) || (fstat(STDOUT_FILENO, &file) == 0 && S_ISFIFO(file.st_mode)))
-        process->output = open("/proc/self/fd/1", O_WRONLY | O_NONBLOCK | O_NOCTTY | O_CLOEXEC);
-    if (process->output < 0) process->output = STDOUT_FILENO;
-    return process->output;
+        *opened = open("/proc/self/fd/1", O_WRONLY | O_NONBLOCK | O_NOCTTY | O_CLOEXEC);
+    if (*opened < 0) *opened = STDOUT_FILENO;
+    return *opened;
 }
 
 /* Whether the journal reads standard output: then a line begins with its priority, and has no time of its own. */
@@ -114,7 +114,7 @@ static bool say_text(struct process *process, int level, const char *text) {
         if (fault == 0 || fault == EAGAIN) return fault == 0; /* one that is elsewhere reads standard output */
         used = snprintf(line, sizeof line, "<%d>%s\n", level & LOG_PRIMASK, text);
     }
-    return write_line(output(process), line, (size_t)used);
+    return write_line(output(&process->output), line, (size_t)used);
 }
 
 /* Prints a text as a line that a terminal only shows; what is wrong with a file stands on standard error at the start. Answers whether it was

@@ -259,7 +259,8 @@ static int run_daemon(struct lagd *lagd, const struct options *options) {
     resume_data(&lagd->protocol, resumed);
     halt_if_down(&lagd->protocol);
     leave_left_ports(&lagd->protocol);
-    end_resuming(&lagd->plane, &lagd->process.store);
+    CALL(lagd->plane.carrying->end_resuming, &lagd->plane);
+    drop_unclaimed(&lagd->process.store);
     (void)save_state(&lagd->state, false);
     tell_changes(&lagd->protocol);
     settle_carry(&lagd->plane);

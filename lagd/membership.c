@@ -44,7 +44,7 @@ static bool has_carried(const struct inherited *inherited, const struct inherite
 
 /* Numbers these ports. One that is there, or was in the last daemon, keeps its number, and a new one has the lowest that is free: that of no port
  * that is there or, where so asked, is still to leave. Answers whether each found one. */
-static bool number_ports(struct protocol *protocol, const struct port_settings *given, uint16_t count, uint16_t *numbers, bool with_left) {
+static bool number_ports(const struct protocol *protocol, const struct port_settings *given, uint16_t count, uint16_t *numbers, bool with_left) {
     const struct inherited *inherited = protocol->process->inherited;
     bool taken[NIW_MOST_PORTS + 1] = {true}; /* by number: there is no port 0 */
     EACH_LINK(link, protocol->ports) taken[link->settings.number] = link->used;
@@ -273,7 +273,7 @@ bool accept_name(struct protocol *protocol, const struct link *link, const struc
 }
 
 /* What keeps an interface from being a port now, or NULL. */
-static const char *fault_of(struct protocol *protocol, const char *name) {
+static const char *fault_of(const struct protocol *protocol, const char *name) {
     struct interface interface;
     if (strcmp(name, protocol->settings->carry) == 0) return "it is the device itself";
     if (!ask_interface(0, name, &interface)) return "there is no such interface";

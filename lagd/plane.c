@@ -7,7 +7,7 @@ static const struct carrying NO_DEVICE = {.nameless = "-"};
 
 static const struct passing BY_DAEMON = {.run_programs = keep_from_stack};
 
-/* The one switch. */
+/* What carry, plane, offload, fast and queues choose. But for the check of a file (settings.c) their tests stand here, and nowhere else. */
 void choose_plane(struct plane *plane, const struct settings *settings) {
     bool has_device = settings->carry[0] != 0, by_tap = has_device && settings->plane == PLANE_TAP;
     bool fast = by_tap && settings->fast, all_queues = by_tap && settings->all_queues;

@@ -20,7 +20,7 @@ struct tap_plane;
 struct team_plane;
 
 /* CALL calls a function of a table, or does nothing without one; ASK answers `usual` without one. run_programs, set, send_marker,
- * accept_response and answer of the last two tables are in each one. */
+ * accept_response and answer of the last two tables are in each one; so is `nameless` of the first, and `leave` of each device. */
 #define CALL(function, ...) do { if (function) (function)(__VA_ARGS__); } while (0)
 #define ASK(function, usual, ...) ((function) ? (function)(__VA_ARGS__) : (usual))
 
@@ -37,7 +37,7 @@ struct carrying {
     bool (*give_carrier)(struct plane *plane, bool on); /* whether the kernel does so */
     void (*settle_mtu)(struct plane *plane); /* the longest MTU that each member takes, or a lower one of an administrator */
     int (*add)(struct plane *plane, struct link *link); /* takes an interface up: 0, or -errno */
-    void (*remove)(struct plane *plane, struct link *link); /* it is a member no more, and has what it had before */
+    void (*remove)(struct plane *plane, const struct link *link); /* it is a member no more, and has what it had before */
     bool (*renew)(struct plane *plane, struct link *link); /* it has another queueing discipline: whether it is still taken up */
     void (*move)(struct plane *plane, struct link *link, const uint8_t *mac); /* it has another MAC address */
     void (*follow_mtu)(struct plane *plane, struct link *link, uint32_t mtu); /* it has this one; 0 of one that is a member no more */
@@ -121,7 +121,7 @@ struct plane {
     bool changed;    /* whether the library may answer otherwise now, so that conversations go or come */
     bool owns_device; /* whether a daemon made the device, or had it outlive itself, so that the next one takes it away at its end */
     bool is_new;      /* whether this start made the device, into which it puts the ports of the file */
-    /* What the functions of the tables work with. Nobody else looks into these. */
+    /* What the functions of the tables work with. Who calls one may hand it over. */
     struct device *device;
     struct carry *carry;
     struct tap_plane *tap;

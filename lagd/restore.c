@@ -1,8 +1,8 @@
 /* A link that comes back while others carry: it is up once its carrier was steady for a while. And one that goes for a moment: it stays up. */
 #include "lagd.h"
 
-/* Whether so few links carry that none may be kept waiting. One on defaults may lead nowhere. */
-static bool is_short_of_links(struct protocol *protocol) {
+/* Chooses the aggregator: answers whether so few links carry there that none may be kept waiting. One on defaults may lead nowhere. */
+static bool choose_and_find_few(struct protocol *protocol) {
     struct bundle now = {0};
     unsigned sure = 0;
     choose_aggregator(protocol, &now);
@@ -11,9 +11,9 @@ static bool is_short_of_links(struct protocol *protocol) {
     return sure < protocol->settings->min_links;
 }
 
-/* Whether a link that waits has waited long enough. */
-static bool is_over(struct protocol *protocol, const struct link *link) {
-    return milliseconds() - link->steady_since >= protocol->settings->wait_to_restore * (uint64_t)1000 || is_short_of_links(protocol);
+/* Answers whether a link that waits has waited long enough: before its time is over, the aggregator is chosen for that. */
+static bool choose_whether_over(struct protocol *protocol, const struct link *link) {
+    return milliseconds() - link->steady_since >= protocol->settings->wait_to_restore * (uint64_t)1000 || choose_and_find_few(protocol);
 }
 
 void set_waiting(struct link *link, bool waits) {
@@ -26,7 +26,7 @@ void set_waiting(struct link *link, bool waits) {
 bool is_restored(struct protocol *protocol, struct link *link) {
     if (link->up || !protocol->process->has_started) return true;
     if (!link->waits) link->steady_since = milliseconds();
-    set_waiting(link, !is_over(protocol, link));
+    set_waiting(link, !choose_whether_over(protocol, link));
     return !link->waits;
 }
 
@@ -42,9 +42,9 @@ static bool is_lost(const struct settings *settings, const struct link *link) {
     return milliseconds() - link->carried_at >= settings->delay_down;
 }
 
-/* Whether a link waits no longer: the kernel is asked then whether its carrier is still there, or away. */
-bool has_waited(struct protocol *protocol, const struct link *link) {
-    return (link->waits && is_over(protocol, link)) || (link->away && is_lost(protocol->settings, link));
+/* Answers whether a link waits no longer, as choose_whether_over does: the kernel is asked then whether its carrier is still there, or away. */
+bool choose_whether_waited(struct protocol *protocol, const struct link *link) {
+    return (link->waits && choose_whether_over(protocol, link)) || (link->away && is_lost(protocol->settings, link));
 }
 
 /* The kernel told of a link whether its carrier is there, and whether it was lost since: answers whether the link stays up all the same. What is

@@ -22,7 +22,7 @@ static bool holds(uint64_t now, uint64_t then, bool short_timeout) {
 }
 
 /* Whether a port goes on: its carrier did not go, neither end has given the other one up, and its partner may be that. */
-static bool goes_on(struct protocol *protocol, const struct link *link) {
+static bool goes_on(const struct protocol *protocol, const struct link *link) {
     const struct inherited_link *was = link->up && !link->held ? inherited_of(protocol->process->inherited, link) : NULL;
     struct system_id actor;
     return was && was->carried && (was->losses == link->kernel_losses || protocol->process->inherited->ahead != 0)
@@ -43,7 +43,7 @@ static struct niw_saved saved_of(const struct inherited *inherited, const struct
 }
 
 /* The partner of a link is that of the last daemon. */
-static void recall_partner(struct process *process, struct link *link) {
+static void recall_partner(const struct process *process, struct link *link) {
     const struct inherited_link *was = inherited_of(process->inherited, link);
     struct system_id actor;
     if (may_be_partner(link, was->lacpdu, &actor)) note_actor(process->settings, link, &actor, was->lacpdu);
@@ -106,7 +106,7 @@ static void stay(struct carry *carry, uint16_t number, uint16_t port) {
 }
 
 /* The port of an interface that carries in the active aggregator, or 0. */
-static uint16_t port_on(struct carry *carry, int index) {
+static uint16_t port_on(const struct carry *carry, int index) {
     EACH_LINK(link, carry->ports)
         if (index != 0 && link->socket >= 0 && link->index == index && link->view.aggregator == carry->active
             && is_told_distributing(carry->protocol, link->settings.number, true))
@@ -140,9 +140,3 @@ void resume_data(struct protocol *protocol, unsigned count) {
     }
     CALL(protocol->plane->carrying->resume, protocol->plane, goes_on);
 }
-
-void end_resuming(struct plane *plane, struct store *store) {
-    CALL(plane->carrying->end_resuming, plane);
-    drop_unclaimed(store);
-}
-

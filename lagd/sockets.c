@@ -33,7 +33,10 @@ static bool is_socket(const char *name, struct found_socket *socket) {
 void find_sockets(struct found *found, const char *folder, bool deeper) {
     struct dirent **entries = NULL;
     int count = scandir(folder, &entries, NULL, alphasort);
-    if (count < 0 && errno == EACCES && !found->denied) found->denied = strdup(folder);
+    if (count < 0 && errno == EACCES) {
+        free(found->denied);
+        found->denied = strdup(folder);
+    }
     for (int i = 0; i < count; i++) {
         char path[SOCKET_PATH_ROOM];
         const char *name = entries[i]->d_name;

@@ -10,7 +10,7 @@
 /* The sockets of the daemons of this network namespace. */
 struct found {
     unsigned count;
-    char *denied; /* a folder that may not be looked at, or NULL */
+    char *denied; /* the last folder that may not be looked at, or NULL */
     struct found_socket {
         char path[SOCKET_PATH_ROOM], bundle[128];
     } sockets[MOST_DAEMONS];

@@ -97,7 +97,7 @@ static void keep_file(struct state *own, FILE *file) {
 }
 
 /* Removes what processes that were killed wrote of a copy: one that still hangs on the disk finds nothing then to put in the place of another. */
-static void remove_new(struct state *own) {
+static void remove_new(const struct state *own) {
     size_t length = strlen(own->copy_name);
     int fd = openat(own->copy_folder, ".", O_RDONLY | O_DIRECTORY | O_CLOEXEC), writer, end = 0;
     DIR *listed = fd < 0 ? NULL : fdopendir(fd);
@@ -380,7 +380,7 @@ static bool read_rest(struct inherited *inherited, FILE *file) {
 
 /* By other settings nothing goes on: what stays to be done is to put back what the last daemon changed. It has a line once these interfaces
  * are found. `way` is that of the last daemon. */
-static void keep_interfaces(struct state *own, const char *way) {
+static void keep_interfaces(const struct state *own, const char *way) {
     struct inherited *inherited = own->carry->process->inherited, last = *inherited;
     const char *word = strrchr(way, '/');
     leave_device(own->carry->plane, word ? word + 1 : way, last.tap, last.persists);
@@ -414,7 +414,7 @@ static const char *bring_over(struct inherited *inherited) {
 }
 
 /* Reads a state; answers NULL, or why it counts for nothing. In another network namespace its numbers of interfaces are those of others. */
-static const char *read_state(struct state *own, FILE *file, bool is_copy) {
+static const char *read_state(const struct state *own, FILE *file, bool is_copy) {
     struct inherited *inherited = own->carry->process->inherited;
     unsigned version;
     char boot[BOOT_ROOM], now[BOOT_ROOM], given[WAY_ROOM], room[WAY_ROOM];

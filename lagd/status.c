@@ -72,7 +72,7 @@ void accept_callers(struct process *process) {
 }
 
 /* Sends what is left of an answer, as far as the socket has room, and closes the connection behind it. */
-static void send_rest(struct process *process, struct caller *caller) {
+static void send_rest(const struct process *process, struct caller *caller) {
     ssize_t sent = send(caller->fd, caller->rest + caller->sent, caller->answer_length - caller->sent, MSG_NOSIGNAL | MSG_DONTWAIT);
     bool waits = sent >= 0 || errno == EAGAIN || errno == EINTR;
     if (sent > 0) {
@@ -101,9 +101,9 @@ static void let_watch(struct status *own, struct caller *caller) {
 }
 
 /* Does what root asks for, and tells what became of it. */
-static void obey(struct control *control, struct caller *caller) {
+static void obey(struct protocol *protocol, struct caller *caller) {
     char answer[ORDER_ROOM] = REFUSAL "root alone may change a bundle\n";
-    if (caller->user == 0) answer_order(control->protocol, caller->question, answer);
+    if (caller->user == 0) answer_order(protocol, caller->question, answer);
     end_with(caller, answer);
 }
 
@@ -140,7 +140,7 @@ static void read_question(struct control *control, struct caller *caller) {
     if (strcmp(caller->question, "watch") == 0 || strcmp(caller->question, "watch-json") == 0)
         let_watch(&control->process->status, caller);
     else if (is_order(caller->question))
-        obey(control, caller);
+        obey(control->protocol, caller);
     else
         send_report(control, caller);
 }

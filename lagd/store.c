@@ -14,8 +14,6 @@
 #define SD_LISTEN_FDS_START 3
 #endif
 #include <linux/if_packet.h>
-#include <netinet/in.h>
-
 
 #define EACH_STORED(it, of) for (struct stored *it = (of)->stored; it < (of)->stored + (of)->count; it++)
 

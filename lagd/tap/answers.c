@@ -13,7 +13,7 @@ void start_answers(struct tap_plane *tap) {
 }
 
 /* Wakes the daemon for the first response that is due: one that waits for its socket is looked at again in a millisecond. */
-static void wake(struct tap_plane *tap) {
+static void wake(const struct tap_plane *tap) {
     uint64_t now = milliseconds(), next = UINT64_MAX;
     struct itimerspec at = {{0, 0}, {0, 0}};
     for (uint16_t i = 0; i < tap->ports->count; i++) {

@@ -27,7 +27,7 @@ static int load(const struct settings *settings, const char *name, const struct 
 }
 
 /* Has a program run at the TAP device; answers what keeps it there. */
-static int keep_program(struct tap_plane *tap, const char *name, const struct fast_maps *maps, bool egress) {
+static int keep_program(const struct tap_plane *tap, const char *name, const struct fast_maps *maps, bool egress) {
     CLOSED_FILE int program = load(tap->settings, name, maps);
     int opened = attach_stored(&tap->process->store, name, program, tap->device->index, egress);
     if (opened < 0) stop(REFUSED, "fast: no program of an interface, which Linux has from 6.6 on", strerror(-opened));
@@ -35,7 +35,7 @@ static int keep_program(struct tap_plane *tap, const char *name, const struct fa
 }
 
 /* A table that the programs share with the daemon: that of the last daemon, where that left one for this device, or a new one. */
-static void *open_map(struct tap_plane *tap, int number, uint32_t size, uint32_t count, int *map) {
+static void *open_map(const struct tap_plane *tap, int number, uint32_t size, uint32_t count, int *map) {
     int left = tap->process->inherited->tap;
     *map = claim_stored(&tap->process->store, "map", number);
     void *at = *map >= 0 && left != 0 && left == tap->device->index ? map_again(size, count, *map) : NULL;
@@ -130,7 +130,7 @@ static uint16_t number_in(const struct carry *carry, const struct conversation *
     return (uint16_t)(conversation - carry->conversations);
 }
 
-static struct fast_row *row_of(struct tap_plane *tap, const struct conversation *conversation) {
+static struct fast_row *row_of(const struct tap_plane *tap, const struct conversation *conversation) {
     return &tap->fast.rows[number_in(tap->carry, conversation)];
 }
 
@@ -183,7 +183,7 @@ static void count_fast_frames(struct tap_plane *tap) {
 }
 
 /* Whether the kernel may pass a conversation on at its port. */
-static bool may_pass(struct tap_plane *tap, const struct conversation *conversation) {
+static bool may_pass(const struct tap_plane *tap, const struct conversation *conversation) {
     uint16_t port = conversation->port;
     struct niw_assignment state;
     return tap->fast.sender >= 0 && !tap->fast.queue_holds && tap->carry->active != 0 && conversation->home == tap->carry->active

@@ -40,9 +40,11 @@ static int open_of_queue(int index, const char *what, int flags) {
 
 static unsigned count_entries(int index, const char *begin) {
     unsigned count = 0;
-    DIR *folder = fdopendir(open_of_queue(index, "", O_RDONLY | O_DIRECTORY)); /* which has the file then: without one there is no folder */
+    int file = open_of_queue(index, "", O_RDONLY | O_DIRECTORY);
+    DIR *folder = file < 0 ? NULL : fdopendir(file); /* which has the file then */
     for (const struct dirent *entry; folder && (entry = readdir(folder));) count += strncmp(entry->d_name, begin, strlen(begin)) == 0;
     if (folder) closedir(folder);
+    else if (file >= 0) close(file);
     return count;
 }
 
@@ -235,7 +237,7 @@ static void stop_spreading(struct store *store, const struct link *link, struct 
     guard->spread = false;
 }
 
-static void spread(struct tap_plane *tap, const struct link *link, struct guard *guard) {
+static void spread(const struct tap_plane *tap, const struct link *link, struct guard *guard) {
     unsigned count = count_sending_queues(link->index);
     const char *fault = fault_of_spreading(tap->process->folder, link, guard, count);
     guard->queues = fault ? 1 : count < MOST_QUEUES ? count : MOST_QUEUES;
@@ -474,7 +476,7 @@ static void run_programs(struct tap_plane *tap, const struct link *link, struct 
     guard->channels = channels_of(link->index);
 }
 
-static void stop_programs(struct tap_plane *tap, const struct link *link, struct guard *guard) {
+static void stop_programs(const struct tap_plane *tap, const struct link *link, struct guard *guard) {
     if (guard->opened >= 0) detach_stored(&tap->process->store, "guard", link->index, guard->opened);
     if (guard->fast) close_fast_receiver(&tap->fast, link);
     if (guard->classifier != NO_CLASSIFIER) drop_classifier(link->index);

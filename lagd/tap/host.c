@@ -24,7 +24,7 @@ void lose_device(struct plane *plane) {
         "the peers are told, and the daemon ends", tap->settings->carry);
 }
 
-bool is_cutting(struct tap_plane *tap) {
+bool is_cutting(const struct tap_plane *tap) {
     return tap->host.count > 0 && !tap->process->broken;
 }
 

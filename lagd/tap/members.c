@@ -90,7 +90,7 @@ static bool set_up_data(int fd, int index, const struct guard *guard) {
 
 /* Opens a socket of a member; answers it, or -errno. One for all protocols has markers before the filters and bridges of an administrator,
  * which may take frames away there. Where the kernel hands up what comes, nothing comes by that for data. */
-static int open_socket(struct tap_plane *tap, const struct link *link, const struct guard *guard, enum socket_kind kind) {
+static int open_socket(const struct tap_plane *tap, const struct link *link, const struct guard *guard, enum socket_kind kind) {
     int index = kind == MARKERS ? tap->device->index : link->index;
     struct sockaddr_ll address = {.sll_family = AF_PACKET, .sll_protocol = htons(kind == DIRECT ? ETH_P_SLOW : ETH_P_ALL), .sll_ifindex = index};
     int fd = packet_socket(tap->process, SOCKET_NAMES[kind], link->index, index, SOCK_RAW);
@@ -111,16 +111,16 @@ static int open_socket(struct tap_plane *tap, const struct link *link, const str
     return last_fault();
 }
 
-static void close_sockets(struct tap_plane *tap, const struct link *link, struct member *member) {
+static void close_sockets(struct store *store, const struct link *link, struct member *member) {
     for (enum socket_kind kind = DATA; kind < SOCKETS; kind++) {
-        if (member->sockets[kind] >= 0) close_stored(&tap->process->store, SOCKET_NAMES[kind], link->index, member->sockets[kind]);
+        if (member->sockets[kind] >= 0) close_stored(store, SOCKET_NAMES[kind], link->index, member->sockets[kind]);
         member->sockets[kind] = -1;
     }
 }
 
 /* An interface is no member any more, and has what it had before. */
 static void release_member(struct tap_plane *tap, const struct link *link, struct member *member) {
-    close_sockets(tap, link, member);
+    close_sockets(&tap->process->store, link, member);
     close_guard(tap, link, &member->guard);
 }
 
@@ -158,7 +158,7 @@ static bool renew_member(struct tap_plane *tap, struct link *link) {
     struct member *member = member_of(tap, link);
     CALL(tap->plane->passing->withdraw_port, tap, link->settings.number);
     count_loss(member);
-    close_sockets(tap, link, member);
+    close_sockets(&tap->process->store, link, member);
     reopen_guard(tap, link, &member->guard);
     tap->plane->changed = true;
     return open_sockets(tap, link, member) == 0;
@@ -232,7 +232,7 @@ void count_losses(struct tap_plane *tap) {
     for (uint16_t i = 0; i < tap->ports->count; i++) count_loss(&tap->members[i]);
 }
 
-static void close_member(struct plane *plane, struct link *link) {
+static void close_member(struct plane *plane, const struct link *link) {
     struct tap_plane *tap = plane->tap;
     struct member *member = member_of(tap, link);
     if (!is_open(member)) return;
@@ -285,11 +285,11 @@ uint32_t sum_speeds(struct tap_plane *tap) {
 }
 
 /* Sends what waits for a member. A frame that the kernel does not take is lost, as on a wire. */
-static void flush_member(struct tap_plane *tap, struct member *member) {
+static void flush_member(struct changes *changes, struct member *member) {
     for (unsigned at = 0; at < member->out;) {
         int sent = is_open(member) ? sendmmsg(member->sockets[DATA], member->messages + at, member->out - at, 0) : -1;
         if (sent < 0 && is_open(member) && errno == EINTR) continue;
-        if (sent < 0) tap->protocol->changes.suspected = true;
+        if (sent < 0) changes->suspected = true;
         member->counts[sent > 0 ? DATA_SENT : DATA_UNSENT] += sent > 0 ? (unsigned)sent : 1;
         at += sent > 0 ? (unsigned)sent : 1;
     }
@@ -297,14 +297,14 @@ static void flush_member(struct tap_plane *tap, struct member *member) {
 }
 
 void flush_data(struct tap_plane *tap) {
-    EACH_LINK(link, tap->ports) flush_member(tap, member_of(tap, link));
+    EACH_LINK(link, tap->ports) flush_member(&tap->protocol->changes, member_of(tap, link));
     free_left(&tap->held);
 }
 
 /* Puts a packet of a conversation behind those that wait for a port. It stays where it is until flush_data. */
 void put_data(struct tap_plane *tap, uint16_t port, uint16_t number, uint8_t *packet, size_t length) {
     struct member *member = &tap->members[port - 1];
-    if (member->out == BATCH) flush_member(tap, member);
+    if (member->out == BATCH) flush_member(&tap->protocol->changes, member);
     member->parts[member->out] = (struct iovec){packet, length};
     member->messages[member->out].msg_hdr = (struct msghdr){.msg_iov = &member->parts[member->out], .msg_iovlen = 1};
     CALL(tap->plane->queueing->mark, tap, port, number, &member->messages[member->out].msg_hdr);
@@ -332,7 +332,7 @@ static bool send_by_one_queue(struct tap_plane *tap, struct link *link, const ui
 /* Sends a marker behind the data of its port, by the same socket: by another one, of another priority, it would overtake them. What the
  * kernel passes on and no longer may is taken back before. */
 static bool send_marker(struct tap_plane *tap, struct link *link, const uint8_t *marker, bool again) {
-    flush_member(tap, member_of(tap, link));
+    flush_member(&tap->protocol->changes, member_of(tap, link));
     CALL(tap->plane->passing->withdraw, tap);
     return tap->plane->queueing->send_marker(tap, link, marker, again);
 }
@@ -371,7 +371,7 @@ static void accept_response_of_queue(struct tap_plane *tap, struct link *link, c
 }
 
 /* Hands a frame of data to the library, and up. */
-static void deliver(struct tap_plane *tap, struct link *link, uint8_t *packet, size_t length) {
+static void deliver(struct tap_plane *tap, const struct link *link, uint8_t *packet, size_t length) {
     const uint8_t *frame = packet + head_octets();
     uint8_t response[NIW_FRAME];
     size_t shown = length - head_octets() < LONGEST_SHOWN ? length - head_octets() : LONGEST_SHOWN;

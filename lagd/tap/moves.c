@@ -2,7 +2,7 @@
 #include "carry.h"
 
 /* Whether it is known that no conversation is held on a port that carries. */
-static bool none_moves(struct carry *carry) {
+static bool none_moves(const struct carry *carry) {
     uint64_t held;
     for (uint16_t i = 0; i < carry->active_count; i++)
         if (!is_told(carry->process, niw_held(&carry->protocol->own_system, carry->active_ports[i]), "niw_held", &held) || held > 0)

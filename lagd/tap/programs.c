@@ -2,8 +2,6 @@
 #include "tap.h"
 #include "programs.skel.h"
 
-#include <bpf/bpf.h>
-
 /* The room of what the verifier of the kernel writes, and of the line of it that is told. */
 #define LOG_ROOM (1 << 20)
 #define REASON_ROOM 160

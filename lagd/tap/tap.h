@@ -203,7 +203,7 @@ void lose_data(struct plane *plane, const struct link *link);
 void open_tap_plane(struct plane *plane);
 void end_tap_plane(struct plane *plane);
 void read_host(struct tap_plane *tap);
-bool is_cutting(struct tap_plane *tap);
+bool is_cutting(const struct tap_plane *tap);
 bool give_host(struct tap_plane *tap, const struct iovec *parts, unsigned count, size_t length);
 
 /* traffic.c: queueing disciplines and classifiers of members */

@@ -91,7 +91,7 @@ static bool find_device(struct process *process, const char *name, struct interf
 }
 
 /* Has the driver spread frames over buckets, and tell what each of them sent. */
-static void configure_driver(struct team_plane *team, const char *mode_now) {
+static void configure_driver(const struct team_plane *team, const char *mode_now) {
     const uint32_t counted_every = 1; /* what each bucket has sent, in units of 100 ms */
     struct sock_filter steps[MOST_HASH_STEPS];
     int index = team->device->index;
@@ -128,7 +128,7 @@ void give_team_addresses(struct team_plane *team) {
 }
 
 /* Takes an interface out of the device, by which it goes down: also where the device is gone, or somebody else took it out. */
-void leave_team_port(struct team_plane *team, int index) {
+void leave_team_port(const struct team_plane *team, int index) {
     struct interface port;
     if (!team->opened || !ask_interface(index, NULL, &port) || (port.master != 0 && port.master != team->device->index)) return;
     bool up = port.master == 0 || (port.flags & IFF_UP);
@@ -137,7 +137,7 @@ void leave_team_port(struct team_plane *team, int index) {
 
 /* Makes an interface a new port of the device, which takes it while it is down, and passes no data on it until it is told to: the driver would
  * at once. */
-static bool make_port(struct team_plane *team, int index, bool up) {
+static bool make_port(const struct team_plane *team, int index, bool up) {
     return (!up || set_interface_up(index, false)) && set_master(index, team->device->index) && set_port_enabled(team, index, false);
 }
 
@@ -159,7 +159,7 @@ static int open_team_port(struct plane *plane, struct link *link) {
     return fault;
 }
 
-static void close_team_port(struct plane *plane, struct link *link) {
+static void close_team_port(struct plane *plane, const struct link *link) {
     struct team_plane *team = plane->team;
     if (!team->taken[link - team->ports->links]) return;
     team->taken[link - team->ports->links] = false;
@@ -193,7 +193,7 @@ static void free_inherited_ports(const struct inherited *inherited, int index) {
 static void leave_team(struct plane *plane, int index, bool owned) {
     struct team_plane *team = plane->team;
     struct interface device;
-    if (!find_team_driver(team) || !ask_interface(index, NULL, &device) || strcmp(device.kind, TEAM_KIND) != 0) return;
+    if (!find_team_driver(&team->family) || !ask_interface(index, NULL, &device) || strcmp(device.kind, TEAM_KIND) != 0) return;
     int held = lock_interface(team->process, index);
     if (held < 0) return;
     free_inherited_ports(team->process->inherited, index);
@@ -220,7 +220,7 @@ static void open_team(struct plane *plane) {
     const uint8_t *mac = team->settings->config.mac;
     struct interface device;
     struct team_now now;
-    need(find_team_driver(team), "plane=team: this kernel has no team driver");
+    need(find_team_driver(&team->family), "plane=team: this kernel has no team driver");
     need(on_exit(end_team, team) == 0, "on_exit");
     team->opened = true;
     if (find_device(team->process, name, &device)) {
@@ -247,7 +247,7 @@ static void end_team_plane(struct plane *plane) {
  * namespace that ends with the program, where that may be made. */
 static int check_team(struct control *control, const struct options *options) {
     struct team_plane *team = control->plane->team;
-    bool is_apart = unshare(CLONE_NEWNET) == 0, has_driver = find_team_driver(team);
+    bool is_apart = unshare(CLONE_NEWNET) == 0, has_driver = find_team_driver(&team->family);
     if (!has_driver && errno == EPERM) return tell_lack(team->process, options, "plane", "not known without CAP_NET_ADMIN", DONE);
     if (!has_driver) return tell_lack(team->process, options, "plane", "this kernel has no team driver", REFUSED);
     if (!is_apart || has_team_mode(team)) return DONE;

@@ -49,7 +49,7 @@ struct team_plane {
 enum option_type { TYPE_U32 = 3, TYPE_STRING = 5, TYPE_FLAG = 6, TYPE_BINARY = 11 };
 
 /* team_netlink.c */
-bool find_team_driver(struct team_plane *team);
+bool find_team_driver(uint16_t *family);
 bool make_team_device(const char *name, const uint8_t *mac, uint32_t mtu);
 bool remove_device(int index);
 bool set_interface_up(int index, bool up);
@@ -68,7 +68,7 @@ size_t make_team_hash(const struct settings *settings, struct sock_filter steps[
 /* team.c */
 extern const struct carrying TEAM_DEVICE;
 void give_team_addresses(struct team_plane *team);
-void leave_team_port(struct team_plane *team, int index);
+void leave_team_port(const struct team_plane *team, int index);
 
 /* buckets.c */
 void start_buckets(struct team_plane *team);

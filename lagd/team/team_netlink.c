@@ -12,18 +12,18 @@ static void read_family(const struct nlmsghdr *message, void *into) {
     (void)copy_value(attribute_of(message, sizeof(struct genlmsghdr), CTRL_ATTR_FAMILY_ID), into, sizeof(uint16_t));
 }
 
-static bool find_family(struct team_plane *team) {
+static bool find_family(uint16_t *family) {
     struct genlmsghdr about = {.cmd = CTRL_CMD_GETFAMILY, .version = 1};
     union message question = message_of(GENL_ID_CTRL, NLM_F_ACK, &about, sizeof about);
     mnl_attr_put_strz(&question.head, CTRL_ATTR_FAMILY_NAME, TEAM_GENL_NAME);
-    return ask_netlink(NETLINK_GENERIC, &question, read_family, &team->family) && team->family != 0;
+    return ask_netlink(NETLINK_GENERIC, &question, read_family, family) && *family != 0;
 }
 
 /* Finds the driver; answers whether this kernel has one, and else errno tells why not. The kernel loads it for who may ask for a device: with
  * an address that none may have there is none, and by a name that it is to complete none is taken. */
-bool find_team_driver(struct team_plane *team) {
+bool find_team_driver(uint16_t *family) {
     static const uint8_t no_address[ETH_ALEN];
-    return find_family(team) || (!make_team_device("team%d", no_address, ETH_DATA_LEN) && errno == EADDRNOTAVAIL && find_family(team));
+    return find_family(family) || (!make_team_device("team%d", no_address, ETH_DATA_LEN) && errno == EADDRNOTAVAIL && find_family(family));
 }
 
 bool make_team_device(const char *name, const uint8_t *mac, uint32_t mtu) {
@@ -66,9 +66,9 @@ bool give_team_carrier(struct plane *plane, bool on) {
     return set_attribute(plane->device->index, IFLA_CARRIER, &(uint8_t){on}, 1);
 }
 
-static union message message_of_team(const struct team_plane *team, uint8_t command, unsigned flags, int index) {
+static union message message_of_team(uint16_t family, uint8_t command, unsigned flags, int index) {
     struct genlmsghdr about = {.cmd = command, .version = TEAM_GENL_VERSION};
-    union message message = message_of(team->family, flags, &about, sizeof about);
+    union message message = message_of(family, flags, &about, sizeof about);
     mnl_attr_put_u32(&message.head, TEAM_ATTR_TEAM_IFINDEX, (uint32_t)index);
     return message;
 }
@@ -82,7 +82,7 @@ struct place {
 /* Sets an option. The kernel tells who listens to changes; that nobody does is an error for it, though the option is set. */
 static bool set_option_at(const struct team_plane *team, int index, const char *name, struct place place, enum option_type type, const void *value,
     size_t length) {
-    union message wanted = message_of_team(team, TEAM_CMD_OPTIONS_SET, NLM_F_ACK, index);
+    union message wanted = message_of_team(team->family, TEAM_CMD_OPTIONS_SET, NLM_F_ACK, index);
     struct nlattr *list = mnl_attr_nest_start(&wanted.head, TEAM_ATTR_LIST_OPTION);
     struct nlattr *item = mnl_attr_nest_start(&wanted.head, TEAM_ATTR_ITEM_OPTION);
     mnl_attr_put_strz(&wanted.head, TEAM_ATTR_OPTION_NAME, name);
@@ -140,7 +140,7 @@ static void parse_team(const struct nlmsghdr *message, void *into) {
 }
 
 bool read_team(const struct team_plane *team, int index, struct team_now *now) {
-    union message question = message_of_team(team, TEAM_CMD_OPTIONS_GET, 0, index);
+    union message question = message_of_team(team->family, TEAM_CMD_OPTIONS_GET, 0, index);
     *now = (struct team_now){0};
     return ask_netlink(NETLINK_GENERIC, &question, parse_team, now);
 }
