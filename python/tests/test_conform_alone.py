@@ -11,8 +11,9 @@ from xml.etree import ElementTree
 from typing import Iterator, Optional, Sequence, Type
 
 import pytest
-from conform_device import Device, World
+from conform_device import Device, World, put
 from conform_faults import KeyUnchecked, NeverBack, SecondPartnerKey, StartsTooLate, WrongEcho
+from conform_frames import Responds
 from test_conform_kinds import Bridge, JoinsKeys
 from test_conform_right import NoIndividual
 
@@ -20,7 +21,7 @@ from lagconform import causes, command, listing, options, pics
 from lagconform.bench import BASE, Bench
 from lagconform.edition import edition
 from lagconform.groups import GROUPS, TESTS
-from lagconform.model import ERROR, FAIL, INCONCLUSIVE, PASS, SPARE, WHOLE_RUN, Group, Result
+from lagconform.model import ERROR, FAIL, INCONCLUSIVE, PASS, SKIPPED, SPARE, WHOLE_RUN, Group, Result
 from lagconform.model import Test as Case
 from lagconform.runner import meet, ordered, run_all
 from niwhopera import Mac
@@ -74,6 +75,21 @@ class OnOneLink(Device):
 def test_where_data_of_one_aggregator_comes_on_one_link_the_reason_is_right() -> None:
     alone = play(OnOneLink, [BY_NAME["SL-03"]])[0]
     assert alone.verdict == INCONCLUSIVE and alone.why.endswith("data came on one: but the device does so for one aggregator, too")
+
+
+class IdBefore(Responds):
+    """Answers each marker but the first with the identifier of the one before."""
+
+    before = b""
+
+    def says_back(self, marker: bytes, response: bytes) -> Optional[bytes]:
+        before, self.before = self.before, marker[26:30]
+        return put(response, 12, before) if before else response
+
+
+def test_a_wrong_answer_is_not_told_as_none() -> None:
+    told = play(IdBefore, [BY_NAME["MK-11"]])[0]
+    assert (told.verdict, told.why) == (SKIPPED, "no marker is answered rightly on link 2 (MK-01)")
 
 
 @pytest.fixture

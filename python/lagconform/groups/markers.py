@@ -89,7 +89,7 @@ def wants_answers(b: Bench) -> None:
     b.still_up()
     pause(b)
     if not b.answers and not ask(b, marker(b), tries=3)[1]:
-        raise NotHere("the device answers no marker (MK-01)")
+        raise NotHere("no marker is answered rightly (MK-01)")
     pause(b)
 
 
@@ -288,7 +288,7 @@ def own_link(b: Bench) -> None:
         b.wait(0.3)
         stray = [it for it in b.markers(3 - link, mark) if it.octets[ID] == sent.octets[ID]]
         if not seen and not stray:
-            raise NotHere(f"no marker is answered on link {link} (MK-01)")
+            raise NotHere(f"no marker is answered rightly on link {link} (MK-01)")
         came = "answered" if seen else "not answered"
         b.claim(seen and not stray, f"link {link}: {came} there, and {number_of(len(stray), 'time')} on the other link; has to be answered there alone", sent, seen, *stray[:1])
         echo(b, [(sent, seen)])
