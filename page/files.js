@@ -170,7 +170,7 @@ function numbering(names, file, isAlone) {
 /* Slow protocols frames of files as one capture, by their times. `names` has
  * whence each interface is, `places` for each packet its file and its number there, `faults` what cannot be read, `silent` the files that can
  * be read and have no LACPDU, and `doubled` how many frames stand in several files and are taken once. Packets that were cut get whole. Files of
- * different times end together; `apart` says so. */
+ * different times end together, as `apart` says, and so do those that end before others; `early` has their interfaces. */
 export async function merged(files) {
     const given = [], faults = [], silent = [], names = new Map();
     for (const file of files) {
@@ -180,19 +180,19 @@ export async function merged(files) {
         if (it.fault) faults.push(`cannot read ${file.name}: ${it.fault}`);
         else if (it.isSilent) silent.push(it.stem);
     }
-    const all = given.flatMap(({ kept }) => kept), first = sameLinks(all, names.size), linkOf = (number) => first[number], { moves, apart, note } = movesOf(given, linkOf);
+    const all = given.flatMap(({ kept }) => kept), first = sameLinks(all, names.size), linkOf = (number) => first[number], { moves, apart, note, early } = movesOf(given, linkOf);
     const kept = once(all, linkOf).map((it) => ({ ...it, time: it.time + (moves.get(it.file) ?? 0n) })).sort((one, other) => one.time < other.time ? -1 : Number(one.time > other.time));
     const places = new Map(kept.map(({ file, of }, number) => [number + 1, { file: file.name, number: of }]));
     const comments = new Map(kept.flatMap(({ comment }, number) => comment ? [[number + 1, comment]] : []));
     const capture = captureOf([...names.keys()].map(() => ETHERNET), kept.map((it) => ({ ...it, number: linkOf(it.number) })));
-    return { capture, names, places, comments, faults, silent, apart, moved: note, doubled: all.length - kept.length };
+    return { capture, names, places, comments, faults, silent, apart, early, moved: note, doubled: all.length - kept.length };
 }
 
 /* What is read: one capture as it is, with what it says of interfaces and packets; several as one, one whose LACPDUs are cut made whole, and one
  * that joins captures sorted by time, where `numbers` has those of its packets. Packets and text are those of `source`. */
 export async function captureFrom(files, isJoined = false) {
     const looked = files.length === 1 ? await lookedAt(files[0]) : null;
-    if (looked && !looked.cut && !isJoined) return { capture: files[0], source: files[0], ...looked, places: new Map(), numbers: new Map(), faults: [], silent: [], apart: "", note: "" };
+    if (looked && !looked.cut && !isJoined) return { capture: files[0], source: files[0], ...looked, places: new Map(), numbers: new Map(), faults: [], silent: [], apart: "", early: new Set(), note: "" };
     const found = await merged(files), notes = [];
     if (looked?.cut) notes.push(`Its packets are cut behind ${looked.cut} octets: both ends are in them, and what follows, as CollectorMaxDelay, is taken as 0.`);
     if (isJoined) notes.push("It joins captures one behind the other: its packets are sorted by time.");

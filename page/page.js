@@ -111,8 +111,8 @@ function lastingOf({ lasts }) {
 
 /* The records of files, and what came of it: read once more where the files join captures one behind the other. */
 async function recordsOf(lagtool, files, isJoined = false) {
-    const given = await captureFrom(files, isJoined), records = new Records(), { names, comments, silent, places, numbers } = given;
-    Object.assign(records, { names, comments, silent, places, numbers });
+    const given = await captureFrom(files, isJoined), records = new Records(), { names, comments, silent, early, places, numbers } = given;
+    Object.assign(records, { names, comments, silent, early, places, numbers });
     const onStop = (error) => error.message === "stopped" ? error : Promise.reject(error);
     const told = await run(lagtool, given.capture, { json: true }, (piece) => records.addLines(piece)).catch(onStop), isStopped = told instanceof Error;
     return !isStopped && !isJoined && areJoined(records) ? recordsOf(lagtool, files, true) : { ...given, records, told, isStopped };

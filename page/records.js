@@ -118,6 +118,7 @@ export class Records {
         this.names = new Map();
         this.comments = new Map();
         this.silent = [];
+        this.early = new Set();
         this.places = new Map();
         this.numbers = new Map();
     }

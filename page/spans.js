@@ -1,12 +1,15 @@
-/* Captures of different times: which are, and by how much their packets are moved so that all end together, as if they were of one time. Else the end
- * of one file would be a silence of its links beside a file that goes on. */
+/* Captures of different times, and those that end before others: by how much their packets are moved so that all end together, as if they were of one
+ * time. Else the end of one file would be a silence of its links beside a file that goes on. */
 
 import { capitalized } from "./keys.js";
+import { SHORT_TIMEOUT } from "./records.js";
 
 /* Files that overlap for less are of different times; seconds. */
 const MOST_COMMON = 5;
 /* So much later than its next LACPDU an end is silent; it sends each 30 s at least. */
 const LATE = 1.5, SELDOM = 31;
+/* By so much a file may end before another one, whose ends send no seldomer; seconds. */
+const LITTLE = 1.5;
 /* Of more files the times are not named. */
 const MOST_TOLD = 4;
 
@@ -74,11 +77,32 @@ function timesSaid(groups) {
     return `${said.slice(0, MOST_TOLD).join("; ")}${said.length > MOST_TOLD ? `; and ${said.length - MOST_TOLD} more` : ""}`;
 }
 
+/* Whether a file ends so much before another one that the rest would be a silence; of one that is cut short no rest says anything. */
+const endsEarly = ({ to, pace, files }, end) => secondsFrom(end, to) > (files.some(({ fault }) => fault) ? 0 : pace < SHORT_TIMEOUT ? LITTLE : pace);
+
+/* Of files that are of one time: by how much those that end before the others are moved, what is noted of them, and the links that they hold. */
+function earlyIn(group, moves) {
+    const end = endOf(group), early = group.filter((it) => endsEarly(it, end)), begin = beginOf(group), at = (time) => `${secondsFrom(time, begin).toFixed(1)} s`;
+    for (const it of early) for (const { file } of it.files) moves.set(file, (moves.get(file) ?? 0n) + end - it.to);
+    const last = namesOfFiles(group.filter(({ to }) => to === end)), said = early.slice(0, MOST_TOLD).map((it) => {
+        const why = it.files.some(({ fault }) => fault) ? "it is cut short" : "either its capture was stopped, or its link went down";
+        return `${namesOfFiles([it])} ends at ${at(it.to)}, ${last} at ${at(end)}: ${why}.`;
+    });
+    if (early.length > MOST_TOLD) said.push(`So do ${early.length - MOST_TOLD} more.`);
+    return { note: said.length ? `${said.join(" ")} What is behind the end of a file says nothing of its link: it is judged as if all ended together, and its seconds count so.` : "", links: early.flatMap(({ links }) => [...links]) };
+}
+
 /* Of files, each with its packets (`kept`), the time of its first one (`from`), and its name: by how much the packets of each have to be moved; what is
- * said first where they are of different times, and what is noted where they overlap. `linkOf` gives the link of an interface. */
+ * said first where they are of different times, what is noted where they overlap, and the links whose files end before others (`early`). `linkOf` gives
+ * the link of an interface. */
 export function movesOf(files, linkOf) {
     const parts = partsIn(files, linkOf), groups = togetherIn(parts.filter(({ links, from }) => links.size && from)), moves = new Map();
-    if (groups.length < 2) return { moves, apart: "", note: "" };
+    const found = groups.length < 2 ? { apart: "", note: "" } : ofGroups(parts, groups, moves), early = groups.map((it) => earlyIn(it, moves));
+    return { moves, apart: found.apart, note: [found.note, ...early.map((it) => it.note)].filter(Boolean).join(" "), early: new Set(early.flatMap((it) => it.links)) };
+}
+
+/* The same of files of different times, in groups of one time each. */
+function ofGroups(parts, groups, moves) {
     const end = endOf(parts), whole = [...groups, ...parts.filter((it) => !groups.flat().includes(it)).map((it) => [it])];
     for (const group of whole) for (const { files: own } of group) for (const it of own) moves.set(it.file, end - endOf(group));
     groups.sort((one, other) => beginOf(one) < beginOf(other) ? -1 : 1);
@@ -86,5 +110,5 @@ export function movesOf(files, linkOf) {
     const longest = groups.reduce((one, other) => endOf(other) - beginOf(other) > endOf(one) - beginOf(one) ? other : one);
     const said = `these captures are of different times (${timesSaid(groups)})`;
     const moved = `They are taken as if they ended together: silence behind the end of a file says nothing, and seconds count from the beginning of ${namesOfFiles(longest)}.`;
-    return { moves, apart: isApart ? `${capitalized(said)}: capture all links at once. As if they were of one time:` : "", note: isApart ? moved : `${capitalized(said)}. ${moved}` };
+    return { apart: isApart ? `${capitalized(said)}: capture all links at once. As if they were of one time:` : "", note: isApart ? moved : `${capitalized(said)}. ${moved}` };
 }

@@ -111,9 +111,12 @@ function lineOf(link, groups, until, beside) {
     return { link, port: heard[0].port, name: label ? `${label} (${ends})` : ends, how, why, isVague };
 }
 
+/* The same of a link whose file ends before others: it carries up to there. */
+const ofFileEnd = (line, early) => line?.link.carries && early.has(line.link.ends[0].interface) ? { ...line, why: `${line.why}, up to the end of its file`, isEarly: true } : line;
+
 /* The lines of all links, those that do not carry first; beside links, each file of them without an LACPDU is one, too. */
 export function linesOf(records, bundles) {
-    const groups = keyGroups(bundles), ofBundle = ({ links }) => links.filter((it) => !it.isPast).map((it) => lineOf(it, groups, records.lacpdus.last, links));
+    const groups = keyGroups(bundles), ofBundle = ({ links }) => links.filter((it) => !it.isPast).map((it) => ofFileEnd(lineOf(it, groups, records.lacpdus.last, links), records.early));
     const lines = bundles.flatMap(ofBundle).filter(Boolean);
     lines.sort((one, other) => one.port - other.port);
     const whyOf = (name) => `no LACPDU is in the file ${name}: if it is of the bond itself, which has none, leave it out. Else neither end sends on that link, as where LACP is off, or both ends are passive`;
@@ -144,7 +147,7 @@ const MEANT_AS_ONE = "If they are to be one, give them one key at each end; else
 function ofHealthy(lines, causes) {
     const all = lines.length, lags = lagsOf(lines);
     const past = causes.filter(({ kind }) => kind === PAST), links = all === 1 ? "The link carries" : `${all} links carry`, cause = past.find((it) => it.wasFault);
-    const since = past.length ? `, since ${roundedSeconds(Math.max(...past.map((it) => it.until)))}` : "";
+    const began = past.length ? `, since ${roundedSeconds(Math.max(...past.map((it) => it.until)))}` : "", isEarly = lines.some((it) => it.isEarly), since = `${began}${isEarly ? ", up to the end of each file" : ""}`;
     if (cause) return [`${links}, both ways${since}. Before, ${cause.title}.`, ""];
     const twins = causes.find(({ kind, rule }) => kind === REMARK && rule === null);
     if (twins) return [`${links}, both ways${since}. ${capitalized(twins.title)}: right if they are an MLAG pair.`, ""];
@@ -152,7 +155,7 @@ function ofHealthy(lines, causes) {
         const named = lags.length > MOST_LAGS ? "" : `: ${lags.map(joinedBy).join("; ")}`, flow = lags.some((it) => it.length > 1) ? ` ${flowSaid([])}` : "";
         return [`${links}, both ways${since}, as ${lags.length} bundles${named}. ${MEANT_AS_ONE}${flow}`, ""];
     }
-    return [all === 1 ? `${links}, both ways${since}. ${ONE}` : `${links}, both ways${since}: LACP is not your trouble. ${flowSaid([])}`, "good"];
+    return [all === 1 ? `${links}, both ways${since}. ${ONE}` : `${links}, both ways${since}: LACP is not your trouble${isEarly ? " up to there" : ""}. ${flowSaid([])}`, isEarly ? "" : "good"];
 }
 
 /* How links that carry do so, where some lead to another system or have another key: of these a bond has one group in use. */

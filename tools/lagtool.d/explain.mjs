@@ -37,7 +37,7 @@ const textOfAll = ({ headline, lines, note, counts, causes, placeOf = String }) 
 
 async function recordsOf(lagtool, files, isJoined = false) {
     const given = await captureFrom(files, isJoined), { printed, said } = lagtool.capture(new Uint8Array(await given.capture.arrayBuffer()), { json: true }), records = new Records();
-    Object.assign(records, { names: given.names, silent: given.silent, places: given.places, numbers: given.numbers });
+    Object.assign(records, { names: given.names, silent: given.silent, early: given.early, places: given.places, numbers: given.numbers });
     records.addLines(printed);
     return !isJoined && areJoined(records) ? recordsOf(lagtool, files, true) : { ...given, said, records };
 }

@@ -3,6 +3,7 @@
 from __future__ import annotations
 
 import os
+import re
 import subprocess
 from typing import Any, Callable
 
@@ -198,19 +199,23 @@ def links_at(folder: str, times: list[range], keys: tuple[int, int] = (8, 8), so
 
 
 def of_times(tests: Tests, browser: Browser, folder: str) -> None:
-    """Captures one behind the other are told first, and their links are compared; that one ends earlier is no silence. Links that go down, or come up, in
-    captures of one time are no such captures."""
+    """Captures one behind the other are told first, and their links are compared; that one ends earlier is no silence, and a note says so: its capture was
+    stopped, or its link went down. In one file a link that goes down is a cause."""
     words = "These captures are of different times ({}): capture all links at once. As if they were of one time: "
     after, late = "eth1: 0.0 to 59.1 s; eth2: 90.0 to 149.1 s", "eth1: 0.0 to 59.1 s; eth2: 10.0 to 69.1 s"
-    both, keys, one = f"2 links carry, both ways: {HASH}", "1 of 2 links carries. Keys differ within one pair of systems.", "1 of 2 links carries. Both ends of a link send nothing more."
+    both, keys, early = f"2 links carry, both ways: {HASH}", "1 of 2 links carries. Keys differ within one pair of systems.", f"2 links carry, both ways, up to the end of each file: {HASH.replace('trouble', 'trouble up to there')}"
     cases = {
         "one behind the other": ([range(60), range(90, 150)], (8, 8), words.format(after) + both, True),
         "one behind the other, with two keys": ([range(60), range(90, 150)], (9, 8), words.format(after) + keys, True),
         "for 10 s each": ([range(10), range(12, 22)], (8, 8), words.format("eth1: 0.0 to 9.1 s; eth2: 12.0 to 21.1 s") + both, True),
         "begun 10 s apart": ([range(60), range(10, 70)], (8, 8), both, True),
         "with long timeouts, at one time": ([range(3, 4), range(10, 11)], (8, 8), both, False),
-        "a link that goes down": ([range(60), range(20)], (8, 8), one, False),
-        "a link that goes down, and one that comes up": ([range(50), range(25, 100)], (8, 8), one, False),
+        "of which one ends early": ([range(60), range(20)], (8, 8), early, False),
+        "of which one ends 4 s before the other": ([range(60), range(56)], (8, 8), early, False),
+        "of which one ends a second before the other": ([range(60), range(59)], (8, 8), both, False),
+        "of which one begins later, and ends early": ([range(100), range(8, 80)], (8, 8), early, False),
+        "of which one ends early, and one begins late": ([range(50), range(25, 100)], (8, 8), early, False),
+        "of which one ends early, with two keys": ([range(60), range(20)], (9, 8), keys, False),
     }
     for name, (times, two, headline, is_moved) in cases.items():
         paths = links_at(folder, times, two, up=made.UP if "long" in name else made.FAST)
@@ -219,7 +224,28 @@ def of_times(tests: Tests, browser: Browser, folder: str) -> None:
         said = browser.value(f"[{HEADLINE}, document.getElementById('lasts').textContent]")
         tests.same(f"captures {name}", [said[0], "as if they ended together" in said[1]], [headline, is_moved])
         ended = subprocess.run(["node", EXPLAIN, *paths], stdin=subprocess.DEVNULL, capture_output=True, text=True)
-        tests.same(f"captures {name}, as text", [ended.returncode, ended.stdout.partition("\n")[0], late in ended.stdout], [int(headline != both), headline, "10 s apart" in name])
+        tests.same(f"captures {name}, as text", [ended.returncode, ended.stdout.partition("\n")[0], late in ended.stdout], [int(headline not in (both, early)), headline, "10 s apart" in name])
+        ends = re.search(r"^eth(\d) ends at ([0-9.]+) s, eth(\d) at ([0-9.]+) s: either its capture was stopped, or its link went down\.", ended.stdout, re.M)
+        last = [max(it) + 0.1 - min(map(min, times)) for it in times]
+        wanted = [(port, f"{time:.1f}") for time, port in sorted(zip(last, "12"))] if "early" in name or "4 s" in name else []
+        tests.same(f"captures {name}, when they end", [ends.group(1, 2), ends.group(3, 4)] if ends else [], wanted)
+    of_cut(tests, folder)
+
+
+def of_cut(tests: Tests, folder: str) -> None:
+    """What is behind the cut of a file is no silence of its link. In one file a link that goes down is one."""
+    paths = links_at(folder, [range(60), range(60)])
+    with open(paths[1], "rb+") as it:
+        it.truncate(os.path.getsize(paths[1]) // 2 + 7)
+    ended = subprocess.run(["node", EXPLAIN, *paths], stdin=subprocess.DEVNULL, capture_output=True, text=True)
+    headline = "2 links carry, both ways, up to the end of each file: LACP is not your trouble up to there."
+    said = [ended.stdout.startswith(headline), "\neth2 ends at 29.0 s, eth1 at 59.1 s: it is cut short." in ended.stdout, ended.stderr.startswith("lagtool: cannot read eth2.pcap: octet ")]
+    tests.same("captures of which one is cut short", [ended.returncode, *said], [2, True, True, True])
+    one, two = (made.Party(it, 7, 1, made.FAST) for it in (1, 2))
+    whole = os.path.join(folder, "whole.pcap")
+    made.capture(whole, made.exchange(one, two, map(float, range(60))), made.exchange(one._replace(port=2), two._replace(port=2), map(float, range(20))))
+    ended = subprocess.run(["node", EXPLAIN, whole], stdin=subprocess.DEVNULL, capture_output=True, text=True)
+    tests.same("a link that goes down, in one file", [ended.returncode, ended.stdout.partition("\n")[0]], [1, "1 of 2 links carries. Both ends of a link send nothing more."])
 
 
 def of_one_source(tests: Tests, browser: Browser, folder: str) -> None:
