@@ -130,8 +130,22 @@ function once(kept, linkOf) {
     });
 }
 
+/* What a file that is packed begins with. */
+const PACKED = new Map([["1f8b", "gzip"], ["fd377a585a00", "xz"], ["28b52ffd", "zstd"]]);
+
+const UNKNOWN_FILE = "neither pcap nor pcapng";
+
 /* Why a file is no capture, by its first octets. */
-const whyUnknown = async (file) => /^1f8b/.test(textOf(new Uint8Array(await file.slice(0, 2).arrayBuffer()))) ? "packed by gzip: unpack it first" : "neither pcap nor pcapng";
+async function whyUnknown(file) {
+    const begin = textOf(new Uint8Array(await file.slice(0, 6).arrayBuffer())), found = [...PACKED].find(([octets]) => begin.startsWith(octets));
+    return found ? `packed by ${found[1]}: unpack it first` : UNKNOWN_FILE;
+}
+
+/* What the module says of one file that is no capture, with the program that packed it. */
+export async function saidOf(said, [file]) {
+    const why = said.includes(UNKNOWN_FILE) ? await whyUnknown(file) : UNKNOWN_FILE;
+    return why === UNKNOWN_FILE ? said : said.replace(/neither pcap nor pcapng(: \d+)?/, why);
+}
 
 /* What one file gives: its slow protocols frames, when it begins, and its last packet, up to which it goes; whether it has LACPDUs, and why it cannot be read to its
  * end. `numberOf` gives interfaces their numbers. */

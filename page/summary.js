@@ -141,7 +141,24 @@ function lagsOf(lines) {
     return [...lags.values()];
 }
 
+/* The links of lines whose systems have nothing to do with those of others, apart. */
+function strangersAmong(lines) {
+    const groups = [];
+    for (const { link } of lines.filter((it) => it.link)) {
+        const systems = link.ends.flatMap((end) => end?.last ? [end.system, end.named] : []).filter(isKnown).map(addressOf), near = groups.filter((it) => systems.some((system) => it.systems.includes(system)));
+        groups.splice(0, groups.length, ...groups.filter((it) => !near.includes(it)), { systems: [...near.flatMap((it) => it.systems), ...systems], links: [...near.flatMap((it) => it.links), link] });
+    }
+    return groups.filter(({ systems }) => systems.length).map(({ links }) => links.map(linkName));
+}
+
+/* That several files are of bundles that share no system; nothing where they do, or where one file has them. */
+export function strangersSaid(lines, { places }) {
+    const groups = places.size ? strangersAmong(lines) : [], named = groups.length > MOST_LAGS ? "" : ` (${groups.map(joinedBy).join("; ")})`;
+    return groups.length > 1 ? `These files are of ${groups.length} bundles that share no system${named}: nothing is compared between these.` : "";
+}
+
 const MEANT_AS_ONE = "If they are to be one, give them one key at each end; else LACP is not your trouble.";
+const SHARE_NOTHING = "They share no system: if they are to be one, another machine was captured; else LACP is not your trouble.";
 
 /* That all links carry: since when, where it was not so before, and what was the cause; else of one link, of a bundle, or of several. */
 function ofHealthy(lines, causes) {
@@ -153,7 +170,7 @@ function ofHealthy(lines, causes) {
     if (twins) return [`${links}, both ways${since}. ${capitalized(twins.title)}: right if they are an MLAG pair.`, ""];
     if (lags.length > 1) {
         const named = lags.length > MOST_LAGS ? "" : `: ${lags.map(joinedBy).join("; ")}`, flow = lags.some((it) => it.length > 1) ? ` ${flowSaid([])}` : "";
-        return [`${links}, both ways${since}, as ${lags.length} bundles${named}. ${MEANT_AS_ONE}${flow}`, ""];
+        return [`${links}, both ways${since}, as ${lags.length} bundles${named}. ${strangersAmong(lines).length === lags.length ? SHARE_NOTHING : MEANT_AS_ONE}${flow}`, ""];
     }
     return [all === 1 ? `${links}, both ways${since}. ${ONE}` : `${links}, both ways${since}: LACP is not your trouble${isEarly ? " up to there" : ""}. ${flowSaid([])}`, isEarly ? "" : "good"];
 }

@@ -33,6 +33,7 @@ def of_summaries(tests: Tests, browser: Browser, folder: str) -> None:
     of_ends(tests, browser, folder)
     of_files(tests, browser, folder)
     of_packed(tests, folder)
+    of_strangers(tests, os.path.join(folder, "strangers"))
     of_many(tests, browser, folder)
     of_unreadable(tests, browser, folder)
 
@@ -258,12 +259,27 @@ def of_one_source(tests: Tests, browser: Browser, folder: str) -> None:
 
 def of_packed(tests: Tests, folder: str) -> None:
     """A capture that is packed is not said to have no LACPDU."""
-    path = os.path.join(folder, "eth9.pcap.gz")
-    with open(path, "wb") as out:
-        out.write(b"\x1f\x8b\x08" + bytes(40))
-    for given, why in ([path], "octet 0: packed by gzip: unpack it first"), ([path, path], "packed by gzip: unpack it first"):
-        ended = subprocess.run(["node", EXPLAIN, *given], stdin=subprocess.DEVNULL, capture_output=True, text=True)
-        tests.same(f"{len(given)} captures, packed", [ended.returncode, ended.stdout, ended.stderr.splitlines()[0]], [2, "", f"lagtool: cannot read eth9.pcap.gz: {why}"])
+    begins = {"gzip": b"\x1f\x8b\x08", "xz": b"\xfd7zXZ\0", "zstd": b"\x28\xb5\x2f\xfd"}
+    for name, begin in begins.items():
+        path = os.path.join(folder, f"eth9.pcap.{name}")
+        with open(path, "wb") as out:
+            out.write(begin + bytes(40))
+        for given, at in ([path], "octet 0: "), ([path, path], ""):
+            ended = subprocess.run(["node", EXPLAIN, *given], stdin=subprocess.DEVNULL, capture_output=True, text=True)
+            wanted = [2, "", f"lagtool: cannot read eth9.pcap.{name}: {at}packed by {name}: unpack it first"]
+            tests.same(f"{len(given)} captures, packed by {name}", [ended.returncode, ended.stdout, ended.stderr.splitlines()[0]], wanted)
+
+
+def of_strangers(tests: Tests, folder: str) -> None:
+    """Files of bundles that share no system are told as that; of two links of one system nothing is said."""
+    os.makedirs(folder, exist_ok=True)
+    said = "These files are of 2 bundles that share no system (eth1; eth2): nothing is compared between these."
+    for name, systems in ("no system", (3, 4)), ("a system", (1, 4)):
+        paths = [os.path.join(folder, f"eth{port}.pcap") for port in (1, 2)]
+        for path, (one, other) in zip(paths, [(1, 2), systems]):
+            made.pcap(path, made.exchange(made.Party(one, 7, 1, made.FAST), made.Party(other, 8, 1, made.FAST), map(float, range(20))))
+        ended = subprocess.run(["node", EXPLAIN, *paths], stdin=subprocess.DEVNULL, capture_output=True, text=True)
+        tests.same(f"files that share {name}", [said in ended.stdout, "as 2 bundles: eth1; eth2. They share no system: " in ended.stdout], [name == "no system"] * 2)
 
 
 def of_one_system(tests: Tests, browser: Browser, folder: str) -> None:
