@@ -227,7 +227,7 @@ def of_times(tests: Tests, browser: Browser, folder: str) -> None:
         ended = subprocess.run(["node", EXPLAIN, *paths], stdin=subprocess.DEVNULL, capture_output=True, text=True)
         tests.same(f"captures {name}, as text", [ended.returncode, ended.stdout.partition("\n")[0], late in ended.stdout], [int(headline not in (both, early)), headline, "10 s apart" in name])
         ends = re.search(r"^eth(\d) ends at ([0-9.]+) s, eth(\d) at ([0-9.]+) s: either its capture was stopped, or its link went down\.", ended.stdout, re.M)
-        last = [max(it) + 0.1 - min(map(min, times)) for it in times]
+        last = [it[-1] + 0.1 - min(one[0] for one in times) for it in times]
         wanted = [(port, f"{time:.1f}") for time, port in sorted(zip(last, "12"))] if "early" in name or "4 s" in name else []
         tests.same(f"captures {name}, when they end", [ends.group(1, 2), ends.group(3, 4)] if ends else [], wanted)
     of_cut(tests, folder)
