@@ -9,7 +9,7 @@ const MOST_COMMON = 5;
 /* So much later than its next LACPDU an end is silent; it sends each 30 s at least. */
 const LATE = 1.5, SELDOM = 31;
 /* By so much a file may end before another one, whose ends send no seldomer; seconds. */
-const LITTLE = 1.5;
+const LITTLE = 2;
 /* Of more files the times are not named. */
 const MOST_TOLD = 4;
 
@@ -21,15 +21,16 @@ const most = (times) => times.reduce((one, other) => other > one ? other : one);
 /* The longest time between two that follow each other; seconds. */
 const longestOf = (times) => times.slice(1).reduce((gap, time, at) => Math.max(gap, secondsFrom(time, times[at])), 0);
 
-/* The longest that an end lets pass between two LACPDUs, of the end that sends most often; seconds. */
-function paceOf(lacpdus) {
+/* The longest that an end lets pass between two LACPDUs, of the end that sends most often; seconds. With a time: of those that send up to there. */
+function paceOf(lacpdus, until = null) {
     const times = new Map();
     for (const { source, number, time } of lacpdus) {
         const end = `${number} ${source}`;
         if (!times.has(end)) times.set(end, []);
         times.get(end).push(time);
     }
-    return [...times.values()].filter((it) => it.length > 2).reduce((pace, it) => Math.min(pace, longestOf(it)), SELDOM);
+    const speaking = [...times.values()].filter((it) => it.length > 2 && (until === null || secondsFrom(until, it.at(-1)) <= longestOf(it) + LATE));
+    return speaking.reduce((pace, it) => Math.min(pace, longestOf(it)), SELDOM);
 }
 
 /* Files that hold one link, as one: their times, and how often its ends send; of files without LACPDUs these are not known. */
@@ -43,7 +44,7 @@ function partsIn(files, linkOf) {
     return parts.filter(({ files: own }) => own.some(({ kept }) => kept.length)).map((part) => {
         const kept = part.files.flatMap((it) => it.kept), from = least(part.files.map((it) => it.from).filter((it) => it !== null)), to = most(kept.map(({ time }) => time));
         const lacpdus = kept.filter((it) => it.isLacpdu), times = lacpdus.map(({ time }) => time).sort((one, other) => one < other ? -1 : 1);
-        return { ...part, from, to, pace: paceOf(lacpdus), gap: longestOf(times) };
+        return { ...part, from, to, pace: paceOf(lacpdus), lastPace: paceOf(lacpdus, to), gap: longestOf(times) };
     });
 }
 
@@ -78,7 +79,7 @@ function timesSaid(groups) {
 }
 
 /* Whether a file ends so much before another one that the rest would be a silence; of one that is cut short no rest says anything. */
-const endsEarly = ({ to, pace, files }, end) => secondsFrom(end, to) > (files.some(({ fault }) => fault) ? 0 : pace < SHORT_TIMEOUT ? LITTLE : pace);
+const endsEarly = ({ to, lastPace, files }, end) => secondsFrom(end, to) > (files.some(({ fault }) => fault) ? 0 : lastPace < SHORT_TIMEOUT ? LITTLE : lastPace);
 
 /* Of files that are of one time: by how much those that end before the others are moved, what is noted of them, and the links that they hold. */
 function earlyIn(group, moves) {

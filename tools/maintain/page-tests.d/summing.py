@@ -242,9 +242,13 @@ def of_cut(tests: Tests, folder: str) -> None:
     headline = "2 links carry, both ways, up to the end of each file: LACP is not your trouble up to there."
     said = [ended.stdout.startswith(headline), "\neth2 ends at 29.0 s, eth1 at 59.1 s: it is cut short." in ended.stdout, ended.stderr.startswith("lagtool: cannot read eth2.pcap: octet ")]
     tests.same("captures of which one is cut short", [ended.returncode, *said], [2, True, True, True])
-    one, two = (made.Party(it, 7, 1, made.FAST) for it in (1, 2))
+    one, two = made.Party(1, 7, 2, made.FAST), made.Party(2, 8, 2, made.FAST)
+    parts = made.sends(one, two, map(float, range(21))), made.sends(two, one, (0.1 + it for it in (*range(24), 53, 83)))
+    made.capture(links_at(folder, [range(100), range(9)])[1], *parts)
+    ended = subprocess.run(["node", EXPLAIN, *paths], stdin=subprocess.DEVNULL, capture_output=True, text=True)
+    tests.same("an end that sends seldom at the end", [ended.returncode, "eth2 ends" in ended.stdout], [1, False])
     whole = os.path.join(folder, "whole.pcap")
-    made.capture(whole, made.exchange(one, two, map(float, range(60))), made.exchange(one._replace(port=2), two._replace(port=2), map(float, range(20))))
+    made.capture(whole, made.exchange(one, two, map(float, range(60))), made.exchange(one._replace(port=1), two._replace(port=1), map(float, range(20))))
     ended = subprocess.run(["node", EXPLAIN, whole], stdin=subprocess.DEVNULL, capture_output=True, text=True)
     tests.same("a link that goes down, in one file", [ended.returncode, ended.stdout.partition("\n")[0]], [1, "1 of 2 links carries. Both ends of a link send nothing more."])
 
