@@ -6,7 +6,7 @@ import { dashed } from "./advice.js";
 
 const MOST_TEXTS = 2, NOBODY = "nobody", UNUSED = "The second one is not used.";
 /* Why so many texts are not read; nothing where they are. */
-export const tooMany = (count) => count <= MOST_TEXTS ? "" : "two texts at most: yours, then the far end's. Bonds of one host are one text: cat /proc/net/bonding/*";
+export const tooMany = (count) => count <= MOST_TEXTS ? "" : "two texts at most: yours, then the far end's. Bonds of one host are one text: sudo tail -v -n +1 /proc/net/bonding/*";
 
 const actorOf = ({ ports }) => ports.find((it) => it.actor?.system)?.actor ?? null;
 const systemOf = (bundle) => actorOf(bundle)?.system ?? null;

@@ -14,7 +14,7 @@ from texts import EXPLAIN, STATUS, pasted, second_port
 
 HEALTHY = "2 of 2 links carry. LACP is not your trouble"
 ASKED = "if the other end says so, too"
-MOST = "two texts at most: yours, then the far end's. Bonds of one host are one text: cat /proc/net/bonding/*"
+MOST = "two texts at most: yours, then the far end's. Bonds of one host are one text: sudo tail -v -n +1 /proc/net/bonding/*"
 # Two ends as the stored texts have them.
 OURS, THEIRS = "02-00-00-01-0a-01", "02-00-00-01-0b-01"
 DOWN = "MII Status: down\nSpeed"
