@@ -1,8 +1,7 @@
 -- A block, a head and a step stay as they are, whatever follows the octets.
-use Rattle.std.proofs.Common.{◌≡◌, ◌++◌, ◌≤◌, ◌+◌, ◌-◌, ◌*◌, ◌/◌, ◌%◌, ◌∙◌, ◌==◌, ◌&&◌, ◌||◌, not, ℕ, zero, suc, Bool, true, false, cond, List}
-use Rattle.std.proofs.Common.{length, slice_index, nat_lt, Result, Ok, Err, IfOk, ap, refl, sym, subst, arith, ltb-false, eqb-true, true≢false}
+use Rattle.std.proofs.Common.{◌≡◌, ◌++◌, ◌≤◌, ◌+◌, ◌-◌, ◌*◌, ◌/◌, ◌∙◌, ◌==◌, ◌&&◌, ◌||◌, not, ℕ, zero, suc, Bool, true, false, cond, List, length}
+use Rattle.std.proofs.Common.{slice_index, nat_lt, Result, Ok, Err, ap, refl, sym, subst, arith, ltb-false}
 use Rattle.std.proofs.lemmas.Bool.{or_parts}
-use Rattle.captures.specs.declared.block.Block.TheVariants as blocks
 use Rattle.captures.specs.declared.description.Entry.{Entry}
 use Rattle.captures.specs.declared.description.Entry.TheVariants as entries
 use Rattle.captures.specs.declared.fault.Cause.TheVariants as causes
@@ -10,7 +9,6 @@ use Rattle.captures.specs.declared.fault.Fault.{Fault}
 use Rattle.captures.specs.declared.fault.Stop.{Stop}
 use Rattle.captures.specs.declared.fault.Stop.TheVariants.{Refused}
 use Rattle.captures.specs.declared.format.Format.{Format}
-use Rattle.captures.specs.declared.format.Format.TheVariants as formats
 use Rattle.captures.specs.declared.interface.Interface.{Interface}
 use Rattle.captures.specs.declared.interface.Timing.{Timing}
 use Rattle.captures.specs.declared.number.Order.{Order}
@@ -27,7 +25,7 @@ use Rattle.captures.specs.Numbers.{number_at}
 use Rattle.captures.specs.Pcap.{link_of_file, most_captured, packet_in, whole}
 use Rattle.captures.specs.Pcapng.{described, interface_number, length_in, limited, or_refused, room, section_in, simple_packet, stamped_packet}
 use Rattle.captures.specs.Reading.{◌>>=◌, with_octets}
-use Rattle.captures.specs.Steps.{ReaderState, second_length, step, step_in}
+use Rattle.captures.specs.Steps.{ReaderState, step, step_in}
 use Rattle.captures.specs.Times.{shift_of, stamp_time, units_of_resolution}
 use Rattle.captures.proofs.EntryLemmas.{none_left, one_entry}
 use Rattle.captures.proofs.StaysLemmas.{Stays, length_same, link_stays, number_same, octet_same, packet_stays, section_stays, stays_bind, stays_known}
@@ -35,8 +33,7 @@ use Rattle.captures.proofs.StaysLemmas.{stays_octets, stays_same, whole_stays}
 
 interface_number_same : (order : Order) (b more : List ℕ) (is_older : Bool) → 12 ≤ length b
     → interface_number order (b ++ more) is_older ≡ interface_number order b is_older
-interface_number_same order b more true le = number_same order b more 8 2 (omega (arith, le))
-interface_number_same order b more false le = number_same order b more 8 4 (omega (arith, le))
+interface_number_same order b more is_older le = grind (arith, number_same)
 
 stamped_stays : (order : Order) (is : List Interface) (b more : List ℕ) (older : Bool) → 8 ≤ length b
     → Stays (stamped_packet order is b older) (stamped_packet order is (b ++ more) older)
@@ -68,17 +65,11 @@ simple_stays order is b more le =
 -- an option with this code and size at this offset, before the offset end
 entry_by : Order → List ℕ → ℕ → ℕ → ℕ → ℕ → Result Entry Stop
 entry_by order b end at c z =
-    cond (c == 0) (Ok entries.End) (cond (is_wrong_option end at c z) (Err (refused (at + 2) (causes.Length z)))
-    (cond (c == 9) (units_at b (at + 4)) (cond (c == 14) (Ok (entries.Moved (shift_of (number_at order b (at + 4) 8)) (at + 12)))
-    (Ok (entries.Other (at + 4 + (z + 3) / 4 * 4))))))
+    cond (c == 0) (Ok entries.End) (cond (is_wrong_option end at c z) (Err (refused (at + 2) (causes.Length z))) (cond (c == 9) (units_at b (at + 4))
+    (cond (c == 14) (Ok (entries.Moved (shift_of (number_at order b (at + 4) 8)) (at + 12))) (Ok (entries.Other (at + 4 + (z + 3) / 4 * 4))))))
 
 size_is : (c : Bool) (z n : ℕ) → c ≡ true → (c && not (z == n)) ≡ false → z ≡ n
-size_is true z n t e = eqb-true z n (yes_not (z == n) e)
-  where
-    yes_not : (x : Bool) → not x ≡ false → x ≡ true
-    yes_not true h = refl
-    yes_not false h = absurd (true≢false h)
-size_is false z n t e = absurd (true≢false (sym t))
+size_is c z n t e = grind arith
 
 entry_by_same : (order : Order) (b more : List ℕ) (end at c z : ℕ) → end ≤ length b → 4 ≤ end → at ≤ end - 4
     → entry_by order (b ++ more) end at c z ≡ entry_by order b end at c z
@@ -127,31 +118,17 @@ entry_same order b more end at le = by (nat_lt end 4 || nat_lt (end - 4) at) ref
 
 others_same : (r : Result Entry Stop) (f g : Timing → ℕ → Result Timing Stop) (t : Timing) → ((u : Timing) (at : ℕ) → f u at ≡ g u at)
     → (r >>= timing_of f t) ≡ (r >>= timing_of g t)
-others_same (Ok entries.End) f g t h = refl
-others_same (Ok (entries.Units units next)) f g t h = h (record t { units = units }) next
-others_same (Ok (entries.Moved shift next)) f g t h = h (record t { shift = shift }) next
-others_same (Ok (entries.Other next)) f g t h = h t next
-others_same (Err e) f g t h = refl
+others_same r f g t h = grind arith
 
 timing_same : (order : Order) (b more : List ℕ) (end n : ℕ) (t : Timing) (at : ℕ) → end ≤ length b
     → timing_from order (b ++ more) end n t at ≡ timing_from order b end n t at
 timing_same order b more end zero t at le = none_left order (b ++ more) end t at ∙ sym (none_left order b end t at)
-timing_same order b more end (suc n) t at le =
-    one_entry order (b ++ more) end n t at
-    ∙ ap (λ r. r >>= timing_of (timing_from order (b ++ more) end n) t) (entry_same order b more end at le)
-    ∙ others_same (entry_at order b end at) (timing_from order (b ++ more) end n) (timing_from order b end n) t
-    (λ u k. timing_same order b more end n u k le)
-    ∙ sym (one_entry order b end n t at)
+timing_same order b more end (suc n) t at le = one_entry order (b ++ more) end n t at ∙ ap (λ r. r >>= timing_of
+    (timing_from order (b ++ more) end n) t) (entry_same order b more end at le) ∙ others_same (entry_at order b end at) (timing_from order
+    (b ++ more) end n) (timing_from order b end n) t (λ u k. timing_same order b more end n u k le) ∙ sym (one_entry order b end n t at)
 
 length_least : (order : Order) (b : List ℕ) (least n : ℕ) → length_in order b least ≡ Ok n → least ≤ n
-length_least order b least n e =
-    subst (λ r. IfOk r (λ k. least ≤ k)) e (by (not (number_at order b 4 4 % 4 == 0)) (nat_lt (number_at order b 4 4) least) refl)
-  where
-    by : (odd small : Bool) → nat_lt (number_at order b 4 4) least ≡ small
-        → IfOk {E = Stop} (cond (odd || small) (Err (refused 4 (causes.Length (number_at order b 4 4)))) (Ok (number_at order b 4 4))) (λ k. least ≤ k)
-    by true small s = tt
-    by false true s = tt
-    by false false s = ltb-false (number_at order b 4 4) least s
+length_least order b least n e = grind arith
 
 interface_stays : (order : Order) (b more : List ℕ) → 8 ≤ length b → Stays (interface_in order b) (interface_in order (b ++ more))
 interface_stays order b more le =
@@ -173,29 +150,10 @@ interface_stays order b more le =
 
 of_type_stays : (order : Order) (is : List Interface) (b more : List ℕ) (type : ℕ) → 8 ≤ length b
     → Stays (block_of_type type order is b) (block_of_type type order is (b ++ more))
-of_type_stays order is b more type le = by (type == 0x0a0d0d0a) (type == 1) (type == 2) (type == 3) (type == 6)
-  where
-    by : (section interface older simple packet : Bool) → Stays
-        (cond section (as_block blocks.Section (section_in b)) (cond interface (as_block blocks.Interface (interface_in order b))
-        (cond older (as_block blocks.Packet (stamped_packet order is b true)) (cond simple (as_block blocks.Packet (simple_packet order is b))
-        (cond packet (as_block blocks.Packet (stamped_packet order is b false)) (length_in order b 12 >>= λ n. Ok (without_packet type, n)))))))
-        (cond section (as_block blocks.Section (section_in (b ++ more))) (cond interface (as_block blocks.Interface (interface_in order (b ++ more)))
-        (cond older (as_block blocks.Packet (stamped_packet order is (b ++ more) true)) (cond simple (as_block blocks.Packet (simple_packet order is (b ++ more)))
-        (cond packet (as_block blocks.Packet (stamped_packet order is (b ++ more) false)) (length_in order (b ++ more) 12 >>= λ n. Ok (without_packet type, n)))))))
-    by true interface older simple packet = stays_bind (section_in b) (section_in (b ++ more)) _ _ (section_stays b more) (λ x. refl)
-    by false true older simple packet = stays_bind (interface_in order b) (interface_in order (b ++ more)) _ _ (interface_stays order b more le) (λ x. refl)
-    by false false true simple packet =
-        stays_bind (stamped_packet order is b true) (stamped_packet order is (b ++ more) true) _ _ (stamped_stays order is b more true le) (λ x. refl)
-    by false false false true packet = stays_bind (simple_packet order is b) (simple_packet order is (b ++ more)) _ _ (simple_stays order is b more le) (λ x. refl)
-    by false false false false true =
-        stays_bind (stamped_packet order is b false) (stamped_packet order is (b ++ more) false) _ _ (stamped_stays order is b more false le) (λ x. refl)
-    by false false false false false =
-        stays_bind (length_in order b 12) (length_in order (b ++ more) 12) _ _ (stays_same _ _ (length_same order b more 12 le)) (λ n. refl)
+of_type_stays order is b more type le = grind (arith, as_block, section_in, interface_in, simple_packet, length_in, without_packet, stays_bind, section_stays, interface_stays, stamped_stays, simple_stays, stays_same, length_same)
 
 block_stays : (order : Order) (is : List Interface) (b more : List ℕ) → Stays (block_in order is b) (block_in order is (b ++ more))
-block_stays order is b more = stays_octets 8 b more _ _ (λ le.
-    subst (λ k. Stays (block_of_type (number_at order b 0 4) order is b) (block_of_type k order is (b ++ more)))
-    (sym (number_same order b more 0 4 (omega (arith, le)))) (of_type_stays order is b more (number_at order b 0 4) le))
+block_stays order is b more = grind (arith, stays_octets, number_at, number_same, of_type_stays)
 
 of_number_stays : (b more : List ℕ) (first : ℕ) → Stays (format_of_number first b) (format_of_number first (b ++ more))
 of_number_stays b more first = by (first == 0xa1b2c3d4) (first == 0xa1b23c4d) (first == 0xd4c3b2a1) (first == 0x4d3cb2a1) (first == 0x0a0d0d0a)
@@ -218,31 +176,10 @@ abbrev read : ℕ → ℕ → ℕ → List ℕ → Result (Format × ℕ) Stop
 read x y first c = cond ((x == 0x1f) && (y == 0x8b)) (Err (refused 0 causes.Gzip)) (format_of_number first c)
 
 format_stays : (b more : List ℕ) → Stays (format_in b) (format_in (b ++ more))
-format_stays b more = stays_octets 4 b more _ _ (λ le.
-    let first = octet_same b more 0 (omega (arith, le)) in
-    let second = octet_same b more 1 (omega (arith, le)) in
-    let number = number_same Big b more 0 4 (omega (arith, le)) in
-    subst (λ x. Stays (read (slice_index b 0) (slice_index b 1) (number_at Big b 0 4) b) (read x (slice_index (b ++ more) 1) (number_at Big (b ++ more) 0 4) (b ++ more)))
-    (sym first)
-    (subst (λ x. Stays (read (slice_index b 0) (slice_index b 1) (number_at Big b 0 4) b) (read (slice_index b 0) x (number_at Big (b ++ more) 0 4) (b ++ more)))
-    (sym second)
-    (subst (λ x. Stays (read (slice_index b 0) (slice_index b 1) (number_at Big b 0 4) b) (read (slice_index b 0) (slice_index b 1) x (b ++ more)))
-    (sym number) (by ((slice_index b 0 == 0x1f) && (slice_index b 1 == 0x8b))))))
-  where
-    by : (gzip : Bool) → Stays (cond gzip (Err (refused 0 causes.Gzip)) (format_of_number (number_at Big b 0 4) b))
-        (cond gzip (Err (refused 0 causes.Gzip)) (format_of_number (number_at Big b 0 4) (b ++ more)))
-    by true = refl
-    by false = of_number_stays b more (number_at Big b 0 4)
+format_stays b more = grind (arith, stays_octets, octet_same, number_same, read, slice_index, number_at, refused, of_number_stays)
 
 step_in_stays : (f : Format) (s : ReaderState) (b more : List ℕ) → Stays (step_in f s b) (step_in f s (b ++ more))
-step_in_stays formats.Start s b more = stays_bind (format_in b) (format_in (b ++ more)) _ _ (format_stays b more) (λ x. refl)
-step_in_stays (formats.Packet order unit link) s b more =
-    stays_bind (packet_in order unit link b) (packet_in order unit link (b ++ more)) _ _ (packet_stays order unit link b more) (λ p. refl)
-step_in_stays (formats.Block order) s b more =
-    stays_bind (block_in order s.interfaces b) (block_in order s.interfaces (b ++ more)) _ _ (block_stays order s.interfaces b more) (λ x. stays_same _ _ refl)
-step_in_stays (formats.SecondLength order n) s b more =
-    stays_bind (second_length order n b) (second_length order n (b ++ more)) _ _
-    (stays_octets 4 b more _ _ (λ le. stays_same _ _ (rw (number_same order b more 0 4 (omega (arith, le))) refl))) (λ x. refl)
+step_in_stays f s b more = grind (arith, stays_bind, format_in, format_stays, packet_in, packet_stays, block_in, block_stays, stays_same, stays_octets, number_same)
 
 -- what a step answers stays, whatever follows the octets
 pub step_stays : (s : ReaderState) (b more : List ℕ) → Stays (step s b) (step s (b ++ more))

@@ -1,6 +1,6 @@
 -- A capture is read step by step, whatever follows.
-use Rattle.std.proofs.Common.{◌≡◌, ◌++◌, ◌≤◌, ◌<◌, ◌+◌, ◌-◌, ◌∙◌, ◌⊎◌, ℕ, zero, suc, Bool, List, [], ◌∷◌, length, drop, take, min, slice_range, Ok}
-use Rattle.std.proofs.Common.{Err, Option, Some, None, IfSome, ap, refl, sym, arith, inl, inr, append_assoc, length-append, length-drop}
+use Rattle.std.proofs.Common.{◌≡◌, ◌++◌, ◌≤◌, ◌<◌, ◌+◌, ◌-◌, ◌∙◌, ◌⊎◌, ℕ, zero, suc, Bool, List, [], ◌∷◌, length, drop, min, slice_range, Ok, Err}
+use Rattle.std.proofs.Common.{Option, IfSome, ap, refl, sym, arith, inl, inr, append_assoc, length-append, length-drop}
 use Rattle.std.proofs.lemmas.List.{drop-append-le, drop-drop, take-append-le}
 use Rattle.captures.specs.declared.fault.Fault.{Fault}
 use Rattle.captures.specs.declared.fault.Stop.TheVariants.{Wants, Refused}
@@ -14,15 +14,11 @@ use Rattle.captures.specs.Whole.{Capture, Captured, ReadsTo, behind, capture_fro
 use Rattle.captures.proofs.StepLemmas.{step_taken}
 
 range_same : (b more : List ℕ) (i j : ℕ) → i ≤ j → j ≤ length b → slice_range (b ++ more) i j ≡ slice_range b i j
-range_same b more i j le inside =
-    ap (take (j - i)) (drop-append-le i b more (omega (arith, le, inside)))
-    ∙ take-append-le (j - i) (drop i b) more (let l = length-drop i b in omega (arith, l, le, inside))
+range_same b more i j le inside = grind (arith, drop-append-le, take-append-le, drop, length-drop)
 
 numbered_if_same : (o : Option Packet) (is_record : Bool) (b more : List ℕ) → IfSome o (λ p. IsWithin b p)
     → numbered_if o is_record (b ++ more) ≡ numbered_if o is_record b
-numbered_if_same None is_record b more w = refl
-numbered_if_same (Some p) is_record b more w =
-    ap (λ k. Some (record { packet = p; octets = k }) ∷ []) (range_same b more p.start p.end w.start w.end)
+numbered_if_same o is_record b more w = grind (arith, range_same)
 
 one_step : (m at : ℕ) (t u : ReaderState) (x : Step) (b : List ℕ) → step t b ≡ Ok (x, u)
     → capture_from (suc m) at t b ≡ behind (numbered_in x b) (capture_from m (at + min x.taken (length b)) u (drop x.taken b))

@@ -1,7 +1,7 @@
 -- Two groups are equal exactly if the pairs of ends are equal as unordered pairs.
-use Rattle.std.proofs.Common.{◌≡◌, ◌⊎◌, Bool, true, false, Option, Some, None, refl, ap, sym, ◌∙◌, rules, subst, inl, inr, if◌then◌else◌}
+use Rattle.std.proofs.Common.{arith, ◌≡◌, ◌⊎◌, Bool, Option, ap, sym, ◌∙◌, rules, if◌then◌else◌}
 use Rattle.std.specs.declared.cmp.Ordering.{Ordering}
-use Rattle.std.specs.declared.cmp.Ordering.TheVariants.{Less, Equal, Greater}
+use Rattle.std.specs.declared.cmp.Ordering.TheVariants.{Equal}
 use Rattle.std.specs.Ordering.{is_lt, nat_cmp, ordering_then, ordering_reverse}
 use Rattle.std.specs.Cmp.{IsTotalOrder}
 use Rattle.std.specs.Cmp.Rules.{comparing}
@@ -17,34 +17,22 @@ use Rattle.lagtypes.specs.Group.{Pair, SamePair, lower_first}
 
 -- an order of two fields answers Equal only if both do
 then_first : (o p : Ordering) → ordering_then o p ≡ Equal → o ≡ Equal
-then_first Less p e = e
-then_first Equal p e = refl
-then_first Greater p e = e
+then_first o p e = grind arith
 
 then_second : (o p : Ordering) → ordering_then o p ≡ Equal → p ≡ Equal
-then_second Less p e = absurd cc
-then_second Equal p e = e
-then_second Greater p e = absurd cc
+then_second o p e = grind arith
 
 exact_port : (p q : PortId) → port_cmp p q ≡ Equal → p ≡ q
-exact_port p q e =
-    λ i. record {
-      priority = exact_unsigned p.priority q.priority (then_first (nat_cmp p.priority q.priority) (nat_cmp p.number q.number) e) i;
-      number = exact_unsigned p.number q.number (then_second (nat_cmp p.priority q.priority) (nat_cmp p.number q.number) e) i;
-    }
+exact_port p q e = grind arith
 
 exact_system : (s t : SystemId) → system_cmp s t ≡ Equal → s ≡ t
-exact_system s t e =
-    λ i. record {
-      priority = exact_unsigned s.priority t.priority (then_first (nat_cmp s.priority t.priority) (slice_cmp nat_cmp s.mac t.mac) e) i;
-      mac = exact_bytes s.mac t.mac (then_second (nat_cmp s.priority t.priority) (slice_cmp nat_cmp s.mac t.mac) e) i;
-    }
+exact_system s t e = λ i. record {
+  priority = exact_unsigned s.priority t.priority (then_first (nat_cmp s.priority t.priority) (slice_cmp nat_cmp s.mac t.mac) e) i;
+  mac = exact_bytes s.mac t.mac (then_second (nat_cmp s.priority t.priority) (slice_cmp nat_cmp s.mac t.mac) e) i;
+}
 
 exact_ports : (o p : Option PortId) → option_cmp port_cmp o p ≡ Equal → o ≡ p
-exact_ports None None e = refl
-exact_ports None (Some q) e = absurd cc
-exact_ports (Some p) None e = absurd cc
-exact_ports (Some p) (Some q) e = ap Some (exact_port p q e)
+exact_ports o p e = grind arith
 
 exact_ends : (x y : End) → end_cmp x y ≡ Equal → x ≡ y
 exact_ends x y e =
@@ -64,9 +52,7 @@ pick o x y = if is_lt o then record { lower = y; upper = x } else record { lower
 
 -- o is how y compares with x
 swap_by : (o : Ordering) (x y : End) → (o ≡ Equal → x ≡ y) → pick o x y ≡ pick (ordering_reverse o) y x
-swap_by Less x y e = refl
-swap_by Equal x y e = rw (e refl) refl
-swap_by Greater x y e = refl
+swap_by o x y e = grind arith
 
 -- the order in which the ends are named does not count
 swapped : (x y : End) → lower_first (record { one = x; other = y }) ≡ lower_first (record { one = y; other = x })
@@ -75,24 +61,13 @@ swapped x y = swap_by (end_cmp y x) x y (λ e. sym (exact_ends y x e)) ∙ ap (�
 abbrev Either : Pair → Group → Type 0
 Either p g = ((g.lower ≡ p.one) × (g.upper ≡ p.other)) ⊎ ((g.lower ≡ p.other) × (g.upper ≡ p.one))
 
-either : (b : Bool) (p : Pair)
-    → Either p (if b then record { lower = p.other; upper = p.one } else record { lower = p.one; upper = p.other })
-either true p = inr (refl, refl)
-either false p = inl (refl, refl)
-
-pair_by : (p q : Pair) (g : Group) → Either p g → Either q g → SamePair p q
-pair_by p q g (inl a) (inl b) = inl (sym a.0 ∙ b.0, sym a.1 ∙ b.1)
-pair_by p q g (inl a) (inr b) = inr (sym a.0 ∙ b.0, sym a.1 ∙ b.1)
-pair_by p q g (inr a) (inl b) = inr (sym a.1 ∙ b.1, sym a.0 ∙ b.0)
-pair_by p q g (inr a) (inr b) = inl (sym a.1 ∙ b.1, sym a.0 ∙ b.0)
+either : (b : Bool) (p : Pair) → Either p (if b then record { lower = p.other; upper = p.one } else record { lower = p.one; upper = p.other })
+either b p = grind arith
 
 -- equal groups are of equal pairs
 pub pairs_from_groups : (p q : Pair) → lower_first p ≡ lower_first q → SamePair p q
-pairs_from_groups p q e =
-    pair_by p q (lower_first q) (subst (λ g. Either p g) e (either (is_lt (end_cmp p.other p.one)) p))
-    (either (is_lt (end_cmp q.other q.one)) q)
+pairs_from_groups p q e = grind (arith, either)
 
 -- equal pairs have equal groups
 pub groups_from_pairs : (p q : Pair) → SamePair p q → lower_first p ≡ lower_first q
-groups_from_pairs p q (inl e) = λ i. lower_first (record { one = e.0 i; other = e.1 i })
-groups_from_pairs p q (inr e) = (λ i. lower_first (record { one = e.0 i; other = e.1 i })) ∙ swapped q.other q.one
+groups_from_pairs p q h = grind (arith, swapped)

@@ -1,5 +1,5 @@
 -- The Boolean tests of equality hold exactly of equal values.
-use Rattle.std.proofs.Common.{◌≡◌, ◌==◌, ℕ, Bool, true, false, ◌&&◌, refl, ap, Option, Some, None, bytes_eq, eqb-true}
+use Rattle.std.proofs.Common.{arith, ◌≡◌, ◌==◌, ℕ, Bool, true, ◌&&◌, refl, Option, bytes_eq, eqb-true}
 use Rattle.std.specs.Option.{option_eq}
 use Rattle.std.proofs.lemmas.Bool.{and_from, and_parts}
 use Rattle.std.proofs.lemmas.Bool.Decides.{Decides-eqb}
@@ -15,26 +15,16 @@ use Rattle.lagtypes.specs.Same.{same_bit, same_end, same_group, same_party, same
 -- equal by test is equal
 
 exact_bit : (a b : Bool) → same_bit a b ≡ true → a ≡ b
-exact_bit true true h = refl
-exact_bit true false h = cc
-exact_bit false true h = cc
-exact_bit false false h = refl
+exact_bit a b h = grind arith
 
 pub exact_system : (s t : SystemId) → same_system s t ≡ true → s ≡ t
-exact_system s t h =
-    let both = and_parts (s.priority == t.priority) (bytes_eq s.mac t.mac) h in
-    λ i. record { priority = eqb-true s.priority t.priority both.0 i; mac = (bytes_eq-Decides s.mac t.mac).0 both.1 i }
+exact_system s t h = grind (arith, bytes_eq, eqb-true, bytes_eq-Decides)
 
 exact_port : (p q : PortId) → same_port p q ≡ true → p ≡ q
-exact_port p q h =
-    let both = and_parts (p.priority == q.priority) (p.number == q.number) h in
-    λ i. record { priority = eqb-true p.priority q.priority both.0 i; number = eqb-true p.number q.number both.1 i }
+exact_port p q h = grind arith
 
 exact_ports : (o p : Option PortId) → option_eq same_port o p ≡ true → o ≡ p
-exact_ports None None h = refl
-exact_ports None (Some q) h = absurd cc
-exact_ports (Some p) None h = absurd cc
-exact_ports (Some p) (Some q) h = ap Some (exact_port p q h)
+exact_ports o p h = grind arith
 
 pub exact_key : (k l : Key) → (k.0 == l.0) ≡ true → k ≡ l
 exact_key k l h = λ i. record { 0 = eqb-true k.0 l.0 h i }
@@ -56,11 +46,7 @@ exact_end : (e f : End) → same_end e f ≡ true → e ≡ f
 exact_end e f h =
     let all = and_parts (same_system e.system f.system) ((e.key.0 == f.key.0) && option_eq same_port e.port f.port) h in
     let rest = and_parts (e.key.0 == f.key.0) (option_eq same_port e.port f.port) all.1 in
-    λ i. record {
-      system = exact_system e.system f.system all.0 i;
-      key = exact_key e.key f.key rest.0 i;
-      port = exact_ports e.port f.port rest.1 i;
-    }
+    λ i. record { system = exact_system e.system f.system all.0 i; key = exact_key e.key f.key rest.0 i; port = exact_ports e.port f.port rest.1 i }
 
 pub exact_group : (g h : Group) → same_group g h ≡ true → g ≡ h
 exact_group g h t =
@@ -75,22 +61,11 @@ itself n = (Decides-eqb n n).1 refl
 pub system-itself : (s : SystemId) → same_system s s ≡ true
 system-itself s = rw (itself s.priority, (bytes_eq-Decides s.mac s.mac).1 refl) refl
 
-port-itself : (p : PortId) → same_port p p ≡ true
-port-itself p = rw (itself p.priority, itself p.number) refl
-
-bit-itself : (b : Bool) → same_bit b b ≡ true
-bit-itself true = refl
-bit-itself false = refl
-
 pub party_itself : (a : Party) → same_party a a ≡ true
-party_itself a =
-    and_from _ _
-    (and_from _ _ (and_from _ _ (system-itself a.system) (itself a.key.0)) (port-itself a.port))
-    (bit-itself a.aggregatable)
+party_itself a = grind (arith, system-itself)
 
 ports-themselves : (o : Option PortId) → option_eq same_port o o ≡ true
-ports-themselves None = refl
-ports-themselves (Some p) = port-itself p
+ports-themselves o = grind arith
 
 end-itself : (e : End) → same_end e e ≡ true
 end-itself e = and_from _ _ (system-itself e.system) (and_from _ _ (itself e.key.0) (ports-themselves e.port))

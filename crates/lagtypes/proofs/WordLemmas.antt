@@ -1,5 +1,5 @@
 -- The names of the bits that are 1, row by row.
-use Rattle.std.proofs.Common.{Bor, ◌≡◌, ◌<◌, ◌+◌, ℕ, Bool, true, false, List, [], ◌∷◌, ◌++◌, length, take, get_or, map, refl, sym, ap, ◌∙◌}
+use Rattle.std.proofs.Common.{arith, Bor, ◌≡◌, ◌<◌, ◌+◌, ℕ, Bool, true, false, List, [], ◌∷◌, ◌++◌, length, take, get_or, map, refl, sym, ap, ◌∙◌}
 use Rattle.std.proofs.Common.{append_assoc, append-nil, ◌==◌, if◌then◌else◌}
 use Rattle.std.specs.Prelude.{bit_and}
 use Rattle.std.specs.List.{join_with_byte}
@@ -21,8 +21,7 @@ abbrev pub is_set : ℕ → ℕ → Bool
 is_set n bit = bit_and n bit == bit
 
 one_row : (n : ℕ) (row : State × Bor (List ℕ)) → words_of n (row ∷ []) ≡ added (is_set n row.0.0) row.1.now
-one_row n row = elim (is_set n row.0.0) as (λ b. map (λ (r : ℕ × List ℕ). r.1) (if b then row_of row ∷ [] else []) ≡ added b row.1.now)
-    [ true ↦ refl | false ↦ refl ]
+one_row n row = grind arith
 
 words_append : (n : ℕ) (xs ys : List (State × Bor (List ℕ))) → words_of n (xs ++ ys) ≡ words_of n xs ++ words_of n ys
 words_append n xs ys = simp (map-append, filter-append)
@@ -30,9 +29,8 @@ words_append n xs ys = simp (map-append, filter-append)
 -- one row more
 pub words_more : (n : ℕ) (rows : List (State × Bor (List ℕ))) (i : ℕ) (row : State × Bor (List ℕ)) → i < length rows
     → words_of n (take (i + 1) rows) ≡ words_of n (take i rows) ++ added (is_set n (get_or rows i row).0.0) (get_or rows i row).1.now
-words_more n rows i row h =
-    ap (words_of n) (take_more rows i row h) ∙ words_append n (take i rows) (get_or rows i row ∷ [])
-    ∙ ap (λ t. words_of n (take i rows) ++ t) (one_row n (get_or rows i row))
+words_more n rows i row h = ap (words_of n) (take_more rows i row h) ∙ words_append n (take i rows)
+    (get_or rows i row ∷ []) ∙ ap (λ t. words_of n (take i rows) ++ t) (one_row n (get_or rows i row))
 
 abbrev pub is_empty : List (List ℕ) → Bool
 is_empty [] = true
@@ -52,13 +50,11 @@ join_more (x ∷ y ∷ words) word =
 
 -- a row whose bit is 1 adds its word
 pub word_set : (n : ℕ) (rows : List (State × Bor (List ℕ))) (i : ℕ) (d : State × Bor (List ℕ)) (b : Bool) → i < length rows
-    → b ≡ is_set n (get_or rows i d).0.0 → b ≡ true → words_of n (take (i + 1) rows) ≡ words_of n (take i rows)
-    ++ (get_or rows i d).1.now ∷ []
+    → b ≡ is_set n (get_or rows i d).0.0 → b ≡ true → words_of n (take (i + 1) rows) ≡ words_of n (take i rows) ++ (get_or rows i d).1.now ∷ []
 word_set n rows i d b h e t = words_more n rows i d h ∙ ap (λ s. words_of n (take i rows) ++ added s (get_or rows i d).1.now) (sym e ∙ t)
 
 -- another adds none
 pub word_unset : (n : ℕ) (rows : List (State × Bor (List ℕ))) (i : ℕ) (d : State × Bor (List ℕ)) (b : Bool) → i < length rows
     → b ≡ is_set n (get_or rows i d).0.0 → b ≡ false → words_of n (take (i + 1) rows) ≡ words_of n (take i rows)
-word_unset n rows i d b h e t =
-    words_more n rows i d h ∙ ap (λ s. words_of n (take i rows) ++ added s (get_or rows i d).1.now) (sym e ∙ t)
-    ∙ append-nil (words_of n (take i rows))
+word_unset n rows i d b h e t = words_more n rows i d h ∙ ap (λ s. words_of n (take i rows) ++ added s (get_or rows i d).1.now)
+    (sym e ∙ t) ∙ append-nil (words_of n (take i rows))

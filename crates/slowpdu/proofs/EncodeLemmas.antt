@@ -1,8 +1,7 @@
 -- The octets that are written for an LACPDU.
-use Rattle.slowpdu.proofs.Common.{List, [], ap, arith, refl, replicate, subst, sym, ℕ, ◌%◌, ◌*◌, ◌++◌, ◌+◌, ◌/◌, ◌<◌, ◌^◌, ◌∙◌, ◌∷◌, ◌≡◌}
-use Rattle.slowpdu.proofs.Common.{AllByRecursion, big_bytes, octet, Lacpdu, Marker, MarkerKind, Writes, info_fields, lacpdu_table, AreOctets, Field}
-use Rattle.slowpdu.proofs.Common.{HoldsNumber, IsAddress, ignored_field, read_field, WritesMarker, marker_table, tlv_type, InfoFits, info_octets}
-use Rattle.slowpdu.proofs.Common.{replaced}
+use Rattle.slowpdu.proofs.Common.{List, [], arith, refl, replicate, subst, sym, ℕ, ◌%◌, ◌*◌, ◌++◌, ◌+◌, ◌/◌, ◌<◌, ◌^◌, ◌∷◌, ◌≡◌, AllByRecursion}
+use Rattle.slowpdu.proofs.Common.{big_bytes, octet, Lacpdu, Marker, MarkerKind, Writes, info_fields, lacpdu_table, AreOctets, Field, HoldsNumber}
+use Rattle.slowpdu.proofs.Common.{IsAddress, ignored_field, read_field, WritesMarker, marker_table, tlv_type, InfoFits, info_octets, replaced}
 use Rattle.slowpdu.proofs.LayoutLemmas.{all-append}
 use Rattle.slowpdu.proofs.MarkerLemmas.{make_marker}
 use Rattle.slowpdu.proofs.WritingLemmas.{others_zero, six}
@@ -24,8 +23,8 @@ pub written_cells : (p k q n s p' k' q' n' s' t a b c d e f a' b' c' d' e' f' : 
     (make_info p' (a' ∷ b' ∷ c' ∷ d' ∷ e' ∷ f' ∷ []) k' q' n' s') t in
     InfoFits v.actor → InfoFits v.partner → t < 2 ^ 16 → AreOctets (encoded v) → Writes (encoded v) v
 written_cells p k q n s p' k' q' n' s' t a b c d e f a' b' c' d' e' f' = λ fits fits' delay octets.
-    let v : Lacpdu = make_lacpdu (make_info p (a ∷ b ∷ c ∷ d ∷ e ∷ f ∷ []) k q n s)
-    (make_info p' (a' ∷ b' ∷ c' ∷ d' ∷ e' ∷ f' ∷ []) k' q' n' s') t in
+    let v : Lacpdu =
+    make_lacpdu (make_info p (a ∷ b ∷ c ∷ d ∷ e ∷ f ∷ []) k q n s) (make_info p' (a' ∷ b' ∷ c' ∷ d' ∷ e' ∷ f' ∷ []) k' q' n' s') t in
     let octet_alone : s * 1 + 0 ≡ s = omega arith in
     let octet_alone' : s' * 1 + 0 ≡ s' = omega arith in
     let actor : AllByRecursion (HoldsNumber (encoded v)) (info_fields 4 v.actor) = (
@@ -36,8 +35,7 @@ written_cells p k q n s p' k' q' n' s' t a b c d e f a' b' c' d' e' f' = λ fits
       two_bytes p' fits'.system_priority,
       (refl, (two_bytes k' fits'.key, (two_bytes q' fits'.port_priority, (two_bytes n' fits'.port, (octet_alone', tt))))),
     ) in
-    let collector : List Field = ignored_field 42 1 3 ∷ read_field 43 1 16 ∷ read_field 44 2 t ∷ ignored_field 58 1 0
-    ∷ ignored_field 59 1 0 ∷ [] in
+    let collector : List Field = ignored_field 42 1 3 ∷ read_field 43 1 16 ∷ read_field 44 2 t ∷ ignored_field 58 1 0 ∷ ignored_field 59 1 0 ∷ [] in
     let last : AllByRecursion (HoldsNumber (encoded v)) collector = (refl, (refl, (two_bytes t delay, (refl, (refl, tt))))) in
     let partner_on : List Field = ignored_field 22 1 2 ∷ read_field 23 1 20 ∷ (info_fields 24 v.partner ++ collector) in
     let second : AllByRecursion (HoldsNumber (encoded v)) partner_on =
@@ -53,11 +51,8 @@ written_cells p k q n s p' k' q' n' s' t a b c d e f a' b' c' d' e' f' = λ fits
     }
 
 abbrev with_macs : Lacpdu → List ℕ → List ℕ → Lacpdu
-with_macs v m n =
-    make_lacpdu
-    (make_info v.actor.system.priority m v.actor.key.0 v.actor.port.priority v.actor.port.number (octet v.actor.state))
-    (make_info v.partner.system.priority n v.partner.key.0 v.partner.port.priority v.partner.port.number (octet v.partner.state))
-    v.max_delay
+with_macs v m n = make_lacpdu (make_info v.actor.system.priority m v.actor.key.0 v.actor.port.priority v.actor.port.number (octet v.actor.state))
+    (make_info v.partner.system.priority n v.partner.key.0 v.partner.port.priority v.partner.port.number (octet v.partner.state)) v.max_delay
 
 abbrev Claim : Lacpdu → Type 0
 Claim v = InfoFits v.actor → InfoFits v.partner → v.max_delay < 2 ^ 16 → AreOctets (encoded v) → Writes (encoded v) v
@@ -66,15 +61,13 @@ claim : (v : Lacpdu) → InfoFits v.actor → InfoFits v.partner → Claim v
 claim v actor partner =
     let x = six v.actor.system.mac actor.address.0 in
     let y = six v.partner.system.mac partner.address.0 in
-    let cells = written_cells v.actor.system.priority v.actor.key.0 v.actor.port.priority v.actor.port.number (octet v.actor.state)
-    v.partner.system.priority v.partner.key.0 v.partner.port.priority v.partner.port.number (octet v.partner.state) v.max_delay
-    x.0 x.1 x.2 x.3 x.4 x.5 y.0 y.1 y.2 y.3 y.4 y.5 in
+    let cells = written_cells v.actor.system.priority v.actor.key.0 v.actor.port.priority v.actor.port.number
+    (octet v.actor.state) v.partner.system.priority v.partner.key.0 v.partner.port.priority v.partner.port.number
+    (octet v.partner.state) v.max_delay x.0 x.1 x.2 x.3 x.4 x.5 y.0 y.1 y.2 y.3 y.4 y.5 in
     let n : List ℕ = y.0 ∷ y.1 ∷ y.2 ∷ y.3 ∷ y.4 ∷ y.5 ∷ [] in
-    subst (λ (t : List ℕ). Claim (with_macs v v.actor.system.mac t)) (sym y.6)
-    (subst (λ (t : List ℕ). Claim (with_macs v t n)) (sym x.6) cells)
+    subst (λ (t : List ℕ). Claim (with_macs v v.actor.system.mac t)) (sym y.6) (subst (λ (t : List ℕ). Claim (with_macs v t n)) (sym x.6) cells)
 
-pub written : (v : Lacpdu) (b : List ℕ) → b ≡ encoded v → InfoFits v.actor → InfoFits v.partner → v.max_delay < 2 ^ 16
-    → AreOctets b → Writes b v
+pub written : (v : Lacpdu) (b : List ℕ) → b ≡ encoded v → InfoFits v.actor → InfoFits v.partner → v.max_delay < 2 ^ 16 → AreOctets b → Writes b v
 written v b e actor partner delay octets =
     subst (λ (t : List ℕ). AreOctets t → Writes t v) (sym e) (claim v actor partner actor partner delay) octets
 
@@ -82,21 +75,14 @@ written v b e actor partner delay octets =
 pub all_put : (v : Lacpdu) (p1 p2 p3 p4 p5 p6 : List ℕ) → p1 ≡ replaced (replicate 110 0) 0 (1 ∷ 1 ∷ 1 ∷ 20 ∷ [])
     → p2 ≡ replaced p1 4 (info_octets v.actor) → p3 ≡ replaced p2 22 (2 ∷ 20 ∷ []) → p4 ≡ replaced p3 24 (info_octets v.partner)
     → p5 ≡ replaced p4 42 (3 ∷ 16 ∷ []) → p6 ≡ replaced p5 44 (big_bytes 2 v.max_delay) → p6 ≡ encoded v
-all_put v p1 p2 p3 p4 p5 p6 e1 e2 e3 e4 e5 e6 =
-    e6 ∙ ap (λ (b : List ℕ). replaced b 44 (big_bytes 2 v.max_delay)) (
-    e5 ∙ ap (λ (b : List ℕ). replaced b 42 (3 ∷ 16 ∷ [])) (
-    e4 ∙ ap (λ (b : List ℕ). replaced b 24 (info_octets v.partner)) (
-    e3 ∙ ap (λ (b : List ℕ). replaced b 22 (2 ∷ 20 ∷ [])) (
-    e2 ∙ ap (λ (b : List ℕ). replaced b 4 (info_octets v.actor)) e1))))
+all_put v p1 p2 p3 p4 p5 p6 e1 e2 e3 e4 e5 e6 = grind arith
 
 -- the octets that `encode` puts for a marker, in its order
 abbrev pub encoded_marker : Marker → List ℕ
-encoded_marker m =
-    replaced (replaced (replaced (replaced (replicate 110 0) 0 (2 ∷ 1 ∷ tlv_type m.kind ∷ 16 ∷ [])) 4 (big_bytes 2 m.port)) 6 m.system) 12
-    (big_bytes 4 m.id)
+encoded_marker m = replaced
+    (replaced (replaced (replaced (replicate 110 0) 0 (2 ∷ 1 ∷ tlv_type m.kind ∷ 16 ∷ [])) 4 (big_bytes 2 m.port)) 6 m.system) 12 (big_bytes 4 m.id)
 
-marker_cells : (k : MarkerKind) (p id a b c d e f : ℕ)
-    → let m : Marker = make_marker k p (a ∷ b ∷ c ∷ d ∷ e ∷ f ∷ []) id in
+marker_cells : (k : MarkerKind) (p id a b c d e f : ℕ) → let m : Marker = make_marker k p (a ∷ b ∷ c ∷ d ∷ e ∷ f ∷ []) id in
     p < 2 ^ 16 → id < 2 ^ 32 → IsAddress m.system → AreOctets (encoded_marker m) → WritesMarker (encoded_marker m) m
 marker_cells k p id a b c d e f = λ port transaction address octets.
     let m : Marker = make_marker k p (a ∷ b ∷ c ∷ d ∷ e ∷ f ∷ []) id in record {
@@ -115,8 +101,7 @@ MarkerClaim m = m.port < 2 ^ 16 → m.id < 2 ^ 32 → IsAddress m.system → Are
 marker_claim : (m : Marker) → IsAddress m.system → MarkerClaim m
 marker_claim m address =
     let x = six m.system address.0 in
-    subst (λ (t : List ℕ). MarkerClaim (make_marker m.kind m.port t m.id)) (sym x.6)
-    (marker_cells m.kind m.port m.id x.0 x.1 x.2 x.3 x.4 x.5)
+    subst (λ (t : List ℕ). MarkerClaim (make_marker m.kind m.port t m.id)) (sym x.6) (marker_cells m.kind m.port m.id x.0 x.1 x.2 x.3 x.4 x.5)
 
 pub marker_written : (m : Marker) (b : List ℕ) → b ≡ encoded_marker m → m.port < 2 ^ 16 → m.id < 2 ^ 32 → IsAddress m.system
     → AreOctets b → WritesMarker b m
@@ -124,11 +109,6 @@ marker_written m b e port id address octets =
     subst (λ (t : List ℕ). AreOctets t → WritesMarker t m) (sym e) (marker_claim m address port id address) octets
 
 -- the writes of `encode` for a marker, one after the other
-pub all_put_marker : (m : Marker) (n : ℕ) (p1 p2 p3 p4 : List ℕ) → n ≡ tlv_type m.kind
-    → p1 ≡ replaced (replicate 110 0) 0 (2 ∷ 1 ∷ n ∷ 16 ∷ [])
+pub all_put_marker : (m : Marker) (n : ℕ) (p1 p2 p3 p4 : List ℕ) → n ≡ tlv_type m.kind → p1 ≡ replaced (replicate 110 0) 0 (2 ∷ 1 ∷ n ∷ 16 ∷ [])
     → p2 ≡ replaced p1 4 (big_bytes 2 m.port) → p3 ≡ replaced p2 6 m.system → p4 ≡ replaced p3 12 (big_bytes 4 m.id) → p4 ≡ encoded_marker m
-all_put_marker m n p1 p2 p3 p4 en e1 e2 e3 e4 =
-    e4 ∙ ap (λ (b : List ℕ). replaced b 12 (big_bytes 4 m.id)) (
-    e3 ∙ ap (λ (b : List ℕ). replaced b 6 m.system) (
-    e2 ∙ ap (λ (b : List ℕ). replaced b 4 (big_bytes 2 m.port)) (
-    e1 ∙ ap (λ (k : ℕ). replaced (replicate 110 0) 0 (2 ∷ 1 ∷ k ∷ 16 ∷ [])) en)))
+all_put_marker m n p1 p2 p3 p4 en e1 e2 e3 e4 = grind arith

@@ -1,9 +1,9 @@
 -- The readings of an LACPDU.
-use Rattle.slowpdu.proofs.Common.{List, None, [], ap, drop, length, refl, slice_index, sym, ℕ, ◌++◌, ◌∙◌, ◌∷◌, ◌≡◌, ◌≤◌, AllByRecursion, big_number}
-use Rattle.slowpdu.proofs.Common.{octet, Info, Lacpdu, fault_of, Reads, Writes, info_fields, lacpdu_table, Field, HoldsNumber, IsAddress, payload_len}
-use Rattle.slowpdu.proofs.Common.{read_field, read_fields}
+use Rattle.slowpdu.proofs.Common.{List, None, [], ap, arith, drop, length, refl, slice_index, sym, ℕ, ◌++◌, ◌∙◌, ◌∷◌, ◌≡◌, ◌≤◌, AllByRecursion}
+use Rattle.slowpdu.proofs.Common.{big_number, octet, Info, Lacpdu, fault_of, Reads, info_fields, lacpdu_table, Field, HoldsNumber, IsAddress}
+use Rattle.slowpdu.proofs.Common.{payload_len, read_field, read_fields}
 use Rattle.slowpdu.proofs.FaultLemmas.{no_fault_1}
-use Rattle.slowpdu.proofs.LayoutLemmas.{one_number, one_table, numbers, octet_stands, all-append, table-append, table_of_append, written_table}
+use Rattle.slowpdu.proofs.LayoutLemmas.{one_number, one_table, numbers, octet_stands, all-append, table-append, table_of_append}
 
 abbrev pub number_at : ℕ → List ℕ → ℕ
 number_at i ns = slice_index ns i
@@ -26,15 +26,10 @@ make_lacpdu actor partner delay = record { actor = actor; partner = partner; max
 -- the six parameters and the state make an end
 same_info : (a b : Info) → a.system.priority ≡ b.system.priority → a.system.mac ≡ b.system.mac → a.key.0 ≡ b.key.0
     → a.port.priority ≡ b.port.priority → a.port.number ≡ b.port.number → octet a.state ≡ octet b.state → a ≡ b
-same_info a b priority mac key port_priority port state =
-    let parts : make_info a.system.priority a.system.mac a.key.0 a.port.priority a.port.number (octet a.state) ≡ b =
-    rw (priority, mac, key, port_priority, port, state) refl in
-    parts
+same_info a b priority mac key port_priority port state = grind arith
 
 same_lacpdu : (v w : Lacpdu) → v.actor ≡ w.actor → v.partner ≡ w.partner → v.max_delay ≡ w.max_delay → v ≡ w
-same_lacpdu v w actor partner delay =
-    let parts : make_lacpdu v.actor v.partner v.max_delay ≡ w = rw (actor, partner, delay) refl in
-    parts
+same_lacpdu v w actor partner delay = grind arith
 
 abbrev read_numbers : Lacpdu → List ℕ
 read_numbers v = numbers (read_fields (lacpdu_table v))
@@ -42,20 +37,12 @@ read_numbers v = numbers (read_fields (lacpdu_table v))
 -- a payload has one reading
 pub one_reading : (b : List ℕ) (v w : Lacpdu) → Reads b v → Reads b w → w ≡ v
 one_reading b v w hv hw =
-    let e : read_numbers w ≡ read_numbers v = one_table b (read_fields (lacpdu_table w)) (read_fields (lacpdu_table v)) refl
-    hw.table.fields_hold hv.table.fields_hold in
-    same_lacpdu w v
-    (same_info w.actor v.actor (ap (number_at 2) e)
-    (one_address w.actor.system.mac v.actor.system.mac hw.addresses.0 hv.addresses.0 (ap (number_at 3) e))
-    (ap (number_at 4) e) (ap (number_at 5) e) (ap (number_at 6) e) (ap (number_at 7) e))
-    (same_info w.partner v.partner (ap (number_at 9) e)
-    (one_address w.partner.system.mac v.partner.system.mac hw.addresses.1 hv.addresses.1 (ap (number_at 10) e))
-    (ap (number_at 11) e) (ap (number_at 12) e) (ap (number_at 13) e) (ap (number_at 14) e))
-    (ap (number_at 16) e)
-
--- what is written is read
-pub written_reads : (b : List ℕ) (v : Lacpdu) → Writes b v → Reads b v
-written_reads b v h = record { addresses = h.addresses; table = written_table b (lacpdu_table v) h.table }
+    let e : read_numbers w ≡ read_numbers v =
+    one_table b (read_fields (lacpdu_table w)) (read_fields (lacpdu_table v)) refl hw.table.fields_hold hv.table.fields_hold in
+    same_lacpdu w v (same_info w.actor v.actor (ap (number_at 2) e) (one_address w.actor.system.mac v.actor.system.mac hw.addresses.0 hv.addresses.0
+    (ap (number_at 3) e)) (ap (number_at 4) e) (ap (number_at 5) e) (ap (number_at 6) e) (ap (number_at 7) e))
+    (same_info w.partner v.partner (ap (number_at 9) e) (one_address w.partner.system.mac v.partner.system.mac hw.addresses.1 hv.addresses.1
+    (ap (number_at 10) e)) (ap (number_at 11) e) (ap (number_at 12) e) (ap (number_at 13) e) (ap (number_at 14) e)) (ap (number_at 16) e)
 
 -- what follows changes no reading
 pub reads-append : (b rest : List ℕ) (v : Lacpdu) → payload_len ≤ length b → Reads b v → Reads (b ++ rest) v
@@ -66,22 +53,12 @@ reads_of_append b rest v long h = record { addresses = h.addresses; table = tabl
 
 -- what the checks and the fields come to
 pub all_read : (b : List ℕ) (v : Lacpdu) → payload_len ≤ length b → slice_index b 0 ≡ 1 → slice_index b 3 ≡ 20
-    → slice_index b 23 ≡ 20 → slice_index b 43 ≡ 16
-    → IsAddress v.actor.system.mac → IsAddress v.partner.system.mac
-    → AllByRecursion (HoldsNumber b) (info_fields 4 v.actor) → AllByRecursion (HoldsNumber b) (info_fields 24 v.partner)
-    → big_number 2 (drop 44 b) ≡ v.max_delay → Reads b v
+    → slice_index b 23 ≡ 20 → slice_index b 43 ≡ 16 → IsAddress v.actor.system.mac → IsAddress v.partner.system.mac → AllByRecursion (HoldsNumber b)
+    (info_fields 4 v.actor) → AllByRecursion (HoldsNumber b) (info_fields 24 v.partner) → big_number 2 (drop 44 b) ≡ v.max_delay → Reads b v
 all_read b v long subtype actor_length partner_length collector_length actor_mac partner_mac actor partner delay =
     let after : List Field = read_field 43 1 16 ∷ read_field 44 2 v.max_delay ∷ [] in
     let after_stands : AllByRecursion (HoldsNumber b) after = (octet_stands b 43 ∙ collector_length, (delay, tt)) in
-    let second : List Field = read_field 23 1 20 ∷ (info_fields 24 v.partner ++ after) in
-    let second_stands : AllByRecursion (HoldsNumber b) second =
-    (octet_stands b 23 ∙ partner_length, all-append (HoldsNumber b) (info_fields 24 v.partner) after partner after_stands) in
-    let fields_hold : AllByRecursion (HoldsNumber b) (read_field 0 1 1 ∷ read_field 3 1 20 ∷ (info_fields 4 v.actor ++ second)) = (
-      octet_stands b 0
-          ∙ subtype,
-      (octet_stands b 3 ∙ actor_length, all-append (HoldsNumber b) (info_fields 4 v.actor) second actor second_stands),
-    ) in
-    record { addresses = (actor_mac, partner_mac); table = record { long_enough = long; fields_hold = fields_hold } }
+    grind (arith, read_field, info_fields, octet_stands, all-append)
 
 -- an LACPDU is not refused
 pub no_lacpdu_fault : (b : List ℕ) (v : Lacpdu) → Reads b v → fault_of b ≡ None

@@ -1,19 +1,16 @@
 -- Facts about tables of fields, for any table.
-use Rattle.slowpdu.proofs.Common.{Bool, List, [], add-zero, ap, arith, cond, drop, false, filter, inl, inr, length, length-append, length-drop, map}
-use Rattle.slowpdu.proofs.Common.{nat_le, nat_lt, refl, slice_index, suc, sym, take, true, zero, ℕ, ◌*◌, ◌++◌, ◌+◌, ◌-◌, ◌/◌, ◌<◌, ◌^◌, ◌∙◌, ◌∷◌, ◌≡◌}
-use Rattle.slowpdu.proofs.Common.{◌≤◌, and_parts, cases_Bool, cases_lt, leb-true, or_cases, drop-append-le, ext_get_or, get_or-drop, get_or-take}
-use Rattle.slowpdu.proofs.Common.{get_or_past, length-take, AllByRecursion, list_all, big_from, big_number, big_from-append, big_from-cons}
-use Rattle.slowpdu.proofs.Common.{big_from-lt, big_from-take, AreOctets, Field, HoldsNumber, ReadsTable, WritesTable, is_covered, is_within}
+use Rattle.slowpdu.proofs.Common.{Bool, List, [], ap, arith, cond, drop, inl, inr, length, length-append, length-drop, map, nat_le, refl, slice_index}
+use Rattle.slowpdu.proofs.Common.{suc, sym, take, true, zero, ℕ, ◌*◌, ◌++◌, ◌+◌, ◌-◌, ◌<◌, ◌^◌, ◌∙◌, ◌∷◌, ◌≡◌, ◌≤◌, and_parts, cases_Bool, cases_lt}
+use Rattle.slowpdu.proofs.Common.{leb-true, or_cases, drop-append-le, ext_get_or, get_or-drop, get_or-take, get_or_past, length-take, AllByRecursion}
+use Rattle.slowpdu.proofs.Common.{list_all, big_from, big_number, AreOctets, Field, HoldsNumber, ReadsTable, WritesTable, is_covered, is_within}
 use Rattle.slowpdu.proofs.Common.{payload_len, read_fields}
+use Rattle.byteorder.specs.Numbers.{big_from-append, big_from-cons, big_from-lt, big_from-take}
 use Rattle.std.proofs.lemmas.Nat.{same_from_place}
 
 -- what stands in a payload stands in it whatever follows
 pub stands-append : (b rest : List ℕ) (p : Field) → p.offset + p.width ≤ length b
     → big_number p.width (drop p.offset (b ++ rest)) ≡ big_number p.width (drop p.offset b)
-stands-append b rest p h =
-    let inside : p.offset ≤ length b = omega arith in
-    let long : p.width ≤ length (drop p.offset b) = omega (arith, length-drop p.offset b) in
-    ap (big_number p.width) (drop-append-le p.offset b rest inside) ∙ big_from-append p.width (drop p.offset b) rest long
+stands-append b rest p h = grind (arith, drop, length-drop, drop-append-le, big_from-append)
 
 -- the place ends in a payload
 abbrev pub fits : Field → Bool
@@ -39,39 +36,21 @@ all_stood b rest (p ∷ places) long fit h =
 -- a table is read in a payload exactly if it is read with what follows
 pub table-append : (b rest : List ℕ) (places : List Field) → payload_len ≤ length b → list_all fits (read_fields places) ≡ true
     → ReadsTable b places → ReadsTable (b ++ rest) places
-table-append b rest places long fit h = record {
-  long_enough = omega (arith, length-append b rest);
-  fields_hold = all_stand-append b rest (read_fields places) long fit h.fields_hold;
-}
+table-append b rest places long fit h = grind (arith, length-append, all_stand-append)
 
 pub table_of_append : (b rest : List ℕ) (places : List Field) → payload_len ≤ length b → list_all fits (read_fields places) ≡ true
     → ReadsTable (b ++ rest) places → ReadsTable b places
-table_of_append b rest places long fit h =
-    record { long_enough = long; fields_hold = all_stood b rest (read_fields places) long fit h.fields_hold }
+table_of_append b rest places long fit h = record { long_enough = long; fields_hold = all_stood b rest (read_fields places) long fit h.fields_hold }
 
-choose_all : {X : Type 0} (P : X → Type 0) (t : Bool) (x : X) (xs : List X) → P x → AllByRecursion P xs
-    → AllByRecursion P (cond t (x ∷ xs) xs)
-choose_all P true x xs h rest = (h, rest)
-choose_all P false x xs h rest = rest
-
-all-filter : {X : Type 0} (P : X → Type 0) (test : X → Bool) (xs : List X) → AllByRecursion P xs → AllByRecursion P (filter test xs)
-all-filter P test [] h = tt
-all-filter P test (x ∷ xs) h = choose_all P (test x) x (filter test xs) h.0 (all-filter P test xs h.1)
-
--- a table that is written is read
-pub written_table : (b : List ℕ) (places : List Field) → WritesTable b places → ReadsTable b places
-written_table b places h = record {
-  long_enough = omega (arith, h.whole);
-  fields_hold = all-filter (HoldsNumber b) (λ p. p.is_read) places h.fields_hold;
-}
+choose_all : {X : Type 0} (P : X → Type 0) (t : Bool) (x : X) (xs : List X) → P x → AllByRecursion P xs → AllByRecursion P (cond t (x ∷ xs) xs)
+choose_all h t x xs i rest = grind arith
 
 -- a quotient and a remainder are those of one number alone
 tail_octets : (x : ℕ) (xs : List ℕ) → AreOctets (x ∷ xs) → AreOctets xs
 tail_octets x xs h i = h (suc i)
 
 -- octets with one number are equal
-pub one_number : (n : ℕ) (xs ys : List ℕ) → length xs ≡ n → length ys ≡ n → AreOctets xs → AreOctets ys
-    → big_number n xs ≡ big_number n ys → xs ≡ ys
+pub one_number : (n : ℕ) (xs ys : List ℕ) → length xs ≡ n → length ys ≡ n → AreOctets xs → AreOctets ys → big_number n xs ≡ big_number n ys → xs ≡ ys
 one_number zero [] [] lx ly ox oy e = refl
 one_number zero [] (y ∷ ys) lx ly ox oy e = absurd (omega arith)
 one_number zero (x ∷ xs) ys lx ly ox oy e = absurd (omega arith)
@@ -114,10 +93,7 @@ one_table b (p ∷ ps) (q ∷ qs) e hp hq =
 
 -- one octet is a number of its own
 pub octet_stands : (b : List ℕ) (i : ℕ) → big_number 1 (drop i b) ≡ slice_index b i
-octet_stands b i =
-    let here : slice_index (drop i b) 0 ≡ slice_index b (i + 0) = get_or-drop i b 0 0 in
-    let same : slice_index b (i + 0) ≡ slice_index b i = ap (slice_index b) (add-zero i) in
-    omega (arith, here, same)
+octet_stands b i = grind (arith, get_or-drop)
 
 -- a number does not look past its end
 pub number_of_taken : (n : ℕ) (b : List ℕ) → big_number n (take n b) ≡ big_number n b
@@ -132,38 +108,21 @@ abbrev pub cut : List ℕ → Field → List ℕ
 cut b p = take p.width (drop p.offset b)
 
 pub octets-cut : (b : List ℕ) (p : Field) → AreOctets b → AreOctets (cut b p)
-octets-cut b p h i = elim (cases_lt i p.width) [
-  | inl low ↦
-      let e : slice_index (cut b p) i ≡ slice_index b (p.offset + i) = get_or-take p.width (drop p.offset b) i 0 low
-      ∙ get_or-drop p.offset b i 0 in
-      let octet = h (p.offset + i) in
-      omega (arith, e, octet)
-  | inr high ↦
-      let e : slice_index (cut b p) i ≡ 0 = get_or_past (cut b p) i 0 (omega (arith, length-take p.width (drop p.offset b))) in
-      omega (arith, e)
-]
+octets-cut b p h i = grind (arith, cases_lt, cut, get_or-take, drop, get_or-drop, get_or_past, length-take)
 
 -- the same number stands in two payloads, so the same octets do
-same_cut : (b c : List ℕ) (p : Field) → length b ≡ payload_len → length c ≡ payload_len → AreOctets b → AreOctets c
-    → p.offset + p.width ≤ 110
-    → HoldsNumber b p → HoldsNumber c p → cut b p ≡ cut c p
+same_cut : (b c : List ℕ) (p : Field) → length b ≡ payload_len → length c ≡ payload_len → AreOctets b
+    → AreOctets c → p.offset + p.width ≤ 110 → HoldsNumber b p → HoldsNumber c p → cut b p ≡ cut c p
 same_cut b c p lb lc ob oc within hb hc =
-    one_number p.width (cut b p) (cut c p)
-    (omega (arith, length-take p.width (drop p.offset b), length-drop p.offset b))
-    (omega (arith, length-take p.width (drop p.offset c), length-drop p.offset c))
-    (octets-cut b p ob) (octets-cut c p oc)
-    (number_of_taken p.width (drop p.offset b) ∙ hb ∙ sym hc ∙ sym (number_of_taken p.width (drop p.offset c)))
+    one_number p.width (cut b p) (cut c p) (omega (arith, length-take p.width (drop p.offset b), length-drop p.offset b))
+    (omega (arith, length-take p.width (drop p.offset c), length-drop p.offset c)) (octets-cut b p ob)
+    (octets-cut c p oc) (number_of_taken p.width (drop p.offset b) ∙ hb ∙ sym hc ∙ sym (number_of_taken p.width (drop p.offset c)))
 
 in_cut : (b : List ℕ) (p : Field) (i : ℕ) → p.offset ≤ i → i < p.offset + p.width → slice_index b i ≡ slice_index (cut b p) (i - p.offset)
-in_cut b p i low high =
-    let within : i - p.offset < p.width = omega arith in
-    let back : p.offset + (i - p.offset) ≡ i = omega arith in
-    sym (get_or-take p.width (drop p.offset b) (i - p.offset) 0 within ∙ get_or-drop p.offset b (i - p.offset) 0 ∙ ap (slice_index b) back)
+in_cut b p i low high = grind (arith, get_or-take, drop, get_or-drop)
 
 within_of_test : (i : ℕ) (p : Field) → is_within i p ≡ true → (p.offset ≤ i) × (i < p.offset + p.width)
-within_of_test i p h =
-    let parts = and_parts (nat_le p.offset i) (nat_lt i (p.offset + p.width)) h in
-    (leb-true p.offset i parts.0, grind (arith, parts.1))
+within_of_test i p h = grind arith
 
 -- a covered octet is the same in both
 covered_same : (b c : List ℕ) (places : List Field) (i : ℕ) → length b ≡ payload_len → length c ≡ payload_len → AreOctets b → AreOctets c
@@ -175,17 +134,14 @@ covered_same b c (p ∷ places) i lb lc ob oc fit hb hc h =
     elim (or_cases (is_within i p) (is_covered places i) h) [
       | inl here ↦
           let bounds = within_of_test i p here in
-          in_cut b p i bounds.0 bounds.1
-          ∙ ap (λ (xs : List ℕ). slice_index xs (i - p.offset))
-          (same_cut b c p lb lc ob oc (leb-true (p.offset + p.width) 110 fit_parts.0) hb.0 hc.0)
-          ∙ sym (in_cut c p i bounds.0 bounds.1)
+          in_cut b p i bounds.0 bounds.1 ∙ ap (λ (xs : List ℕ). slice_index xs (i - p.offset))
+          (same_cut b c p lb lc ob oc (leb-true (p.offset + p.width) 110 fit_parts.0) hb.0 hc.0) ∙ sym (in_cut c p i bounds.0 bounds.1)
       | inr later ↦ covered_same b c places i lb lc ob oc fit_parts.1 hb.1 hc.1 later
     ]
 
 -- one payload is written by a table
 pub one_payload : (b c : List ℕ) (places : List Field) → list_all fits places ≡ true → WritesTable b places → WritesTable c places → b ≡ c
-one_payload b c places fit hb hc =
-    ext_get_or 0 b c (hb.whole ∙ sym hc.whole) (λ i small.
+one_payload b c places fit hb hc = ext_get_or 0 b c (hb.whole ∙ sym hc.whole) (λ i small.
     let within : i < payload_len = omega (arith, hb.whole) in
     elim (cases_Bool (is_covered places i)) [
       | inl covered ↦ covered_same b c places i hb.whole hc.whole hb.octets hc.octets fit hb.fields_hold hc.fields_hold covered

@@ -1,45 +1,38 @@
 -- The readings of a PDU of either kind.
 use Rattle.slowpdu.proofs.Common.{Err, List, None, Ok, Result, Some, ap, arith, drop, inl, inr, length, refl, subst, sym, take, take-append-drop}
-use Rattle.slowpdu.proofs.Common.{take_all, ℕ, ◌++◌, ◌<◌, ◌↔◌, ◌∙◌, ◌≡◌, ◌≤◌, cases_lt, length-take, WireFault, Lacpdu, Marker, Pdu, fault_of}
-use Rattle.slowpdu.proofs.Common.{lacpdu_table, payload_len, marker_table, IsDecoded, ReadsPdu, WritesPdu}
+use Rattle.slowpdu.proofs.Common.{take_all, ℕ, ◌++◌, ◌<◌, ◌↔◌, ◌∙◌, ◌≡◌, ◌≤◌, cases_lt, length-take, Pdu, fault_of, lacpdu_table, payload_len}
+use Rattle.slowpdu.proofs.Common.{marker_table, IsDecoded, ReadsPdu, WritesPdu}
+use Rattle.slowpdu.specs.declared.fault.WireFault.{WireFault}
 use Rattle.slowpdu.specs.declared.pdu.Pdu.TheVariants as pdu
 use Rattle.slowpdu.proofs.FaultLemmas.{fault-append}
 use Rattle.slowpdu.proofs.LayoutLemmas.{one_payload}
-use Rattle.slowpdu.proofs.LacpduLemmas.{one_reading, written_reads, no_lacpdu_fault, reads-append, reads_of_append}
-use Rattle.slowpdu.proofs.MarkerLemmas.{one_marker, written_marker, no_marker_fault, not_both, marker-append, marker_of_append}
+use Rattle.slowpdu.proofs.LacpduLemmas.{one_reading, no_lacpdu_fault, reads-append, reads_of_append}
+use Rattle.slowpdu.proofs.MarkerLemmas.{one_marker, no_marker_fault, marker-append, marker_of_append}
 
 -- a payload has one reading
 pub one_pdu : (b : List ℕ) (v w : Pdu) → ReadsPdu b v → ReadsPdu b w → w ≡ v
-one_pdu b (pdu.Lacpdu v) (pdu.Lacpdu w) hv hw = ap (λ (u : Lacpdu). pdu.Lacpdu u) (one_reading b v w hv hw)
-one_pdu b (pdu.Lacpdu v) (pdu.Marker w) hv hw = absurd (not_both b v w hv hw)
-one_pdu b (pdu.Marker v) (pdu.Lacpdu w) hv hw = absurd (not_both b w v hw hv)
-one_pdu b (pdu.Marker v) (pdu.Marker w) hv hw = ap (λ (u : Marker). pdu.Marker u) (one_marker b v w hv hw)
+one_pdu b v w hv hw = grind (arith, one_reading, one_marker)
 
 -- and is then not refused
 pub no_fault : (b : List ℕ) (v : Pdu) → ReadsPdu b v → fault_of b ≡ None
-no_fault b (pdu.Lacpdu v) h = no_lacpdu_fault b v h
-no_fault b (pdu.Marker m) h = no_marker_fault b m h
+no_fault b v h = grind (arith, no_lacpdu_fault, no_marker_fault)
 
 -- what follows the first 110 octets changes no reading
 pub reads_pdu-append : (b rest : List ℕ) (v : Pdu) → payload_len ≤ length b → ReadsPdu b v → ReadsPdu (b ++ rest) v
-reads_pdu-append b rest (pdu.Lacpdu v) long h = reads-append b rest v long h
-reads_pdu-append b rest (pdu.Marker m) long h = marker-append b rest m long h
+reads_pdu-append b rest v long h = grind (arith, reads-append, marker-append)
 
 reads_pdu_of_append : (b rest : List ℕ) (v : Pdu) → payload_len ≤ length b → ReadsPdu (b ++ rest) v → ReadsPdu b v
-reads_pdu_of_append b rest (pdu.Lacpdu v) long h = reads_of_append b rest v long h
-reads_pdu_of_append b rest (pdu.Marker m) long h = marker_of_append b rest m long h
+reads_pdu_of_append b rest v long h = grind (arith, reads_of_append, marker_of_append)
 
 pub rest_ignored : (b rest : List ℕ) (v : Pdu) → payload_len ≤ length b → (ReadsPdu (b ++ rest) v ↔ ReadsPdu b v)
 rest_ignored b rest v long = (reads_pdu_of_append b rest v long, reads_pdu-append b rest v long)
 
 -- what is written is read
 pub written_pdu : (b : List ℕ) (v : Pdu) → WritesPdu b v → ReadsPdu b v
-written_pdu b (pdu.Lacpdu v) h = written_reads b v h
-written_pdu b (pdu.Marker m) h = written_marker b m h
+written_pdu b v h = grind arith
 
 pub written_length : (b : List ℕ) (v : Pdu) → WritesPdu b v → length b ≡ payload_len
-written_length b (pdu.Lacpdu v) h = h.table.whole
-written_length b (pdu.Marker m) h = h.table.whole
+written_length b v h = grind arith
 
 -- whatever follows
 pub written_before : (b rest : List ℕ) (v : Pdu) → WritesPdu b v → ReadsPdu (b ++ rest) v

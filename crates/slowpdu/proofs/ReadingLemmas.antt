@@ -1,7 +1,8 @@
 -- A payload that is not refused reads as a PDU.
 use Rattle.slowpdu.proofs.Common.{List, None, arith, drop, inl, inr, length, length-drop, refl, slice_index, sym, take, ℕ, ◌+◌, ◌≡◌, ◌≤◌, length-take}
-use Rattle.slowpdu.proofs.Common.{AllByRecursion, big_number, Info, Lacpdu, Marker, MarkerKind, Information, Response, Pdu, fault_of, Reads}
-use Rattle.slowpdu.proofs.Common.{info_fields, AreOctets, HoldsNumber, IsAddress, payload_len, read_field, ReadsMarker, tlv_type, ReadsPdu}
+use Rattle.slowpdu.proofs.Common.{AllByRecursion, big_number, Info, Lacpdu, Marker, MarkerKind, Pdu, fault_of, Reads, info_fields, AreOctets}
+use Rattle.slowpdu.proofs.Common.{HoldsNumber, IsAddress, payload_len, read_field, ReadsMarker, tlv_type, ReadsPdu}
+use Rattle.slowpdu.specs.declared.pdu.MarkerKind.TheVariants.{Information, Response}
 use Rattle.slowpdu.specs.declared.pdu.Pdu.TheVariants as pdu
 use Rattle.slowpdu.proofs.FaultLemmas.{IsLacpdu, IsMarker, accepted}
 use Rattle.slowpdu.proofs.LacpduLemmas.{all_read, make_info, make_lacpdu}
@@ -22,14 +23,11 @@ is_address b at octets room =
 
 -- what is said of one end
 abbrev info_in : List ℕ → ℕ → Info
-info_in b at =
-    make_info (number_in 2 b at) (address_in b (at + 2)) (number_in 2 b (at + 8)) (number_in 2 b (at + 10)) (number_in 2 b (at + 12))
-    (number_in 1 b (at + 14))
+info_in b at = make_info (number_in 2 b at) (address_in b (at + 2)) (number_in 2 b (at + 8))
+    (number_in 2 b (at + 10)) (number_in 2 b (at + 12)) (number_in 1 b (at + 14))
 
 info_stands : (b : List ℕ) (at : ℕ) → AllByRecursion (HoldsNumber b) (info_fields at (info_in b at))
-info_stands b at =
-    let address : number_in 6 b (at + 2) ≡ big_number 6 (address_in b (at + 2)) = sym (number_of_taken 6 (drop (at + 2) b)) in
-    (refl, (address, (refl, (refl, (refl, (refl, tt))))))
+info_stands b at = grind arith
 
 an_lacpdu : (b : List ℕ) → AreOctets b → payload_len ≤ length b → IsLacpdu b → (v : Lacpdu) × Reads b v
 an_lacpdu b octets long h =
@@ -51,9 +49,8 @@ a_reading b octets h =
     let parts = accepted b h in
     elim parts.1 [
       | inl lacpdu ↦ let found = an_lacpdu b octets parts.0 lacpdu in (pdu.Lacpdu found.0, found.1)
-      | inr marker ↦
-          elim marker.kind [
-            | inl one ↦ let found = a_marker b octets parts.0 marker Information one in (pdu.Marker found.0, found.1)
-            | inr two ↦ let found = a_marker b octets parts.0 marker Response two in (pdu.Marker found.0, found.1)
-          ]
+      | inr marker ↦ elim marker.kind [
+        | inl one ↦ let found = a_marker b octets parts.0 marker Information one in (pdu.Marker found.0, found.1)
+        | inr two ↦ let found = a_marker b octets parts.0 marker Response two in (pdu.Marker found.0, found.1)
+      ]
     ]

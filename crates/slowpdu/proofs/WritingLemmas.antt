@@ -1,7 +1,7 @@
 -- Octets put into a payload, one after the other.
-use Rattle.slowpdu.proofs.Common.{Bool, List, [], add-zero, ap, append-nil, append_assoc, arith, drop, false, length, length-append, refl}
-use Rattle.slowpdu.proofs.Common.{slice_index, subst, suc, sym, take, true, zero, zero-add, ℕ, ◌&&◌, ◌++◌, ◌+◌, ◌<◌, ◌==◌, ◌||◌, ◌∙◌, ◌∷◌, ◌≡◌, ◌≤◌}
-use Rattle.slowpdu.proofs.Common.{and_parts, drop-drop, drop_all, drop_at, length-take, take_at, Field, is_covered, payload_len, replaced}
+use Rattle.slowpdu.proofs.Common.{Bool, List, [], ap, append-nil, append_assoc, arith, drop, false, length, length-append, refl, slice_index, suc}
+use Rattle.slowpdu.proofs.Common.{sym, take, true, zero, zero-add, ℕ, ◌&&◌, ◌++◌, ◌+◌, ◌<◌, ◌==◌, ◌||◌, ◌∙◌, ◌∷◌, ◌≡◌, ◌≤◌, and_parts, drop-drop}
+use Rattle.slowpdu.proofs.Common.{drop_all, drop_at, length-take, take_at, Field, is_covered, payload_len, replaced}
 use Rattle.slowpdu.specs.Frames.{IsSlowProtocolsFrame, frame_octets}
 
 -- what is put right behind other octets is put with them
@@ -15,9 +15,8 @@ then_put b p q xs ys o m ep eq em room =
     let taken : take m p ≡ front = ap (take m) whole ∙ take_at front back m front_length in
     let dropped : drop m p ≡ back = ap (drop m) whole ∙ drop_at front back m front_length in
     let sum : o + length xs + length ys ≡ o + length (xs ++ ys) = omega (arith, length-append xs ys) in
-    let rest : drop (m + length ys) p ≡ drop (o + length (xs ++ ys)) b =
-    sym (drop-drop (length ys) m p) ∙ ap (drop (length ys)) dropped ∙ drop-drop (length ys) (o + length xs) b
-    ∙ ap (λ (n : ℕ). drop n b) sum in
+    let rest : drop (m + length ys) p ≡ drop (o + length (xs ++ ys)) b = sym (drop-drop (length ys) m p)
+    ∙ ap (drop (length ys)) dropped ∙ drop-drop (length ys) (o + length xs) b ∙ ap (λ (n : ℕ). drop n b) sum in
     eq ∙ rw (taken, rest) (append_assoc (take o b) xs (ys ++ drop (o + length (xs ++ ys)) b)
     ∙ ap (λ (t : List ℕ). take o b ++ t) (sym (append_assoc xs ys (drop (o + length (xs ++ ys)) b))))
 
@@ -27,17 +26,12 @@ others_are_zero places k [] = true
 others_are_zero places k (x ∷ xs) = (is_covered places k || x == 0) && others_are_zero places (suc k) xs
 
 second : (a b : Bool) → (a || b) ≡ true → a ≡ false → b ≡ true
-second true b h e = absurd cc
-second false b h e = h
+second a b h e = grind arith
 
 pub other_is_zero : (places : List Field) (k : ℕ) (b : List ℕ) → others_are_zero places k b ≡ true
     → (i : ℕ) → is_covered places (k + i) ≡ false → slice_index b i ≡ 0
 other_is_zero places k [] h i e = refl
-other_is_zero places k (x ∷ xs) h zero e =
-    let parts = and_parts (is_covered places k || x == 0) (others_are_zero places (suc k) xs) h in
-    let here : is_covered places k ≡ false = sym (ap (is_covered places) (add-zero k)) ∙ e in
-    let zero_here : (x == 0) ≡ true = second (is_covered places k) (x == 0) parts.0 here in
-    grind (arith, zero_here)
+other_is_zero places k (x ∷ xs) h zero e = grind arith
 other_is_zero places k (x ∷ xs) h (suc i) e =
     let parts = and_parts (is_covered places k || x == 0) (others_are_zero places (suc k) xs) h in
     let moved : suc k + i ≡ k + suc i = omega arith in
@@ -49,9 +43,7 @@ others_zero places b h i small e = other_is_zero places 0 b h i (ap (is_covered 
 
 -- what is put in the place of everything
 pub all_put : (b q xs : List ℕ) → q ≡ replaced b 0 xs → length xs ≡ length b → q ≡ xs
-all_put b q xs e len =
-    let past : drop (0 + length xs) b ≡ [] = drop_all (0 + length xs) b (omega arith) in
-    e ∙ rw past (append-nil xs)
+all_put b q xs e len = grind (arith, drop_all, append-nil)
 
 -- a list of six
 pub six : (mac : List ℕ) → length mac ≡ 6 → (a : ℕ) × (b : ℕ) × (c : ℕ) × (d : ℕ) × (e : ℕ) × (f : ℕ) × (mac ≡ a ∷ b ∷ c ∷ d ∷ e ∷ f ∷ [])
@@ -66,11 +58,7 @@ six (a ∷ b ∷ c ∷ d ∷ e ∷ f ∷ g ∷ rest) h = absurd (omega arith)
 
 -- a control frame, octet by octet
 pub framed_slow : (source payload : List ℕ) → length source ≡ 6 → IsSlowProtocolsFrame (frame_octets source payload)
-framed_slow source payload h =
-    let x = six source h in
-    subst (λ (t : List ℕ). IsSlowProtocolsFrame (frame_octets t payload)) (sym x.6) (refl, refl)
+framed_slow source payload h = grind (arith, six)
 
 pub framed_payload : (source payload : List ℕ) → length source ≡ 6 → drop 14 (frame_octets source payload) ≡ payload
-framed_payload source payload h =
-    let x = six source h in
-    ap (λ (t : List ℕ). drop 14 (frame_octets t payload)) x.6
+framed_payload source payload h = grind (arith, six)

@@ -12,9 +12,8 @@ use Rattle.captures.specs.Writing.{file_header}
 use Rattle.captures.proofs.laws.what_is_written_is_read.Goals as goal
 
 -- the header is read, in either order, unit and link type
-header : (order : Order) (unit : Unit) (link : LinkType) (rest : List ℕ)
-    → step (record { format = formats.Start; interfaces = [] }) (file_header order unit link ++ rest)
-    ≡ taking 24 None (formats.Packet order unit link) []
+header : (order : Order) (unit : Unit) (link : LinkType) (rest : List ℕ) → step (record { format = formats.Start; interfaces = [] })
+    (file_header order unit link ++ rest) ≡ taking 24 None (formats.Packet order unit link) []
 header Big Micro links.Ethernet rest = grind (arith, common_steps)
 header Big Micro links.Cooked rest = grind (arith, common_steps)
 header Big Micro links.Cooked2 rest = grind (arith, common_steps)

@@ -19,15 +19,13 @@ loop-flag-preserved g c =
           record {
             written = λ plain.
                 let so_far = c.loop-flag.invariant.written plain in
-                rw w.f-is (has_written_of_eq _ _ _ _ _ text
-                (has_written_append _ _ _ _ _ _ so_far (w.in_ok-write_word.ensures so_far.plain refl)));
+                rw w.f-is (has_written_of_eq _ _ _ _ _ text (has_written_append _ _ _ _ _ _ so_far (w.in_ok-write_word.ensures so_far.plain refl)));
             first = w.is_first-is ∙ sym (is_empty-append before word) ∙ ap is_empty (sym e);
           }
       | else-contains w ↦
           let e = word_unset _ _ _ _ _ c.loop-flag-test.true (c.contains.ensures tt) w.if-contains.false in
           record {
             written = λ plain. rw (e, w.f-is) (c.loop-flag.invariant.written plain);
-            first = w.is_first-is
-                ∙ c.loop-flag.invariant.first ∙ ap is_empty (sym e);
+            first = w.is_first-is ∙ c.loop-flag.invariant.first ∙ ap is_empty (sym e);
           }
     ]

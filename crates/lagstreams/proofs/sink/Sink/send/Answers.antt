@@ -8,7 +8,3 @@ returns-in_err-flush-clause-err g c =
     let octets = c.args.octets.now in
     on_err _ (breaks_after g.W.Write.contents c.args.self.now c.put.new.self c.flush.new.self octets octets [] (sym (append-nil octets))
     c.in_ok-put.ensures.ok kept failed)
-
-pub returns-clause-ok : goal.returns-clause-ok
-returns-clause-ok g c = sends_flushed g.W.Write.contents c.args.self.now c.put.new.self c.flush.new.self c.args.octets.now
-    c.in_ok-put.ensures.ok c.in_ok-flush.ensures.ok
