@@ -175,4 +175,4 @@ below_is (suc k) p n e h = elim (nat_eq n k) as (λ b. nat_eq n k ≡ b → p n 
 pub write_back : (s : State) → s.0 < 256 → state_from_bits (bits_of s) ≡ s
 write_back s h = λ i. record {
   0 = eqb-true (state_from_bits (bits_of s)).0 s.0 (below_is 256 (λ n. (state_from_bits (bits_of (record { 0 = n }))).0 == n) s.0 refl h) i;
-    }
+}
