@@ -309,9 +309,10 @@ def check_order(outcome: Outcome, what: str, *told: object) -> None:
 
 
 def check_none_lost(outcome: Outcome, ours: End, theirs: End, what: str = "none was lost") -> None:
-    """No frame was lost. Where all that were had waited too long for the answer of a marker, or their device had no room, and the machine gave
-    its processors so late that this alone can be why, a line says so, and nothing is counted."""
-    held, no_room = ours.carry()["held_too_long"], outcome.no_room
+    """No frame was lost. Where all that were had waited too long for the answer of a marker, or their device or a member had no room, and the machine
+    gave its processors so late that this alone can be why, a line says so, and nothing is counted."""
+    told = ours.told()
+    held, no_room = told["carry"]["held_too_long"], outcome.no_room + counted_of_members(told, "data_unsent")
     if 0 < outcome.lost() == held + no_room and outcome.waited >= LATE:
         print(f"inconclusive: {what}: {held:,} frames were held too long, {no_room:,} found no room; {late(outcome)}", flush=True)
         return
