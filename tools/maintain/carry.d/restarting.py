@@ -22,6 +22,7 @@ from bonds import (COMES_BACK, COMES_UP, DEVICE, DIRECT, FLIGHT, FLOWS, LATE, MI
                    check_order, late, lay_direct, move_all, run_flows, wait_for_links)
 from checking import Failed, Skipped, check, found, within
 from daemon import ENDS, SYSTEM, Daemon, Part
+from linking import want_systemd
 from openvswitch import OpenVSwitch
 from repository import read_text
 from spaces import OURS, THEIRS, inside, ip
@@ -60,6 +61,7 @@ class Manager:
     copies = 1  # of each file that it hands over: systemd joins the same ones where the kernel can compare files
 
     def __init__(self, folder: str) -> None:
+        want_systemd()
         self.path = os.path.join(folder, "manager")
         self.files: dict[str, int] = {}
         self.settled = Event()

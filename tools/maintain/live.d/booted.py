@@ -14,6 +14,7 @@ from typing import Callable
 from checking import Skipped, check, command, within
 from daemon import SYSTEM, Daemon, Part
 from daemons import COMES_UP, GOES_DOWN
+from linking import want_systemd
 from repository import TOP, read_text, write_text
 from service import BUNDLE_LINE, FILE, ids_of_lines
 from spaces import OURS
@@ -98,6 +99,7 @@ class Machine:
                 raise Skipped(f"no command {word}")
         if not os.path.exists("/lib/systemd/systemd"):
             raise Skipped("no systemd (Debian: systemd, dbus)")
+        want_systemd()
         self.group = os.path.join(unified(), f"lag-{os.getpid()}")
         tree, over, self.log = (os.path.join(part.folder, name) for name in ("tree", "over", "booted"))
         os.makedirs(tree, exist_ok=True)

@@ -9,7 +9,7 @@ import shutil
 from subprocess import CompletedProcess
 from typing import NamedTuple, Sequence
 
-from checking import Failed, check, command
+from checking import Failed, Skipped, check, command
 from processors import FOR_EACH_X86
 from repository import CC, COMPILER, CRATES, MAINTAIN, RT, TOP, WARNINGS, Missing, daemon_words, kernel_programs, read_text, runtime, want, write_text
 
@@ -115,6 +115,12 @@ def build_subagent(folder: str, words: Sequence[str] = FAULTS) -> str:
 def has_mnl() -> bool:
     """Whether what speaks netlink is here (Debian: libmnl-dev)."""
     return not command("pkg-config", "--exists", "libmnl").returncode
+
+
+def want_systemd() -> None:
+    """Skips a part whose daemon has to speak with systemd, where it is built without."""
+    if command("pkg-config", "--exists", "libsystemd").returncode:
+        raise Skipped("lagd is made without libsystemd (Debian: libsystemd-dev)")
 
 
 class Alone(NamedTuple):
