@@ -67,25 +67,32 @@ def test_each_count_of_the_host_and_of_the_members_counts(capsys: pytest.Capture
 
 
 class Holds(Told):
-    """An end that held so many frames too long."""
+    """An end that held so many frames too long, and whose member had no room for so many."""
 
-    def __init__(self, held: int) -> None:
-        super().__init__({"held_too_long": held}, {})
-
-    def carry(self) -> object:
-        return self.status["carry"]
+    def __init__(self, held: int, unsent: int) -> None:
+        super().__init__({"held_too_long": held}, {"data_unsent": unsent})
 
     def text(self) -> str:
         return ""
 
 
 @pytest.mark.parametrize(
-    ("lost", "held", "waited", "begins"),
-    [(0, 0, 0.0, "passed"), (0, 0, 9.0, "passed"), (7, 7, 0.9, "FAILED"), (7, 7, 1.0, "inconclusive"), (7, 6, 9.0, "FAILED"), (7, 8, 9.0, "FAILED")],
+    ("lost", "held", "unsent", "waited", "begins"),
+    [
+        (0, 0, 0, 0.0, "passed"),
+        (0, 0, 0, 9.0, "passed"),
+        (7, 7, 0, 0.9, "FAILED"),
+        (7, 7, 0, 1.0, "inconclusive"),
+        (7, 2, 3, 9.0, "inconclusive"),
+        (7, 2, 2, 9.0, "FAILED"),
+        (7, 7, 1, 9.0, "FAILED"),
+    ],
 )
-def test_what_the_machine_may_have_lost_is_no_verdict(capsys: pytest.CaptureFixture[str], lost: int, held: int, waited: float, begins: str) -> None:
-    end = Holds(held)
-    bonds.check_none_lost(bonds.Outcome(sent=100, received=100 - lost, waited=waited), end, end)
+def test_what_the_machine_may_have_lost_is_no_verdict(
+    capsys: pytest.CaptureFixture[str], lost: int, held: int, unsent: int, waited: float, begins: str
+) -> None:
+    end = Holds(held, unsent)
+    bonds.check_none_lost(bonds.Outcome(sent=100, received=100 - lost, no_room=2 if unsent == 3 else 0, waited=waited), end, end)
     assert [line.partition(":")[0] for line in capsys.readouterr().out.splitlines() if not line.startswith(" ")] == [begins]
 
 
