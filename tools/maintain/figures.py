@@ -72,7 +72,7 @@ def rounds(what: str) -> tuple[str, str]:
 
 
 COPIES: tuple[Copy, ...] = (
-    Copy(README, "in {} to {} minutes on four processors", MEASURED, r"^\|`tools/test`\|(\d+)\|(\d+)\|"),
+    *(Copy(page, "in {} to {} minutes on four processors", MEASURED, r"^\|`tools/test`\|(\d+)\|(\d+)\|") for page in (README, ASSURANCE)),
     Copy(README, "`out/bin/two_ends` prints `both ends distribute after {} ticks of {} ms`", *PRINTS),
     Copy(README, "within {}.{} s if both ends of each cable are active, and within {}.{} s if one is", *UNTIL_UP),
     Copy(README, "That is {} and {} rounds of 100 ms", ROUNDS, r"^up_if_both_active = (\d+)$[^=]*^up_if_one_is = (\d+)$"),
