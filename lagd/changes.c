@@ -125,7 +125,7 @@ static void follow_present(struct protocol *protocol, const struct interface *in
         bool named = is_named(interface, link->name), same = link->socket >= 0 && link->index == interface->index;
         named = named || (same && accept_name(protocol, link, interface));
         if (link->socket >= 0 && (same != named || (same && !is_bound(link->socket, link->index)))) lose_interface(protocol, link);
-        if (same && link->socket >= 0 && !ASK(protocol->plane->carrying->still_has, true, protocol->plane, link, interface->master)) {
+        if (same && link->socket >= 0 && !ASK(protocol->plane->carrying->see_port, true, protocol->plane, link, interface->master)) {
             tell_taken_out(protocol, link);
             lose_link(protocol, link);
         }

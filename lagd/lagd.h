@@ -373,7 +373,7 @@ const char *time_text(time_t time, char room[static 32]);
 enum { EACH_KIND(KIND_ITSELF) KINDS = 0xf000 };
 _Noreturn void stop(int status, const char *what, const char *which);
 void need(bool done, const char *what);
-/* Whether the library did what it was called for. Where it refused, the process is broken, and a line says so: a part of a caller has no const. */
+/* Whether the library did what it was called for. Where it refused, the process is broken, and a line says so: who calls this has no const part. */
 bool is_done(struct process *process, uint32_t status, const char *call) MUST_USE;
 bool is_told(struct process *process, struct niw_number answer, const char *call, uint64_t *number) MUST_USE;
 bool say(struct process *process, int level, const char *format, ...) __attribute__((format(printf, 3, 4)));

@@ -191,7 +191,7 @@ static bool is_quiet(struct protocol *protocol, const struct link *link) {
         && is_told(protocol->process, niw_held(&protocol->own_system, link->settings.number), "niw_held", &held) && held == 0;
 }
 
-/* Notes whether a port has left: it is quiet, and was so while its peer may still ask for responses to its markers, or it was waited for long enough. */
+/* Notes whether a port has left: it is quiet, and was so while its peer may ask for responses to its markers, or it was waited for long enough. */
 static bool note_whether_left(struct protocol *protocol, struct link *link) {
     uint64_t now = milliseconds(), most = protocol->settings->flight > MOST_WAIT ? protocol->settings->flight : MOST_WAIT;
     if (!link->up) return true;

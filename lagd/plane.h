@@ -49,7 +49,7 @@ struct carrying {
     void (*forget)(struct plane *plane, const struct link *link); /* another interface is to be this port: its counts begin anew */
     void (*send_marker)(struct plane *plane, struct link *link, const uint8_t *marker); /* one is due */
     void (*note_response)(struct plane *plane, const struct link *link); /* its partner answered a marker */
-    bool (*still_has)(struct plane *plane, const struct link *link, int master); /* whether an interface of this master is a port still */
+    bool (*see_port)(struct plane *plane, const struct link *link, int master); /* whether one of this master is a port still; a line, where not */
     void (*settle)(struct plane *plane);                 /* calls may have changed something */
     void (*tick)(struct plane *plane);                   /* 100 ms passed */
     bool (*keeps_aggregator)(const struct plane *plane);       /* whether the active one stays where another one has as many ports */
