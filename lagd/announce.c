@@ -26,9 +26,9 @@ static void send_from(struct announce *own, const struct announced_place *place,
     if (own->announced++ < MOST_ANNOUNCED) (void)sendto(own->sender, frame, length, 0, (struct sockaddr *)&to, sizeof to);
 }
 
-static void begin_frame(uint8_t *frame, const uint8_t *to, const struct announced_place *from, uint16_t type) {
+static void begin_frame(uint8_t *frame, const uint8_t *to, const uint8_t *from, uint16_t type) {
     memcpy(frame, to, ETH_ALEN);
-    memcpy(frame + ETH_ALEN, from->mac, ETH_ALEN);
+    memcpy(frame + ETH_ALEN, from, ETH_ALEN);
     frame[12] = (uint8_t)(type >> 8);
     frame[13] = (uint8_t)type;
 }
@@ -37,7 +37,7 @@ static void begin_frame(uint8_t *frame, const uint8_t *to, const struct announce
 static void announce_ipv4(struct announce *own, const struct announced_place *place, const uint8_t *address) {
     static const uint8_t all[ETH_ALEN] = {0xff, 0xff, 0xff, 0xff, 0xff, 0xff}, request[] = {0, 1, 8, 0, ETH_ALEN, 4, 0, 1};
     uint8_t frame[ETH_HLEN + ARP_OCTETS] = {0}, *at = frame + ETH_HLEN;
-    begin_frame(frame, all, place, ETH_P_ARP);
+    begin_frame(frame, all, place->mac, ETH_P_ARP);
     memcpy(at, request, sizeof request);
     memcpy(at + 8, place->mac, ETH_ALEN);
     memcpy(at + 14, address, 4);
@@ -50,7 +50,7 @@ static void announce_ipv6(struct announce *own, const struct announced_place *pl
     static const uint8_t all[ETH_ALEN] = {0x33, 0x33, 0, 0, 0, 1}, all_nodes[16] = {0xff, 2, [15] = 1};
     static const uint8_t head[] = {0x60, 0, 0, 0, 0, ADVERTISED_OCTETS, IPPROTO_ICMPV6, HOP_LIMIT};
     uint8_t frame[ETH_HLEN + IPV6_OCTETS + ADVERTISED_OCTETS] = {0}, *ip = frame + ETH_HLEN, *at = ip + IPV6_OCTETS;
-    begin_frame(frame, all, place, ETH_P_IPV6);
+    begin_frame(frame, all, place->mac, ETH_P_IPV6);
     memcpy(ip, head, sizeof head);
     memcpy(ip + IPV6_ADDRESSES, address, 16);
     memcpy(ip + IPV6_ADDRESSES + 16, all_nodes, 16);
@@ -73,11 +73,10 @@ static struct announced_place *place_of(struct announce *own, int index) {
 }
 
 /* Whether an interface stands on one that is announced: what it sends goes by that. One of another namespace does not count. */
-static bool is_above(struct announce *own, const struct interface *interface) {
-    bool on_one = strcmp(interface->kind, "vlan") == 0 || strcmp(interface->kind, "macvlan") == 0;
-    if (on_one) return !interface->elsewhere && place_of(own, interface->below);
-    for (unsigned i = 0; i < own->place_count; i++)
-        if (own->places[i].bridge == interface->index && strcmp(interface->kind, "bridge") == 0) return true;
+static bool is_above(const struct announce *own, const struct interface *interface) {
+    bool on_one = strcmp(interface->kind, "vlan") == 0 || strcmp(interface->kind, "macvlan") == 0, is_bridge = strcmp(interface->kind, "bridge") == 0;
+    for (unsigned i = 0; i < own->place_count && !(on_one && interface->elsewhere); i++)
+        if ((on_one && own->places[i].index == interface->below) || (is_bridge && own->places[i].bridge == interface->index)) return true;
     return false;
 }
 

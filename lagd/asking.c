@@ -38,7 +38,7 @@ static int ask(const char *path, const char *question) {
     return kept_open(&opened);
 }
 
-static bool is_refusal(struct process *process, const char *path, const char *text) {
+static bool tell_refusal(struct process *process, const char *path, const char *text) {
     if (strncmp(text, REFUSAL, strlen(REFUSAL)) != 0) return false;
     complain(process, "%s: %.*s", path, (int)strcspn(text, "\n"), text);
     return true;
@@ -56,7 +56,7 @@ static char *read_answer(struct process *process, int fd, const char *path) {
     }
     if (!whole) stop(REFUSED, "no memory", "for an answer");
     whole[used] = 0;
-    bool refused = is_refusal(process, path, whole);
+    bool refused = tell_refusal(process, path, whole);
     if (!refused && got == 0 && used > 0) return whole;
     if (!refused) complain(process, "%s: its daemon does not answer", path);
     free(whole);
@@ -107,7 +107,7 @@ static _Noreturn void refuse_all(const struct asking *own) {
 }
 
 /* Prints what the daemons say, one after the other as each has a line, until they end. */
-static int print_changes_of_all(const struct asking *own) {
+static int print_changes_of_all(struct asking *own) {
     struct pollfd waits[MOST_DAEMONS];
     char text[4096 + 1];
     unsigned left = 0;
@@ -120,7 +120,7 @@ static int print_changes_of_all(const struct asking *own) {
             if (!waits[i].revents) continue;
             ssize_t got = recv(waits[i].fd, text, sizeof text - 1, 0);
             text[got > 0 ? got : 0] = 0;
-            if (got > 0 && !is_refusal(own->process, own->daemons[i].path, text)) print(text, (size_t)got);
+            if (got > 0 && !tell_refusal(own->process, own->daemons[i].path, text)) print(text, (size_t)got);
             if (got <= 0) waits[i].fd = -1;
             left -= got <= 0;
         }
@@ -148,7 +148,7 @@ static bool ask_one(struct asking *own, struct daemon *daemon) {
 }
 
 /* Tells a daemon an order; answers what it said, without the line end. */
-static char *tell_order(const struct asking *own, const char *path, const char *what) {
+static char *tell_order(struct asking *own, const char *path, const char *what) {
     const char *interface = own->options->interface;
     char order[QUESTION_ROOM], *answer;
     if (snprintf(order, sizeof order, "%s %s\n", what, interface) >= (int)sizeof order || strchr(interface, '\n'))

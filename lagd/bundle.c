@@ -32,7 +32,7 @@ static int start(const char *path, char *const *environment) {
 }
 
 /* Runs the program. Nobody waits for it. */
-static void run_hook(const struct protocol *protocol, const char *path, enum bundle_state before) {
+static void run_hook(struct protocol *protocol, const char *path, enum bundle_state before) {
     char name[NAME_ROOM + 16], state[32], previous[32], links_text[32], carrying[32], aggregator[32];
     char *environment[] = {"PATH=/usr/sbin:/usr/bin:/sbin:/bin", name, state, previous, links_text, carrying, aggregator, NULL};
     snprintf(name, sizeof name, "LAGD_BUNDLE=%s", protocol->settings->name);

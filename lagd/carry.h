@@ -100,7 +100,7 @@ bool ask_state(struct protocol *protocol, uint16_t aggregator, uint16_t number, 
 bool ask_ports(struct protocol *protocol, uint16_t aggregator, uint16_t *ports) MUST_USE;
 bool is_held(const struct niw_assignment *state);
 bool is_busy(const struct carry *carry, const struct conversation *conversation);
-bool hears_peer(struct plane *plane);
+bool hears_peer(const struct plane *plane);
 void forget_heard(struct carry *carry);
 void leave_previous(struct carry *carry);
 void choose_ports(struct plane *plane);
@@ -114,7 +114,7 @@ bool is_told_distributing(struct protocol *protocol, uint16_t port, bool wanted)
 
 /* moves.c */
 void ask_moves(struct carry *carry);
-bool can_empty(struct plane *plane, const struct link *link);
+bool can_empty(const struct plane *plane, const struct link *link);
 bool empty_port(struct plane *plane, const struct link *link);
 void balance(struct carry *carry);
 

@@ -44,13 +44,13 @@ static bool is_named(const struct interface *interface, const char *name) {
 }
 
 /* Takes up an interface that has the name of a port. At the start, what is wrong with one ends the program. */
-static bool take_up(struct protocol *protocol, struct link *link, const struct interface *interface) {
+static bool take_up_or_end(struct protocol *protocol, struct link *link, const struct interface *interface) {
     char what[128], holder[HOLDER_ROOM];
     if (interface->type != ARPHRD_ETHER) {
         if (!protocol->process->has_started && !link->left_over) stop(WRONG_WORD, "not an Ethernet interface", link->name);
         return false;
     }
-    if (stays_outside(protocol, link, interface->master)) return false;
+    if (note_whether_outside(protocol, link, interface->master)) return false;
     memcpy(link->discipline, interface->discipline, sizeof link->discipline);
     if (interface->has_mac) memcpy(link->mac, interface->mac, sizeof link->mac);
     link->stacked = is_stacked(interface);
@@ -92,14 +92,14 @@ static void follow_link(struct protocol *protocol, struct link *link, const stru
         link->counts[LOSSES] += losses;
     }
     bool other = carrier && (lost || link->away) && has_other_speed(protocol->settings, link);
-    bool spared = (interface->flags & IFF_UP) && is_spared(protocol->process, link, carrier, lost) && !other;
+    bool spared = (interface->flags & IFF_UP) && note_whether_spared(protocol->process, link, carrier, lost) && !other;
     if (spared && !carrier) return;
     if ((lost || other) && !spared && link->up) {
         if (!link->away) link->counts[LOSSES]--; /* which set_link counts */
         set_link(protocol, link, false);
     }
     if ((lost && !spared) || !carrier) set_waiting(link, false);
-    bool up = carrier && !protocol->halt.silent && is_restored(protocol, link);
+    bool up = carrier && !protocol->halt.silent && choose_whether_restored(protocol, link);
     if (up && !link->up) fit_queue(protocol->plane, link);
     if (up) apply_speed(protocol, link);
     if (up) CALL(protocol->plane->carrying->follow_speed, protocol->plane, link);
@@ -125,14 +125,14 @@ static void follow_present(struct protocol *protocol, const struct interface *in
         bool named = is_named(interface, link->name), same = link->socket >= 0 && link->index == interface->index;
         named = named || (same && accept_name(protocol, link, interface));
         if (link->socket >= 0 && (same != named || (same && !is_bound(link->socket, link->index)))) lose_interface(protocol, link);
-        if (same && link->socket >= 0 && !ASK(protocol->plane->carrying->still_has, true, protocol->plane, link, interface->master)) {
+        if (same && link->socket >= 0 && !ASK(protocol->plane->carrying->see_port, true, protocol->plane, link, interface->master)) {
             tell_taken_out(protocol, link);
             lose_link(protocol, link);
         }
         known = known || named;
         if (!named) continue;
         link->present = true;
-        if (link->socket >= 0 || take_up(protocol, link, interface)) follow_link(protocol, link, interface);
+        if (link->socket >= 0 || take_up_or_end(protocol, link, interface)) follow_link(protocol, link, interface);
     }
     if (!known) follow_port(protocol, interface);
 }
@@ -247,7 +247,7 @@ void watch_carriers(struct protocol *protocol, bool all) {
     if (!all && !own->suspected) return;
     own->suspected = false;
     EACH_LINK(link, protocol->ports) {
-        bool changed = link->socket >= 0 && has_new_carrier(link);
+        bool changed = link->socket >= 0 && see_new_carrier(link);
         if (!changed && link->up && !link->away) note_carrier(protocol->settings, link);
         if (changed || (link->socket >= 0 && choose_whether_waited(protocol, link))) any = ask_for(&protocol->changes, link->index, 0) || any;
     }

@@ -30,7 +30,7 @@ static bool ask_tap(const struct device *own, unsigned long what, struct ifreq *
     return ioctl(own->asker, what, request) == 0;
 }
 
-bool give_tap_carrier(struct plane *plane, bool on) {
+bool give_tap_carrier(const struct plane *plane, bool on) {
     return ioctl(plane->device->tap, TUNSETCARRIER, &(int){on}) == 0;
 }
 
@@ -142,7 +142,7 @@ static void go_on_with_tap(struct device *own) {
 
 /* Sets up a device that is new to the daemon, or to its settings. It gets its MAC address before anything else: whoever brings it up has a
  * link-local address of it. */
-static void set_up(const struct device *own, const uint8_t *mac) {
+static void set_up(struct device *own, const uint8_t *mac) {
     struct ifreq address = {0}, queue = {0};
     address.ifr_hwaddr.sa_family = ARPHRD_ETHER;
     memcpy(address.ifr_hwaddr.sa_data, mac, ETH_ALEN);

@@ -70,7 +70,7 @@ static void hand_over(struct protocol *protocol, struct link *link, const struct
         return;
     if (received.what == NIW_RECEIVED_TOOK_LACPDU && actor) note_actor(protocol->settings, link, actor, arrival->frame);
     if (received.what != NIW_RECEIVED_RESPOND) return;
-    if (!may_answer(protocol->settings, protocol->plane, link, arrival) || !protocol->plane->queueing->answer(protocol->plane->tap, link, response))
+    if (!spend_answer(protocol->settings, protocol->plane, link, arrival) || !protocol->plane->queueing->answer(protocol->plane->tap, link, response))
         note_odd_marker(link, arrival, RESPONSES_UNSENT);
 }
 
@@ -85,8 +85,8 @@ bool may_be_partner(const struct link *link, const uint8_t *frame, struct system
     return actor_of(&arrival, actor) && (!link->pinned || is_same_system(actor, &link->partner));
 }
 
-/* Takes a frame. The slow protocols have one address, which no bridge passes on: a frame to any other one comes from anybody. Their
- * frames have no VLAN tag. The kernel calls one with a tag another host's, or shows it as a frame of the VLAN's interface. */
+/* Takes a frame for the library: a response to a marker goes by the plane. The slow protocols have one address, which no bridge passes on: a frame to
+ * any other one comes from anybody. Theirs have no VLAN tag: the kernel calls one with a tag another host's, or shows it as of the VLAN's interface. */
 void accept_frame(struct protocol *protocol, struct link *link, const struct arrival *arrival) {
     struct system_id actor;
     struct niw_pdu response;

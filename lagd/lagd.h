@@ -293,7 +293,8 @@ struct protocol {
     struct choice choice;
 };
 
-/* What each part above the protocol knows: data, its planes, and who asks. These are its own fields, and one that is given as a whole. */
+/* What each part above the protocol knows, in its own fields, and in one that is given as a whole. A part that a function gets as `const struct`
+ * stays as it is, with all to which it leads but what another parameter names, the kernel and files; without const something may change. */
 #define PARTS \
     struct process *process; \
     const struct settings *settings; \
@@ -372,6 +373,7 @@ const char *time_text(time_t time, char room[static 32]);
 enum { EACH_KIND(KIND_ITSELF) KINDS = 0xf000 };
 _Noreturn void stop(int status, const char *what, const char *which);
 void need(bool done, const char *what);
+/* Whether the library did what it was called for. Where it refused, the process is broken, and a line says so: who calls this has no const part. */
 bool is_done(struct process *process, uint32_t status, const char *call) MUST_USE;
 bool is_told(struct process *process, struct niw_number answer, const char *call, uint64_t *number) MUST_USE;
 bool say(struct process *process, int level, const char *format, ...) __attribute__((format(printf, 3, 4)));
@@ -392,7 +394,7 @@ bool open_link(struct process *process, struct plane *plane, struct link *link, 
 void close_link(struct plane *plane, struct store *store, struct link *link);
 int open_in_sys(int index, const char *what, int flags);
 bool read_text(int fd, char *text, size_t room);
-bool has_new_carrier(struct link *link);
+bool see_new_carrier(struct link *link);
 void send_frame(struct protocol *protocol, struct link *link, const uint8_t *frame);
 
 /* frames.c */
@@ -417,7 +419,7 @@ void tell_strangers(struct process *process, uint64_t ticks, struct link *link);
 bool read_response(struct process *process, const struct arrival *arrival, struct niw_pdu *pdu);
 bool is_partners_response(const struct settings *settings, const struct link *link, const struct arrival *arrival, const struct niw_pdu *response);
 void note_odd_marker(struct link *link, const struct arrival *arrival, enum count count);
-bool may_answer(const struct settings *settings, const struct plane *plane, struct link *link, const struct arrival *arrival);
+bool spend_answer(const struct settings *settings, const struct plane *plane, struct link *link, const struct arrival *arrival);
 void tell_markers(struct process *process, uint64_t ticks, struct link *link);
 
 #define MARKERS_AT_ONCE 16 /* how many come in the place of one, of a partner whose members have several queues, where ours have */
@@ -426,11 +428,11 @@ void tell_markers(struct process *process, uint64_t ticks, struct link *link);
 void look_for_twins(struct protocol *protocol);
 
 /* restore.c */
-bool is_restored(struct protocol *protocol, struct link *link);
+bool choose_whether_restored(struct protocol *protocol, struct link *link);
 void set_waiting(struct link *link, bool waits);
 bool choose_whether_waited(struct protocol *protocol, const struct link *link);
 void note_carrier(const struct settings *settings, struct link *link);
-bool is_spared(const struct process *process, struct link *link, bool carrier, bool lost);
+bool note_whether_spared(const struct process *process, struct link *link, bool carrier, bool lost);
 
 /* revert.c */
 void pass_revert_second(struct protocol *protocol);
@@ -480,7 +482,7 @@ bool end_system(struct protocol *protocol);
 /* membership.c */
 #define ORDER_ROOM 384
 uint16_t count_links(const struct ports *ports);
-bool place_ports(struct protocol *protocol, struct settings *settings);
+bool place_ports(const struct protocol *protocol, struct settings *settings);
 void keep_left_ports(struct protocol *protocol);
 void leave_left_ports(struct protocol *protocol);
 void begin_link(const struct settings *settings, struct ports *ports, uint16_t port);
@@ -491,7 +493,7 @@ void stay_port(struct protocol *protocol, struct link *link);
 void pass_leaving_tick(struct protocol *protocol);
 struct interface;
 bool may_put_in(const struct protocol *protocol, const struct link *link);
-bool stays_outside(struct protocol *protocol, struct link *link, int master);
+bool note_whether_outside(const struct protocol *protocol, struct link *link, int master);
 void tell_taken_out(struct protocol *protocol, struct link *link);
 void follow_port(struct protocol *protocol, const struct interface *interface);
 bool accept_name(struct protocol *protocol, const struct link *link, const struct interface *interface);
@@ -559,7 +561,7 @@ void notify(const char *what);
 void notify_bundle(const struct bundle *bundle, const char *what);
 void open_store(struct process *process);
 bool has_store(void);
-void put_stored(struct store *own, const char *kind, int number, int fd);
+void put_stored(const struct store *own, const char *kind, int number, int fd);
 int claim_stored(struct store *own, const char *kind, int number);
 void return_stored(struct store *own, const char *kind, int number, int fd);
 void drop_stored(struct store *own, const char *kind, int number);
@@ -613,7 +615,7 @@ void settle_carry(struct plane *plane);
 
 /* tap/host.c */
 void end_carry(struct plane *plane);
-void remove_all_members(struct plane *plane, struct ports *ports);
+void remove_all_members(struct plane *plane, const struct ports *ports);
 
 /* tap/guard.c, tap/members.c */
 void fit_queue(const struct plane *plane, const struct link *link);

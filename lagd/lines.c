@@ -24,8 +24,8 @@ size_t escape(char *text, size_t room, const char *from, size_t length, bool lin
     return used;
 }
 
-/* Standard output; of a pipe or a terminal an opening of our own, at which no write waits. */
-static int output(int *opened) {
+/* Opens standard output; of a pipe or a terminal an opening of our own, at which no write waits. */
+static int open_output(int *opened) {
     struct stat file;
     if (*opened >= 0) return *opened;
     if (isatty(STDOUT_FILENO) || (fstat(STDOUT_FILENO, &file) == 0 && S_ISFIFO(file.st_mode)))
@@ -72,8 +72,7 @@ void need(bool done, const char *what) {
     if (!done) stop(REFUSED, what, strerror(errno));
 }
 
-/* Whether the library did what it was called for. It refuses only what this program should not ask: then the loop tells the peers, and
- * ends; before the loop the program ends at once. */
+/* The library refuses only what this program should not ask: then the loop tells the peers, and ends; before the loop the program ends at once. */
 bool is_done(struct process *process, uint32_t status, const char *call) {
     char why[64];
     if (status == NIW_OK || process->broken) return status == NIW_OK;
@@ -114,7 +113,7 @@ static bool say_text(struct process *process, int level, const char *text) {
         if (fault == 0 || fault == EAGAIN) return fault == 0; /* one that is elsewhere reads standard output */
         used = snprintf(line, sizeof line, "<%d>%s\n", level & LOG_PRIMASK, text);
     }
-    return write_line(output(&process->output), line, (size_t)used);
+    return write_line(open_output(&process->output), line, (size_t)used);
 }
 
 /* Prints a text as a line that a terminal only shows; what is wrong with a file stands on standard error at the start. Answers whether it was

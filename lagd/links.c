@@ -72,8 +72,8 @@ int open_in_sys(int index, const char *what, int flags) {
     return read_text(number, text, sizeof text) && atoi(text) == index ? openat(folder, what, flags | O_CLOEXEC) : -1;
 }
 
-/* Whether the carrier of a link may have changed since this was asked last. */
-bool has_new_carrier(struct link *link) {
+/* Sees whether the carrier of a link may have changed since this was seen last. */
+bool see_new_carrier(struct link *link) {
     char now[sizeof link->carrier_changes];
     if (!read_text(link->carrier_file, now, sizeof now)) return true;
     if (strcmp(now, link->carrier_changes) == 0) return false;

@@ -168,8 +168,8 @@ static void leave_state(struct lagd *lagd) {
         ASK(lagd->plane.carrying->frames_waiting, 0, &lagd->plane));
 }
 
-/* Takes a signal; answers whether it ends the daemon. */
-static bool is_end(struct lagd *lagd, int signals, const char *file) {
+/* Serves a signal; answers whether it ends the daemon. */
+static bool serve_signal(struct lagd *lagd, int signals, const char *file) {
     struct signalfd_siginfo signal;
     if (read(signals, &signal, sizeof signal) != sizeof signal) return true;
     switch (signal.ssi_signo) {
@@ -216,7 +216,7 @@ static void run(struct lagd *lagd, int signals, int clock, const char *file) {
         serve(lagd, events, count, clock);
         if (lagd->process.broken) end_carry(&lagd->plane);
         if (ends && is_ready(events, count, CLOCK)) end_ticks++;
-        if (is_ready(events, count, SIGNALS)) ends_now = is_end(lagd, signals, ends ? NULL : file);
+        if (is_ready(events, count, SIGNALS)) ends_now = serve_signal(lagd, signals, ends ? NULL : file);
         if (lagd->process.has_left || (ends && ends_now)) return;
         if (ends || !(ends_now || lagd->process.broken)) continue;
         ends = true;

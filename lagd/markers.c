@@ -34,9 +34,9 @@ void note_odd_marker(struct link *link, const struct arrival *arrival, enum coun
     memcpy(link->markers.source, arrival->frame + ETH_ALEN, sizeof link->markers.source);
 }
 
-/* Whether a marker is answered: any second has marker-responses of them at most, and a quarter at most of markers that are not the
- * partner's. */
-bool may_answer(const struct settings *settings, const struct plane *plane, struct link *link, const struct arrival *arrival) {
+/* Spends an answer on a marker, where one is left: any second has marker-responses of them at most, and a quarter at most for markers that are not
+ * the partner's. Answers whether one was. */
+bool spend_answer(const struct settings *settings, const struct plane *plane, struct link *link, const struct arrival *arrival) {
     struct answered *answered = &link->markers.answered;
     unsigned partner = 0, others = 0, most = settings->marker_responses * plane->queueing->markers_at_once;
     bool other = !is_from_partner(link, arrival);

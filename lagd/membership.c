@@ -26,10 +26,10 @@ static struct link *link_of(struct ports *ports, const char *name) {
 }
 
 /* The number that a port has, or had in the last daemon; 0 for none. */
-static uint16_t number_of(const struct process *process, struct ports *ports, const char *name) {
+static uint16_t number_of(const struct process *process, const struct ports *ports, const char *name) {
     const struct inherited *inherited = process->inherited;
-    const struct link *link = link_of(ports, name);
-    if (link) return link->settings.number;
+    EACH_LINK_AS_IS(link, ports)
+        if (link->used && strcmp(link->name, name) == 0) return link->settings.number;
     for (unsigned i = 0; !process->has_started && i < inherited->port_count; i++)
         if (strcmp(inherited->ports[i].name, name) == 0 && inherited->ports[i].number <= ports->slots) return inherited->ports[i].number;
     return 0;
@@ -47,7 +47,7 @@ static bool has_carried(const struct inherited *inherited, const struct inherite
 static bool number_ports(const struct protocol *protocol, const struct port_settings *given, uint16_t count, uint16_t *numbers, bool with_left) {
     const struct inherited *inherited = protocol->process->inherited;
     bool taken[NIW_MOST_PORTS + 1] = {true}; /* by number: there is no port 0 */
-    EACH_LINK(link, protocol->ports) taken[link->settings.number] = link->used;
+    EACH_LINK_AS_IS(link, protocol->ports) taken[link->settings.number] = link->used;
     for (unsigned i = 0; with_left && i < inherited->port_count; i++)
         if (inherited->ports[i].number <= protocol->ports->slots && has_carried(inherited, &inherited->ports[i]))
             taken[inherited->ports[i].number] = true;
@@ -66,7 +66,7 @@ static bool number_ports(const struct protocol *protocol, const struct port_sett
 
 /* Puts the ports of settings into the places of their numbers; answers whether each found one. Where there is no room beside ports that the last
  * daemon left, these give way at the start. */
-bool place_ports(struct protocol *protocol, struct settings *settings) {
+bool place_ports(const struct protocol *protocol, struct settings *settings) {
     struct port_settings given[NIW_MOST_PORTS];
     uint16_t numbers[NIW_MOST_PORTS], count = settings->port_count;
     memcpy(given, settings->ports, sizeof given);
@@ -191,8 +191,8 @@ static bool is_quiet(struct protocol *protocol, const struct link *link) {
         && is_told(protocol->process, niw_held(&protocol->own_system, link->settings.number), "niw_held", &held) && held == 0;
 }
 
-/* Whether a port has left: it is quiet, and was so while its peer may still ask for responses to its markers, or it was waited for long enough. */
-static bool has_left(struct protocol *protocol, struct link *link) {
+/* Notes whether a port has left: it is quiet, and was so while its peer may ask for responses to its markers, or it was waited for long enough. */
+static bool note_whether_left(struct protocol *protocol, struct link *link) {
     uint64_t now = milliseconds(), most = protocol->settings->flight > MOST_WAIT ? protocol->settings->flight : MOST_WAIT;
     if (!link->up) return true;
     if (link->emptying) return false;
@@ -206,7 +206,7 @@ void pass_leaving_tick(struct protocol *protocol) {
         if (protocol->process->broken) return;
         if (protocol->settings->follow && link->used && link->followed && link->outside) leave_port(protocol, link);
         if (link->emptying) end_emptying(protocol, link);
-        if (link->leaving && has_left(protocol, link)) end_leaving(protocol, link);
+        if (link->leaving && note_whether_left(protocol, link)) end_leaving(protocol, link);
     }
 }
 
@@ -222,8 +222,8 @@ bool may_put_in(const struct protocol *protocol, const struct link *link) {
     return !protocol->settings->follow || link->puts_in || (!protocol->process->has_started && protocol->plane->is_new);
 }
 
-/* Whether an interface is no port, as others choose the ports of the device and it is not in there. */
-bool stays_outside(struct protocol *protocol, struct link *link, int master) {
+/* Notes whether an interface is no port, as others choose the ports of the device and it is not in there. */
+bool note_whether_outside(const struct protocol *protocol, struct link *link, int master) {
     bool outside = !may_put_in(protocol, link) && master != protocol->device->index;
     link->changed = link->changed || link->outside != outside;
     link->outside = outside;
@@ -272,8 +272,8 @@ bool accept_name(struct protocol *protocol, const struct link *link, const struc
     return true;
 }
 
-/* What keeps an interface from being a port now, or NULL. */
-static const char *fault_of(const struct protocol *protocol, const char *name) {
+/* Tries the lock of an interface that is to be a port; answers why it can be none now, or NULL. */
+static const char *try_interface(struct protocol *protocol, const char *name) {
     struct interface interface;
     if (strcmp(name, protocol->settings->carry) == 0) return "it is the device itself";
     if (!ask_interface(0, name, &interface)) return "there is no such interface";
@@ -297,7 +297,7 @@ static const char *add_by_words(struct protocol *protocol, char *text, uint16_t 
         return room;
     }
     struct link *known = link_of(protocol->ports, settings->name), *link = known ? known : free_place(protocol->ports);
-    const char *fault = known ? NULL : fault_of(protocol, settings->name);
+    const char *fault = known ? NULL : try_interface(protocol, settings->name);
     if (known && !known->leaving) return "it is a port already";
     if (fault) return fault;
     if (!known && settings->key != AS_BUNDLE && !has_aggregator(&protocol->keys, (uint16_t)settings->key))
@@ -321,7 +321,7 @@ static bool hold_by_word(struct protocol *protocol, struct link *link, bool hold
         protocol->settings->ports[link->settings.number - 1].hold = hold;
         settle_calls(protocol);
     }
-    return !hold || has_left(protocol, link);
+    return !hold || note_whether_left(protocol, link);
 }
 
 /* Does what somebody asks for, `add`, `remove`, `hold` or `release` of an interface, and answers: `done`, `wait` where it is to be asked again, as

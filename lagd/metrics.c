@@ -36,7 +36,7 @@ void add_port_value(struct control *control, const char *name, const struct link
 }
 
 /* A value for each state of the bundle. */
-static void add_state_values(const struct control *control, const char *name, const char *kind, const char *help, const uint64_t *values) {
+static void add_state_values(struct control *control, const char *name, const char *kind, const char *help, const uint64_t *values) {
     add_head(control->report, name, kind, help);
     for (unsigned state = 0; state < BUNDLE_STATES; state++) {
         add(control->report, "lagd_%s{", name);

@@ -34,30 +34,30 @@ struct carrying {
     void (*lose_device)(struct plane *plane);           /* it was deleted, or moved to another namespace */
     void (*keep_device)(struct plane *plane, bool keeps); /* it outlives the daemon, or goes with it */
     void (*leave)(struct plane *plane, int index, bool owned); /* the last daemon had it by other settings: it is free, and goes if it `owned` it */
-    bool (*give_carrier)(struct plane *plane, bool on); /* whether the kernel does so */
+    bool (*give_carrier)(const struct plane *plane, bool on); /* whether the kernel does so */
     void (*settle_mtu)(struct plane *plane); /* the longest MTU that each member takes, or a lower one of an administrator */
     int (*add)(struct plane *plane, struct link *link); /* takes an interface up: 0, or -errno */
     void (*remove)(struct plane *plane, const struct link *link); /* it is a member no more, and has what it had before */
     bool (*renew)(struct plane *plane, struct link *link); /* it has another queueing discipline: whether it is still taken up */
     void (*move)(struct plane *plane, struct link *link, const uint8_t *mac); /* it has another MAC address */
-    void (*follow_mtu)(struct plane *plane, struct link *link, uint32_t mtu); /* it has this one; 0 of one that is a member no more */
+    void (*follow_mtu)(struct plane *plane, const struct link *link, uint32_t mtu); /* it has this one; 0 of one that is a member no more */
     void (*follow_speed)(struct plane *plane, const struct link *link); /* its link is up, and may have another speed */
-    bool (*can_empty)(struct plane *plane, const struct link *link); /* whether its conversations can move behind markers */
+    bool (*can_empty)(const struct plane *plane, const struct link *link); /* whether its conversations can move behind markers */
     bool (*empty)(struct plane *plane, const struct link *link); /* moves them to other ports: whether none is left, or can leave so */
     void (*drain)(struct plane *plane, struct link *link); /* hands up what waits at a port that is to be held */
     void (*lose)(struct plane *plane, const struct link *link); /* its link goes down */
     void (*forget)(struct plane *plane, const struct link *link); /* another interface is to be this port: its counts begin anew */
     void (*send_marker)(struct plane *plane, struct link *link, const uint8_t *marker); /* one is due */
     void (*note_response)(struct plane *plane, const struct link *link); /* its partner answered a marker */
-    bool (*still_has)(struct plane *plane, const struct link *link, int master); /* whether an interface of this master is a port still */
+    bool (*see_port)(struct plane *plane, const struct link *link, int master); /* whether one of this master is a port still; a line, where not */
     void (*settle)(struct plane *plane);                 /* calls may have changed something */
     void (*tick)(struct plane *plane);                   /* 100 ms passed */
-    bool (*keeps_aggregator)(struct plane *plane);       /* whether the active one stays where another one has as many ports */
+    bool (*keeps_aggregator)(const struct plane *plane);       /* whether the active one stays where another one has as many ports */
     uint64_t (*frames_heard)(struct plane *plane, bool counts_now); /* how many of the peer came, as was counted last, or now */
     void (*tell_host)(struct plane *plane);              /* the active aggregator is chosen */
     void (*resume)(struct plane *plane, bool goes_on);   /* the ports were taken over, and data goes on where it was */
     void (*go_on)(struct plane *plane);                  /* in the aggregator of the last daemon */
-    int (*member_of)(struct plane *plane, uint16_t number); /* the interface by which the kernel has a conversation go, or 0 */
+    int (*member_of)(const struct plane *plane, uint16_t number); /* the interface by which the kernel has a conversation go, or 0 */
     void (*end_resuming)(struct plane *plane);           /* what were members of the last daemon, and are no more, have what they had before */
     unsigned (*frames_waiting)(struct plane *plane);     /* in the daemon, as far as that is known */
     int (*check)(struct control *control, const struct options *options); /* says what this machine lacks: how the program ends */

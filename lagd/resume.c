@@ -106,7 +106,7 @@ static void stay(struct carry *carry, uint16_t number, uint16_t port) {
 }
 
 /* The port of an interface that carries in the active aggregator, or 0. */
-static uint16_t port_on(const struct carry *carry, int index) {
+static uint16_t port_on(struct carry *carry, int index) {
     EACH_LINK(link, carry->ports)
         if (index != 0 && link->socket >= 0 && link->index == index && link->view.aggregator == carry->active
             && is_told_distributing(carry->protocol, link->settings.number, true))

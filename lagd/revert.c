@@ -30,9 +30,9 @@ static struct link *last_beyond(struct ports *ports, uint16_t aggregator, uint16
 }
 
 /* Whether each port in use distributes: where one is without data, a second one may not be. */
-static bool all_distribute(struct ports *ports, uint16_t aggregator) {
+static bool all_distribute(const struct ports *ports, uint16_t aggregator) {
     bool all = true;
-    EACH_LINK(link, ports)
+    EACH_LINK_AS_IS(link, ports)
         if (link->view.aggregator == aggregator && !link->view.standby) all = all && link->view.mux_state == NIW_MUX_COLLECTING_DISTRIBUTING;
     return all;
 }

@@ -66,7 +66,7 @@ static void add_selection(struct report *report, const struct protocol *protocol
     add(report, "\n");
 }
 
-static void add_bundle(const struct control *control) {
+static void add_bundle(struct control *control) {
     const struct settings *settings = control->settings;
     const struct bundle *bundle = &control->protocol->bundle;
     add(control->report, "---- %s ----\n", settings->name);
@@ -140,7 +140,7 @@ static void add_both_ends(struct report *report, enum form form, const struct vi
         (unsigned[]){partner->system_priority, partner->port, partner->port_priority, partner->key}, partner->state);
 }
 
-static void add_strangers(const struct control *control, const struct link *link, enum form form) {
+static void add_strangers(struct control *control, const struct link *link, enum form form) {
     const struct strangers *others = &link->strangers;
     const char *twin = link->twin > 0 ? control->ports->links[link->twin - 1].name : NULL;
     add_words(control->report, form, "pinned to", "pinned", link->pinned ? system_text(&link->partner, TEXT_ROOM) : NULL);
@@ -175,7 +175,7 @@ static void add_json_name(struct report *report, const struct link *link) {
     add(report, ",\"key\":%u", link->key);
 }
 
-static void add_link(const struct control *control, const struct link *link, enum form form) {
+static void add_link(struct control *control, const struct link *link, enum form form) {
     const char *name = link->socket < 0 ? "missing" : link->away ? "away" : link->up ? "up" : link->waits ? "waiting" : "down";
     char text[64];
     snprintf(text, sizeof text, link->away && form == AS_TEXT ? "%s for %" PRIu64 " of %u ms, while it counts as up" : "%s", name,
@@ -225,7 +225,7 @@ void write_text(struct control *control) {
         if (link->used) add_member(control, link, AS_TEXT);
 }
 
-static void add_json_bundle(const struct control *control) {
+static void add_json_bundle(struct control *control) {
     add(control->report, "\"bundle\":");
     add_string(control->report, control->settings->name);
     add(control->report, ",\"state\":\"%s\",\"links\":%u,\"carrying\":%u,\"away\":%u,\"aggregator\":%u",

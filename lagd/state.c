@@ -51,7 +51,7 @@ static bool is_carrying(const struct link *link) {
 
 /* Writes the interface of each conversation: the one that it leaves, while it is held. */
 static void write_conversations(struct state *own, FILE *file) {
-    const struct carry *carry = own->carry;
+    struct carry *carry = own->carry;
     memset(own->members, 0, sizeof own->members);
     for (uint16_t number = 0; number < CONVERSATIONS; number++) {
         struct niw_assignment assigned;
@@ -64,7 +64,7 @@ static void write_conversations(struct state *own, FILE *file) {
 }
 
 static void write_state(struct state *own, FILE *file) {
-    const struct carry *carry = own->carry;
+    struct carry *carry = own->carry;
     struct protocol *protocol = carry->protocol;
     struct niw_marker marker = niw_next_marker(&protocol->own_system);
     char boot[BOOT_ROOM], room[WAY_ROOM], mac[32];
@@ -380,7 +380,7 @@ static bool read_rest(struct inherited *inherited, FILE *file) {
 
 /* By other settings nothing goes on: what stays to be done is to put back what the last daemon changed. It has a line once these interfaces
  * are found. `way` is that of the last daemon. */
-static void keep_interfaces(const struct state *own, const char *way) {
+static void leave_all_but_interfaces(struct state *own, const char *way) {
     struct inherited *inherited = own->carry->process->inherited, last = *inherited;
     const char *word = strrchr(way, '/');
     leave_device(own->carry->plane, word ? word + 1 : way, last.tap, last.persists);
@@ -413,8 +413,8 @@ static const char *bring_over(struct inherited *inherited) {
     return NULL;
 }
 
-/* Reads a state; answers NULL, or why it counts for nothing. In another network namespace its numbers of interfaces are those of others. */
-static const char *read_state(const struct state *own, FILE *file, bool is_copy) {
+/* Takes over a state; answers NULL, or why it counts for nothing. In another network namespace its numbers of interfaces are those of others. */
+static const char *take_over_state(struct state *own, FILE *file, bool is_copy) {
     struct inherited *inherited = own->carry->process->inherited;
     unsigned version;
     char boot[BOOT_ROOM], now[BOOT_ROOM], given[WAY_ROOM], room[WAY_ROOM];
@@ -427,7 +427,7 @@ static const char *read_state(const struct state *own, FILE *file, bool is_copy)
     bool is_same_way = strcmp(given, way(own->carry, room)) == 0;
     if (is_copy) return is_same_way ? bring_over(inherited) : "it belongs to other settings";
     if (inherited->space != 0 && inherited->space != own->space) return "it is of another network namespace";
-    if (!is_same_way) keep_interfaces(own, given);
+    if (!is_same_way) leave_all_but_interfaces(own, given);
     return NULL;
 }
 
@@ -474,7 +474,7 @@ void recall_state(struct state *own) {
     CLOSED_STREAM FILE *file = open_state(own->carry->process->folder, own->name);
     bool is_copy = !file && own->copy_folder >= 0;
     if (is_copy) file = open_state(own->copy_folder, own->copy_name);
-    const char *fault = file ? read_state(own, file, is_copy) : NULL;
+    const char *fault = file ? take_over_state(own, file, is_copy) : NULL;
     if (!fault) return;
     *own->carry->process->inherited = (struct inherited){0};
     (void)say(own->carry->process, LOG_WARNING | ABOUT_HANDOVER, "the state that the last daemon left is not used: %s", fault);

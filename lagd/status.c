@@ -92,9 +92,9 @@ static bool is_order(const char *asked) {
 }
 
 /* Lets a caller watch, if his user does not watch too often. */
-static void let_watch(struct status *own, struct caller *caller) {
+static void let_watch(const struct status *own, struct caller *caller) {
     unsigned watching = 0;
-    EACH_CALLER(other, own) watching += other->watches && other->user == caller->user;
+    for (size_t i = 0; i < MOST_CALLERS; i++) watching += own->callers[i].watches && own->callers[i].user == caller->user;
     caller->json = strcmp(caller->question, "watch-json") == 0;
     caller->watches = watching < MOST_WATCHERS;
     if (!caller->watches) end_with(caller, REFUSAL "this user watches too often\n");

@@ -42,11 +42,11 @@ bool has_store(void) {
 }
 
 /* The manager keeps a file, too, until drop_stored. Where the kernel cannot compare files (kcmp), it would keep one twice that it has already. */
-void put_stored(struct store *own, const char *kind, int number, int fd) {
+void put_stored(const struct store *own, const char *kind, int number, int fd) {
     char name[NAME_OF_FILE];
     name_stored(kind, number, name);
-    EACH_STORED(it, own)
-        if (it->taken == fd && strcmp(it->name, name) == 0) return;
+    for (size_t i = 0; i < own->count; i++)
+        if (own->stored[i].taken == fd && strcmp(own->stored[i].name, name) == 0) return;
     if (has_store()) tell_store("FDSTORE", name, fd);
 }
 
@@ -88,10 +88,10 @@ void return_stored(struct store *own, const char *kind, int number, int fd) {
 }
 
 /* Whether a file keeps a program that one in use keeps, too: the manager may hand over the same file twice. */
-static bool is_twin(struct store *own, int fd) {
+static bool is_twin(const struct store *own, int fd) {
     uint32_t number = program_keeper(fd);
-    EACH_STORED(it, own)
-        if (number != 0 && it->taken >= 0 && program_keeper(it->taken) == number) return true;
+    for (size_t i = 0; i < own->count; i++)
+        if (number != 0 && own->stored[i].taken >= 0 && program_keeper(own->stored[i].taken) == number) return true;
     return false;
 }
 

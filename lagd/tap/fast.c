@@ -27,7 +27,7 @@ static int load(const struct settings *settings, const char *name, const struct 
 }
 
 /* Has a program run at the TAP device; answers what keeps it there. */
-static int keep_program(const struct tap_plane *tap, const char *name, const struct fast_maps *maps, bool egress) {
+static int keep_program(struct tap_plane *tap, const char *name, const struct fast_maps *maps, bool egress) {
     CLOSED_FILE int program = load(tap->settings, name, maps);
     int opened = attach_stored(&tap->process->store, name, program, tap->device->index, egress);
     if (opened < 0) stop(REFUSED, "fast: no program of an interface, which Linux has from 6.6 on", strerror(-opened));
@@ -35,7 +35,7 @@ static int keep_program(const struct tap_plane *tap, const char *name, const str
 }
 
 /* A table that the programs share with the daemon: that of the last daemon, where that left one for this device, or a new one. */
-static void *open_map(const struct tap_plane *tap, int number, uint32_t size, uint32_t count, int *map) {
+static void *open_map(struct tap_plane *tap, int number, uint32_t size, uint32_t count, int *map) {
     int left = tap->process->inherited->tap;
     *map = claim_stored(&tap->process->store, "map", number);
     void *at = *map >= 0 && left != 0 && left == tap->device->index ? map_again(size, count, *map) : NULL;
@@ -122,7 +122,7 @@ int open_fast_receiver(struct tap_plane *tap, const struct link *wanted) {
     return attach_stored(&tap->process->store, "guard", tap->fast.receiver, wanted->index, false);
 }
 
-void close_fast_receiver(const struct fast_programs *own, const struct link *link) {
+void close_fast_receiver(struct fast_programs *own, const struct link *link) {
     __atomic_store_n(place_at(own, link), 0, __ATOMIC_SEQ_CST);
 }
 
@@ -183,7 +183,7 @@ static void count_fast_frames(struct tap_plane *tap) {
 }
 
 /* Whether the kernel may pass a conversation on at its port. */
-static bool may_pass(const struct tap_plane *tap, const struct conversation *conversation) {
+static bool may_pass(struct tap_plane *tap, const struct conversation *conversation) {
     uint16_t port = conversation->port;
     struct niw_assignment state;
     return tap->fast.sender >= 0 && !tap->fast.queue_holds && tap->carry->active != 0 && conversation->home == tap->carry->active
@@ -214,7 +214,7 @@ static void settle_cleared(struct tap_plane *tap) {
     }
 }
 
-int fast_member_of(struct plane *plane, uint16_t number) {
+int fast_member_of(const struct plane *plane, uint16_t number) {
     const struct fast_row *rows = plane->tap->fast.rows;
     return rows ? (int)(uint32_t)word_of(&rows[number]) : 0;
 }

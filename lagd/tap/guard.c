@@ -210,8 +210,8 @@ static unsigned channels_of(int index) {
     return sends > 0 && receives > 0 ? sends << 16 | receives : 0;
 }
 
-/* Why a member may not keep all its queues, or NULL. */
-static const char *fault_of_spreading(int folder, const struct link *link, const struct guard *guard, unsigned count) {
+/* Sets what all queues of a member are to have, where it may keep them; answers why it may not, or NULL. */
+static const char *try_spreading(int folder, const struct link *link, const struct guard *guard, unsigned count) {
     if (link->stacked) return STACKED;
     if (count == 0) return "/sys does not show its queues";
     if (!guard->in_order) return DISORDER;
@@ -237,9 +237,9 @@ static void stop_spreading(struct store *store, const struct link *link, struct 
     guard->spread = false;
 }
 
-static void spread(const struct tap_plane *tap, const struct link *link, struct guard *guard) {
+static void spread(struct tap_plane *tap, const struct link *link, struct guard *guard) {
     unsigned count = count_sending_queues(link->index);
-    const char *fault = fault_of_spreading(tap->process->folder, link, guard, count);
+    const char *fault = try_spreading(tap->process->folder, link, guard, count);
     guard->queues = fault ? 1 : count < MOST_QUEUES ? count : MOST_QUEUES;
     if (guard->queues > 1 && guard->chooser < 0) /* a program chooses the queue of each frame that the daemon sends there */
         guard->chooser = attach_stored(&tap->process->store, "queues", tap->chooser, link->index, true);
@@ -265,9 +265,9 @@ bool is_spread_anew(uint64_t seconds, const struct link *link, const struct guar
     return false;
 }
 
-/* Whether the kernel may choose the queue of a member as that of others: it keeps the queue of a connection, also where that goes on by another
- * member. How many these have, the first one tells of which it passes data on. */
-bool has_usual_queues(struct tap_plane *tap, const struct guard *guard) {
+/* Chooses how many queues members have of which the kernel passes data on, by the first one; answers whether a member has as many. The kernel
+ * keeps the queue of a connection, also where that goes on by another member. */
+bool choose_usual_queues(struct tap_plane *tap, const struct guard *guard) {
     bool any = false;
     for (uint16_t port = 1; port <= tap->ports->count; port++) any = any || is_fast(&tap->members[port - 1]);
     if (!any) tap->usual_queues = guard->queues;
@@ -409,8 +409,8 @@ void fit_queue(const struct plane *plane, const struct link *link) {
     fit_each_fifo(link->index, link->has_fifos ? ASK(plane->queueing->fifos_of, 1, link->index) : 1, read_speed(link->socket, link->index).megabits);
 }
 
-/* Why the kernel may not pass on what goes and comes at an interface, or NULL: a marker would overtake the data before it. */
-static const char *fault_of_fast(const struct link *link, const struct guard *guard) {
+/* Has one processor take what comes at an interface; answers why the kernel may not pass it on, or NULL: a marker would overtake data. */
+static const char *try_fast(const struct link *link, const struct guard *guard) {
     struct ethtool_channels queues;
     if (link->stacked) return STACKED;
     if (!guard->spread && queues_of(link->index, &queues) > 1) return "it has several queues";
@@ -431,8 +431,8 @@ void keep_from_stack(struct tap_plane *tap, const struct link *link, struct guar
 
 /* Has the kernel pass on what goes and comes at a member, where it may; a line says why not. */
 void run_fast_programs(struct tap_plane *tap, const struct link *link, struct guard *guard) {
-    guard->unusual = guard->spread && !has_usual_queues(tap, guard);
-    const char *fault = fault_of_fast(link, guard);
+    guard->unusual = guard->spread && !choose_usual_queues(tap, guard);
+    const char *fault = try_fast(link, guard);
     if (!fault) guard->opened = open_fast_receiver(tap, link);
     guard->fast = guard->opened >= 0;
     if (guard->fast) return;
@@ -476,7 +476,7 @@ static void run_programs(struct tap_plane *tap, const struct link *link, struct 
     guard->channels = channels_of(link->index);
 }
 
-static void stop_programs(const struct tap_plane *tap, const struct link *link, struct guard *guard) {
+static void stop_programs(struct tap_plane *tap, const struct link *link, struct guard *guard) {
     if (guard->opened >= 0) detach_stored(&tap->process->store, "guard", link->index, guard->opened);
     if (guard->fast) close_fast_receiver(&tap->fast, link);
     if (guard->classifier != NO_CLASSIFIER) drop_classifier(link->index);

@@ -134,7 +134,7 @@ void read_host(struct tap_plane *tap) {
 }
 
 /* Hands a packet up, which lies in parts; answers whether the device took it. */
-bool give_host(struct tap_plane *tap, const struct iovec *parts, unsigned count, size_t length) {
+bool give_host(const struct tap_plane *tap, const struct iovec *parts, unsigned count, size_t length) {
     return !tap->process->broken && writev(tap->host.tap, parts, (int)count) == (ssize_t)length;
 }
 
@@ -183,8 +183,8 @@ void end_tap_plane(struct plane *plane) {
     end_held(tap);
 }
 
-void remove_all_members(struct plane *plane, struct ports *ports) {
-    EACH_LINK(link, ports)
+void remove_all_members(struct plane *plane, const struct ports *ports) {
+    EACH_LINK_AS_IS(link, ports)
         if (link->socket >= 0) CALL(plane->carrying->remove, plane, link);
 }
 

@@ -90,7 +90,7 @@ static bool set_up_data(int fd, int index, const struct guard *guard) {
 
 /* Opens a socket of a member; answers it, or -errno. One for all protocols has markers before the filters and bridges of an administrator,
  * which may take frames away there. Where the kernel hands up what comes, nothing comes by that for data. */
-static int open_socket(const struct tap_plane *tap, const struct link *link, const struct guard *guard, enum socket_kind kind) {
+static int open_socket(struct tap_plane *tap, const struct link *link, const struct guard *guard, enum socket_kind kind) {
     int index = kind == MARKERS ? tap->device->index : link->index;
     struct sockaddr_ll address = {.sll_family = AF_PACKET, .sll_protocol = htons(kind == DIRECT ? ETH_P_SLOW : ETH_P_ALL), .sll_ifindex = index};
     int fd = packet_socket(tap->process, SOCKET_NAMES[kind], link->index, index, SOCK_RAW);
@@ -164,7 +164,7 @@ static bool renew_member(struct tap_plane *tap, struct link *link) {
     return open_sockets(tap, link, member) == 0;
 }
 
-static bool renew_changed(struct tap_plane *tap, struct link *link) {
+static bool tell_and_renew(struct tap_plane *tap, struct link *link) {
     (void)say(tap->process, LOG_NOTICE | ABOUT_DATA, "port %u %s: its queues were changed", link->settings.number, link->name);
     return renew_member(tap, link);
 }
@@ -205,7 +205,7 @@ static bool follow_member_queues(struct tap_plane *tap, struct link *link) {
     struct member *member = member_of(tap, link);
     bool kept = link->has_fifos ? have_order(link->index) : member->guard.in_order || !may_have_order(link->index);
     if (!is_open(member) || kept) return true;
-    return renew_changed(tap, link);
+    return tell_and_renew(tap, link);
 }
 
 /* Each second a member is taken up anew whose queues others changed, or that has the number of queues of the others by now. */
@@ -215,8 +215,8 @@ static void watch_queues(struct tap_plane *tap) {
         const struct member *member = member_of(tap, link);
         if (!is_open(member)) continue;
         bool changed = is_spread_anew(seconds_since(tap->protocol->began), link, &member->guard);
-        if (!changed && !(member->guard.unusual && has_usual_queues(tap, &member->guard))) continue;
-        if (!(changed ? renew_changed(tap, link) : renew_member(tap, link))) lose_member(tap->protocol, link);
+        if (!changed && !(member->guard.unusual && choose_usual_queues(tap, &member->guard))) continue;
+        if (!(changed ? tell_and_renew(tap, link) : renew_member(tap, link))) lose_member(tap->protocol, link);
     }
 }
 
@@ -258,7 +258,7 @@ void put_back_members(int status UNUSED, void *given) {
 }
 
 /* The TAP device takes what each member takes; 0: there is no such member any more. */
-static void follow_member_mtu(struct plane *plane, struct link *link, uint32_t mtu) {
+static void follow_member_mtu(struct plane *plane, const struct link *link, uint32_t mtu) {
     struct tap_plane *tap = plane->tap;
     uint32_t least = UINT32_MAX;
     if (member_of(tap, link)->mtu == mtu) return;
@@ -277,7 +277,7 @@ static void follow_speed(struct plane *plane, const struct link *link) {
 }
 
 /* How fast the ports that carry are together, in Mb/s. One whose speed is not known counts nothing; where none is, that is SPEED_UNKNOWN. */
-uint32_t sum_speeds(struct tap_plane *tap) {
+uint32_t sum_speeds(const struct tap_plane *tap) {
     uint64_t sum = 0;
     for (uint16_t i = 0; i < tap->carry->active_count; i++) sum += tap->members[tap->carry->active_ports[i] - 1].megabits;
     if (sum == 0) return (uint32_t)SPEED_UNKNOWN;
@@ -360,7 +360,7 @@ static void accept_only_response(struct tap_plane *tap, struct link *link, const
 static void accept_response_of_queue(struct tap_plane *tap, struct link *link, const struct arrival *arrival, uint32_t id) {
     uint8_t frame[NIW_FRAME];
     struct arrival last = {frame, sizeof frame, arrival->packet_type, arrival->index, arrival->tagged};
-    if (!ends_flight(&tap->queues[link->settings.number - 1], &id)) {
+    if (!note_queue_response(&tap->queues[link->settings.number - 1], &id)) {
         uint32_t status = niw_count_received(&link->counters, arrival->frame, arrival->length, NIW_RECEIVED_RELEASED);
         (void)!is_done(tap->process, status, "niw_count_received");
         return;

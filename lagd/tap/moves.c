@@ -2,7 +2,7 @@
 #include "carry.h"
 
 /* Whether it is known that no conversation is held on a port that carries. */
-static bool none_moves(const struct carry *carry) {
+static bool none_moves(struct carry *carry) {
     uint64_t held;
     for (uint16_t i = 0; i < carry->active_count; i++)
         if (!is_told(carry->process, niw_held(&carry->protocol->own_system, carry->active_ports[i]), "niw_held", &held) || held > 0)
@@ -53,7 +53,7 @@ static bool level(struct carry *carry) {
 }
 
 /* Whether the conversations of a port can move behind markers to others that carry. */
-bool can_empty(struct plane *plane, const struct link *link) {
+bool can_empty(const struct plane *plane, const struct link *link) {
     const struct carry *carry = plane->carry;
     unsigned others = 0;
     for (uint16_t i = 0; i < carry->active_count; i++) others += carry->active_ports[i] != link->settings.number;

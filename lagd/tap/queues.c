@@ -75,7 +75,7 @@ static struct flight *next_flight(struct queues *queues) {
 
 /* The queues with frames of which no response has told yet. Where the kernel passes frames on, that is any: how many there are is seen
  * anew, since it goes by as many as there are now. */
-static uint32_t unanswered(const struct member *member, int index, struct queues *queues) {
+static uint32_t recount_unanswered(const struct member *member, int index, struct queues *queues) {
     uint32_t found = queues->dirty;
     for (size_t i = 0; i < MOST_FLIGHTS; i++) found |= queues->flights[i].waiting;
     if (is_fast(member)) {
@@ -107,7 +107,7 @@ bool send_by_queues(struct tap_plane *tap, struct link *link, const uint8_t *mar
     uint16_t port = link->settings.number;
     struct queues *queues = &tap->queues[port - 1];
     if (again) return send_again_by_queues(tap, link, marker);
-    uint32_t waiting = unanswered(&tap->members[port - 1], link->index, queues);
+    uint32_t waiting = recount_unanswered(&tap->members[port - 1], link->index, queues);
     struct flight flight = {read32(marker + IDENTIFIER_AT), waiting, tap->carry->time, queues->sent++};
     struct flight *place = next_flight(queues);
     queues->dirty = 0;
@@ -116,7 +116,7 @@ bool send_by_queues(struct tap_plane *tap, struct link *link, const uint8_t *mar
 }
 
 /* A response to the marker of a queue came: answers whether it is the last one that was missing, and gives back the identifier of the library. */
-bool ends_flight(struct queues *queues, uint32_t *id) {
+bool note_queue_response(struct queues *queues, uint32_t *id) {
     uint32_t bit = 1u << (*id >> QUEUE_SHIFT);
     for (size_t i = 0; i < MOST_FLIGHTS; i++) {
         struct flight *flight = &queues->flights[i];

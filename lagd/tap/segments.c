@@ -150,8 +150,8 @@ static bool continues_stream(const struct gro *own, const uint8_t *packet, const
 }
 
 /* Hands up as one what waits; answers whether the device took it. */
-static bool give_all(struct tap_plane *tap) {
-    struct gro *own = &tap->gro;
+static bool give_all(const struct tap_plane *tap) {
+    const struct gro *own = &tap->gro;
     const struct tcp_packet *all = &own->all;
     const uint8_t *first = own->packets[0].iov_base, *last = own->packets[own->count - 1].iov_base;
     bool six = has_ipv6(first, all);

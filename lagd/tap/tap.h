@@ -174,7 +174,7 @@ void pass_probe_tick(struct tap_plane *tap);
 void pass_flight_tick(struct tap_plane *tap);
 
 /* queues.c: by which queue of its member a conversation goes, and the markers of each queue */
-bool ends_flight(struct queues *queues, uint32_t *id);
+bool note_queue_response(struct queues *queues, uint32_t *id);
 void set_identifier(uint8_t *frame, uint32_t id);
 void begin_queues(struct queues *queues, unsigned count);
 void mark_conversation(struct tap_plane *tap, uint16_t port, uint16_t number, struct msghdr *message);
@@ -204,7 +204,7 @@ void open_tap_plane(struct plane *plane);
 void end_tap_plane(struct plane *plane);
 void read_host(struct tap_plane *tap);
 bool is_cutting(const struct tap_plane *tap);
-bool give_host(struct tap_plane *tap, const struct iovec *parts, unsigned count, size_t length);
+bool give_host(const struct tap_plane *tap, const struct iovec *parts, unsigned count, size_t length);
 
 /* traffic.c: queueing disciplines and classifiers of members */
 bool keeps_order(const char *discipline);
@@ -222,7 +222,7 @@ void drop_classifier(int index);
 unsigned count_sending_queues(int index);
 void gather(struct process *process, int index);
 void start_all_queues(struct tap_plane *tap);
-bool has_usual_queues(struct tap_plane *tap, const struct guard *guard);
+bool choose_usual_queues(struct tap_plane *tap, const struct guard *guard);
 bool is_spread_anew(uint64_t seconds, const struct link *link, const struct guard *guard);
 void move_former(struct process *process, struct link *link, const uint8_t *mac);
 void open_guard(struct tap_plane *tap, struct link *link, struct guard *guard);
@@ -243,7 +243,7 @@ bool give_marker(struct tap_plane *tap, struct link *link, const uint8_t *marker
 unsigned member_queues(const struct member *member);
 void put_back_members(int status, void *given);
 bool is_fast(const struct member *member);
-uint32_t sum_speeds(struct tap_plane *tap);
+uint32_t sum_speeds(const struct tap_plane *tap);
 void put_data(struct tap_plane *tap, uint16_t port, uint16_t number, uint8_t *packet, size_t length);
 void flush_data(struct tap_plane *tap);
 void receive_data(struct tap_plane *tap, struct link *link);
@@ -288,8 +288,8 @@ const char *program_fault(void);
 /* fast.c */
 extern const struct passing BY_KERNEL;
 int open_fast_receiver(struct tap_plane *tap, const struct link *link);
-void close_fast_receiver(const struct fast_programs *own, const struct link *link);
-int fast_member_of(struct plane *plane, uint16_t number);
+void close_fast_receiver(struct fast_programs *own, const struct link *link);
+int fast_member_of(const struct plane *plane, uint16_t number);
 
 /* held.c */
 void start_held(struct tap_plane *tap);

@@ -14,7 +14,7 @@
 #define MOST_SHORTAGES 10
 #define MOST_UNSEEN 5
 
-int bucket_member_of(struct plane *plane, uint16_t number) {
+int bucket_member_of(const struct plane *plane, uint16_t number) {
     return plane->team->members_at_start[number];
 }
 
@@ -58,7 +58,7 @@ static void look_at_driver(struct team_plane *team) {
     struct interface device;
     struct team_now now;
     team->looked_at = team->carry->time;
-    if (!ask_interface(team->device->index, NULL, &device) || !read_team(team, team->device->index, &now)) {
+    if (!ask_interface(team->device->index, NULL, &device) || !read_team(team->family, team->device->index, &now)) {
         if (++team->unseen == MOST_UNSEEN)
             (void)say(team->process, LOG_WARNING | ABOUT_DATA,
                 "carry %s: the team driver does not tell what it has, so no bucket goes back to its own port: %s", team->settings->carry,
@@ -79,7 +79,7 @@ uint64_t team_frames_received(struct plane *plane, bool looks) {
 void start_buckets(struct team_plane *team) {
     struct team_now now;
     team->carry->time = milliseconds();
-    if (!read_team(team, team->device->index, &now)) return;
+    if (!read_team(team->family, team->device->index, &now)) return;
     memcpy(team->members_at_start, now.members, sizeof team->members_at_start);
     note_driver(team, &now);
     for (uint16_t number = 0; number < CONVERSATIONS; number++) team->buckets[number].moved_at = team->carry->time;

@@ -14,8 +14,8 @@
 /* How often a name is tried that the TAP device of the last daemon has still, each 100 ms. */
 #define MOST_TRIES 10
 
-/* Whether the driver takes the mode: at a device of its own, which stays. */
-static bool has_team_mode(const struct team_plane *team) {
+/* Tries whether the driver takes the mode: at a device of its own, which stays. */
+static bool try_team_mode(const struct team_plane *team) {
     static const uint8_t mac[ETH_ALEN] = {2, 0, 0, 0, 0, 1};
     struct interface device;
     return make_team_device("team0", mac, ETH_DATA_LEN) && ask_interface(0, "team0", &device)
@@ -66,7 +66,7 @@ static void adopt_device(struct team_plane *team, const struct interface *device
     if (strcmp(device->kind, TEAM_KIND) != 0)
         stop(REFUSED, team->settings->carry, "an interface of this name is there, and is no team device");
     lock_device(team, device->index);
-    need(read_team(team, device->index, &now), team->settings->carry);
+    need(read_team(team->family, device->index, &now), team->settings->carry);
     if (strcmp(now.mode, MODE) != 0 && strcmp(now.mode, NO_MODE) != 0)
         stop(REFUSED, team->settings->carry, "a team device of another mode is there");
     if (!team->settings->follow && !has_own_ports(team->settings, &now) && !known)
@@ -76,9 +76,9 @@ static void adopt_device(struct team_plane *team, const struct interface *device
     use_team_device(team->device, device->index);
 }
 
-/* Finds the device of the last daemon, whatever an administrator named it since, or else one of this name; answers whether there is one. A
- * TAP device of the last daemon goes. */
-static bool find_device(struct process *process, const char *name, struct interface *device) {
+/* A TAP device of the last daemon goes. Finds its team device, whatever an administrator named it since, or else one of this name; answers whether
+ * there is one. */
+static bool drop_tap_and_find(struct process *process, const char *name, struct interface *device) {
     int tap = claim_stored(&process->store, "tap", 0);
     if (tap >= 0) close_stored(&process->store, "tap", 0, tap);
     if (process->inherited->tap != 0 && ask_interface(process->inherited->tap, NULL, device) && strcmp(device->kind, TEAM_KIND) == 0)
@@ -167,9 +167,9 @@ static void close_team_port(struct plane *plane, const struct link *link) {
     leave_team_port(team, link->index);
 }
 
-/* Whether an interface is still a port of the device, as the kernel tells another master, or none: that may be older than what the daemon
- * did. */
-static bool is_still_team_port(struct plane *plane, const struct link *link, int master) {
+/* Sees whether an interface is still a port of the device, as the kernel tells another master, or none: that may be older than what the daemon
+ * did. One that is no more has a line. */
+static bool see_team_port(struct plane *plane, const struct link *link, int master) {
     struct team_plane *team = plane->team;
     struct interface now;
     if (!team->taken[link - team->ports->links] || master == team->device->index || !ask_interface(link->index, NULL, &now))
@@ -193,7 +193,7 @@ static void free_inherited_ports(const struct inherited *inherited, int index) {
 static void leave_team(struct plane *plane, int index, bool owned) {
     struct team_plane *team = plane->team;
     struct interface device;
-    if (!find_team_driver(&team->family) || !ask_interface(index, NULL, &device) || strcmp(device.kind, TEAM_KIND) != 0) return;
+    if (!load_team_driver(&team->family) || !ask_interface(index, NULL, &device) || strcmp(device.kind, TEAM_KIND) != 0) return;
     int held = lock_interface(team->process, index);
     if (held < 0) return;
     free_inherited_ports(team->process->inherited, index);
@@ -220,10 +220,10 @@ static void open_team(struct plane *plane) {
     const uint8_t *mac = team->settings->config.mac;
     struct interface device;
     struct team_now now;
-    need(find_team_driver(&team->family), "plane=team: this kernel has no team driver");
+    need(load_team_driver(&team->family), "plane=team: this kernel has no team driver");
     need(on_exit(end_team, team) == 0, "on_exit");
     team->opened = true;
-    if (find_device(team->process, name, &device)) {
+    if (drop_tap_and_find(team->process, name, &device)) {
         adopt_device(team, &device, mac);
     } else {
         need(make_team_device(name, mac, least_mtu(team->settings)) && ask_interface(0, name, &device), name);
@@ -231,7 +231,7 @@ static void open_team(struct plane *plane) {
         plane->owns_device = plane->is_new = true;
         use_team_device(team->device, device.index);
     }
-    need(read_team(team, team->device->index, &now), "team");
+    need(read_team(team->family, team->device->index, &now), "team");
     configure_driver(team, now.mode);
     start_buckets(team);
 }
@@ -247,16 +247,16 @@ static void end_team_plane(struct plane *plane) {
  * namespace that ends with the program, where that may be made. */
 static int check_team(struct control *control, const struct options *options) {
     struct team_plane *team = control->plane->team;
-    bool is_apart = unshare(CLONE_NEWNET) == 0, has_driver = find_team_driver(&team->family);
+    bool is_apart = unshare(CLONE_NEWNET) == 0, has_driver = load_team_driver(&team->family);
     if (!has_driver && errno == EPERM) return tell_lack(team->process, options, "plane", "not known without CAP_NET_ADMIN", DONE);
     if (!has_driver) return tell_lack(team->process, options, "plane", "this kernel has no team driver", REFUSED);
-    if (!is_apart || has_team_mode(team)) return DONE;
+    if (!is_apart || try_team_mode(team)) return DONE;
     return tell_lack(team->process, options, "plane", "the team driver of this kernel has no mode loadbalance", REFUSED);
 }
 
 const struct carrying TEAM_DEVICE = {
     .open = open_team, .end = end_team_plane, .lose_device = lose_device, .leave = leave_team, .give_carrier = give_team_carrier,
-    .add = open_team_port, .remove = close_team_port, .still_has = is_still_team_port, .settle = settle_team, .tick = pass_tick_of_team,
+    .add = open_team_port, .remove = close_team_port, .see_port = see_team_port, .settle = settle_team, .tick = pass_tick_of_team,
     .keeps_aggregator = hears_peer, .frames_heard = team_frames_received, .resume = resume_conversations, .go_on = choose_ports,
     .member_of = bucket_member_of, .end_resuming = release_former_members, .check = check_team, .show = show_carry, .show_member = show_member,
     .show_waiting = show_waiting_buckets, .first_count = MOVES, .end_count = WOKEN + 1, .administers = true, .nameless = "",

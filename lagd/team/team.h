@@ -49,17 +49,17 @@ struct team_plane {
 enum option_type { TYPE_U32 = 3, TYPE_STRING = 5, TYPE_FLAG = 6, TYPE_BINARY = 11 };
 
 /* team_netlink.c */
-bool find_team_driver(uint16_t *family);
+bool load_team_driver(uint16_t *family);
 bool make_team_device(const char *name, const uint8_t *mac, uint32_t mtu);
 bool remove_device(int index);
 bool set_interface_up(int index, bool up);
 bool set_master(int index, int master);
 bool set_address(int index, const uint8_t *mac);
-bool give_team_carrier(struct plane *plane, bool on);
+bool give_team_carrier(const struct plane *plane, bool on);
 bool set_option(const struct team_plane *team, int index, const char *name, enum option_type type, const void *value, size_t length);
 bool set_port_enabled(const struct team_plane *team, int port, bool enabled);
 bool set_bucket(const struct team_plane *team, uint16_t bucket, int port);
-bool read_team(const struct team_plane *team, int index, struct team_now *now);
+bool read_team(uint16_t family, int index, struct team_now *now);
 
 /* team_hash.c */
 #define MOST_HASH_STEPS 256
@@ -75,7 +75,7 @@ void start_buckets(struct team_plane *team);
 void settle_team(struct plane *plane);
 void pass_tick_of_team(struct plane *plane);
 void forget_port(struct team_plane *team, uint16_t port);
-int bucket_member_of(struct plane *plane, uint16_t number);
+int bucket_member_of(const struct plane *plane, uint16_t number);
 uint64_t team_frames_received(struct plane *plane, bool looks);
 unsigned count_waiting_buckets(const struct team_plane *team);
 

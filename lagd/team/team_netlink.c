@@ -19,9 +19,9 @@ static bool find_family(uint16_t *family) {
     return ask_netlink(NETLINK_GENERIC, &question, read_family, family) && *family != 0;
 }
 
-/* Finds the driver; answers whether this kernel has one, and else errno tells why not. The kernel loads it for who may ask for a device: with
+/* Has the kernel load the driver; answers whether there is one, and else errno tells why not. It does so for who may ask for a device: with
  * an address that none may have there is none, and by a name that it is to complete none is taken. */
-bool find_team_driver(uint16_t *family) {
+bool load_team_driver(uint16_t *family) {
     static const uint8_t no_address[ETH_ALEN];
     return find_family(family) || (!make_team_device("team%d", no_address, ETH_DATA_LEN) && errno == EADDRNOTAVAIL && find_family(family));
 }
@@ -62,7 +62,7 @@ bool set_address(int index, const uint8_t *mac) {
     return set_attribute(index, IFLA_ADDRESS, mac, ETH_ALEN);
 }
 
-bool give_team_carrier(struct plane *plane, bool on) {
+bool give_team_carrier(const struct plane *plane, bool on) {
     return set_attribute(plane->device->index, IFLA_CARRIER, &(uint8_t){on}, 1);
 }
 
@@ -139,8 +139,8 @@ static void parse_team(const struct nlmsghdr *message, void *into) {
         if (mnl_attr_get_type(item) == TEAM_ATTR_ITEM_OPTION) note_option(into, item);
 }
 
-bool read_team(const struct team_plane *team, int index, struct team_now *now) {
-    union message question = message_of_team(team->family, TEAM_CMD_OPTIONS_GET, 0, index);
+bool read_team(uint16_t family, int index, struct team_now *now) {
+    union message question = message_of_team(family, TEAM_CMD_OPTIONS_GET, 0, index);
     *now = (struct team_now){0};
     return ask_netlink(NETLINK_GENERIC, &question, parse_team, now);
 }

@@ -118,7 +118,7 @@ bool ask_interface(int index, const char *name, struct interface *device) {
     return true;
 }
 
-bool read_team(const struct team_plane *team, int index, struct team_now *now) {
+bool read_team(uint16_t family, int index, struct team_now *now) {
     *now = (struct team_now){0};
     errno = ENOBUFS;
     if (unread > 0 && unread-- > 0) return false;

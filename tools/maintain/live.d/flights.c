@@ -70,7 +70,7 @@ static unsigned ask(uint32_t id, bool again) {
 
 /* A response comes; answers the identifier that the library gets, or 0 where it gets none. */
 static uint32_t hear(uint32_t id) {
-    return ends_flight(&lagd->tap.queues[PORT - 1], &id) ? id : 0;
+    return note_queue_response(&lagd->tap.queues[PORT - 1], &id) ? id : 0;
 }
 
 static void try_one_flight(void) {

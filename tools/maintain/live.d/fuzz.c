@@ -186,7 +186,7 @@ static void fuzz_answers(const uint8_t *octets, size_t length) {
     waiting = octets;
     (void)ask_interface(1, NULL, &interface);
     waiting = octets;
-    (void)read_team(&lagd->team, 1, &now);
+    (void)read_team(lagd->team.family, 1, &now);
     waiting = octets;
     drop_classifier(1);
     waiting = NULL;

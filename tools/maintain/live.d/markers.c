@@ -158,7 +158,7 @@ static unsigned most_answered(const uint8_t *source, unsigned step, unsigned *al
     write_frame(frame, source, NIW_MARKER_INFORMATION, 1, 1);
     for (unsigned passed = 0; passed < MINUTE; passed += step) {
         now += step;
-        if (may_answer(&lagd->settings, &lagd->plane, &lagd->ports.links[0], &arrival)) times[count++] = now;
+        if (spend_answer(&lagd->settings, &lagd->plane, &lagd->ports.links[0], &arrival)) times[count++] = now;
     }
     for (unsigned first = 0; first < count; first++) {
         unsigned end = first;
@@ -189,8 +189,8 @@ static void check_budgets(void) {
         uint8_t marker[NIW_FRAME];
         struct arrival arrival = {.frame = marker, .length = sizeof marker};
         write_frame(marker, PARTNER, NIW_MARKER_INFORMATION, 1, turn);
-        for (unsigned forged = 0; forged < 30; forged++, now += 5) (void)may_answer(&lagd->settings, &lagd->plane, &lagd->ports.links[0], &strange);
-        CHECK(may_answer(&lagd->settings, &lagd->plane, &lagd->ports.links[0], &arrival));
+        for (unsigned forged = 0; forged < 30; forged++, now += 5) (void)spend_answer(&lagd->settings, &lagd->plane, &lagd->ports.links[0], &strange);
+        CHECK(spend_answer(&lagd->settings, &lagd->plane, &lagd->ports.links[0], &arrival));
     }
     lagd->ports.links[0].heard = false;
     now += MINUTE;

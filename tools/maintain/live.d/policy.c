@@ -273,7 +273,7 @@ NOTHING(count_losses, struct tap_plane *tap)
 NOTHING(pass_announcing_tick, struct carry *carry)
 NOTHING(pass_tap_tick, struct device *device)
 NOTHING(announce_soon, struct announce *own)
-ANSWERS(uint32_t sum_speeds, 1000, struct tap_plane *tap)
+ANSWERS(uint32_t sum_speeds, 1000, const struct tap_plane *tap)
 NOTHING(set_speed, struct device *device, uint32_t megabits)
 /* The device is up here, and no port comes or goes. */
 ANSWERS(uint16_t count_links, PORTS, const struct ports *ports)
