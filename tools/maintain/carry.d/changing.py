@@ -9,8 +9,9 @@ import time
 from threading import Event, Thread
 from typing import Callable
 
-from bonds import COMES_UP, DEVICE, RATE, End, Outcome, Programs, cables, check_order, kernel_count, lay_direct, run_flows, wait_for_links
+from bonds import COMES_UP, DEVICE, LATE, RATE, End, Outcome, Programs, cables, check_order, kernel_count, late, lay_direct, run_flows, wait_for_links
 from checking import Failed, check, within
+from repository import read_text
 from restarting import WAYS, Kept, Manager
 from spaces import OURS, THEIRS, inside, ip
 
@@ -43,6 +44,28 @@ def change_often(end: End, names: list[str], failed: list[str], ended: Event) ->
     ended.set()
 
 
+def backlog_lost() -> int:
+    """What the kernel dropped, of all devices of this machine, since no processor took it in time."""
+    return sum(int(line.split()[1], 16) for line in read_text("/proc/net/softnet_stat").splitlines())
+
+
+def check_changed(failed: list[str], whole: Outcome, what: str, end: End) -> None:
+    """Each interface joined and left. Where a daemon did not answer in time, on a machine that gave its processors so late that this alone can be why,
+    a line says so, and nothing is counted."""
+    if failed and all("does not answer" in it for it in failed) and whole.waited >= LATE:
+        print(f"inconclusive: {what}: {len(failed)} orders had no answer in time; {late(whole)}", flush=True)
+    else:
+        check(not failed, f"{what}: {CHANGES} interfaces join and leave", failed, end.printed()[-2000:])
+
+
+def check_lost(outcome: Outcome, most: int, what: str, *told: str) -> None:
+    """No more frames are lost than so many. Where the kernel dropped all others, as no processor took them in time, a line says so."""
+    if most < outcome.lost() <= most + outcome.no_room:
+        print(f"inconclusive: {what}; no processor took {outcome.no_room:,} frames in time", flush=True)
+    else:
+        check(outcome.lost() <= most, what, outcome, *told)
+
+
 def kernel_lost() -> int:
     """What the devices of both ends had no room for."""
     return kernel_count(OURS, DEVICE, "tx_dropped") + kernel_count(THEIRS, DEVICE, "rx_dropped")
@@ -54,15 +77,16 @@ def flow_while(programs: Programs, end: End, names: list[str], what: str) -> Out
     ended = Event()
     thread = Thread(target=change_often, args=(end, names, failed, ended))
     thread.start()
-    whole, before = Outcome(), kernel_lost()
+    whole, before, dropped = Outcome(), kernel_lost(), backlog_lost()
     while not ended.is_set():
         part = run_flows(programs, 10)
-        for field in ("sent", "refused", "received", "twice", "overtaken", "strange", "lost_here"):
+        for field in ("sent", "refused", "received", "twice", "overtaken", "strange", "lost_here", "waited"):
             setattr(whole, field, getattr(whole, field) + getattr(part, field))
         whole.gap_ms = max(whole.gap_ms, part.gap_ms)
     thread.join()
     whole.refused += kernel_lost() - before  # what the device had no room for, while the daemon was kept from its processor
-    check(not failed, f"{what}: {CHANGES} interfaces join and leave", failed, end.printed()[-2000:])
+    whole.no_room = backlog_lost() - dropped
+    check_changed(failed, whole, what, end)
     check_order(whole, f"{what}: through {CHANGES} changes", end.text())
     return whole
 
@@ -77,7 +101,7 @@ def changes(programs: Programs) -> None:
             wait_for_links(ours, theirs)
             outcome = flow_while(programs, ours, ["a2", "a3"], f"{way}, at the sending end")
             what = f"{outcome.sent - outcome.received} of {outcome.sent:,} frames are lost, {outcome.refused} of them before the daemon"
-            check(outcome.lost() <= outcome.lost_here, f"{way}: {what}", outcome, ours.text(), theirs.text())
+            check_lost(outcome, outcome.lost_here, f"{way}: {what}", ours.text(), theirs.text())
             check(carried(ours) == {"a0": 1, "a1": 2} and ours.links() == 2, f"{way}: two ports are left", ours.text())
             changed = [ours.count(name, "distributed") for name in ("a0", "a1")]
             check(changed == [1, 1], f"{way}: they distribute since the start", changed, ours.printed())
@@ -88,8 +112,8 @@ def changes(programs: Programs) -> None:
             for name in "b2", "b3":
                 order(theirs, "--remove", name)
             outcome = flow_while(programs, theirs, ["b2", "b3"], f"{way}, at the receiving end")
-            check(outcome.lost() <= CHANGES // 2 * ON_THEIR_WAY, f"{way}: {outcome.lost()} of {outcome.sent:,} frames were on their way on links that left", outcome,
-                  ours.text(), theirs.text())
+            what = f"{outcome.lost()} of {outcome.sent:,} frames were on their way on links that left"
+            check_lost(outcome, CHANGES // 2 * ON_THEIR_WAY, f"{way}: {what}", ours.text(), theirs.text())
             ours.ends("the daemon")
             theirs.ends("the other one")
 
