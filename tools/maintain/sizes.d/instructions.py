@@ -6,7 +6,7 @@ import os
 import shutil
 import subprocess
 import tempfile
-from typing import Iterable, Iterator, NamedTuple
+from typing import Iterable, Iterator, NamedTuple, Sequence
 
 import board
 from library import PORTABLE, printed
@@ -16,13 +16,14 @@ PROGRAM, WORDS = (os.path.join(os.path.dirname(os.path.abspath(__file__)), name)
 KEEPS_LOOPS = "-fno-tree-loop-distribute-patterns"
 # Ports, and the LAGs that they are in.
 LAYOUTS = ((2, 1), (8, 1), (8, 4))
-NEW, TICK, SETTLED, DUE, SENDS, TAKEN = (
+NEW, TICK, SETTLED, DUE, SENDS, TAKEN, KEEP = (
     "`niw_new`",
     "`niw_tick`, nothing due",
     "`settle`, nothing due",
     "`niw_tick` that makes an LACPDU due on each port",
     "`settle`, an LACPDU due on each port",
     "`niw_receive` of an LACPDU that changes nothing",
+    "`keep`, for a warm start",
 )
 # The calls, in the order of the program.
 CALLS = [
@@ -36,10 +37,11 @@ CALLS = [
     "`niw_receive` of one that flips Sync: the port leaves the trunk",
     "`niw_tick` at which all ports lose their partner",
     "`niw_set_link`: the link of a port goes down that distributes",
+    KEEP,
 ]
 # Those of a program with rows.
 WITH_ROWS = ["-DROWS_OF_A_CHIP"]
-ROWS_CALLS = [SETTLED, SENDS]
+ROWS_CALLS = [SETTLED, SENDS, KEEP]
 NOTHING: dict[str, str] = {}
 # What the functions of C libraries begin with that copy and fill memory: glibc's memmove calls others.
 MEMORY = (b"mem", b"_wordcopy")
@@ -95,7 +97,7 @@ def between(told: Iterable[bytes]) -> Iterator[tuple[int, int]]:
             memory += function.startswith(MEMORY)
     
 
-def counts(it: Counted, words: list[str], calls: list[str]) -> list[list[tuple[int, int]]]:
+def counts(it: Counted, words: list[str], calls: list[str], layouts: Sequence[tuple[int, int]] = LAYOUTS) -> list[list[tuple[int, int]]]:
     """Of each layout the counts of these calls, on a processor. The environment and the path of a program move its stack, and memcpy takes
     other ways where a struct is aligned otherwise: so each run has none, and one path."""
     found, emulator = [], shutil.which(it.runs[0]) or it.runs[0]
@@ -105,7 +107,7 @@ def counts(it: Counted, words: list[str], calls: list[str]) -> list[list[tuple[i
         memory = [os.path.join(folder, "words.o")] if it.by_words else []
         for made_of_words in memory:
             printed(*it.compiler, *words, KEEPS_LOOPS, "-c", "-o", made_of_words, WORDS)
-        for ports, lags in LAYOUTS:
+        for ports, lags in layouts:
             printed(*it.compiler, *words, f"-DPORTS={ports}", f"-DLAGS={lags}", *it.linked, "-o", made, PROGRAM, library, *memory)
             called = board.command([emulator, "-singlestep", "-d", "exec,nochain", *it.runs[1:]], os.path.basename(made))
             with subprocess.Popen(called, cwd=folder, env=NOTHING, stdin=subprocess.DEVNULL, stdout=subprocess.DEVNULL, stderr=subprocess.PIPE) as ran:
@@ -119,6 +121,18 @@ def of_a_second(ports: int, took: dict[str, int]) -> int:
     """What the loop takes in a second of so many ports that all distribute, with short timeouts: ten ticks, at one of which all send, and an
     LACPDU comes on each port, no two in one turn; settle follows each of these."""
     return 9 * (took[TICK] + took[SETTLED]) + took[DUE] + took[SENDS] + ports * (took[TAKEN] + took[SETTLED])
+
+
+def of_layouts(words: list[str], compiler: list[str], layouts: list[tuple[int, int]]) -> str:
+    """The rows of a table: what a second of the loop takes, and `keep`, on the board of COUNTED, by this compiler, of each layout."""
+    it = COUNTED[0]._replace(compiler=compiler)
+    found = [taken(CALLS, its) for its in counts(it, words, CALLS, layouts)]
+    rows = [{**its, **taken(ROWS_CALLS, own)} for its, own in zip(found, counts(it, [*words, *WITH_ROWS], ROWS_CALLS, layouts))]
+    lines = []
+    for name, of in (("", found), (", with rows", rows)):
+        lines.append([f"a second of the loop{name}", *(of_a_second(ports, its) for (ports, _), its in zip(layouts, of))])
+        lines.append([f"`keep`{name}", *(its[KEEP] for its in of)])
+    return "".join("|" + "|".join([str(name), *(f"{it:,}" for it in cells)]) + "|\n" for name, *cells in lines)
 
 
 def taken(calls: list[str], told: list[tuple[int, int]]) -> dict[str, int]:
