@@ -37,11 +37,10 @@ CALLS = [
     "`niw_receive` of one that flips Sync: the port leaves the trunk",
     "`niw_tick` at which all ports lose their partner",
     "`niw_set_link`: the link of a port goes down that distributes",
-    KEEP,
 ]
-# Those of a program with rows.
+# Those of a program with rows. `keep` is the last one of either.
 WITH_ROWS = ["-DROWS_OF_A_CHIP"]
-ROWS_CALLS = [SETTLED, SENDS, KEEP]
+ROWS_CALLS = [SETTLED, SENDS]
 NOTHING: dict[str, str] = {}
 # What the functions of C libraries begin with that copy and fill memory: glibc's memmove calls others.
 MEMORY = (b"mem", b"_wordcopy")
@@ -98,7 +97,7 @@ def between(told: Iterable[bytes]) -> Iterator[tuple[int, int]]:
     
 
 def counts(it: Counted, words: list[str], calls: list[str], layouts: Sequence[tuple[int, int]] = LAYOUTS) -> list[list[tuple[int, int]]]:
-    """Of each layout the counts of these calls, on a processor. The environment and the path of a program move its stack, and memcpy takes
+    """Of each layout the counts of these calls, and of `keep`, on a processor. The environment and the path of a program move its stack, and memcpy takes
     other ways where a struct is aligned otherwise: so each run has none, and one path."""
     found, emulator = [], shutil.which(it.runs[0]) or it.runs[0]
     with tempfile.TemporaryDirectory() as folder:
@@ -112,8 +111,8 @@ def counts(it: Counted, words: list[str], calls: list[str], layouts: Sequence[tu
             called = board.command([emulator, "-singlestep", "-d", "exec,nochain", *it.runs[1:]], os.path.basename(made))
             with subprocess.Popen(called, cwd=folder, env=NOTHING, stdin=subprocess.DEVNULL, stdout=subprocess.DEVNULL, stderr=subprocess.PIPE) as ran:
                 found.append(list(between(ran.stderr or ())))
-            if ran.returncode or len(found[-1]) != len(calls):
-                raise Missing(f"{it.name}: sizes.d/calls.c of {ports} ports ended with {ran.returncode} after {len(found[-1])} of {len(calls)} calls")
+            if ran.returncode or len(found[-1]) != len(calls) + 1:
+                raise Missing(f"{it.name}: sizes.d/calls.c of {ports} ports ended with {ran.returncode} after {len(found[-1])} of {len(calls) + 1} calls")
     return found
 
 
@@ -136,13 +135,13 @@ def of_layouts(words: list[str], compiler: list[str], layouts: list[tuple[int, i
 
 
 def taken(calls: list[str], told: list[tuple[int, int]]) -> dict[str, int]:
-    return {call: whole for call, (whole, _) in zip(calls, told)}
+    return {call: whole for call, (whole, _) in zip([*calls, KEEP], told)}
 
 
 def table(words: list[str]) -> str:
     """The table: by -Os and these words, of each call, and each layout, the instructions; what a second takes, also with rows; at last how many of them copy
     and fill memory."""
-    counted = [counts(it, words, CALLS) for it in COUNTED]
+    counted = [[its[:len(CALLS)] for its in counts(it, words, CALLS)] for it in COUNTED]
     found = [[taken(CALLS, its) for its in of] for of in counted]
     rows_found = [[taken(ROWS_CALLS, its) for its in counts(it, [*words, *WITH_ROWS], ROWS_CALLS)] for it in COUNTED]
     seconds = [[of_a_second(ports, its) for (ports, _), its in zip(LAYOUTS, of)] for of in found]
