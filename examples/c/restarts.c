@@ -306,10 +306,9 @@ static void show_restart(bool warm, uint32_t away) {
 
 /* Whether a warm start by what is kept is refused by this status, and changes nothing. */
 static bool refuses(uint32_t status) {
-    static struct loop before;
+    uint32_t before = sum_octets(&one.loop, sizeof one.loop, 1);
     unsigned writes_before = one.writes;
-    memcpy(&before, &one.loop, sizeof before);
-    return resume(&one.loop, &one.kept, 10, config_of(&one)) == status && !memcmp(&before, &one.loop, sizeof before) && one.writes == writes_before;
+    return resume(&one.loop, &one.kept, 10, config_of(&one)) == status && sum_octets(&one.loop, sizeof one.loop, 1) == before && one.writes == writes_before;
 }
 
 /* Whether each image is refused that differs from the kept one in an octet behind its guard. */
