@@ -42,17 +42,21 @@ static void chip_flush(struct loop *here, uint16_t lag);
 /* This, too: a frame was handed to the library, which answered `what`. For counts, a capture and a warm start; empty without these. */
 static void heard(struct loop *here, uint16_t port, const uint8_t *frame, size_t length, uint32_t what);
 
-/* By rows.h: clears the rows of the chip whose conversation is no longer on its port; fills those that are clear; clears all; has the library take those of a
- * chip that went on. */
+/* By rows.h: clears the rows of the chip whose conversation is no longer on its port; fills those that are clear; clears all; begins anew; has the library take
+ * those of a chip that went on; sums what a warm start takes. */
 static void clear_rows(struct loop *here);
 static void fill_rows(struct loop *here);
 static void forget_rows(struct loop *here);
+static inline void begin_rows(struct loop *here);
 static inline void adopt_rows(struct loop *here);
+static inline uint32_t sum_rows(struct loop *here, uint32_t sum);
 #ifndef HAS_ROWS
 static void clear_rows(struct loop *here) { (void)here; }
 static void fill_rows(struct loop *here) { (void)here; }
 static void forget_rows(struct loop *here) { (void)here; }
+static inline void begin_rows(struct loop *here) { (void)here; }
 static inline void adopt_rows(struct loop *here) { (void)here; }
+static inline uint32_t sum_rows(struct loop *here, uint32_t sum) { return (void)here, sum; }
 #endif
 
 static uint32_t bit_of(uint16_t port) {
@@ -234,21 +238,44 @@ static inline uint32_t begin(struct loop *here, const struct niw_config *config,
     *here = (struct loop){.system = NIW_EMPTY, .keys = here->keys, .ticks = SECOND};
     uint32_t status = niw_new(&here->system, config, keys, LAGS, ports, PORTS).status;
     if (status != NIW_OK) return status;
+    begin_rows(here);
     chip_again(here);
     here->alone = UINT32_MAX;
     chip_block(here, all, false);
     return NIW_OK;
 }
 
-/* What a warm start wants, in memory that a reset leaves alone, or in flash; with rows `struct rows`, too. */
+/* The number of the layout below: give another one with each change of what stands in struct kept, struct loop or struct rows. An image of before is refused
+ * then, as after an update of the firmware. */
+#define KEPT_LAYOUT 1
+
+/* What `resume` answers besides the statuses of lag.h: the image is none of this length and layout, as erased flash; its sum is another. */
+#define KEPT_OTHER UINT32_C(0x100)
+#define KEPT_BROKEN UINT32_C(0x101)
+
+/* What a warm start wants, in memory that a reset leaves alone, or in flash; with rows `struct rows`, too. The first three fields guard it: `keep` writes them. */
 struct kept {
+    uint32_t octets, layout;
+    uint32_t sum; /* of what follows, and of the rows */
     struct loop loop;
     uint32_t next_marker;
     struct niw_port ports[PORTS]; /* number and address are those that `begin` took */
     struct niw_saved last[PORTS]; /* the last LACPDU of each port; `age` is the tick at which it came */
 };
 
-/* For `heard`. */
+/* FNV-1a, which notices each change of a single octet. */
+static inline uint32_t sum_octets(const void *at, size_t octets, uint32_t sum) {
+    const uint8_t *octet = at;
+    for (size_t i = 0; i < octets; i++) sum = (sum ^ octet[i]) * UINT32_C(16777619);
+    return sum;
+}
+
+static inline uint32_t sum_kept(const struct kept *kept, struct loop *here) {
+    const size_t guard = offsetof(struct kept, loop);
+    return sum_rows(here, sum_octets((const uint8_t *)kept + guard, sizeof *kept - guard, UINT32_C(2166136261)));
+}
+
+/* For `heard`. The image is broken from here to the next `keep`. */
 static inline void keep_lacpdu(struct kept *kept, const struct loop *here, uint16_t port, const uint8_t *frame, size_t length, uint32_t what) {
     struct niw_saved *last = &kept->last[port - 1];
     if (what != NIW_RECEIVED_TOOK_LACPDU) return;
@@ -270,26 +297,30 @@ static inline void keep(struct kept *kept, struct loop *here) {
     }
     kept->loop = *here;
     kept->next_marker = niw_next_marker(&here->system).id;
+    kept->octets = sizeof *kept, kept->layout = KEPT_LAYOUT;
+    kept->sum = sum_kept(kept, here);
 }
 
-/* In the place of `begin`: what was kept `away` ticks ago goes on, and the chip is not written. Ports that did not carry begin anew. If refused, begin. */
+/* In the place of `begin`: what was kept `away` ticks ago goes on, and the chip is not written. Ports that did not carry begin anew. If refused, nothing has
+ * changed, not even `here`: begin. */
 static inline uint32_t resume(struct loop *here, const struct kept *kept, uint32_t away, struct niw_config config) {
     struct niw_saved saved[PORTS];
     uint16_t keys[LAGS];
     size_t count = 0;
-    *here = kept->loop;
-    here->system = (struct niw_system)NIW_EMPTY;
-    here->held = 0;
-    here->ticks += away;
+    if (kept->octets != sizeof *kept || kept->layout != KEPT_LAYOUT) return KEPT_OTHER;
+    if (kept->sum != sum_kept(kept, here)) return KEPT_BROKEN;
     config.first_marker = kept->next_marker;
-    for (uint16_t lag = 1; lag <= LAGS; lag++) keys[lag - 1] = key_of(here, lag);
+    for (uint16_t lag = 1; lag <= LAGS; lag++) keys[lag - 1] = key_of(&kept->loop, lag);
     for (uint16_t port = 1; port <= PORTS; port++) {
         if (kept->last[port - 1].aggregator == 0) continue;
         saved[count] = kept->last[port - 1];
-        saved[count++].age = here->ticks - kept->last[port - 1].age;
+        saved[count++].age = kept->loop.ticks + away - kept->last[port - 1].age;
     }
     uint32_t status = niw_resume(&here->system, &config, keys, LAGS, kept->ports, PORTS, saved, count).status;
     if (status != NIW_OK) return status;
+    for (size_t i = sizeof here->system; i < sizeof *here; i++) ((uint8_t *)here)[i] = ((const uint8_t *)&kept->loop)[i];
+    here->held = 0;
+    here->ticks += away;
     adopt_rows(here);
     for (uint16_t port = 1; port <= PORTS; port++)
         if (here->up & ~here->alone & bit_of(port) && !niw_is_up(&here->system, port).is) niw_set_link(&here->system, port, true);

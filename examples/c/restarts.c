@@ -125,6 +125,11 @@ static void lose_rows(struct box *box) {
     memset(box->row, 0, sizeof box->row);
 }
 
+/* What memory may hold that nothing wrote. */
+static void spoil_rows(struct box *box, uint8_t octet) {
+    memset(&box->rows, octet, sizeof box->rows);
+}
+
 /* Whether the chip has the list of the loop, each row of each LAG names a port of its trunk, and each of these has its share. */
 static bool has_rows(const struct box *box) {
     for (unsigned lag = 0; lag < LAGS; lag++) {
@@ -142,6 +147,7 @@ static bool has_rows(const struct box *box) {
 }
 #else
 static void lose_rows(struct box *box) { (void)box; }
+static void spoil_rows(struct box *box, uint8_t octet) { (void)box, (void)octet; }
 static bool has_rows(const struct box *box) { return (void)box, true; }
 #endif
 
@@ -298,6 +304,71 @@ static void show_restart(bool warm, uint32_t away) {
     printf("; in %u ticks not all the others carried; port 8 is heard again: all carry after %u\n", empty, run(400, ALL));
 }
 
+/* Whether a warm start by what is kept is refused by this status, and changes nothing. */
+static bool refuses(uint32_t status) {
+    uint32_t before = sum_octets(&one.loop, sizeof one.loop, 1);
+    unsigned writes_before = one.writes;
+    return resume(&one.loop, &one.kept, 10, config_of(&one)) == status && sum_octets(&one.loop, sizeof one.loop, 1) == before && one.writes == writes_before;
+}
+
+/* Whether each image is refused that differs from the kept one in an octet behind its guard. */
+static bool refuses_each_octet(void) {
+    uint8_t *octets = (uint8_t *)&one.kept;
+    bool all = true;
+    for (size_t i = offsetof(struct kept, loop); i < sizeof one.kept; i++) {
+        octets[i] ^= 1;
+        all = all && refuses(KEPT_BROKEN);
+        octets[i] ^= 1;
+    }
+    return all;
+}
+
+static void fill_kept(size_t from, size_t to) {
+    for (size_t i = from; i < to; i++) ((uint8_t *)&one.kept)[i] = (uint8_t)(drawn() * 5 / 2);
+}
+
+/* Whether random octets are refused, first with the length and the layout of an image. */
+static bool refuses_garbage(void) {
+    fill_kept(offsetof(struct kept, sum), sizeof one.kept);
+    bool refused = refuses(KEPT_BROKEN);
+    fill_kept(0, offsetof(struct kept, sum));
+    return refused && refuses(KEPT_OTHER);
+}
+
+static bool refuses_erased(void) {
+    memset(&one.kept, 255, sizeof one.kept);
+    return refuses(KEPT_OTHER);
+}
+
+static bool refuses_other_layout(void) {
+    one.kept.layout--;
+    bool refused = refuses(KEPT_OTHER);
+    one.kept.layout++, one.kept.octets -= 4;
+    refused = refused && refuses(KEPT_OTHER);
+    one.kept.octets += 4;
+    return refused;
+}
+
+static void tell(const char *what, bool refused) {
+    printf("a warm start by %s: %s\n", what, refused ? "refused, and nothing changed" : "TAKEN");
+}
+
+/* The firmware of the first switch starts again, and what was kept is no good. */
+static void show_images(void) {
+    keep(&one.kept, &one.loop);
+    niw_free(&one.loop.system);
+    tell("an image each octet of which is another in turn", refuses_each_octet());
+    tell("one of another layout, or length", refuses_other_layout());
+    spoil_rows(&one, 252);
+#ifdef WITH_ROWS
+    tell("one whose rows are others", refuses(KEPT_BROKEN));
+#endif
+    tell("random octets", refuses_garbage());
+    tell("erased flash", refuses_erased());
+    printf("a cold start behind it: %s", niw_status_text(start(&one)));
+    printf("; all carry after %u ticks\n", run(400, ALL));
+}
+
 static void show_long_timeouts(void) {
     unsigned without = 0;
     set_link(&one.loop, 1, false);
@@ -342,6 +413,7 @@ int main(void) {
     show_restart(true, 10);
     show_restart(true, 40);
     show_restart(false, 10);
+    show_images();
     show_long_timeouts();
     printf("%s\n", one.strayed || two.strayed ? "a port passed data outside a trunk" : "no port of a LAG passed data outside its trunk");
     printf("%s\n", one.lied || two.lied ? "an LACPDU said what the chip had not" : "no LACPDU said Collecting or Distributing of a port that the chip had out");

@@ -2,8 +2,7 @@
  * of the trunk change, behind markers, if the peer answers them. A program includes this file in place of loop.h, and gives two functions more. One aggregator
  * a LAG will do, as there. hash_buckets.c is such a program, and so is restarts_rows.c.
  *
- * `chip_send` sends behind the data that rows sent on its port: it waits until each queue of the port is empty, or takes the same queue. Before `begin` the
- * struct is all zero. */
+ * `chip_send` sends behind the data that rows sent on its port: it waits until each queue of the port is empty, or takes the same queue. */
 #ifndef ROWS_H
 #define ROWS_H
 
@@ -16,7 +15,7 @@
 struct rows {
     uint16_t port[LAGS][ROWS];  /* what the chip has: the port of each row, or 0, with which it drops the frames */
     uint16_t since[LAGS][ROWS]; /* the tick at which a row was cleared, its low 16 bits */
-    uint32_t level[LAGS];       /* the ports that have their shares, or 0 */
+    uint32_t level[LAGS];       /* the ports that have their shares, or 0; a warm start takes nothing of what follows */
     uint32_t asked[PORTS + 1];  /* the tick of the last probe */
     uint16_t adopted;           /* the tick of a warm start, its low 16 bits; and whether a row was clear then, whose frames may be on their way */
     bool waits;
@@ -88,15 +87,23 @@ static void forget_rows(struct loop *here) {
     }
 }
 
+static inline void begin_rows(struct loop *here) {
+    rows_of(here)->adopted = (uint16_t)here->ticks;
+    rows_of(here)->waits = false;
+    for (uint16_t port = 1; port <= PORTS; port++) rows_of(here)->asked[port] = 0;
+}
+
 /* Behind niw_resume, and before the first `settle`: the rows go on as the list has them. */
 static inline void adopt_rows(struct loop *here) {
     struct rows *rows = rows_of(here);
-    rows->adopted = (uint16_t)here->ticks;
-    rows->waits = false;
-    for (uint16_t port = 1; port <= PORTS; port++) rows->asked[port] = 0;
+    begin_rows(here);
     for (uint16_t lag = 1; lag <= LAGS; lag++)
         for (uint16_t row = 0; row < ROWS; row++)
             if (niw_adopt(&here->system, lag, row, rows->port[lag - 1][row]) != NIW_OK && here->trunk[lag - 1]) rows->waits = true;
+}
+
+static inline uint32_t sum_rows(struct loop *here, uint32_t sum) {
+    return sum_octets(rows_of(here), offsetof(struct rows, asked), sum);
 }
 
 /* Offers a bucket. One that waits for longer than its frames can be on their way is freed without a response: its link died silently, or its peer answers

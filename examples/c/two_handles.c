@@ -1,5 +1,7 @@
 /* A switch whose two LAGs have a handle each, by loop.h, under one MAC address; a peer that has all four cables in one LAG. By one key the peer takes both for
- * one, and a flood comes back: a loop. By keys of their own one LAG carries. Each handle has all ports, and those of the other are none of its own. */
+ * one, and a flood comes back: a loop. By keys of their own one LAG carries. Each handle has all ports, and those of the other are none of its own.
+ *
+ * cc -O2 -DNIW_POOL -Icrates/lagffi/include -o two_handles examples/c/two_handles.c c/lag.c && ./two_handles */
 #include <stdio.h>
 
 #define PORTS 4
@@ -88,5 +90,9 @@ static bool show(const char *what, uint16_t keys) {
 }
 
 int main(void) {
+#ifdef NIW_POOL
+    static _Alignas(16) uint8_t room[3 * NIW_MEMORY(PORTS, LAGS, NIW_FEW_CONVERSATIONS)];
+    niw_give_memory(room, sizeof room);
+#endif
     return show("one key", 0) && show("keys of their own", 1) ? 0 : 1;
 }

@@ -3,6 +3,7 @@
 from __future__ import annotations
 
 import os
+import shutil
 import subprocess
 import tempfile
 
@@ -10,7 +11,8 @@ import library
 import switch
 from building import BENCH, log_run, say
 from report import machine
-from repository import Missing, want
+from repository import Missing, read_text, want, write_text
+from stacks import deepest
 
 RUNS = 5
 PORTS = (2, 8, 64)
@@ -18,6 +20,12 @@ PORTS = (2, 8, 64)
 PARTS = ("lacp", "hmap")
 # Each function by itself: the linker drops what nobody calls.
 SMALL = ["-O2", "-ffunction-sections", "-fdata-sections"]
+# For firmware, by -Os on Thumb-2: the headers of Open vSwitch want those of Linux, so the compiler is that of Linux. The calls of a program, its ports.
+ARM, RUNS_ARM = "arm-linux-gnueabihf-gcc", "qemu-arm"
+THUMB = [ARM, "-mcpu=cortex-m4", "-mthumb", "-mfloat-abi=soft", "-fno-pie", "-fno-asynchronous-unwind-tables"]
+CALLED = ["create", "configure", "destroy", "member_register", "member_unregister", "member_carrier_changed", "process_packet", "run", "member_may_enable"]
+HELD_PORTS = (2, 24)
+ALONE = ["-static", "-nostdlib", "-Wl,--gc-sections,--unresolved-symbols=ignore-all,--build-id=none,-e,lacp_run"]
 WRAPS = [f"-Wl,--wrap={name}" for name in ("malloc", "calloc", "realloc", "free")]
 
 
@@ -71,6 +79,26 @@ def row(name: str, runs: list[dict[tuple[str, int], tuple[float, float]]]) -> st
     return f"|{name}|{'|'.join(cells)}|"
 
 
+def theirs(sources: str, folder: str) -> str:
+    """The table of what lib/lacp.c takes of firmware: code and constants, data, octets of the heap, and the deepest stack of its calls."""
+    os.makedirs(f"{folder}/gnu", exist_ok=True)
+    write_text(f"{folder}/gnu/stubs-soft.h", "")
+    words = ["-Os", "-ffunction-sections", "-fdata-sections", "-D_GNU_SOURCE", "-DHAVE_CONFIG_H", f"-I{folder}", *(f"-I{sources}/{it}" for it in ("include", "lib", ""))]
+    parts, made, graph = [*(f"{sources}/lib/{name}.c" for name in PARTS), f"{BENCH}/embedded/standing.c"], [], ""
+    for part in parts:
+        made.append(f"{folder}/{os.path.basename(part)}.thumb.o")
+        library.printed(*THUMB, *words, "-fcallgraph-info=su", "-c", "-o", made[-1], part)
+        graph += read_text(f"{made[-1].removesuffix('.o')}.ci")
+    names = [f"lacp_{it}" for it in CALLED]
+    library.printed(*THUMB, *ALONE, *(f"-Wl,-u,{it}" for it in names), "-o", f"{folder}/alone", *made)
+    code, data = library.printed(ARM.replace("gcc", "size"), f"{folder}/alone").splitlines()[1].split()[:2]
+    own, ports = [f"{BENCH}/embedded/{it}.c" for it in ("ovs", "heap", "held")], ",".join(map(str, HELD_PORTS))
+    library.printed(ARM, *words, f"-DHELD_PORTS={ports}", "-static", *WRAPS, "-Wl,--gc-sections", "-o", f"{folder}/held", *parts, *own)
+    held = library.printed(RUNS_ARM, f"{folder}/held").split()
+    rows = [("code and constants", code), ("data", data), *((f"heap, {of} ports", it) for of, it in zip(HELD_PORTS, held)), ("stack", str(deepest(graph, names)))]
+    return "|lib/lacp.c by -Os, Thumb-2, octets||\n|---|---:|\n" + "".join(f"|{name}|{int(it):,}|\n" for name, it in rows)
+
+
 def measure(cache: str) -> int:
     """Builds both, runs the program, and prints two tables."""
     want("gcc", "size", "ld", "objcopy", "ar")
@@ -84,6 +112,7 @@ def measure(cache: str) -> int:
         say(f"{RUNS} runs")
         runs = [ran(program) for _ in range(RUNS)]
         sizes = {"liblag.a": text(lag), "lib/lacp.c": text(objects[0]), "lib/hmap.c": text(objects[1])}
+        firmware = theirs(sources, folder) if shutil.which(ARM) and shutil.which(RUNS_ARM) else f"skipped: lib/lacp.c on Thumb-2 wants {ARM} and {RUNS_ARM}\n"
     print(f"{machine()}. Open vSwitch {version}; {RUNS} runs, of each the lowest and the highest figure.\n")
     print("|code and constants, octets||\n|---|---:|")
     print("".join(f"|{name}|{octets:,}|\n" for name, octets in sizes.items()))
@@ -91,5 +120,5 @@ def measure(cache: str) -> int:
     print("|---|" + "---:|" * 3 * len(PORTS))
     names = dict.fromkeys(name for name, _ in runs[0])
     print("".join(f"{row(name, runs)}\n" for name in names), end="")
-    print(f"\n{len(names)} rows, 0 wrong")
+    print(f"\n{firmware}\n{len(names)} rows, 0 wrong")
     return 0

@@ -11,6 +11,7 @@ enum { ACTOR_STATE = 32 }; /* where a frame has it */
 
 static _Alignas(16) uint8_t room[2 * NIW_MEMORY(PORTS, LAGS, NIW_FEW_CONVERSATIONS)];
 static struct loop here;
+static struct kept kept;
 static struct niw_system peer = NIW_EMPTY;
 static uint8_t came[PORTS + 1][NIW_FRAME], frame[NIW_FRAME], response[NIW_FRAME];
 static const uint64_t all = (UINT64_C(1) << PORTS) - 1;
@@ -127,6 +128,7 @@ int main(void) {
     COUNT(settle(&here));
     if (niw_due(&here.system).number) return 4;
 #ifdef ROWS_OF_A_CHIP
+    COUNT(keep(&kept, &here));
     return level_rows() ? 0 : 14;
 #endif
     pass_until_one_is_left();
@@ -148,5 +150,7 @@ int main(void) {
     come_up();
     if (distributing() != PORTS) return 11;
     COUNT_ALONE(niw_set_link(&here.system, PORTS, false));
-    return distributing() == PORTS - 1 ? 0 : 12;
+    if (distributing() != PORTS - 1) return 12;
+    COUNT_ALONE(keep(&kept, &here));
+    return 0;
 }

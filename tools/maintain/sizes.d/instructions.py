@@ -6,7 +6,7 @@ import os
 import shutil
 import subprocess
 import tempfile
-from typing import Iterable, Iterator, NamedTuple
+from typing import Iterable, Iterator, NamedTuple, Sequence
 
 import board
 from library import PORTABLE, printed
@@ -16,13 +16,14 @@ PROGRAM, WORDS = (os.path.join(os.path.dirname(os.path.abspath(__file__)), name)
 KEEPS_LOOPS = "-fno-tree-loop-distribute-patterns"
 # Ports, and the LAGs that they are in.
 LAYOUTS = ((2, 1), (8, 1), (8, 4))
-NEW, TICK, SETTLED, DUE, SENDS, TAKEN = (
+NEW, TICK, SETTLED, DUE, SENDS, TAKEN, KEEP = (
     "`niw_new`",
     "`niw_tick`, nothing due",
     "`settle`, nothing due",
     "`niw_tick` that makes an LACPDU due on each port",
     "`settle`, an LACPDU due on each port",
     "`niw_receive` of an LACPDU that changes nothing",
+    "`keep`, for a warm start",
 )
 # The calls, in the order of the program.
 CALLS = [
@@ -37,7 +38,7 @@ CALLS = [
     "`niw_tick` at which all ports lose their partner",
     "`niw_set_link`: the link of a port goes down that distributes",
 ]
-# Those of a program with rows.
+# Those of a program with rows. `keep` is the last one of either.
 WITH_ROWS = ["-DROWS_OF_A_CHIP"]
 ROWS_CALLS = [SETTLED, SENDS]
 NOTHING: dict[str, str] = {}
@@ -95,8 +96,8 @@ def between(told: Iterable[bytes]) -> Iterator[tuple[int, int]]:
             memory += function.startswith(MEMORY)
     
 
-def counts(it: Counted, words: list[str], calls: list[str]) -> list[list[tuple[int, int]]]:
-    """Of each layout the counts of these calls, on a processor. The environment and the path of a program move its stack, and memcpy takes
+def counts(it: Counted, words: list[str], calls: list[str], layouts: Sequence[tuple[int, int]] = LAYOUTS) -> list[list[tuple[int, int]]]:
+    """Of each layout the counts of these calls, and of `keep`, on a processor. The environment and the path of a program move its stack, and memcpy takes
     other ways where a struct is aligned otherwise: so each run has none, and one path."""
     found, emulator = [], shutil.which(it.runs[0]) or it.runs[0]
     with tempfile.TemporaryDirectory() as folder:
@@ -105,13 +106,13 @@ def counts(it: Counted, words: list[str], calls: list[str]) -> list[list[tuple[i
         memory = [os.path.join(folder, "words.o")] if it.by_words else []
         for made_of_words in memory:
             printed(*it.compiler, *words, KEEPS_LOOPS, "-c", "-o", made_of_words, WORDS)
-        for ports, lags in LAYOUTS:
+        for ports, lags in layouts:
             printed(*it.compiler, *words, f"-DPORTS={ports}", f"-DLAGS={lags}", *it.linked, "-o", made, PROGRAM, library, *memory)
             called = board.command([emulator, "-singlestep", "-d", "exec,nochain", *it.runs[1:]], os.path.basename(made))
             with subprocess.Popen(called, cwd=folder, env=NOTHING, stdin=subprocess.DEVNULL, stdout=subprocess.DEVNULL, stderr=subprocess.PIPE) as ran:
                 found.append(list(between(ran.stderr or ())))
-            if ran.returncode or len(found[-1]) != len(calls):
-                raise Missing(f"{it.name}: sizes.d/calls.c of {ports} ports ended with {ran.returncode} after {len(found[-1])} of {len(calls)} calls")
+            if ran.returncode or len(found[-1]) != len(calls) + 1:
+                raise Missing(f"{it.name}: sizes.d/calls.c of {ports} ports ended with {ran.returncode} after {len(found[-1])} of {len(calls) + 1} calls")
     return found
 
 
@@ -121,14 +122,26 @@ def of_a_second(ports: int, took: dict[str, int]) -> int:
     return 9 * (took[TICK] + took[SETTLED]) + took[DUE] + took[SENDS] + ports * (took[TAKEN] + took[SETTLED])
 
 
+def of_layouts(words: list[str], compiler: list[str], layouts: list[tuple[int, int]]) -> str:
+    """The rows of a table: what a second of the loop takes, and `keep`, on the board of COUNTED, by this compiler, of each layout."""
+    it = COUNTED[0]._replace(compiler=compiler)
+    found = [taken(CALLS, its) for its in counts(it, words, CALLS, layouts)]
+    rows = [{**its, **taken(ROWS_CALLS, own)} for its, own in zip(found, counts(it, [*words, *WITH_ROWS], ROWS_CALLS, layouts))]
+    lines = []
+    for name, of in (("", found), (", with rows", rows)):
+        lines.append([f"a second of the loop{name}", *(of_a_second(ports, its) for (ports, _), its in zip(layouts, of))])
+        lines.append([f"`keep`{name}", *(its[KEEP] for its in of)])
+    return "".join("|" + "|".join([str(name), *(f"{it:,}" for it in cells)]) + "|\n" for name, *cells in lines)
+
+
 def taken(calls: list[str], told: list[tuple[int, int]]) -> dict[str, int]:
-    return {call: whole for call, (whole, _) in zip(calls, told)}
+    return {call: whole for call, (whole, _) in zip([*calls, KEEP], told)}
 
 
 def table(words: list[str]) -> str:
     """The table: by -Os and these words, of each call, and each layout, the instructions; what a second takes, also with rows; at last how many of them copy
     and fill memory."""
-    counted = [counts(it, words, CALLS) for it in COUNTED]
+    counted = [[its[:len(CALLS)] for its in counts(it, words, CALLS)] for it in COUNTED]
     found = [[taken(CALLS, its) for its in of] for of in counted]
     rows_found = [[taken(ROWS_CALLS, its) for its in counts(it, [*words, *WITH_ROWS], ROWS_CALLS)] for it in COUNTED]
     seconds = [[of_a_second(ports, its) for (ports, _), its in zip(LAYOUTS, of)] for of in found]
