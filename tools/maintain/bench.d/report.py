@@ -13,7 +13,7 @@ FLAT = ["transmit, nothing due", "is_due, nothing due", "receive, response for n
 LIMITS = [("1", "0", "none"), ("1", "64", "64"), ("1", "32", "32"), ("2", "0", "none"), ("2", "16", "16")]
 # Each with a limit, and the same without.
 AGAINST = [(("1", "64"), ("1", "0")), (("1", "32"), ("1", "0")), (("2", "16"), ("2", "0"))]
-CODECS = [("rust", "plain Rust"), ("gcc", "gcc -O2"), ("clang", "clang -O3")]
+CODECS = [("gcc", "gcc -O2"), ("clang", "clang -O3")]
 WORST = 20_000
 
 
@@ -84,8 +84,6 @@ def codec_rows(table: Table, m: Measured) -> None:
         ours = m.times["codec", what, "ours"]
         others = [m.times["codec", what, key] for key, _ in CODECS]
         rows.append(([what, number(ours), *map(number, others), *(f"{ours / it:.2f}" for it in others)], is_right))
-        if what in ("decode", "encode"):
-            table.goal(f"{what} beside plain Rust", ours / others[0], 1.0)
     table.section(["codec, ns a PDU", "ours", *(name for _, name in CODECS), *(f"ours / {name}" for _, name in CODECS)], rows)
 
 

@@ -1,4 +1,4 @@
-//! Times the library `lagbench` beside plain Rust and plain C, all in one run, for so many seconds:
+//! Times the library `lagbench` beside plain C, all in one run, for so many seconds:
 //! `harness SECONDS [WORD]`; with a word, of the calls of a system only those whose lines begin with it. Each line that it prints
 //! is one measurement, its words parted by tabs; tools/maintain/bench makes a table of them.
 //! A time is the least of many repeats, in nanoseconds of this thread.
