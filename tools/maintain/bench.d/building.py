@@ -24,7 +24,7 @@ def log_run(cache: str, log: str, words: list[str], cwd: str | None = None, env:
         raise Missing(f"{' '.join(words)[:100]} ended with {ended.returncode}; {file} has what it printed")
 
 
-def build_harness(cache: str, parts: list[str]) -> str:
+def build_harness(cache: str, parts: list[str], name: str = "harness") -> str:
     """Builds the harness over a library; answers its file."""
     sources, built = f"{BENCH}/harness", f"{cache}/built"
     os.makedirs(built, exist_ok=True)
@@ -32,6 +32,6 @@ def build_harness(cache: str, parts: list[str]) -> str:
     for compiler, level in ("gcc", "-O2"), ("clang", "-O3"):
         codecs.append(f"{built}/codec_{compiler}.o")
         log_run(cache, "harness", [compiler, level, f"-DPREFIX={compiler}_", "-c", f"{sources}/codec.c", "-o", codecs[-1]])
-    words = ["gcc", "-O2", "-std=c11", f"-I{os.path.dirname(library.HEADER)}", "-o", f"{built}/harness", f"{sources}/times.c"]
+    words = ["gcc", "-O2", "-std=c11", f"-I{os.path.dirname(library.HEADER)}", "-o", f"{built}/{name}", f"{sources}/times.c"]
     log_run(cache, "harness", [*words, *codecs, *parts])
-    return f"{built}/harness"
+    return f"{built}/{name}"
