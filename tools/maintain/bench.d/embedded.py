@@ -9,16 +9,16 @@ import tempfile
 
 import library
 import switch
-from building import BENCH, log_run, say
-from report import machine
+from building import BENCH, build_harness, log_run, say
+from report import PORTS, Measured, Table, machine
 from repository import Missing, read_text, want, write_text
 from stacks import deepest
 
 RUNS = 5
-PORTS = (2, 8, 64)
+SAME, HEAP = "an LACPDU that changes nothing", "octets of the heap"
 # What of Open vSwitch LACP needs, beside stand-ins for its threads, clock and log.
 PARTS = ("lacp", "hmap")
-# Each function by itself: the linker drops what nobody calls.
+# Each function by itself: the linker drops what nobody calls, and what it wants.
 SMALL = ["-O2", "-ffunction-sections", "-fdata-sections"]
 # For firmware, by -Os on Thumb-2: the headers of Open vSwitch want those of Linux, so the compiler is that of Linux. The calls of a program, its ports.
 ARM, RUNS_ARM = "arm-linux-gnueabihf-gcc", "qemu-arm"
@@ -48,35 +48,31 @@ def compiled(cache: str, folder: str, sources: str) -> list[str]:
     return made
 
 
-def linked(cache: str, folder: str, objects: list[str], lag: str) -> str:
-    """The program that measures both."""
-    made, own = f"{folder}/beside", [f"{BENCH}/embedded/{name}.c" for name in ("beside", "heap")]
-    words = ["gcc", *SMALL, "-std=c11", f"-I{os.path.dirname(library.HEADER)}", "-Wl,--gc-sections", *WRAPS]
-    log_run(cache, "embedded", [*words, "-o", made, *own, *objects, lag])
-    return made
-
-
-def ran(program: str) -> dict[tuple[str, int], tuple[float, float]]:
-    """What one run measures, by its name and the ports: ours and theirs."""
-    ended = subprocess.run([program], capture_output=True, text=True)
+def ran(program: str) -> Measured:
+    # What is freed goes back at once, so that the heap is what is held.
+    told = {**os.environ, "GLIBC_TUNABLES": "glibc.malloc.tcache_count=0"}
+    ended = subprocess.run([program, "2", "beside"], env=told, capture_output=True, text=True)
     if ended.returncode:
         raise Missing(f"{os.path.basename(program)} ended with {ended.returncode}: {ended.stderr.strip()[-200:]}")
-    found = {}
-    for line in ended.stdout.splitlines():
-        name, ports, ours, theirs = line.split("\t")
-        found[name, int(ports)] = (float(ours), float(theirs))
-    return found
+    return Measured(ended.stdout)
 
 
-def row(name: str, runs: list[dict[tuple[str, int], tuple[float, float]]]) -> str:
-    """A row of the table: of each size ours, theirs and the ratio, from the lowest to the highest of the runs."""
-    cells = []
+def pairs(runs: list[Measured], name: str, ports: str) -> list[tuple[float, float]]:
+    """Ours and theirs in each run."""
+    if name == HEAP:
+        return [(ours, theirs) for it in runs for ours, theirs in [it.counts["heap", ports]]]
+    return [(it.times["beside", name, ports, "ours"], it.times["beside", name, ports, "theirs"]) for it in runs]
+
+
+def row(runs: list[Measured], name: str) -> tuple[list[str], bool]:
+    """A row of the table: of each size ours, theirs and the ratio, from the lowest to the highest of the runs; and whether all answers were right."""
+    cells = [name]
     for ports in PORTS:
-        pairs = [it[name, ports] for it in runs]
-        told = [[a for a, _ in pairs], [b for _, b in pairs], [a / b for a, b in pairs]]
-        shown = [[f"{it:,.0f}" for it in sorted(told[0])], [f"{it:,.0f}" for it in sorted(told[1])], [f"{it:.2f}" for it in sorted(told[2])]]
+        found = pairs(runs, name, ports)
+        told = [sorted(a for a, _ in found), sorted(b for _, b in found)]
+        shown = [[f"{it:,.0f}" for it in each] for each in told] + [[f"{it:.2f}" for it in sorted(a / b for a, b in found)]]
         cells += [it[0] if it[0] == it[-1] else f"{it[0]}-{it[-1]}" for it in shown]
-    return f"|{name}|{'|'.join(cells)}|"
+    return cells, not any(wrong for run in runs for (_, which, *_), wrong in run.wrong.items() if which == name)
 
 
 def theirs(sources: str, folder: str) -> str:
@@ -101,24 +97,24 @@ def theirs(sources: str, folder: str) -> str:
 
 def measure(cache: str) -> int:
     """Builds both, runs the program, and prints two tables."""
-    want("gcc", "size", "ld", "objcopy", "ar")
+    want("gcc", "clang", "size", "ld", "objcopy", "ar")
     sources, version = switch.configured(cache)
-    if not sources:
-        raise Missing(f"without Open vSwitch: {version}")
     with tempfile.TemporaryDirectory() as folder:
         lag = library.archive(folder, library.one_object(folder, library.proved(folder)))
         objects = compiled(cache, folder, sources)
-        program = linked(cache, folder, objects, lag)
+        program = build_harness(cache, ["-DBESIDE", "-Wl,--gc-sections", *objects, lag], "beside")
         say(f"{RUNS} runs")
         runs = [ran(program) for _ in range(RUNS)]
         sizes = {"liblag.a": text(lag), "lib/lacp.c": text(objects[0]), "lib/hmap.c": text(objects[1])}
         firmware = theirs(sources, folder) if shutil.which(ARM) and shutil.which(RUNS_ARM) else f"skipped: lib/lacp.c on Thumb-2 wants {ARM} and {RUNS_ARM}\n"
-    print(f"{machine()}. Open vSwitch {version}; {RUNS} runs, of each the lowest and the highest figure.\n")
-    print("|code and constants, octets||\n|---|---:|")
-    print("".join(f"|{name}|{octets:,}|\n" for name, octets in sizes.items()))
-    print("|" + "|".join(["ns a call; octets", *(it for ports in PORTS for it in (f"ours, {ports} ports", "theirs", "ratio"))]) + "|")
-    print("|---|" + "---:|" * 3 * len(PORTS))
-    names = dict.fromkeys(name for name, _ in runs[0])
-    print("".join(f"{row(name, runs)}\n" for name in names), end="")
-    print(f"\n{firmware}\n{len(names)} rows, 0 wrong")
-    return 0
+    print(f"{machine()}. Open vSwitch {version}; {RUNS} runs, of each the lowest and the highest figure.")
+    table = Table()
+    table.section(["code and constants, octets", ""], [([name, f"{octets:,}"], True) for name, octets in sizes.items()])
+    head = ["ns a call; octets", *(it for ports in PORTS for it in (f"ours, {ports} ports", "theirs", "ratio"))]
+    table.section(head, [row(runs, name) for name in (HEAP, *runs[0].names("beside"))])
+    for ports in PORTS:
+        table.goal(f"{SAME}, {ports} ports, beside lib/lacp.c, in the run that comes nearest", min(a / b for a, b in pairs(runs, SAME, ports)), 3)
+    table.goal("the heap of 2 ports", pairs(runs, HEAP, "2")[0][0], 2048, " octets")
+    table.print_goals()
+    print(f"\n{firmware}\n{table.rows} rows, {table.wrong} wrong")
+    return 1 if table.wrong else 0

@@ -1,48 +1,44 @@
-"""c/lag.c beside the native library, in one run: times of calls, each of both compiled with one program by -O2."""
+"""c/lag.c beside the native library: the calls of lag.h, each of both with one program by gcc -O2, in turn."""
 
 from __future__ import annotations
 
-import os
 import subprocess
 import tempfile
 
 import library
-from building import BENCH, say
-from report import machine
-from repository import COMPILER, Missing, want
+from building import build_harness, say
+from report import Measured, Table, machine, number
+from repository import Missing
 
-RUNS = 7
-
-
-def built(folder: str, name: str, parts: list[str]) -> str:
-    """The program over a library."""
-    made = os.path.join(folder, name)
-    library.printed(*COMPILER, "-O2", f"-I{os.path.dirname(library.HEADER)}", "-o", made, os.path.join(BENCH, "portable.c"), *parts)
-    return made
+RUNS = 5
+# Ports, and conversations in use.
+COLUMNS = [("2", "1"), ("8", "256"), ("64", "all")]
 
 
-def ran(program: str) -> dict[str, float]:
-    """What a run measures, in nanoseconds."""
-    ended = subprocess.run([program], capture_output=True, text=True)
+def ran(program: str) -> Measured:
+    """A run of the calls of systems of 256 conversations."""
+    ended = subprocess.run([program, "0", "call"], capture_output=True, text=True)
     if ended.returncode:
-        raise Missing(f"{os.path.basename(program)} ended with {ended.returncode}")
-    return {name: float(time) for name, time in (line.split("\t") for line in ended.stdout.splitlines())}
+        raise Missing(f"{program} ended with {ended.returncode}")
+    return Measured(ended.stdout)
 
 
-def measure() -> int:
-    """Measures both in turn, and prints a table: the least, the middle and the most of all runs, and the ratio of the least ones."""
-    want(*COMPILER[:1])
+def measure(cache: str) -> int:
+    """Measures both in turn, and prints a table of the least times and their ratios."""
     with tempfile.TemporaryDirectory() as folder:
         say("building the native library; what is not yet proved is proved first")
-        programs = {"native": built(folder, "native", library.proved(folder)), "lag.c": built(folder, "portable", [library.PORTABLE])}
-        told: dict[str, list[dict[str, float]]] = {name: [] for name in programs}
-        for _ in range(RUNS):
-            for name, program in programs.items():
-                told[name].append(ran(program))
-    print(f"{machine()}; {RUNS} runs of each, in turn; {library.printed(*COMPILER, '--version').splitlines()[0]}, -O2\n")
-    print("|ns: least, middle, most|native|c/lag.c|ratio of the least|\n|---|---:|---:|---:|")
-    for row in told["native"][0]:
-        times = {name: sorted(run[row] for run in runs) for name, runs in told.items()}
-        cells = [f"{it[0]:.0f}, {it[RUNS // 2]:.0f}, {it[-1]:.0f}" for it in times.values()]
-        print(f"|{row}|{'|'.join(cells)}|{times['lag.c'][0] / times['native'][0]:.2f}|")
-    return 0
+        programs = [build_harness(cache, library.proved(folder), "native"), build_harness(cache, [library.PORTABLE], "portable")]
+    runs = [[ran(it) for it in programs] for _ in range(RUNS)]
+    print(f"{machine()}; {RUNS} runs of each, in turn; {library.printed('gcc', '--version').splitlines()[0]}, -O2")
+    table, rows = Table(), []
+    for name in runs[0][0].names("call"):
+        cells = []
+        for key in [("call", name, *column) for column in COLUMNS]:
+            if key in runs[0][0].times:
+                native, portable = (min(run[which].times[key] for run in runs) for which in (0, 1))
+                cells += [number(native), number(portable), f"{portable / native:.2f}"]
+        is_right = not any(wrong for run in runs for it in run for key, wrong in it.wrong.items() if key[1] == name)
+        rows.append(([name, *cells, *["-"] * (3 * len(COLUMNS) - len(cells))], is_right))
+    table.section(["ns a call: ports / conversations", *(it for column in COLUMNS for it in (f"native, {' / '.join(column)}", "c/lag.c", "ratio"))], rows)
+    print(f"\n{table.rows} rows, {table.wrong} wrong")
+    return 1 if table.wrong else 0

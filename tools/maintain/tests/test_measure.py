@@ -26,7 +26,6 @@ FILES = {
         ("tools/maintain/wrong-bodies.d/low.edits", "edits"),
         ("tools/maintain/live.d/a.c", "tools"),
         ("tools/maintain/tests/test_a.py", "tests of the tools"),
-        ("tools/maintain/bench.d/lagbench/codec.rt.txt", "tools"),
         ("tools/check", "tools"),
         ("tools/dist.d/abi.py", "tools of users"),
         ("tools/dist.d/debian/control", None),
