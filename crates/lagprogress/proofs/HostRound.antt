@@ -53,7 +53,7 @@ pub side_beside : (at : Side → ℕ) (s : Side) (es : List HostEvent) → TickO
 side_beside at s es h = side_among (LeavesPorts at) s es h
 
 -- a tick of one system is none of the other
-one_of : (s : Side) (e : HostEvent) → IsTickOf s e → IsTickOf (peer s) e → ⊥
+pub one_of : (s : Side) (e : HostEvent) → IsTickOf s e → IsTickOf (peer s) e → ⊥
 one_of s e h i = grind (arith, nat_tests)
 
 -- no tick is among the events that may come between

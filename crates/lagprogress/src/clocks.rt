@@ -70,6 +70,7 @@ pub fn each_link_agrees_by_clocks<F: Fn(u16, usize) -> usize>()
 {}
 
 ghost use Rattle.lagprogress.specs.Beside.{EachLinkStaysAgreed, EachLinkStaysUp};
+ghost use Rattle.lagprogress.specs.Several.{EachLinkStaysAgreedInSeveral, EachLinkStaysUpInSeveral};
 
 // promise: **a setting of another port does no harm to a link that is up:** behind 356 | 657 late rounds both its ports stay up, and agree,
 //    for any number of late rounds in which hosts also hold other ports, let them go and set their modes, CollectorMaxDelay and any limit of
@@ -88,6 +89,10 @@ pub fn each_link_stays_up_by_clocks<F: Fn(u16, usize) -> usize>()
     ensures up_one { (one two : F) → EachLinkStaysUp OneIsActive up_if_one_is (both_algorithms (F.post one) (F.post two)) }
     ensures agrees_both { (one two : F) → EachLinkStaysAgreed BothAreActive up_if_both_active (both_algorithms (F.post one) (F.post two)) }
     ensures agrees_one { (one two : F) → EachLinkStaysAgreed OneIsActive up_if_one_is (both_algorithms (F.post one) (F.post two)) }
+    ensures several_up_both { (one two : F) → EachLinkStaysUpInSeveral BothAreActive up_if_both_active (both_algorithms (F.post one) (F.post two)) }
+    ensures several_up_one { (one two : F) → EachLinkStaysUpInSeveral OneIsActive up_if_one_is (both_algorithms (F.post one) (F.post two)) }
+    ensures several_agrees_both { (one two : F) → EachLinkStaysAgreedInSeveral BothAreActive up_if_both_active (both_algorithms (F.post one) (F.post two)) }
+    ensures several_agrees_one { (one two : F) → EachLinkStaysAgreedInSeveral OneIsActive up_if_one_is (both_algorithms (F.post one) (F.post two)) }
 {}
 
 ghost use Rattle.lagprogress.specs.Bundle.{SelectedPairsAgree, SelectedPairsComeUp};
