@@ -1,11 +1,10 @@
 -- In a healthy round of hosts, an end that hears the other is told when the other is synchronized, or the other owes it an LACPDU.
-use Rattle.lagprogress.proofs.Common.{Bool, List, Some, [], arith, false, inl, inr, refl, subst, sym, true, ℕ, ◌-◌, ◌∙◌, ◌∷◌, ◌≡◌, ◌≤◌, ◌⊎◌}
+use Rattle.lagprogress.proofs.Common.{Bool, List, Some, [], arith, false, inl, inr, refl, subst, suc, sym, true, ℕ, ◌+◌, ◌-◌, ◌∷◌, ◌≡◌, ◌≤◌, ◌⊎◌}
 use Rattle.lagprogress.proofs.Common.{cases_Bool, AllByRecursion, Lacpdu, Side, peer, Machines, partner_synchronized, periodic_rows, receive_rows}
 use Rattle.lagprogress.proofs.Common.{AtRest, RunsToRest, after_sending, count_down, is_due, SystemPort, Carries, IsFrame, OnlyPortChangesBy}
 use Rattle.lagprogress.proofs.Common.{ProcessesLacpdu, ThenSettles, SystemState, machines_of, Reply, Algorithms, WorldSteps, side_of, ItemValue}
 use Rattle.lagprogress.proofs.Common.{WorldState, half, HostEvent, Plays, timeout_time, KeptBySettling, OfEach, Tick-each, counts, AtPort}
-use Rattle.lagprogress.proofs.Common.{LeavesPorts, Clearing, StepReplies, OfPort, suc, ◌+◌, IsTimed}
-use Rattle.lagprogress.specs.Several.{AfterTicks}
+use Rattle.lagprogress.proofs.Common.{LeavesPorts, Clearing, StepReplies, OfPort, AfterTicks}
 use Rattle.lagprogress.proofs.SeveralTicks.{TickPasses, TickStages, TicksBeside, Within, fits_at, holds_ticks, known_at, none_counted, own_counted}
 use Rattle.lagprogress.proofs.SeveralTicks.{peer_counted, side_turns, ticked_by, ticks_on}
 use Rattle.slowpdu.specs.declared.pdu.Pdu.TheVariants as pdu
@@ -15,8 +14,8 @@ use Rattle.lagprogress.proofs.Claims.{IsNamed, Owes, Owing, Wakeful, owes_ticks,
 use Rattle.lagprogress.proofs.Climbing.{PartnerInSync, known_still, ticks_partner}
 use Rattle.lagprogress.proofs.Delivering.{Heard, arrived_ports, deliver_link, deliver_moves, came_to}
 use Rattle.lagprogress.proofs.EndFacts.{Along, IsEnd, Learnt, activity, nothing_along, short_timeout, ticks_end, wait_of, learnt_along}
-use Rattle.lagprogress.proofs.HostRound.{between, KeptBeside, MadeByTick, healthy_link, learn_less}
-use Rattle.lagprogress.proofs.HostRound.{tick_one, ticks_learnt, two_other, two_there, both_kept, both_made, Counts}
+use Rattle.lagprogress.proofs.HostRound.{between, KeptBeside, MadeByTick, healthy_link, learn_less, tick_one, ticks_learnt, two_other, two_there}
+use Rattle.lagprogress.proofs.HostRound.{both_kept, both_made, Counts}
 use Rattle.lagprogress.proofs.Linked.{asked_which, at_end, beside_link, emit_any, found, end_with, of_end, with_ports, EndIs, Fits, Flying, IsGood}
 use Rattle.lagprogress.proofs.Linked.{Link, each_both, each_map, each_side, end_here, gains_has, HasLacpdu, other_side, peer_twice, put_other}
 use Rattle.lagprogress.proofs.Linked.{put_there, same_flying}

@@ -5,16 +5,16 @@ use Rattle.lagprogress.proofs.Common.{half, port_at, IsTimed, timeout_time, OfEa
 use Rattle.lagprogress.proofs.Common.{EndsOfEachKnow, OneIsActive, LateRounds, OldArrive, EndKnows, Knows, known_if_both_active, known_if_one_is}
 use Rattle.lagprogress.proofs.Claims.{IsNamed, Wakeful, can_wake}
 use Rattle.lagprogress.proofs.EndFacts.{CanSound, IsEnd, Learnt, activity, calm, less_known, short_timeout, wait_of, Along}
-use Rattle.lagprogress.proofs.HostRound.{host_keeps, two, two_other, two_there}
+use Rattle.lagprogress.proofs.HostRound.{two, two_other, two_there}
 use Rattle.lagprogress.proofs.Lapsing.{Lasting, begins_lasting, lasting_now, Lapsed, Phase, Tails, lasting_passes}
 use Rattle.lagprogress.proofs.Linked.{EndIs, Fits, Link, each_map, each_side, end_here, of_end, other_ports, peer_twice, with_ports}
 use Rattle.lagprogress.proofs.OneRound.{Nothing, at_rest, forget, ticked, beside_here, join}
 use Rattle.lagprogress.proofs.Quieting.{AllBeside, PlayedBeside, all_beside}
 use Rattle.lagprogress.proofs.Telling.{Wakes}
 use Rattle.lagprogress.proofs.Climbing.{PartnerInSync}
-use Rattle.lagprogress.proofs.LateHearing.{Ahead, AheadIn, Flies, Hears, Said, Whoever, late_flies, late_nears, late_passes, late_stamped}
-use Rattle.lagprogress.proofs.LateHearing.{late_told, late_took, ticks_near, ticks_stamp, ticks_take, ticks_tell}
-use Rattle.lagprogress.proofs.SeveralTicks.{TicksBeside, no_less, once, ticked_by, ticks_keep}
+use Rattle.lagprogress.proofs.LateHearing.{Ahead, AheadIn, Flies, Hears, Said, Whoever, ticks_bring, ticks_near, ticks_pass, ticks_stamp, ticks_take}
+use Rattle.lagprogress.proofs.LateHearing.{ticks_tell}
+use Rattle.lagprogress.proofs.SeveralTicks.{TicksBeside, Turned, no_less, once, once_passes, ticked_by, ticks_keep}
 use Rattle.lagprogress.proofs.LateStart.{counts_of, first_late, kept_of}
 use Rattle.lagprogress.proofs.Stamps.{Stamped, Took}
 use Rattle.lagprogress.proofs.Starting.{Ends, active_at, end_of, named_at, said_by, starts}
@@ -92,9 +92,6 @@ module _ (at : Side → ℕ) (w : Side → Lacpdu) where
 
   pub fits_ticked : (c : Side → ℕ) → ((s : Side) → c s ≤ wait s) → Fits 1 w (ticked c)
   fits_ticked c l = fits_first (ticked c) (λ s. let m = l s in omega (arith, m))
-
-  abbrev pub Able : (Side → ℕ) → Type 0
-  Able c = (s : Side) → CanSound (w s) (w (peer s)) (mode s) (c s) × CanSound (w s) (w (peer s)) (mode s) (c s - 1)
 
   -- through so many ticks
   abbrev pub AbleIn : ℕ → (Side → ℕ) → Type 0
@@ -236,9 +233,10 @@ module _ (at : Side → ℕ) (w : Side → Lacpdu) (counts : Side → ℕ) (kept
     able_in ticks slack d j g more k less s a l = let m = knows_in ticks slack d j g more s in
         can_known at w s (g.known s - a) (omega (arith, m, l, less)) (awake s)
 
-    pub able_fresh : {most n : ℕ} (d : ℕ) (j : WorldState) (g : GoingIn 1 11 0 d most n j) → Able at w g.known
-    able_fresh d j g s = let l = knows_late d j g s in
-        (can_known at w s (g.known s) (omega (arith, l)) (awake s), can_known at w s (g.known s - 1) (omega (arith, l)) (awake s))
+    pub wakes_met : {most n : ℕ} (ticks slack d : ℕ) (j : WorldState) (g : GoingIn ticks slack 0 d most n j) → 1 ≤ slack → (s : Side)
+        → AtIt at w s (Wakeful (w s) (w (peer s))) j
+    wakes_met ticks slack d j g more s = wakes_now at w d g.known One Nothing s (mode at w s) j (can_known at w s (g.known s)
+        (let m = knows_in ticks slack d j g more s in omega (arith, m)) (awake s)) g.link
 
   -- both ends know each other: as a contract has it
   pub met_knows : (l : LinkState) → ((s : Side) → port_at s l ≡ at s) → (j : WorldState) → Early 0 j → (s : Side) → EndKnows s l j
@@ -280,15 +278,16 @@ module _ (at : Side → ℕ) (w : Side → Lacpdu) (counts : Side → ℕ) (kept
       × (((2 ≤ m - 1) × AtIt at w s (Lasting (w (peer s)) (m - 1 - 1)) new) ⊎ (Said at w s Whoever new × Flies at s new)))
       ⊎ Hears 1 at w counts kept (λ _. 0) s new
   awaits gives s active named fits then m old new some l wakes stamped (inr (said, flies)) h =
-      inr (late_flies gives 1 at w counts kept s (omega arith) (inr named) (λ _. 0) fits then
-      One old new l wakes stamped said flies h)
+      inr (ticks_bring gives 1 at w counts kept s (omega arith) (inr named) 1 (omega arith) (λ _. 0) fits then
+      One old new l wakes stamped said flies (once h))
   awaits gives s active named fits then m old new some l wakes stamped (inl (twice, lasting)) h =
       let u = w (peer s) in
-      elim (late_passes gives 1 at w counts kept s (omega arith) (inr named) (λ _. 0) fits then (Lasting u (m - 1))
-      (Phase u (λ r. Lapsed 30 r ⊎ Tails r) (m - 1 - 1)) (Phase u Tails (m - 1 - 1)) (Lasting u (m - 1 - 1))
-      (lasting_passes (w s) u 1 (m - 1) active (omega (arith, twice)))
-      (subst (λ n. Along (Lasting u n) (w s) u 0 1) (omega arith) (lasting_passes (w s) u 1 (m - 1 + 1) active (omega arith)).asked)
-      old new (join 1 at w (λ _. 0) One s (Lasting u (m - 1)) old l lasting) wakes stamped h) [
+      elim (ticks_pass gives 1 at w counts kept s (omega arith) (inr named) 1 (omega arith) (λ _. 0) fits then
+      (Turned (Lasting u (m - 1)) (Phase u Tails (m - 1 - 1))) (Turned (Lasting u (m - 1)) (Phase u (λ r. Lapsed 30 r ⊎ Tails r) (m - 1 - 1)))
+      (Lasting u (m - 1 - 1)) (once_passes (Lasting u (m - 1)) (Phase u (λ r. Lapsed 30 r ⊎ Tails r) (m - 1 - 1)) (Phase u Tails (m - 1 - 1))
+      (Lasting u (m - 1 - 1)) (w s) u 0 1 (lasting_passes (w s) u 1 (m - 1) active (omega (arith, twice)))
+      (subst (λ n. Along (Lasting u n) (w s) u 0 1) (omega arith) (lasting_passes (w s) u 1 (m - 1 + 1) active (omega arith)).asked))
+      old new (join 1 at w (λ _. 0) One s (Lasting u (m - 1)) old l lasting) wakes stamped (once h)) [
         | inl q ↦ (let more = (beside_here 1 at w (ticked (λ _. 0)) s (Lasting u (m - 1 - 1)) new q).0 in
             inl (
               omega (arith, twice),
@@ -470,22 +469,22 @@ module _ (at : Side → ℕ) (w : Side → Lacpdu) (counts : Side → ℕ) (kept
 
     none_kept : (old new : WorldState) → Round old new → Link 1 at w (λ _. 0) One Nothing old → Link 1 at w (λ _. 0) One Nothing new
     none_kept old new h link = lower at w (ticked (λ _. 0)) (λ _. 0) One Nothing new (λ _. omega arith)
-        (host_keeps gives One 1 at w (λ _. 0) old new fit_none then_none link h)
+        (ticks_keep gives 1 One 1 at w (λ _. 0) old new fit_none then_none link (once h))
 
     -- it still calls, or the other end has just heard it
     calls_on : (s : Side) (active : activity (w s) ≡ true) (n : ℕ) (old new : WorldState) → Round old new
         → Calls s n old → Calls s (n + 1) new ⊎ Hears 1 at w counts kept (λ _. 0) s new
     calls_on s active n old new h (m, some, soon, link, rest, ahead) =
-        elim (late_nears gives 1 at w counts kept s (omega arith) (inl active) (λ _. 0) fit_none then_none false m old new
-        (inl active, λ i. absurd (no i)) (inl active, λ i. absurd (no i)) link
-        (wakes_now at w 1 (λ _. 0) One Nothing s false old (inl active, λ i. absurd (no i)) link) rest ahead h) [
+        elim (ticks_near gives 1 at w counts kept s (omega arith) (inl active) 1 (omega arith) (λ _. 0) fit_none then_none 1 false m old new
+        (omega arith) (λ a l. (inl active, λ i. absurd (no i))) link
+        (wakes_now at w 1 (λ _. 0) One Nothing s false old (inl active, λ i. absurd (no i)) link) rest ahead (once h)) [
           | inl q ↦ (let more = q.0 in
               inl (
                 m - 1,
                 more,
                 omega (arith, soon, more),
                 none_kept old new h link,
-                late_stamped gives at counts kept old new h rest,
+                ticks_stamp 1 gives at counts kept 1 old new (once h) rest,
                 q.1,
               ))
           | inr q ↦ inr q
@@ -558,16 +557,16 @@ module _ (at : Side → ℕ) (w : Side → Lacpdu) (counts : Side → ℕ) (kept
 
       answers : (most n : ℕ) (old new : WorldState) → Round old new → Answers s most n old → Answers s most (n + 1) new ⊎ Early 0 new
       answers most n old new h (m, b, some, soon, enough, less, link, rest, ahead, wakes, told, took) =
-          let now = late_stamped gives at counts kept old new h rest in
-          let base = host_keeps gives One 1 at w (two s 0 b) old new fit then link h in
-          let still = late_told gives 1 at w counts kept s (omega arith) (inr (named (peer s))) (two s 0 b) fit then One old new link wakes h
-          (subst (λ m. 2 ≤ m) (sym (two_other s 0 b)) (omega (arith, room, some, enough))) told in
-          let kept_it = (late_took gives at counts kept old new h (peer s) (rest, took)).1 in
-          elim (late_nears gives 1 at w counts kept (peer s) (omega arith) (inr (named (peer (peer s)))) (two s 0 b) fit then
-          (mode at w (peer s)) m old new
-          (subst (λ m. CanSound (w (peer s)) (w (peer (peer s))) (mode at w (peer s)) (m - 1)) (sym (two_other s 0 b))
-          (able (b - 1) (omega (arith, room, some, enough)))) can link
-          (wakes_now at w 1 (two s 0 b) One Nothing (peer s) (mode at w (peer s)) old can link) rest ahead h) [
+          let now = ticks_stamp 1 gives at counts kept 1 old new (once h) rest in
+          let base = ticks_keep gives 1 One 1 at w (two s 0 b) old new fit then link (once h) in
+          let still = ticks_tell gives 1 at w counts kept s (omega arith) (inr (named (peer s))) 1 (omega arith) (two s 0 b) fit then One old new
+          link wakes (once h) (subst (λ m. 2 ≤ m) (sym (two_other s 0 b)) (omega (arith, room, some, enough))) told in
+          let kept_it = (ticks_take gives at counts kept 1 old new (once h) (peer s) (rest, took)).1 in
+          elim (ticks_near gives 1 at w counts kept (peer s) (omega arith) (inr (named (peer (peer s)))) 1 (omega arith) (two s 0 b) fit then 1
+          (mode at w (peer s)) m old new (omega arith)
+          (λ a l. subst (λ m. CanSound (w (peer s)) (w (peer (peer s))) (mode at w (peer s)) (m - a)) (sym (two_other s 0 b))
+          (able (b - a) (omega (arith, room, some, enough, l)))) link
+          (wakes_now at w 1 (two s 0 b) One Nothing (peer s) (mode at w (peer s)) old can link) rest ahead (once h)) [
             | inl q ↦ (let more = q.0 in
                 inl (
                   m - 1,
@@ -619,7 +618,7 @@ module _ (at : Side → ℕ) (w : Side → Lacpdu) (counts : Side → ℕ) (kept
       comes n old new h (inl c) = elim (calls_on s active n old new h c) [
         | inl m ↦ inl m
         | inr q ↦ inr (inl (hears named s some_awake room 311 (n + 1) new (let l = c.2 in let o = c.1 in omega (arith, l, o)) q
-            (late_stamped gives at counts kept old new h c.4)))
+            (ticks_stamp 1 gives at counts kept 1 old new (once h) c.4)))
       ]
       comes n old new h (inr (inl a)) = inr (answers named s some_awake room 311 n old new h a)
       comes n old new h (inr (inr f)) = inr (inr (stays_met named some_awake 1 old new (omega arith) h f))
@@ -671,7 +670,7 @@ module _ (at : Side → ℕ) (w : Side → Lacpdu) (counts : Side → ℕ) (kept
             inr (inl (begins (n + 1) new (omega (arith, l, m)) (lower at w (ticked (λ _. 0)) (λ _. 0) s
             (Learnt 1 (w (peer s)) (wait at w s)) new (λ _. omega arith)
             (subst (λ t. Link 1 at w (ticked (λ _. 0)) t (Learnt 1 (w (peer t)) (wait at w t)) new) (peer_twice s) q.link))
-            (late_stamped gives at counts kept old new h c.4))))
+            (ticks_stamp 1 gives at counts kept 1 old new (once h) c.4))))
       ]
       slowly n old new h (inr (inl (m, some, soon, link, rest, wakes, awaited))) =
           elim (awaits gives s active (named (peer s)) fit_none then_none m old new some link wakes rest awaited h) [
@@ -681,12 +680,12 @@ module _ (at : Side → ℕ) (w : Side → Lacpdu) (counts : Side → ℕ) (kept
                   more,
                   omega (arith, soon, some),
                   none_kept old new h link,
-                  late_stamped gives at counts kept old new h rest,
+                  ticks_stamp 1 gives at counts kept 1 old new (once h) rest,
                   q.1,
                   q.2,
                 )))
             | inr q ↦ inr (inr (inl (hears named s awake_one room 612 (n + 1) new (omega (arith, soon, some)) q
-                (late_stamped gives at counts kept old new h rest))))
+                (ticks_stamp 1 gives at counts kept 1 old new (once h) rest))))
           ]
       slowly n old new h (inr (inr (inl a))) = inr (inr (answers named s awake_one room 612 n old new h a))
       slowly n old new h (inr (inr (inr f))) = inr (inr (inr (stays_met named awake_one 1 old new (omega arith) h f)))

@@ -1,7 +1,7 @@
 -- An LACPDU that was on the cable when a late round began is heard in it.
-use Rattle.lagprogress.proofs.Common.{List, Some, [], arith, inl, inr, length, map, refl, subst, suc, sym, true, ℕ, ◌+◌, ◌-◌, ◌∙◌, ◌∷◌, ◌≡◌}
-use Rattle.lagprogress.proofs.Common.{◌≤◌, ◌⊎◌, Lacpdu, Side, peer, Reply, Algorithms, WorldSteps, side_of, link_ends, ItemValue, WorldState, half}
-use Rattle.lagprogress.proofs.Common.{HostEvent, Plays, KeptBySettling, AtPort, StepReplies, ArriveIn, IsArrivalAt, OldArrive}
+use Rattle.lagprogress.proofs.Common.{List, Some, [], arith, inl, inr, length, map, refl, subst, suc, sym, true, ℕ, ◌+◌, ◌-◌, ◌∙◌, ◌∷◌, ◌≡◌, ◌≤◌, ◌⊎◌}
+use Rattle.lagprogress.proofs.Common.{Lacpdu, Side, peer, Reply, Algorithms, WorldSteps, side_of, link_ends, ItemValue, WorldState, half, HostEvent}
+use Rattle.lagprogress.proofs.Common.{Plays, KeptBySettling, AtPort, StepReplies, ArriveIn, IsArrivalAt, OldArrive}
 use Rattle.lagscript.specs.declared.event.Event.TheVariants as event
 use Rattle.lagprogress.proofs.Claims.{IsNamed, Wakeful, wakeful_along}
 use Rattle.lagprogress.proofs.EachRound.{joins_kept, joins_tick}
@@ -10,8 +10,8 @@ use Rattle.lagprogress.proofs.EndFacts.{activity, wait_of}
 use Rattle.lagprogress.proofs.HostRound.{KeptBeside, MadeByTick, healthy_link, learn_less}
 use Rattle.lagprogress.proofs.SeveralTicks.{TicksBeside, Within, fits_at, known_at, own_counted, peer_counted, side_turns, ticked_by}
 use Rattle.lagprogress.proofs.Linked.{same_items, Fits, Flying, put_there}
-use Rattle.lagprogress.proofs.HostTelling.{Any, Extra, HasTold, OnWay, all_any, any_settles, on_between, on_other, on_own, peer_hears}
-use Rattle.lagprogress.proofs.HostTelling.{told_between, told_next, told_own}
+use Rattle.lagprogress.proofs.HostTelling.{Any, Extra, HasTold, OnWay, all_any, any_settles, on_between, on_other, on_own, peer_hears, told_between}
+use Rattle.lagprogress.proofs.HostTelling.{told_next, told_own}
 use Rattle.lagprogress.proofs.LateFlow.{FlyingIn, IsPlain, between_at, comes_in, counted_on, flows, flying_first, flying_flows, flying_pop}
 use Rattle.lagprogress.proofs.LateFlow.{stays_there}
 use Rattle.lagprogress.proofs.OneCable.{Arrives, OnCable, cable, put, ticks, towards_there}

@@ -1,8 +1,8 @@
 -- How both ends of a cable come to distribute in late rounds.
-use Rattle.lagprogress.proofs.Common.{Bool, List, [], ap, arith, inl, inr, subst, sym, true, ℕ, ◌-◌, ◌∙◌, ◌∷◌, ◌≡◌, ◌≤◌, ◌⊎◌, AllByRecursion}
-use Rattle.lagprogress.proofs.Common.{is_selected, Lacpdu, One, Side, peer, Machines, is_synchronized, mux_rows, receive_rows, RunsToRest, count_down}
-use Rattle.lagprogress.proofs.Common.{Algorithms, ItemValue, WorldState, half, no, times_keep, AtPort, periodic_leaves, IsLateRound, LateRounds}
-use Rattle.lagprogress.proofs.Common.{OldArrive, false, map, suc, zero, LinkState, link_ends, port_at}
+use Rattle.lagprogress.proofs.Common.{Bool, List, [], ap, arith, false, inl, inr, map, subst, suc, sym, true, zero, ℕ, ◌-◌, ◌∙◌, ◌∷◌, ◌≡◌, ◌≤◌, ◌⊎◌}
+use Rattle.lagprogress.proofs.Common.{AllByRecursion, is_selected, Lacpdu, One, Side, peer, Machines, is_synchronized, mux_rows, receive_rows}
+use Rattle.lagprogress.proofs.Common.{RunsToRest, count_down, Algorithms, link_ends, ItemValue, LinkState, WorldState, half, port_at, no, times_keep}
+use Rattle.lagprogress.proofs.Common.{AtPort, periodic_leaves, IsLateRound, LateRounds, OldArrive, SeveralBeside, most_ticks}
 use Rattle.lagprogress.proofs.EachRound.{joins_kept, joins_tick, played_split}
 use Rattle.lagprogress.proofs.ComingUp.{comes_up, Agrees, AgreesIn, AreSynced, agreed_on, agrees_in, owed, synced_in, synced_of}
 use Rattle.lagprogress.proofs.Quieting.{all_beside, PlayedBeside, as_beside}
@@ -18,7 +18,6 @@ use Rattle.lagprogress.proofs.LateStart.{counts_of, flush, kept_of}
 use Rattle.lagprogress.proofs.Linked.{Flying, IsGood, Link, each_map, peer_twice, same_items}
 use Rattle.lagprogress.proofs.OneRound.{Nothing, join, ticked}
 use Rattle.lagprogress.proofs.SeveralTicks.{keeps_ticks, once}
-use Rattle.lagprogress.specs.Several.{SeveralBeside, most_ticks}
 use Rattle.lagprogress.proofs.Starting.{raised}
 use Rattle.lagprogress.proofs.Telling.{Bears, SaysIt, Tells, tells_map}
 

@@ -1,10 +1,9 @@
 -- What a run leaves of the items that were on a cable, by the number of them that arrive.
-use Rattle.lagprogress.proofs.Common.{Bool, List, Option, Result, Some, [], ap, arith, false, inl, inr, length, map, refl, slice_get, subst, suc, sym}
-use Rattle.lagprogress.proofs.Common.{true, zero, ℕ, ◌++◌, ◌==◌, ◌∙◌, ◌∷◌, ◌≡◌, ◌⊎◌, cases_Bool, nat_tests, same_Some, AllByRecursion, all-append}
-use Rattle.lagprogress.proofs.Common.{One, Side, end_at, peer, value_of, SystemFault, Received, Receive, CallPromise, SystemState, Reply, Algorithms}
-use Rattle.lagprogress.proofs.Common.{DeliversFrom, WorldSteps, side_of, link_ends, ItemValue, LinkState, WorldState, half, towards, end_is}
-use Rattle.lagprogress.proofs.Common.{HostEvent, Plays, LeavesPorts, RunReplies, StepReplies, ArriveIn, IsArrivalAt}
-use Rattle.lagprogress.specs.Several.{TicksAmong}
+use Rattle.lagprogress.proofs.Common.{List, Option, Result, Some, [], ap, arith, inl, inr, length, map, refl, slice_get, subst, suc, sym, zero, ℕ}
+use Rattle.lagprogress.proofs.Common.{◌++◌, ◌==◌, ◌∙◌, ◌∷◌, ◌≡◌, ◌⊎◌, cases_Bool, nat_tests, same_Some, AllByRecursion, all-append, One, Side, end_at}
+use Rattle.lagprogress.proofs.Common.{peer, value_of, SystemFault, Received, Receive, CallPromise, SystemState, Reply, Algorithms, DeliversFrom}
+use Rattle.lagprogress.proofs.Common.{WorldSteps, side_of, link_ends, ItemValue, LinkState, WorldState, half, towards, end_is, HostEvent, Plays}
+use Rattle.lagprogress.proofs.Common.{LeavesPorts, RunReplies, StepReplies, ArriveIn, IsArrivalAt, TicksAmong}
 use Rattle.lagprogress.proofs.SeveralTicks.{Within, within}
 use Rattle.lagsystem.specs.declared.drive.Reply.TheVariants as answer
 use Rattle.lagscript.specs.declared.event.Event.TheVariants as event

@@ -1,18 +1,17 @@
 -- What a late round leaves of a cable: an LACPDU of an end is nearer, on the cable in the end, or was heard.
-use Rattle.lagprogress.proofs.Common.{Bool, List, arith, inl, inr, refl, subst, suc, sym, true, zero, ℕ, ◌+◌, ◌-◌, ◌≡◌, ◌≤◌, ◌⊎◌, Lacpdu, One, Side, peer}
+use Rattle.lagprogress.proofs.Common.{Bool, List, arith, inl, inr, refl, subst, sym, true, ℕ, ◌+◌, ◌-◌, ◌≡◌, ◌≤◌, ◌⊎◌, Lacpdu, One, Side, peer}
 use Rattle.lagprogress.proofs.Common.{Machines, Algorithms, ItemValue, WorldState, half, OfEach, AtPort, Sounds, Clearing, OldArrive}
 use Rattle.lagprogress.proofs.Claims.{IsNamed, Owes, Wakeful}
 use Rattle.lagprogress.proofs.Climbing.{PartnerInSync}
-use Rattle.lagprogress.proofs.EndFacts.{Along, CanSound, Learnt, activity, wait_of}
-use Rattle.lagprogress.proofs.SeveralTicks.{TickPasses, TicksBeside, Turned, all_counted, keeps_ticks, known_at, no_less, none_counted, once}
-use Rattle.lagprogress.proofs.SeveralTicks.{once_passes, sounds_by_ticks, ticked_by}
+use Rattle.lagprogress.proofs.EndFacts.{CanSound, Learnt, activity, wait_of}
+use Rattle.lagprogress.proofs.SeveralTicks.{TickPasses, TicksBeside, all_counted, keeps_ticks, known_at, no_less, none_counted, sounds_by_ticks}
+use Rattle.lagprogress.proofs.SeveralTicks.{ticked_by}
 use Rattle.lagprogress.proofs.HostStamps.{Took-it, stamped_between, stamped_tick, took_between, took_now, took_tick}
 use Rattle.lagprogress.proofs.HostTelling.{Extra, HasTold, OnWay, stays_on, turns}
 use Rattle.lagprogress.proofs.LateArriving.{late_heard}
 use Rattle.lagprogress.proofs.Linked.{Fits, Flying, Link, of_end, same_items}
 use Rattle.lagprogress.proofs.OneCable.{OnCable}
-use Rattle.lagprogress.proofs.OneRound.{Later, Nothing, Passes, beside_here, join, ticked}
-use Rattle.lagprogress.proofs.Quieting.{PlayedBeside}
+use Rattle.lagprogress.proofs.OneRound.{Later, Nothing, beside_here, join}
 use Rattle.lagprogress.proofs.Stamps.{Stamped, Took}
 use Rattle.lagprogress.proofs.Telling.{Tells, Wakes}
 
@@ -53,11 +52,6 @@ pub record HearsIn (n d : ℕ) (at : Side → ℕ) (w : Side → Lacpdu) (k : Si
 abbrev pub Hears : (d : ℕ) (at : Side → ℕ) (w : Side → Lacpdu) (k : Side → ℕ) (kept : Side → Bool) (c : Side → ℕ) (s : Side) (j : WorldState)
     → Type 0
 Hears d at w k kept c s j = HearsIn 1 d at w k kept c s j
-
-pub can_once : (v u : Lacpdu) (fast : Bool) (c : ℕ) → CanSound v u fast (c - 1) → CanSound v u fast c → (a : ℕ) → a ≤ 1 → CanSound v u fast (c - a)
-can_once v u fast c can was zero l = subst (CanSound v u fast) (sym (no_less c)) was
-can_once v u fast c can was (suc zero) l = can
-can_once v u fast c can was (suc (suc a)) l = absurd (omega (arith, l))
 
 module _ (gives : Algorithms) (d : ℕ) (at : Side → ℕ) (w : Side → Lacpdu) (k : Side → ℕ) (kept : Side → Bool) (s : Side) (there : 1 ≤ d)
     (named : (activity (w s) ≡ true) ⊎ IsNamed (w (peer s))) where
@@ -168,28 +162,6 @@ module _ (gives : Algorithms) (d : ℕ) (at : Side → ℕ) (w : Side → Lacpdu
         (on_way (known_at c s 0 0) PartnerInSync old (woken x old l wakes) said) h known in
         (of_end o.0 s (Wakeful (w s) (w (peer s))) (λ p rest timed a. a.1 refl), said_of (known_at c s n n) PartnerInSync new o)
 
-  -- so it is in rounds of one tick
-  module _ (c : Side → ℕ) (fits : Fits d w c) (then : Fits d w (ticked c)) where
-    pub late_passes : (X V Y Z : Machines → Type 0) → Passes X V Y Z (w s) (w (peer s)) (c s) (ticked c s) d → Along X (w s) (w (peer s)) (c s) d
-        → (old new : WorldState) → Link d at w c s X old → Wakes at w s old → Counted old → PlayedBeside at OldArrive gives old new
-        → Link d at w (ticked c) s Z new ⊎ ((Wakes at w s new × Said at w s Whoever new × Flies at s new) ⊎ Hears d at w k kept c s new)
-    late_passes X V Y Z p before old new l wakes stamped h = ticks_pass 1 (omega arith) c fits then (Turned X Y) (Turned X V) Z
-        (once_passes X V Y Z (w s) (w (peer s)) (c s) d p before) old new l wakes stamped (once h)
-
-    pub late_flies : (x : Side) (old new : WorldState) → Link d at w c x Nothing old → Wakes at w s old → Counted old → Said at w s Whoever old
-        → Flies at s old → PlayedBeside at OldArrive gives old new → Hears d at w k kept c s new
-    late_flies x old new l wakes stamped said flies h = ticks_bring 1 (omega arith) c fits then x old new l wakes stamped said flies (once h)
-
-    pub late_nears : (fast : Bool) (m : ℕ) (old new : WorldState) → CanSound (w s) (w (peer s)) fast (ticked c s)
-        → CanSound (w s) (w (peer s)) fast (c s) → Link d at w c One Nothing old → Wakes at w s old → Counted old → Ahead at w s fast m old
-        → PlayedBeside at OldArrive gives old new → ((1 ≤ m - 1) × Ahead at w s fast (m - 1) new) ⊎ Hears d at w k kept c s new
-    late_nears fast m old new can was l wakes stamped ahead h = ticks_near 1 (omega arith) c fits then 1 fast m old new (omega arith)
-        (can_once (w s) (w (peer s)) fast (c s) can was) l wakes stamped ahead (once h)
-
-    pub late_told : {E : Clearing} (x : Side) (old new : WorldState) → Link d at w c x Nothing old → Wakes at w s old → PlayedBeside at E gives old new
-        → 2 ≤ c (peer s) → Said at w s PartnerInSync old → Wakes at w s new × Said at w s PartnerInSync new
-    late_told x old new l wakes h known said = ticks_tell 1 (omega arith) c fits then x old new l wakes (once h) known said
-
 -- what ends took bears the present counts
 
 pub ticks_take : {E : Clearing} (gives : Algorithms) (at k : Side → ℕ) (kept : Side → Bool) (n : ℕ) (old new : WorldState)
@@ -197,15 +169,7 @@ pub ticks_take : {E : Clearing} (gives : Algorithms) (at k : Side → ℕ) (kept
 ticks_take {E} gives at k kept n old new h t was = keeps_ticks E at gives n (Took-it gives 1 at k kept t)
     (took_between gives 1 at k kept (omega arith) t) (λ s. took_tick gives 1 at k kept t s) old new h was
 
-pub late_took : {E : Clearing} (gives : Algorithms) (at k : Side → ℕ) (kept : Side → Bool) (old new : WorldState) → PlayedBeside at E gives old new
-    → (t : Side) → Took-it gives 1 at k kept t old → Took-it gives 1 at k kept t new
-late_took gives at k kept old new h t was = ticks_take gives at k kept 1 old new (once h) t was
-
 pub ticks_stamp : {E : Clearing} (b : ℕ) (gives : Algorithms) (at k : Side → ℕ) (kept : Side → Bool) (n : ℕ) (old new : WorldState)
     → TicksBeside n at E gives old new → Stamped b at k kept old → Stamped b at k kept new
 ticks_stamp {E} b gives at k kept n old new h was = keeps_ticks E at gives n (Stamped b at k kept)
     (stamped_between gives b at k kept) (λ s. stamped_tick gives b at k kept s) old new h was
-
-pub late_stamped : {E : Clearing} (gives : Algorithms) (at k : Side → ℕ) (kept : Side → Bool) (old new : WorldState) → PlayedBeside at E gives old new
-    → Stamped 1 at k kept old → Stamped 1 at k kept new
-late_stamped gives at k kept old new h was = ticks_stamp 1 gives at k kept 1 old new (once h) was

@@ -1,12 +1,11 @@
 -- What a round of several ticks leaves of a cable, by its stages.
-use Rattle.lagprogress.proofs.Common.{Bool, List, [], ap, arith, false, inl, inr, refl, subst, suc, sym, true, zero, ℕ, ◌+◌, ◌-◌, ◌∙◌, ◌∷◌}
-use Rattle.lagprogress.proofs.Common.{◌≡◌, ◌≤◌, ◌⊎◌, nat_tests, Lacpdu, One, Side, Two, peer, Machines, periodic_rows, receive_rows, AtRest}
-use Rattle.lagprogress.proofs.Common.{RunsToRest, after_sending, count_down, Reply, Algorithms, WorldState, HostEvent, IsTimed, Sounds, no}
-use Rattle.lagprogress.proofs.Common.{LeavesPorts, AfterTick, AtSomeWorld, Clearing, IsTickOf, RunReplies, StepReplies, TickOnceAmong}
-use Rattle.lagprogress.specs.Several.{AfterTicks, IsPlayedTicks, TicksAmong}
+use Rattle.lagprogress.proofs.Common.{Bool, List, [], ap, arith, false, inl, inr, refl, subst, suc, sym, true, zero, ℕ, ◌+◌, ◌-◌, ◌∙◌, ◌∷◌, ◌≡◌, ◌≤◌}
+use Rattle.lagprogress.proofs.Common.{◌⊎◌, Lacpdu, One, Side, Two, peer, Machines, periodic_rows, receive_rows, AtRest, RunsToRest, after_sending}
+use Rattle.lagprogress.proofs.Common.{count_down, Reply, Algorithms, WorldState, HostEvent, IsTimed, no, Sounds, LeavesPorts, AfterTick, AtSomeWorld}
+use Rattle.lagprogress.proofs.Common.{Clearing, IsTickOf, RunReplies, StepReplies, TickOnceAmong, AfterTicks, IsPlayedTicks, TicksAmong}
 use Rattle.lagprogress.proofs.EndFacts.{Along, CanSound, IsEnd, activity, calm, nothing_along, sounds_along, ticks_sounds, wait_of}
-use Rattle.lagprogress.proofs.HostRound.{Counts, IsTickless, KeptAmong, KeptBeside, MadeByTick, between, not_tick, one_of, tick_one, two}
-use Rattle.lagprogress.proofs.HostRound.{two_other, two_there}
+use Rattle.lagprogress.proofs.HostRound.{Counts, IsTickless, KeptAmong, KeptBeside, MadeByTick, between, not_tick, one_of, tick_one, two, two_other}
+use Rattle.lagprogress.proofs.HostRound.{two_there}
 use Rattle.lagprogress.proofs.Linked.{Fits, Link, each_side, other_ports, other_side, peer_twice}
 use Rattle.lagprogress.proofs.OneRound.{Asks, Later, Nothing, Passes, later_along, still_sounds}
 use Rattle.lagprogress.proofs.Quieting.{PlayedBeside}

@@ -7,11 +7,13 @@ use Rattle.lagworld.specs.declared.reply.Reply.{Reply}
 use Rattle.lagworld.specs.declared.agreement.Agreement.TheVariants.{Same}
 use Rattle.lagworld.specs.Agreement.{agreement_at}
 use Rattle.lagworld.specs.Events.{Algorithms}
-use Rattle.lagworld.specs.Sound.{IsSound}
-use Rattle.lagworld.specs.State.{LinkState, WorldState, port_at}
+use Rattle.lagworld.specs.Sound.{IsSound as IsSoundWorld}
+use Rattle.lagworld.specs.State.{LinkState, WorldState, half, port_at}
+use Rattle.lagsystem.specs.Sound.{IsSound}
+use Rattle.lagbeside.specs.Timers.{PortsAreTimed}
 use Rattle.lagprogress.specs.Beside.{LeavesPorts}
 use Rattle.lagprogress.specs.Bundle.{IsBundle}
-use Rattle.lagprogress.specs.HostRounds.{AtSomeWorld, Clearing, IsTickOf, RunReplies}
+use Rattle.lagprogress.specs.HostRounds.{AsksIn, AtSomeWorld, Clearing, IsTickOf, RunReplies}
 use Rattle.lagprogress.specs.LateRounds.{LateRounds, OldArrive}
 use Rattle.lagprogress.specs.Progress.{Distributes}
 use Rattle.lagprogress.specs.Rounds.{AtEnd, IsHealthyAt}
@@ -55,6 +57,22 @@ SeveralBeside l gives zero old new = new ≡ old
 SeveralBeside l gives (suc n) old new = (mid : WorldState) × SeveralBeside l gives n old mid × (ticks : ℕ) × (1 ≤ ticks) × (ticks ≤ most_ticks)
     × IsPlayedTicks (LeavesPorts (λ s. port_at s l)) OldArrive ticks gives mid new
 
+-- one of the events after so many ticks of system s asks this port
+abbrev pub AsksAfterTicks : Side → ℕ → (ticks : ℕ) → List HostEvent → Type 0
+AsksAfterTicks s p zero es = AsksIn s p es
+AsksAfterTicks s p (suc n) [] = ⊥
+AsksAfterTicks s p (suc n) (e ∷ es) = (IsTickOf s e × AsksAfterTicks s p n es) ⊎ AsksAfterTicks s p (suc n) es
+
+-- Events, which may come beside the ends of this cable, are such a round if each system ticks so many times in them, at once or not, each end
+-- of a healthy cable is asked after the last tick of its system, once at least, and what was on it arrives: in whatever order. Both systems are
+-- sound, their timers within their bounds.
+abbrev pub AskingIsSeveral : Algorithms → Type 0
+AskingIsSeveral gives = (l : LinkState) (ticks : ℕ) (events : List HostEvent) (replies : List Reply) (old new : WorldState)
+    → ((s : Side) → IsSound (half s old).state × PortsAreTimed (half s old).state) → TicksAmong (LeavesPorts (λ s. port_at s l)) ticks One 0 0 events
+    → RunReplies gives old events replies new
+    → ((s : Side) (i : ℕ) (k : LinkState) → IsHealthyAt i k old → AsksAfterTicks s (port_at s k) ticks events) → OldArrive events old new
+    → IsPlayedTicks (LeavesPorts (λ s. port_at s l)) OldArrive ticks gives old new
+
 -- A healthy link of a bundle distributes at both ends behind so many late rounds or more, and then after any number of these rounds.
 abbrev pub EachLinkStaysUpInSeveral : (LinkState → WorldState → Type 0) → ℕ → Algorithms → Type 0
 EachLinkStaysUpInSeveral Holds least gives = (n m i : ℕ) (l : LinkState) (old mid new : WorldState) → IsBundle Holds old → IsHealthyAt i l old
@@ -62,5 +80,5 @@ EachLinkStaysUpInSeveral Holds least gives = (n m i : ℕ) (l : LinkState) (old 
 
 -- And in a sound world its agreement is Same still.
 abbrev pub EachLinkStaysAgreedInSeveral : (LinkState → WorldState → Type 0) → ℕ → Algorithms → Type 0
-EachLinkStaysAgreedInSeveral Holds least gives = (n m i : ℕ) (l : LinkState) (old mid new : WorldState) → IsSound old → IsBundle Holds old
+EachLinkStaysAgreedInSeveral Holds least gives = (n m i : ℕ) (l : LinkState) (old mid new : WorldState) → IsSoundWorld old → IsBundle Holds old
     → IsHealthyAt i l old → least ≤ n → LateRounds gives n old mid → SeveralBeside l gives m mid new → agreement_at new (suc i) ≡ Some Same

@@ -1,6 +1,6 @@
 use Rattle.lagprogress.proofs.Common.{BothAreActive, OneIsActive}
-use Rattle.lagprogress.proofs.Bundling.{each_link_stays_agreed, each_link_stays_up, each_stays_agreed_in_several, each_stays_up_in_several, one_active}
-use Rattle.lagprogress.proofs.Bundling.{both_active}
+use Rattle.lagprogress.proofs.Bundling.{each_link_stays_agreed, each_link_stays_up, each_stays_agreed_in_several, each_stays_up_in_several}
+use Rattle.lagprogress.proofs.Bundling.{one_active, both_active}
 use Rattle.lagprogress.proofs.clocks.each_link_stays_up_by_clocks.Goals as goal
 
 pub returns-clause-up_both : goal.returns-clause-up_both
