@@ -16,8 +16,8 @@ ghost use Rattle.lagprogress.specs.Several.{AskingIsSeveral};
 //    asked after its system's tick, and what was on each healthy cable before has arrived; ports may be held
 // contract: `clocks_play_rounds` (`beside`: `RoundsBeside`)
 // premises: both systems are sound, with timers within bounds; the events acted, the calls and settings kept their contracts
-// promise: so they are a late round of several ticks beside a link (`IsPlayedTicks`) if each system ticks so many times, at once or not, and each end
-//    of a healthy cable is asked after the last tick of its system
+// promise: events, calls and settings as in the row above, but for their ticks, are a late round of several ticks (`IsPlayedTicks`) if each system ticks
+//    so many times, at once or not, and each end of a healthy cable is asked after the last tick of its system
 // contract: `clocks_play_rounds` (`several`)
 // premises: as in the row above
 /// Which events are a late round: each system ticks once, and every other event or call is as `hosts_play_rounds` has it, in any order; each
