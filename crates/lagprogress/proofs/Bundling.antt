@@ -1,18 +1,19 @@
 -- How the links of a bundle come up and agree.
 use Rattle.lagprogress.proofs.Common.{Bool, IsSome, List, None, Option, Some, [], ap, arith, inl, inr, is_some, length, map, refl, slice_get, subst}
-use Rattle.lagprogress.proofs.Common.{suc, sym, true, ℕ, ◌+◌, ◌-◌, ◌==◌, ◌∙◌, ◌∷◌, ◌≡◌, ◌≢◌, ◌≤◌, ◌⊎◌, cases_Bool, nat_tests, same_Some}
+use Rattle.lagprogress.proofs.Common.{suc, sym, true, zero, ℕ, ◌+◌, ◌-◌, ◌==◌, ◌∙◌, ◌∷◌, ◌≡◌, ◌≢◌, ◌≤◌, ◌⊎◌, cases_Bool, nat_tests, same_Some}
 use Rattle.lagprogress.proofs.Common.{AllByRecursion, AggId, Key, Choice, Standby, is_selected, itself, Lacpdu, IsCabling, One, Side, end_at, peer}
 use Rattle.lagprogress.proofs.Common.{ports_that_chose, has_chosen, SystemPort, MuxIsSettled, occupied, IsSound, SystemState, views, all-get}
 use Rattle.lagprogress.proofs.Common.{found_place, Same, agreement_at, Algorithms, link_ends, world_setup, IsWorldSound, LinkState, WorldState, half}
 use Rattle.lagprogress.proofs.Common.{history_at, port_at, towards, end_is, HostEvent, ports_with, IsTimed, count, count_more_of, counted, OfEach}
-use Rattle.lagprogress.proofs.Common.{AtPort, waits_for_room, EachLinkStaysAgreed, EachLinkStaysUp, LeavesPorts, RoundsBeside, AllHeard}
-use Rattle.lagprogress.proofs.Common.{BothAreActive, EachLinkAgrees, EachLinkComesUp, EndsHealthyCable, EnoughLinks, IsBundle, OneIsActive}
-use Rattle.lagprogress.proofs.Common.{SystemsDiffer, Clearing, PlayedRounds, LateRounds, OldArrive, Distributes, AtEnd, IsHealthyAt, IsSteady}
+use Rattle.lagprogress.proofs.Common.{AtPort, waits_for_room, EachLinkStaysAgreed, EachLinkStaysUp, RoundsBeside, AllHeard, BothAreActive}
+use Rattle.lagprogress.proofs.Common.{EachLinkAgrees, EachLinkComesUp, EndsHealthyCable, EnoughLinks, IsBundle, OneIsActive, SystemsDiffer, Clearing}
+use Rattle.lagprogress.proofs.Common.{PlayedRounds, LateRounds, OldArrive, Distributes, AtEnd, IsHealthyAt, EachLinkStaysAgreedInSeveral}
+use Rattle.lagprogress.proofs.Common.{EachLinkStaysUpInSeveral, SeveralBeside, IsSteady}
 use Rattle.lagprogress.proofs.LateStart.{counts_of, kept_of}
-use Rattle.lagprogress.proofs.LateComingUp.{Up, comes_to_be_up, up_synced}
-use Rattle.lagprogress.proofs.EachRound.{among_on, among_then, clears_less, EachAt, RoundKeeps, same_index, joins_beside, host_each, played_on}
-use Rattle.lagprogress.proofs.EachRound.{played_split, played_steady}
-use Rattle.lagprogress.proofs.ComingUp.{agrees_on, AreSynced, Climbs, agrees_now, climbs_first, climbs_on, distributes, hosts_kept, Agrees}
+use Rattle.lagprogress.proofs.SeveralTicks.{once}
+use Rattle.lagprogress.proofs.LateComingUp.{Up, comes_to_be_up, several_join, several_stamped, several_synced, up_synced}
+use Rattle.lagprogress.proofs.EachRound.{clears_less, EachAt, RoundKeeps, same_index, joins_beside, host_each, played_on, played_split, played_steady}
+use Rattle.lagprogress.proofs.ComingUp.{AreSynced, Climbs, agrees_now, climbs_first, climbs_on, distributes, hosts_kept, stamps_stay}
 use Rattle.lagprogress.proofs.Knowing.{Fresh, knows_late, late_active_meet, late_fresh_knows, late_one_meets, AtIt}
 use Rattle.lagprogress.proofs.Climbing.{Down, Ripe, Rising, climbed, down_settles, down_takes, down_ticks, rising_first}
 use Rattle.lagprogress.proofs.Starting.{active_at, awake_at, named_at, healthy_cable, said_by, starts}
@@ -126,18 +127,23 @@ pub apart_ends : (old : WorldState) → IsSteady old → SystemsDiffer old → (
     → (said old i l h (peer s)).actor.system ≢ (said old i l h s).actor.system
 apart_ends old hyp1 hyp2 i l h s = grind (arith, nat_tests, ends_at, own_system)
 
--- ends that are up agree
-pub agree_up : (E : Clearing) (gives : Algorithms) (n i : ℕ) (l : LinkState) (old new : WorldState) → IsWorldSound old
-    → AllBeside (λ s. port_at s l) E gives n old new → (h : IsHealthyAt i l old) → AreSynced (λ s. port_at s l) (said old i l h) new
-    → agreement_at new (suc i) ≡ Some Same
-agree_up E gives n i l old new sound rounds h up = agrees_now (λ s. port_at s l) (said old i l h) new up i
-    (λ x fl c. same_index i x l fl old new h.there (joins_beside E gives (λ s. port_at s l) n old new rounds) c)
-    (λ s. hosts_kept E gives n i (λ t. port_at t l) (λ t. towards t l) old new (healthy_cable i l old sound.cabling h) rounds s
-    ∙ some_is (history_at (half s old).histories (port_at s l)) (sound.ends s i l h.there))
+-- ends that are up agree, where the cables stand where they stood and the ports have a history as before
+agree_still : (i : ℕ) (l : LinkState) (old new : WorldState) → IsWorldSound old → map link_ends new.links ≡ map link_ends old.links
+    → ((s : Side) → is_some (history_at (half s new).histories (port_at s l)) ≡ is_some (history_at (half s old).histories (port_at s l)))
+    → (h : IsHealthyAt i l old) → AreSynced (λ s. port_at s l) (said old i l h) new → agreement_at new (suc i) ≡ Some Same
+agree_still i l old new sound joins kept h up = agrees_now (λ s. port_at s l) (said old i l h) new up i
+    (λ x fl c. same_index i x l fl old new h.there joins c)
+    (λ s. kept s ∙ some_is (history_at (half s old).histories (port_at s l)) (sound.ends s i l h.there))
   where
     some_is : {X : Type 0} (o : Option X) → IsSome o → is_some o ≡ true
     some_is None h = absurd (let e = h in cc)
     some_is (Some x) h = refl
+
+pub agree_up : (E : Clearing) (gives : Algorithms) (n i : ℕ) (l : LinkState) (old new : WorldState) → IsWorldSound old
+    → AllBeside (λ s. port_at s l) E gives n old new → (h : IsHealthyAt i l old) → AreSynced (λ s. port_at s l) (said old i l h) new
+    → agreement_at new (suc i) ≡ Some Same
+agree_up E gives n i l old new sound rounds h up = agree_still i l old new sound (joins_beside E gives (λ s. port_at s l) n old new rounds)
+    (hosts_kept E gives n i (λ t. port_at t l) (λ t. towards t l) old new (healthy_cable i l old sound.cabling h) rounds) h up
 
 -- A bundle, by late rounds of a kind, but that a port whose link is up may be another in place of an end of a healthy cable. In so many
 -- rounds the ends of each healthy cable know each other, and one of them is active; the others end none, and have risen in 20 rounds more if
@@ -344,36 +350,28 @@ one_active gives old b = alone OneIsActive 624 gives old b (one_meet gives 624 o
 pub both_active : (gives : Algorithms) (old : WorldState) → IsBundle BothAreActive old → Meets BothAreActive 323 gives old
 both_active gives old b = alone BothAreActive 323 gives old b (both_meet gives old b.cabling b.steady) (both_wake old)
 
--- so many rounds beside its ends on
+-- so many rounds beside its ends on, of several ticks or of one
 module _ (Holds : LinkState → WorldState → Type 0) (first : ℕ) (gives : Algorithms) (old : WorldState) (b : Meets Holds first gives old) (i : ℕ)
     (l : LinkState) (y : IsHealthyAt i l old) (n m : ℕ) (mid new : WorldState) (enough : first + 33 ≤ n) (h : LateRounds gives n old mid)
-    (more : RoundsBeside l gives m mid new) where
-  stays : AreSynced (λ s. port_at s l) (said old i l y) new
-  stays =
-      let at : Side → ℕ = λ s. port_at s l in
-      let w = said old i l y in
-      let counts = counts_of at old in
-      let kept = kept_of at old in
-      let k = ups_of OldArrive Holds Nowhere first gives old b i l y n mid enough h in
-      up_synced gives at w old new (
-        k.0 + m,
-        (let few = k.1 in omega (arith, few)),
-        among_on (LeavesPorts at) OldArrive gives (λ a j. Agrees at w counts kept (k.0 + a) j) mid
-            (subst (λ a. Agrees at w counts kept a mid) (omega arith) k.2)
-            (λ a f j r c. subst (λ q. Agrees at w counts kept q j) (omega arith)
-            (agrees_on at w counts kept gives
-            (named_of OldArrive Holds Nowhere first gives old b i l y) (awake_of OldArrive Holds Nowhere first gives old b i l y)
-            (k.0 + a) f j r c)) m new more,
-      )
+    (more : SeveralBeside l gives m mid new) where
+  several_stay : AreSynced (λ s. port_at s l) (said old i l y) new
+  several_stay = several_synced gives l (said old i l y) (named_of OldArrive Holds Nowhere first gives old b i l y)
+      (awake_of OldArrive Holds Nowhere first gives old b i l y) m old mid new (ups_of OldArrive Holds Nowhere first gives old b i l y n mid enough h) more
 
-  stays_up : (s : Side) → AtEnd Distributes s l new
-  stays_up = distributes (λ s. port_at s l) (said old i l y) new stays
+  several_up : (s : Side) → AtEnd Distributes s l new
+  several_up = distributes (λ s. port_at s l) (said old i l y) new several_stay
 
-  stays_agreed : IsWorldSound old → agreement_at new (suc i) ≡ Some Same
-  stays_agreed sound =
+  several_agreed : IsWorldSound old → agreement_at new (suc i) ≡ Some Same
+  several_agreed sound =
       let at : Side → ℕ = λ s. port_at s l in
-      agree_up OldArrive gives (m + n) i l old new sound (among_then (LeavesPorts at) OldArrive gives m n (m + n) old mid new refl
-      (all_beside at OldArrive gives n old mid h) more) y stays
+      let rounds = all_beside at OldArrive gives n old mid h in
+      let stamps = several_stamped gives l (counts_of at old) (kept_of at old) m mid new more
+      (stamps_stay OldArrive gives n i at (λ t. towards t l) old mid (healthy_cable i l old sound.cabling y) rounds) in
+      agree_still i l old new sound (several_join gives l m mid new more ∙ joins_beside OldArrive gives at n old mid rounds) stamps.there y several_stay
+
+as_several : (l : LinkState) (gives : Algorithms) (n : ℕ) (old new : WorldState) → RoundsBeside l gives n old new → SeveralBeside l gives n old new
+as_several l gives zero old new h = h
+as_several l gives (suc n) old new h = (h.0, as_several l gives n old h.0 h.1, 1, omega arith, omega arith, once h.2)
 
 -- the laws of a bundle
 
@@ -385,9 +383,17 @@ module _ (Holds : LinkState → WorldState → Type 0) (first : ℕ) (gives : Al
   pub each_link_agrees : EachLinkAgrees LateRounds Holds (first + 33) gives
   each_link_agrees n i l old new sound b y enough h = agree_of OldArrive Holds Nowhere first gives old (meets old b) sound i l y n new enough h
 
+  pub each_stays_up_in_several : EachLinkStaysUpInSeveral Holds (first + 33) gives
+  each_stays_up_in_several n m i l old mid new b y enough h more = several_up Holds first gives old (meets old b) i l y n m mid new enough h more
+
+  pub each_stays_agreed_in_several : EachLinkStaysAgreedInSeveral Holds (first + 33) gives
+  each_stays_agreed_in_several n m i l old mid new sound b y enough h more =
+      several_agreed Holds first gives old (meets old b) i l y n m mid new enough h more sound
+
   pub each_link_stays_up : EachLinkStaysUp Holds (first + 33) gives
-  each_link_stays_up n m i l old mid new b y enough h more = stays_up Holds first gives old (meets old b) i l y n m mid new enough h more
+  each_link_stays_up n m i l old mid new b y enough h more =
+      each_stays_up_in_several n m i l old mid new b y enough h (as_several l gives m mid new more)
 
   pub each_link_stays_agreed : EachLinkStaysAgreed Holds (first + 33) gives
   each_link_stays_agreed n m i l old mid new sound b y enough h more =
-      stays_agreed Holds first gives old (meets old b) i l y n m mid new enough h more sound
+      each_stays_agreed_in_several n m i l old mid new sound b y enough h (as_several l gives m mid new more)

@@ -1,19 +1,18 @@
 -- Which runs are healthy rounds of hosts.
-use Rattle.lagprogress.proofs.Common.{Bool, Err, List, None, Ok, Option, Result, Some, [], ap, append_assoc, arith, cond, false, inl, inr, ltb, refl}
-use Rattle.lagprogress.proofs.Common.{slice_get, subst, suc, sym, true, zero, ℕ, ◌++◌, ◌+◌, ◌∙◌, ◌∷◌, ◌≡◌, ◌⊎◌, cases_Bool, false≢true, nat_tests}
-use Rattle.lagprogress.proofs.Common.{none-some, same_Some, AllByRecursion, Pdu, pdu_in, One, Side, Two, peer, value_of, Machines, after_sending}
-use Rattle.lagprogress.proofs.Common.{is_due, Assignment, after_mark, marker_due, wants_marker, Table, assignment_of, SystemFault, SystemPort, Step}
-use Rattle.lagprogress.proofs.Common.{Transmit, SendsMarkerOf, TransmitsAt, TransmitsIf, SystemState, machines_of, port_index, all-get, found_place}
-use Rattle.lagprogress.proofs.Common.{ports_rise, Event, Reply, AfterTransmit, Algorithms, WorldRuns, sent_reply, side_of, payload_in, HalfState}
-use Rattle.lagprogress.proofs.Common.{LinkState, WorldState, half, is_accepted, port_at, with_half, half_there, HostEvent, HostSteps, Plays, Sets}
-use Rattle.lagprogress.proofs.Common.{OfEach, Tick-each, placed, AtPort, at_number, LeavesPorts, AskingInVainIsDraining, AsksInVain}
-use Rattle.lagprogress.proofs.Common.{AsksInVainAfterTick, DrainingRounds, IsNoMoveOf, NothingIsDue, RoundIsDraining, sent_nothing, AfterTick}
-use Rattle.lagprogress.proofs.Common.{AskingIsPlayed, Asks, AsksAfterTick, AsksIn, AtSomeWorld, Clearing, EventsAreOfHosts, HostRounds}
-use Rattle.lagprogress.proofs.Common.{IsBetweenTicks, IsTickOf, NoneIsLeft, RoundIsHostRound, RoundsAreHostRounds, RunReplies, RunsHaveReplies}
-use Rattle.lagprogress.proofs.Common.{StepReplies, TickOnce, TickOnceAmong, as_played, AtEnd, IsDeliver, IsHealthyAt, OfPort, Rounds, asks_all}
-use Rattle.lagprogress.proofs.Common.{ticks_of_both, IsSteady}
+use Rattle.lagprogress.proofs.Common.{Bool, Err, List, None, Ok, Option, Result, Some, [], ap, arith, cond, false, inl, inr, ltb, refl, slice_get}
+use Rattle.lagprogress.proofs.Common.{subst, suc, sym, true, zero, ℕ, ◌++◌, ◌+◌, ◌∙◌, ◌∷◌, ◌≡◌, ◌⊎◌, cases_Bool, false≢true, nat_tests, none-some}
+use Rattle.lagprogress.proofs.Common.{same_Some, AllByRecursion, Pdu, pdu_in, One, Side, Two, peer, value_of, Machines, after_sending, is_due}
+use Rattle.lagprogress.proofs.Common.{Assignment, after_mark, marker_due, wants_marker, Table, assignment_of, SystemFault, SystemPort, Step, Transmit}
+use Rattle.lagprogress.proofs.Common.{SendsMarkerOf, TransmitsAt, TransmitsIf, SystemState, machines_of, port_index, all-get, found_place, ports_rise}
+use Rattle.lagprogress.proofs.Common.{Event, Reply, AfterTransmit, Algorithms, WorldRuns, sent_reply, payload_in, HalfState, LinkState, WorldState}
+use Rattle.lagprogress.proofs.Common.{half, is_accepted, port_at, with_half, half_there, HostEvent, HostSteps, Plays, Sets, OfEach, Tick-each, placed}
+use Rattle.lagprogress.proofs.Common.{AtPort, at_number, LeavesPorts, AskingInVainIsDraining, AsksInVain, AsksInVainAfterTick, DrainingRounds}
+use Rattle.lagprogress.proofs.Common.{IsNoMoveOf, NothingIsDue, RoundIsDraining, sent_nothing, AfterTick, AskingIsPlayed, Asks, AsksAfterTick, AsksIn}
+use Rattle.lagprogress.proofs.Common.{AtSomeWorld, Clearing, EventsAreOfHosts, HostRounds, IsBetweenTicks, IsTickOf, NoneIsLeft, RoundIsHostRound}
+use Rattle.lagprogress.proofs.Common.{RoundsAreHostRounds, RunReplies, RunsHaveReplies, StepReplies, TickOnce, TickOnceAmong, as_played, AtEnd}
+use Rattle.lagprogress.proofs.Common.{IsDeliver, IsHealthyAt, OfPort, Rounds, asks_all, ticks_of_both, AfterTicks, AskingIsSeveral, AsksAfterTicks}
+use Rattle.lagprogress.proofs.Common.{TicksAmong, IsSteady}
 use Rattle.distributor.specs.Conversations.{sum_below}
-use Rattle.lagprogress.proofs.HostRound.{side_among, of_side, turned}
 use Rattle.lagprogress.proofs.HostSteady.{sets_up}
 use Rattle.lagprogress.proofs.Quieting.{calm_timely, place_stays}
 use Rattle.lagprogress.proofs.Halves.{AreTimely, timely}
@@ -100,6 +99,23 @@ abbrev AsksTwice : Side → ℕ → List HostEvent → Type 0
 AsksTwice s p [] = ⊥
 AsksTwice s p (e ∷ []) = ⊥
 AsksTwice s p (e ∷ f ∷ es) = (Asks s p e × Asks s p f) ⊎ AsksTwice s p (f ∷ es)
+
+-- a tick of a system, or an event that may come
+abbrev Moves : (HostEvent → Type 0) → HostEvent → Type 0
+Moves May e = ((u : Side) × IsTickOf u e) ⊎ May e
+
+all_move : (May : HostEvent → Type 0) (s : Side) (es : List HostEvent) (a b : Bool) → TickOnceAmong May s a b es → AllByRecursion (Moves May) es
+all_move May s [] a b h = tt
+all_move May s (e ∷ es) a b (inl h) = (inl (s, h.0), all_move May s es false b h.2)
+all_move May s (e ∷ es) a b (inr (inl h)) = (inl (peer s, h.0), all_move May s es a false h.2)
+all_move May s (e ∷ es) a b (inr (inr h)) = (inr h.0, all_move May s es a b h.1)
+
+several_move : (May : HostEvent → Type 0) (n : ℕ) (s : Side) (es : List HostEvent) (a b : ℕ) → TicksAmong May n s a b es
+    → AllByRecursion (Moves May) es
+several_move May n s [] a b h = tt
+several_move May n s (e ∷ es) a b (inl h) = (inl (s, h.0), several_move May n s es (suc a) b h.1)
+several_move May n s (e ∷ es) a b (inr (inl h)) = (inl (peer s, h.0), several_move May n s es a (suc b) h.1)
+several_move May n s (e ∷ es) a b (inr (inr h)) = (inr h.0, several_move May n s es a b h.1)
 
 module _ (gives : Algorithms) (s : Side) (p : ℕ) where
   abbrev Up : Machines → Type 0
@@ -208,64 +224,60 @@ module _ (gives : Algorithms) (s : Side) (p : ℕ) where
 
   module _ (May : HostEvent → Type 0) (wide : (e : HostEvent) → May e → MayCome e) where
     -- each event of a round
-    stays : (a b : Bool) (e : HostEvent) (es : List HostEvent) (r : Reply) (i j : WorldState) → TickOnceAmong May s a b (e ∷ es) → StepReplies gives i e r j
-        → Stays i → Stays j
-    stays a b e es r i j (inl h) step x = ticked s e r i j h.0 step x
-    stays a b e es r i j (inr (inl h)) step x = ticked (peer s) e r i j h.0 step x
-    stays a b e es r i j (inr (inr h)) step x = between e r i j (wide e h.0) step x
+    stays : (e : HostEvent) (r : Reply) (i j : WorldState) → Moves May e → StepReplies gives i e r j → Stays i → Stays j
+    stays e r i j (inl (u, h)) step x = ticked u e r i j h step x
+    stays e r i j (inr h) step x = between e r i j (wide e h) step x
 
-    rest_of : (a b : Bool) (e : HostEvent) (es : List HostEvent) → TickOnceAmong May s a b (e ∷ es) → (c : Bool) × (d : Bool) × TickOnceAmong May s c d es
-    rest_of a b e es (inl h) = (false, b, h.2)
-    rest_of a b e es (inr (inl h)) = (a, false, h.2)
-    rest_of a b e es (inr (inr h)) = (a, b, h.1)
-
-    some_on : (es : List HostEvent) (rs : List Reply) (i j : WorldState) (a b : Bool) → TickOnceAmong May s a b es → (run : RunReplies gives i es rs j)
+    some_on : (es : List HostEvent) (rs : List Reply) (i j : WorldState) → AllByRecursion (Moves May) es → (run : RunReplies gives i es rs j)
         → AsksIn s p es → Stays i → AtSomeWorld NoneDue gives es rs i j run
-    some_on [] rs i j a b h run q x = absurd q
-    some_on (e ∷ es) [] i j a b h run q x = absurd run
-    some_on (e ∷ es) (r ∷ rs) i j a b h run (inl q) x = inr (at_first NoneDue es rs run.0 j run.2 (asked e r i run.0 q run.1 x))
-    some_on (e ∷ es) (r ∷ rs) i j a b h run (inr q) x =
-        let o = rest_of a b e es h in inr (some_on es rs run.0 j o.0 o.1 o.2 run.2 q (stays a b e es r i run.0 h run.1 x))
+    some_on [] rs i j h run q x = absurd q
+    some_on (e ∷ es) [] i j h run q x = absurd run
+    some_on (e ∷ es) (r ∷ rs) i j h run (inl q) x = inr (at_first NoneDue es rs run.0 j run.2 (asked e r i run.0 q run.1 x))
+    some_on (e ∷ es) (r ∷ rs) i j h run (inr q) x = inr (some_on es rs run.0 j h.1 run.2 q (stays e r i run.0 h.0 run.1 x))
 
-    after_on : (es : List HostEvent) (rs : List Reply) (i j : WorldState) (a b : Bool) → TickOnceAmong May s a b es → (run : RunReplies gives i es rs j)
+    after_on : (es : List HostEvent) (rs : List Reply) (i j : WorldState) → AllByRecursion (Moves May) es → (run : RunReplies gives i es rs j)
         → AsksAfterTick s p es → Stays i → AfterTick s NoneDue gives es rs i j run
-    after_on [] rs i j a b h run q x = q
-    after_on (e ∷ es) [] i j a b h run q x = absurd run
-    after_on (e ∷ es) (r ∷ rs) i j a b h run (inl q) x = let o = rest_of a b e es h in
-        inl (q.0, some_on es rs run.0 j o.0 o.1 o.2 run.2 q.1 (stays a b e es r i run.0 h run.1 x))
-    after_on (e ∷ es) (r ∷ rs) i j a b h run (inr q) x = let o = rest_of a b e es h in
-        inr (after_on es rs run.0 j o.0 o.1 o.2 run.2 q (stays a b e es r i run.0 h run.1 x))
+    after_on [] rs i j h run q x = q
+    after_on (e ∷ es) [] i j h run q x = absurd run
+    after_on (e ∷ es) (r ∷ rs) i j h run (inl q) x = inl (q.0, some_on es rs run.0 j h.1 run.2 q.1 (stays e r i run.0 h.0 run.1 x))
+    after_on (e ∷ es) (r ∷ rs) i j h run (inr q) x = inr (after_on es rs run.0 j h.1 run.2 q (stays e r i run.0 h.0 run.1 x))
+
+    -- behind several ticks
+    several_on : (n : ℕ) (es : List HostEvent) (rs : List Reply) (i j : WorldState) → AllByRecursion (Moves May) es → (run : RunReplies gives i es rs j)
+        → AsksAfterTicks s p n es → Stays i → AfterTicks s NoneDue n gives es rs i j run
+    several_on zero es rs i j h run q x = some_on es rs i j h run q x
+    several_on (suc n) [] rs i j h run q x = absurd q
+    several_on (suc n) (e ∷ es) [] i j h run q x = absurd run
+    several_on (suc n) (e ∷ es) (r ∷ rs) i j h run (inl q) x =
+        inl (q.0, several_on n es rs run.0 j h.1 run.2 q.1 (stays e r i run.0 h.0 run.1 x))
+    several_on (suc n) (e ∷ es) (r ∷ rs) i j h run (inr q) x = inr (several_on (suc n) es rs run.0 j h.1 run.2 q (stays e r i run.0 h.0 run.1 x))
 
     -- if it is asked until it sends nothing
-    vain_on : (es : List HostEvent) (rs : List Reply) (i j : WorldState) (a b : Bool) → TickOnceAmong May s a b es → (run : RunReplies gives i es rs j)
+    vain_on : (es : List HostEvent) (rs : List Reply) (i j : WorldState) → AllByRecursion (Moves May) es → (run : RunReplies gives i es rs j)
         → AsksInVain s p es rs → Stays i → AtSomeWorld Drained gives es rs i j run
-    vain_on [] rs i j a b h run q x = absurd q
-    vain_on (e ∷ es) [] i j a b h run q x = absurd q
-    vain_on (e ∷ es) (r ∷ rs) i j a b h run (inl q) x = inr (at_first Drained es rs run.0 j run.2 (vain_now e r i run.0 q.0 q.1 run.1 x))
-    vain_on (e ∷ es) (r ∷ rs) i j a b h run (inr q) x =
-        let o = rest_of a b e es h in inr (vain_on es rs run.0 j o.0 o.1 o.2 run.2 q (stays a b e es r i run.0 h run.1 x))
+    vain_on [] rs i j h run q x = absurd q
+    vain_on (e ∷ es) [] i j h run q x = absurd q
+    vain_on (e ∷ es) (r ∷ rs) i j h run (inl q) x = inr (at_first Drained es rs run.0 j run.2 (vain_now e r i run.0 q.0 q.1 run.1 x))
+    vain_on (e ∷ es) (r ∷ rs) i j h run (inr q) x = inr (vain_on es rs run.0 j h.1 run.2 q (stays e r i run.0 h.0 run.1 x))
 
-    vain_after : (es : List HostEvent) (rs : List Reply) (i j : WorldState) (a b : Bool) → TickOnceAmong May s a b es → (run : RunReplies gives i es rs j)
+    vain_after : (es : List HostEvent) (rs : List Reply) (i j : WorldState) → AllByRecursion (Moves May) es → (run : RunReplies gives i es rs j)
         → AsksInVainAfterTick s p es rs → Stays i → AfterTick s Drained gives es rs i j run
-    vain_after [] rs i j a b h run q x = q
-    vain_after (e ∷ es) [] i j a b h run q x = absurd run
-    vain_after (e ∷ es) (r ∷ rs) i j a b h run (inl q) x = let o = rest_of a b e es h in
-        inl (q.0, vain_on es rs run.0 j o.0 o.1 o.2 run.2 q.1 (stays a b e es r i run.0 h run.1 x))
-    vain_after (e ∷ es) (r ∷ rs) i j a b h run (inr q) x = let o = rest_of a b e es h in
-        inr (vain_after es rs run.0 j o.0 o.1 o.2 run.2 q (stays a b e es r i run.0 h run.1 x))
+    vain_after [] rs i j h run q x = q
+    vain_after (e ∷ es) [] i j h run q x = absurd run
+    vain_after (e ∷ es) (r ∷ rs) i j h run (inl q) x = inl (q.0, vain_on es rs run.0 j h.1 run.2 q.1 (stays e r i run.0 h.0 run.1 x))
+    vain_after (e ∷ es) (r ∷ rs) i j h run (inr q) x = inr (vain_after es rs run.0 j h.1 run.2 q (stays e r i run.0 h.0 run.1 x))
 
     -- if it is asked twice in turn
-    twice_on : (es : List HostEvent) (rs : List Reply) (i j : WorldState) (a b : Bool) → TickOnceAmong May s a b es → (run : RunReplies gives i es rs j)
+    twice_on : (es : List HostEvent) (rs : List Reply) (i j : WorldState) → AllByRecursion (Moves May) es → (run : RunReplies gives i es rs j)
         → AsksTwice s p es → Stays i → AtSomeWorld Drained gives es rs i j run
-    twice_on [] rs i j a b h run y x = absurd y
-    twice_on (e ∷ []) rs i j a b h run y x = absurd y
-    twice_on (e ∷ f ∷ es) [] i j a b h run y x = absurd run
-    twice_on (e ∷ f ∷ es) (r ∷ []) i j a b h run y x = absurd run.2
-    twice_on (e ∷ f ∷ es) (r ∷ q ∷ rs) i j a b h run (inl y) x = inr (inr (at_first Drained es rs run.2.0 j run.2.2
-        (drained_now f q run.0 run.2.0 y.1 run.2.1 (stays a b e (f ∷ es) r i run.0 h run.1 x) (asked e r i run.0 y.0 run.1 x))))
-    twice_on (e ∷ f ∷ es) (r ∷ q ∷ rs) i j a b h run (inr y) x =
-        let o = rest_of a b e (f ∷ es) h in
-        inr (twice_on (f ∷ es) (q ∷ rs) run.0 j o.0 o.1 o.2 run.2 y (stays a b e (f ∷ es) r i run.0 h run.1 x))
+    twice_on [] rs i j h run y x = absurd y
+    twice_on (e ∷ []) rs i j h run y x = absurd y
+    twice_on (e ∷ f ∷ es) [] i j h run y x = absurd run
+    twice_on (e ∷ f ∷ es) (r ∷ []) i j h run y x = absurd run.2
+    twice_on (e ∷ f ∷ es) (r ∷ q ∷ rs) i j h run (inl y) x = inr (inr (at_first Drained es rs run.2.0 j run.2.2
+        (drained_now f q run.0 run.2.0 y.1 run.2.1 (stays e r i run.0 h.0 run.1 x) (asked e r i run.0 y.0 run.1 x))))
+    twice_on (e ∷ f ∷ es) (r ∷ q ∷ rs) i j h run (inr y) x =
+        inr (twice_on (f ∷ es) (q ∷ rs) run.0 j h.1 run.2 y (stays e r i run.0 h.0 run.1 x))
 
 -- the port at an end of a healthy cable is there, and its link is up
 stays_first : (gives : Algorithms) (s : Side) (i : ℕ) (l : LinkState) (old : WorldState) → AreTimely old → IsHealthyAt i l old
@@ -303,12 +315,23 @@ asking_is_played May wide E gives events replies old new timely turns acts asks 
     replies = replies;
     ticks = turns;
     acts = acts;
-    asked = λ s i l y. after_on gives s (port_at s l) May wide events replies old new true true (side_among May s events turns) acts (asks s i l y)
+    asked = λ s i l y. after_on gives s (port_at s l) May wide events replies old new (all_move May One events true true turns) acts (asks s i l y)
         (stays_first gives s i l old timely y);
     empties = clears;
   },
   refl,
 )
+
+pub asking_is_several : (gives : Algorithms) → AskingIsSeveral gives
+asking_is_several gives l n events replies old new timely turns acts asks clears = record {
+  events = events;
+  replies = replies;
+  turns = turns;
+  acts = acts;
+  asked = λ s i k y. several_on gives s (port_at s k) (LeavesPorts (λ t. port_at t l)) (come_beside (λ t. port_at t l)) n events replies old new
+      (several_move (LeavesPorts (λ t. port_at t l)) n One events 0 0 turns) acts (asks s i k y) (stays_first gives s i k old timely y);
+  empties = clears;
+}
 
 -- a healthy round is a round of hosts
 
@@ -323,10 +346,6 @@ between_all (e ∷ es) fs a d = absurd a.0
 pub round_ticks : (links : List LinkState) (delivers : List Event) → AllByRecursion IsDeliver delivers
     → TickOnce One true true (map Plays (ticks_of_both ++ (asks_all links ++ delivers)))
 round_ticks links delivers arrives = grind (arith, nat_tests, between_all, asks_all, all_ask)
-
-of_side_after : (s : Side) (es : List HostEvent) → TickOnce One false false es → TickOnce s false false es
-of_side_after One es h = h
-of_side_after Two es h = turned IsBetweenTicks es false false h
 
 -- and each end has nothing due once it is asked twice
 
@@ -390,9 +409,8 @@ round_is_draining gives t g k old new steady h = record {
         → (run : RunReplies gives mid (map Plays (asks_all old.links ++ h.delivers)) rs new) → Stays gives s (port_at s l) mid
         → AtSomeWorld (NothingIsDue s l) gives (map Plays (asks_all old.links ++ h.delivers)) rs mid new run
     at_some s i l y rs mid run x = twice_on gives s (port_at s l) IsBetweenTicks come_between (map Plays (asks_all old.links ++ h.delivers)) rs mid new
-        false false
-        (of_side_after s (map Plays (asks_all old.links ++ h.delivers)) (between_all (asks_all old.links) h.delivers (all_ask old.links) h.arrives))
-        run (asks_twice s i old.links h.delivers l y.there) x
+        (all_move IsBetweenTicks One (map Plays (asks_all old.links ++ h.delivers)) false false
+        (between_all (asks_all old.links) h.delivers (all_ask old.links) h.arrives)) run (asks_twice s i old.links h.delivers l y.there) x
 
     after : (s : Side) (i : ℕ) (l : LinkState) → IsHealthyAt i l old → (rs : List Reply)
         → (run : RunReplies gives old (map Plays events) rs new) → AfterTick s (NothingIsDue s l) gives (map Plays events) rs old new run
@@ -402,11 +420,10 @@ round_is_draining gives t g k old new steady h = record {
         let one = Plays (event.Tick 1 1) in
         let two = Plays (event.Tick 2 1) in
         let es = map Plays (asks_all old.links ++ h.delivers) in
-        let turned = of_side s (map Plays events) turns in
-        let first = stays gives s (port_at s l) IsBetweenTicks come_between true true one (two ∷ es) r old run.0 turned run.1
+        let moves : AllByRecursion (Moves IsBetweenTicks) (one ∷ two ∷ es) = all_move IsBetweenTicks One (one ∷ two ∷ es) true true turns in
+        let first = stays gives s (port_at s l) IsBetweenTicks come_between one r old run.0 moves.0 run.1
         (stays_first gives s i l old (timely old steady) y) in
-        let more = rest_of gives s (port_at s l) IsBetweenTicks come_between true true one (two ∷ es) turned in
-        let second = stays gives s (port_at s l) IsBetweenTicks come_between more.0 more.1 two es q run.0 run.2.0 more.2 run.2.1 first in
+        let second = stays gives s (port_at s l) IsBetweenTicks come_between two q run.0 run.2.0 moves.1.0 run.2.1 first in
         by_side s (at_some s i l y rs run.2.0 run.2.2 second)
       where
         by_side : (s : Side) → AtSomeWorld (NothingIsDue s l) gives (map Plays (asks_all old.links ++ h.delivers)) rs run.2.0 new run.2.2
@@ -456,7 +473,8 @@ asking_in_vain_is_draining gives t g k events replies old new steady turns still
 }
   where
     drained : (s : Side) (i : ℕ) (l : LinkState) → IsHealthyAt i l old → AfterTick s (NothingIsDue s l) gives events replies old new run
-    drained s i l y = vain_after gives s (port_at s l) IsBetweenTicks come_between events replies old new true true (of_side s events turns) run (asks s i l y)
+    drained s i l y = vain_after gives s (port_at s l) IsBetweenTicks come_between events replies old new
+        (all_move IsBetweenTicks One events true true turns) run (asks s i l y)
         (stays_first gives s i l old (timely old steady) y)
 
 -- as where both systems tick first

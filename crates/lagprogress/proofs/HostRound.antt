@@ -1,5 +1,5 @@
 -- What a round of hosts leaves of a cable, by its stages.
-use Rattle.lagprogress.proofs.Common.{Bool, List, None, Some, [], arith, false, inl, inr, refl, subst, sym, true, ℕ, ◌-◌, ◌∙◌, ◌∷◌, ◌≡◌, ◌≤◌, ◌⊎◌}
+use Rattle.lagprogress.proofs.Common.{Bool, List, None, Some, [], arith, false, inl, inr, refl, subst, sym, true, ℕ, ◌-◌, ◌∙◌, ◌∷◌, ◌≡◌, ◌≤◌}
 use Rattle.lagprogress.proofs.Common.{nat_tests, AllByRecursion, Lacpdu, One, Side, Two, peer, Machines, periodic_rows, receive_rows, AtRest}
 use Rattle.lagprogress.proofs.Common.{RunsToRest, after_sending, count_down, SystemState, machines_of, Reply, Algorithms, WorldSteps, side_of}
 use Rattle.lagprogress.proofs.Common.{WorldState, half, limit_towards, HostEvent, Plays, OfEach, Tick-each, no, counts, AtPort, with_rest}
@@ -9,12 +9,12 @@ use Rattle.lagsystem.specs.declared.drive.Reply.TheVariants as answer
 use Rattle.lagscript.specs.declared.event.Event.TheVariants as event
 use Rattle.lagprogress.proofs.Climbing.{known_still}
 use Rattle.lagprogress.proofs.Delivering.{deliver_link}
-use Rattle.lagprogress.proofs.EndFacts.{Along, IsEnd, Learnt, nothing_along, ticks_end, lower_learnt}
+use Rattle.lagprogress.proofs.EndFacts.{Along, IsEnd, Learnt, ticks_end, lower_learnt}
 use Rattle.lagprogress.proofs.Halves.{keeps_timely}
 use Rattle.lagprogress.proofs.Linked.{EndIs, Fits, Left, Link, each_map, each_side, emit_any, end_kept, end_here, other_ports, other_side, peer_twice}
 use Rattle.lagprogress.proofs.Linked.{place_kept}
 use Rattle.lagprogress.proofs.OneCable.{OnCable, cable, port_there, ticks}
-use Rattle.lagprogress.proofs.OneRound.{Nothing, ticked}
+use Rattle.lagprogress.proofs.OneRound.{ticked}
 use Rattle.lagprogress.proofs.Quieting.{PlayedBeside, leaves_link}
 
 -- numbers of both sides
@@ -53,7 +53,7 @@ pub side_beside : (at : Side → ℕ) (s : Side) (es : List HostEvent) → TickO
 side_beside at s es h = side_among (LeavesPorts at) s es h
 
 -- a tick of one system is none of the other
-one_of : (s : Side) (e : HostEvent) → IsTickOf s e → IsTickOf (peer s) e → ⊥
+pub one_of : (s : Side) (e : HostEvent) → IsTickOf s e → IsTickOf (peer s) e → ⊥
 one_of s e h i = grind (arith, nat_tests)
 
 -- no tick is among the events that may come between
@@ -272,13 +272,6 @@ peer_counts d w c s then a = grind (arith, nat_tests, two_other, left, peer, kno
 pub fits_in : (d : ℕ) (w : Side → Lacpdu) (c : Side → ℕ) (s : Side) → Fits d w c → Fits d w (ticked c) → (a b : Bool) → Fits d w (known_in c s a b)
 fits_in d w c s hyp1 hyp2 a b = grind (arith, nat_tests, each_side, two_there, two_other, true, false)
 
-pub same_in : (c : Side → ℕ) (s t : Side) → known_in c s false false t ≡ ticked c t
-same_in c s t = grind (arith, nat_tests)
-
-pub all_ticked : (d : ℕ) (at : Side → ℕ) (w : Side → Lacpdu) (c : Side → ℕ) (s x : Side) (Y : Machines → Type 0) (j : WorldState)
-    → Link d at w (known_in c s false false) x Y j → Link d at w (ticked c) x Y j
-all_ticked d at w c s x Y j l = grind (arith, nat_tests, other_ports, peer, same_in)
-
 pub none_ticked : (d : ℕ) (at : Side → ℕ) (w : Side → Lacpdu) (c : Side → ℕ) (s x : Side) (Y : Machines → Type 0) (j : WorldState)
     → Link d at w c x Y j → Link d at w (known_in c s true true) x Y j
 none_ticked d at w c s x Y j l = other_ports l (λ t p rest timed a. (
@@ -318,42 +311,3 @@ peer_holds gives x d at w c N then a along n r i j named step l = (tick_one give
     r i j named (peer_counts d w c x then a)
     (subst (λ n. Along N (w x) (w (peer x)) n d) (sym (two_there x (left a (c x)) (c (peer x) - 1))) along)
     (λ p q run rest a f y. absurd (other_side x f)) (λ p f y. y) step l).link
-
--- Y holds beside it before the tick of x, Z after it
-abbrev pub HeldIn : ℕ → (Side → ℕ) → (Side → Lacpdu) → (Side → ℕ) → Side → (Machines → Type 0) → (Machines → Type 0) → Bool → Bool → WorldState
-    → Type 0
-HeldIn d at w c x Y Z true b j = Link d at w (known_in c x true b) x Y j
-HeldIn d at w c x Y Z false b j = Link d at w (known_in c x false b) x Z j
-
--- a round with something beside it that each event keeps: Y before the tick of x, Z after it
-pub host_holds : {E : Clearing} (gives : Algorithms) (x : Side) (d : ℕ) (at : Side → ℕ) (w : Side → Lacpdu) (c : Side → ℕ) (Y Z : Machines → Type 0)
-    (old new : WorldState) → Fits d w c → Fits d w (ticked c) → Along Y (w x) (w (peer x)) (c x) d → Along Z (w x) (w (peer x)) (ticked c x) d
-    → ((p q : Machines) → RunsToRest receive_rows (count_down p) q → AtRest periodic_rows p → IsEnd d (w x) (w (peer x)) (c x) p → Y p → Z q)
-    → ((p : Machines) → Y p → Y (after_sending p)) → ((p : Machines) → Z p → Z (after_sending p))
-    → Link d at w c x Y old → PlayedBeside at E gives old new → Link d at w (ticked c) x Z new
-host_holds {E} gives x d at w c Y Z old new fits then first last moves sends later l h =
-    all_ticked d at w c x x Z new (holds_beside E at gives x (λ a b j. HeldIn d at w c x Y Z a b j) kept own other old new h
-    (none_ticked d at w c x x Y old l))
-  where
-    early : (b : Bool) → Along Y (w x) (w (peer x)) (known_in c x true b x) d
-    early b = subst (λ n. Along Y (w x) (w (peer x)) n d) (sym (two_there x (c x) (left b (c (peer x))))) first
-
-    late : (b : Bool) → Along Z (w x) (w (peer x)) (known_in c x false b x) d
-    late b = subst (λ n. Along Z (w x) (w (peer x)) n d) (sym (two_there x (c x - 1) (left b (c (peer x))))) last
-
-    kept : (a b : Bool) → KeptBeside at gives (λ j. HeldIn d at w c x Y Z a b j)
-    kept true b = between gives d at w (known_in c x true b) x Y (fits_in d w c x fits then true b) (early b) sends
-    kept false b = between gives d at w (known_in c x false b) x Z (fits_in d w c x fits then false b) (late b) later
-
-    own : (b : Bool) → MadeByTick gives x (Link d at w (known_in c x true b) x Y) (Link d at w (known_in c x false b) x Z)
-    own = own_holds gives x d at w c Y Z then last moves
-
-    other : (a : Bool) → MadeByTick gives (peer x) (λ j. HeldIn d at w c x Y Z a true j) (λ j. HeldIn d at w c x Y Z a false j)
-    other true = peer_holds gives x d at w c Y then true first
-    other false = peer_holds gives x d at w c Z then false last
-
--- and with nothing beside it, even if nothing is known of what comes
-pub host_keeps : {E : Clearing} (gives : Algorithms) (x : Side) (d : ℕ) (at : Side → ℕ) (w : Side → Lacpdu) (c : Side → ℕ) (old new : WorldState)
-    → Fits d w c → Fits d w (ticked c) → Link d at w c x Nothing old → PlayedBeside at E gives old new → Link d at w (ticked c) x Nothing new
-host_keeps gives x d at w c old new fits then l h = host_holds gives x d at w c Nothing Nothing old new fits then
-    (nothing_along (w x) (w (peer x)) (c x) d) (nothing_along (w x) (w (peer x)) (ticked c x) d) (λ p q r rest a y. y) (λ p y. y) (λ p y. y) l h

@@ -1,10 +1,12 @@
 -- In a healthy round of hosts, an end that hears the other is told when the other is synchronized, or the other owes it an LACPDU.
-use Rattle.lagprogress.proofs.Common.{Bool, List, Some, [], arith, false, inl, inr, refl, subst, sym, true, ℕ, ◌-◌, ◌∙◌, ◌∷◌, ◌≡◌, ◌≤◌, ◌⊎◌}
+use Rattle.lagprogress.proofs.Common.{Bool, List, Some, [], arith, false, inl, inr, refl, subst, suc, sym, true, ℕ, ◌+◌, ◌-◌, ◌∷◌, ◌≡◌, ◌≤◌, ◌⊎◌}
 use Rattle.lagprogress.proofs.Common.{cases_Bool, AllByRecursion, Lacpdu, Side, peer, Machines, partner_synchronized, periodic_rows, receive_rows}
 use Rattle.lagprogress.proofs.Common.{AtRest, RunsToRest, after_sending, count_down, is_due, SystemPort, Carries, IsFrame, OnlyPortChangesBy}
 use Rattle.lagprogress.proofs.Common.{ProcessesLacpdu, ThenSettles, SystemState, machines_of, Reply, Algorithms, WorldSteps, side_of, ItemValue}
 use Rattle.lagprogress.proofs.Common.{WorldState, half, HostEvent, Plays, timeout_time, KeptBySettling, OfEach, Tick-each, counts, AtPort}
-use Rattle.lagprogress.proofs.Common.{LeavesPorts, AfterTick, Clearing, StepReplies, OfPort}
+use Rattle.lagprogress.proofs.Common.{LeavesPorts, Clearing, StepReplies, OfPort, AfterTicks}
+use Rattle.lagprogress.proofs.SeveralTicks.{TickPasses, TickStages, TicksBeside, Within, fits_at, holds_ticks, known_at, none_counted, own_counted}
+use Rattle.lagprogress.proofs.SeveralTicks.{peer_counted, side_turns, ticked_by, ticks_on}
 use Rattle.slowpdu.specs.declared.pdu.Pdu.TheVariants as pdu
 use Rattle.lagsystem.specs.declared.drive.Reply.TheVariants as answer
 use Rattle.lagscript.specs.declared.event.Event.TheVariants as event
@@ -12,15 +14,14 @@ use Rattle.lagprogress.proofs.Claims.{IsNamed, Owes, Owing, Wakeful, owes_ticks,
 use Rattle.lagprogress.proofs.Climbing.{PartnerInSync, known_still, ticks_partner}
 use Rattle.lagprogress.proofs.Delivering.{Heard, arrived_ports, deliver_link, deliver_moves, came_to}
 use Rattle.lagprogress.proofs.EndFacts.{Along, IsEnd, Learnt, activity, nothing_along, short_timeout, ticks_end, wait_of, learnt_along}
-use Rattle.lagprogress.proofs.HostRound.{between, KeptBeside, MadeByTick, Stages, first_on, fits_in, healthy_link, holds_beside, known_in, learn_less}
-use Rattle.lagprogress.proofs.HostRound.{Whatever, all_whatever, left, none_ticked, side_beside, tick_one, ticks_learnt, two_other, two_there}
-use Rattle.lagprogress.proofs.HostRound.{both_kept, both_made, own_counts, peer_counts, Counts}
+use Rattle.lagprogress.proofs.HostRound.{between, KeptBeside, MadeByTick, healthy_link, learn_less, tick_one, ticks_learnt, two_other, two_there}
+use Rattle.lagprogress.proofs.HostRound.{both_kept, both_made, Counts}
 use Rattle.lagprogress.proofs.Linked.{asked_which, at_end, beside_link, emit_any, found, end_with, of_end, with_ports, EndIs, Fits, Flying, IsGood}
 use Rattle.lagprogress.proofs.Linked.{Link, each_both, each_map, each_side, end_here, gains_has, HasLacpdu, other_side, peer_twice, put_other}
 use Rattle.lagprogress.proofs.Linked.{put_there, same_flying}
 use Rattle.lagprogress.proofs.OneCable.{Arrives, cable, port_there, put, response, ticks}
-use Rattle.lagprogress.proofs.OneRound.{Nothing, Passes, ask_idle, ask_peer, one_of_both, at_rest, forget, join, ticked}
-use Rattle.lagprogress.proofs.Quieting.{LeavesEnds, PlayedBeside, ends_up, leaves_each, leaves_link}
+use Rattle.lagprogress.proofs.OneRound.{Nothing, ask_idle, ask_peer, one_of_both, at_rest, forget, join}
+use Rattle.lagprogress.proofs.Quieting.{LeavesEnds, ends_up, leaves_each, leaves_link}
 use Rattle.lagprogress.proofs.Telling.{Bears, SaysIt, Tells, arrive_peer, ask_on, deliver_on, due_on, left_by, sync_settles, tells_map}
 
 module _ (gives : Algorithms) (d : ℕ) (at : Side → ℕ) (w : Side → Lacpdu) (s : Side) (there : 1 ≤ d)
@@ -404,75 +405,75 @@ module _ (gives : Algorithms) (d : ℕ) (at : Side → ℕ) (w : Side → Lacpdu
             ))
         by_case (inr (inr m)) = inr (inr (told_other c b most known some less fits n r i j numbered h m))
 
-    module _ (c : Side → ℕ) (fits : Fits d w c) (then : Fits d w (ticked c)) where
+    module _ (n : ℕ) (few : n + 1 ≤ 30) (c : Side → ℕ) (fits : Fits d w c) (then : Fits d w (ticked_by n c)) where
       abbrev W : ℕ
       W = wait_of (w (peer s))
 
-      abbrev kn : Bool → Bool → Side → ℕ
-      kn = known_in c s
+      abbrev kn : ℕ → ℕ → Side → ℕ
+      kn = known_at c s
 
       abbrev NoneDue : WorldState → Type 0
       NoneDue j = OfPort (λ p. is_due p ≡ false) (machines_of (at s) (half s j).state)
 
-      pub left_less : (b : Bool) (n : ℕ) → left b n ≤ n
-      left_less true n = omega arith
-      left_less false n = omega arith
+      pub fit_at : (a b : ℕ) → Within n a b → Fits d w (kn a b)
+      fit_at a b l = fits_at d w c s n fits then a b l
 
-      pub waits_long : 2 ≤ W
+      pub waits_long : n + 1 ≤ W
       waits_long = long (short_timeout (w (peer s)))
         where
-          long : (b : Bool) → 2 ≤ timeout_time b
-          long true = omega arith
-          long false = omega arith
+          long : (b : Bool) → n + 1 ≤ timeout_time b
+          long true = few
+          long false = omega (arith, few)
 
-      module _ (X V Y Z : Machines → Type 0) (k : Passes X V Y Z (w s) (w (peer s)) (c s) (ticked c s) d)
-          (before : Along X (w s) (w (peer s)) (c s) d) where
-        abbrev A : Bool → WorldState → Type 0
-        A b = Turn (kn true b) (left b W) X
+      -- the tick of the other system
+      pub told_next : (a b : ℕ) → Within n a (suc b) → MadeByTick gives (peer s) (HasTold (kn a b) (W - b)) (HasTold (kn a (suc b)) (W - suc b))
+      told_next a b l m r i j numbered h y = subst (λ q. HasTold (kn a (suc b)) q j) (omega arith) (told_other (kn a b) (kn a (suc b)) (W - b)
+          (peer_counted d w c s n then a b l) (let o = l.1 in omega (arith, o, waits_long)) (omega arith) (fit_at a (suc b) l)
+          m r i j numbered h y)
 
-        abbrev B : Bool → WorldState → Type 0
-        B b = Turn (kn false b) (left b W) Y
+      module _ (X V : ℕ → Machines → Type 0) (Z : Machines → Type 0) (k : TickPasses n X V Z (w s) (w (peer s)) (c s) d) where
+        abbrev A : ℕ → ℕ → WorldState → Type 0
+        A a b = Turn (kn a b) (W - b) (X a)
 
-        abbrev C : Bool → WorldState → Type 0
-        C b = Turn (kn false b) (left b W) Z
+        abbrev C : ℕ → WorldState → Type 0
+        C b = Turn (kn n b) (W - b) Z
 
-        early : (b : Bool) → Along X (w s) (w (peer s)) (kn true b s) d
-        early b = subst (λ n. Along X (w s) (w (peer s)) n d) (sym (two_there s (c s) (left b (c (peer s))))) before
+        along_at : (M : Machines → Type 0) (a b : ℕ) → Along M (w s) (w (peer s)) (c s - a) d → Along M (w s) (w (peer s)) (kn a b s) d
+        along_at M a b y = subst (λ q. Along M (w s) (w (peer s)) q d) (sym (two_there s (c s - a) (c (peer s) - b))) y
 
-        late : (M : Machines → Type 0) (b : Bool) → Along M (w s) (w (peer s)) (ticked c s) d → Along M (w s) (w (peer s)) (kn false b s) d
-        late M b a = subst (λ n. Along M (w s) (w (peer s)) n d) (sym (two_there s (c s - 1) (left b (c (peer s))))) a
+        end_at : (a b : ℕ) (p : Machines) → IsEnd d (w s) (w (peer s)) (kn a b s) p → IsEnd d (w s) (w (peer s)) (c s - a) p
+        end_at a b p y = subst (λ q. IsEnd d (w s) (w (peer s)) q p) (two_there s (c s - a) (c (peer s) - b)) y
 
-        own : (b : Bool) → MadeByTick gives s (A b) (B b)
-        own b n r i j numbered h m = elim (turn_own (kn true b) (kn false b) (left b W) X V (own_counts d w c s then b)
-            (left_less b W) (fits_in d w c s fits then false b) (late V b k.ticked)
-            (λ p q run rest a y. k.ticks p q run rest (subst (λ n. IsEnd d (w s) (w (peer s)) n p) (two_there s (c s) (left b (c (peer s)))) a) y)
-            n r i j numbered h m) [
-              | inl l ↦ inl (
+        own : (a b : ℕ) → Within n (suc a) b → MadeByTick gives s (A a b) (A (suc a) b)
+        own a b l m r i j numbered h y = elim (turn_own (kn a b) (kn (suc a) b) (W - b) (X a) (V (suc a)) (own_counted d w c s n then a b l)
+            (omega arith) (fit_at (suc a) b l) (along_at (V (suc a)) (suc a) b (k.ticked (suc a) l.0))
+            (λ p q run rest e z. k.ticks a l.0 p q run rest (end_at a b p e) z) m r i j numbered h y) [
+              | inl z ↦ inl (
                 (
-                  at_rest d at w (kn false b) s V Y j (λ p rest timed a y. k.rests p rest timed
-                      (subst (λ n. IsEnd d (w s) (w (peer s)) n p) (two_there s (c s - 1) (left b (c (peer s)))) a) y) l.0.0,
-                  l.0.1,
+                  at_rest d at w (kn (suc a) b) s (V (suc a)) (X (suc a)) j
+                      (λ p rest timed e x. k.rests (suc a) l.0 p rest timed (end_at (suc a) b p e) x) z.0.0,
+                  z.0.1,
                 ),
-                l.1,
+                z.1,
               )
               | inr z ↦ inr z
             ]
 
-        others : (a : Bool) (M : Machines → Type 0) → Along M (w s) (w (peer s)) (kn a false s) d
-            → MadeByTick gives (peer s) (Turn (kn a true) (left true W) M) (Turn (kn a false) (left false W) M)
-        others a M along = turn_other (kn a true) (kn a false) W M (peer_counts d w c s then a)
-            waits_long (omega arith) (fits_in d w c s fits then a false) along
+        others : (M : Machines → Type 0) (a b : ℕ) → Within n a (suc b) → Along M (w s) (w (peer s)) (c s - a) d
+            → MadeByTick gives (peer s) (Turn (kn a b) (W - b) M) (Turn (kn a (suc b)) (W - suc b) M)
+        others M a b l along m r i j numbered h y = subst (λ q. Turn (kn a (suc b)) q M j) (omega arith) (turn_other (kn a b) (kn a (suc b)) (W - b) M
+            (peer_counted d w c s n then a b l) (let o = l.1 in omega (arith, o, waits_long)) (omega arith) (fit_at a (suc b) l)
+            (along_at M a (suc b) along) m r i j numbered h y)
 
-        rests : (b : Bool) (j : WorldState) → NoneDue j → B b j → C b j
-        rests b j none (inr z) = inr z
-        rests b j none (inl ((l, o), da)) =
-            let cc : Side → ℕ = kn false b in
-            let e = end_here at w d cc s Y j l s in
+        rests : (b : ℕ) → b ≤ n → (j : WorldState) → NoneDue j → A n b j → C b j
+        rests b few j none (inr z) = inr z
+        rests b few j none (inl ((l, o), da)) =
+            let cc : Side → ℕ = kn n b in
+            let e = end_here at w d cc s (X n) j l s in
             let not : is_due e.port.port ≡ false = subst (OfPort (λ p. is_due p ≡ false)) e.found none in
             let now = of_end l s (λ p. is_due p ≡ false → EndIs d w cc s Z s p) (λ p rest timed a free. (
               a.0,
-              λ f. k.asks p rest timed (subst (λ n. IsEnd d (w s) (w (peer s)) n p) (two_there s (c s - 1) (left b (c (peer s)))) a.0) (a.1 refl)
-                  free,
+              λ f. k.asks p rest timed (end_at n b p a.0) (a.1 refl) free,
             )) in
             inl (
               (
@@ -485,52 +486,51 @@ module _ (gives : Algorithms) (d : ℕ) (at : Side → ℕ) (w : Side → Lacpdu
               da,
             )
 
-        stages : Stages (LeavesPorts at) gives Whatever s A B C NoneDue
+        stages : TickStages (LeavesPorts at) gives n s A C NoneDue
         stages = record {
-          none = λ n b. b;
-          first = λ b e r i j x. turn_between (kn true b) (left b W) X (left_less b W) (fits_in d w c s fits then true b) (early b) e r i j;
-          second = λ b e r i j x. turn_between (kn false b) (left b W) Y (left_less b W) (fits_in d w c s fits then false b) (late Y b k.waits) e r i j;
-          third = λ b e r i j x. turn_between (kn false b) (left b W) Z (left_less b W) (fits_in d w c s fits then false b) (late Z b k.asked) e r i j;
+          none = λ m b. b;
+          first = λ a b l. turn_between (kn a b) (W - b) (X a) (omega arith) (fit_at a b l) (along_at (X a) a b (k.waits a l.0));
+          third = λ b l. turn_between (kn n b) (W - b) Z (omega arith) (fit_at n b (omega arith, l)) (along_at Z n b k.asked);
           own = own;
-          other_first = others true X (early false);
-          other_second = others false Y (late Y false k.waits);
-          other_third = others false Z (late Z false k.asked);
+          other_first = λ a b l. others (X a) a b l (k.waits a l.0);
+          other_third = λ b l. others Z n b (omega arith, l) k.asked;
           rests = rests;
         }
 
         -- a round: Z holds of the end of s, or an LACPDU of it is on the cable, or the other end has heard one, and is told
-        pub turns : {E : Clearing} (old new : WorldState) → Link d at w c s X old → OfEach (AtPort (at s) Wakes) (half s old).state.system_ports
-            → PlayedBeside at E gives old new → D old → Turn (kn false false) (W - 1) Z new
+        pub turns : {E : Clearing} (old new : WorldState) → Link d at w c s (X 0) old → OfEach (AtPort (at s) Wakes) (half s old).state.system_ports
+            → TicksBeside n at E gives old new → D old → Turn (kn n n) (W - n) Z new
         turns old new l wakes h da =
-            let asked = subst (λ n. AfterTick s (λ j. OfPort (λ p. is_due p ≡ false) (machines_of n (half s j).state)) gives h.events h.replies old new
-            h.acts) (port_there s at l.flying) (h.asked s l.index (cable at l.flying) (healthy_link d at w c s X old l)) in
-            let start : A true old = inl (
+            let asked = subst (λ q. AfterTicks s (λ j. OfPort (λ p. is_due p ≡ false) (machines_of q (half s j).state)) n gives h.events h.replies old new
+            h.acts) (port_there s at l.flying) (h.asked s l.index (cable at l.flying) (healthy_link d at w c s (X 0) old l)) in
+            let start : A 0 0 old = inl (
               (
-                none_ticked d at w c s s X old l,
-                none_ticked d at w c s s Wakes old (join d at w c s s Wakes old (forget d at w c s s X old l) wakes),
+                none_counted d at w c s s (X 0) old l,
+                none_counted d at w c s s Wakes old (join d at w c s s Wakes old (forget d at w c s s (X 0) old l) wakes),
               ),
               da,
             ) in
-            first_on (LeavesPorts at) gives Whatever s A B C NoneDue stages h.events h.replies old new true (all_whatever h.events) (side_beside at s h.events h.ticks) h.acts
+            ticks_on (LeavesPorts at) gives n s A C NoneDue stages h.events h.replies old new 0 0 n (omega arith) (side_turns at n s h.events h.turns) h.acts
             asked start
 
       -- what it is told, or what is on its way, stays
-      pub stays_on : {E : Clearing} (old new : WorldState) → OnWay (kn true true) PartnerInSync old → PlayedBeside at E gives old new → 2 ≤ c (peer s)
-          → OnWay (kn false false) PartnerInSync new
-      stays_on {E} old new told h known = holds_beside E at gives s (λ a b j. OnWay (kn a b) PartnerInSync j)
-          (λ a b. sync_between (kn a b) (fits_in d w c s fits then a b))
-          (λ b. on_own PartnerInSync (sync_settles (at (peer s))) (λ p y. y) (λ p y. y) (kn true b) (kn false b) (own_counts d w c s then b))
-          (λ a n r i j numbered step o. on_other PartnerInSync (sync_settles (at (peer s))) (λ p y. y) (λ p y. y) (kn a true) (kn a false)
-          (peer_counts d w c s then a) n r i j numbered step (stays a n r i j numbered step o.0) o) old new h told
+      pub stays_on : {E : Clearing} (old new : WorldState) → OnWay (kn 0 0) PartnerInSync old → TicksBeside n at E gives old new → n + 1 ≤ c (peer s)
+          → OnWay (kn n n) PartnerInSync new
+      stays_on {E} old new told h known = holds_ticks E at gives n s (λ a b j. OnWay (kn a b) PartnerInSync j)
+          (λ a b l. sync_between (kn a b) (fit_at a b l))
+          (λ a b l. on_own PartnerInSync (sync_settles (at (peer s))) (λ p y. y) (λ p y. y) (kn a b) (kn (suc a) b) (own_counted d w c s n then a b l))
+          (λ a b l m r i j numbered step o. on_other PartnerInSync (sync_settles (at (peer s))) (λ p y. y) (λ p y. y) (kn a b) (kn a (suc b))
+          (peer_counted d w c s n then a b l) m r i j numbered step (stays a b l m r i j numbered step o.0) o) old new h told
         where
-          stays : (a : Bool) (n : ℕ) (r : Reply) (i j : WorldState) → side_of n ≡ Some (peer s) → WorldSteps gives i (event.Tick n 1) r j
-              → Link d at w (kn a true) s Wakes i → PeerIs PartnerInSync i → PeerIs PartnerInSync j
-          stays a n r i j numbered step l y =
-              let t = ticks gives n (peer s) r i j numbered step in
-              let P = EndIs d w (kn a true) s Wakes (peer s) in
+          stays : (a b : ℕ) → Within n a (suc b) → (m : ℕ) (r : Reply) (i j : WorldState) → side_of m ≡ Some (peer s)
+              → WorldSteps gives i (event.Tick m 1) r j → Link d at w (kn a b) s Wakes i → PeerIs PartnerInSync i → PeerIs PartnerInSync j
+          stays a b few m r i j numbered step l y =
+              let t = ticks gives m (peer s) r i j numbered step in
+              let P = EndIs d w (kn a b) s Wakes (peer s) in
+              let some : 1 ≤ c (peer s) - b - 1 = (let o = few.1 in omega (arith, o, known)) in
               Tick-each (λ m p. AtPort (at (peer s)) P m p × AtPort (at (peer s)) PartnerInSync m p) (AtPort (at (peer s)) PartnerInSync)
               (sync_settles (at (peer s)))
-              (λ m p q run e f. ticks_partner d (w (peer s)) (w (peer (peer s))) (c (peer s)) p q (omega (arith, known)) run
-              (subst (λ n. IsEnd d (w (peer s)) (w (peer (peer s))) n p) (two_other s (left a (c s)) (c (peer s))) (e.0 f).0) (e.1 f))
+              (λ m p q run e f. ticks_partner d (w (peer s)) (w (peer (peer s))) (c (peer s) - b) p q some run
+              (subst (λ n. IsEnd d (w (peer s)) (w (peer (peer s))) n p) (two_other s (c s - a) (c (peer s) - b)) (e.0 f).0) (e.1 f))
               (gives (peer s)) (half (peer s) i).state answer.Tick (half (peer s) j).state t.step
               (each_both (AtPort (at (peer s)) P) (AtPort (at (peer s)) PartnerInSync) (half (peer s) i).state.system_ports (l.ports (peer s)) y)

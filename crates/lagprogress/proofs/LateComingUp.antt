@@ -1,22 +1,23 @@
 -- How both ends of a cable come to distribute in late rounds.
-use Rattle.lagprogress.proofs.Common.{Bool, List, [], ap, arith, inl, inr, subst, sym, true, ℕ, ◌-◌, ◌∙◌, ◌∷◌, ◌≡◌, ◌≤◌, ◌⊎◌, AllByRecursion}
-use Rattle.lagprogress.proofs.Common.{is_selected, Lacpdu, One, Side, peer, Machines, is_synchronized, mux_rows, receive_rows, RunsToRest, count_down}
-use Rattle.lagprogress.proofs.Common.{Algorithms, ItemValue, WorldState, half, no, times_keep, AtPort, periodic_leaves, IsLateRound, LateRounds}
-use Rattle.lagprogress.proofs.Common.{OldArrive}
-use Rattle.lagprogress.proofs.EachRound.{played_split}
-use Rattle.lagprogress.proofs.ComingUp.{comes_up, Agrees, AreSynced, owed, synced_of}
+use Rattle.lagprogress.proofs.Common.{Bool, List, [], ap, arith, false, inl, inr, map, subst, suc, sym, true, zero, ℕ, ◌-◌, ◌∙◌, ◌∷◌, ◌≡◌, ◌≤◌, ◌⊎◌}
+use Rattle.lagprogress.proofs.Common.{AllByRecursion, is_selected, Lacpdu, One, Side, peer, Machines, is_synchronized, mux_rows, receive_rows}
+use Rattle.lagprogress.proofs.Common.{RunsToRest, count_down, Algorithms, link_ends, ItemValue, LinkState, WorldState, half, port_at, no, times_keep}
+use Rattle.lagprogress.proofs.Common.{AtPort, periodic_leaves, IsLateRound, LateRounds, OldArrive, SeveralBeside, most_ticks}
+use Rattle.lagprogress.proofs.EachRound.{joins_kept, joins_tick, played_split}
+use Rattle.lagprogress.proofs.ComingUp.{comes_up, Agrees, AgreesIn, AreSynced, agreed_on, agrees_in, owed, synced_in, synced_of}
 use Rattle.lagprogress.proofs.Quieting.{all_beside, PlayedBeside, as_beside}
 use Rattle.lagprogress.proofs.HostStamps.{Took-it}
 use Rattle.lagprogress.proofs.Climbing.{Rising, PartnerInSync, keeps_selected, ticks_still}
-use Rattle.lagprogress.proofs.Stamps.{Present}
-use Rattle.lagprogress.proofs.Knowing.{Met, Fresh, fits_fresh, fits_before, knows_late, stays_met, AtIt, beside}
+use Rattle.lagprogress.proofs.Stamps.{Present, Stamped}
+use Rattle.lagprogress.proofs.Knowing.{Leaves, Met, Fresh, fits_fresh, fits_before, knows_late, stays_met, AtIt, beside}
 use Rattle.lagprogress.proofs.Claims.{IsNamed}
 use Rattle.lagprogress.proofs.EndFacts.{Along, IsEnd, Synced, activity, synced_mux}
-use Rattle.lagprogress.proofs.LateHearing.{Whoever}
+use Rattle.lagprogress.proofs.LateHearing.{Whoever, ticks_stamp}
 use Rattle.lagprogress.proofs.LateFlow.{Past}
 use Rattle.lagprogress.proofs.LateStart.{counts_of, flush, kept_of}
 use Rattle.lagprogress.proofs.Linked.{Flying, IsGood, Link, each_map, peer_twice, same_items}
 use Rattle.lagprogress.proofs.OneRound.{Nothing, join, ticked}
+use Rattle.lagprogress.proofs.SeveralTicks.{keeps_ticks, once}
 use Rattle.lagprogress.proofs.Starting.{raised}
 use Rattle.lagprogress.proofs.Telling.{Bears, SaysIt, Tells, tells_map}
 
@@ -44,7 +45,7 @@ tells_which u v (x ∷ xs) H h = elim (tells_which u v xs (SaysIt u v x × (H �
   | inr (says, inr b) ↦ inl (inl b)
 ]
 
-present_of : (gives : Algorithms) (at : Side → ℕ) (old new : WorldState) (t : Side) → Took-it gives 1 at (counts_of at old) (kept_of at old) t new
+pub present_of : (gives : Algorithms) (at : Side → ℕ) (old new : WorldState) (t : Side) → Took-it gives 1 at (counts_of at old) (kept_of at old) t new
     → Present at t new
 present_of gives at old new t m there = grind arith
 
@@ -63,7 +64,7 @@ module _ (at : Side → ℕ) (w : Side → Lacpdu) (k : Side → ℕ) (kept : Si
       (synced_along (w x) (w (peer x)) (g.known x) 1 (omega arith) (omega (arith, l)))
       (synced_along (w x) (w (peer x)) (ticked g.known x) 1 (omega arith) (omega (arith, l)))
       (λ p q r rest a y. ticks_synced 1 (w x) (w (peer x)) (g.known x) p q (omega (arith, l)) r a y)
-      (λ p y. y) (λ p y f. y) (λ f. omega (arith, l)) old new (join 1 at w g.known One x Synced old g.link (synced x)) h
+      (λ p y. y) (λ p y f. y) (λ f. omega (arith, l)) old new (join 1 at w g.known One x Synced old g.link (synced x)) (once h)
 
   raises : (gives : Algorithms) (old new : WorldState) (g : Met at w k kept 1 old) → ((s : Side) → AtIt at w s Synced old)
       → PlayedBeside at OldArrive gives old new → Met at w k kept 2 new
@@ -155,3 +156,44 @@ comes_to_be_up gives at w named awake n old mid top new enough climb more g chos
           (all_beside at OldArrive gives 20 mid top climb) (late_turn at w k kept named awake gives top next.0 next.1)
           (all_beside at OldArrive gives (n - 1) next.0 new next.2),
     )
+
+-- so it is through rounds of several ticks
+
+pub several_agree : (gives : Algorithms) (l : LinkState) (w : Side → Lacpdu) (counts : Side → ℕ) (kept : Side → Bool) → ((t : Side) → IsNamed (w t))
+    → ((s : Side) → (activity (w s) ≡ true) ⊎ (activity (w (peer s)) ≡ true)) → (n : ℕ) (old new : WorldState) → SeveralBeside l gives n old new
+    → AgreesIn (λ s. port_at s l) w counts kept most_ticks old → AgreesIn (λ s. port_at s l) w counts kept most_ticks new
+several_agree gives l w counts kept named awake zero old new h c = subst (AgreesIn (λ s. port_at s l) w counts kept most_ticks) (sym h) c
+several_agree gives l w counts kept named awake (suc n) old new h c =
+    let few = h.4 in
+    agreed_on (λ s. port_at s l) w counts kept named awake most_ticks (omega arith) gives h.2 h.0 new leaves_several h.3 few (omega (arith, few)) h.5
+    (several_agree gives l w counts kept named awake n old h.0 h.1 c)
+  where
+    leaves_several : Leaves (λ s. port_at s l) w counts kept gives most_ticks 1
+    leaves_several true = omega arith
+    leaves_several false = omega arith
+
+pub several_synced : (gives : Algorithms) (l : LinkState) (w : Side → Lacpdu) → ((t : Side) → IsNamed (w t))
+    → ((s : Side) → (activity (w s) ≡ true) ⊎ (activity (w (peer s)) ≡ true)) → (n : ℕ) (old mid new : WorldState)
+    → Up (λ s. port_at s l) w old mid → SeveralBeside l gives n mid new → AreSynced (λ s. port_at s l) w new
+several_synced gives l w named awake n old mid new up h =
+    let at : Side → ℕ = λ s. port_at s l in
+    let counts = counts_of at old in
+    let kept = kept_of at old in
+    synced_in at w counts kept named awake most_ticks (omega arith) new (λ s stamped took. present_of gives at old new s (stamped, took))
+    (several_agree gives l w counts kept named awake n mid new h
+    (agrees_in at w counts kept named awake most_ticks (omega arith) up.0 mid (omega arith) up.1 up.2))
+
+-- and a port at an end of the cable has a history, and the cables stand where they stood
+
+pub several_stamped : (gives : Algorithms) (l : LinkState) (k : Side → ℕ) (kept : Side → Bool) (n : ℕ) (old new : WorldState)
+    → SeveralBeside l gives n old new → Stamped 0 (λ s. port_at s l) k kept old → Stamped 0 (λ s. port_at s l) k kept new
+several_stamped gives l k kept zero old new h c = subst (Stamped 0 (λ s. port_at s l) k kept) (sym h) c
+several_stamped gives l k kept (suc n) old new h c =
+    ticks_stamp 0 gives (λ s. port_at s l) k kept h.2 h.0 new h.5 (several_stamped gives l k kept n old h.0 h.1 c)
+
+pub several_join : (gives : Algorithms) (l : LinkState) (n : ℕ) (old new : WorldState) → SeveralBeside l gives n old new
+    → map link_ends new.links ≡ map link_ends old.links
+several_join gives l zero old new h = ap (λ (j : WorldState). map link_ends j.links) h
+several_join gives l (suc n) old new h =
+    keeps_ticks OldArrive (λ s. port_at s l) gives h.2 (λ j. map link_ends j.links ≡ map link_ends old.links) (joins_kept (λ s. port_at s l) gives old.links)
+    (λ s. joins_tick gives old.links s) h.0 new h.5 (several_join gives l n old h.0 h.1)

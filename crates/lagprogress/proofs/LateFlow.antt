@@ -1,9 +1,10 @@
 -- What a run leaves of the items that were on a cable, by the number of them that arrive.
-use Rattle.lagprogress.proofs.Common.{Bool, List, Option, Result, Some, [], ap, arith, false, inl, inr, length, map, refl, slice_get, subst, suc, sym}
-use Rattle.lagprogress.proofs.Common.{true, zero, ℕ, ◌++◌, ◌==◌, ◌∙◌, ◌∷◌, ◌≡◌, ◌⊎◌, cases_Bool, nat_tests, same_Some, AllByRecursion, all-append}
-use Rattle.lagprogress.proofs.Common.{One, Side, end_at, peer, value_of, SystemFault, Received, Receive, CallPromise, SystemState, Reply, Algorithms}
-use Rattle.lagprogress.proofs.Common.{DeliversFrom, WorldSteps, side_of, link_ends, ItemValue, LinkState, WorldState, half, towards, end_is}
-use Rattle.lagprogress.proofs.Common.{HostEvent, Plays, LeavesPorts, RunReplies, StepReplies, TickOnceAmong, ArriveIn, IsArrivalAt}
+use Rattle.lagprogress.proofs.Common.{List, Option, Result, Some, [], ap, arith, inl, inr, length, map, refl, slice_get, subst, suc, sym, zero, ℕ}
+use Rattle.lagprogress.proofs.Common.{◌++◌, ◌==◌, ◌∙◌, ◌∷◌, ◌≡◌, ◌⊎◌, cases_Bool, nat_tests, same_Some, AllByRecursion, all-append, One, Side, end_at}
+use Rattle.lagprogress.proofs.Common.{peer, value_of, SystemFault, Received, Receive, CallPromise, SystemState, Reply, Algorithms, DeliversFrom}
+use Rattle.lagprogress.proofs.Common.{WorldSteps, side_of, link_ends, ItemValue, LinkState, WorldState, half, towards, end_is, HostEvent, Plays}
+use Rattle.lagprogress.proofs.Common.{LeavesPorts, RunReplies, StepReplies, ArriveIn, IsArrivalAt, TicksAmong}
+use Rattle.lagprogress.proofs.SeveralTicks.{Within, within}
 use Rattle.lagsystem.specs.declared.drive.Reply.TheVariants as answer
 use Rattle.lagscript.specs.declared.event.Event.TheVariants as event
 use Rattle.lagprogress.proofs.Delivering.{responds_none}
@@ -224,30 +225,42 @@ stays_there x y at fl now old new c d e =
 pub between_at : (at : Side → ℕ) {t : Side} {x : ℕ} {e : HostEvent} → IsArrivalAt t x e → LeavesPorts at e
 between_at at come = subst (LeavesPorts at) (sym come.2) tt
 
-module _ (gives : Algorithms) (s t : Side) (x : ℕ) (at : Side → ℕ) (A : ℕ → Bool → Bool → WorldState → Type 0)
-    (kept : (k : ℕ) (a b : Bool) → KeptBeside at gives (A k a b))
-    (comes : (k : ℕ) (a b : Bool) (e : HostEvent) (r : Reply) (i j : WorldState) → IsArrivalAt t x e → StepReplies gives i e r j → A (suc k) a b i
+module _ (gives : Algorithms) (n : ℕ) (s t : Side) (x : ℕ) (at : Side → ℕ) (A : ℕ → ℕ → ℕ → WorldState → Type 0)
+    (kept : (k a b : ℕ) → Within n a b → KeptBeside at gives (A k a b))
+    (comes : (k a b : ℕ) → Within n a b → (e : HostEvent) (r : Reply) (i j : WorldState) → IsArrivalAt t x e → StepReplies gives i e r j → A (suc k) a b i
     → A k a b j)
-    (own : (k : ℕ) (b : Bool) → MadeByTick gives s (A k true b) (A k false b))
-    (other : (k : ℕ) (a : Bool) → MadeByTick gives (peer s) (A k a true) (A k a false)) where
+    (own : (k a b : ℕ) → Within n (suc a) b → MadeByTick gives s (A k a b) (A k (suc a) b))
+    (other : (k a b : ℕ) → Within n a (suc b) → MadeByTick gives (peer s) (A k a b) (A k a (suc b))) where
   -- an event that need not be an arrival
-  step_on : (e : HostEvent) (es : List HostEvent) (r : Reply) (i j : WorldState) (k : ℕ) (a b : Bool) → TickOnceAmong (LeavesPorts at) s a b (e ∷ es)
-      → StepReplies gives i e r j → A k a b i → (c : Bool) × (d : Bool) × TickOnceAmong (LeavesPorts at) s c d es × A k c d j
-  step_on e es r i j k a b hyp1 hyp2 hyp3 = grind (arith, nat_tests, false, other)
+  step_on : (e : HostEvent) (es : List HostEvent) (r : Reply) (i j : WorldState) (k a b : ℕ) → TicksAmong (LeavesPorts at) n s a b (e ∷ es)
+      → StepReplies gives i e r j → A k a b i → (c : ℕ) × (d : ℕ) × TicksAmong (LeavesPorts at) n s c d es × A k c d j
+  step_on e es r i j k a b (inl (m, h)) run y = (
+    suc a,
+    b,
+    h,
+    own k a b (within (LeavesPorts at) n s es (suc a) b h) m.0 r i j m.1 (subst (λ z. StepReplies gives i z r j) m.2 run) y,
+  )
+  step_on e es r i j k a b (inr (inl (m, h))) run y = (
+    a,
+    suc b,
+    h,
+    other k a b (within (LeavesPorts at) n s es a (suc b) h) m.0 r i j m.1 (subst (λ z. StepReplies gives i z r j) m.2 run) y,
+  )
+  step_on e es r i j k a b (inr (inr h)) run y = (a, b, h.1, kept k a b (within (LeavesPorts at) n s es a b h.1) e r i j h.0 run y)
 
-  pub counted_on : (es : List HostEvent) (rs : List Reply) (i j : WorldState) (k : ℕ) (a b : Bool) → TickOnceAmong (LeavesPorts at) s a b es
-      → ArriveIn k t x es → RunReplies gives i es rs j → A k a b i → A 0 false false j
+  pub counted_on : (es : List HostEvent) (rs : List Reply) (i j : WorldState) (k a b : ℕ) → TicksAmong (LeavesPorts at) n s a b es
+      → ArriveIn k t x es → RunReplies gives i es rs j → A k a b i → A 0 n n j
   counted_on [] [] i j zero a b h come run y =
-      subst (λ x. A 0 false false x) (sym run) (subst (λ x. A 0 false x i) h.1 (subst (λ x. A 0 x b i) h.0 y))
+      subst (λ x. A 0 n n x) (sym run) (subst (λ x. A 0 n x i) h.1 (subst (λ x. A 0 x b i) h.0 y))
   counted_on [] [] i j (suc k) a b h come run y = absurd come
   counted_on (e ∷ es) (r ∷ rs) i j zero a b h come run y =
       let m = step_on e es r i run.0 0 a b h run.1 y in counted_on es rs run.0 j 0 m.0 m.1 m.2 tt run.2 m.3
   counted_on (e ∷ es) (r ∷ rs) i j (suc k) a b h (inr come) run y =
       let m = step_on e es r i run.0 (suc k) a b h run.1 y in counted_on es rs run.0 j (suc k) m.0 m.1 m.2 come run.2 m.3
-  counted_on (e ∷ es) (r ∷ rs) i j (suc k) a b (inl h) (inl come) run y = absurd (not_tick (LeavesPorts at) (λ n b. b) s e h.0 (between_at at come.0))
-  counted_on (e ∷ es) (r ∷ rs) i j (suc k) a b (inr (inl h)) (inl come) run y = absurd (not_tick (LeavesPorts at) (λ n b. b) (peer s) e h.0 (between_at at come.0))
+  counted_on (e ∷ es) (r ∷ rs) i j (suc k) a b (inl h) (inl come) run y = absurd (not_tick (LeavesPorts at) (λ m b. b) s e h.0 (between_at at come.0))
+  counted_on (e ∷ es) (r ∷ rs) i j (suc k) a b (inr (inl h)) (inl come) run y = absurd (not_tick (LeavesPorts at) (λ m b. b) (peer s) e h.0 (between_at at come.0))
   counted_on (e ∷ es) (r ∷ rs) i j (suc k) a b (inr (inr h)) (inl come) run y =
-      counted_on es rs run.0 j k a b h.1 come.1 run.2 (comes k a b e r i run.0 come.0 run.1 y)
+      counted_on es rs run.0 j k a b h.1 come.1 run.2 (comes k a b (within (LeavesPorts at) n s es a b h.1) e r i run.0 come.0 run.1 y)
   counted_on es rs i j k a b h come run y = absurd run
 
 -- and so what is on the cable in the end has come to it in the run
@@ -258,20 +271,21 @@ pub record Past (t : Side) (x : ℕ) (at : Side → ℕ) (P : ItemValue → Type
   pub on : OnCable x at flying j.links
   pub items : Beyond P k (flying t)
 
-module _ (gives : Algorithms) (s t : Side) (x : ℕ) (at : Side → ℕ) (P : ItemValue → Type 0) (M : Bool → Bool → WorldState → Type 0)
+module _ (gives : Algorithms) (n : ℕ) (s t : Side) (x : ℕ) (at : Side → ℕ) (P : ItemValue → Type 0) (M : ℕ → ℕ → WorldState → Type 0)
     (plain : (item : ItemValue) → IsPlain item → P item)
-    (sends : (a b : Bool) (fl : Side → List ItemValue) (i j : WorldState) → M a b i → OnCable x at fl i.links
+    (sends : (a b : ℕ) → Within n a b → (fl : Side → List ItemValue) (i j : WorldState) → M a b i → OnCable x at fl i.links
     → (k : Asks gives (peer t) at fl i j) → (k.now t ≡ fl t) ⊎ Adds P (fl t) (k.now t))
-    (kept : (a b : Bool) → KeptBeside at gives (M a b))
-    (own : (b : Bool) → MadeByTick gives s (M true b) (M false b)) (other : (a : Bool) → MadeByTick gives (peer s) (M a true) (M a false)) where
-  abbrev A : ℕ → Bool → Bool → WorldState → Type 0
+    (kept : (a b : ℕ) → Within n a b → KeptBeside at gives (M a b))
+    (own : (a b : ℕ) → Within n (suc a) b → MadeByTick gives s (M a b) (M (suc a) b))
+    (other : (a b : ℕ) → Within n a (suc b) → MadeByTick gives (peer s) (M a b) (M a (suc b))) where
+  abbrev A : ℕ → ℕ → ℕ → WorldState → Type 0
   A k a b j = M a b j × Past t x at P k j
 
-  kept_past : (k : ℕ) (a b : Bool) → KeptBeside at gives (A k a b)
-  kept_past k a b e r i j q h (m, p) =
+  kept_past : (k a b : ℕ) → Within n a b → KeptBeside at gives (A k a b)
+  kept_past k a b l e r i j q h (m, p) =
       let f = flows gives t x at p.flying r i j p.on e q h in
       let same = stays_there x f.index at p.flying f.now i j p.on f.on (joins_kept at gives i.links e r i j q h refl) in (
-        kept a b e r i j q h m,
+        kept a b l e r i j q h m,
         record {
           flying = f.now;
           on = subst (λ y. OnCable y at f.now j.links) same f.on;
@@ -279,7 +293,7 @@ module _ (gives : Algorithms) (s t : Side) (x : ℕ) (at : Side → ℕ) (P : It
             | inl y ↦ subst (Beyond P k) (sym y) p.items
             | inr (inl (item, none, y)) ↦ subst (Beyond P k) (sym y) (beyond_push P k (p.flying t) item (plain item none) p.items)
             | inr (inr (inl (item, come, y))) ↦ beyond_pop P k item (f.now t) (subst (Beyond P k) y p.items)
-            | inr (inr (inr (y, is))) ↦ subst (λ (g : Side → List ItemValue). Beyond P k (g t)) (sym is) (elim (sends a b p.flying i j m p.on y) [
+            | inr (inr (inr (y, is))) ↦ subst (λ (g : Side → List ItemValue). Beyond P k (g t)) (sym is) (elim (sends a b l p.flying i j m p.on y) [
               | inl z ↦ subst (Beyond P k) (sym z) p.items
               | inr (item, good, z) ↦ subst (Beyond P k) (sym z) (beyond_push P k (p.flying t) item good p.items)
             ])
@@ -287,9 +301,9 @@ module _ (gives : Algorithms) (s t : Side) (x : ℕ) (at : Side → ℕ) (P : It
         },
       )
 
-  comes_past : (k : ℕ) (a b : Bool) (e : HostEvent) (r : Reply) (i j : WorldState) → IsArrivalAt t x e → StepReplies gives i e r j → A (suc k) a b i
+  comes_past : (k a b : ℕ) → Within n a b → (e : HostEvent) (r : Reply) (i j : WorldState) → IsArrivalAt t x e → StepReplies gives i e r j → A (suc k) a b i
       → A k a b j
-  comes_past k a b e r i j come h (m, p) = (kept a b e r i j (between_at at come) h m, past)
+  comes_past k a b l e r i j come h (m, p) = (kept a b l e r i j (between_at at come) h m, past)
     where
       past : Past t x at P k j
       past = elim (comes_in gives come.0 x t at p.flying r i j come.1 p.on (subst (λ y. StepReplies gives i y r j) come.2 h)) [
@@ -307,12 +321,12 @@ module _ (gives : Algorithms) (s t : Side) (x : ℕ) (at : Side → ℕ) (P : It
             })
       ]
 
-  past_tick : (u : Side) (k : ℕ) (a b c d : Bool) → MadeByTick gives u (M a b) (M c d) → MadeByTick gives u (A k a b) (A k c d)
-  past_tick u k a b c d made n r i j named h (m, p) = grind (arith, nat_tests, ticks)
+  past_tick : (u : Side) (k a b c d : ℕ) → MadeByTick gives u (M a b) (M c d) → MadeByTick gives u (A k a b) (A k c d)
+  past_tick u k a b c d made number r i j named h (m, p) = grind (arith, nat_tests, ticks)
 
   pub cleared_on : (es : List HostEvent) (rs : List Reply) (fl : Side → List ItemValue) (i j : WorldState) → OnCable x at fl i.links
-      → TickOnceAmong (LeavesPorts at) s true true es → ArriveIn (length (fl t)) t x es → RunReplies gives i es rs j → M true true i
-      → M false false j × Past t x at P 0 j
-  cleared_on es rs fl i j c h come run m = counted_on gives s t x at A kept_past comes_past
-      (λ k b. past_tick s k true b false b (own b)) (λ k a. past_tick (peer s) k a true a false (other a))
-      es rs i j (length (fl t)) true true h come run (m, record { flying = fl; on = c; items = beyond_first P (fl t) })
+      → TicksAmong (LeavesPorts at) n s 0 0 es → ArriveIn (length (fl t)) t x es → RunReplies gives i es rs j → M 0 0 i
+      → M n n j × Past t x at P 0 j
+  cleared_on es rs fl i j c h come run m = counted_on gives n s t x at A kept_past comes_past
+      (λ k a b l. past_tick s k a b (suc a) b (own a b l)) (λ k a b l. past_tick (peer s) k a b a (suc b) (other a b l))
+      es rs i j (length (fl t)) 0 0 h come run (m, record { flying = fl; on = c; items = beyond_first P (fl t) })

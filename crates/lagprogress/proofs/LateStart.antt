@@ -1,11 +1,12 @@
 -- What is known of the items on a cable after a late round: all of them were sent in it.
-use Rattle.lagprogress.proofs.Common.{Bool, List, Some, [], ap, arith, false, inl, inr, is_some, length, refl, subst, sym, true, ℕ, ◌++◌, ◌-◌, ◌∙◌}
-use Rattle.lagprogress.proofs.Common.{◌∷◌, ◌≡◌, ◌≤◌, ◌⊎◌, AllByRecursion, Lacpdu, One, Side, peer, Machines, periodic_rows, receive_rows, AtRest}
+use Rattle.lagprogress.proofs.Common.{Bool, List, Some, [], ap, arith, inl, inr, is_some, length, refl, subst, suc, sym, zero, ℕ, ◌++◌, ◌-◌, ◌∙◌, ◌∷◌}
+use Rattle.lagprogress.proofs.Common.{◌≡◌, ◌≤◌, ◌⊎◌, AllByRecursion, Lacpdu, One, Side, peer, Machines, periodic_rows, receive_rows, AtRest}
 use Rattle.lagprogress.proofs.Common.{RunsToRest, after_sending, count_down, Algorithms, ItemValue, WorldState, change_count_in, half, history_at}
 use Rattle.lagprogress.proofs.Common.{OfEach, AtPort, ArriveIn, OldArrive, IsHealthyAt}
 use Rattle.lagprogress.proofs.EndFacts.{Along, IsEnd, Suits, Synced, nothing_along}
-use Rattle.lagprogress.proofs.HostRound.{KeptBeside, between, fits_in, healthy_link, host_keeps, known_in, left, none_ticked, all_ticked, side_beside}
-use Rattle.lagprogress.proofs.HostRound.{own_holds, peer_holds, two_there}
+use Rattle.lagprogress.proofs.HostRound.{KeptBeside, MadeByTick, between, healthy_link, two_there}
+use Rattle.lagprogress.proofs.SeveralTicks.{TicksBeside, Within, all_counted, fits_at, known_at, no_less, none_counted, once, own_at, peer_at}
+use Rattle.lagprogress.proofs.SeveralTicks.{side_turns, ticks_keep}
 use Rattle.lagprogress.proofs.HostStamps.{stamped_between, stamped_tick}
 use Rattle.lagprogress.proofs.LateFlow.{Adds, Past, cleared_on, gain_at}
 use Rattle.lagprogress.proofs.Linked.{Fits, IsGood, Link, of_end, other_ports, peer_twice, push_there, told_good, same_items}
@@ -17,7 +18,7 @@ use Rattle.lagprogress.proofs.Starting.{raised}
 
 -- as many arrive as were on the cable
 arriving : (gives : Algorithms) (at : Side → ℕ) (x : ℕ) (fl : Side → List ItemValue) (old new : WorldState) → IsHealthyAt x (cable at fl) old
-    → (h : PlayedBeside at OldArrive gives old new) → (t : Side) → ArriveIn (length (fl t)) t x h.events
+    → (h : TicksBeside 1 at OldArrive gives old new) → (t : Side) → ArriveIn (length (fl t)) t x h.events
 arriving gives at x fl old new healthy h t =
     subst (λ xs. ArriveIn (length xs) t x h.events) (towards_there t at fl) (h.empties t x (cable at fl) healthy)
 
@@ -28,32 +29,29 @@ module _ (gives : Algorithms) (d e : ℕ) (at : Side → ℕ) (w : Side → Lacp
     (moves : (p q : Machines) → RunsToRest receive_rows (count_down p) q → AtRest periodic_rows p
     → IsEnd d (w (peer t)) (w (peer (peer t))) (c (peer t)) p → Y p → Y q)
     (sends : (p : Machines) → Y p → Y (after_sending p)) (synced : (p : Machines) → Y p → 2 ≤ e → Synced p) (some : 2 ≤ e → 1 ≤ c (peer t) - 1) where
-  abbrev M : Bool → Bool → WorldState → Type 0
-  M a b j = Link d at w (known_in c (peer t) a b) (peer t) Y j
+  abbrev M : ℕ → ℕ → WorldState → Type 0
+  M a b j = Link d at w (known_at c (peer t) a b) (peer t) Y j
 
-  along : (a : Bool) → Along Y (w (peer t)) (w (peer (peer t))) (left a (c (peer t))) d
-  along true = first
-  along false = last
+  along : (a : ℕ) → a ≤ 1 → Along Y (w (peer t)) (w (peer (peer t))) (c (peer t) - a) d
+  along zero l = subst (λ n. Along Y (w (peer t)) (w (peer (peer t))) n d) (sym (no_less (c (peer t)))) first
+  along (suc zero) l = last
+  along (suc (suc a)) l = absurd (omega (arith, l))
 
-  here : (a b : Bool) → known_in c (peer t) a b (peer t) ≡ left a (c (peer t))
-  here a b = two_there (peer t) (left a (c (peer t))) (left b (c (peer (peer t))))
+  here : (a b : ℕ) → known_at c (peer t) a b (peer t) ≡ c (peer t) - a
+  here a b = two_there (peer t) (c (peer t) - a) (c (peer (peer t)) - b)
 
-  known : (a b : Bool) → 2 ≤ e → 1 ≤ known_in c (peer t) a b (peer t)
-  known a b f = subst (λ n. 1 ≤ n) (sym (here a b)) (either a (some f))
-    where
-      either : (a : Bool) → 1 ≤ c (peer t) - 1 → 1 ≤ left a (c (peer t))
-      either true l = omega (arith, l)
-      either false l = l
+  known : (a b : ℕ) → Within 1 a b → 2 ≤ e → 1 ≤ known_at c (peer t) a b (peer t)
+  known a b l f = subst (λ n. 1 ≤ n) (sym (here a b)) (let k = some f in let m = l.0 in omega (arith, k, m))
 
-  sent : (a b : Bool) (fl : Side → List ItemValue) (i j : WorldState) (x : ℕ) → M a b i → OnCable x at fl i.links
+  sent : (a b : ℕ) → Within 1 a b → (fl : Side → List ItemValue) (i j : WorldState) (x : ℕ) → M a b i → OnCable x at fl i.links
       → (k : Asks gives (peer t) at fl i j) → (k.now t ≡ fl t) ⊎ Adds (IsGood e w t) (fl t) (k.now t)
-  sent a b fl i j x m on k = elim (gain_at t (sent_frame k.a) fl k.now k.went) [
+  sent a b l fl i j x m on k = elim (gain_at t (sent_frame k.a) fl k.now k.went) [
     | inl y ↦ inl y
     | inr (item, is, y) ↦ inr (item, good item is, y)
   ]
     where
       cc : ℕ
-      cc = known_in c (peer t) a b (peer t)
+      cc = known_at c (peer t) a b (peer t)
 
       ends : OfEach (AtPort (at (peer t)) (IsEnd e (w (peer t)) (w (peer (peer t))) cc)) (half (peer t) i).state.system_ports
       ends = of_end m (peer t) (IsEnd e (w (peer t)) (w (peer (peer t))) cc) (λ p rest timed y. (y.0.0, y.0.1, λ f. synced p (y.1 refl) f))
@@ -61,36 +59,41 @@ module _ (gives : Algorithms) (d e : ℕ) (at : Side → ℕ) (w : Side → Lacp
       good : (item : ItemValue) → sent_frame k.a ≡ Some item.octets → IsGood e w t item
       good item is v carries = subst (λ u. Suits e (w u) (w (peer t)) v) (peer_twice t)
           (told_good e (w (peer t)) (w (peer (peer t))) cc (gives (peer t)) (at (peer t)) k.a (half (peer t) i).state (half (peer t) j).state
-          (known a b) k.promise ends item.octets is v carries)
+          (known a b l) k.promise ends item.octets is v carries)
 
-  kept : (a b : Bool) → KeptBeside at gives (M a b)
-  kept a b = between gives d at w (known_in c (peer t) a b) (peer t) Y (fits_in d w c (peer t) fits then a b)
-      (subst (λ n. Along Y (w (peer t)) (w (peer (peer t))) n d) (sym (here a b)) (along a)) sends
+  kept : (a b : ℕ) → Within 1 a b → KeptBeside at gives (M a b)
+  kept a b l = between gives d at w (known_at c (peer t) a b) (peer t) Y (fits_at d w c (peer t) 1 fits then a b l)
+      (subst (λ n. Along Y (w (peer t)) (w (peer (peer t))) n d) (sym (here a b)) (along a l.0)) sends
+
+  made : (a b : ℕ) → Within 1 (suc a) b → MadeByTick gives (peer t) (M a b) (M (suc a) b)
+  made zero b l = own_at gives (peer t) d at w c 1 Y Y then 0 b l last
+      (λ p q run rest y. moves p q run rest (subst (λ n. IsEnd d (w (peer t)) (w (peer (peer t))) n p) (no_less (c (peer t))) y))
+  made (suc a) b l = absurd (let k = l.0 in omega (arith, k))
 
   -- so it is after a late round
-  pub flush : (old new : WorldState) (l : Link d at w c (peer t) Y old) → PlayedBeside at OldArrive gives old new
+  pub flush : (old new : WorldState) (l : Link d at w c (peer t) Y old) → TicksBeside 1 at OldArrive gives old new
       → Link d at w (ticked c) (peer t) Y new × (x : ℕ) × Past t x at (IsGood e w t) 0 new
   flush old new l h =
       let come = arriving gives at l.index l.flying old new (healthy_link d at w c (peer t) Y old l) h t in
-      let r = cleared_on gives (peer t) t l.index at (IsGood e w t) M (λ item plain v carries. absurd (plain (v, carries)))
-      (λ a b fl i j m on k. sent a b fl i j l.index m on k) kept
-      (λ b. own_holds gives (peer t) d at w c Y Y then last moves b)
-      (λ a. peer_holds gives (peer t) d at w c Y then a (along a))
-      h.events h.replies l.flying old new l.links (side_beside at (peer t) h.events h.ticks) come h.acts (none_ticked d at w c (peer t) (peer t) Y old l) in
-      (all_ticked d at w c (peer t) (peer t) Y new r.0, l.index, r.1)
+      let r = cleared_on gives 1 (peer t) t l.index at (IsGood e w t) M (λ item plain v carries. absurd (plain (v, carries)))
+      (λ a b k fl i j m on q. sent a b k fl i j l.index m on q) kept made
+      (λ a b k. peer_at gives (peer t) d at w c 1 Y then a b k (along a k.0))
+      h.events h.replies l.flying old new l.links (side_turns at 1 (peer t) h.events h.turns) come h.acts
+      (none_counted d at w c (peer t) (peer t) Y old l) in
+      (all_counted d at w c (peer t) (peer t) 1 Y new r.0, l.index, r.1)
 
 -- and bears the present change count
 stamps_flush : (gives : Algorithms) (at k : Side → ℕ) (kept : Side → Bool) (t : Side) (old new : WorldState) (l : Stamped 0 at k kept old)
-    → IsHealthyAt l.index (cable at l.flying) old → PlayedBeside at OldArrive gives old new
+    → IsHealthyAt l.index (cable at l.flying) old → TicksBeside 1 at OldArrive gives old new
     → Stamped 0 at k kept new × Past t l.index at (IsStamped (k (peer t))) 0 new
-stamps_flush gives at k kept t old new l healthy h = cleared_on gives One t l.index at (IsStamped (k (peer t))) (λ a b j. Stamped 0 at k kept j)
-    (λ item plain v carries. absurd (plain (v, carries))) sent (λ a b. stamped_between gives 0 at k kept)
-    (λ b. stamped_tick gives 0 at k kept One) (λ a. stamped_tick gives 0 at k kept (peer One))
-    h.events h.replies l.flying old new l.links (side_beside at One h.events h.ticks) (arriving gives at l.index l.flying old new healthy h t) h.acts l
+stamps_flush gives at k kept t old new l healthy h = cleared_on gives 1 One t l.index at (IsStamped (k (peer t))) (λ a b j. Stamped 0 at k kept j)
+    (λ item plain v carries. absurd (plain (v, carries))) sent (λ a b m. stamped_between gives 0 at k kept)
+    (λ a b m. stamped_tick gives 0 at k kept One) (λ a b m. stamped_tick gives 0 at k kept (peer One))
+    h.events h.replies l.flying old new l.links (side_turns at 1 One h.events h.turns) (arriving gives at l.index l.flying old new healthy h t) h.acts l
   where
-    sent : (a b : Bool) (fl : Side → List ItemValue) (i j : WorldState) → Stamped 0 at k kept i → OnCable l.index at fl i.links
+    sent : (a b : ℕ) → Within 1 a b → (fl : Side → List ItemValue) (i j : WorldState) → Stamped 0 at k kept i → OnCable l.index at fl i.links
         → (y : Asks gives (peer t) at fl i j) → (y.now t ≡ fl t) ⊎ Adds (IsStamped (k (peer t))) (fl t) (y.now t)
-    sent a b fl i j m on y = elim y.stamps [
+    sent a b few fl i j m on y = elim y.stamps [
       | inl same ↦ inl (ap (λ (f : Side → List ItemValue). f t) same)
       | inr (item, is, more) ↦ inr (
         item,
@@ -110,7 +113,7 @@ kept_of at j s = is_some (history_at (half s j).histories (at s))
 pub first_late : (gives : Algorithms) (at : Side → ℕ) (w : Side → Lacpdu) (old new : WorldState) → Link 0 at w (λ _. 0) One Nothing old
     → PlayedBeside at OldArrive gives old new → Link 1 at w (λ _. 0) One Nothing new × Stamped 1 at (counts_of at old) (kept_of at old) new
 first_late gives at w old new l h =
-    let base : Link 0 at w (λ _. 0) One Nothing new = other_ports (host_keeps gives One 0 at w (λ _. 0) old new fit then l h)
+    let base : Link 0 at w (λ _. 0) One Nothing new = other_ports (ticks_keep gives 1 One 0 at w (λ _. 0) old new fit then l (once h))
     (λ s p rest timed a. (a.0, a.1)) in (
       raised at w 0 1 (λ _. 0) One Nothing new (λ s. of_end base s (λ p. 2 ≤ 1 → Synced p) (λ p rest timed a f. absurd (omega (arith, f)))) base
           (λ t. let p = (good t).2 in
@@ -135,7 +138,7 @@ first_late gives at w old new l h =
     good : (t : Side) → Link 0 at w (ticked (λ _. 0)) (peer t) Nothing new × (x : ℕ) × Past t x at (IsGood 1 w t) 0 new
     good t = flush gives 0 1 at w (λ _. 0) t Nothing fit then (nothing_along (w (peer t)) (w (peer (peer t))) 0 0)
         (nothing_along (w (peer t)) (w (peer (peer t))) 0 0) (λ p q run rest a y. y) (λ p y. y) (λ p y f. absurd (omega (arith, f)))
-        (λ f. absurd (omega (arith, f))) old new (other_ports l (λ s p rest timed a. (a.0, λ f. tt))) h
+        (λ f. absurd (omega (arith, f))) old new (other_ports l (λ s p rest timed a. (a.0, λ f. tt))) (once h)
 
     stamps : (t : Side) → Stamped 0 at (counts_of at old) (kept_of at old) new × Past t l.index at (IsStamped (counts_of at old (peer t))) 0 new
     stamps t = stamps_flush gives at (counts_of at old) (kept_of at old) t old new (record {
@@ -145,4 +148,4 @@ first_late gives at w old new l h =
       counts = λ s. refl;
       there = λ s. refl;
       items = λ one. absurd (omega (arith, one));
-    }) (healthy_link 0 at w (λ _. 0) One Nothing old l) h
+    }) (healthy_link 0 at w (λ _. 0) One Nothing old l) (once h)

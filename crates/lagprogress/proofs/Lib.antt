@@ -18,6 +18,7 @@ mod Climbing
 mod Quieting
 mod HostSteady
 mod HostRound
+mod SeveralTicks
 mod HostStamps
 mod HostTelling
 mod LateFlow

@@ -1,11 +1,11 @@
 -- What a healthy round leaves of a cable: an LACPDU of an end is nearer by a tick, or was heard.
 use Rattle.lagprogress.proofs.Common.{Bool, Err, List, None, Ok, Option, Result, Some, [], arith, false, inl, inr, refl, slice_get, subst, suc, sym}
-use Rattle.lagprogress.proofs.Common.{true, zero, ℕ, ◌++◌, ◌-◌, ◌∙◌, ◌∷◌, ◌≡◌, ◌≤◌, ◌⊎◌, nat_tests, none-some, same_Some, AllByRecursion, Lacpdu}
-use Rattle.lagprogress.proofs.Common.{Side, peer, Machines, is_silent, periodic_rows, receive_rows, AtRest, RunsToRest, count_down, is_due, pdu_of}
+use Rattle.lagprogress.proofs.Common.{true, zero, ℕ, ◌-◌, ◌∙◌, ◌∷◌, ◌≡◌, ◌≤◌, ◌⊎◌, nat_tests, none-some, same_Some, AllByRecursion, Lacpdu, Side}
+use Rattle.lagprogress.proofs.Common.{peer, Machines, is_silent, periodic_rows, receive_rows, AtRest, RunsToRest, count_down, is_due, pdu_of}
 use Rattle.lagprogress.proofs.Common.{SystemFault, SystemPort, Step, Transmit, IsLacpduOf, SystemState, port_index, Event, Reply, Algorithms}
 use Rattle.lagprogress.proofs.Common.{WorldSteps, side_of, ItemValue, LinkState, WorldState, half, IsTimed, OfEach, no, AtPort, Sounds, now_due}
 use Rattle.lagprogress.proofs.Common.{asks_all}
-use Rattle.lagprogress.proofs.EndFacts.{Along, CanSound, IsEnd, both_along, calm, nothing_along, sounds_along, ticks_sounds, constant_along}
+use Rattle.lagprogress.proofs.EndFacts.{Along, CanSound, IsEnd, both_along, nothing_along, sounds_along, constant_along}
 use Rattle.lagprogress.proofs.OneCable.{Went}
 use Rattle.lagprogress.proofs.Passing.{lacpdu_is_sent, sends_due, sent_carries}
 use Rattle.lagprogress.proofs.Linked.{EndIs, Fits, Flying, Link, each_side, emit_link, HasLacpdu, has_last, other_side, push_there, other_ports}
@@ -132,14 +132,3 @@ Later fast most p = (1 ≤ most) × Sounds fast most p
 pub later_along : (v u : Lacpdu) (fast : Bool) (c d most : ℕ) → CanSound v u fast c → Along (Later fast most) v u c d
 later_along v u fast c d most can =
     both_along (λ p. 1 ≤ most) (Sounds fast most) v u c d (constant_along (1 ≤ most) v u c d) (sounds_along v u fast c d most can)
-
-pub sounds_pass : (v u : Lacpdu) (fast : Bool) (before c d most : ℕ) → CanSound v u fast before → CanSound v u fast c
-    → Passes (Sounds fast most) (Sounds fast (most - 1)) (Sounds fast (most - 1)) (Later fast (most - 1)) v u before c d
-sounds_pass v u fast before c d most was can = record {
-  ticks = λ p q r rest a y. ticks_sounds d v u fast before most p q was r rest a y;
-  ticked = sounds_along v u fast c d (most - 1) can;
-  rests = λ p rest timed a y. y;
-  waits = sounds_along v u fast c d (most - 1) can;
-  asks = λ p rest timed a y not. (still_sounds fast (most - 1) p rest (calm d v u fast c p can a).0 not y, y);
-  asked = later_along v u fast c d (most - 1) can;
-}

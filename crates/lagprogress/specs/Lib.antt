@@ -13,6 +13,7 @@ pub mod CutOff
 pub mod HostRounds
 pub mod LateRounds
 pub mod Beside
+pub mod Several
 pub mod HostFreed
 pub mod PlayedByHosts
 pub mod Together

@@ -4,6 +4,7 @@ ghost use Rattle.lagworld.specs.Sound.{both_algorithms};
 ghost use Rattle.lagprogress.specs.Beside.{AskingIsRoundBeside};
 ghost use Rattle.lagprogress.specs.HostRounds.{AskingIsPlayed, IsBetweenTicks};
 ghost use Rattle.lagprogress.specs.LateRounds.{HostRoundIsLateRound, HostRoundsAreLateRounds, OldArrive};
+ghost use Rattle.lagprogress.specs.Several.{AskingIsSeveral};
 
 // promise: events and calls as in the first row are a late round (`IsLateRound`) if what was on each healthy cable before has arrived,
 //    whatever is on it in the end; each healthy round of hosts is one, and so many are as many
@@ -15,15 +16,21 @@ ghost use Rattle.lagprogress.specs.LateRounds.{HostRoundIsLateRound, HostRoundsA
 //    asked after its system's tick, and what was on each healthy cable before has arrived; ports may be held
 // contract: `clocks_play_rounds` (`beside`: `RoundsBeside`)
 // premises: both systems are sound, with timers within bounds; the events acted, the calls and settings kept their contracts
+// promise: events, calls and settings as in the row above, but for their ticks, are a late round of several ticks (`IsPlayedTicks`) if each system ticks
+//    so many times, at once or not, and each end of a healthy cable is asked after the last tick of its system
+// contract: `clocks_play_rounds` (`several`)
+// premises: as in the row above
 /// Which events are a late round: each system ticks once, and every other event or call is as `hosts_play_rounds` has it, in any order; each
 /// end of a healthy cable is asked at least once after the tick of its system; and what was on each healthy cable before has arrived,
 /// while frames may be on it in the end. Settings may come among them, too, for rounds beside the ends of a cable, as
-/// `each_link_stays_up_by_clocks` has them, if none holds, lets go or sets the mode of a port at these ends. The systems are sound, and their
+/// `each_link_stays_up_by_clocks` has them, if none holds, lets go or sets the mode of a port at these ends. So it is of rounds of several
+/// ticks, in which each end is asked after the last one of its system. The systems are sound, and their
 /// timers within their bounds; ports may be held. Each healthy round of hosts is a late one, and what holds after so many late rounds holds
 /// after as many of hosts, and of `play_round` (6.4.16; profile).
 pub fn clocks_play_rounds<F: Fn(u16, usize) -> usize>()
     ensures asking { (one two : F) → AskingIsPlayed IsBetweenTicks OldArrive (both_algorithms (F.post one) (F.post two)) }
     ensures beside { (one two : F) → AskingIsRoundBeside (both_algorithms (F.post one) (F.post two)) }
+    ensures several { (one two : F) → AskingIsSeveral (both_algorithms (F.post one) (F.post two)) }
     ensures host { (one two : F) → HostRoundIsLateRound (both_algorithms (F.post one) (F.post two)) }
     ensures hosts { (one two : F) → HostRoundsAreLateRounds (both_algorithms (F.post one) (F.post two)) }
 {}
@@ -70,6 +77,7 @@ pub fn each_link_agrees_by_clocks<F: Fn(u16, usize) -> usize>()
 {}
 
 ghost use Rattle.lagprogress.specs.Beside.{EachLinkStaysAgreed, EachLinkStaysUp};
+ghost use Rattle.lagprogress.specs.Several.{EachLinkStaysAgreedInSeveral, EachLinkStaysUpInSeveral};
 
 // promise: **a setting of another port does no harm to a link that is up:** behind 356 | 657 late rounds both its ports stay up, and agree,
 //    for any number of late rounds in which hosts also hold other ports, let them go and set their modes, CollectorMaxDelay and any limit of
@@ -78,16 +86,25 @@ ghost use Rattle.lagprogress.specs.Beside.{EachLinkStaysAgreed, EachLinkStaysUp}
 // contract: `each_link_stays_up_by_clocks` (`up_both`, `up_one`, `agrees_both`, `agrees_one`: `RoundsBeside`)
 // premises: those of `each_link_comes_up_by_clocks` and of `each_link_agrees_by_clocks` before the rounds; no setting holds, lets go or sets
 //    the port at an end of this link. Each end of a healthy cable is asked still, and what was on it arrives, as in each late round; whether
-//    other ports are held, or come up, is of no account
-// not said: that a link stays up that came up while another port was held
+//    other ports are held, or come up, is of no account. That a link stays up that came up while another port was held no clause says
+// promise: **up to six ticks at once do no harm to a link that is up:** behind 356 | 657 late rounds both its ports stay up, and agree, for any number
+//    of late rounds of several ticks: in each both systems tick one to six times, as often as the other, at once or not. Settings come as in the row above
+// contract: `each_link_stays_up_by_clocks` (`several_up_both`, `several_up_one`, `several_agrees_both`, `several_agrees_one`: `SeveralBeside`)
+// premises: as in the row above; each end of a healthy cable is asked after the last tick of its system in the round, and each tick is an event of its
+//    own. No clause says that a link comes up in such rounds, nor what ticks do that one end has more of than the other
 /// The links that come up as in `each_link_comes_up_by_clocks` stay up, and agree, in any number of late rounds behind them in which hosts
 /// also make settings: other ports are held, let go, or set to other modes, CollectorMaxDelay is set, and so is any limit of links that
 /// `set_max_links` takes. No setting is one of `hold_port` or `set_mode` for a port at an end of the link (6.4.2.3, 6.4.7, 6.4.8; profile).
+/// So they do where hosts make up ticks: in each round each system may tick up to six times, as often as the other.
 pub fn each_link_stays_up_by_clocks<F: Fn(u16, usize) -> usize>()
     ensures up_both { (one two : F) → EachLinkStaysUp BothAreActive up_if_both_active (both_algorithms (F.post one) (F.post two)) }
     ensures up_one { (one two : F) → EachLinkStaysUp OneIsActive up_if_one_is (both_algorithms (F.post one) (F.post two)) }
     ensures agrees_both { (one two : F) → EachLinkStaysAgreed BothAreActive up_if_both_active (both_algorithms (F.post one) (F.post two)) }
     ensures agrees_one { (one two : F) → EachLinkStaysAgreed OneIsActive up_if_one_is (both_algorithms (F.post one) (F.post two)) }
+    ensures several_up_both { (one two : F) → EachLinkStaysUpInSeveral BothAreActive up_if_both_active (both_algorithms (F.post one) (F.post two)) }
+    ensures several_up_one { (one two : F) → EachLinkStaysUpInSeveral OneIsActive up_if_one_is (both_algorithms (F.post one) (F.post two)) }
+    ensures several_agrees_both { (one two : F) → EachLinkStaysAgreedInSeveral BothAreActive up_if_both_active (both_algorithms (F.post one) (F.post two)) }
+    ensures several_agrees_one { (one two : F) → EachLinkStaysAgreedInSeveral OneIsActive up_if_one_is (both_algorithms (F.post one) (F.post two)) }
 {}
 
 ghost use Rattle.lagprogress.specs.Bundle.{SelectedPairsAgree, SelectedPairsComeUp};

@@ -1,6 +1,6 @@
 use Rattle.lagprogress.proofs.LateLoops.{host_round_is_late_round, host_rounds_are_late_rounds}
 use Rattle.lagprogress.proofs.Common.{port_at, LeavesPorts, IsBetweenTicks, OldArrive}
-use Rattle.lagprogress.proofs.HostLoops.{asking_is_played, come_beside, come_between}
+use Rattle.lagprogress.proofs.HostLoops.{asking_is_played, asking_is_several, come_beside, come_between}
 use Rattle.lagprogress.proofs.clocks.clocks_play_rounds.Goals as goal
 
 pub returns-clause-asking : goal.returns-clause-asking
@@ -15,3 +15,6 @@ returns-clause-hosts g c = λ one two. host_rounds_are_late_rounds _
 pub returns-clause-beside : goal.returns-clause-beside
 returns-clause-beside g c =
     λ one two l. asking_is_played (LeavesPorts (λ s. port_at s l)) (come_beside (λ s. port_at s l)) OldArrive _
+
+pub returns-clause-several : goal.returns-clause-several
+returns-clause-several g c = λ one two. asking_is_several _

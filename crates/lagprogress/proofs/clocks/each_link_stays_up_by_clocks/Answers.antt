@@ -1,5 +1,6 @@
 use Rattle.lagprogress.proofs.Common.{BothAreActive, OneIsActive}
-use Rattle.lagprogress.proofs.Bundling.{each_link_stays_agreed, each_link_stays_up, one_active, both_active}
+use Rattle.lagprogress.proofs.Bundling.{each_link_stays_agreed, each_link_stays_up, each_stays_agreed_in_several, each_stays_up_in_several}
+use Rattle.lagprogress.proofs.Bundling.{one_active, both_active}
 use Rattle.lagprogress.proofs.clocks.each_link_stays_up_by_clocks.Goals as goal
 
 pub returns-clause-up_both : goal.returns-clause-up_both
@@ -13,3 +14,15 @@ returns-clause-agrees_both g c = λ one two. each_link_stays_agreed BothAreActiv
 
 pub returns-clause-agrees_one : goal.returns-clause-agrees_one
 returns-clause-agrees_one g c = λ one two. each_link_stays_agreed OneIsActive 624 _ (one_active _)
+
+pub returns-clause-several_up_both : goal.returns-clause-several_up_both
+returns-clause-several_up_both g c = λ one two. each_stays_up_in_several BothAreActive 323 _ (both_active _)
+
+pub returns-clause-several_up_one : goal.returns-clause-several_up_one
+returns-clause-several_up_one g c = λ one two. each_stays_up_in_several OneIsActive 624 _ (one_active _)
+
+pub returns-clause-several_agrees_both : goal.returns-clause-several_agrees_both
+returns-clause-several_agrees_both g c = λ one two. each_stays_agreed_in_several BothAreActive 323 _ (both_active _)
+
+pub returns-clause-several_agrees_one : goal.returns-clause-several_agrees_one
+returns-clause-several_agrees_one g c = λ one two. each_stays_agreed_in_several OneIsActive 624 _ (one_active _)

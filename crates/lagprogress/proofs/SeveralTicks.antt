@@ -1,0 +1,353 @@
+-- What a round of several ticks leaves of a cable, by its stages.
+use Rattle.lagprogress.proofs.Common.{Bool, List, [], ap, arith, false, inl, inr, refl, subst, suc, sym, true, zero, ℕ, ◌+◌, ◌-◌, ◌∙◌, ◌∷◌, ◌≡◌, ◌≤◌}
+use Rattle.lagprogress.proofs.Common.{◌⊎◌, Lacpdu, One, Side, Two, peer, Machines, periodic_rows, receive_rows, AtRest, RunsToRest, after_sending}
+use Rattle.lagprogress.proofs.Common.{count_down, Reply, Algorithms, WorldState, HostEvent, IsTimed, no, Sounds, LeavesPorts, AfterTick, AtSomeWorld}
+use Rattle.lagprogress.proofs.Common.{Clearing, IsTickOf, RunReplies, StepReplies, TickOnceAmong, AfterTicks, IsPlayedTicks, TicksAmong}
+use Rattle.lagprogress.proofs.EndFacts.{Along, CanSound, IsEnd, activity, calm, nothing_along, sounds_along, ticks_sounds, wait_of}
+use Rattle.lagprogress.proofs.HostRound.{Counts, IsTickless, KeptAmong, KeptBeside, MadeByTick, between, not_tick, one_of, tick_one, two, two_other}
+use Rattle.lagprogress.proofs.HostRound.{two_there}
+use Rattle.lagprogress.proofs.Linked.{Fits, Link, each_side, other_ports, other_side, peer_twice}
+use Rattle.lagprogress.proofs.OneRound.{Asks, Later, Nothing, Passes, later_along, still_sounds}
+use Rattle.lagprogress.proofs.Quieting.{PlayedBeside}
+
+-- a round of several ticks beside these ports
+abbrev pub TicksBeside : ℕ → (Side → ℕ) → Clearing → Algorithms → WorldState → WorldState → Type 0
+TicksBeside n at E gives old new = IsPlayedTicks (LeavesPorts at) E n gives old new
+
+-- no more ticks of either system than that
+abbrev pub Within : ℕ → ℕ → ℕ → Type 0
+Within n a b = (a ≤ n) × (b ≤ n)
+
+-- a round of one tick is one
+
+-- the ticks that were
+abbrev done : Bool → ℕ
+done true = 0
+done false = 1
+
+once_turns : (May : HostEvent → Type 0) (s : Side) (es : List HostEvent) (a b : Bool) → TickOnceAmong May s a b es
+    → TicksAmong May 1 s (done a) (done b) es
+once_turns May s [] false false h = (refl, refl)
+once_turns May s [] true b h = absurd (no (sym h.0))
+once_turns May s [] false true h = absurd (no (sym h.1))
+once_turns May s (e ∷ es) true b (inl h) = inl (h.0, once_turns May s es false b h.2)
+once_turns May s (e ∷ es) false b (inl h) = absurd (no h.1)
+once_turns May s (e ∷ es) a true (inr (inl h)) = inr (inl (h.0, once_turns May s es a false h.2))
+once_turns May s (e ∷ es) a false (inr (inl h)) = absurd (no h.1)
+once_turns May s (e ∷ es) a b (inr (inr h)) = inr (inr (h.0, once_turns May s es a b h.1))
+
+once_asked : (s : Side) (P : WorldState → Type 0) (gives : Algorithms) (es : List HostEvent) (rs : List Reply) (old new : WorldState)
+    (run : RunReplies gives old es rs new) → AfterTick s P gives es rs old new run → AfterTicks s P 1 gives es rs old new run
+once_asked s P gives [] rs old new run y = absurd y
+once_asked s P gives (e ∷ es) [] old new run y = absurd y
+once_asked s P gives (e ∷ es) (r ∷ rs) old new run (inl y) = inl y
+once_asked s P gives (e ∷ es) (r ∷ rs) old new run (inr y) = inr (once_asked s P gives es rs run.0 new run.2 y)
+
+pub once : {at : Side → ℕ} {E : Clearing} {gives : Algorithms} {old new : WorldState} → PlayedBeside at E gives old new → TicksBeside 1 at E gives old new
+once {at} {E} {gives} {old} {new} h = record {
+  events = h.events;
+  replies = h.replies;
+  turns = once_turns (LeavesPorts at) One h.events true true h.ticks;
+  acts = h.acts;
+  asked = λ s i l y. once_asked s _ gives h.events h.replies old new h.acts (h.asked s i l y);
+  empties = h.empties;
+}
+
+-- the events of a round, in the eyes of either system
+
+turned : (May : HostEvent → Type 0) (n : ℕ) (es : List HostEvent) (a b : ℕ) → TicksAmong May n One a b es → TicksAmong May n Two b a es
+turned May n [] a b h = (h.1, h.0)
+turned May n (e ∷ es) a b (inl h) = inr (inl (h.0, turned May n es (suc a) b h.1))
+turned May n (e ∷ es) a b (inr (inl h)) = inl (h.0, turned May n es a (suc b) h.1)
+turned May n (e ∷ es) a b (inr (inr h)) = inr (inr (h.0, turned May n es a b h.1))
+
+pub side_turns : (at : Side → ℕ) (n : ℕ) (s : Side) (es : List HostEvent) → TicksAmong (LeavesPorts at) n One 0 0 es
+    → TicksAmong (LeavesPorts at) n s 0 0 es
+side_turns at n One es h = h
+side_turns at n Two es h = turned (LeavesPorts at) n es 0 0 h
+
+pub within : (May : HostEvent → Type 0) (n : ℕ) (s : Side) (es : List HostEvent) (a b : ℕ) → TicksAmong May n s a b es → Within n a b
+within May n s [] a b h = (let k = h.0 in omega (arith, k), let k = h.1 in omega (arith, k))
+within May n s (e ∷ es) a b (inl h) = let k = within May n s es (suc a) b h.1 in (let l = k.0 in omega (arith, l), k.1)
+within May n s (e ∷ es) a b (inr (inl h)) = let k = within May n s es a (suc b) h.1 in (k.0, let l = k.1 in omega (arith, l))
+within May n s (e ∷ es) a b (inr (inr h)) = within May n s es a b h.1
+
+-- what holds through a round, without the question what was due
+module _ (May : HostEvent → Type 0) (gives : Algorithms) (n : ℕ) (s : Side) (A : ℕ → ℕ → WorldState → Type 0)
+    (kept : (a b : ℕ) → Within n a b → KeptAmong May gives (A a b))
+    (own : (a b : ℕ) → Within n (suc a) b → MadeByTick gives s (A a b) (A (suc a) b))
+    (other : (a b : ℕ) → Within n a (suc b) → MadeByTick gives (peer s) (A a b) (A a (suc b))) where
+  pub holds_turns : (es : List HostEvent) (rs : List Reply) (i j : WorldState) (a b : ℕ) → TicksAmong May n s a b es → RunReplies gives i es rs j
+      → A a b i → A n n j
+  holds_turns [] [] i j a b h run m =
+      subst (λ x. A n n x) (sym run) (subst (λ x. A n x i) h.1 (subst (λ x. A x b i) h.0 m))
+  holds_turns (e ∷ es) (r ∷ rs) i j a b (inl (t, h)) run m = holds_turns es rs run.0 j (suc a) b h run.2
+      (own a b (within May n s es (suc a) b h) t.0 r i run.0 t.1 (subst (λ x. StepReplies gives i x r run.0) t.2 run.1) m)
+  holds_turns (e ∷ es) (r ∷ rs) i j a b (inr (inl (t, h))) run m = holds_turns es rs run.0 j a (suc b) h run.2
+      (other a b (within May n s es a (suc b) h) t.0 r i run.0 t.1 (subst (λ x. StepReplies gives i x r run.0) t.2 run.1) m)
+  holds_turns (e ∷ es) (r ∷ rs) i j a b (inr (inr h)) run m =
+      holds_turns es rs run.0 j a b h.1 run.2 (kept a b (within May n s es a b h.1) e r i run.0 h.0 run.1 m)
+  holds_turns es rs i j a b h run m = absurd run
+
+pub holds_ticks : (E : Clearing) (at : Side → ℕ) (gives : Algorithms) (n : ℕ) (s : Side) (A : ℕ → ℕ → WorldState → Type 0)
+    → ((a b : ℕ) → Within n a b → KeptBeside at gives (A a b))
+    → ((a b : ℕ) → Within n (suc a) b → MadeByTick gives s (A a b) (A (suc a) b))
+    → ((a b : ℕ) → Within n a (suc b) → MadeByTick gives (peer s) (A a b) (A a (suc b)))
+    → (old new : WorldState) → TicksBeside n at E gives old new → A 0 0 old → A n n new
+holds_ticks E at gives n s A kept own other old new h m = holds_turns (LeavesPorts at) gives n s A kept own other h.events h.replies old new 0 0
+    (side_turns at n s h.events h.turns) h.acts m
+
+-- what each event and each tick keeps, a round does
+pub keeps_ticks : (E : Clearing) (at : Side → ℕ) (gives : Algorithms) (n : ℕ) (M : WorldState → Type 0) → KeptBeside at gives M
+    → ((s : Side) → MadeByTick gives s M M) → (old new : WorldState) → TicksBeside n at E gives old new → M old → M new
+keeps_ticks E at gives n M kept ticks old new h m =
+    holds_ticks E at gives n One (λ a b. M) (λ a b k. kept) (λ a b k. ticks One) (λ a b k. ticks Two) old new h m
+
+-- A through the ticks of s, and C once P held behind the last one; the numbers are those of the ticks that were
+pub record TickStages (May : HostEvent → Type 0) (gives : Algorithms) (n : ℕ) (s : Side) (A : ℕ → ℕ → WorldState → Type 0)
+    (C : ℕ → WorldState → Type 0) (P : WorldState → Type 0) : Type 0 where
+  pub none : IsTickless May
+  pub first : (a b : ℕ) → Within n a b → KeptAmong May gives (A a b)
+  pub third : (b : ℕ) → b ≤ n → KeptAmong May gives (C b)
+  pub own : (a b : ℕ) → Within n (suc a) b → MadeByTick gives s (A a b) (A (suc a) b)
+  pub other_first : (a b : ℕ) → Within n a (suc b) → MadeByTick gives (peer s) (A a b) (A a (suc b))
+  pub other_third : (b : ℕ) → suc b ≤ n → MadeByTick gives (peer s) (C b) (C (suc b))
+  pub rests : (b : ℕ) → b ≤ n → (j : WorldState) → P j → A n b j → C b j
+
+module _ (May : HostEvent → Type 0) (gives : Algorithms) (n : ℕ) (s : Side) (A : ℕ → ℕ → WorldState → Type 0) (C : ℕ → WorldState → Type 0)
+    (P : WorldState → Type 0) (k : TickStages May gives n s A C P) where
+  tick_of : (t : Side) (M N : WorldState → Type 0) → MadeByTick gives t M N → (e : HostEvent) (r : Reply) (i j : WorldState) → IsTickOf t e
+      → StepReplies gives i e r j → M i → N j
+  tick_of t M N f e r i j (m, named, is) h y = f m r i j named (subst (λ x. StepReplies gives i x r j) is h) y
+
+  all_ticks : suc n ≤ n → ⊥
+  all_ticks l = omega (arith, l)
+
+  third_on : (es : List HostEvent) (rs : List Reply) (i j : WorldState) (b : ℕ) → TicksAmong May n s n b es → RunReplies gives i es rs j → C b i → C n j
+  third_on [] [] i j b h run m = subst (λ x. C n x) (sym run) (subst (λ x. C x i) h.1 m)
+  third_on (e ∷ es) (r ∷ rs) i j b (inl h) run m = absurd (all_ticks (within May n s es (suc n) b h.1).0)
+  third_on (e ∷ es) (r ∷ rs) i j b (inr (inl h)) run m = third_on es rs run.0 j (suc b) h.1 run.2
+      (tick_of (peer s) (C b) (C (suc b)) (k.other_third b (within May n s es n (suc b) h.1).1) e r i run.0 h.0 run.1 m)
+  third_on (e ∷ es) (r ∷ rs) i j b (inr (inr h)) run m =
+      third_on es rs run.0 j b h.1 run.2 (k.third b (within May n s es n b h.1).1 e r i run.0 h.0 run.1 m)
+  third_on es rs i j b h run m = absurd run
+
+  second_on : (es : List HostEvent) (rs : List Reply) (i j : WorldState) (b : ℕ) → TicksAmong May n s n b es → (run : RunReplies gives i es rs j)
+      → AtSomeWorld P gives es rs i j run → A n b i → C n j
+  second_on [] [] i j b h run a m = third_on [] [] i j b h run (k.rests b (within May n s [] n b h).1 i a m)
+  second_on (e ∷ es) (r ∷ rs) i j b h run (inl a) m = third_on (e ∷ es) (r ∷ rs) i j b h run (k.rests b (within May n s (e ∷ es) n b h).1 i a m)
+  second_on (e ∷ es) (r ∷ rs) i j b (inl h) run (inr a) m = absurd (all_ticks (within May n s es (suc n) b h.1).0)
+  second_on (e ∷ es) (r ∷ rs) i j b (inr (inl h)) run (inr a) m = second_on es rs run.0 j (suc b) h.1 run.2 a
+      (tick_of (peer s) (A n b) (A n (suc b)) (k.other_first n b (within May n s es n (suc b) h.1)) e r i run.0 h.0 run.1 m)
+  second_on (e ∷ es) (r ∷ rs) i j b (inr (inr h)) run (inr a) m =
+      second_on es rs run.0 j b h.1 run.2 a (k.first n b (within May n s es n b h.1) e r i run.0 h.0 run.1 m)
+  second_on es rs i j b h run a m = absurd run
+
+  -- no more ticks of s are to come than there may be
+  few_left : (es : List HostEvent) (rs : List Reply) (i j : WorldState) (a b m : ℕ) → TicksAmong May n s a b es → (run : RunReplies gives i es rs j)
+      → AfterTicks s P m gives es rs i j run → a + m ≤ n
+  few_left es rs i j a b zero h run y = let l = (within May n s es a b h).0 in omega (arith, l)
+  few_left [] rs i j a b (suc m) h run y = absurd y
+  few_left (e ∷ es) [] i j a b (suc m) h run y = absurd y
+  few_left (e ∷ es) (r ∷ rs) i j a b (suc m) (inl h) run (inl y) = let l = few_left es rs run.0 j (suc a) b m h.1 run.2 y.1 in omega (arith, l)
+  few_left (e ∷ es) (r ∷ rs) i j a b (suc m) (inl h) run (inr y) =
+      let l = few_left es rs run.0 j (suc a) b (suc m) h.1 run.2 y in omega (arith, l)
+  few_left (e ∷ es) (r ∷ rs) i j a b (suc m) (inr (inl h)) run (inl y) = absurd (one_of s e y.0 h.0)
+  few_left (e ∷ es) (r ∷ rs) i j a b (suc m) (inr (inl h)) run (inr y) = few_left es rs run.0 j a (suc b) (suc m) h.1 run.2 y
+  few_left (e ∷ es) (r ∷ rs) i j a b (suc m) (inr (inr h)) run (inl y) = absurd (not_tick May k.none s e y.0 h.0)
+  few_left (e ∷ es) (r ∷ rs) i j a b (suc m) (inr (inr h)) run (inr y) = few_left es rs run.0 j a b (suc m) h.1 run.2 y
+
+  pub ticks_on : (es : List HostEvent) (rs : List Reply) (i j : WorldState) (a b m : ℕ) → a + m ≡ n → TicksAmong May n s a b es
+      → (run : RunReplies gives i es rs j) → AfterTicks s P m gives es rs i j run → A a b i → C n j
+  ticks_on es rs i j a b zero e h run y x =
+      let all : a ≡ n = omega (arith, e) in
+      second_on es rs i j b (subst (λ q. TicksAmong May n s q b es) all h) run y (subst (λ q. A q b i) all x)
+  ticks_on [] rs i j a b (suc m) e h run y x = absurd y
+  ticks_on (f ∷ es) [] i j a b (suc m) e h run y x = absurd y
+  ticks_on (f ∷ es) (r ∷ rs) i j a b (suc m) e (inl h) run (inl y) x = ticks_on es rs run.0 j (suc a) b m (omega (arith, e)) h.1 run.2 y.1
+      (tick_of s (A a b) (A (suc a) b) (k.own a b (within May n s es (suc a) b h.1)) f r i run.0 h.0 run.1 x)
+  ticks_on (f ∷ es) (r ∷ rs) i j a b (suc m) e (inl h) run (inr y) x =
+      let l = few_left es rs run.0 j (suc a) b (suc m) h.1 run.2 y in absurd (omega (arith, l, e))
+  ticks_on (f ∷ es) (r ∷ rs) i j a b (suc m) e (inr (inl h)) run (inl y) x = absurd (one_of s f y.0 h.0)
+  ticks_on (f ∷ es) (r ∷ rs) i j a b (suc m) e (inr (inl h)) run (inr y) x = ticks_on es rs run.0 j a (suc b) (suc m) e h.1 run.2 y
+      (tick_of (peer s) (A a b) (A a (suc b)) (k.other_first a b (within May n s es a (suc b) h.1)) f r i run.0 h.0 run.1 x)
+  ticks_on (f ∷ es) (r ∷ rs) i j a b (suc m) e (inr (inr h)) run (inl y) x = absurd (not_tick May k.none s f y.0 h.0)
+  ticks_on (f ∷ es) (r ∷ rs) i j a b (suc m) e (inr (inr h)) run (inr y) x = ticks_on es rs run.0 j a b (suc m) e h.1 run.2 y
+      (k.first a b (within May n s es a b h.1) f r i run.0 h.0 run.1 x)
+
+-- what is known in a round, by the ticks that were
+
+pub no_less : (m : ℕ) → m - 0 ≡ m
+no_less m = omega arith
+
+-- so many ticks less
+abbrev pub ticked_by : ℕ → (Side → ℕ) → Side → ℕ
+ticked_by n c s = c s - n
+
+abbrev pub known_at : (Side → ℕ) → Side → ℕ → ℕ → Side → ℕ
+known_at c s a b = two s (c s - a) (c (peer s) - b)
+
+less_by : (n a b : ℕ) → b ≡ n - suc a → b ≡ n - a - 1
+less_by n a b e = omega (arith, e)
+
+pub own_counted : (d : ℕ) (w : Side → Lacpdu) (c : Side → ℕ) (s : Side) (n : ℕ) → Fits d w (ticked_by n c) → (a b : ℕ) → Within n (suc a) b
+    → Counts d s (known_at c s a b) (known_at c s (suc a) b)
+own_counted d w c s n then a b k = record {
+  own = two_there s (c s - suc a) (c (peer s) - b) ∙ (less_by (c s) a (c s - suc a) refl
+      ∙ sym (ap (λ m. m - 1) (two_there s (c s - a) (c (peer s) - b))));
+  other = two_other s (c s - suc a) (c (peer s) - b) ∙ sym (two_other s (c s - a) (c (peer s) - b));
+  some = λ two_or_more. (let l = (then s).2 two_or_more in
+      let m = k.0 in
+      subst (λ x. 1 ≤ x - 1) (sym (two_there s (c s - a) (c (peer s) - b))) (omega (arith, l, m)));
+}
+
+pub peer_counted : (d : ℕ) (w : Side → Lacpdu) (c : Side → ℕ) (s : Side) (n : ℕ) → Fits d w (ticked_by n c) → (a b : ℕ) → Within n a (suc b)
+    → Counts d (peer s) (known_at c s a b) (known_at c s a (suc b))
+peer_counted d w c s n then a b k = record {
+  own = two_other s (c s - a) (c (peer s) - suc b) ∙ (less_by (c (peer s)) b (c (peer s) - suc b) refl
+      ∙ sym (ap (λ m. m - 1) (two_other s (c s - a) (c (peer s) - b))));
+  other = ap (two s (c s - a) (c (peer s) - suc b)) (peer_twice s) ∙ (two_there s (c s - a) (c (peer s) - suc b)
+      ∙ sym (ap (two s (c s - a) (c (peer s) - b)) (peer_twice s) ∙ two_there s (c s - a) (c (peer s) - b)));
+  some = λ two_or_more. (let l = (then (peer s)).2 two_or_more in
+      let m = k.1 in
+      subst (λ x. 1 ≤ x - 1) (sym (two_other s (c s - a) (c (peer s) - b))) (omega (arith, l, m)));
+}
+
+-- so many ticks known of one end fit
+abbrev FitsHere : ℕ → (Side → Lacpdu) → Side → ℕ → Type 0
+FitsHere d w t m = (m ≤ wait_of (w t)) × (1 ≤ m → 1 ≤ d) × (2 ≤ d → 1 ≤ m) × (2 ≤ d → (activity (w (peer t)) ≡ true) ⊎ (activity (w t) ≡ true))
+
+fewer_fit : (d : ℕ) (w : Side → Lacpdu) (c : Side → ℕ) (n : ℕ) → Fits d w c → Fits d w (ticked_by n c) → (t : Side) (m : ℕ) → m ≤ n
+    → FitsHere d w t (c t - m)
+fewer_fit d w c n fits then t m l = (
+  (let o = (fits t).0 in omega (arith, o)),
+  λ o. (fits t).1 (omega (arith, o)),
+  λ o. (let q = (then t).2 o in omega (arith, q, l)),
+  (fits t).3,
+)
+
+pub fits_at : (d : ℕ) (w : Side → Lacpdu) (c : Side → ℕ) (s : Side) (n : ℕ) → Fits d w c → Fits d w (ticked_by n c) → (a b : ℕ) → Within n a b
+    → Fits d w (known_at c s a b)
+fits_at d w c s n fits then a b k t = each_side (λ u. FitsHere d w u (known_at c s a b u)) s
+    (subst (FitsHere d w s) (sym (two_there s (c s - a) (c (peer s) - b))) (fewer_fit d w c n fits then s a k.0))
+    (subst (FitsHere d w (peer s)) (sym (two_other s (c s - a) (c (peer s) - b))) (fewer_fit d w c n fits then (peer s) b k.1)) t
+
+pub all_counted : (d : ℕ) (at : Side → ℕ) (w : Side → Lacpdu) (c : Side → ℕ) (s x : Side) (n : ℕ) (Y : Machines → Type 0) (j : WorldState)
+    → Link d at w (known_at c s n n) x Y j → Link d at w (ticked_by n c) x Y j
+all_counted d at w c s x n Y j l = other_ports l (λ t p rest timed a. (
+  subst (λ m. IsEnd d (w t) (w (peer t)) m p) (each_side (λ u. two s (c s - n) (c (peer s) - n) u ≡ c u - n) s
+      (two_there s (c s - n) (c (peer s) - n)) (two_other s (c s - n) (c (peer s) - n)) t) a.0,
+  a.1,
+))
+
+pub none_counted : (d : ℕ) (at : Side → ℕ) (w : Side → Lacpdu) (c : Side → ℕ) (s x : Side) (Y : Machines → Type 0) (j : WorldState)
+    → Link d at w c x Y j → Link d at w (known_at c s 0 0) x Y j
+none_counted d at w c s x Y j l = other_ports l (λ t p rest timed a. (
+  subst (λ m. IsEnd d (w t) (w (peer t)) m p) (sym (each_side (λ u. two s (c s - 0) (c (peer s) - 0) u ≡ c u) s
+      (two_there s (c s - 0) (c (peer s) - 0) ∙ no_less (c s)) (two_other s (c s - 0) (c (peer s) - 0) ∙ no_less (c (peer s))) t)) a.0,
+  a.1,
+))
+
+-- what a tick makes of a cable, with something beside it: the tick of x, and that of its peer
+
+pub own_at : (gives : Algorithms) (x : Side) (d : ℕ) (at : Side → ℕ) (w : Side → Lacpdu) (c : Side → ℕ) (n : ℕ) (Y Z : Machines → Type 0)
+    → Fits d w (ticked_by n c) → (a b : ℕ) → Within n (suc a) b → Along Z (w x) (w (peer x)) (c x - suc a) d
+    → ((p q : Machines) → RunsToRest receive_rows (count_down p) q → AtRest periodic_rows p → IsEnd d (w x) (w (peer x)) (c x - a) p → Y p → Z q)
+    → MadeByTick gives x (Link d at w (known_at c x a b) x Y) (Link d at w (known_at c x (suc a) b) x Z)
+own_at gives x d at w c n Y Z then a b k last moves m r i j named step l = (tick_one gives m x d at w (known_at c x a b) (known_at c x (suc a) b) x Y Z
+    r i j named (own_counted d w c x n then a b k)
+    (subst (λ q. Along Z (w x) (w (peer x)) q d) (sym (two_there x (c x - suc a) (c (peer x) - b))) last)
+    (λ p q run rest e f y. moves p q run rest (subst (λ q. IsEnd d (w x) (w (peer x)) q p) (two_there x (c x - a) (c (peer x) - b)) e) y)
+    (λ p f y. absurd (other_side x f)) step l).link
+
+pub peer_at : (gives : Algorithms) (x : Side) (d : ℕ) (at : Side → ℕ) (w : Side → Lacpdu) (c : Side → ℕ) (n : ℕ) (N : Machines → Type 0)
+    → Fits d w (ticked_by n c) → (a b : ℕ) → Within n a (suc b) → Along N (w x) (w (peer x)) (c x - a) d
+    → MadeByTick gives (peer x) (Link d at w (known_at c x a b) x N) (Link d at w (known_at c x a (suc b)) x N)
+peer_at gives x d at w c n N then a b k along m r i j named step l = (tick_one gives m (peer x) d at w (known_at c x a b) (known_at c x a (suc b)) x N N
+    r i j named (peer_counted d w c x n then a b k)
+    (subst (λ q. Along N (w x) (w (peer x)) q d) (sym (two_there x (c x - a) (c (peer x) - suc b))) along)
+    (λ p q run rest e f y. absurd (other_side x f)) (λ p f y. y) step l).link
+
+-- a round with something beside it that each event keeps, by the ticks of x that were
+pub ticks_hold : {E : Clearing} (gives : Algorithms) (n : ℕ) (x : Side) (d : ℕ) (at : Side → ℕ) (w : Side → Lacpdu) (c : Side → ℕ)
+    (Y : ℕ → Machines → Type 0) (old new : WorldState) → Fits d w c → Fits d w (ticked_by n c)
+    → ((a : ℕ) → a ≤ n → Along (Y a) (w x) (w (peer x)) (c x - a) d)
+    → ((a : ℕ) → suc a ≤ n → (p q : Machines) → RunsToRest receive_rows (count_down p) q → AtRest periodic_rows p
+    → IsEnd d (w x) (w (peer x)) (c x - a) p → Y a p → Y (suc a) q)
+    → ((a : ℕ) (p : Machines) → Y a p → Y a (after_sending p))
+    → Link d at w c x (Y 0) old → TicksBeside n at E gives old new → Link d at w (ticked_by n c) x (Y n) new
+ticks_hold {E} gives n x d at w c Y old new fits then along moves sends l h =
+    all_counted d at w c x x n (Y n) new (holds_ticks E at gives n x (λ a b j. Link d at w (known_at c x a b) x (Y a) j)
+    (λ a b k. between gives d at w (known_at c x a b) x (Y a) (fits_at d w c x n fits then a b k)
+    (subst (λ q. Along (Y a) (w x) (w (peer x)) q d) (sym (two_there x (c x - a) (c (peer x) - b))) (along a k.0)) (sends a))
+    (λ a b k. own_at gives x d at w c n (Y a) (Y (suc a)) then a b k (along (suc a) k.0) (moves a k.0))
+    (λ a b k. peer_at gives x d at w c n (Y a) then a b k (along a k.0)) old new h (none_counted d at w c x x (Y 0) old l))
+
+-- and with nothing beside it, even if nothing is known of what comes
+pub ticks_keep : {E : Clearing} (gives : Algorithms) (n : ℕ) (x : Side) (d : ℕ) (at : Side → ℕ) (w : Side → Lacpdu) (c : Side → ℕ)
+    (old new : WorldState) → Fits d w c → Fits d w (ticked_by n c) → Link d at w c x Nothing old → TicksBeside n at E gives old new
+    → Link d at w (ticked_by n c) x Nothing new
+ticks_keep gives n x d at w c old new fits then l h = ticks_hold gives n x d at w c (λ a. Nothing) old new fits then
+    (λ a k. nothing_along (w x) (w (peer x)) (c x - a) d) (λ a k p q r rest e y. y) (λ a p y. y) l h
+
+-- what holds of the end of s in a round: X by the ticks that were, V just after one of them, and Z once it is asked behind the last one and
+-- nothing is due
+pub record TickPasses (n : ℕ) (X V : ℕ → Machines → Type 0) (Z : Machines → Type 0) (v u : Lacpdu) (c d : ℕ) : Type 0 where
+  pub ticks : (a : ℕ) → suc a ≤ n → (p q : Machines) → RunsToRest receive_rows (count_down p) q → AtRest periodic_rows p
+      → IsEnd d v u (c - a) p → X a p → V (suc a) q
+  pub ticked : (a : ℕ) → a ≤ n → Along (V a) v u (c - a) d
+  pub rests : (a : ℕ) → a ≤ n → (p : Machines) → AtRest periodic_rows p → IsTimed p → IsEnd d v u (c - a) p → V a p → X a p
+  pub waits : (a : ℕ) → a ≤ n → Along (X a) v u (c - a) d
+  pub asks : Asks d (X n) Z v u (c - n)
+  pub asked : Along Z v u (c - n) d
+
+pub sounds_by_ticks : (v u : Lacpdu) (fast : Bool) (n c d most : ℕ) → ((a : ℕ) → a ≤ n → CanSound v u fast (c - a))
+    → TickPasses n (λ a. Sounds fast (most - a)) (λ a. Sounds fast (most - a)) (Later fast (most - n)) v u c d
+sounds_by_ticks v u fast n c d most can = record {
+  ticks = λ a l p q r rest e y. subst (λ m. Sounds fast m q) (omega arith)
+      (ticks_sounds d v u fast (c - a) (most - a) p q (can a (omega (arith, l))) r rest e y);
+  ticked = λ a l. sounds_along v u fast (c - a) d (most - a) (can a l);
+  rests = λ a l p rest timed e y. y;
+  waits = λ a l. sounds_along v u fast (c - a) d (most - a) (can a l);
+  asks = λ p rest timed e y not. (still_sounds fast (most - n) p rest (calm d v u fast (c - n) p (can n (omega arith)) e).0 not y, y);
+  asked = later_along v u fast (c - n) d (most - n) (can n (omega arith));
+}
+
+-- and in a round of one tick
+abbrev pub Turned : (Machines → Type 0) → (Machines → Type 0) → ℕ → Machines → Type 0
+Turned X Y zero = X
+Turned X Y (suc a) = Y
+
+pub once_passes : (X V Y Z : Machines → Type 0) (v u : Lacpdu) (c d : ℕ) → Passes X V Y Z v u c (c - 1) d → Along X v u c d
+    → TickPasses 1 (Turned X Y) (Turned X V) Z v u c d
+once_passes X V Y Z v u c d k before = record {
+  ticks = ticks;
+  ticked = ticked;
+  rests = rests;
+  waits = waits;
+  asks = k.asks;
+  asked = k.asked;
+}
+  where
+    more : (a : ℕ) → suc (suc a) ≤ 1 → ⊥
+    more a l = omega (arith, l)
+
+    ticks : (a : ℕ) → suc a ≤ 1 → (p q : Machines) → RunsToRest receive_rows (count_down p) q → AtRest periodic_rows p
+        → IsEnd d v u (c - a) p → Turned X Y a p → Turned X V (suc a) q
+    ticks zero l p q r rest e y = k.ticks p q r rest (subst (λ m. IsEnd d v u m p) (no_less c) e) y
+    ticks (suc a) l p q r rest e y = absurd (more a l)
+
+    ticked : (a : ℕ) → a ≤ 1 → Along (Turned X V a) v u (c - a) d
+    ticked zero l = subst (λ m. Along X v u m d) (sym (no_less c)) before
+    ticked (suc zero) l = k.ticked
+    ticked (suc (suc a)) l = absurd (more a l)
+
+    rests : (a : ℕ) → a ≤ 1 → (p : Machines) → AtRest periodic_rows p → IsTimed p → IsEnd d v u (c - a) p → Turned X V a p → Turned X Y a p
+    rests zero l p rest timed e y = y
+    rests (suc zero) l p rest timed e y = k.rests p rest timed e y
+    rests (suc (suc a)) l p rest timed e y = absurd (more a l)
+
+    waits : (a : ℕ) → a ≤ 1 → Along (Turned X Y a) v u (c - a) d
+    waits zero l = subst (λ m. Along X v u m d) (sym (no_less c)) before
+    waits (suc zero) l = k.waits
+    waits (suc (suc a)) l = absurd (more a l)
