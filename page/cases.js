@@ -29,9 +29,9 @@ function pauseOf(link, seconds) {
     return `nothing is sent on ${linkName(link)} from ${roundedSeconds(times[at - 1])} to ${roundedSeconds(times[at])}`;
 }
 
-const ofDeadLink = ({ ends }, { lacpdus }) => ({
+const ofDeadLink = ({ ends, until }) => ({
     isFirst: true, title: "both ends of a link send nothing more",
-    lines: [`${ends.map((it) => it.short).join(" and ")} send nothing after ${roundedSeconds(Math.max(...ends.map((it) => it.record.last)))}; the capture goes on to ${roundedSeconds(lacpdus.last)}`],
+    lines: [`${ends.map((it) => it.short).join(" and ")} send nothing after ${roundedSeconds(Math.max(...ends.map((it) => it.record.last)))}; the capture goes on to ${roundedSeconds(until)}`],
     advice: "The link went down, or this capture lost it: look at carrier and cable (ip link, show interfaces).",
 });
 
@@ -45,19 +45,20 @@ function slowedSaid(at, other) {
 const ofPassive = () => ({ advice: `Set LACP to active at one end at least (${WAYS_ACTIVE}; switch: mode active). docs/TROUBLE.md has the commands.` });
 
 /* No LACPDU for longer than the timeout: dead from then on, started anew, slower than it is asked to, or frames are lost. */
-function ofSilence(finding, { records, link }) {
-    if (link.ends.every((it) => isSilent(it, records.lacpdus.last))) return ofDeadLink(link, records);
+function ofSilence(finding, { link, records }) {
+    if (isOfFileEnd(finding, link, records)) return { isEffect: true, title: "the file of a link ends before others" };
+    if (link.ends.every((it) => isSilent(it, link.until))) return ofDeadLink(link);
     const { at } = finding, frame = frameOf(finding), { record } = at, before = at.frames[at.frames.indexOf(frame) - 1];
-    const isLast = frame && frame === at.last && record && isSilent(at, records.lacpdus.last);
+    const isLast = frame && frame === at.last && record && isSilent(at, link.until);
     const other = link.ends.find((it) => it && it !== at);
     if (isLast && other?.record && other.record.last <= record.last) return {
         isFirst: true, title: "both ends of a link are silent",
-        lines: [`${at.short} sends nothing after ${roundedSeconds(record.last)}, ${other.short} nothing after ${roundedSeconds(other.record.last)}; the capture goes on to ${roundedSeconds(records.lacpdus.last)}`],
+        lines: [`${at.short} sends nothing after ${roundedSeconds(record.last)}, ${other.short} nothing after ${roundedSeconds(other.record.last)}; the capture goes on to ${roundedSeconds(link.until)}`],
         advice: `The link went down, or this capture lost it: look at carrier and cable (ip link, show interfaces). Else ${at.short} sends no more: ${other.short} may send each 30 s alone.`,
     };
     if (isLast) return {
         isFirst: true, isEffect: link.findings.some((it) => it.at === at && ofSingle(it, { link }).isFirst), title: "an end sends nothing more",
-        lines: [`${at.short} sends nothing after ${roundedSeconds(record.last)}; the capture goes on to ${roundedSeconds(records.lacpdus.last)}`, ...slowedSaid(at, other)],
+        lines: [`${at.short} sends nothing after ${roundedSeconds(record.last)}; the capture goes on to ${roundedSeconds(link.until)}`, ...slowedSaid(at, other)],
         advice: "Look at this end, not at its partner: its interface, driver or fibre sends no more (the direction to the partner may be dead alone), or the system hangs or is gone. "
             + "If this was captured at its partner, the path may lose what it sends: capture at this end, too.",
     };
@@ -77,6 +78,22 @@ function ofSilence(finding, { records, link }) {
     };
     return { advice: "Look for lost frames: it sends in time else (errors of the link: ethtool -S, show interfaces; a host that was busy, or stood still)." };
 }
+
+/* Whether a finding is no more than that the file of its link ends before others. */
+export const isOfFileEnd = (finding, { until }, { lacpdus }) => finding.rule === 11 && frameOf(finding) === finding.at.last && isSilent(finding.at, lacpdus.last) && !isSilent(finding.at, until);
+
+/* What is said of links whose files end before others; `rest` says when the others do. It may be no fault, and so comes last. */
+export function toldOfEarly(links, rest) {
+    const isOne = links.length === 1, [{ early: { isCut } }] = links, lines = links.map((it) => `${linkName(it)}: nothing is ${isCut ? "read" : "there"} after ${roundedSeconds(it.until)}; other files go on to ${roundedSeconds(rest)}`);
+    if (isCut) return { title: `the ${isOne ? "file of a link is" : `files of ${links.length} links are`} cut short`, lines, isLast: true, advice: "What came behind the cut is not known: capture again." };
+    return {
+        title: isOne ? "a link fell silent, or its capture was stopped before the others" : `${links.length} links fell silent, or their captures were stopped before the others`, lines, isLast: true,
+        advice: "The files do not say which. Capture all links into one file (docs/TROUBLE.md has commands): a link that stops there has fallen silent. Or look whether the link is up (ip link, show interfaces).",
+    };
+}
+
+/* Whether a port of a link is taken out of its bundle. */
+export const isTakenOut = (link) => link.findings.some((it) => ofSingle(it, { link }).isFirst);
 
 /* Whether all ends speak before and behind a step back in time: then a clock was set back; else files were joined one behind the other. */
 function isOneCapture({ packet }, { all }) {

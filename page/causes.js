@@ -3,7 +3,7 @@
 
 import { isKnown, isRemark, roundedSeconds } from "./records.js";
 import { capitalized, joinedBy, keyGroups, OWN_SYSTEM, whereOf } from "./keys.js";
-import { systemsIn, toldOf } from "./cases.js";
+import { isOfFileEnd, isTakenOut, systemsIn, toldOf, toldOfEarly } from "./cases.js";
 import { untilOf } from "./past.js";
 
 export const FAULT = "fault";
@@ -28,7 +28,7 @@ const namesOf = (ends) => [...new Set(ends.map((it) => it.short))].join(", ");
 /* A cause, or an effect: findings of one rule that are told alike. */
 class Item {
     constructor(kind, rule, told, finding) {
-        Object.assign(this, { kind, rule, title: told.title ?? finding.name, advice: told.advice ?? finding.advice, lines: [], findings: [], effects: [], isFirst: told.isFirst });
+        Object.assign(this, { kind, rule, title: told.title ?? finding.name, advice: told.advice ?? finding.advice, lines: [], findings: [], effects: [], isFirst: told.isFirst, isLast: told.isLast });
         this.clause = finding.clause;
         this.until = null;
     }
@@ -124,6 +124,19 @@ function twinItem(bundles) {
     return it.lines.length ? [it] : [];
 }
 
+/* Links whose files end before others: those that are cut short, and those of which nobody knows why; of a port that is taken out it is an effect. */
+function earlyItems({ records, bundles }) {
+    const early = bundles.flatMap((it) => it.links).filter((it) => it.early && !it.isPast), kinds = [FAULT, EFFECT].flatMap((kind) => [false, true].map((isCut) => ({ kind, isCut })));
+    return kinds.flatMap(({ kind, isCut }) => {
+        const links = early.filter((it) => it.early.isCut === isCut && isTakenOut(it) === (kind === EFFECT));
+        if (!links.length) return [];
+        const told = toldOfEarly(links, records.lacpdus.last), it = new Item(kind, ...isCut ? [null, told, { clause: "" }] : [11, told, { clause: "6.4.13" }]);
+        it.lines.push(...told.lines);
+        it.findings.push(...links.flatMap((link) => link.findings.filter((one) => isOfFileEnd(one, link, records))));
+        return [it];
+    });
+}
+
 /* Puts what follows from others below the first of them: on its link, else of its pair of systems. */
 function folded(items, looking) {
     const causes = items.filter((it) => it.kind === FAULT), rest = [];
@@ -144,8 +157,8 @@ function unexplained(item) {
     return item.rule === rule ? `${causeless} ${said}` : causeless;
 }
 
-/* An end that is silent comes before lost frames, which it may look like elsewhere. */
-const rankOf = ({ rule, kind, isFirst }) => KINDS.indexOf(kind) * 100 + ORDER.indexOf(rule) - (isFirst ? 0.5 : 0);
+/* An end that is silent comes before lost frames, which it may look like elsewhere; what may be no fault comes last. */
+const rankOf = ({ rule, kind, isFirst, isLast }) => KINDS.indexOf(kind) * 100 + ORDER.indexOf(rule) - (isFirst ? 0.5 : 0) + (isLast ? ORDER.length : 0);
 const byRank = (one, other) => rankOf(one) - rankOf(other);
 
 /* Findings that are told alike, as one. */
@@ -174,9 +187,9 @@ function asPast(causes, until) {
 
 /* The causes of a capture, the first one first; each has its effects. What holds no more stands behind what does. */
 export function causesOf(records, bundles) {
-    const looking = new Looking(records, bundles), findings = bundles.flatMap((it) => it.links).flatMap((it) => it.findings);
+    const looking = new Looking(records, bundles), early = earlyItems(looking), findings = bundles.flatMap((it) => it.links).flatMap((it) => it.findings).filter((it) => !early.some((item) => item.findings.includes(it)));
     const until = new Map(findings.map((it) => [it, untilOf(it, looking.placeOf(it))])), isPast = (it) => until.get(it) !== null;
-    const now = [...looking.strangers.map(strangerItem), ...itemsOf(findings.filter((it) => !isPast(it)), looking)].sort(byRank);
+    const now = [...looking.strangers.map(strangerItem), ...early, ...itemsOf(findings.filter((it) => !isPast(it)), looking)].sort(byRank);
     const causes = folded(now, looking), past = folded(itemsOf(findings.filter(isPast), looking).sort(byRank), looking);
     for (const it of causes) if (it.kind === EFFECT) it.unexplained = unexplained(it);
     return [...causes, ...twinItem(bundles), ...asPast(past, until)].sort((one, other) => KINDS.indexOf(one.kind) - KINDS.indexOf(other.kind));

@@ -2,7 +2,7 @@
  * the module says does not rest on this, where one file is given that has whole packets. */
 
 import { COOKED, COOKED_2, ETHERNET, IF_TSRESOL, INTERFACE, PACKET, PIECE, Reading, SECTION, SLOW, TAGS } from "./packets.js";
-import { movesOf } from "./spans.js";
+import { movesOf, secondsFrom } from "./spans.js";
 
 /* Octets of an LACPDU: up to the end of the partner's; all of it. Behind the partner's: the collector's TLV, and the terminator. */
 const BOTH_ENDS = 42, WHOLE = 110, COLLECTOR = [3, 16];
@@ -130,8 +130,22 @@ function once(kept, linkOf) {
     });
 }
 
+/* What a file that is packed begins with. */
+const PACKED = new Map([["1f8b", "gzip"], ["fd377a585a00", "xz"], ["28b52ffd", "zstd"]]);
+
+const UNKNOWN_FILE = "neither pcap nor pcapng";
+
 /* Why a file is no capture, by its first octets. */
-const whyUnknown = async (file) => /^1f8b/.test(textOf(new Uint8Array(await file.slice(0, 2).arrayBuffer()))) ? "packed by gzip: unpack it first" : "neither pcap nor pcapng";
+async function whyUnknown(file) {
+    const begin = textOf(new Uint8Array(await file.slice(0, 6).arrayBuffer())), found = [...PACKED].find(([octets]) => begin.startsWith(octets));
+    return found ? `packed by ${found[1]}: unpack it first` : UNKNOWN_FILE;
+}
+
+/* What the module says of one file that is no capture, with the program that packed it. */
+export async function saidOf(said, [file]) {
+    const why = said.includes(UNKNOWN_FILE) ? await whyUnknown(file) : UNKNOWN_FILE;
+    return why === UNKNOWN_FILE ? said : said.replace(/neither pcap nor pcapng(: \d+)?/, why);
+}
 
 /* What one file gives: its slow protocols frames, when it begins, and its last packet, up to which it goes; whether it has LACPDUs, and why it cannot be read to its
  * end. `numberOf` gives interfaces their numbers. */
@@ -169,8 +183,8 @@ function numbering(names, file, isAlone) {
 
 /* Slow protocols frames of files as one capture, by their times. `names` has
  * whence each interface is, `places` for each packet its file and its number there, `faults` what cannot be read, `silent` the files that can
- * be read and have no LACPDU, and `doubled` how many frames stand in several files and are taken once. Packets that were cut get whole. Files of
- * different times end together; `apart` says so. */
+ * be read and have no LACPDU, `doubled` how many frames stand in several files and are taken once, and `fileEnds` for each link when its file ends, in
+ * seconds, and whether it is cut short. Packets that were cut get whole. Files of different times end together; `apart` says so. */
 export async function merged(files) {
     const given = [], faults = [], silent = [], names = new Map();
     for (const file of files) {
@@ -180,19 +194,20 @@ export async function merged(files) {
         if (it.fault) faults.push(`cannot read ${file.name}: ${it.fault}`);
         else if (it.isSilent) silent.push(it.stem);
     }
-    const all = given.flatMap(({ kept }) => kept), first = sameLinks(all, names.size), linkOf = (number) => first[number], { moves, apart, note } = movesOf(given, linkOf);
+    const all = given.flatMap(({ kept }) => kept), first = sameLinks(all, names.size), linkOf = (number) => first[number], { moves, apart, note, ends } = movesOf(given, linkOf);
     const kept = once(all, linkOf).map((it) => ({ ...it, time: it.time + (moves.get(it.file) ?? 0n) })).sort((one, other) => one.time < other.time ? -1 : Number(one.time > other.time));
     const places = new Map(kept.map(({ file, of }, number) => [number + 1, { file: file.name, number: of }]));
     const comments = new Map(kept.flatMap(({ comment }, number) => comment ? [[number + 1, comment]] : []));
     const capture = captureOf([...names.keys()].map(() => ETHERNET), kept.map((it) => ({ ...it, number: linkOf(it.number) })));
-    return { capture, names, places, comments, faults, silent, apart, moved: note, doubled: all.length - kept.length };
+    const fileEnds = new Map([...ends].map(([link, { to, isCut }]) => [link, { until: secondsFrom(to, kept[0].time), isCut }]));
+    return { capture, names, places, comments, faults, silent, fileEnds, apart, moved: note, doubled: all.length - kept.length };
 }
 
 /* What is read: one capture as it is, with what it says of interfaces and packets; several as one, one whose LACPDUs are cut made whole, and one
  * that joins captures sorted by time, where `numbers` has those of its packets. Packets and text are those of `source`. */
 export async function captureFrom(files, isJoined = false) {
     const looked = files.length === 1 ? await lookedAt(files[0]) : null;
-    if (looked && !looked.cut && !isJoined) return { capture: files[0], source: files[0], ...looked, places: new Map(), numbers: new Map(), faults: [], silent: [], apart: "", note: "" };
+    if (looked && !looked.cut && !isJoined) return { capture: files[0], source: files[0], ...looked, places: new Map(), numbers: new Map(), faults: [], silent: [], fileEnds: new Map(), apart: "", note: "" };
     const found = await merged(files), notes = [];
     if (looked?.cut) notes.push(`Its packets are cut behind ${looked.cut} octets: both ends are in them, and what follows, as CollectorMaxDelay, is taken as 0.`);
     if (isJoined) notes.push("It joins captures one behind the other: its packets are sorted by time.");

@@ -3,8 +3,8 @@
 import { Lagtool } from "./module.js";
 import { Records } from "./records.js";
 import { counted } from "./keys.js";
-import { countsOf, headlineOf } from "./summary.js";
-import { captureFrom } from "./files.js";
+import { countsOf, headlineOf, strangersSaid } from "./summary.js";
+import { captureFrom, saidOf } from "./files.js";
 import { areJoined } from "./cases.js";
 import { picturesOf, showRecords } from "./capture.js";
 import { Playing } from "./playing.js";
@@ -111,8 +111,8 @@ function lastingOf({ lasts }) {
 
 /* The records of files, and what came of it: read once more where the files join captures one behind the other. */
 async function recordsOf(lagtool, files, isJoined = false) {
-    const given = await captureFrom(files, isJoined), records = new Records(), { names, comments, silent, places, numbers } = given;
-    Object.assign(records, { names, comments, silent, places, numbers });
+    const given = await captureFrom(files, isJoined), records = new Records(), { names, comments, silent, fileEnds, places, numbers } = given;
+    Object.assign(records, { names, comments, silent, fileEnds, places, numbers });
     const onStop = (error) => error.message === "stopped" ? error : Promise.reject(error);
     const told = await run(lagtool, given.capture, { json: true }, (piece) => records.addLines(piece)).catch(onStop), isStopped = told instanceof Error;
     return !isStopped && !isJoined && areJoined(records) ? recordsOf(lagtool, files, true) : { ...given, records, told, isStopped };
@@ -120,12 +120,12 @@ async function recordsOf(lagtool, files, isJoined = false) {
 
 /* The records first, with what they show; then the text. */
 async function explain(lagtool, name, files) {
-    const { source, faults, apart, note, records, told, isStopped } = await recordsOf(lagtool, files), said = isStopped ? told.message : [...faults, told.said].filter(Boolean).join("\n");
+    const { source, faults, apart, note, records, told, isStopped } = await recordsOf(lagtool, files), said = isStopped ? told.message : [...faults, await saidOf(told.said, files)].filter(Boolean).join("\n");
     const shown = showRecords(records, source, { lines: byId("lines"), findings: byId("findings"), links: byId("links") });
     now.pairs = shown.pairs;
     byId("legend").hidden = !shown.pairs.length;
     byId("undrawn-frames").textContent = records.frames > records.kept ? `Of ${records.frames} frames ${records.kept} are drawn.` : "";
-    byId("lasts").textContent = [lastingOf(records), note].filter(Boolean).join(" ");
+    byId("lasts").textContent = [lastingOf(records), note, strangersSaid(shown.lines, records)].filter(Boolean).join(" ");
     byId("counts").textContent = countsOf(shown.causes);
     put(name, ...verdictOf(records, shown, said, apart), isStopped ? "Stopped: the findings want the whole capture." : said);
     const text = new Text(), { status = 2 } = isStopped ? {} : await run(lagtool, source, {}, (piece) => text.add(piece));

@@ -23,10 +23,10 @@ function spellsOf(end) {
     return spells;
 }
 
-/* Since when a link carries, if it is so for good; else null. */
-function steadySince({ ends, carries }, until) {
+/* Since when a link carries, if it is so for good, or up to the early end of its file; else null. */
+function steadySince({ ends, carries, early, until }) {
     const began = ends.map((it) => it?.record?.distributing.began ?? null);
-    if (!carries || began.includes(null)) return null;
+    if (!(carries || early?.carries) || began.includes(null)) return null;
     const since = Math.max(...began), least = Math.max(STEADY, AS_LONG * Math.max(0, ...ends.flatMap(spellsOf)));
     return until - since > least ? since : null;
 }
@@ -62,9 +62,9 @@ function ofOthers({ at, link, records }) {
 
 /* Up to when a finding held, at its place; null where it holds still. */
 export function untilOf(finding, place) {
-    const { link, records } = place, { rule, at, seconds } = finding;
+    const { link } = place, { rule, at, seconds } = finding;
     if (link.isPast) return at.record?.last ?? null;
     if (LASTS.has(rule)) return at.last && seconds !== null ? LASTS.get(rule)({ ...place, at }) : null;
-    const since = OVER_BY_CARRYING.includes(rule) ? steadySince(link, records.lacpdus.last) : null;
+    const since = OVER_BY_CARRYING.includes(rule) ? steadySince(link) : null;
     return since !== null && seconds !== null && seconds <= since ? since : null;
 }

@@ -118,6 +118,7 @@ export class Records {
         this.names = new Map();
         this.comments = new Map();
         this.silent = [];
+        this.fileEnds = new Map();
         this.places = new Map();
         this.numbers = new Map();
     }
@@ -280,6 +281,18 @@ function markPast(links, until) {
     }
 }
 
+/* Marks up to when each link is judged (`until`), which is the end of its file; and links that are silent beside the other files, and not up to there
+ * (`early`): whether the file is cut short, and whether the link carries then. */
+function markEarly(links, { fileEnds, lacpdus }) {
+    for (const link of links) {
+        const heard = link.ends.filter((it) => it?.last), file = heard.length ? fileEnds.get(heard[0].interface) : null, [one, other] = heard;
+        link.until = Math.min(file?.until ?? Infinity, lacpdus.last);
+        const isEarly = heard.some((it) => isSilent(it, lacpdus.last)) && !heard.some((it) => isSilent(it, link.until));
+        const carries = heard.length === 2 && heard.every(isUpByItself) && namesLast(one, other) && namesLast(other, one);
+        link.early = isEarly ? { isCut: file.isCut, carries } : null;
+    }
+}
+
 /* Ends beside a link, on the interface of one of its ends, that spoke with it: they named it, or it named them. */
 export function othersBeside(link, at, { all }) {
     const meet = (one, other) => [...one].some((it) => other.has(it)), ends = link.ends.filter(Boolean);
@@ -306,6 +319,7 @@ function pairOfUnknown([system], pairs) {
 export function bundlesOf(records) {
     const all = linksOf(records);
     markPast(all, records.lacpdus.last);
+    markEarly(all, records);
     const links = all.map((link) => ({ link, systems: systemsOf(link) }));
     const pairs = new Map(links.map(({ systems }) => [systems.join(" "), systems])), bundles = new Map();
     for (const { link, systems } of links) {

@@ -1,7 +1,5 @@
-/* Captures of different times: which are, and by how much their packets are moved so that all end together, as if they were of one time. Else the end
- * of one file would be a silence of its links beside a file that goes on. */
-
-import { capitalized } from "./keys.js";
+/* Captures of different times: which are, and by how much their packets are moved so that all end together, as if they were of one time; and when each
+ * file ends. */
 
 /* Files that overlap for less are of different times; seconds. */
 const MOST_COMMON = 5;
@@ -11,7 +9,7 @@ const LATE = 1.5, SELDOM = 31;
 const MOST_TOLD = 4;
 
 const NANOSECONDS_OF = 1e9;
-const secondsFrom = (time, begin) => Number(time - begin) / NANOSECONDS_OF;
+export const secondsFrom = (time, begin) => Number(time - begin) / NANOSECONDS_OF;
 const least = (times) => times.reduce((one, other) => other < one ? other : one);
 const most = (times) => times.reduce((one, other) => other > one ? other : one);
 
@@ -39,25 +37,23 @@ function partsIn(files, linkOf) {
     }
     return parts.filter(({ files: own }) => own.some(({ kept }) => kept.length)).map((part) => {
         const kept = part.files.flatMap((it) => it.kept), from = least(part.files.map((it) => it.from).filter((it) => it !== null)), to = most(kept.map(({ time }) => time));
-        const lacpdus = kept.filter((it) => it.isLacpdu), times = lacpdus.map(({ time }) => time).sort((one, other) => one < other ? -1 : 1);
-        return { ...part, from, to, pace: paceOf(lacpdus), gap: longestOf(times) };
+        const lacpdus = kept.filter((it) => it.isLacpdu);
+        return { ...part, from, to, pace: paceOf(lacpdus), isCut: part.files.some(({ fault }) => fault) };
     });
 }
 
-/* For how long both of two parts are there, of which one begins and ends before the other; null where they may be of one time: of files of one time and
- * of several lengths a link went down, or came up. */
-function apartBy(one, other) {
-    if (one.from > other.from) return apartBy(other, one);
+/* Whether two parts are of different times: one begins and ends before the other, and both are hardly there at once. */
+function areApart(one, other) {
+    if (one.from > other.from) return areApart(other, one);
     const later = secondsFrom(other.from, one.from), longer = secondsFrom(other.to, one.to), common = secondsFrom(one.to, other.from);
-    if (later <= other.pace + LATE || longer <= one.pace + LATE) return null;
-    return common < MOST_COMMON || Math.abs(later - longer) <= Math.max(one.gap, other.gap) + LATE ? { common } : null;
+    return later > other.pace + LATE && longer > one.pace + LATE && common < MOST_COMMON;
 }
 
 /* Parts that may be of one time, together. */
 function togetherIn(parts) {
     const groups = [];
     for (const it of parts) {
-        const near = groups.filter((group) => group.some((other) => !apartBy(it, other)));
+        const near = groups.filter((group) => group.some((other) => !areApart(it, other)));
         groups.splice(0, groups.length, ...groups.filter((group) => !near.includes(group)), [...near.flat(), it]);
     }
     return groups;
@@ -75,16 +71,23 @@ function timesSaid(groups) {
 }
 
 /* Of files, each with its packets (`kept`), the time of its first one (`from`), and its name: by how much the packets of each have to be moved; what is
- * said first where they are of different times, and what is noted where they overlap. `linkOf` gives the link of an interface. */
+ * said first where they are of different times, and what is noted then; and for each link when its file ends, with the moves. `linkOf` gives the link of
+ * an interface. */
 export function movesOf(files, linkOf) {
     const parts = partsIn(files, linkOf), groups = togetherIn(parts.filter(({ links, from }) => links.size && from)), moves = new Map();
-    if (groups.length < 2) return { moves, apart: "", note: "" };
+    const said = groups.length < 2 ? { apart: "", note: "" } : ofGroups(parts, groups, moves);
+    const ends = parts.flatMap(({ links, files: [{ file }], to, isCut }) => [...links].map((link) => [link, { to: to + (moves.get(file) ?? 0n), isCut }]));
+    return { moves, ...said, ends: new Map(ends) };
+}
+
+/* The same of files of different times, in groups of one time each. */
+function ofGroups(parts, groups, moves) {
     const end = endOf(parts), whole = [...groups, ...parts.filter((it) => !groups.flat().includes(it)).map((it) => [it])];
     for (const group of whole) for (const { files: own } of group) for (const it of own) moves.set(it.file, end - endOf(group));
     groups.sort((one, other) => beginOf(one) < beginOf(other) ? -1 : 1);
-    const isApart = groups.some((one) => groups.some((other) => one !== other && one.some((it) => other.some((far) => (apartBy(it, far)?.common ?? MOST_COMMON) < MOST_COMMON))));
     const longest = groups.reduce((one, other) => endOf(other) - beginOf(other) > endOf(one) - beginOf(one) ? other : one);
-    const said = `these captures are of different times (${timesSaid(groups)})`;
-    const moved = `They are taken as if they ended together: silence behind the end of a file says nothing, and seconds count from the beginning of ${namesOfFiles(longest)}.`;
-    return { moves, apart: isApart ? `${capitalized(said)}: capture all links at once. As if they were of one time:` : "", note: isApart ? moved : `${capitalized(said)}. ${moved}` };
+    return {
+        apart: `These captures are of different times (${timesSaid(groups)}): capture all links at once. As if they were of one time:`,
+        note: `They are taken as if they ended together: silence behind the end of a file says nothing, and seconds count from the beginning of ${namesOfFiles(longest)}.`,
+    };
 }

@@ -116,16 +116,40 @@ function cutSaid(texts) {
 }
 const causeOf = (given) => ({ kind: FAULT, lines: [], effects: [], ports: [], ...given });
 
-/* What bundles are compared by: of these rules a finding may be of several. */
-const COMPARING = [15, 29];
+/* Rules by which links are compared: a finding of them may be of several bundles. */
+const KEYS_DIFFER = 15, TWO_SYSTEMS = 29, COMPARING = [KEYS_DIFFER, TWO_SYSTEMS];
 /* Whether a bundle never heard a partner, on any link. */
 const hasNoPartner = ({ ports }) => ports.some((it) => it.actor) && ports.every((it) => it.actor ? !it.partner : it.link === false);
 const bundleOf = (port, bundles) => bundles.findIndex(({ ports }) => ports.includes(port.said ?? port));
 
+/* What a bundle shares with others that are compared with it: a system and its key; of keys that differ, in one pair of systems. */
+function sharedIn({ ports }, rule) {
+    const both = ports.filter((it) => it.actor && it.partner?.system).map(({ actor, partner }) => [actor, partner]);
+    return both.flatMap((ends) => ends.map(({ system, key }, side) => `${side} ${system} ${key} ${rule === KEYS_DIFFER ? ends[1 - side].system : ""}`));
+}
+
+/* For each bundle the first one that it is compared with, over others in turn. */
+function comparedIn(bundles, rule) {
+    const shared = bundles.map((it) => sharedIn(it, rule)), first = bundles.map((_, at) => at);
+    shared.forEach((own, at) => shared.slice(0, at).forEach((other, before) => {
+        if (first[before] !== first[at] && own.some((it) => other.includes(it))) {
+            const [low, high] = [first[before], first[at]].sort((one, another) => one - another);
+            first.forEach((it, place) => { if (it === high) first[place] = low; });
+        }
+    }));
+    return first;
+}
+
+/* The place of the bundle of a port; of one of the far end that of the links that lead to its system. */
+function placeOfPort(port, bundles) {
+    const at = bundleOf(port, bundles), { actor, partner } = port.said ?? port;
+    return at >= 0 ? at : bundles.findIndex(({ ports }) => ports.some((it) => it.actor && it.partner && it.actor.system === partner?.system && it.partner.system === actor?.system));
+}
+
 /* What is told as one: a rule, in a bundle; of who hears nobody (12), the other ends, those whose link has two texts, those that heard somebody before,
  * and the rest are told apart. */
 function toldAs({ rule, isImplied, port }, bundles) {
-    const at = COMPARING.includes(rule) || bundles.every(hasNoPartner) ? "" : bundleOf(port, bundles);
+    const at = bundles.every(hasNoPartner) ? "" : COMPARING.includes(rule) ? comparedIn(bundles, rule)[placeOfPort(port, bundles)] : bundleOf(port, bundles);
     return rule === 12 ? `${rule} ${at} ${isImplied} ${Boolean(port.far)} ${port.said.partner !== null}` : `${rule} ${at}`;
 }
 
@@ -142,22 +166,30 @@ function causesOfRules(found, { bundles, form }) {
         const seen = { ports, form, advice, device: deviceOf(near), meant: meant.map(({ said, far }) => ({ ...said, far })), isLasting: meant.some((it) => it.isLasting), isImplied: !here.length };
         const silent = near.filter(hasNoPartner), isOfSeveral = silent.length < bundles.length;
         const plain = (!here.length && own.implied?.(namesIn(meant))) || `${own.case?.(seen) ?? own.title ?? name}: ${who}`;
-        const title = own.whole?.({ ...seen, silent, isOfSeveral }) ?? plain;
+        const head = bundles.length > 1 && near.length === 1 ? `in ${near[0].name}: ` : "", title = own.whole?.({ ...seen, silent, isOfSeveral }) ?? `${head}${plain}`;
         return causeOf({ rank: rule, rule, clause, title, plain, advice: own.advice?.(seen) ?? advice, lines: own.said?.(seen) ?? [], ports: meant });
     });
 }
 
-/* Causes by what explains others: the first one has what follows from it, in its bundles. Where keys differ as speeds do, the speeds explain them. */
+/* Whether a cause follows from another one, in its bundles. */
+function followsFrom(it, { rank, ports }, bundles, isOfSpeed) {
+    const isOfRank = { speeds: () => (it.rank === 15 && isOfSpeed) || (it.rank === 12 && it.ports.every(isHalf)), "never-heard": isUnheard, "passive-unheard": isUnheard, "deaf-there": isUnheard }[rank];
+    const own = ports.map((port) => bundleOf(port, bundles)), isNear = !own.length || !it.ports.length || it.ports.some((port) => own.includes(bundleOf(port, bundles)));
+    return isNear && ([17, 22].includes(it.rank) || Boolean(isOfRank?.(it)));
+}
+
+/* Causes by what explains others: the first one has what follows from it, in its bundles, and so has one that compares links. Where keys differ as speeds
+ * do, the speeds explain them. */
 function inOrder(all, bundles) {
     const isOfSpeed = all.some((it) => it.rank === "speeds") && keysFollowSpeed(bundles.flatMap((it) => it.ports)), rankOf = ({ rank }) => isOfSpeed && rank === "speeds" ? RANKS.indexOf(15) - 0.5 : RANKS.indexOf(rank);
-    const [first, ...others] = all.sort((one, other) => rankOf(one) - rankOf(other));
-    if (!first) return [];
-    const isOfFirst = { speeds: (it) => (it.rank === 15 && isOfSpeed) || (it.rank === 12 && it.ports.every(isHalf)), "never-heard": isUnheard, "passive-unheard": isUnheard, "deaf-there": isUnheard }[first.rank];
-    const own = first.ports.map((it) => bundleOf(it, bundles));
-    const isNear = (it) => !own.length || !it.ports.length || it.ports.some((port) => own.includes(bundleOf(port, bundles)));
-    const isEffect = (it) => isNear(it) && ([17, 22].includes(it.rank) || isOfFirst?.(it));
-    first.effects = others.filter(isEffect).map((it) => ({ ...it, kind: EFFECT, title: it.plain ?? it.title }));
-    return [first, ...others.filter((it) => !isEffect(it))];
+    const causes = [];
+    for (let rest = all.sort((one, other) => rankOf(one) - rankOf(other)); rest.length;) {
+        const [cause, ...others] = rest, effects = causes.length && !COMPARING.includes(cause.rank) ? [] : others.filter((it) => followsFrom(it, cause, bundles, isOfSpeed));
+        cause.effects = effects.map((it) => ({ ...it, kind: EFFECT, title: it.plain ?? it.title }));
+        causes.push(cause);
+        rest = others.filter((it) => !effects.includes(it));
+    }
+    return causes;
 }
 
 /* Whether somebody holds the link of a finding, at either end: then it says nothing that it is not attached. */
@@ -241,12 +273,15 @@ function stateOfPort(port, bundle, far) {
     return saysCarry(far) === false ? [IDLE, `this end uses it, and the other, ${far.name}, does not`] : [CARRIES, "both ways"];
 }
 
+/* The name of the bundle of a port, before it, where there are several; a text of bonding need not have it. */
+const bundleSaid = ({ name }, all) => all.length > 1 && !name.endsWith(" of the text") ? `${name} ` : "";
+
 /* A line for each port of the first text, those that do not carry first. */
 export function linesOfTexts(texts) {
     const links = linksOfTexts(texts), lines = texts[0].bundles.flatMap((bundle) => bundle.ports.map((port) => {
         const [, far] = links.find(([end]) => end.said === port) ?? [port, null], { partner } = port;
         const who = partner?.system ? ` (partner ${dashed(partner.system)}${partner.port ? ` port ${partner.port}` : ""})` : "", [how, why] = stateOfPort(port, bundle, far);
-        return { name: `${port.name}${who}`, how, why };
+        return { name: `${bundleSaid(bundle, texts[0].bundles)}${port.name}${who}`, how, why };
     }));
     return [IDLE, ALONE, UNKNOWN, CARRIES].flatMap((how) => lines.filter((it) => it.how === how));
 }

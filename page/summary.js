@@ -59,7 +59,7 @@ function deafEnds(ends) {
 }
 
 /* Why a link with one end in the capture is not seen to carry. An end that nobody answers uses no link alone beside those that carry. */
-function ofOneEnd(end, until, beside) {
+function ofOneEnd(end, { until }, beside) {
     if (!end.last) return [UNKNOWN, "no LACPDU of it could be read"];
     if (end.named === end.system) return [IDLE, `${end.short} hears itself: a loop`];
     if (isSilent(end, until)) return [IDLE, `${end.short} sends nothing after ${roundedSeconds(end.record.last)}, and nobody else speaks here`];
@@ -70,9 +70,10 @@ function ofOneEnd(end, until, beside) {
 }
 
 /* Whether a link with both ends carries, and why not; and whether that says no more than their states. `beside` are the links of its systems. */
-function ofBothEnds(link, groups, until, beside) {
-    const { ends } = link, silent = ends.filter((it) => isSilent(it, until)), deaf = deafEnds(ends);
+function ofBothEnds(link, groups, beside) {
+    const { ends, until } = link, silent = ends.filter((it) => isSilent(it, until)), deaf = deafEnds(ends);
     const keys = keyDifference(link, groups) || systemDifference(link, groups);
+    if (link.early?.carries) return [UNKNOWN, "it carries"];
     if (link.carries) return keys ? [CARRIES_APART, `both ways: ${keys}`] : [CARRIES, "both ways"];
     const [one, other] = ends.map((it) => it.system), isOwn = one === other || (deaf.length > 0 && addressOf(one) === addressOf(other));
     if (isOwn) return [IDLE, "both ends have one system: a loop, or a copied identifier"];
@@ -102,18 +103,21 @@ function ofStates(ends) {
     return [IDLE, ends.map((it) => `${it.short} ${muxSaid(it.last.actor.state)}`).join("; "), "is vague"];
 }
 
+/* Up to when that is so, where the file of a link ends before others. */
+const upToSaid = ({ early, until }) => early ? `${early.carries ? "" : ","} up to ${roundedSeconds(until)}, where its file ${early.isCut ? "is cut short" : "ends"}` : "";
+
 /* Of a link: its name, its ends, how it is, and why. */
-function lineOf(link, groups, until, beside) {
+function lineOf(link, groups, beside) {
     const heard = link.ends.filter((it) => it?.last), isWhole = heard.length === 2;
     if (!heard.length) return null;
-    const [how, why, isVague] = isWhole ? ofBothEnds(link, groups, until, beside) : ofOneEnd(heard[0], until, beside), [{ label }] = heard;
+    const [how, why, isVague] = isWhole ? ofBothEnds(link, groups, beside) : ofOneEnd(heard[0], link, beside), [{ label }] = heard;
     const far = isWhole ? "" : isKnown(heard[0].named ?? "") ? ` - ${addressOf(heard[0].named)}` : " - nobody", ends = `${heard.map((it) => it.short).join(" - ")}${far}`;
-    return { link, port: heard[0].port, name: label ? `${label} (${ends})` : ends, how, why, isVague };
+    return { link, port: heard[0].port, name: label ? `${label} (${ends})` : ends, how, why: `${why}${upToSaid(link)}`, isVague };
 }
 
 /* The lines of all links, those that do not carry first; beside links, each file of them without an LACPDU is one, too. */
 export function linesOf(records, bundles) {
-    const groups = keyGroups(bundles), ofBundle = ({ links }) => links.filter((it) => !it.isPast).map((it) => lineOf(it, groups, records.lacpdus.last, links));
+    const groups = keyGroups(bundles), ofBundle = ({ links }) => links.filter((it) => !it.isPast).map((it) => lineOf(it, groups, links));
     const lines = bundles.flatMap(ofBundle).filter(Boolean);
     lines.sort((one, other) => one.port - other.port);
     const whyOf = (name) => `no LACPDU is in the file ${name}: if it is of the bond itself, which has none, leave it out. Else neither end sends on that link, as where LACP is off, or both ends are passive`;
@@ -138,7 +142,24 @@ function lagsOf(lines) {
     return [...lags.values()];
 }
 
+/* The links whose systems have nothing to do with those of others, apart; of a link that names no second system nothing is known. */
+function strangersAmong(lines) {
+    const groups = [];
+    for (const { link } of lines.filter((it) => it.link)) {
+        const systems = link.ends.flatMap((end) => end?.last ? [end.system, end.named] : []).filter(isKnown).map(addressOf), near = groups.filter((it) => systems.some((system) => it.systems.includes(system)));
+        if (systems.length > 1) groups.splice(0, groups.length, ...groups.filter((it) => !near.includes(it)), { systems: [...near.flatMap((it) => it.systems), ...systems], links: [...near.flatMap((it) => it.links), link] });
+    }
+    return groups.map(({ links }) => links.map(linkName));
+}
+
+/* That several files are of bundles that share no system; nothing where they do, or where one file has them. */
+export function strangersSaid(lines, { places }) {
+    const groups = places.size ? strangersAmong(lines) : [], named = groups.length > MOST_LAGS ? "" : ` (${groups.map(joinedBy).join("; ")})`;
+    return groups.length > 1 ? `These files are of ${groups.length} bundles that share no system${named}: nothing is compared between these.` : "";
+}
+
 const MEANT_AS_ONE = "If they are to be one, give them one key at each end; else LACP is not your trouble.";
+const SHARE_NOTHING = "They share no system: if they are to be one, another machine was captured; else LACP is not your trouble.";
 
 /* That all links carry: since when, where it was not so before, and what was the cause; else of one link, of a bundle, or of several. */
 function ofHealthy(lines, causes) {
@@ -150,7 +171,7 @@ function ofHealthy(lines, causes) {
     if (twins) return [`${links}, both ways${since}. ${capitalized(twins.title)}: right if they are an MLAG pair.`, ""];
     if (lags.length > 1) {
         const named = lags.length > MOST_LAGS ? "" : `: ${lags.map(joinedBy).join("; ")}`, flow = lags.some((it) => it.length > 1) ? ` ${flowSaid([])}` : "";
-        return [`${links}, both ways${since}, as ${lags.length} bundles${named}. ${MEANT_AS_ONE}${flow}`, ""];
+        return [`${links}, both ways${since}, as ${lags.length} bundles${named}. ${strangersAmong(lines).length === lags.length ? SHARE_NOTHING : MEANT_AS_ONE}${flow}`, ""];
     }
     return [all === 1 ? `${links}, both ways${since}. ${ONE}` : `${links}, both ways${since}: LACP is not your trouble. ${flowSaid([])}`, "good"];
 }

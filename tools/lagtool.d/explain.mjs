@@ -7,8 +7,8 @@ import { basename } from "node:path";
 import { Lagtool } from "../../page/module.js";
 import { bundlesOf, Records } from "../../page/records.js";
 import { causesOf, FAULT, titleOf } from "../../page/causes.js";
-import { CARRIES, countsOf, headlineOf, linesOf, textOfLine } from "../../page/summary.js";
-import { captureFrom } from "../../page/files.js";
+import { CARRIES, countsOf, headlineOf, linesOf, strangersSaid, textOfLine } from "../../page/summary.js";
+import { captureFrom, saidOf } from "../../page/files.js";
 import { areJoined } from "../../page/cases.js";
 import { statusIn } from "../../page/status.js";
 import { foundIn } from "../../page/implied.js";
@@ -37,7 +37,7 @@ const textOfAll = ({ headline, lines, note, counts, causes, placeOf = String }) 
 
 async function recordsOf(lagtool, files, isJoined = false) {
     const given = await captureFrom(files, isJoined), { printed, said } = lagtool.capture(new Uint8Array(await given.capture.arrayBuffer()), { json: true }), records = new Records();
-    Object.assign(records, { names: given.names, silent: given.silent, places: given.places, numbers: given.numbers });
+    Object.assign(records, { names: given.names, silent: given.silent, fileEnds: given.fileEnds, places: given.places, numbers: given.numbers });
     records.addLines(printed);
     return !isJoined && areJoined(records) ? recordsOf(lagtool, files, true) : { ...given, said, records };
 }
@@ -48,10 +48,10 @@ function faultsOf(files, faults, said) {
 }
 
 async function ofCaptures(lagtool, files) {
-    const { records, said, faults, apart, note } = await recordsOf(lagtool, files), unread = faultsOf(files, faults, said);
+    const { records, said, faults, apart, note } = await recordsOf(lagtool, files), unread = faultsOf(files, faults, await saidOf(said, files));
     const bundles = bundlesOf(records), causes = causesOf(records, bundles), lines = linesOf(records, bundles), [found] = headlineOf(lines, causes, apart);
     const isNothing = unread.length >= files.length && !records.frames, headline = found || isNothing ? found : "No LACPDU is in this capture: capture the members of the bond (eth0, eth1), not the bond; look whether LACP is on, and whether both ends are passive.";
-    return { headline, lines, note, causes, counts: countsOf(causes), said: unread.join("\n"), isApart: apart !== "", isUnread: !lines.length, placeOf: (packet) => records.placeOf(packet) };
+    return { headline, lines, note: [note, strangersSaid(lines, records)].filter(Boolean).join(" "), causes, counts: countsOf(causes), said: unread.join("\n"), isApart: apart !== "", isUnread: !lines.length, placeOf: (packet) => records.placeOf(packet) };
 }
 
 async function ofTexts(lagtool, given) {

@@ -34,7 +34,7 @@ BUNDLES = {
     "keys-until": ("for 25 s the second port was in another bond there", f"2 links carry, both ways, since 36.5 s. Before, k{KEYS[1:]}", "1. until 36.5 s"),
     "passive-until": ("for 25 s both ends were passive", "2 links carry, both ways, since 35.3 s. Before, both ends are passive.", "1. until 35.3 s"),
     "carrier-flaps": ("the far end of the second link went down seven times", "2 links carry, both ways, since 66.0 s. Before, a link is silent at both ends for a while.", "nothing is sent on p2"),
-    "link-down": ("from 25 s on the far end of the second link is down", f"{ONE}. Both ends of a link send nothing more.", "p2 (02-00-00-07-0a-01 port 2 - 02-00-00-07-0b-01 port 2): does not carry: nothing is sent"),
+    "link-down": ("from 25 s on the far end of the second link is down, in a file of its own", f"{ONE}. A link fell silent, or its capture was stopped before the others.", "port 2): not seen: it carries up to 32.8 s, where its file ends"),
     "hub": ("a third system on the second link", "1 of 3 links carries. A third system on the link, and 1 more cause.", "rule 26"),
     "key-of-one-of-three": ("the third port is in another bond there", f"2 of 3 links carry. {KEYS}", "key 399: p3"),
     "late-frames": ("from 20 s on frames of the far end of the second link come 1 to 7 s late", "2 of 2 links carry. No LACPDU for longer than the partner's timeout.", "at p2"),

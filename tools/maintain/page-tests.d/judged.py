@@ -3,6 +3,7 @@
 from __future__ import annotations
 
 import os
+import re
 import subprocess
 import tempfile
 
@@ -93,13 +94,48 @@ def of_several(tests: Tests) -> None:
     """Two bonds in one text: each has its cause in the first line, the bond that is down first."""
     other = {name: status(name).replace("Slave Interface: p", "Slave Interface: q").replace("02:00:00:01:0a:", "02:00:00:01:0d:") for name in ("healthy-bonding.txt", "static-bonding.txt")}
     keys, down = status("keys-bonding.txt"), other["healthy-bonding.txt"].replace("MII Status: up\nSpeed", "MII Status: down\nSpeed")
-    differ = "Keys differ within one pair of systems: p1, p2."
-    for name, pair in ("first", [down, keys]), ("last", [keys, down]):
+    differ = "keys differ within one pair of systems: p1, p2."
+    for name, pair, at in ("first", [down, keys], 2), ("last", [keys, down], 1):
         first = told_of("\n".join(pair))[1].partition("\n")[0]
-        tests.same(f"the bond that is down stands {name}", first, f"1 of 4 links carries, in 2 bundles. The link of q1, q2 is down. {differ}")
+        tests.same(f"the bond that is down stands {name}", first, f"1 of 4 links carries, in 2 bundles. The link of q1, q2 is down. In bond {at} of the text: {differ}")
     said = told_of(f"{keys}\n{other['static-bonding.txt']}")[1]
     tests.same("one of two bonds never heard anybody", UNHEARD.replace("link:", "link of bond 2 of the text:") in said.partition("\n")[0], True)
     tests.same("the keys of another bond are not named", ["p1: key 79; p2: key 143\n" in said, "q1" in said.partition("several keys")[2].partition("\n")[0]], [True, False])
+
+
+def of_bonds_alike(tests: Tests) -> None:
+    """Two bonds of one host with the same cause, at systems of their own: each has its cause, with its ports and what to do, and its links have its name."""
+    cases = {
+        "keys, at one port": ("keys-bonding.txt", "keys differ within one pair of systems", "p1: key 79; p2: key 143", "{} name one port of one system"),
+        "keys, at two ports": ("keys-bonding.txt", "keys differ within one pair of systems", "p1: key 79; p2: key 143", "Put the other ends of these ports into one group there"),
+        "two systems": ("third-bonding.txt", "links lead to two systems", "p1: ", "Cable these links to one system"),
+    }
+    for name, (file, title, seen, advice) in cases.items():
+        one = status(file)
+        if "two ports" in name:
+            before, part, rest = one.rpartition("details partner lacp pdu:")
+            one = f"{before}{part}{rest.replace('port number: 1', 'port number: 2')}"
+        other = re.sub("((?:[0-9a-f]{2}:){4}[0-9a-f]{2}):(?!00:00)", lambda it: f"{it[1][:-2]}{int(it[1][-2:], 16) ^ 64:02x}:", one).replace("Interface: p", "Interface: q")
+        ended, said = told_of(f"==> /proc/net/bonding/bond0 <==\n{one}\n==> /proc/net/bonding/bond1 <==\n{other}")
+        wanted = [f"\n{at}. in {bond}: {title}: {port}1, {port}2 (rule " in said for at, bond, port in ((1, "bond0", "p"), (2, "bond1", "q"))]
+        seens = [said.count(seen.replace("p", port)) for port in "pq"]
+        tests.same(f"two bonds, {name}", [ended, *wanted, *seens, *(advice.format(f"{port}1, {port}2") in said for port in "pq"), f"\n3. {title}" in said], [1, True, True, 1, 1, True, True, False])
+        tests.same(f"two bonds, {name}: advice", said.count(advice.format("p1, p2")) + said.count(advice.format("q1, q2")), 2 if "{}" in advice else 4)
+        tests.same(f"two bonds, {name}: lines", sorted(it.split(" (")[0] for it in said.splitlines() if " (partner " in it), [f"  bond{at} {port}{number}" for at, port in enumerate("pq") for number in (1, 2)])
+
+
+def of_bonds_apart(tests: Tests) -> None:
+    """Two bonds of one host with a cause each; one that is healthy, beside a broken one; and two that lead to one group there, which is one cause of both."""
+    files = {name: status(f"{name}-bonding.txt") for name in ("keys", "deaf", "healthy")}
+    keys, deaf = "in {}: keys differ within one pair of systems: {}", "in {}: a port hears nobody: {}"
+    cases = (("keys", "deaf", 2, [keys.format("bond0", "p1, p2"), deaf.format("bond1", "q2")]), ("healthy", "keys", 3, [keys.format("bond1", "q1, q2")]),
+             ("healthy", "healthy", 4, ["links lead to two systems: the other end of p1, q1"]))  # fmt: skip
+    for here, beside, carry, causes in cases:
+        other = files[beside].replace("Interface: p", "Interface: q").replace("02:00:00:01:0a:", "02:00:00:01:0d:")
+        ended, said = told_of(f"==> /proc/net/bonding/bond0 <==\n{files[here]}\n==> /proc/net/bonding/bond1 <==\n{other}")
+        head = " ".join(f"{it[0].upper()}{it[1:]}." for it in causes)
+        found = [ended, said.partition("\n")[0], re.findall(r"^\d\. (?!remark)(.*) \(rule", said, re.M)]
+        tests.same(f"two bonds, {here} and {beside}", found, [1, f"{carry} of 4 links carry, in 2 bundles. {head}", causes])
 
 
 def of_team_text(tests: Tests) -> None:
@@ -112,5 +148,5 @@ def of_team_text(tests: Tests) -> None:
 
 
 def of_judged(tests: Tests) -> None:
-    for it in of_copies, of_unused, of_unheard, of_several, of_team_text:
+    for it in of_copies, of_unused, of_unheard, of_several, of_bonds_alike, of_bonds_apart, of_team_text:
         it(tests)

@@ -18,6 +18,7 @@ ADVICE = "[...document.querySelectorAll('#findings > li > span')].map((it) => it
 HASH = "LACP is not your trouble. One flow has the speed of one link: the hash chooses it."
 APART = "If they are to be one, give them one key at each end; else LACP is not your trouble."
 EACH = "each by itself: a bond uses one of its links"
+EARLY = "A link fell silent, or its capture was stopped before the others"
 SYSTEM = "02-00-00-00-00-0"
 
 
@@ -32,6 +33,7 @@ def of_summaries(tests: Tests, browser: Browser, folder: str) -> None:
     of_ends(tests, browser, folder)
     of_files(tests, browser, folder)
     of_packed(tests, folder)
+    of_strangers(tests, os.path.join(folder, "strangers"))
     of_many(tests, browser, folder)
     of_unreadable(tests, browser, folder)
 
@@ -198,19 +200,21 @@ def links_at(folder: str, times: list[range], keys: tuple[int, int] = (8, 8), so
 
 
 def of_times(tests: Tests, browser: Browser, folder: str) -> None:
-    """Captures one behind the other are told first, and their links are compared; that one ends earlier is no silence. Links that go down, or come up, in
-    captures of one time are no such captures."""
+    """Captures one behind the other are told first, and their links are compared; that one ends earlier is no silence. A file that ends before another one
+    of its time does so since its link fell silent, or since its capture was stopped: both are told, and the link does not count as one that carries."""
     words = "These captures are of different times ({}): capture all links at once. As if they were of one time: "
-    after, late = "eth1: 0.0 to 59.1 s; eth2: 90.0 to 149.1 s", "eth1: 0.0 to 59.1 s; eth2: 10.0 to 69.1 s"
-    both, keys, one = f"2 links carry, both ways: {HASH}", "1 of 2 links carries. Keys differ within one pair of systems.", "1 of 2 links carries. Both ends of a link send nothing more."
+    after = "eth1: 0.0 to 59.1 s; eth2: 90.0 to 149.1 s"
+    both, keys, one = f"2 links carry, both ways: {HASH}", "1 of 2 links carries. Keys differ within one pair of systems.", f"1 of 2 links carries. {EARLY}."
     cases = {
         "one behind the other": ([range(60), range(90, 150)], (8, 8), words.format(after) + both, True),
         "one behind the other, with two keys": ([range(60), range(90, 150)], (9, 8), words.format(after) + keys, True),
         "for 10 s each": ([range(10), range(12, 22)], (8, 8), words.format("eth1: 0.0 to 9.1 s; eth2: 12.0 to 21.1 s") + both, True),
-        "begun 10 s apart": ([range(60), range(10, 70)], (8, 8), both, True),
         "with long timeouts, at one time": ([range(3, 4), range(10, 11)], (8, 8), both, False),
-        "a link that goes down": ([range(60), range(20)], (8, 8), one, False),
-        "a link that goes down, and one that comes up": ([range(50), range(25, 100)], (8, 8), one, False),
+        "of which one ends early": ([range(60), range(20)], (8, 8), one, False),
+        "of which one ends 4 s before the other": ([range(60), range(56)], (8, 8), one, False),
+        "of which one ends 2 s before the other": ([range(60), range(58)], (8, 8), both, False),
+        "of which one ends early, and one begins late": ([range(50), range(25, 100)], (8, 8), one, False),
+        "begun 10 s apart": ([range(60), range(10, 70)], (8, 8), one, False),
     }
     for name, (times, two, headline, is_moved) in cases.items():
         paths = links_at(folder, times, two, up=made.UP if "long" in name else made.FAST)
@@ -219,7 +223,44 @@ def of_times(tests: Tests, browser: Browser, folder: str) -> None:
         said = browser.value(f"[{HEADLINE}, document.getElementById('lasts').textContent]")
         tests.same(f"captures {name}", [said[0], "as if they ended together" in said[1]], [headline, is_moved])
         ended = subprocess.run(["node", EXPLAIN, *paths], stdin=subprocess.DEVNULL, capture_output=True, text=True)
-        tests.same(f"captures {name}, as text", [ended.returncode, ended.stdout.partition("\n")[0], late in ended.stdout], [int(headline != both), headline, "10 s apart" in name])
+        tests.same(f"captures {name}, as text", [ended.returncode, ended.stdout.partition("\n")[0]], [int(headline != both), headline])
+    of_early(tests, folder)
+
+
+def of_early(tests: Tests, folder: str) -> None:
+    """Beside a link that carries for 100 s: one whose file ends early, after it carried, fell or never carried, or of which other packets or its own LACPDUs show
+    that it is silent; and one whose file is cut short, which is judged up to the cut."""
+    os.makedirs(folder, exist_ok=True)
+    (one, other), paths = made.one_link(made.FAST, port=2), [os.path.join(folder, f"eth{port}.pcap") for port in (1, 2)]
+    made.capture(paths[0], made.exchange(*made.one_link(made.FAST), range(100)))
+    whole, down = made.exchange(one, other, range(60)), made.exchange(*made.one_link(made.FAST_DOWN, port=2), range(10))
+    data = [(60.0 + second, made.frame(one.source(), b"")[:12] + b"\x08\x00" + bytes(46)) for second in range(40)]
+    dead = [*made.sends(one, other, range(9)), *made.sends(other, one, made.at(0.1, 24))]
+    taken = [*whole, *made.sends(one._replace(state=made.FAST & ~4), other, [60.0])]
+    deaf = [*made.sends(one._replace(state=made.DEFAULTED), None, range(60)), *made.sends(other._replace(state=made.FAST_DOWN), one, made.at(0.1, 60))]
+    early, not_seen, cut = f"{EARLY}.", "not seen: it carries up to {} s, where its file ends", "The file of a link is cut short."
+    cases = {
+        "stopped, or dead": (whole, early, not_seen.format("59.0"), 1),
+        "of a link with a pause": ([it for it in whole if not 9 < it[0] < 16], "A link is silent at both ends for a while, and 1 more cause.", not_seen.format("59.0"), 1),
+        "of a link that does not carry yet": (down, early, "attaches, up to 9.0 s, where its file ends", 1),
+        "of a link that hears nobody": (deaf, "An end hears nobody for longer than 6 seconds, and 1 more cause.", "port 2 hears nobody, up to 59.1 s, where its file ends", 1),
+        "of one direction": (made.sends(one, other, range(60)), "LACPDUs in one direction only, and 1 more cause.", "is not in this capture, up to 59.0 s, where its file ends", 1),
+        "of a port that is taken out": (taken, "A port is taken out of its bundle.", "up to 60.0 s, where its file ends", 1),
+        "with other packets behind": ([*whole, *data], "Both ends of a link send nothing more.", "does not carry: nothing is sent on it after 59.0 s", 1),
+        "of which an end is dead before": (dead, "An end sends nothing more.", f"does not carry: {SYSTEM}1 port 2 sends nothing after 8.0 s", 1),
+        "cut short": (whole, cut, not_seen.format("58.0").replace("ends", "is cut short"), 2),
+    }
+    for name, (packets, cause, line, status) in cases.items():
+        made.capture(paths[1], packets)
+        if status == 2:
+            os.truncate(paths[1], os.path.getsize(paths[1]) - 147)
+        ended = subprocess.run(["node", EXPLAIN, *paths], stdin=subprocess.DEVNULL, capture_output=True, text=True)
+        headline, first = ended.stdout.splitlines()[:2]
+        found = [ended.returncode, headline, first.endswith(line), EARLY.lower() in ended.stdout.lower(), ended.stderr.startswith("lagtool: cannot read eth2.pcap: octet ")]
+        tests.same(f"a file that ends early, {name}", found, [status, f"1 of 2 links carries. {cause}", True, not ("packets" in name or "dead before" in name or status == 2), status == 2])
+    made.capture(paths[0], made.exchange(*made.one_link(made.FAST), range(100)), made.exchange(one, other, range(60)))
+    ended = subprocess.run(["node", EXPLAIN, paths[0]], stdin=subprocess.DEVNULL, capture_output=True, text=True)
+    tests.same("a link that falls silent, in one file", [ended.returncode, ended.stdout.partition("\n")[0]], [1, "1 of 2 links carries. Both ends of a link send nothing more."])
 
 
 def of_one_source(tests: Tests, browser: Browser, folder: str) -> None:
@@ -232,12 +273,48 @@ def of_one_source(tests: Tests, browser: Browser, folder: str) -> None:
 
 def of_packed(tests: Tests, folder: str) -> None:
     """A capture that is packed is not said to have no LACPDU."""
-    path = os.path.join(folder, "eth9.pcap.gz")
-    with open(path, "wb") as out:
-        out.write(b"\x1f\x8b\x08" + bytes(40))
-    for given, why in ([path], "octet 0: packed by gzip: unpack it first"), ([path, path], "packed by gzip: unpack it first"):
-        ended = subprocess.run(["node", EXPLAIN, *given], stdin=subprocess.DEVNULL, capture_output=True, text=True)
-        tests.same(f"{len(given)} captures, packed", [ended.returncode, ended.stdout, ended.stderr.splitlines()[0]], [2, "", f"lagtool: cannot read eth9.pcap.gz: {why}"])
+    begins = {"gzip": b"\x1f\x8b\x08", "xz": b"\xfd7zXZ\0", "zstd": b"\x28\xb5\x2f\xfd"}
+    for name, begin in begins.items():
+        path = os.path.join(folder, f"eth9.pcap.{name}")
+        with open(path, "wb") as out:
+            out.write(begin + bytes(40))
+        for given, at in ([path], "octet 0: "), ([path, path], ""):
+            ended = subprocess.run(["node", EXPLAIN, *given], stdin=subprocess.DEVNULL, capture_output=True, text=True)
+            wanted = [2, "", f"lagtool: cannot read eth9.pcap.{name}: {at}packed by {name}: unpack it first"]
+            tests.same(f"{len(given)} captures, packed by {name}", [ended.returncode, ended.stdout, ended.stderr.splitlines()[0]], wanted)
+
+
+def of_strangers(tests: Tests, folder: str) -> None:
+    """Files of bundles that share no system are told as that, each with its own causes, and a bundle beside a broken one carries; of two links of one system
+    nothing is said, nor of a third system beside a link."""
+    os.makedirs(folder, exist_ok=True)
+    said = "These files are of 2 bundles that share no system (eth1; eth2): nothing is compared between these."
+    for name, systems in ("no system", (3, 4)), ("a system", (1, 4)):
+        paths = [os.path.join(folder, f"eth{port}.pcap") for port in (1, 2)]
+        for path, (one, other) in zip(paths, [(1, 2), systems]):
+            made.pcap(path, made.exchange(made.Party(one, 7, 1, made.FAST), made.Party(other, 8, 1, made.FAST), map(float, range(20))))
+        ended = subprocess.run(["node", EXPLAIN, *paths], stdin=subprocess.DEVNULL, capture_output=True, text=True)
+        tests.same(f"files that share {name}", [said in ended.stdout, "as 2 bundles: eth1; eth2. They share no system: " in ended.stdout], [name == "no system"] * 2)
+    stranger = made.sends(made.Party(5, 9, 5, made.FAST_DOWN), None, map(float, range(20)))
+    made.capture(paths[1], made.exchange(made.Party(1, 7, 2, made.FAST), made.Party(2, 8, 2, made.FAST), map(float, range(20))), stranger)
+    ended = subprocess.run(["node", EXPLAIN, *paths], stdin=subprocess.DEVNULL, capture_output=True, text=True)
+    tests.same("files that share a system, and a third one beside", ["share no system" in ended.stdout, "A third system" in ended.stdout], [False, True])
+    of_two_bundles(tests, folder)
+
+
+def of_two_bundles(tests: Tests, folder: str) -> None:
+    """Two bundles of two links each, a file a link: unequal keys in the first one, and in the second one nothing, or an end that is deaf."""
+    paths, up, lost = [os.path.join(folder, f"eth{port}.pcap") for port in range(1, 5)], made.FAST, made.FAST_DOWN
+    for path, (near, far, key, port, state) in zip(paths, [(1, 2, 8, 1, up), (1, 2, 9, 2, lost), (3, 4, 8, 1, up), (3, 4, 8, 2, up)]):
+        made.pcap(path, made.exchange(made.Party(near, 7, port, state), made.Party(far, key, port, state), map(float, range(20))))
+    keys, deaf = "eys differ within one pair of systems", "an end hears nobody for longer than 6 seconds"
+    for name, head in ("a healthy one", f"3 of 4 links carry. K{keys}."), ("one with another cause", f"2 of 4 links carry. K{keys}, and 1 more cause."):
+        ended = subprocess.run(["node", EXPLAIN, *paths], stdin=subprocess.DEVNULL, capture_output=True, text=True)
+        lines = ended.stdout.splitlines()
+        found = [ended.returncode, lines[0], lines[1].startswith("  eth2 "), f"1. k{keys}" in ended.stdout, f"2. {deaf}" in ended.stdout, "   key 8: eth1" in lines]
+        tests.same(f"a bundle with unequal keys beside {name}", found, [1, head, True, True, "another" in name, True])
+        one, other = made.Party(3, 7, 2, made.DEFAULTED), made.Party(4, 8, 2, lost)
+        made.capture(paths[3], made.sends(one, None, map(float, range(20))), made.sends(other, one, made.at(0.1, 20)))
 
 
 def of_one_system(tests: Tests, browser: Browser, folder: str) -> None:

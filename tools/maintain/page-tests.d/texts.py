@@ -333,7 +333,7 @@ def of_names(tests: Tests) -> None:
     named = f"==> /proc/net/bonding/bond0 <==\n{keys}\n==> /proc/net/bonding/up link <==\n{down}"
     said, counted = told_of(named), told_of(f"{keys}\n{down}")
     found = ["The bond bond0 is of the system" in said[1], "the bond up link is of the system" in said[1], "Bond 1 of the text is" in counted[1], "of the text" in said[1]]
-    tests.same("bonds by their names", [*found, said[0], said[1].partition("\n")[0] == counted[1].partition("\n")[0].replace("bond 2 of the text", "the bond up link")], [True, True, True, False, 1, True])
+    tests.same("bonds by their names", [*found, said[0], said[1].partition("\n")[0] == counted[1].partition("\n")[0].replace("bond 1 of the text", "bond0").replace("bond 2 of the text", "up link")], [True, True, True, False, 1, True])
     alone = told_of(f"==> /proc/net/bonding/bond0 <==\n{keys}")
     tests.same("a bond that is alone, by its name", alone, told_of(keys))
     static = f"==> bond4 <==\n{keys.replace('IEEE 802.3ad Dynamic link aggregation', 'load balancing (xor)')}"
