@@ -27,7 +27,8 @@ FILES = "find /etc/systemd/network /etc/netplan /etc/network /etc/NetworkManager
 BONDED = f"grep -q 'Number of ports: 2' /proc/net/bonding/bond0 && ! test -e /sys/class/net/lag0 && {PING}"
 UNBONDED = f"! test -e /sys/class/net/bond0 && ! ip -o address show eth1 | grep -v 'inet6 fe80' && ! ip -o link show eth1 | grep master && {PING}"
 TOLD = "journalctl --no-pager --lines 40 -o short-monotonic -u there -u back | cut -c 1-160; ip -br address; ls /etc/lagd"
-# Lines that stand in the text of the page: to stay, and to go back by hand.
+# Lines that stand in the text of the page: to go, to stay, and to go back by hand.
+GO = "systemd-run --collect --unit=there sh /var/lib/moving/there.sh"
 STAYS = "systemctl stop back.timer", "systemctl enable lagd@uplink"
 BACK = "systemd-run --collect --unit=back sh /var/lib/moving/back.sh", "systemctl disable lagd@uplink"
 # Both scripts, where a folder is empty.
@@ -111,11 +112,10 @@ def said(line: str) -> str:
     return line
 
 
-def lines_of(tool: Tool) -> tuple[str, str]:
-    """The lines that prepare a move, and the one that begins it."""
+def lines_of(tool: Tool) -> str:
+    """The lines that prepare a move."""
     (settings,), (files, scripts) = blocks("From bond0 to lag0, and back"), blocks(tool.section)
-    written, go = scripts.rstrip().rsplit("\n", 1)
-    return f"{settings}{files}{written}\n".replace("5min", COMES), go
+    return f"{settings}{files}{scripts}".replace("5min", COMES)
 
 
 def by_bond(guest: Guest) -> bool:
@@ -146,7 +146,7 @@ def begins(guest: Guest, tool: Tool) -> str:
 def prepares(guest: Guest, tool: Tool) -> str:
     """Steps 1 to 3. The scripts end before anything changes where a folder is missing, or empty."""
     before = guest.text(FILES)
-    ended = guest.run(f"set -e\n{lines_of(tool)[0]}")
+    ended = guest.run(f"set -e\n{lines_of(tool)}")
     check(ended.status == 0, "the lines of the page end well", ended.text)
     for empty in "bond0", "lag0":
         ended = guest.run(WITHOUT.format(empty))
@@ -157,8 +157,8 @@ def prepares(guest: Guest, tool: Tool) -> str:
     return "yes"
 
 
-def goes(guest: Guest, tool: Tool) -> str:
-    text = outage(guest, "lag0 carries, and its members have neither address nor master", lines_of(tool)[1], by_lag)
+def goes(guest: Guest) -> str:
+    text = outage(guest, "lag0 carries, and its members have neither address nor master", said(GO), by_lag)
     check(guest.run("systemctl is-active back.timer").status == 0, "the way back is to come", guest.text(TOLD))
     return text
 
@@ -193,7 +193,7 @@ def by_hand(guest: Guest) -> str:
 def rows_of(tool: Tool) -> dict[str, Callable[[Guest], str]]:
     anew = lambda guest: outage(guest, "bond0 carries again", tool.anew, by_bond)
     return {"boots with bond0": partial(begins, tool=tool), "no answer: bond0 starts anew": anew, "steps 1 to 3": partial(prepares, tool=tool),
-            "no answer: to lag0": partial(goes, tool=tool), "no answer: back by itself": by_itself, "no answer: to lag0 again": partial(goes, tool=tool),
+            "no answer: to lag0": goes, "no answer: back by itself": by_itself, "no answer: to lag0 again": goes,
             "kept": stays, "no answer: back by hand": by_hand}  # fmt: skip
 
 
