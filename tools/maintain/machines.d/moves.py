@@ -17,8 +17,8 @@ from native import CARD
 from repository import TOP, read_text
 
 PAGE = read_text(os.path.join(TOP, "docs", "MOVING.md"))
-# For how many seconds a way is awaited. The one back comes by itself after so many, in the place of the page's.
-MOVES, COMES = 180, "90s"
+# For how many seconds a way is awaited; that back comes by itself after so many, as the page has it.
+MOVES, ITSELF = 180, 300
 PING = f"ip netns exec far ping -q -c 1 -W 1 {NEAR_AT} >/dev/null"
 PINGS = f"ip netns exec far ping -D -i 0.01 {NEAR_AT} >/run/pings 2>&1 & echo $! >/run/pinging; sleep 1"
 LONGEST = """kill -INT $(cat /run/pinging)
@@ -26,7 +26,6 @@ awk -F '[][]' '/bytes from/ { if (last && $2 - last > most) most = $2 - last; la
 FILES = "find /etc/systemd/network /etc/netplan /etc/network /etc/NetworkManager/system-connections -type f -exec md5sum {} + | sort"
 BONDED = f"grep -q 'Number of ports: 2' /proc/net/bonding/bond0 && ! test -e /sys/class/net/lag0 && {PING}"
 UNBONDED = f"! test -e /sys/class/net/bond0 && ! ip -o address show eth1 | grep -v 'inet6 fe80' && ! ip -o link show eth1 | grep master && {PING}"
-TOLD = "journalctl --no-pager --lines 40 -o short-monotonic -u there -u back | cut -c 1-160; ip -br address; ls /etc/lagd"
 # Lines that stand in the text of the page: to go, to stay, and to go back by hand.
 GO = "systemd-run --collect --unit=there sh /var/lib/moving/there.sh"
 STAYS = "systemctl stop back.timer", "systemctl enable lagd@uplink"
@@ -115,7 +114,7 @@ def said(line: str) -> str:
 def lines_of(tool: Tool) -> str:
     """The lines that prepare a move."""
     (settings,), (files, scripts) = blocks("From bond0 to lag0, and back"), blocks(tool.section)
-    return f"{settings}{files}{scripts}".replace("5min", COMES)
+    return settings + files + scripts
 
 
 def by_bond(guest: Guest) -> bool:
@@ -126,11 +125,11 @@ def by_lag(guest: Guest) -> bool:
     return carrying(guest) == 2 and guest.run(UNBONDED).status == 0
 
 
-def outage(guest: Guest, what: str, event: str, holds: Callable[[Guest], bool]) -> str:
+def outage(guest: Guest, what: str, event: str, holds: Callable[[Guest], bool], seconds: float = MOVES) -> str:
     """The longest time between two answers to a ping each 10 ms from the far end, while a way is gone."""
     guest.run(PINGS)
     guest.run(event)
-    check(guest.within(MOVES, lambda: holds(guest)), what, guest.text(TOLD), journal(guest))
+    check(guest.within(seconds, lambda: holds(guest)), what, journal(guest))
     guest.sleep(2)
     return guest.text(LONGEST)
 
@@ -139,7 +138,7 @@ def begins(guest: Guest, tool: Tool) -> str:
     """The machine has its bond0, beside bonding."""
     took = guest.boots()
     guest.run(f"{BOND}\nfind /{FOLDER} -type f -empty -delete; systemctl disable -q lagd@uplink\n{tool.starts}")
-    check(guest.within(MOVES, lambda: by_bond(guest)), "both links of bond0 carry", guest.text(f"{TOLD}; cat /proc/net/bonding/bond0"))
+    check(guest.within(MOVES, lambda: by_bond(guest)), "both links of bond0 carry", journal(guest))
     return f"{took:.0f} s"
 
 
@@ -159,20 +158,20 @@ def prepares(guest: Guest, tool: Tool) -> str:
 
 def goes(guest: Guest) -> str:
     text = outage(guest, "lag0 carries, and its members have neither address nor master", said(GO), by_lag)
-    check(guest.run("systemctl is-active back.timer").status == 0, "the way back is to come", guest.text(TOLD))
+    check(guest.run("systemctl is-active back.timer").status == 0, "the way back is to come", journal(guest))
     return text
 
 
-def comes_back(guest: Guest, what: str, event: str) -> str:
+def comes_back(guest: Guest, what: str, event: str, seconds: float = MOVES) -> str:
     """bond0 carries, and its files are as they were."""
-    text = outage(guest, what, event, by_bond)
+    text = outage(guest, what, event, by_bond, seconds)
     differs = guest.text(f"{FILES} | diff /run/before -")
     check(differs == "", "its files are as before", differs)
     return text
 
 
 def by_itself(guest: Guest) -> str:
-    return comes_back(guest, "bond0 carries again by itself", "")
+    return comes_back(guest, "bond0 carries again by itself", "", ITSELF + MOVES)
 
 
 def stays(guest: Guest) -> str:

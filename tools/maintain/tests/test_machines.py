@@ -46,5 +46,5 @@ def test_a_late_answer_is_not_that_of_the_next_script(tmp_path: Path) -> None:
 def test_the_lines_of_a_move_stand_in_its_page(name: str) -> None:
     written = moves.lines_of(moves.TOOLS[name])
     assert subprocess.run(["sh", "-n"], input=written.encode()).returncode == 0
-    assert all(f"cat >/var/lib/moving/{it}.sh <<'END'\n" in written for it in ("there", "back")) and written.count(moves.COMES) == 1
+    assert all(f"cat >/var/lib/moving/{it}.sh <<'END'\n" in written for it in ("there", "back"))
     assert all(moves.said(it) for it in (moves.GO, *moves.STAYS, *moves.BACK))
