@@ -89,7 +89,7 @@ class Journal(NamedTuple):
 
     def __str__(self) -> str:
         try:
-            return self.guest.text("journalctl --no-pager --lines 15 -o short-monotonic -u 'lagd@*' -u far | cut -c 1-160; ip -br address")
+            return self.guest.text("journalctl --no-pager --lines 25 -o short-monotonic -u 'lagd@*' -u far -u there -u back | cut -c 1-160; ip -br address")
         except (Failed, OSError) as why:
             return f"the guest does not tell: {why}"
 

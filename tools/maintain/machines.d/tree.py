@@ -14,7 +14,7 @@ from repository import MAINTAIN, write_text
 
 # What the tree has beside a minimal Debian; the libraries are those that lagd needs, so that packages are installed without a network.
 NEEDED = ("systemd-sysv", "udev", "dbus", "iproute2", "ethtool", "iputils-ping", "iperf3", "libteam-utils", "kmod", "procps", "tcpdump", "bridge-utils",
-          "libinih1", "libmnl0", "libcap-ng0", "libbpf1", "netplan.io", "libnuma1", "libunbound8", "libxdp1")  # fmt: skip
+          "libinih1", "libmnl0", "libcap-ng0", "libbpf1", "netplan.io", "ifupdown", "ifenslave", "network-manager", "libpam-systemd", "libnuma1", "libunbound8", "libxdp1")  # fmt: skip
 # Open vSwitch, which stands in a folder of its own: nothing of it is found by chance, or runs at boot.
 SWITCH, SWITCH_PACKAGES = "/opt/openvswitch", tuple(f"openvswitch-{it}/{RELEASE}" for it in ("common", "switch"))
 MEGABYTES = 1000
@@ -150,6 +150,7 @@ def image(packages: Packages, debs: str, newer: str, folder: str) -> str:
     in_tree(tree, "cp", f"{examples}/90-lagd.rules", "/etc/udev/rules.d/90-lagd.rules")
     in_tree(tree, "install", "-D", "-m", "644", f"{examples}/carry.conf", "/etc/systemd/system/lagd@uplink.service.d/carry.conf")
     in_tree(tree, "systemctl", "enable", "-q", "guest-shell", "guest-far", "systemd-networkd", "lagd@uplink")
+    in_tree(tree, "systemctl", "disable", "-q", "NetworkManager")
     for unit in MASKED:
         in_tree(tree, "systemctl", "mask", "-q", unit)
     made = f"{folder}/root.img"

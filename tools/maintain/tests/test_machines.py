@@ -13,6 +13,7 @@ import loading
 loading.program("machines")  # what its modules import is looked up then
 filing = loading.module("machines.d", "filing")
 guests = loading.module("machines.d", "guest")
+moves = loading.module("machines.d", "moves")
 tree = loading.module("machines.d", "tree")
 
 
@@ -39,3 +40,11 @@ def test_a_late_answer_is_not_that_of_the_next_script(tmp_path: Path) -> None:
             guest.run("sleep 1; echo first", 0.3)
         assert guest.run("echo second; exit 3") == (3, "second") and guest.text("echo third") == "third"
         process.kill()
+
+
+@pytest.mark.parametrize("name", moves.TOOLS)
+def test_the_lines_of_a_move_stand_in_its_page(name: str) -> None:
+    written = moves.lines_of(moves.TOOLS[name])
+    assert subprocess.run(["sh", "-n"], input=written.encode()).returncode == 0
+    assert all(f"cat >/var/lib/moving/{it}.sh <<'END'\n" in written for it in ("there", "back"))
+    assert all(moves.said(it) for it in (moves.GO, *moves.STAYS, *moves.BACK))
