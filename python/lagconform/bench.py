@@ -24,9 +24,13 @@ LIMIT = 1.1
 SOON = PROMPT + LIMIT + 0.4
 # So long a device sends nothing new before a test asks it for several LACPDUs in a row.
 REST = LIMIT + 0.1
+# An LACPDU that comes so long behind another one is the periodic one of a second, and so long a test waits for it (6.4.4: 0.75 to 1.25 s, twice).
+PERIOD, BEHIND = 0.7, 2.5
 # How long a device may be quiet if it was asked for long timeouts, or is on defaults (6.4.4: 30 s).
 QUIET = 35.0
 HOOK_SECONDS = 40.0
+# So long a hook's data is waited for: on a busy device its sender takes seconds to begin.
+DATA_BEGINS = 10.0
 # Words of the hook behind which the device has to begin anew, on a link or on all.
 ENDING = ("down", "stop", "reset")
 # What undoes which word.
@@ -165,6 +169,7 @@ class Bench:
         limit = self.now() + seconds
         while True:
             now = self.now()
+            self.late = max(self.late, self.pause())
             for link in self.links.values():
                 link.partner.act(now)
             if stop and stop():
@@ -182,6 +187,15 @@ class Bench:
     def wait(self, seconds: float) -> None:
         """Runs the links for so long."""
         self.until(seconds)
+
+    def pause(self) -> float:
+        """For how many seconds a partner has waited for its tick: as long nobody has run the links."""
+        return max(self.now() - it.partner.next_tick for it in self.links.values())
+
+    def resume(self) -> None:
+        """Time goes on from now: what passed since the links were run is no lateness."""
+        for link in self.links.values():
+            link.partner.resume()
 
     # What was seen.
 
@@ -320,6 +334,15 @@ class Bench:
         if not self.is_up(link):
             self.up(link)
 
+    def behind(self, link: int = 1) -> None:
+        """Waits until the device has sent its periodic LACPDU on a link whose partner asked for short timeouts, so that the next one is a whole period
+        away: what it sends before that is prompt. One that sends none such is waited for no longer than BEHIND."""
+        limit, seen = self.now() + BEHIND, self.links[link].frame
+        while seen:
+            last, seen = seen, self.first(link, seen.number, lambda _: True, max(0.0, limit - self.now()))
+            if seen and seen.time - last.time >= PERIOD:
+                return
+
     def say(self, link: int = 1, **bits: bool) -> Frame:
         """Forces bits of our state, by their names, and sends an LACPDU at once; answers its frame."""
         names = {
@@ -377,6 +400,13 @@ class Bench:
             raise HookFailed(f"the hook did not end in {HOOK_SECONDS:g} s: {' '.join(words)}")
         return got[0]
 
+    def data_starts(self) -> int:
+        """Has the device's client send, and waits for its first frame, if one comes; a place in the log before it."""
+        self.hook("data", "start")
+        mark = self.mark()
+        self.until(DATA_BEGINS, lambda: any(not it.out and is_data(it.octets) for it in self.frames[mark:]))
+        return mark
+
     @contextmanager
     def undone(self, undo: Callable[[], None]) -> Iterator[None]:
         """Leaves the device as it was where what is inside ends early, as SIGTERM ends it."""
@@ -394,6 +424,7 @@ class Bench:
             return
         began = self.now()
         self.wire.flap(link, up)
+        self.resume()
         self._did(began, ("up" if up else "down", str(link)))
 
     # What a test claims.

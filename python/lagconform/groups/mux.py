@@ -55,6 +55,7 @@ def collects(b: Bench) -> None:
     system = b.partner().me.system
     wrong = list(b.heard(1, mark, lambda pdu: pdu.actor.state & CARRIES and pdu.partner.system == system))
     b.holds(not wrong, "it does not collect before", *wrong[:2])
+    b.behind()
     mark, sent = b.mark(), b.say(sync=True)
     seen = b.first(1, mark, lambda pdu: pdu.actor.state & State.COLLECTING, 3)
     b.timed("it collects", sent, seen, 0, PROMPT)
@@ -73,12 +74,14 @@ def back_to_attached(b: Bench) -> None:
     """From COLLECTING_DISTRIBUTING the port goes to ATTACHED, not to DETACHED, if the partner falls out of sync."""
     b.still_up()
     b.wait(REST)
+    b.behind()
     mark, sent = b.mark(), b.say(sync=False, collecting=False, distributing=False)
     seen = b.first(1, mark, does_not_carry, SOON)
     b.timed("it neither collects nor distributes", sent, seen, 0, PROMPT)
     b.wait(1.5)
     wrong = list(b.heard(1, mark, lambda pdu: not pdu.actor.state & State.SYNCHRONIZATION))
     b.holds(not wrong, "it stays synchronized: ATTACHED", *wrong[:2])
+    b.behind()
     mark = b.mark()
     b.partner().forced.clear()
     sent = b.partner().send()
@@ -157,6 +160,7 @@ def alternates(b: Bench) -> None:
     b.still_up()
     b.partner().keep_pace(1)
     b.wait(REST)
+    b.behind()
     start = b.mark()
     for turn in range(6):
         on = bool(turn % 2)
@@ -179,6 +183,7 @@ def out_for(seconds: float) -> Run:
         heard = next(b.heard(1, b.frame().number - 1), None)
         quiet = b.now() - b.frame().time
         b.claim(quiet <= 2, f"after {seconds:g} s out of sync its last LACPDU is {quiet:.1f} s old; has to be 1 s", heard)
+        b.behind()
         mark, sent = b.mark(), b.say(sync=True, collecting=True, distributing=True)
         seen = b.first(1, mark, carries, 4)
         b.timed(f"in sync after {seconds:g} s, it carries", sent, seen, 0, PROMPT)

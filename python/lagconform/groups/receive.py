@@ -49,6 +49,7 @@ def differs(field: str) -> Run:
 
     def run(b: Bench) -> None:
         b.still_up()
+        b.behind()
         partner = b.partner()
         mark, partner.says = b.mark(), lambda info: other(info, field)
         sent = partner.send()
@@ -81,6 +82,7 @@ def each_octet(b: Bench) -> None:
     b.still_up()
     partner = b.partner()
     for at in range(6):
+        b.behind()
         mark, partner.says = b.mark(), lambda info, at=at: other_octet(info, at)  # type: ignore[misc]
         sent = partner.send()
         seen = b.first(1, mark, does_not_carry, SOON)
@@ -148,6 +150,7 @@ def not_maintained(b: Bench) -> None:
     b.wait(1.2)
     if not b.carries():
         raise Stop("it does not carry for a passive partner")
+    b.behind()
     mark = b.mark()
     partner.says = lambda info: Info(info.system, info.key, info.port, info.state & ~State.ACTIVITY)
     sent = partner.send()
@@ -160,6 +163,7 @@ def selects_anew(field: str) -> Run:
 
     def run(b: Bench) -> None:
         b.still_up()
+        b.behind()
         partner = b.partner()
         partner.become_other(field)
         mark, sent = b.mark(), partner.send()
@@ -187,6 +191,7 @@ for _place, _field in enumerate(SIX):
 def selected_anew(b: Bench, what: str, **changes: Any) -> None:
     """Another end in the place of our own, by these fields: the device has to select anew."""
     b.still_up()
+    b.behind()
     partner = b.partner()
     partner.become(**changes)
     mark, sent = b.mark(), partner.send()

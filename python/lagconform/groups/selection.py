@@ -33,8 +33,7 @@ PROBE = b"lagconform "
 def flows(b: Bench, links: Sequence[int] = (1, 2)) -> dict[int, int]:
     """How many flows of the device's client came on each link, while a hook makes it send."""
     with b.undone(lambda: b.hook("data", "stop")):
-        b.hook("data", "start")
-        mark = b.mark()
+        mark = b.data_starts()
         b.wait(SECONDS)
         found = {link: b.data(mark, link) for link in links}
     b.hook("data", "stop")
@@ -217,6 +216,7 @@ def individual(b: Bench) -> None:
 def leaves(b: Bench) -> None:
     """A link whose partner changes its key leaves the aggregator, and the others stay."""
     b.up(1, 2)
+    b.behind(2)
     b.partner(2).become_other("key")
     mark, sent = b.mark(), b.partner(2).send()
     seen = b.first(2, mark, does_not_carry, SOON)
@@ -274,8 +274,7 @@ def in_order(b: Bench) -> None:
     neither duplicates nor misorders."""
     b.up(1, 2)
     with b.undone(lambda: b.hook("data", "stop")):
-        b.hook("data", "start")
-        mark, partner = b.mark(), b.partner(2)
+        mark, partner = b.data_starts(), b.partner(2)
         b.wait(2)
         key = partner.me.key
         partner.become_other("key")
@@ -409,6 +408,7 @@ def two_and_one(b: Bench) -> None:
 def one_of_three_leaves(b: Bench) -> None:
     """A link that leaves the aggregator takes no other one along."""
     b.up(*THREE)
+    b.behind(3)
     b.partner(3).become_other("key")
     mark, sent = b.mark(), b.partner(3).send()
     seen = b.first(3, mark, does_not_carry, SOON)

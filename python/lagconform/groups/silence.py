@@ -90,6 +90,7 @@ def returns(b: Bench) -> None:
     mark, _ = fall_silent(b)
     if not b.first(1, mark, lambda pdu: pdu.actor.state & State.EXPIRED, 4):
         raise Stop("it did not expire")
+    b.behind()
     mark, sent = b.mark(), b.partner().send()
     b.partner().speak()
     seen = b.first(1, mark, carries, 4)

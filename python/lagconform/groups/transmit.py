@@ -133,7 +133,7 @@ def prompt_under_data(b: Bench) -> None:
     still_calm(b)
     partner = b.partner()
     with b.undone(lambda: b.hook("data", "stop")):
-        b.hook("data", "start")
+        b.data_starts()
         b.wait(0.5)
         for phase in (0.1, 0.45, 0.8):
             b.wait(REST)

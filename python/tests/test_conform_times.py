@@ -1,0 +1,116 @@
+"""What times have no part in a verdict: the phase of the device's period, pauses of the bench, a restart, and when data begins."""
+
+from __future__ import annotations
+
+import pytest
+from conform_device import SLOW, Device, World, beside, play
+from conform_faults import KeyUnchecked
+from conform_machines import ToldWithThePeriod
+
+from lagconform.groups import TESTS
+from lagconform.model import FAIL, INCONCLUSIVE, PASS
+from lagconform.runner import meet, run_one
+
+BY_NAME = {it.id: it for it in TESTS}
+SELECTS_ANEW = [f"RX-12{it}" for it in "abcdefgh"]
+
+
+@pytest.mark.parametrize("tenths", range(10))
+def test_no_phase_of_its_period_makes_a_device_prompt(tenths: int) -> None:
+    world = World(ToldWithThePeriod())
+    with beside(world) as b:
+        meet(b)
+        run_one(b, BY_NAME["RX-01"])
+        b.wait(3 + tenths / 10)
+        found = run_one(b, BY_NAME[SELECTS_ANEW[tenths % len(SELECTS_ANEW)]])
+    assert found.verdict == FAIL and "has to be at most 0.65 s" in found.why, found.why
+
+
+def test_a_whole_run_finds_what_is_not_prompt() -> None:
+    found = {it.test.id: it.verdict for it in play(World(ToldWithThePeriod(), 3), TESTS)}
+    assert [name for name, verdict in found.items() if verdict == FAIL] == ToldWithThePeriod.finds.split()
+
+
+def stand_still(world: World, seconds: float) -> None:
+    """Time passes for the device, and nobody runs the links."""
+    limit = world.clock + seconds
+    came = []
+    while world.clock < limit:
+        came += world.wait(limit - world.clock)
+    world.came.extend(came)
+
+
+@pytest.mark.parametrize("seconds", [0.0, 0.6, 0.9, 1.2, 2.3])
+@pytest.mark.parametrize("name", ["VN-01", "VN-11", "VN-14"])
+def test_a_pause_between_tests_is_no_fault_of_the_device(name: str, seconds: float) -> None:
+    world = World(Device())
+    with beside(world) as b:
+        meet(b)
+        run_one(b, BY_NAME["RX-01"])
+        b.up()
+        b.wait(0.85)
+        stand_still(world, seconds)
+        found = run_one(b, BY_NAME[name])
+    assert found.verdict == PASS and seconds - 0.1 <= found.late <= seconds, (found.why, found.late)
+
+
+def test_a_fail_behind_a_pause_is_no_verdict() -> None:
+    world = World(KeyUnchecked())
+    with beside(world) as b:
+        meet(b)
+        run_one(b, BY_NAME["RX-01"])
+        stand_still(world, 0.6)
+        found = [run_one(b, BY_NAME[it]) for it in ("RX-07c", "RX-07c", "FM-01")]
+        stand_still(world, 0.9)
+        whole = run_one(b, BY_NAME["IV-01"])
+    assert [it.verdict for it in found] == [INCONCLUSIVE, FAIL, PASS] and "the bench was 0.5" in found[0].why, found[0].why
+    assert whole.late == found[0].late and found[1].late == 0
+
+
+class SendsAroundItsStart(Device):
+    """Sends two LACPDUs as it ends, and two as it begins."""
+
+    def lacpdu(self, port: int) -> bytes:
+        """An LACPDU of a port that has no partner."""
+        own = self.own(port)
+        payload = b"\1\1\1\x14" + own[:14] + b"\x47" + bytes(3) + b"\2\x14" + bytes(18) + b"\3\x10" + bytes(66)
+        return b"\x01\x80\xc2\0\0\2" + bytes([2, 0, 0, 0, 0xBB, port]) + SLOW + payload
+
+    def both(self) -> None:
+        for _ in range(2):
+            self.send(1, self.lacpdu(1))
+
+    def start(self) -> None:
+        super().start()
+        if self.now:
+            self.both()
+
+    def stop(self) -> None:
+        if self.system and self.now:
+            self.both()
+        super().stop()
+
+
+def test_the_count_of_three_begins_anew_where_the_device_does() -> None:
+    found = play(World(SendsAroundItsStart()), [BY_NAME[it] for it in ("RX-15", "IV-05")])
+    assert [it.verdict for it in found] == [PASS, PASS], [it.why for it in found]
+
+
+class LateData(Device):
+    """Its client takes 3 s until it sends."""
+
+    wants = 0.0
+
+    def data(self, on: bool) -> None:
+        self.wants = self.now + 3 if on else 0.0
+        super().data(False)
+
+    def ticked(self) -> None:
+        if self.wants and self.now >= self.wants:
+            super().data(True)
+
+
+def test_data_is_waited_for() -> None:
+    found = play(World(LateData()), [BY_NAME[it] for it in ("SL-01", "SL-03", "SL-05", "SL-17")])
+    assert [it.verdict for it in found] == [PASS] * 4, [it.why for it in found]
+    assert "flows of one client: 0 on link 1" not in found[0].notes[0]
