@@ -449,9 +449,9 @@ class Bench:
         """Tells something that is right either way."""
         (self.result.notes if self.result else self.untold).append(text)
 
-    def timed(self, what: str, sent: Frame, seen: Optional[Frame], least: float, most: float, timer: bool = False) -> bool:
+    def timed(self, what: str, sent: Frame, seen: Optional[Frame], least: float, most: float, timer: bool = False, causes: Sequence[str] = ()) -> bool:
         """Claims that something was seen in time after a frame; answers whether it was. `timer`: the times are those of one timer of 6.4.4, and the
-        LACPDU that tells of its expiry may come PROMPT later."""
+        LACPDU that tells of its expiry may come PROMPT later. `causes` as in `claim`."""
         due = most if timer else most - PROMPT
         least -= (TIMERS if timer else 0) + self.slack
         most += (TIMERS + PROMPT if timer else 0) + self.slack
@@ -464,7 +464,7 @@ class Bench:
         passed = f"after {took:.2f} s" if took is not None else "never"
         limits = f"{least:.2f} to {most:.2f} s" if least > 0 else f"at most {most:.2f} s"
         late = took - due if took is not None and took > most else None
-        return self.claim(took is not None and least <= took <= most, f"{what}: {passed}; has to be {limits}", sent, seen, late=late)
+        return self.claim(took is not None and least <= took <= most, f"{what}: {passed}; has to be {limits}", sent, seen, late=late, causes=causes)
 
 
 def is_lacp(octets: bytes) -> bool:

@@ -2,14 +2,18 @@
 
 from __future__ import annotations
 
+from typing import Iterable, Type
+
 import pytest
 from conform_device import SLOW, Device, World, beside, play
-from conform_faults import KeyUnchecked
+from conform_faults import SYNC, KeyUnchecked, NoWait, set_bits
 from conform_machines import ToldWithThePeriod
 
+from lagconform import causes
 from lagconform.groups import TESTS
 from lagconform.model import FAIL, INCONCLUSIVE, PASS
 from lagconform.runner import meet, run_one
+from niwhopera import MuxState
 
 BY_NAME = {it.id: it for it in TESTS}
 SELECTS_ANEW = [f"RX-12{it}" for it in "abcdefgh"]
@@ -114,3 +118,55 @@ def test_data_is_waited_for() -> None:
     found = play(World(LateData()), [BY_NAME[it] for it in ("SL-01", "SL-03", "SL-05", "SL-17")])
     assert [it.verdict for it in found] == [PASS] * 4, [it.why for it in found]
     assert "flows of one client: 0 on link 1" not in found[0].notes[0]
+
+
+class AttachesAlone(ToldWithThePeriod):
+    """Its port 1 does not wait for the others."""
+
+    def says(self, port: int, frame: bytes) -> Iterable[bytes]:
+        for it in super().says(port, frame):
+            alone = port == 1 and self.on.mux_state(port) is MuxState.WAITING and not self.on.wait_while(port)
+            yield set_bits(it, 18, SYNC, True) if alone else it
+
+
+@pytest.mark.parametrize("kind, roots", [(AttachesAlone, ["RX-12b", "MX-06"]), (NoWait, ["RX-12b"])])
+def test_ports_that_do_not_wait_for_each_other_are_a_fault_of_their_own(kind: Type[Device], roots: list[str]) -> None:
+    found = play(World(kind()), [BY_NAME[it] for it in ("RX-12b", "MX-06")])
+    assert [it.verdict for it in found] == [FAIL, FAIL] and [it.name for it in causes.grouped(found)] == roots, [it.why for it in found]
+
+
+class FallsSilent(Device):
+    """Says nothing more from 1.2 s behind a frame of subtype 0 on."""
+
+    since = 1e9
+
+    def took(self, port: int, frame: bytes) -> None:
+        self.since = min(self.since, self.now if frame[12:15] == SLOW + b"\0" else 1e9)
+
+    def says(self, port: int, frame: bytes) -> Iterable[bytes]:
+        if self.now < self.since + 1.2:
+            yield frame
+
+
+def test_a_device_that_goes_silent_in_a_storm_fails_by_a_listed_rule() -> None:
+    found = play(World(FallsSilent()), [BY_NAME["RB-03"]])[0]
+    packet = found.claims[-1].packets[0]
+    assert found.verdict == FAIL and found.why.startswith(f"its last LACPDU, packet {packet}, is 2.") and found.why.endswith("s old; has to be less than 2.15 s (6.4.13)")
+    assert "an LACPDU comes within 2 s" in found.test.rule and found.claims[-1].causes == ("PT-01", "PT-03")
+
+
+class SilentToMany(Device):
+    """Says nothing more behind an LACPDU of port 103."""
+
+    is_mute = False
+
+    def took(self, port: int, frame: bytes) -> None:
+        self.is_mute |= frame[30:32] == (103).to_bytes(2, "big")
+
+    def may_send(self) -> bool:
+        return not self.is_mute
+
+
+def test_a_device_that_says_nothing_is_told_so() -> None:
+    found = {it.test.id: it.why for it in play(World(SilentToMany()), [BY_NAME[it] for it in ("FM-01", "TX-05")])}
+    assert found["TX-05"].startswith("no LACPDU came since; the last one named port 1; has to be 109"), found

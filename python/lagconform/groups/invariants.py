@@ -50,7 +50,7 @@ def is_marker(frame: Frame) -> bool:
     return frame.octets[12:15] == SLOW + b"\2"
 
 
-@group.test("03", "6.4.2, 6.5.3", "The proved codec reads each LACPDU and Marker PDU", "look at all LACPDUs and Marker PDUs of the device: subtypes 1 and 2",
+@group.test("03", "6.4.2, 6.5.3", "The library's codec reads each LACPDU and Marker PDU", "look at all LACPDUs and Marker PDUs of the device: subtypes 1 and 2",
             rule="niwhopera.decode refuses none but echoes of markers that the bench sent wrong, which are told; TLV types as they have to be; "
             "124 octets or more", takes=0.1)  # fmt: skip
 def whole(b: Bench) -> None:

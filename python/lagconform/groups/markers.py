@@ -99,7 +99,7 @@ def pause(b: Bench) -> None:
 
 
 @group.test("01", "6.5.4, 6.2.6", "A marker is answered", "carry", "send a marker, three times, 2.6 s apart",
-            rule="each gets a Marker Response within 1 s, which echoes its port, system and identifier", tolerance="1 s: the standard has no number",
+            rule="each gets a Marker Response within 1 s, which echoes its port, system and identifier; --pics does not deny it", tolerance="1 s: the standard has no number",
             takes=7.5, causes=("MK-02", "MK-11"))  # fmt: skip
 def responds(b: Bench) -> None:
     """The Marker Responder is required of every system: a Marker PDU is answered by a Marker Response PDU."""
@@ -117,7 +117,7 @@ def responds(b: Bench) -> None:
 
 
 @group.test("02", "6.5.3.3, 6.5.4.2", "The response echoes port, system and transaction", "send a marker",
-            rule="the octets of port, system and identifier are those of the marker; TLV 2 of length 16; subtype 2; 110 octets", takes=3)  # fmt: skip
+            rule="the octets of port, system and identifier are those of the marker; TLV 2 of length 16; subtype 2; Terminator 0, 0; 110 octets", takes=3)  # fmt: skip
 def echoes(b: Bench) -> None:
     """A response differs from its marker in the TLV type alone, as far as the fields go."""
     b.still_up()

@@ -69,7 +69,7 @@ def differs(field: str) -> Run:
 for _place, _field in enumerate(SIX):
     group.test(f"07{'abcdef'[_place]}", "6.4.9 (recordPDU)", f"A partner that names another {_field}", "carry",
                f"name another {_field} of the device, and say Synchronization", "name the right one again",
-               rule="it stops carrying, and carries again", tolerance="prompt: 0.5 s", takes=2.5, causes=("RX-08",),
+               rule="it stops carrying for 1.3 s at least, and then carries again within 4 s", tolerance="prompt: 0.5 s", takes=2.5, causes=("RX-08",),
                purpose="recordPDU takes the partner for synchronized only if the PDU's partner equals the device in all six parameters. "
                f"One with another {_field} stops the port from carrying, though it says Synchronization.")(differs(_field))  # fmt: skip
 

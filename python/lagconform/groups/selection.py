@@ -342,7 +342,7 @@ def crossed(b: Bench) -> None:
 
 @group.test("12", "6.4.14", "A third LAG ID does not disturb two links", "carry on both links",
             "send single LACPDUs of another system on link 2, each second, beside ours",
-            rule="link 1 carries on; link 2 never carries for the stranger while link 1 carries for us in one aggregator", links=2, takes=7.5,
+            rule="link 1 carries on; at most one LACPDU of link 2 carries while its partner changes twice a second", links=2, takes=7.5,
             causes=("RX-12b",))  # fmt: skip
 def stranger(b: Bench) -> None:
     """LACPDUs of a second system on one link take that link out, and not the other one."""
@@ -381,7 +381,7 @@ def three_aggregate(b: Bench) -> None:
 
 
 @group.test("15", "6.4.14, 6.3.6", "Two of three links are of one partner", "be one system on links 1 and 2, and another one on link 3",
-            rule="links 1 and 2 carry; link 3 is not in their aggregator", links=3, takes=10.5, hooks=DATA, causes=("SL-03", "SL-01"))  # fmt: skip
+            rule="links 1 and 2 carry, or link 3 alone; link 3 is not in their aggregator", links=3, takes=10.5, hooks=DATA, causes=("SL-03", "SL-01"))  # fmt: skip
 def two_and_one(b: Bench) -> None:
     """Links of two LAG IDs are two aggregators, also where one of them has several links."""
     b.begin(1, 2)
