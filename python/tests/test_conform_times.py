@@ -151,7 +151,7 @@ class FallsSilent(Device):
 def test_a_device_that_goes_silent_in_a_storm_fails_by_a_listed_rule() -> None:
     found = play(World(FallsSilent()), [BY_NAME["RB-03"]])[0]
     packet = found.claims[-1].packets[0]
-    assert found.verdict == FAIL and found.why.startswith(f"its last LACPDU, packet {packet}, is 2.") and found.why.endswith("s old; has to be less than 2.15 s (6.4.13)")
+    assert found.verdict == FAIL and found.why.startswith(f"its last LACPDU, packet {packet}, is 3.04 s old;") and found.why.endswith("s old; has to be less than 2.15 s (6.4.13)")
     assert "an LACPDU comes within 2 s" in found.test.rule and found.claims[-1].causes == ("PT-01", "PT-03")
 
 

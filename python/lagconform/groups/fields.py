@@ -222,7 +222,7 @@ def steady(b: Bench, link: int, found: list[Frame]) -> None:
 
 
 @group.test("09", "6.4.2.3, 6.4.9", "Expired and Defaulted of the partner are recorded",
-            "beside a device that carries, say Expired, then Defaulted, then neither", rule="the partner's state told next has these bits", takes=5.5)  # fmt: skip
+            "beside a device that carries, say Expired, then Defaulted, then neither", rule="the partner's state told next has these bits", takes=3.5)  # fmt: skip
 def echoed_machines(b: Bench) -> None:
     """Actor_State is recorded as Partner_State whole, but for Synchronization: Expired and Defaulted, too."""
     b.still_up()

@@ -68,7 +68,7 @@ def collects(b: Bench) -> None:
 
 
 @group.test("03", "6.4.15", "The partner falls out of sync", "carry", "say Synchronization 0", "say 1 again",
-            rule="promptly Collecting and Distributing 0; Synchronization stays 1; it carries promptly again", tolerance="prompt: 0.5 s", takes=3.2,
+            rule="promptly Collecting and Distributing 0; Synchronization stays 1; it carries promptly again", tolerance="prompt: 0.5 s", takes=4.2,
             causes=("RX-09",))  # fmt: skip
 def back_to_attached(b: Bench) -> None:
     """From COLLECTING_DISTRIBUTING the port goes to ATTACHED, not to DETACHED, if the partner falls out of sync."""
@@ -155,7 +155,7 @@ def wait_together(b: Bench) -> None:
 @group.test("07", "6.4.15, 6.4.9", "A partner that alternates in and out of sync", "carry, and change nothing for 1.2 s",
             "say Synchronization 0 and 1 in turn, each 1.1 s, six times",
             rule="Collecting and Distributing follow each time, never told beside partner Synchronization 0", tolerance="prompt: 0.5 s",
-            takes=9, causes=("MX-03",))  # fmt: skip
+            takes=10.5, causes=("MX-03",))  # fmt: skip
 def alternates(b: Bench) -> None:
     """Each change of partner Synchronization moves the port between ATTACHED and COLLECTING_DISTRIBUTING. The steps leave room for three LACPDUs
     a second: independent control tells two for each way up."""

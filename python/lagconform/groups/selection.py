@@ -212,7 +212,7 @@ def individual(b: Bench) -> None:
 
 @group.test("07", "6.4.14, 6.4.9", "One of two links gets another key", "carry on both links", "change our key on link 2",
             rule="link 2 stops carrying promptly; link 1 carries on; they don't share an aggregator again", tolerance="prompt: 0.5 s", links=2,
-            takes=11.5, hooks=DATA, causes=("SL-04", "TX-06"))  # fmt: skip
+            takes=12.5, hooks=DATA, causes=("SL-04", "TX-06"))  # fmt: skip
 def leaves(b: Bench) -> None:
     """A link whose partner changes its key leaves the aggregator, and the others stay."""
     b.up(1, 2)

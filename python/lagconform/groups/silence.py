@@ -84,7 +84,7 @@ def again(b: Bench) -> None:
 
 
 @group.test("05", "6.4.12, 6.4.15", "From EXPIRED back without a wait", "carry", "say nothing until Expired", "send the same LACPDU again",
-            rule="it carries again promptly: Selected has not changed, so the mux machine is ATTACHED", tolerance="prompt: 0.5 s", takes=5.5,
+            rule="it carries again promptly: Selected has not changed, so the mux machine is ATTACHED", tolerance="prompt: 0.5 s", takes=7,
             needs=("short-timeouts",), causes=("RX-02",))  # fmt: skip
 def returns(b: Bench) -> None:
     """In EXPIRED the selection stays; an LACPDU of the same partner makes the port carry at once, without wait_while."""
@@ -121,7 +121,7 @@ def waits_again(b: Bench) -> None:
 
 @group.test("16", "6.4.12, 6.4.4", "Silence of a partner that asks for long timeouts", "carry, asked for long timeouts", "say nothing",
             rule="an LACPDU with Expired comes 3 s after our last one: the time is that of the device's own LACP_Timeout",
-            tolerance="3 s: -0.25 s, +0.75 s (timer and LACPDU)", takes=8, needs=("short-timeouts",), causes=("RX-02",))  # fmt: skip
+            tolerance="3 s: -0.25 s, +0.75 s (timer and LACPDU)", takes=7, needs=("short-timeouts",), causes=("RX-02",))  # fmt: skip
 def expires_by_its_own(b: Bench) -> None:
     """current_while is set by the LACP_Timeout of the actor itself, not by what the partner asks for."""
     b.up()

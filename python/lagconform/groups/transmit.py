@@ -126,7 +126,7 @@ def silent_for_other_bits(b: Bench) -> None:
 
 
 @group.test("08", "6.4.16, 6.4.9", "Prompt while data flows", "carry, asked for long timeouts, while the device's client sends (hook: data)",
-            "tell another key of the device, three times at other phases of a second", rule="an answer each time", tolerance="prompt: 0.5 s", takes=11,
+            "tell another key of the device, three times at other phases of a second", rule="an answer each time", tolerance="prompt: 0.5 s", takes=7.5,
             hooks=("data",), causes=("TX-02c",))  # fmt: skip
 def prompt_under_data(b: Bench) -> None:
     """LACPDUs are answered as fast as ever while data goes out: a device whose LACP waits behind its data loses links where they carry most."""
@@ -183,7 +183,7 @@ def ask_thrice(b: Bench, *links: int) -> list[Frame]:
 
 @group.test("10", "6.4.16, 6.4.9", "A change behind three LACPDUs is told", "carry, asked for long timeouts, and ask for nothing for 1.2 s",
             "tell another LACP_Timeout of the device three times, 0.2 s apart", "when three answers came, say Synchronization 0",
-            rule="an LACPDU whose partner has Synchronization 0, as soon as the limit lets it out", tolerance="prompt: 0.5 s; the limit: 1.1 s", takes=5,
+            rule="an LACPDU whose partner has Synchronization 0, as soon as the limit lets it out", tolerance="prompt: 0.5 s; the limit: 1.1 s", takes=4,
             causes=("TX-06", "TX-09", "TX-03b"))  # fmt: skip
 def told_behind_the_limit(b: Bench) -> None:
     """NTT stays set while the limit holds an LACPDU back. No periodic LACPDU hides one that is lost there: the partner asked for long timeouts."""
