@@ -441,8 +441,9 @@ class Bench:
 
     def holds(self, holds: object, statement: str, *frames: Optional[Frame], bears: float = 0.0) -> bool:
         """Claims a statement, as these frames show; answers whether it holds, and denies it where it does not."""
-        if not holds and frames and frames[0]:
-            return self.claim(False, f"not so: {statement}; packet {frames[0].number}: {told(frames[0].octets)}", *frames, bears=bears)
+        there = sorted((it for it in frames if it), key=lambda it: it.out)  # what the device sent shows it, if something does
+        if not holds and there:
+            return self.claim(False, f"not so: {statement}; packet {there[0].number}: {told(there[0].octets)}", *frames, bears=bears)
         return self.claim(holds, statement if holds else f"not so: {statement}", *frames, bears=bears)
 
     def note(self, text: str) -> None:

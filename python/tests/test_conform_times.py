@@ -5,7 +5,7 @@ from __future__ import annotations
 from typing import Iterable, Type
 
 import pytest
-from conform_device import SLOW, Device, World, beside, play
+from conform_device import OWN, SLOW, Device, World, beside, play
 from conform_faults import SYNC, KeyUnchecked, NoWait, set_bits
 from conform_machines import ToldWithThePeriod
 
@@ -170,3 +170,20 @@ class SilentToMany(Device):
 def test_a_device_that_says_nothing_is_told_so() -> None:
     found = {it.test.id: it.why for it in play(World(SilentToMany()), [BY_NAME[it] for it in ("FM-01", "TX-05")])}
     assert found["TX-05"].startswith("no LACPDU came since; the last one named port 1; has to be 109"), found
+
+
+class SendsMarkers(Device):
+    """Sends a marker of its own twice a second, as one that moves conversations."""
+
+    most_responses = 8
+
+    def ticked(self) -> None:
+        if int(self.now * 10) % 5 == 0:
+            payload = b"\2\1\1\x10" + bytes(2) + OWN.mac + int(self.now * 10).to_bytes(4, "big") + bytes(94)
+            self.send(1, b"\x01\x80\xc2\0\0\2" + bytes([2, 0, 0, 0, 0xBB, 1]) + SLOW + payload)
+
+
+def test_markers_of_the_device_are_no_answers() -> None:
+    tests = [it for it in TESTS if it.group == "MK"]
+    found = play(World(SendsMarkers()), tests)
+    assert not [f"{it.test.id} {it.verdict}: {it.why}" for it in found if it.verdict != PASS]

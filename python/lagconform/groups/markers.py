@@ -84,6 +84,11 @@ def pdus(b: Bench, mark: int) -> list[Frame]:
     return [it for it in b.frames[mark:] if not it.out and it.link == 1 and it.octets[12:15] == SLOW + b"\2"]
 
 
+def answers(b: Bench, mark: int) -> list[Frame]:
+    """The same, without the device's own markers: those that name no system of ours."""
+    return [it for it in pdus(b, mark) if not (it.marker and it.marker.kind is MarkerKind.INFORMATION and not b.is_ours(it.marker.system))]
+
+
 def wants_answers(b: Bench) -> None:
     """The tests behind the first one want a device that answers at all."""
     b.still_up()
@@ -216,7 +221,7 @@ def no_answer_to_response(b: Bench) -> None:
     sent = b.send(1, marker(b, kind=MarkerKind.RESPONSE))
     b.marked = sent.time
     b.wait(1.5)
-    wrong = b.markers(1, mark, MarkerKind.INFORMATION) + b.markers(1, mark)
+    wrong = answers(b, mark)
     b.claim(not wrong, f"{len(wrong)} Marker PDUs come back; has to be none", sent, *wrong[:2], bears=SURE)
 
 
@@ -228,7 +233,7 @@ def unknown_tlv(b: Bench) -> None:
     sent = b.send(1, put(marker(b), 2, b"\3"))
     b.marked = sent.time
     b.wait(1.2)
-    found = pdus(b, mark)
+    found = answers(b, mark)
     b.claim(not found, f"{len(found)} responses; has to be none", sent, *found[:1], bears=SURE)
 
 
@@ -244,7 +249,7 @@ def malformed(b: Bench) -> None:
         mark = b.mark()
         sent = b.send(1, payload)
         b.wait(GAP)
-        back = pdus(b, mark)
+        back = answers(b, mark)
         told.append(f"{what}: {'answered' if back else 'not answered'}")
         if len(payload) == 14:
             b.holds(not back, "a marker that lacks half of its identifier is not answered", sent, *back[:1])
