@@ -15,7 +15,7 @@ from .mux import OUT_OF_SYNC
 from .receive import carries
 
 group = Group("RB", "Robustness", DEVICES)
-# What a storm may not change, and how old the last LACPDU may be behind it: a period and a timer, and one that was not heard.
+# What a storm may not change, and how old the last LACPDU may be behind it: two periods of a second.
 STANDS, OLD = "it carries all the time, and an LACPDU comes within 2 s", 2.0
 # What explains that LACPDUs do not go on.
 PERIODIC = ("PT-01", "PT-03")
@@ -23,7 +23,7 @@ HEAD = b"\1\1\1\x14"
 
 
 def storm(b: Bench, frames: Iterable[bytes], gap: float, what: str = "frames") -> None:
-    """Sends frames while the partner goes on: STANDS."""
+    """Sends frames while the partner goes on, and claims what STANDS says."""
     b.still_up()
     b.wait(1.2)
     mark, count = b.mark(), 0
