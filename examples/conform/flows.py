@@ -33,13 +33,14 @@ def flow(number: int, count: int = 0) -> bytes:
 def main() -> None:
     out = socket.socket(socket.AF_PACKET, socket.SOCK_RAW)
     out.bind((sys.argv[1], 0))
-    limit = time.monotonic() + SECONDS
+    due = begin = time.monotonic()
     count = 0
-    while time.monotonic() < limit:
+    while time.monotonic() < begin + SECONDS:
         count += 1
         for number in range(FLOWS):
             out.send(flow(number, count))
-            time.sleep(0.5 / FLOWS)
+            due += 0.5 / FLOWS
+            time.sleep(max(0.0, due - time.monotonic()))  # a busy machine sends late, and as many
         print(count, flush=True)
 
 

@@ -24,9 +24,13 @@ LIMIT = 1.1
 SOON = PROMPT + LIMIT + 0.4
 # So long a device sends nothing new before a test asks it for several LACPDUs in a row.
 REST = LIMIT + 0.1
+# An LACPDU that comes so long behind another one is the periodic one of a second, and so long a test waits for it (6.4.4: 0.75 to 1.25 s, twice).
+PERIOD, BEHIND = 0.7, 2.5
 # How long a device may be quiet if it was asked for long timeouts, or is on defaults (6.4.4: 30 s).
 QUIET = 35.0
 HOOK_SECONDS = 40.0
+# So long a hook's data is waited for: on a busy device its sender takes seconds to begin.
+DATA_BEGINS = 10.0
 # Words of the hook behind which the device has to begin anew, on a link or on all.
 ENDING = ("down", "stop", "reset")
 # What undoes which word.
@@ -165,6 +169,7 @@ class Bench:
         limit = self.now() + seconds
         while True:
             now = self.now()
+            self.late = max(self.late, self.pause())
             for link in self.links.values():
                 link.partner.act(now)
             if stop and stop():
@@ -182,6 +187,15 @@ class Bench:
     def wait(self, seconds: float) -> None:
         """Runs the links for so long."""
         self.until(seconds)
+
+    def pause(self) -> float:
+        """For how many seconds a partner has waited for its tick: as long nobody has run the links."""
+        return max(self.now() - it.partner.next_tick for it in self.links.values())
+
+    def resume(self) -> None:
+        """Time goes on from now: what passed since the links were run is no lateness."""
+        for link in self.links.values():
+            link.partner.resume()
 
     # What was seen.
 
@@ -320,6 +334,15 @@ class Bench:
         if not self.is_up(link):
             self.up(link)
 
+    def behind(self, link: int = 1) -> None:
+        """Waits until the device has sent its periodic LACPDU on a link whose partner asked for short timeouts, so that the next one is a whole period
+        away: what it sends before that is prompt. One that sends none such is waited for no longer than BEHIND."""
+        limit, seen = self.now() + BEHIND, self.links[link].frame
+        while seen:
+            last, seen = seen, self.first(link, seen.number, lambda _: True, max(0.0, limit - self.now()))
+            if seen and seen.time - last.time >= PERIOD:
+                return
+
     def say(self, link: int = 1, **bits: bool) -> Frame:
         """Forces bits of our state, by their names, and sends an LACPDU at once; answers its frame."""
         names = {
@@ -377,6 +400,13 @@ class Bench:
             raise HookFailed(f"the hook did not end in {HOOK_SECONDS:g} s: {' '.join(words)}")
         return got[0]
 
+    def data_starts(self) -> int:
+        """Has the device's client send, and waits for its first frame, if one comes; a place in the log before it."""
+        self.hook("data", "start")
+        mark = self.mark()
+        self.until(DATA_BEGINS, lambda: any(not it.out and is_data(it.octets) for it in self.frames[mark:]))
+        return mark
+
     @contextmanager
     def undone(self, undo: Callable[[], None]) -> Iterator[None]:
         """Leaves the device as it was where what is inside ends early, as SIGTERM ends it."""
@@ -394,6 +424,7 @@ class Bench:
             return
         began = self.now()
         self.wire.flap(link, up)
+        self.resume()
         self._did(began, ("up" if up else "down", str(link)))
 
     # What a test claims.
@@ -410,17 +441,18 @@ class Bench:
 
     def holds(self, holds: object, statement: str, *frames: Optional[Frame], bears: float = 0.0) -> bool:
         """Claims a statement, as these frames show; answers whether it holds, and denies it where it does not."""
-        if not holds and frames and frames[0]:
-            return self.claim(False, f"not so: {statement}; packet {frames[0].number}: {told(frames[0].octets)}", *frames, bears=bears)
+        there = sorted((it for it in frames if it), key=lambda it: it.out)  # what the device sent shows it, if something does
+        if not holds and there:
+            return self.claim(False, f"not so: {statement}; packet {there[0].number}: {told(there[0].octets)}", *frames, bears=bears)
         return self.claim(holds, statement if holds else f"not so: {statement}", *frames, bears=bears)
 
     def note(self, text: str) -> None:
         """Tells something that is right either way."""
         (self.result.notes if self.result else self.untold).append(text)
 
-    def timed(self, what: str, sent: Frame, seen: Optional[Frame], least: float, most: float, timer: bool = False) -> bool:
+    def timed(self, what: str, sent: Frame, seen: Optional[Frame], least: float, most: float, timer: bool = False, causes: Sequence[str] = ()) -> bool:
         """Claims that something was seen in time after a frame; answers whether it was. `timer`: the times are those of one timer of 6.4.4, and the
-        LACPDU that tells of its expiry may come PROMPT later."""
+        LACPDU that tells of its expiry may come PROMPT later. `causes` as in `claim`."""
         due = most if timer else most - PROMPT
         least -= (TIMERS if timer else 0) + self.slack
         most += (TIMERS + PROMPT if timer else 0) + self.slack
@@ -433,7 +465,7 @@ class Bench:
         passed = f"after {took:.2f} s" if took is not None else "never"
         limits = f"{least:.2f} to {most:.2f} s" if least > 0 else f"at most {most:.2f} s"
         late = took - due if took is not None and took > most else None
-        return self.claim(took is not None and least <= took <= most, f"{what}: {passed}; has to be {limits}", sent, seen, late=late)
+        return self.claim(took is not None and least <= took <= most, f"{what}: {passed}; has to be {limits}", sent, seen, late=late, causes=causes)
 
 
 def is_lacp(octets: bytes) -> bool:

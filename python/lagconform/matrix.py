@@ -3,6 +3,7 @@
 from __future__ import annotations
 
 import re
+from functools import lru_cache
 from typing import Iterable, Sequence
 
 from .model import CAVEAT, ERROR, FAIL, INCONCLUSIVE, NOT_APPLICABLE, PASS, SKIPPED, Result, Test
@@ -13,9 +14,10 @@ WORST = (ERROR, FAIL, INCONCLUSIVE, PASS, SKIPPED, NOT_APPLICABLE)
 ANSWERS = (PASS, FAIL)
 
 
-def clauses(test: Test) -> list[str]:
+@lru_cache(maxsize=None)
+def clauses(test: Test) -> tuple[str, ...]:
     """The clauses of a test, without what stands behind each in brackets."""
-    return [it.strip() for it in re.sub(r"\s*\([^)]*\)", "", test.clause).split(",")]
+    return tuple(it.strip() for it in re.sub(r"\s*\([^)]*\)", "", test.clause).split(","))
 
 
 def order(clause: str) -> tuple[object, ...]:

@@ -7,6 +7,7 @@ comes back, so that the partner is right but for that.
 from __future__ import annotations
 
 from dataclasses import dataclass, replace
+from math import inf
 from typing import TYPE_CHECKING, Any, Callable, Optional
 
 from niwhopera import Config, Info, Lacpdu, Mac, PortConfig, PortId, State, System, SystemId, encode
@@ -52,6 +53,8 @@ class Partner:
         self.told: Optional[Lacpdu] = None
         self.last_sent, self.speaks, self._owes = -9.0, False, False
         self.pace: Optional[float] = None
+        # When its system is to be ticked.
+        self.next_tick = inf
         self.right()
 
     def right(self) -> None:
@@ -107,8 +110,12 @@ class Partner:
             self._take(self.heard.octets)
             self._system.tick(ATTACHES)
             self._take(self.heard.octets)
-        self._next_tick = self.bench.now() + TICK
+        self.resume()
         self._owes = True
+
+    def resume(self) -> None:
+        """Its time goes on from now."""
+        self.next_tick = self.bench.now() + TICK
 
     @property
     def system(self) -> System:
@@ -159,9 +166,9 @@ class Partner:
     def act(self, now: float) -> None:
         """Ticks of the system that are due, and what it has to send."""
         system = self.system
-        while now >= self._next_tick:
+        while now >= self.next_tick:
             system.tick()
-            self._next_tick += TICK
+            self.next_tick += TICK
         if not self.speaks:
             return
         if self.pace is not None:
@@ -173,8 +180,8 @@ class Partner:
     def due(self) -> float:
         """When it has something to do by itself."""
         if self.speaks and self.pace is not None:
-            return min(self._next_tick, self.last_sent + self.pace)
-        return self._next_tick
+            return min(self.next_tick, self.last_sent + self.pace)
+        return self.next_tick
 
     # What it hears.
 

@@ -107,7 +107,8 @@ def prepare(b: Bench, test: Test) -> None:
 def run_one(b: Bench, test: Test, claimed: Optional[Mapping[str, bool]] = None) -> Result:
     """Runs a test; answers its verdict."""
     result = Result(test, first=len(b.frames) + 1, begin=b.now())
-    b.result, b.late, b.refused, b.claimed, b.ends = result, 0.0, 0, claimed or {}, b.now() + test.most
+    late = 0.0 if test.group == WHOLE_RUN else max(0.0, b.pause())  # the partners of the test before went on, and nobody ran them
+    b.result, b.late, b.refused, b.claimed, b.ends = result, late, 0, claimed or {}, b.now() + test.most
     result.notes, b.untold = b.untold, []
     b.wire.drops()  # what was lost before is of no test
     traffic = Traffic(b)
@@ -173,6 +174,7 @@ def revive(b: Bench, test: Test, broke: Broke) -> str:
     except Gone as why:
         return f"{str(why).partition(chr(10))[0]}; the last time in {test.id}: {str(broke).partition(chr(10))[0]}"
     b.events.append((b.now(), ("start",)))
+    b.resume()
     b.left.clear()
     b.broke.append(test.id)
     return ""

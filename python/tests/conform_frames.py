@@ -291,25 +291,23 @@ class SendsTwice(Device):
 
 
 class KeepsBack(Device):
-    """A frame that goes out on the second link goes out one tick late."""
+    """A frame that goes out on the second link goes out 0.3 s late."""
 
     finds = "SL-17"
 
     def __init__(self) -> None:
         super().__init__()
-        self.kept: list[bytes] = []
+        self.kept: list[tuple[float, bytes]] = []
 
     def put_data(self, port: int, frame: bytes) -> None:
         if port == 2:
-            self.kept.append(frame)
+            self.kept.append((self.now, frame))
         else:
             self.send(port, frame)
 
     def ticked(self) -> None:
-        if self.count % 5 == 0:
-            for it in self.kept:
-                self.send(2, it)
-            self.kept = []
+        while self.kept and self.now - self.kept[0][0] > 0.25:
+            self.send(2, self.kept.pop(0)[1])
 
 
 class AllLeave(Device):

@@ -201,6 +201,31 @@ class LooksOnceASecond(Device):
         return True
 
 
+class ToldWithThePeriod(Device):
+    """Tells with its next periodic LACPDU alone that it has detached."""
+
+    finds = "RX-12a RX-12b RX-12c RX-12d RX-12e RX-12f RX-12g RX-12h SL-07 SL-16"
+
+    def __init__(self) -> None:
+        super().__init__()
+        self.told: dict[int, int] = {}
+        self.made: dict[int, list[float]] = {}
+        self.ticks = False
+
+    def tick(self) -> None:
+        self.ticks = True
+        super().tick()
+        self.ticks = False
+
+    def says(self, port: int, frame: bytes) -> Iterable[bytes]:
+        before = [it for it in self.made.get(port, []) if self.now - it < 1.15]
+        self.made[port] = [*before, self.now]
+        is_periodic = self.ticks and len(before) < 3  # behind three it is one that waited
+        if is_periodic or frame[32] & SYNC or not self.told.get(port, 0) & SYNC:
+            self.told[port] = frame[32]
+            yield frame
+
+
 class Stale(Device):
     """What waits behind three LACPDUs is told three seconds long as it was when it began to wait."""
 

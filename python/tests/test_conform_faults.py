@@ -57,7 +57,7 @@ def test_each_test_has_a_fault_that_it_finds() -> None:
 
 # From which --slack on the tests of a fault do not find it, of those of the page; its largest one hides no other fault.
 SLACKS = (0.15, 0.3, 0.5, 0.75, SURE)
-HIDDEN = {"LooksOnceASecond": 0.3, "LateUnderData": 0.3, "NoNtt": 0.5, "SlowClock": 0.75, "ReturnsSlowly": SURE}
+HIDDEN = {"LooksOnceASecond": 0.3, "LateUnderData": 0.3, "NoNtt": 0.5, "SlowClock": 0.75, "ToldWithThePeriod": 0.75, "ReturnsSlowly": SURE}
 
 
 @pytest.mark.parametrize("kind", FAULTS, ids=[it.__name__ for it in FAULTS])

@@ -12,7 +12,7 @@ from ..model import Group
 from ..partner import TICK
 from ..pdus import SIX, SLOW, value
 
-group = Group("EN", "Beside the proved engine")
+group = Group("EN", "Beside the library's engine")
 KEY = 0x11
 
 
@@ -86,14 +86,14 @@ def comes_up(b: Bench, links: tuple[int, ...]) -> None:
             b.claim(one, f"one group {system.group(1)}, one aggregator")
 
 
-@group.test("01", "6.4", "One link to the proved engine", "be a system of the engine on link 1",
+@group.test("01", "6.4", "One link to the library's engine", "be a system of the engine on link 1",
             rule="both ends distribute within 12 s, and for 5 s more", takes=8, causes=("FM-06", "RX-04", "PT-01"))  # fmt: skip
 def one_link(b: Bench) -> None:
     """A partner that is right for every input, with its own wait_while, comes up with the device."""
     comes_up(b, (1,))
 
 
-@group.test("02", "6.4", "Two links to the proved engine", "be one system of the engine on both links",
+@group.test("02", "6.4", "Two links to the library's engine", "be one system of the engine on both links",
             rule="both ends distribute on both links within 12 s, in one group, and for 5 s more", links=2, takes=8,
             needs=("two-ports",), causes=("EN-01", "SL-01"))  # fmt: skip
 def two_links(b: Bench) -> None:
@@ -101,7 +101,7 @@ def two_links(b: Bench) -> None:
     comes_up(b, (1, 2))
 
 
-@group.test("04", "6.4", "Three links to the proved engine", "be one system of the engine on three links",
+@group.test("04", "6.4", "Three links to the library's engine", "be one system of the engine on three links",
             rule="both ends distribute on all links within 12 s, in one group, and for 5 s more", links=3, takes=8,
             needs=("two-ports",), causes=("EN-02", "SL-14"))  # fmt: skip
 def three_links(b: Bench) -> None:

@@ -126,7 +126,7 @@ def reserved(b: Bench) -> None:
 
 
 @group.test("05", "6.3.2, 6.3.4", "Identifiers of the actor", "take LACPDUs over 3 s, on each link",
-            rule="an individual system address that is not 0; port number not 0; both stay", takes=4.5)  # fmt: skip
+            rule="an individual system address that is not 0; port number not 0; system, key and port stay", takes=4.5)  # fmt: skip
 def identifiers(b: Bench) -> None:
     """The system identifier has an individual MAC address, the port number is not 0, and neither changes."""
     for link, found in sample(b, least=4).items():
@@ -189,7 +189,8 @@ def echoed_bits(b: Bench) -> None:
 
 
 @group.test("08", "6.4.2.3", "Timeout and Aggregation are told, and stay", "take LACPDUs on each link",
-            rule="Activity, Timeout and Aggregation stay, as --pics claims them; Defaulted and Expired are 0 beside a right partner", takes=3.5, causes=("RX-04",))  # fmt: skip
+            rule="Activity, Timeout and Aggregation stay, as --pics claims them; Defaulted and Expired are 0 beside a right partner, "
+            "and on link 1 Synchronization is 1", takes=3.5, causes=("RX-04",))  # fmt: skip
 def steady_bits(b: Bench) -> None:
     """Beside a right partner, Defaulted and Expired are 0, and Activity, Timeout and Aggregation stay."""
     b.still_up()
@@ -221,7 +222,7 @@ def steady(b: Bench, link: int, found: list[Frame]) -> None:
 
 
 @group.test("09", "6.4.2.3, 6.4.9", "Expired and Defaulted of the partner are recorded",
-            "beside a device that carries, say Expired, then Defaulted, then neither", rule="the partner's state told next has these bits", takes=5.5)  # fmt: skip
+            "beside a device that carries, say Expired, then Defaulted, then neither", rule="the partner's state told next has these bits", takes=3.5)  # fmt: skip
 def echoed_machines(b: Bench) -> None:
     """Actor_State is recorded as Partner_State whole, but for Synchronization: Expired and Defaulted, too."""
     b.still_up()

@@ -20,7 +20,7 @@ def gaps(found: Sequence[Frame]) -> list[float]:
 
 def listed(between: Sequence[float]) -> str:
     """Gaps as text."""
-    return ", ".join(f"{it:.2f}" for it in between) or "none"
+    return f"gaps of {', '.join(f'{it:.2f}' for it in between)} s" if between else "fewer than two LACPDUs came"
 
 
 def calm(b: Bench, short: bool) -> None:
@@ -76,7 +76,7 @@ def to_short(b: Bench) -> None:
     found = list(b.heard(1, mark))
     between = gaps(found)
     most = 1 + TIMERS + b.slack
-    b.claim(len(between) >= 2 and max(between) <= most, f"then gaps of {listed(between)} s; has to be at most {most:.2f} s", *found[:4])
+    b.claim(len(between) >= 2 and max(between) <= most, f"then {listed(between)}; has to be at most {most:.2f} s", *found[:4])
 
 
 @group.test("04", "6.4.13", "From short to long", "ask for short timeouts", "ask for long ones",
@@ -130,7 +130,7 @@ def passive_partner(b: Bench) -> None:
     found = list(b.heard(1, mark))
     between = gaps(found)
     most = 1 + TIMERS + b.slack
-    b.claim(len(between) >= 2 and max(between) <= most, f"gaps of {listed(between)} s; has to be at most {most:.2f} s", *found[:3])
+    b.claim(len(between) >= 2 and max(between) <= most, f"{listed(between)}; has to be at most {most:.2f} s", *found[:3])
 
 
 @group.test("07", "6.4.13, 6.4.4", "Long timeouts: one LACPDU each 30 s", "carry, and ask for long timeouts", "take LACPDUs for 92 s",
@@ -143,7 +143,7 @@ def slow(b: Bench) -> None:
     found = list(b.heard(1, mark))
     between, more = gaps(found), TIMERS + b.slack
     right = between and all(abs(it - 30) <= more for it in between)
-    b.claim(right, f"gaps of {listed(between)} s; has to be 30 s, within {more:.2f} s", *found)
+    b.claim(right, f"{listed(between)}; has to be 30 s, within {more:.2f} s", *found)
 
 
 @group.test("08", "6.4.13, 6.4.12", "An active device speaks first", "say nothing until it is on defaults", "take LACPDUs for 31 s",

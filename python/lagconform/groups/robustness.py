@@ -8,18 +8,22 @@ from typing import Iterable
 from niwhopera import encode
 
 from ..bench import Bench, most_within
-from ..model import DEVICES, SURE, Group, Stop
+from ..model import DEVICES, SURE, Frame, Group, Stop
 from ..partner import slow
 from ..pdus import GROUP, SLOW, with_bits
 from .mux import OUT_OF_SYNC
 from .receive import carries
 
 group = Group("RB", "Robustness", DEVICES)
+# What a storm may not change, and how old the last LACPDU may be behind it: two periods of a second.
+STANDS, OLD = "it carries all the time, and an LACPDU comes within 2 s", 2.0
+# What explains that LACPDUs do not go on.
+PERIODIC = ("PT-01", "PT-03")
 HEAD = b"\1\1\1\x14"
 
 
 def storm(b: Bench, frames: Iterable[bytes], gap: float, what: str = "frames") -> None:
-    """Sends frames while the partner goes on; the device has to carry all the time, and to go on sending."""
+    """Sends frames while the partner goes on, and claims what STANDS says."""
     b.still_up()
     b.wait(1.2)
     mark, count = b.mark(), 0
@@ -31,10 +35,16 @@ def storm(b: Bench, frames: Iterable[bytes], gap: float, what: str = "frames") -
     found = list(b.heard(1, mark))
     wrong = [it for it in found if it.lacpdu and not carries(it.lacpdu)]
     if not found:
-        b.claim(False, f"the device sends nothing any more behind {count} {what}; has to go on")
+        b.claim(False, f"the device sends nothing any more behind {count} {what}; has to go on (6.4.13)", b.links[1].frame, causes=PERIODIC)
         return
     b.holds(not wrong, f"it carries all the time, through {count} {what}", *wrong[:2])
-    b.holds(b.now() - found[-1].time < 2 + b.slack, "and it goes on sending", found[-1])
+    goes_on(b, found[-1])
+
+
+def goes_on(b: Bench, last: Frame) -> None:
+    """Claims that the last LACPDU of the device is not old."""
+    old, most = b.now() - last.time, OLD + b.slack
+    b.claim(old < most, f"its last LACPDU, packet {last.number}, is {old:.2f} s old; has to be less than {most:.2f} s (6.4.13)", last, causes=PERIODIC)
 
 
 def out_of_sync(b: Bench) -> bytes:
@@ -49,7 +59,7 @@ def to_group(b: Bench) -> bytes:
 
 
 @group.test("01", "802.3 3.1, 57A", "Short frames of Slow Protocols", "while it carries, send frames of type 8809 with 0 to 45 octets of payload",
-            "send them again, each behind a frame of subtype 11 which as an LACPDU would say Synchronization 0", rule="it carries all the time", takes=7,
+            "send them again, each behind a frame of subtype 11 which as an LACPDU would say Synchronization 0", rule=STANDS, takes=7,
             causes=("RB-03",))  # fmt: skip
 def runts(b: Bench) -> None:
     """Frames that end within the header of a PDU, or before it, change nothing, whatever stood in the device's buffer before."""
@@ -60,7 +70,7 @@ def runts(b: Bench) -> None:
 
 
 @group.test("02", "802.3 3.2.6", "Lengths in the place of the type", "send 802.3 frames to the group address whose length is 0, 46, 110, 1500, 1535",
-            rule="it carries all the time", takes=3)  # fmt: skip
+            rule=STANDS, takes=3)  # fmt: skip
 def lengths(b: Bench) -> None:
     """A value below 1536 is a length, and no type."""
     b.still_up()
@@ -69,7 +79,7 @@ def lengths(b: Bench) -> None:
 
 
 @group.test("03", "802.3 57A.4", "Every other subtype", "send frames of each subtype but 1 and 2, and an organization specific one",
-            rule="it carries all the time", takes=5.5)  # fmt: skip
+            rule=STANDS, takes=5.5)  # fmt: skip
 def subtypes(b: Bench) -> None:
     """Frames of other slow protocols and of unknown subtypes change nothing."""
     b.still_up()
@@ -79,7 +89,7 @@ def subtypes(b: Bench) -> None:
 
 @group.test("04", "6.4.12", "Random payloads behind a right head",
             "send 300 frames of type 8809, subtype 1 or 2, with random octets of random length up to 60",
-            rule="it carries all the time: none is a whole PDU", takes=9, causes=("RB-01",))  # fmt: skip
+            rule=f"{STANDS}: none is a whole PDU", takes=9, causes=("RB-01",))  # fmt: skip
 def noise(b: Bench) -> None:
     """Short random PDUs change nothing, and do no harm."""
     dice = b.dice("RB-04")
@@ -109,7 +119,7 @@ def wild(b: Bench) -> None:
 
 
 @group.test("06", "6.4.12", "A storm of right LACPDUs", "send 2000 right LACPDUs as fast as can be, while it carries",
-            rule="it carries all the time; at most three LACPDUs in 0.75 s come", takes=4, causes=("TX-01",))  # fmt: skip
+            rule="it carries all the time, and an LACPDU comes; at most three in 0.75 s", takes=4, causes=("TX-01",))  # fmt: skip
 def flood(b: Bench) -> None:
     """LACPDUs that change nothing may come at any rate."""
     b.still_up()
@@ -122,13 +132,14 @@ def flood(b: Bench) -> None:
     b.wait(2)
     found = list(b.heard(1, mark))
     wrong = [it for it in found if it.lacpdu and not carries(it.lacpdu)]
-    b.holds(found and not wrong, "it carries all the time", *wrong[:2])
+    b.claim(found, f"{len(found)} LACPDUs came; has to be 1 at least", causes=PERIODIC)
+    b.holds(not wrong, "it carries all the time", *wrong[:2])
     most = most_within([it.time for it in found], 0.75)
     b.claim(most <= 3, f"{len(found)} LACPDUs come, {most} within 0.75 s; has to be at most 3", *found[:4], bears=SURE)
 
 
 @group.test("07", "6.2.10.1", "Sources that no port has", "send right LACPDUs from a group address, from 0, and from the device's own address",
-            rule="it carries all the time", takes=4)  # fmt: skip
+            rule=STANDS, takes=4)  # fmt: skip
 def sources(b: Bench) -> None:
     """The source address has no part in LACP: identifiers are in the PDU. None of these makes the device stop."""
     b.still_up()
@@ -136,7 +147,7 @@ def sources(b: Bench) -> None:
     storm(b, [GROUP + source + payload for source in (b"\xff" * 6, GROUP, bytes(6), own)], 0.3)
 
 
-@group.test("08", "6.4.2.3", "The longest frames", "send LACPDUs and markers padded to 1514 octets", rule="it carries all the time", takes=4.5)
+@group.test("08", "6.4.2.3", "The longest frames", "send LACPDUs and markers padded to 1514 octets", rule=STANDS, takes=4.5)
 def longest(b: Bench) -> None:
     """A PDU may be longer than 110 octets (later versions); nothing of it is lost by its length."""
     b.still_up()

@@ -33,8 +33,7 @@ PROBE = b"lagconform "
 def flows(b: Bench, links: Sequence[int] = (1, 2)) -> dict[int, int]:
     """How many flows of the device's client came on each link, while a hook makes it send."""
     with b.undone(lambda: b.hook("data", "stop")):
-        b.hook("data", "start")
-        mark = b.mark()
+        mark = b.data_starts()
         b.wait(SECONDS)
         found = {link: b.data(mark, link) for link in links}
     b.hook("data", "stop")
@@ -213,10 +212,11 @@ def individual(b: Bench) -> None:
 
 @group.test("07", "6.4.14, 6.4.9", "One of two links gets another key", "carry on both links", "change our key on link 2",
             rule="link 2 stops carrying promptly; link 1 carries on; they don't share an aggregator again", tolerance="prompt: 0.5 s", links=2,
-            takes=11.5, hooks=DATA, causes=("SL-04", "TX-06"))  # fmt: skip
+            takes=12.5, hooks=DATA, causes=("SL-04", "TX-06"))  # fmt: skip
 def leaves(b: Bench) -> None:
     """A link whose partner changes its key leaves the aggregator, and the others stay."""
     b.up(1, 2)
+    b.behind(2)
     b.partner(2).become_other("key")
     mark, sent = b.mark(), b.partner(2).send()
     seen = b.first(2, mark, does_not_carry, SOON)
@@ -274,8 +274,7 @@ def in_order(b: Bench) -> None:
     neither duplicates nor misorders."""
     b.up(1, 2)
     with b.undone(lambda: b.hook("data", "stop")):
-        b.hook("data", "start")
-        mark, partner = b.mark(), b.partner(2)
+        mark, partner = b.data_starts(), b.partner(2)
         b.wait(2)
         key = partner.me.key
         partner.become_other("key")
@@ -343,7 +342,7 @@ def crossed(b: Bench) -> None:
 
 @group.test("12", "6.4.14", "A third LAG ID does not disturb two links", "carry on both links",
             "send single LACPDUs of another system on link 2, each second, beside ours",
-            rule="link 1 carries on; link 2 never carries for the stranger while link 1 carries for us in one aggregator", links=2, takes=7.5,
+            rule="link 1 carries on; at most one LACPDU of link 2 carries while its partner changes twice a second", links=2, takes=7.5,
             causes=("RX-12b",))  # fmt: skip
 def stranger(b: Bench) -> None:
     """LACPDUs of a second system on one link take that link out, and not the other one."""
@@ -382,7 +381,7 @@ def three_aggregate(b: Bench) -> None:
 
 
 @group.test("15", "6.4.14, 6.3.6", "Two of three links are of one partner", "be one system on links 1 and 2, and another one on link 3",
-            rule="links 1 and 2 carry; link 3 is not in their aggregator", links=3, takes=10.5, hooks=DATA, causes=("SL-03", "SL-01"))  # fmt: skip
+            rule="links 1 and 2 carry, or link 3 alone; link 3 is not in their aggregator", links=3, takes=10.5, hooks=DATA, causes=("SL-03", "SL-01"))  # fmt: skip
 def two_and_one(b: Bench) -> None:
     """Links of two LAG IDs are two aggregators, also where one of them has several links."""
     b.begin(1, 2)
@@ -409,6 +408,7 @@ def two_and_one(b: Bench) -> None:
 def one_of_three_leaves(b: Bench) -> None:
     """A link that leaves the aggregator takes no other one along."""
     b.up(*THREE)
+    b.behind(3)
     b.partner(3).become_other("key")
     mark, sent = b.mark(), b.partner(3).send()
     seen = b.first(3, mark, does_not_carry, SOON)

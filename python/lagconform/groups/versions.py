@@ -29,6 +29,7 @@ def taken(b: Bench, change: Change, wrap: Optional[Change]) -> tuple[Frame, Opti
     """Whether such an LACPDU was taken: what was sent, and the LACPDU that shows it."""
     b.still_up()
     partner, mark = b.partner(), b.mark()
+    partner.send()  # the device's timer of the partner starts anew: none comes for SEEN
     payload, source = change(not_collecting(b)), b.wire.source(1)
     sent = b.send_raw(1, wrap(source + payload) if wrap else slow(payload, source))
     partner.hush()
