@@ -18,7 +18,7 @@ from repository import TOP, read_text
 
 PAGE = read_text(os.path.join(TOP, "docs", "MOVING.md"))
 # For how many seconds a way is awaited; that back comes by itself after so many, as the page has it.
-MOVES, ITSELF = 180, 300
+MOVES, ITSELF = 240, 300
 PING = f"ip netns exec far ping -q -c 1 -W 1 {NEAR_AT} >/dev/null"
 PINGS = f"ip netns exec far ping -D -i 0.1 {NEAR_AT} >/run/pings 2>&1 & echo $! >/run/pinging; sleep 1"
 LONGEST = """kill -INT $(cat /run/pinging)
