@@ -18,9 +18,9 @@ from repository import TOP, read_text
 
 PAGE = read_text(os.path.join(TOP, "docs", "MOVING.md"))
 # For how many seconds a way is awaited; that back comes by itself after so many, as the page has it.
-MOVES, ITSELF = 180, 300
+MOVES, ITSELF = 240, 300
 PING = f"ip netns exec far ping -q -c 1 -W 1 {NEAR_AT} >/dev/null"
-PINGS = f"ip netns exec far ping -D -i 0.01 {NEAR_AT} >/run/pings 2>&1 & echo $! >/run/pinging; sleep 1"
+PINGS = f"ip netns exec far ping -D -i 0.1 {NEAR_AT} >/run/pings 2>&1 & echo $! >/run/pinging; sleep 1"
 LONGEST = """kill -INT $(cat /run/pinging)
 awk -F '[][]' '/bytes from/ { if (last && $2 - last > most) most = $2 - last; last = $2 } END { printf "%.1f s", most }' /run/pings"""
 FILES = "find /etc/systemd/network /etc/netplan /etc/network /etc/NetworkManager/system-connections -type f -exec md5sum {} + | sort"
@@ -126,7 +126,7 @@ def by_lag(guest: Guest) -> bool:
 
 
 def outage(guest: Guest, what: str, event: str, holds: Callable[[Guest], bool], seconds: float = MOVES) -> str:
-    """The longest time between two answers to a ping each 10 ms from the far end, while a way is gone."""
+    """The longest time between two answers to a ping each 100 ms from the far end, while a way is gone."""
     guest.run(PINGS)
     guest.run(event)
     check(guest.within(seconds, lambda: holds(guest)), what, journal(guest))
