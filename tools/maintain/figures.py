@@ -116,7 +116,7 @@ COPIES: tuple[Copy, ...] = (
     Copy(CONFORM, "{} tests on 2 links, some 12 min", PEERS, r"^\|\*pass\*\|(\d+)\|.*\n\|\*fail\*\|0\|.*\n\|\*inconclusive\*\|0\|.*\n\|\*skipped\*\|0\|"),
     Copy(CONFORM, "{} pass, {} fail, {} inconclusive, {} skipped", PEERS,
          r"^\|\*pass\*\|\d+\|(\d+)\|.*\n\|\*fail\*\|\d+\|(\d+)\|.*\n\|\*inconclusive\*\|\d+\|(\d+)\|.*\n\|\*skipped\*\|\d+\|(\d+)\|"),
-    Copy(README, "a verdict of each of [{} tests](docs/CONFORM.md#how-many-tests)", *CONFORMS),
+    Copy(README, "a verdict of each of up to [{} tests](docs/CONFORM.md#how-many-tests)", *CONFORMS),
     Copy("CHANGELOG.md", "([CONFORM](docs/CONFORM.md)): {} tests, reports as lines", *CONFORMS),
     Copy("hosts/openvswitch/README.md", "{} of {} were lost with its own LACP, and {} with this one", PEERS,
          r"^\|the daemon ends, and another one starts 0\.3 s later\|(\d+) of ([\d,]+) lost\|(\d+):"),
