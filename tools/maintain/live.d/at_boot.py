@@ -99,6 +99,11 @@ def boot_with(name: str) -> Callable[[Part], None]:
             machine.run("systemctl", "kill", "--kill-whom=main", "--signal=SIGKILL", "lagd@uplink")
             within(ANSWERS, lambda: machine.main() not in ("", "0", before))
             settle(machine, theirs, "after a crash")
+            machine.run("systemctl", "stop", "lagd@uplink")
+            if name == "ifupdown":  # as where the device goes only behind what stops the service
+                machine.run("sh", "-c", "ip link add lag0 type dummy; ifup lag0; ip link delete lag0")
+            check(machine.run("systemctl", "start", "lagd@uplink").returncode == 0, "the bundle is stopped, and started", machine.told())
+            settle(machine, theirs, "after a stop")
             inside(THEIRS, "ip", "link", "set", "b0", "down")
             check(within(ANSWERS, pings), "with one link it answers", machine.told())
             inside(THEIRS, "ip", "link", "set", "b0", "up")
