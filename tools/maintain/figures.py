@@ -77,7 +77,7 @@ COPIES: tuple[Copy, ...] = (
     Copy(README, "within {}.{} s if both ends of each cable are active, and within {}.{} s if one is", *UNTIL_UP),
     Copy(README, "That is {} and {} rounds of 100 ms", ROUNDS, r"^up_if_both_active = (\d+)$[^=]*^up_if_one_is = (\d+)$"),
     Copy(README, "takes [{} ns](docs/PERFORMANCE.md#times-of-calls)", MEASURED, r"^\|receive, LACPDU that changes nothing\|[\d.]+\|([\d.]+)(?:\|[\d.]+){7}\|$"),
-    Copy(README, "or {} to {} ns from C", MEASURED, r"^\|an LACPDU that changes nothing\|(\d+)-(\d+)\|"),
+    Copy(README, "from C {} to {} ns, and", MEASURED, r"^\|an LACPDU that changes nothing\|(\d+)-(\d+)\|"),
     Copy(README, "`niw_resume` of c/lag.c takes there {} octets of", MEASURED, r"^\|`niw_resume`, c/lag\.c\|.*\|([\d,]+)\|-\|$"),
     # Of these none came out of order, which is a 0 of the row.
     Copy(README, "Of {} frames sent through `lagd`", MEASURED, r"^\|lagd\|([\d,]+)\|[\d,]+\|\d+\|0\|0\|"),
