@@ -74,7 +74,8 @@ def runtime_part(name: str, folder: str, processor: Processor) -> str:
 
 
 def proved(folder: str, processor: Processor = AMD64) -> list[str]:
-    """The library of the exports, proved and built, and the C that it wants. LIBRARY names one of this processor that is there already."""
+    """The library of the exports, proved and built, and the C that it wants. LIBRARY names one of this processor that is there already; a liblag.a links
+    alone."""
     given = os.environ.get("LIBRARY")
     if processor.prefix:
         made = given or os.path.join(folder, "liblagffi.a")
@@ -84,7 +85,7 @@ def proved(folder: str, processor: Processor = AMD64) -> list[str]:
     if not given:
         want(RT)
         printed(RT, "lib", "--jobs", os.environ.get("RT_JOBS", "4"), *processor.words, cwd=os.path.join(CRATES, "lagffi"))
-    return [given or ARCHIVE, runtime()]
+    return [given] if given and os.path.basename(given) == "liblag.a" else [given or ARCHIVE, runtime()]
 
 
 def one_object(folder: str, parts: list[str], processor: Processor = AMD64) -> str:

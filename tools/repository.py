@@ -64,6 +64,7 @@ def want(*names: str) -> None:
 
 def kit() -> str:
     """The folder of the toolchain."""
+    want(RT)
     told = subprocess.run([RT, "doc"], stdin=subprocess.DEVNULL, capture_output=True, text=True)
     if told.returncode or not told.stdout.strip():
         raise Missing(f"{RT} doc tells no page of the toolchain: {told.stderr.strip()[-400:]}")

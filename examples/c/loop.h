@@ -215,6 +215,7 @@ static inline void leave(struct loop *here, uint16_t port) {
 
 /* Why a port passes no data, for a log, or that it distributes: that it is held niw_port_status says, too, but not why, and of `least` it knows nothing. */
 static inline const char *why_out(struct loop *here, uint16_t port) {
+    if (here->failed) return "a write to the chip failed";
     if (here->alone & bit_of(port)) return "it is in no LAG";
     if (here->leaving & bit_of(port)) return "it leaves its LAG";
     if (!(here->up & bit_of(port))) return "its link is down";
