@@ -28,9 +28,9 @@ class Count:
 
 
 def clean() -> dict[str, str]:
-    """The environment without the toolchain."""
+    """The environment without the toolchain, and without a library that was named for other checks."""
     kept = [it for it in os.environ.get("PATH", "").split(os.pathsep) if it and not os.path.exists(os.path.join(it, "rt"))]
-    return {**os.environ, "PATH": os.pathsep.join(kept)}
+    return {**{name: it for name, it in os.environ.items() if name != "NIWHOPERA_LIBRARY"}, "PATH": os.pathsep.join(kept)}
 
 
 def ran(words: Sequence[str], given: str = "", cwd: str | None = None, **more: str) -> subprocess.CompletedProcess[str]:
