@@ -2,6 +2,7 @@
 
 from __future__ import annotations
 
+from dataclasses import replace
 from typing import Iterable, Type
 
 import pytest
@@ -10,8 +11,9 @@ from conform_faults import SYNC, KeyUnchecked, NoWait, set_bits
 from conform_machines import ToldWithThePeriod
 
 from lagconform import causes
+from lagconform.bench import apart
 from lagconform.groups import TESTS
-from lagconform.model import FAIL, INCONCLUSIVE, PASS
+from lagconform.model import FAIL, INCONCLUSIVE, PASS, Result
 from lagconform.runner import meet, run_one
 from niwhopera import MuxState
 
@@ -187,3 +189,15 @@ def test_markers_of_the_device_are_no_answers() -> None:
     tests = [it for it in TESTS if it.group == "MK"]
     found = play(World(SendsMarkers()), tests)
     assert not [f"{it.test.id} {it.verdict}: {it.why}" for it in found if it.verdict != PASS]
+
+
+def test_no_fail_prints_a_number_that_keeps_the_rule() -> None:
+    assert [apart(2.9005, 1.6, 2.9), apart(2.904, 2.9), apart(2.91, 2.9), apart(0.64, 0.65), apart(2.877, 2.875)] == [3, 3, 2, 2, 3]
+    with beside(World(Device())) as b:
+        meet(b)
+        b.result, sent = Result(BY_NAME["MX-01"]), b.frame()
+        for took in 2.75, 2.9005, 2.91, 1.5999:
+            b.timed("it is there", sent, replace(sent, time=sent.time + took), 2, 2, timer=True)
+        limits = ("1.60 to 2.90", "1.600 to 2.900", "1.60 to 2.90", "1.6000 to 2.9000")
+        texts = [f"it is there: after {took} s; has to be {it} s" for took, it in zip(("2.75", "2.901", "2.91", "1.5999"), limits)]
+        assert [it.text for it in b.result.claims] == texts

@@ -4,7 +4,7 @@ from __future__ import annotations
 
 from niwhopera import Lacpdu, State
 
-from ..bench import LIMIT, PROMPT, REST, SOON, TIMERS, Bench
+from ..bench import LIMIT, PROMPT, REST, SOON, TIMERS, Bench, apart
 from ..model import SURE, Group, Run, Stop
 from ..pdus import CARRIES, words
 from .receive import carries, does_not_carry
@@ -147,9 +147,9 @@ def wait_together(b: Bench) -> None:
     alone = one.time - sent.time < 2 - TIMERS - b.slack  # it did not even wait for itself
     b.timed("link 1 is synchronized", sent, one, 3.5, 3.5, timer=True, causes=NO_WAIT if alone else ())
     b.timed("link 2 is synchronized", later, two, 2, 2, timer=True, causes=NO_WAIT)
-    apart = abs(one.time - two.time)
-    most = TIMERS + PROMPT + b.slack
-    b.claim(apart <= most, f"{apart:.2f} s lie between them; has to be at most {most:.2f} s", one, two)
+    between, most = abs(one.time - two.time), TIMERS + PROMPT + b.slack
+    places = apart(between, most) if between > most else 2
+    b.claim(between <= most, f"{between:.{places}f} s lie between them; has to be at most {most:.{places}f} s", one, two)
 
 
 @group.test("07", "6.4.15, 6.4.9", "A partner that alternates in and out of sync", "carry, and change nothing for 1.2 s",
