@@ -494,8 +494,8 @@ def result(name: str, verdict: str = FAIL) -> Result:
 
 
 def test_causes() -> None:
-    found = causes.grouped([result("RX-12b"), result("MX-01"), result("MX-05", PASS), result("SL-09"), result("FM-01")])
-    assert [(it.name, [one.test.id for one in it.explains]) for it in found] == [("RX-12b", ["MX-01", "SL-09"]), ("FM-01", [])]
+    found = causes.grouped([result("RX-12b"), result("RX-12c"), result("MX-05", PASS), result("SL-09"), result("FM-01")])
+    assert [(it.name, [one.test.id for one in it.explains]) for it in found] == [("RX-12b", ["RX-12c", "SL-09"]), ("FM-01", [])]
     one = causes.grouped([result("RX-09"), result("MX-02"), result("MX-03")])
     assert [(it.name, len(it.explains)) for it in one] == [("MX-02", 2)]
 

@@ -6,7 +6,7 @@ from dataclasses import replace
 from typing import Iterable, Type
 
 import pytest
-from conform_device import OWN, SLOW, Device, World, beside, play
+from conform_device import OWN, SLOW, Device, WaitsThree, World, beside, play
 from conform_faults import SYNC, KeyUnchecked, NoWait, set_bits
 from conform_machines import ToldWithThePeriod
 
@@ -122,6 +122,14 @@ def test_data_is_waited_for() -> None:
     assert "flows of one client: 0 on link 1" not in found[0].notes[0]
 
 
+class WaitsOne(Device):
+    """Its wait_while is 1 s: while a port waits, time goes twice as fast."""
+
+    def ticked(self) -> None:
+        if any(self.on.mux_state(it) is MuxState.WAITING for it in self.links):
+            self.on.tick()
+
+
 class AttachesAlone(ToldWithThePeriod):
     """Its port 1 does not wait for the others."""
 
@@ -135,6 +143,17 @@ class AttachesAlone(ToldWithThePeriod):
 def test_ports_that_do_not_wait_for_each_other_are_a_fault_of_their_own(kind: Type[Device], roots: list[str]) -> None:
     found = play(World(kind()), [BY_NAME[it] for it in ("RX-12b", "MX-06")])
     assert [it.verdict for it in found] == [FAIL, FAIL] and [it.name for it in causes.grouped(found)] == roots, [it.why for it in found]
+
+
+WAITING = "RX-06", "RX-12a", "RX-12b", "RX-12c", "RX-12d", "RX-12e", "RX-12f", "MX-01", "MX-06", "MX-08"
+
+
+@pytest.mark.parametrize("kind, root", [(WaitsThree, "MX-01"), (WaitsOne, "MX-01"), (NoWait, "RX-12b")])
+def test_a_wrong_wait_while_is_told_as_such(kind: Type[Device], root: str) -> None:
+    found = play(World(kind()), [BY_NAME[it] for it in WAITING])
+    failed = {it.test.id for it in found if it.verdict == FAIL}
+    assert {"RX-06", "RX-12b", "RX-12c", "MX-01", "MX-08"} <= failed, failed
+    assert [(it.name, {one.test.id for one in it.explains}) for it in causes.grouped(found)] == [(root, failed - {root})]
 
 
 class FallsSilent(Device):
