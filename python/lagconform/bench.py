@@ -462,10 +462,16 @@ class Bench:
             if sum(begin < it.time < seen.time for it in before) >= 3:  # the transmit machine had to wait
                 most += LIMIT
         took = seen.time - sent.time if seen else None
-        passed = f"after {took:.2f} s" if took is not None else "never"
-        limits = f"{least:.2f} to {most:.2f} s" if least > 0 else f"at most {most:.2f} s"
-        late = took - due if took is not None and took > most else None
-        return self.claim(took is not None and least <= took <= most, f"{what}: {passed}; has to be {limits}", sent, seen, late=late, causes=causes)
+        holds, late = took is not None and least <= took <= most, took - due if took is not None and took > most else None
+        places = 2 if holds or took is None else apart(took, least, most)
+        passed = f"after {took:.{places}f} s" if took is not None else "never"
+        limits = f"{least:.{places}f} to {most:.{places}f} s" if least > 0 else f"at most {most:.{places}f} s"
+        return self.claim(holds, f"{what}: {passed}; has to be {limits}", sent, seen, late=late, causes=causes)
+
+
+def apart(seconds: float, *limits: float) -> int:
+    """With how many digits behind the point a time that breaks its limits differs from each of them: 2, or more where they are close."""
+    return next((places for places in range(2, 9) if f"{seconds:.{places}f}" not in [f"{it:.{places}f}" for it in limits]), 9)
 
 
 def is_lacp(octets: bytes) -> bool:

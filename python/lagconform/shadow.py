@@ -43,8 +43,10 @@ class Shadow:
     @property
     def text(self) -> str:
         """The outcome as a line."""
-        alike = self.compared - len(self.differences)
-        return f"{alike} of {self.compared} LACPDUs are such as the engine would have sent in the device's place"
+        if not self.compared:
+            return f"nothing was compared: LACPDUs of the first {FORGETS:g} s never are"
+        alike = f"{self.compared - len(self.differences)} of {self.compared} LACPDUs"
+        return f"{alike} are such as the engine would have sent in the device's place, up to {BEFORE:.2f} s late, so it clears no fail of time"
 
 
 History = List[Tuple[float, Lacpdu]]

@@ -16,7 +16,7 @@ from lagconform.model import Result
 from lagconform.model import Test as Case
 from lagconform.runner import meet, ordered, run_all
 from lagconform.wires import Hook
-from niwhopera import Config, LagError, Mac, PortConfig, State, System, SystemId
+from niwhopera import Config, LagError, Mac, MuxState, PortConfig, State, System, SystemId
 
 __all__ = ["World"]
 SLOW = b"\x88\x09"
@@ -186,6 +186,19 @@ class LongTimeouts(Device):
     """Asks for long timeouts."""
 
     short = False
+
+
+class WaitsThree(Device):
+    """Its wait_while is 3 s: of three ticks one takes no time, while a port waits."""
+
+    waited = 0
+
+    def tick(self) -> None:
+        if self.system and any(self.on.mux_state(it) is MuxState.WAITING for it in self.links):
+            self.waited += 1
+            if self.waited % 3 == 1:
+                return
+        super().tick()
 
 
 class Individual(Device):

@@ -17,7 +17,7 @@ from pathlib import Path
 from typing import Any, Iterator, Sequence, Type
 
 import pytest
-from conform_device import Device, Individual, LongTimeouts, World, beside
+from conform_device import Device, Individual, LongTimeouts, WaitsThree, World, beside
 from conform_faults import CutOff, KeyUnchecked, NoWait, SystemUnchecked
 from conform_frames import NoMarkers
 from niwhopera import __version__
@@ -73,7 +73,7 @@ def test_reports(run, tmp_path: Path, capsys: pytest.CaptureFixture[str]) -> Non
     files = ["--json", "r.json", "--junit", "r.xml", "--report", "r.html", "--pcap", "r.pcapng"]
     assert run(KeyUnchecked, *words, *files) == 1
     said = capsys.readouterr().out
-    assert "fail           RX-07c" in said and said.endswith(f"1 pass, 2 fail{LAST}") and "shadow: " in said
+    assert "fail           RX-07c" in said and said.endswith(f"1 pass, 2 fail{LAST}") and "shadow: " in said and "up to 1.85 s late" in said
     told = json.loads((tmp_path / "r.json").read_text())
     assert told["counts"]["fail"] == 2 and told["tests"][1]["claims"][0]["holds"] is False and told["about"]["rules"] == CAVEAT
     assert [it.get("value") for it in xml.parse(tmp_path / "r.xml").getroot().iter("property") if it.get("name") == "rules"] == [CAVEAT] * 3
@@ -494,8 +494,8 @@ def result(name: str, verdict: str = FAIL) -> Result:
 
 
 def test_causes() -> None:
-    found = causes.grouped([result("RX-12b"), result("MX-01"), result("MX-05", PASS), result("SL-09"), result("FM-01")])
-    assert [(it.name, [one.test.id for one in it.explains]) for it in found] == [("RX-12b", ["MX-01", "SL-09"]), ("FM-01", [])]
+    found = causes.grouped([result("RX-12b"), result("RX-12c"), result("MX-05", PASS), result("SL-09"), result("FM-01")])
+    assert [(it.name, [one.test.id for one in it.explains]) for it in found] == [("RX-12b", ["RX-12c", "SL-09"]), ("FM-01", [])]
     one = causes.grouped([result("RX-09"), result("MX-02"), result("MX-03")])
     assert [(it.name, len(it.explains)) for it in one] == [("MX-02", 2)]
 
@@ -582,6 +582,17 @@ def test_the_shadow_agrees_with_a_right_device() -> None:
                 run_one(b, BY_NAME[name])
             shadow = compare(b)
             assert shadow.compared > 20 and bool(shadow.differences) == differs, shadow.text
+
+
+def test_the_shadow_says_what_it_can_not_see() -> None:
+    world = World(WaitsThree())
+    with beside(world) as b:
+        meet(b)
+        assert compare(b).text.startswith("nothing was compared: LACPDUs of the first 5 s")
+        found = [run_one(b, BY_NAME[it]).verdict for it in ("MX-01", "RX-12b", "MX-08")]
+        assert found == [FAIL] * 3
+        shadow = compare(b)
+        assert shadow.compared > 10 and shadow.text.endswith("place, up to 1.85 s late, so it clears no fail of time"), shadow.text
 
 
 def test_most_within() -> None:

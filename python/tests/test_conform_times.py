@@ -2,16 +2,18 @@
 
 from __future__ import annotations
 
+from dataclasses import replace
 from typing import Iterable, Type
 
 import pytest
-from conform_device import OWN, SLOW, Device, World, beside, play
+from conform_device import OWN, SLOW, Device, WaitsThree, World, beside, play
 from conform_faults import SYNC, KeyUnchecked, NoWait, set_bits
 from conform_machines import ToldWithThePeriod
 
 from lagconform import causes
+from lagconform.bench import apart
 from lagconform.groups import TESTS
-from lagconform.model import FAIL, INCONCLUSIVE, PASS
+from lagconform.model import FAIL, INCONCLUSIVE, PASS, Result
 from lagconform.runner import meet, run_one
 from niwhopera import MuxState
 
@@ -120,6 +122,14 @@ def test_data_is_waited_for() -> None:
     assert "flows of one client: 0 on link 1" not in found[0].notes[0]
 
 
+class WaitsOne(Device):
+    """Its wait_while is 1 s: while a port waits, time goes twice as fast."""
+
+    def ticked(self) -> None:
+        if any(self.on.mux_state(it) is MuxState.WAITING for it in self.links):
+            self.on.tick()
+
+
 class AttachesAlone(ToldWithThePeriod):
     """Its port 1 does not wait for the others."""
 
@@ -133,6 +143,17 @@ class AttachesAlone(ToldWithThePeriod):
 def test_ports_that_do_not_wait_for_each_other_are_a_fault_of_their_own(kind: Type[Device], roots: list[str]) -> None:
     found = play(World(kind()), [BY_NAME[it] for it in ("RX-12b", "MX-06")])
     assert [it.verdict for it in found] == [FAIL, FAIL] and [it.name for it in causes.grouped(found)] == roots, [it.why for it in found]
+
+
+WAITING = "RX-06", "RX-12a", "RX-12b", "RX-12c", "RX-12d", "RX-12e", "RX-12f", "MX-01", "MX-06", "MX-08"
+
+
+@pytest.mark.parametrize("kind, root", [(WaitsThree, "MX-01"), (WaitsOne, "MX-01"), (NoWait, "RX-12b")])
+def test_a_wrong_wait_while_is_told_as_such(kind: Type[Device], root: str) -> None:
+    found = play(World(kind()), [BY_NAME[it] for it in WAITING])
+    failed = {it.test.id for it in found if it.verdict == FAIL}
+    assert {"RX-06", "RX-12b", "RX-12c", "MX-01", "MX-08"} <= failed, failed
+    assert [(it.name, {one.test.id for one in it.explains}) for it in causes.grouped(found)] == [(root, failed - {root})]
 
 
 class FallsSilent(Device):
@@ -187,3 +208,15 @@ def test_markers_of_the_device_are_no_answers() -> None:
     tests = [it for it in TESTS if it.group == "MK"]
     found = play(World(SendsMarkers()), tests)
     assert not [f"{it.test.id} {it.verdict}: {it.why}" for it in found if it.verdict != PASS]
+
+
+def test_no_fail_prints_a_number_that_keeps_the_rule() -> None:
+    assert [apart(2.9005, 1.6, 2.9), apart(2.904, 2.9), apart(2.91, 2.9), apart(0.64, 0.65), apart(2.877, 2.875)] == [3, 3, 2, 2, 3]
+    with beside(World(Device())) as b:
+        meet(b)
+        b.result, sent = Result(BY_NAME["MX-01"]), b.frame()
+        for took in 2.75, 2.9005, 2.91, 1.5999:
+            b.timed("it is there", sent, replace(sent, time=sent.time + took), 2, 2, timer=True)
+        limits = ("1.60 to 2.90", "1.600 to 2.900", "1.60 to 2.90", "1.6000 to 2.9000")
+        texts = [f"it is there: after {took} s; has to be {it} s" for took, it in zip(("2.75", "2.901", "2.91", "1.5999"), limits)]
+        assert [it.text for it in b.result.claims] == texts

@@ -2,17 +2,25 @@
 
 from __future__ import annotations
 
+from typing import Optional
+
 from niwhopera import Lacpdu, State
 
-from ..bench import LIMIT, PROMPT, REST, SOON, TIMERS, Bench
-from ..model import SURE, Group, Run, Stop
+from ..bench import LIMIT, PROMPT, REST, SOON, TIMERS, Bench, apart
+from ..model import SURE, Frame, Group, Run, Stop
 from ..pdus import CARRIES, words
-from .receive import carries, does_not_carry
+from .receive import WAITS, carries, does_not_carry
 
 group = Group("MX", "Mux machine (6.4.15)")
 OUT_OF_SYNC = {State.SYNCHRONIZATION: False, State.COLLECTING: False, State.DISTRIBUTING: False}
-# What explains that a device skips WAITING.
+# What explains that a device skips WAITING. That it waits too long, it does not explain.
 NO_WAIT = ("RX-12b",)
+
+
+def waited_wrong(b: Bench, sent: Frame, seen: Optional[Frame]) -> tuple[str, ...]:
+    """What explains that a device takes other than 2 s from our frame until it is synchronized."""
+    skips = seen and seen.time - sent.time < 2 - TIMERS - b.slack
+    return (*NO_WAIT, *WAITS) if skips else WAITS
 
 
 def attach(b: Bench) -> int:
@@ -28,8 +36,7 @@ def attach(b: Bench) -> int:
 
 
 @group.test("01", "6.4.15, 6.4.4", "wait_while: 2 s before Synchronization", "be a new partner on one link",
-            rule="Synchronization is 0 first, and 1 after 2 s", tolerance="2 s: -0.25 s, +0.75 s (timer and LACPDU)", takes=2.5,
-            causes=NO_WAIT)  # fmt: skip
+            rule="Synchronization is 0 first, and 1 after 2 s", tolerance="2 s: -0.25 s, +0.75 s (timer and LACPDU)", takes=2.5)  # fmt: skip
 def waits(b: Bench) -> None:
     """A port that is selected waits Aggregate_Wait_Time, 2 s, in WAITING before it attaches."""
     b.begin(1, silent=True)
@@ -40,7 +47,7 @@ def waits(b: Bench) -> None:
     first = b.first(1, mark, lambda pdu: pdu.partner.system == partner.me.system, 2)
     told = first.lacpdu.actor.state if first and first.lacpdu else None
     what = f"the first LACPDU that names us tells {'nothing' if told is None else words(told)}; has to be without Synchronization"
-    b.claim(told is not None and not told & State.SYNCHRONIZATION, what, first)
+    b.claim(told is not None and not told & State.SYNCHRONIZATION, what, first, causes=NO_WAIT)
     seen = b.first(1, mark, lambda pdu: pdu.partner.system == partner.me.system and pdu.actor.state & State.SYNCHRONIZATION, 6)
     b.timed("it is synchronized", sent, seen, 2, 2, timer=True)
 
@@ -144,12 +151,12 @@ def wait_together(b: Bench) -> None:
         return
     if not one or not two:
         raise Stop(f"not both links are synchronized: {bool(one)}, {bool(two)}")
-    alone = one.time - sent.time < 2 - TIMERS - b.slack  # it did not even wait for itself
-    b.timed("link 1 is synchronized", sent, one, 3.5, 3.5, timer=True, causes=NO_WAIT if alone else ())
-    b.timed("link 2 is synchronized", later, two, 2, 2, timer=True, causes=NO_WAIT)
-    apart = abs(one.time - two.time)
-    most = TIMERS + PROMPT + b.slack
-    b.claim(apart <= most, f"{apart:.2f} s lie between them; has to be at most {most:.2f} s", one, two)
+    alone = 2 - TIMERS - b.slack <= one.time - sent.time < 3.5 - TIMERS - b.slack  # it waited for itself, and not for link 2
+    b.timed("link 1 is synchronized", sent, one, 3.5, 3.5, timer=True, causes=() if alone else waited_wrong(b, sent, one))
+    b.timed("link 2 is synchronized", later, two, 2, 2, timer=True, causes=waited_wrong(b, later, two))
+    between, most = abs(one.time - two.time), TIMERS + PROMPT + b.slack
+    places = apart(between, most) if between > most else 2
+    b.claim(between <= most, f"{between:.{places}f} s lie between them; has to be at most {most:.{places}f} s", one, two)
 
 
 @group.test("07", "6.4.15, 6.4.9", "A partner that alternates in and out of sync", "carry, and change nothing for 1.2 s",
@@ -203,7 +210,7 @@ for _number, _seconds in ("09", 15), ("10", 65):
 
 @group.test("08", "6.4.15, 6.3.5", "An individual partner", "be a partner that is not aggregatable, in sync",
             rule="the device is synchronized after 2 s, or never is; it tells Aggregation of the partner as 0; whether it carries is told alone", tolerance="2 s: -0.25 s, +0.75 s (timer and LACPDU)",
-            takes=3, causes=NO_WAIT)  # fmt: skip
+            takes=3)  # fmt: skip
 def individual(b: Bench) -> None:
     """A link whose partner is individual is a group of its own; the device may carry on it. It is told as it is: the partner's Aggregation
     is 0."""
@@ -214,7 +221,7 @@ def individual(b: Bench) -> None:
     partner.speak()
     seen = b.first(1, mark, lambda pdu: pdu.actor.state & State.SYNCHRONIZATION and pdu.partner.system == partner.me.system, 5)
     if seen:
-        b.timed("it is synchronized", sent, seen, 2, 2, timer=True)
+        b.timed("it is synchronized", sent, seen, 2, 2, timer=True, causes=waited_wrong(b, sent, seen))
     b.wait(0.7)
     b.note("it carries on an individual link" if b.carries() else "it does not carry on an individual link")
     b.holds(not b.device().partner.state & State.AGGREGATION, "Aggregation of the partner is told as 0", b.frame())

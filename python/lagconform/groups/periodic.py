@@ -6,7 +6,7 @@ from typing import Sequence
 
 from niwhopera import State
 
-from ..bench import PROMPT, TIMERS, Bench
+from ..bench import PROMPT, TIMERS, Bench, apart
 from ..model import SURE, DoesNotApply, Frame, Group, Stop
 from .receive import wants_active
 
@@ -18,9 +18,18 @@ def gaps(found: Sequence[Frame]) -> list[float]:
     return [two.time - one.time for one, two in zip(found, found[1:])]
 
 
-def listed(between: Sequence[float]) -> str:
+def listed(between: Sequence[float], places: int = 2) -> str:
     """Gaps as text."""
-    return f"gaps of {', '.join(f'{it:.2f}' for it in between)} s" if between else "fewer than two LACPDUs came"
+    return f"gaps of {', '.join(f'{it:.{places}f}' for it in between)} s" if between else "fewer than two LACPDUs came"
+
+
+def at_most(b: Bench, found: Sequence[Frame], before: str, shown: int) -> None:
+    """Claims that LACPDUs come as often as a partner that asks for short timeouts wants it."""
+    between, most = gaps(found), 1 + TIMERS + b.slack
+    longest = max(between, default=0.0)
+    places = apart(longest, most) if longest > most else 2
+    text = f"{before}{listed(between, places)}; has to be at most {most:.{places}f} s"
+    b.claim(len(between) >= 2 and longest <= most, text, *found[:shown])
 
 
 def calm(b: Bench, short: bool) -> None:
@@ -46,7 +55,8 @@ def fast(b: Bench) -> None:
         b.claim(False, f"{len(found)} LACPDUs in 8.3 s; has to be 8", *found)
         return
     wrong = [at for at, gap in enumerate(between) if abs(gap - 1) > more]
-    text = f"{len(between)} gaps of {min(between):.2f} to {max(between):.2f} s; has to be 1 s, within {more:.2f} s"
+    places = max(apart(min(between), 1 - more), apart(max(between), 1 + more)) if wrong else 2
+    text = f"{len(between)} gaps of {min(between):.{places}f} to {max(between):.{places}f} s; has to be 1 s, within {more:.2f} s"
     b.claim(not wrong and len(found) > 4, text, *[it for at in wrong[:2] for it in found[at : at + 2]] or found[:2])
 
 
@@ -74,9 +84,7 @@ def to_short(b: Bench) -> None:
     b.timed("an LACPDU comes", sent, seen, 0, PROMPT)
     b.wait(3.3)
     found = list(b.heard(1, mark))
-    between = gaps(found)
-    most = 1 + TIMERS + b.slack
-    b.claim(len(between) >= 2 and max(between) <= most, f"then {listed(between)}; has to be at most {most:.2f} s", *found[:4])
+    at_most(b, found, "then ", 4)
 
 
 @group.test("04", "6.4.13", "From short to long", "ask for short timeouts", "ask for long ones",
@@ -128,9 +136,7 @@ def passive_partner(b: Bench) -> None:
     mark = b.mark()
     b.wait(4.3)
     found = list(b.heard(1, mark))
-    between = gaps(found)
-    most = 1 + TIMERS + b.slack
-    b.claim(len(between) >= 2 and max(between) <= most, f"{listed(between)}; has to be at most {most:.2f} s", *found[:3])
+    at_most(b, found, "", 3)
 
 
 @group.test("07", "6.4.13, 6.4.4", "Long timeouts: one LACPDU each 30 s", "carry, and ask for long timeouts", "take LACPDUs for 92 s",

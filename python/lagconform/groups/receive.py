@@ -12,6 +12,8 @@ from ..model import DoesNotApply, Group, Run, Stop
 from ..pdus import CARRIES, NOBODY, SIX, end, other, other_octet, six
 
 group = Group("RX", "Receive machine (6.4.12)")
+# What explains that a device attaches too early or too late, where it did detach: its wait_while.
+WAITS = ("MX-01",)
 
 
 def wants_active(b: Bench) -> None:
@@ -173,7 +175,7 @@ def selects_anew(field: str) -> Run:
             own = six(partner.me.info)
             sync = b.first(1, seen.number, lambda pdu: pdu.actor.state & State.SYNCHRONIZATION and six(pdu.partner) == own, 4)
             if sync or field != "aggregation":
-                b.timed("it is synchronized with the changed partner", sent, sync, 2, 2, timer=True)
+                b.timed("it is synchronized with the changed partner", sent, sync, 2, 2, timer=True, causes=WAITS)
             else:
                 b.note("it is not synchronized with an individual partner, which it need not be")
 

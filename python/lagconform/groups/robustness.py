@@ -7,7 +7,7 @@ from typing import Iterable
 
 from niwhopera import encode
 
-from ..bench import Bench, most_within
+from ..bench import Bench, apart, most_within
 from ..model import DEVICES, SURE, Frame, Group, Stop
 from ..partner import slow
 from ..pdus import GROUP, SLOW, with_bits
@@ -44,7 +44,9 @@ def storm(b: Bench, frames: Iterable[bytes], gap: float, what: str = "frames") -
 def goes_on(b: Bench, last: Frame) -> None:
     """Claims that the last LACPDU of the device is not old."""
     old, most = b.now() - last.time, OLD + b.slack
-    b.claim(old < most, f"its last LACPDU, packet {last.number}, is {old:.2f} s old; has to be less than {most:.2f} s (6.4.13)", last, causes=PERIODIC)
+    places = 2 if old < most else apart(old, most)
+    text = f"its last LACPDU, packet {last.number}, is {old:.{places}f} s old; has to be less than {most:.{places}f} s (6.4.13)"
+    b.claim(old < most, text, last, causes=PERIODIC)
 
 
 def out_of_sync(b: Bench) -> bytes:

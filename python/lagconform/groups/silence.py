@@ -10,7 +10,7 @@ from ..bench import PROMPT, Bench
 from ..model import DoesNotApply, Frame, Stop
 from ..partner import slow
 from ..pdus import CARRIES
-from .receive import carries, group, wants_active
+from .receive import WAITS, carries, group, wants_active
 
 IS_OVER = State.EXPIRED | State.DEFAULTED
 
@@ -116,7 +116,7 @@ def waits_again(b: Bench) -> None:
     system = b.partner().me.system
     synced = State.SYNCHRONIZATION
     seen = b.first(1, mark, lambda pdu: pdu.partner.system == system and pdu.actor.state & (synced | State.DEFAULTED) == synced, 6)
-    b.timed("it is synchronized", sent, seen, 2, 2, timer=True)
+    b.timed("it is synchronized", sent, seen, 2, 2, timer=True, causes=WAITS)
 
 
 @group.test("16", "6.4.12, 6.4.4", "Silence of a partner that asks for long timeouts", "carry, asked for long timeouts", "say nothing",
