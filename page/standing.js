@@ -2,7 +2,7 @@
  * LACPDUs that the texts imply; facts that no LACPDU has get their own words. A text is a moment: what is starting looks as what stays so. */
 
 import { bitsOf, muxSaid } from "./records.js";
-import { capitalized, counted, distinct } from "./keys.js";
+import { astrayIn, capitalized, counted, crossingOf, distinct, isCrossed, joinedBy, keyGroups } from "./keys.js";
 import { EFFECT, FAULT, REMARK } from "./causes.js";
 import { ALONE, CARRIES, howManyCarry, IDLE, UNKNOWN } from "./summary.js";
 import { flowSaid, hashesSaid } from "./hashes.js";
@@ -103,7 +103,7 @@ function factsIn(texts, between) {
 /* ---- Causes ---- */
 
 /* What explains the rest comes first: facts by name, rules by number. */
-const RANKS = ["no-lacp", "no-state", "no-root", "set-down", 30, "own-address", "never-heard", "copied", 29, 15, "apart", "device-down", "link-set-down", "link-down", "held", "speeds", "stands-by", 5, "passive-unheard", 14, "deaf-there", 12, 22, 17, 2, 3, 4, "too-few", "no-links"];
+const RANKS = ["no-lacp", "no-state", "no-root", "set-down", 30, "own-address", "never-heard", "copied", "crossed", 29, 15, "apart", "device-down", "link-set-down", "link-down", "held", "speeds", "stands-by", 5, "passive-unheard", 14, "deaf-there", 12, 22, 17, 2, 3, 4, "too-few", "no-links"];
 const isUnheard = ({ rank }) => rank === 12;
 /* What calls for nothing by itself. */
 const ASIDE = ["away", "waiting", "aggregators", "same-partner-port", "one-system", "not-far", "several", "note", "said"];
@@ -117,10 +117,54 @@ function cutSaid(texts) {
 const causeOf = (given) => ({ kind: FAULT, lines: [], effects: [], ports: [], ...given });
 
 /* Rules by which links are compared: a finding of them may be of several bundles. */
-const KEYS_DIFFER = 15, TWO_SYSTEMS = 29, COMPARING = [KEYS_DIFFER, TWO_SYSTEMS];
+const KEYS_DIFFER = 15, TWO_SYSTEMS = 29, COMPARING = [KEYS_DIFFER, TWO_SYSTEMS, "crossed"];
 /* Whether a bundle never heard a partner, on any link. */
 const hasNoPartner = ({ ports }) => ports.some((it) => it.actor) && ports.every((it) => it.actor ? !it.partner : it.link === false);
 const bundleOf = (port, bundles) => bundles.findIndex(({ ports }) => ports.includes(port.said ?? port));
+
+/* ---- Several bundles of one text ---- */
+
+/* A port as a link of a capture, for its keys. */
+function asLink(port) {
+    const nameOf = ({ priority, system }) => `${priority}/${dashed(system)}`, end = { label: nameOfPort(port), port: port.actor.port, named: nameOf(port.partner), last: port };
+    return { systems: [port.actor, port.partner].map(nameOf), links: [{ of: port, isPast: false, isAlone: true, ends: [end, null] }] };
+}
+
+/* The groups of links of several bundles that lead to one system, and cross there. */
+function crossedIn(bundles) {
+    const isNamed = (it) => isLinked(it) && [it.actor, it.partner].every((party) => party?.system && party.key !== null);
+    const groups = bundles.length > 1 ? keyGroups(bundles.flatMap((it) => it.ports).filter(isNamed).map(asLink)) : [];
+    return groups.filter((group) => isCrossed(group) && !isSeveral(group, ({ link }) => link.of.partner.system));
+}
+
+/* Whether a port is one of a group, or is at the other end of one. */
+const isOfGroup = (said, group) => group.some(({ link: { of } }) => of === said || ["system", "key", "port"].every((it) => of.actor[it] === said.partner?.[it]));
+
+/* Where cables cross, as of captures: what rules say of it is one cause. */
+function causesOfCrossed(found, groups) {
+    return groups.flatMap((group) => {
+        const own = found.find(({ rule, port }) => rule === KEYS_DIFFER && isOfGroup(port.said, group)), { astray, other } = astrayIn(group), { title, lines, advice } = crossingOf(group[0].link, [group]);
+        const ports = (astray.length ? [...astray, ...other] : group).map(({ link }) => link.of);
+        return own ? [causeOf({ rank: "crossed", rule: own.rule, clause: own.clause, title: `${title}: ${namesIn(ports)}`, advice, lines, ports })] : [];
+    });
+}
+
+/* Whether rule 29 compares links of a bundle that lead to one system with those of another bundle. */
+function isBeside({ rule, port }, bundles) {
+    const [own] = bundles.filter(({ ports }) => ports.includes(port.said));
+    return rule === TWO_SYSTEMS && bundles.length > 1 && own !== undefined && !isSeveral(own.ports.filter((it) => it.partner), ({ partner }) => `${partner.priority}/${partner.system}`);
+}
+
+/* That several bundles lead to one group there. */
+function causesOfOneGroup(found, bundles) {
+    const shared = found.filter((it) => it.isImplied && isBeside(it, bundles)), near = distinct(shared.map(({ port }) => bundles[bundleOf(port, bundles)]));
+    const ports = near.flatMap((it) => it.ports).filter((it) => shared.some(({ port }) => ["system", "key"].every((name) => it.partner?.[name] === port.said.partner[name])));
+    if (near.length < 2) return [];
+    return [causeOf({
+        rank: TWO_SYSTEMS, rule: TWO_SYSTEMS, clause: shared[0].clause, ports, title: `${joinedBy(near.map(({ name, told }) => name || told))} lead to one group at the other end: ${namesIn(ports)}`,
+        advice: "Give each a group of its own there (switch: a channel-group each), or put all these ports into one bundle here.",
+    })];
+}
 
 /* What a bundle shares with others that are compared with it: a system and its key; of keys that differ, in one pair of systems. */
 function sharedIn({ ports }, rule) {
@@ -171,6 +215,13 @@ function causesOfRules(found, { bundles, form }) {
     });
 }
 
+/* The causes that findings are: of those that compare bundles with each other, in words of these. */
+function causesFound(found, text) {
+    const crossed = crossedIn(text.bundles), isOfCrossed = ({ rule, port }) => COMPARING.includes(rule) && crossed.some((group) => isOfGroup(port.said, group));
+    const rest = found.filter((it) => !isOfCrossed(it));
+    return [...causesOfCrossed(found, crossed), ...causesOfOneGroup(rest, text.bundles), ...causesOfRules(rest.filter((it) => !isBeside(it, text.bundles)), text)];
+}
+
 /* Whether a cause follows from another one, in its bundles. */
 function followsFrom(it, { rank, ports }, bundles, isOfSpeed) {
     const isOfRank = { speeds: () => (it.rank === 15 && isOfSpeed) || (it.rank === 12 && it.ports.every(isHalf)), "never-heard": isUnheard, "passive-unheard": isUnheard, "deaf-there": isUnheard }[rank];
@@ -204,7 +255,7 @@ export function causesOfTexts({ texts, facts: between }, { found, left }) {
     if (texts.some(isCutIn)) return [...notes, ...said];
     const facts = factsIn(texts, between).map((it) => causeOf({ rank: it.name, title: it.title, advice: it.advice, ports: it.ports, kind: aside(it.name) }));
     const isCopied = facts.some(({ rank }) => rank === "copied");
-    const rules = causesOfRules(found.filter((it) => !(it.rule === 17 && isDenied(it.port.said)) && !isOfHeld(it) && !(isCopied && COMPARING.includes(it.rule))), texts[0]);
+    const rules = causesFound(found.filter((it) => !(it.rule === 17 && isDenied(it.port.said)) && !isOfHeld(it) && !(isCopied && COMPARING.includes(it.rule))), texts[0]);
     const causes = inOrder([...notes, ...facts, ...rules].filter((it) => it.kind === FAULT), texts[0].bundles);
     const whole = causes.length ? [] : texts[0].bundles.filter(({ ports }) => ports.length > 1 && ports.every(saysCarry));
     const hashes = hashesSaid(whole).map((it) => causeOf({ rank: "hash", kind: REMARK, ...it }));
