@@ -200,7 +200,8 @@ function toldAs({ rule, isImplied, port }, bundles) {
 /* What the device of a bundle is called, in a command; a text of bonding does not say it. */
 const deviceOf = (bundles) => bundles.length === 1 && !bundles[0].name.includes(" ") ? bundles[0].name : "BOND";
 
-function causesOfRules(found, { bundles, form }) {
+function causesOfRules(found, { bundles, form, notes }) {
+    const isOneOfBonds = bundles.length > 1 || (notes.some((it) => isBesideLacp(it, { bundles })) && !bundles[0].name.startsWith("the "));
     const rules = distinct(found.map((it) => toldAs(it, bundles))).map((told) => found.filter((it) => toldAs(it, bundles) === told));
     return rules.map((list) => {
         const [{ rule, clause, name, advice }] = list, own = RULES.get(rule) ?? {}, here = list.filter((it) => !it.isImplied), meant = list.map((it) => it.port);
@@ -210,7 +211,7 @@ function causesOfRules(found, { bundles, form }) {
         const seen = { ports, form, advice, device: deviceOf(near), meant: meant.map(({ said, far }) => ({ ...said, far })), isLasting: meant.some((it) => it.isLasting), isImplied: !here.length };
         const silent = near.filter(hasNoPartner), isOfSeveral = silent.length < bundles.length;
         const plain = (!here.length && own.implied?.(namesIn(meant))) || `${own.case?.(seen) ?? own.title ?? name}: ${who}`;
-        const head = bundles.length > 1 && near.length === 1 ? `in ${near[0].name}: ` : "", title = own.whole?.({ ...seen, silent, isOfSeveral }) ?? `${head}${plain}`;
+        const head = isOneOfBonds && near.length === 1 ? `in ${near[0].name}: ` : "", title = own.whole?.({ ...seen, silent, isOfSeveral }) ?? `${head}${plain}`;
         return causeOf({ rank: rule, rule, clause, title, plain, advice: own.advice?.(seen) ?? advice, lines: own.said?.(seen) ?? [], ports: meant });
     });
 }
@@ -246,10 +247,13 @@ function inOrder(all, bundles) {
 /* Whether somebody holds the link of a finding, at either end: then it says nothing that it is not attached. */
 const isOfHeld = ({ rule, port }) => [17, 22].includes(rule) && (port.said.isHeld || port.isHeldThere);
 
+/* Whether a note is of a bond that does not speak LACP, beside one that does. */
+const isBesideLacp = ({ name }, { bundles }) => name === "no-lacp" && bundles.length > 0;
+
 /* The causes of texts, the first one first; of a text that is cut none is named. What the hashes mean is said where all links of a bundle carry. */
 export function causesOfTexts({ texts, facts: between }, { found, left }) {
     const bundles = texts.flatMap((it) => it.bundles), aside = (rank) => ASIDE.includes(rank) ? REMARK : FAULT;
-    const notes = texts.flatMap((it) => it.notes).map((it) => causeOf({ rank: it.name, title: it.text, advice: it.advice ?? "", kind: aside(it.name) }));
+    const notes = texts.flatMap((text) => text.notes.map((it) => causeOf({ rank: it.name, title: it.text, advice: it.advice ?? "", kind: isBesideLacp(it, text) ? REMARK : aside(it.name) })));
     const said = bundles.flatMap((it) => it.ports).filter((it) => it.facts.length).map((it) => causeOf({ rank: "said", kind: REMARK, title: `${nameOfPort(it)}: ${it.facts.join("; ")}`, advice: "" }));
     const more = left ? [causeOf({ rank: "note", kind: REMARK, title: `${counted(left, "link")} beyond the first 32 are not looked at`, advice: "Give the others alone." })] : [];
     if (texts.some(isCutIn)) return [...notes, ...said];

@@ -44,6 +44,29 @@ def of_crossed(tests: Tests) -> None:
         tests.same(f"two healthy bonds at {name}", [ended, said.startswith("4 of 4 links carry, in 2 bundles. LACP is not your trouble")], [0, True])
 
 
+def backup(number: int) -> str:
+    """A bond of one port that does not speak LACP."""
+    port = "Slave Interface: eth0\nMII Status: up\nSpeed: 1000 Mbps\nDuplex: full\nLink Failure Count: 0\nPermanent HW addr: 02:00:00:01:0c:01\nSlave queue ID: 0\n"
+    mode = "Bonding Mode: fault-tolerance (active-backup)\nPrimary Slave: None\nCurrently Active Slave: eth0\nMII Status: up\nMII Polling Interval (ms): 100\n"
+    return f"==> /proc/net/bonding/bond{number} <==\nEthernet Channel Bonding Driver: v6.1.176\n\n{mode}\n{port}\n"
+
+
+def of_backups(tests: Tests) -> None:
+    """A bond without LACP is a remark beside one that speaks it, whose causes have its name; alone, or beside another one, it is a finding."""
+    told = 'he bond bond0 does not speak LACP: its mode is "fault-tolerance (active-backup)"'
+    good, broken = (backup(0) + bond(1, "ens1f0 ens1f1", (2000, key)) for key in (2000, 3000))
+    cases = {
+        "a healthy one": (good, 0, "2 of 2 links carry. LACP is not your trouble", 1),
+        "a broken one": (broken, 1, "1 of 2 links carries. In bond1: keys differ within one pair of systems: ens1f0, ens1f1.", 2),
+    }
+    for name, (text, status, headline, at) in cases.items():
+        ended, said = told_of(text)
+        tests.same(f"a bond without LACP beside {name}", [ended, said.startswith(headline), f"\n{at}. remark: t{told}\n" in said], [status, True, True])
+    for count, text in (1, backup(0)), (2, backup(0) + backup(2)):
+        ended, said = told_of(text)
+        tests.same(f"{count} without LACP", [ended, said.partition("\n")[0], "remark" in said], [1, f"T{told}.", False])
+
+
 def of_bonds(tests: Tests) -> None:
-    for it in (of_crossed,):
+    for it in of_crossed, of_backups:
         it(tests)
