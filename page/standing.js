@@ -80,7 +80,8 @@ function partnerFacts({ name, ports }) {
 }
 
 /* Several bundles in one text: those of one system, or both ends of links, which are counted as more links then. */
-function severalFacts({ bundles }) {
+function severalFacts(text) {
+    const bundles = text.bundles.filter(({ ports }) => ports.length);
     const systemOf = ({ ports }) => ports.find((it) => it.actor)?.actor.system;
     const isOne = bundles.length > 1 && systemOf(bundles[0]) && bundles.every((it) => systemOf(it) === systemOf(bundles[0]));
     const said = bundles.map((it) => `${it.told}${systemOf(it) ? ` is of the system ${dashed(systemOf(it))}` : ""}`);

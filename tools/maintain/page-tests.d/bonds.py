@@ -67,6 +67,24 @@ def of_backups(tests: Tests) -> None:
         tests.same(f"{count} without LACP", [ended, said.partition("\n")[0], "remark" in said], [1, f"T{told}.", False])
 
 
+def empty(name: str) -> str:
+    """A bond without a port, as root reads it."""
+    head = read_text(os.path.join(STATUS, "healthy-bonding.txt")).partition("Active Aggregator Info:")[0]
+    return f"{head.replace('MII Status: up', 'MII Status: down')}bond {name} has no active aggregator\n"
+
+
+def of_empty(tests: Tests) -> None:
+    """A bond without a port is told as that, by its name, alone and beside others; a text that ends in the line of its first port is cut."""
+    told, advice = "The bond bond0 has no member.", "ip link set PORT master bond0 (at each start: netplan `interfaces:`, ifupdown `bond-slaves`)."
+    none, good, keys = f"==> /proc/net/bonding/bond0 <==\n{empty('bond0')}\n", bond(1, "ens1f0 ens1f1", (2000, 2000)), bond(1, "ens1f0 ens1f1", (2000, 3000))
+    carry, differ = "2 of 2 links carry, in 2 bundles. ", "1 of 2 links carries, in 2 bundles. In bond1: keys differ within one pair of systems: ens1f0, ens1f1. "
+    for name, text, head in ("alone", empty("bond0"), ""), ("by its name", none, ""), ("before another", none + good, carry), ("behind it", f"{good}\n{none}", carry), ("beside a broken one", none + keys, differ):
+        ended, said = told_of(text)
+        found = [ended, said.partition("\n")[0], advice in said, "root" in said, "bundles are in one text" in said]
+        tests.same(f"a bond without a port, {name}", found, [1, f"{head}{told}", True, False, False])
+    tests.same("a bond that is cut in its first port", told_of(f"{empty('bond0')}\nSlave Inter")[0], 2)
+
+
 def of_bonds(tests: Tests) -> None:
-    for it in of_crossed, of_backups:
+    for it in of_crossed, of_backups, of_empty:
         it(tests)
