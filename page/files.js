@@ -162,8 +162,8 @@ async function readOut(file, numberOf) {
         kept.push(last);
     }
     if (last && last !== kept.at(-1)) kept.push(last);
-    const fault = !file.size ? "it is empty" : told.end < 0 ? await whyUnknown(file) : told.end < file.size ? `octet ${told.end}: cut short, or broken` : "";
-    return { file, stem: stemOf(file.name ?? ""), kept, from: begin, fault, isSilent: !kept.some((it) => it.isLacpdu) };
+    const isUnknown = file.size > 0 && told.end < 0, fault = !file.size ? "it is empty" : isUnknown ? await whyUnknown(file) : told.end < file.size ? `octet ${told.end}: cut short, or broken` : "";
+    return { file, stem: stemOf(file.name ?? ""), kept, from: begin, fault, isUnknown, isSilent: !kept.some((it) => it.isLacpdu) };
 }
 
 /* Numbers for the interfaces of a file, and their names by these. */
@@ -181,7 +181,13 @@ function numbering(names, file, isAlone) {
     return { numberOf, name };
 }
 
-/* Slow protocols frames of files as one capture, by their times. `names` has
+/* How many of files were not read, since they are no captures, and why; nothing where all were, or none. */
+function unknownSaid(given) {
+    const whys = given.filter((it) => it.isUnknown).map(({ fault }) => /^packed by (\S+):/.exec(fault)?.[1] ?? fault), count = whys.length;
+    return count && count < given.length ? `${count} of ${given.length} files ${count === 1 ? "was" : "were"} not read (${[...new Set(whys)].join(", ")}).` : "";
+}
+
+/* Slow protocols frames of files as one capture, by their times. `unknown` says how many files are no captures, `names` has
  * whence each interface is, `places` for each packet its file and its number there, `faults` what cannot be read, `silent` the files that can
  * be read and have no LACPDU, `doubled` how many frames stand in several files and are taken once, and `fileEnds` for each link when its file ends, in
  * seconds, and whether it is cut short. Packets that were cut get whole. Files of different times end together; `apart` says so. */
@@ -200,14 +206,14 @@ export async function merged(files) {
     const comments = new Map(kept.flatMap(({ comment }, number) => comment ? [[number + 1, comment]] : []));
     const capture = captureOf([...names.keys()].map(() => ETHERNET), kept.map((it) => ({ ...it, number: linkOf(it.number) })));
     const fileEnds = new Map([...ends].map(([link, { to, isCut }]) => [link, { until: secondsFrom(to, kept[0].time), isCut }]));
-    return { capture, names, places, comments, faults, silent, fileEnds, apart, moved: note, doubled: all.length - kept.length };
+    return { capture, unknown: unknownSaid(given), names, places, comments, faults, silent, fileEnds, apart, moved: note, doubled: all.length - kept.length };
 }
 
 /* What is read: one capture as it is, with what it says of interfaces and packets; several as one, one whose LACPDUs are cut made whole, and one
  * that joins captures sorted by time, where `numbers` has those of its packets. Packets and text are those of `source`. */
 export async function captureFrom(files, isJoined = false) {
     const looked = files.length === 1 ? await lookedAt(files[0]) : null;
-    if (looked && !looked.cut && !isJoined) return { capture: files[0], source: files[0], ...looked, places: new Map(), numbers: new Map(), faults: [], silent: [], fileEnds: new Map(), apart: "", note: "" };
+    if (looked && !looked.cut && !isJoined) return { capture: files[0], source: files[0], unknown: "", ...looked, places: new Map(), numbers: new Map(), faults: [], silent: [], fileEnds: new Map(), apart: "", note: "" };
     const found = await merged(files), notes = [];
     if (looked?.cut) notes.push(`Its packets are cut behind ${looked.cut} octets: both ends are in them, and what follows, as CollectorMaxDelay, is taken as 0.`);
     if (isJoined) notes.push("It joins captures one behind the other: its packets are sorted by time.");

@@ -95,8 +95,8 @@ function unreadIn({ unread, frames, all, findings }) {
     return `${count}: capture whole frames (tcpdump -s 0)${isRead ? ", unless they are of another protocol, as OAM" : ""}.`;
 }
 
-function verdictOf(records, { lines, causes }, said, apart) {
-    const unread = unreadIn(records), [found, look] = headlineOf(lines, causes, apart);
+function verdictOf(records, { lines, causes }, said, { unknown, apart }) {
+    const unread = unreadIn(records), [found, look] = headlineOf(lines, causes, unknown, apart);
     if (unread) return [`${unread} ${lines.length ? found : ""}`.trim(), "bad"];
     if (records.frames > records.others) return [found, said ? "bad" : look];
     return [said ? "" : `No frame of the slow protocols (LACPDU, Marker PDU) is in this capture. ${ADVICE}`, "bad"];
@@ -120,14 +120,14 @@ async function recordsOf(lagtool, files, isJoined = false) {
 
 /* The records first, with what they show; then the text. */
 async function explain(lagtool, name, files) {
-    const { source, faults, apart, note, records, told, isStopped } = await recordsOf(lagtool, files), said = isStopped ? told.message : [...faults, await saidOf(told.said, files)].filter(Boolean).join("\n");
+    const given = await recordsOf(lagtool, files), { source, faults, note, records, told, isStopped } = given, said = isStopped ? told.message : [...faults, await saidOf(told.said, files)].filter(Boolean).join("\n");
     const shown = showRecords(records, source, { lines: byId("lines"), findings: byId("findings"), links: byId("links") });
     now.pairs = shown.pairs;
     byId("legend").hidden = !shown.pairs.length;
     byId("undrawn-frames").textContent = records.frames > records.kept ? `Of ${records.frames} frames ${records.kept} are drawn.` : "";
     byId("lasts").textContent = [lastingOf(records), note, strangersSaid(shown.lines, records)].filter(Boolean).join(" ");
     byId("counts").textContent = countsOf(shown.causes);
-    put(name, ...verdictOf(records, shown, said, apart), isStopped ? "Stopped: the findings want the whole capture." : said);
+    put(name, ...verdictOf(records, shown, said, given), isStopped ? "Stopped: the findings want the whole capture." : said);
     const text = new Text(), { status = 2 } = isStopped ? {} : await run(lagtool, source, {}, (piece) => text.add(piece));
     byId("text").textContent = text.whole;
     window.shown = { name, status: faults.length ? 2 : status, printed: text.whole, said };

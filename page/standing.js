@@ -2,7 +2,7 @@
  * LACPDUs that the texts imply; facts that no LACPDU has get their own words. A text is a moment: what is starting looks as what stays so. */
 
 import { bitsOf, muxSaid } from "./records.js";
-import { capitalized, counted, distinct } from "./keys.js";
+import { astrayIn, capitalized, counted, crossingOf, distinct, isCrossed, joinedBy, keyGroups } from "./keys.js";
 import { EFFECT, FAULT, REMARK } from "./causes.js";
 import { ALONE, CARRIES, howManyCarry, IDLE, UNKNOWN } from "./summary.js";
 import { flowSaid, hashesSaid } from "./hashes.js";
@@ -80,7 +80,8 @@ function partnerFacts({ name, ports }) {
 }
 
 /* Several bundles in one text: those of one system, or both ends of links, which are counted as more links then. */
-function severalFacts({ bundles }) {
+function severalFacts(text) {
+    const bundles = text.bundles.filter(({ ports }) => ports.length);
     const systemOf = ({ ports }) => ports.find((it) => it.actor)?.actor.system;
     const isOne = bundles.length > 1 && systemOf(bundles[0]) && bundles.every((it) => systemOf(it) === systemOf(bundles[0]));
     const said = bundles.map((it) => `${it.told}${systemOf(it) ? ` is of the system ${dashed(systemOf(it))}` : ""}`);
@@ -103,7 +104,7 @@ function factsIn(texts, between) {
 /* ---- Causes ---- */
 
 /* What explains the rest comes first: facts by name, rules by number. */
-const RANKS = ["no-lacp", "no-state", "no-root", "set-down", 30, "own-address", "never-heard", "copied", 29, 15, "apart", "device-down", "link-set-down", "link-down", "held", "speeds", "stands-by", 5, "passive-unheard", 14, "deaf-there", 12, 22, 17, 2, 3, 4, "too-few", "no-links"];
+const RANKS = ["no-lacp", "no-state", "no-root", "set-down", 30, "own-address", "never-heard", "copied", "crossed", 29, 15, "apart", "device-down", "link-set-down", "link-down", "held", "speeds", "stands-by", 5, "passive-unheard", 14, "deaf-there", 12, 22, 17, 2, 3, 4, "too-few", "no-links"];
 const isUnheard = ({ rank }) => rank === 12;
 /* What calls for nothing by itself. */
 const ASIDE = ["away", "waiting", "aggregators", "same-partner-port", "one-system", "not-far", "several", "note", "said"];
@@ -117,10 +118,54 @@ function cutSaid(texts) {
 const causeOf = (given) => ({ kind: FAULT, lines: [], effects: [], ports: [], ...given });
 
 /* Rules by which links are compared: a finding of them may be of several bundles. */
-const KEYS_DIFFER = 15, TWO_SYSTEMS = 29, COMPARING = [KEYS_DIFFER, TWO_SYSTEMS];
+const KEYS_DIFFER = 15, TWO_SYSTEMS = 29, COMPARING = [KEYS_DIFFER, TWO_SYSTEMS, "crossed"];
 /* Whether a bundle never heard a partner, on any link. */
 const hasNoPartner = ({ ports }) => ports.some((it) => it.actor) && ports.every((it) => it.actor ? !it.partner : it.link === false);
 const bundleOf = (port, bundles) => bundles.findIndex(({ ports }) => ports.includes(port.said ?? port));
+
+/* ---- Several bundles of one text ---- */
+
+/* A port as a link of a capture, for its keys. */
+function asLink(port) {
+    const nameOf = ({ priority, system }) => `${priority}/${dashed(system)}`, end = { label: nameOfPort(port), port: port.actor.port, named: nameOf(port.partner), last: port };
+    return { systems: [port.actor, port.partner].map(nameOf), links: [{ of: port, isPast: false, isAlone: true, ends: [end, null] }] };
+}
+
+/* The groups of links of several bundles that lead to one system, and cross there. */
+function crossedIn(bundles) {
+    const isNamed = (it) => isLinked(it) && [it.actor, it.partner].every((party) => party?.system && party.key !== null);
+    const groups = bundles.length > 1 ? keyGroups(bundles.flatMap((it) => it.ports).filter(isNamed).map(asLink)) : [];
+    return groups.filter((group) => isCrossed(group) && !isSeveral(group, ({ link }) => link.of.partner.system));
+}
+
+/* Whether a port is one of a group, or is at the other end of one. */
+const isOfGroup = (said, group) => group.some(({ link: { of } }) => of === said || ["system", "key", "port"].every((it) => of.actor[it] === said.partner?.[it]));
+
+/* Where cables cross, as of captures: what rules say of it is one cause. */
+function causesOfCrossed(found, groups) {
+    return groups.flatMap((group) => {
+        const own = found.find(({ rule, port }) => rule === KEYS_DIFFER && isOfGroup(port.said, group)), { astray, other } = astrayIn(group), { title, lines, advice } = crossingOf(group[0].link, [group]);
+        const ports = (astray.length ? [...astray, ...other] : group).map(({ link }) => link.of);
+        return own ? [causeOf({ rank: "crossed", rule: own.rule, clause: own.clause, title: `${title}: ${namesIn(ports)}`, advice, lines, ports })] : [];
+    });
+}
+
+/* Whether rule 29 compares links of a bundle that lead to one system with those of another bundle. */
+function isBeside({ rule, port }, bundles) {
+    const [own] = bundles.filter(({ ports }) => ports.includes(port.said));
+    return rule === TWO_SYSTEMS && bundles.length > 1 && own !== undefined && !isSeveral(own.ports.filter((it) => it.partner), ({ partner }) => `${partner.priority}/${partner.system}`);
+}
+
+/* That several bundles lead to one group there. */
+function causesOfOneGroup(found, bundles) {
+    const shared = found.filter((it) => it.isImplied && isBeside(it, bundles)), near = distinct(shared.map(({ port }) => bundles[bundleOf(port, bundles)]));
+    const ports = near.flatMap((it) => it.ports).filter((it) => shared.some(({ port }) => ["system", "key"].every((name) => it.partner?.[name] === port.said.partner[name])));
+    if (near.length < 2) return [];
+    return [causeOf({
+        rank: TWO_SYSTEMS, rule: TWO_SYSTEMS, clause: shared[0].clause, ports, title: `${joinedBy(near.map(({ name, told }) => name || told))} lead to one group at the other end: ${namesIn(ports)}`,
+        advice: "Give each a group of its own there (switch: a channel-group each), or put all these ports into one bundle here.",
+    })];
+}
 
 /* What a bundle shares with others that are compared with it: a system and its key; of keys that differ, in one pair of systems. */
 function sharedIn({ ports }, rule) {
@@ -156,7 +201,8 @@ function toldAs({ rule, isImplied, port }, bundles) {
 /* What the device of a bundle is called, in a command; a text of bonding does not say it. */
 const deviceOf = (bundles) => bundles.length === 1 && !bundles[0].name.includes(" ") ? bundles[0].name : "BOND";
 
-function causesOfRules(found, { bundles, form }) {
+function causesOfRules(found, { bundles, form, notes }) {
+    const isOneOfBonds = bundles.length > 1 || (notes.some((it) => isBesideLacp(it, { bundles })) && !bundles[0].name.startsWith("the "));
     const rules = distinct(found.map((it) => toldAs(it, bundles))).map((told) => found.filter((it) => toldAs(it, bundles) === told));
     return rules.map((list) => {
         const [{ rule, clause, name, advice }] = list, own = RULES.get(rule) ?? {}, here = list.filter((it) => !it.isImplied), meant = list.map((it) => it.port);
@@ -166,9 +212,16 @@ function causesOfRules(found, { bundles, form }) {
         const seen = { ports, form, advice, device: deviceOf(near), meant: meant.map(({ said, far }) => ({ ...said, far })), isLasting: meant.some((it) => it.isLasting), isImplied: !here.length };
         const silent = near.filter(hasNoPartner), isOfSeveral = silent.length < bundles.length;
         const plain = (!here.length && own.implied?.(namesIn(meant))) || `${own.case?.(seen) ?? own.title ?? name}: ${who}`;
-        const head = bundles.length > 1 && near.length === 1 ? `in ${near[0].name}: ` : "", title = own.whole?.({ ...seen, silent, isOfSeveral }) ?? `${head}${plain}`;
+        const head = isOneOfBonds && near.length === 1 ? `in ${near[0].name}: ` : "", title = own.whole?.({ ...seen, silent, isOfSeveral }) ?? `${head}${plain}`;
         return causeOf({ rank: rule, rule, clause, title, plain, advice: own.advice?.(seen) ?? advice, lines: own.said?.(seen) ?? [], ports: meant });
     });
+}
+
+/* The causes that findings are: of those that compare bundles with each other, in words of these. */
+function causesFound(found, text) {
+    const crossed = crossedIn(text.bundles), isOfCrossed = ({ rule, port }) => COMPARING.includes(rule) && crossed.some((group) => isOfGroup(port.said, group));
+    const rest = found.filter((it) => !isOfCrossed(it));
+    return [...causesOfCrossed(found, crossed), ...causesOfOneGroup(rest, text.bundles), ...causesOfRules(rest.filter((it) => !isBeside(it, text.bundles)), text)];
 }
 
 /* Whether a cause follows from another one, in its bundles. */
@@ -195,16 +248,19 @@ function inOrder(all, bundles) {
 /* Whether somebody holds the link of a finding, at either end: then it says nothing that it is not attached. */
 const isOfHeld = ({ rule, port }) => [17, 22].includes(rule) && (port.said.isHeld || port.isHeldThere);
 
+/* Whether a note is of a bond that does not speak LACP, beside one that does. */
+const isBesideLacp = ({ name }, { bundles }) => name === "no-lacp" && bundles.length > 0;
+
 /* The causes of texts, the first one first; of a text that is cut none is named. What the hashes mean is said where all links of a bundle carry. */
 export function causesOfTexts({ texts, facts: between }, { found, left }) {
     const bundles = texts.flatMap((it) => it.bundles), aside = (rank) => ASIDE.includes(rank) ? REMARK : FAULT;
-    const notes = texts.flatMap((it) => it.notes).map((it) => causeOf({ rank: it.name, title: it.text, advice: it.advice ?? "", kind: aside(it.name) }));
+    const notes = texts.flatMap((text) => text.notes.map((it) => causeOf({ rank: it.name, title: it.text, advice: it.advice ?? "", kind: isBesideLacp(it, text) ? REMARK : aside(it.name) })));
     const said = bundles.flatMap((it) => it.ports).filter((it) => it.facts.length).map((it) => causeOf({ rank: "said", kind: REMARK, title: `${nameOfPort(it)}: ${it.facts.join("; ")}`, advice: "" }));
     const more = left ? [causeOf({ rank: "note", kind: REMARK, title: `${counted(left, "link")} beyond the first 32 are not looked at`, advice: "Give the others alone." })] : [];
     if (texts.some(isCutIn)) return [...notes, ...said];
     const facts = factsIn(texts, between).map((it) => causeOf({ rank: it.name, title: it.title, advice: it.advice, ports: it.ports, kind: aside(it.name) }));
     const isCopied = facts.some(({ rank }) => rank === "copied");
-    const rules = causesOfRules(found.filter((it) => !(it.rule === 17 && isDenied(it.port.said)) && !isOfHeld(it) && !(isCopied && COMPARING.includes(it.rule))), texts[0]);
+    const rules = causesFound(found.filter((it) => !(it.rule === 17 && isDenied(it.port.said)) && !isOfHeld(it) && !(isCopied && COMPARING.includes(it.rule))), texts[0]);
     const causes = inOrder([...notes, ...facts, ...rules].filter((it) => it.kind === FAULT), texts[0].bundles);
     const whole = causes.length ? [] : texts[0].bundles.filter(({ ports }) => ports.length > 1 && ports.every(saysCarry));
     const hashes = hashesSaid(whole).map((it) => causeOf({ rank: "hash", kind: REMARK, ...it }));

@@ -108,6 +108,11 @@ function memberOfBonding(part, active, isHeard) {
 const SLAVE = "Slave Interface: ";
 const noLacp = (text, mode) => ({ name: "no-lacp", text: `${text}: its mode is "${mode}"`, advice: "LACP is mode=802.3ad (802.3ad in sysfs and ip, too)." });
 
+/* That a whole text of bonding has a bond without a port. */
+const noMembers = (name) => ({
+    name: "no-links", text: `the bond ${name} has no member`, advice: `ip link set PORT down; ip link set PORT master ${name} (at each start: netplan \`interfaces:\`, ifupdown \`bond-slaves\`).`,
+});
+
 /* Where the text of a bond is cut; nothing where it is whole. The driver says of the active aggregator how many ports it has. */
 function cutOf(text, members, active, least) {
     const part = members.find(({ isWhole }) => !isWhole), there = members.filter(({ port }) => port.aggregator === active).length;
@@ -126,8 +131,10 @@ function bondOf([, name, text]) {
     if (!/^Bonding Mode: .*\n/m.test(head)) return { bundles: [bundleOfText(called, told, [], early)], notes };
     if (!mode.includes("802.3ad")) return { bundles: [], notes: [noLacp(`${name ? told : "this bond"} does not speak LACP`, mode)] };
     const found = /Active Aggregator Info:\s*\n\s*Aggregator ID: (\d+)[\s\S]*?Number of ports: (\d+)/.exec(head), active = found ? Number(found[1]) : null;
+    const [, own] = /^bond (\S+) has no active aggregator$/m.exec(head) ?? [];
     const hash = /^(\S+)/.exec(said.get("Transmit Hash Policy") ?? "")?.[1], isHeard = macOf(said.get("Partner Mac Address")) !== NO_ADDRESS;
-    if (!found) notes.push({ name: "no-root", text: "the text lacks the LACPDUs", advice: "Read the file as root (sudo cat /proc/net/bonding/bond0), or take ip -d -j link." });
+    if (own && !parts.length && !SLAVE.startsWith(text.trimEnd().split("\n").at(-1))) return { bundles: [bundleOfText(own, `the bond ${own}`, [])], notes: [noMembers(own)] };
+    if (!found && !own) notes.push({ name: "no-root", text: "the text lacks the LACPDUs", advice: "Read the file as root (sudo cat /proc/net/bonding/bond0), or take ip -d -j link." });
     if (said.get("MII Polling Interval (ms)") === "0") notes.push({ name: "note", text: "miimon is 0: a link that goes down is not noticed" });
     const members = parts.map((it) => memberOfBonding(it, active, isHeard)), ports = members.map(({ port }) => port);
     const carrying = ports.filter((it) => it.isUsed).length, least = Number(said.get("Min links") ?? 0);

@@ -183,10 +183,10 @@ function apartSaid(lines, all) {
     return groups < all ? `as ${groups} groups, of which a bond uses one` : "each by itself: a bond uses one of its links";
 }
 
-/* The headline, with how it looks: `apart` says that the captures are of different times. */
-export function headlineOf(lines, causes, apart) {
-    const [said, look] = headlineIn(lines, causes);
-    return apart && said ? [`${apart} ${said}`, "bad"] : [said, look];
+/* The headline, with how it looks: `unknown` says that files were not read, `apart` that the captures are of different times. */
+export function headlineOf(lines, causes, unknown, apart) {
+    const [said, look] = headlineIn(lines, causes), before = [unknown, apart].filter(Boolean).join(" ");
+    return before && said ? [`${before} ${said}`, "bad"] : [said, look];
 }
 
 /* How many links carry, and the first cause; with how it looks. */

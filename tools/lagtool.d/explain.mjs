@@ -17,6 +17,7 @@ import { areUnread, causesOfTexts, headlineOfTexts, linesOfTexts } from "../../p
 
 const PAGE = new URL("../../docs/try.html", import.meta.url), MODULE = /<script type="application\/x-base64" id="module">([^<]*)</;
 const ERRORS = { ENOENT: "no such file", EACCES: "permission denied", EISDIR: "is a folder" };
+const NO_LACPDU = "No LACPDU is in this capture: capture the members of the bond (eth0, eth1), not the bond; look whether LACP is on, and whether both ends are passive.";
 const MOST_PLACES = 3, MOST_TEXT = 16000000;
 
 /* Causes as text: what, what to do, what is seen, some places, and what follows. */
@@ -48,9 +49,9 @@ function faultsOf(files, faults, said) {
 }
 
 async function ofCaptures(lagtool, files) {
-    const { records, said, faults, apart, note } = await recordsOf(lagtool, files), unread = faultsOf(files, faults, await saidOf(said, files));
-    const bundles = bundlesOf(records), causes = causesOf(records, bundles), lines = linesOf(records, bundles), [found] = headlineOf(lines, causes, apart);
-    const isNothing = unread.length >= files.length && !records.frames, headline = found || isNothing ? found : "No LACPDU is in this capture: capture the members of the bond (eth0, eth1), not the bond; look whether LACP is on, and whether both ends are passive.";
+    const { records, said, faults, unknown, apart, note } = await recordsOf(lagtool, files), unread = faultsOf(files, faults, await saidOf(said, files));
+    const bundles = bundlesOf(records), causes = causesOf(records, bundles), lines = linesOf(records, bundles), [found] = headlineOf(lines, causes, unknown, apart);
+    const isNothing = unread.length >= files.length && !records.frames, headline = found || isNothing ? found : `${unknown} ${NO_LACPDU}`.trim();
     return { headline, lines, note: [note, strangersSaid(lines, records)].filter(Boolean).join(" "), causes, counts: countsOf(causes), said: unread.join("\n"), isApart: apart !== "", isUnread: !lines.length, placeOf: (packet) => records.placeOf(packet) };
 }
 

@@ -129,7 +129,7 @@ def of_bonds_apart(tests: Tests) -> None:
     files = {name: status(f"{name}-bonding.txt") for name in ("keys", "deaf", "healthy")}
     keys, deaf = "in {}: keys differ within one pair of systems: {}", "in {}: a port hears nobody: {}"
     cases = (("keys", "deaf", 2, [keys.format("bond0", "p1, p2"), deaf.format("bond1", "q2")]), ("healthy", "keys", 3, [keys.format("bond1", "q1, q2")]),
-             ("healthy", "healthy", 4, ["links lead to two systems: the other end of p1, q1"]))  # fmt: skip
+             ("healthy", "healthy", 4, ["bond0 and bond1 lead to one group at the other end: p1, p2, q1, q2"]))  # fmt: skip
     for here, beside, carry, causes in cases:
         other = files[beside].replace("Interface: p", "Interface: q").replace("02:00:00:01:0a:", "02:00:00:01:0d:")
         ended, said = told_of(f"==> /proc/net/bonding/bond0 <==\n{files[here]}\n==> /proc/net/bonding/bond1 <==\n{other}")

@@ -33,6 +33,7 @@ def of_summaries(tests: Tests, browser: Browser, folder: str) -> None:
     of_ends(tests, browser, folder)
     of_files(tests, browser, folder)
     of_packed(tests, folder)
+    of_unread(tests, folder)
     of_strangers(tests, os.path.join(folder, "strangers"))
     of_many(tests, browser, folder)
     of_unreadable(tests, browser, folder)
@@ -282,6 +283,28 @@ def of_packed(tests: Tests, folder: str) -> None:
             ended = subprocess.run(["node", EXPLAIN, *given], stdin=subprocess.DEVNULL, capture_output=True, text=True)
             wanted = [2, "", f"lagtool: cannot read eth9.pcap.{name}: {at}packed by {name}: unpack it first"]
             tests.same(f"{len(given)} captures, packed by {name}", [ended.returncode, ended.stdout, ended.stderr.splitlines()[0]], wanted)
+
+
+def of_unread(tests: Tests, folder: str) -> None:
+    """Of several files the first line says how many were not read, and why; what the others show is behind it."""
+    good, bare = (os.path.join(folder, it) for it in ("eth1.pcap", "bare.pcap"))
+    made.pcap(good, made.exchange(made.Party(1, 7, 1, made.FAST), made.Party(2, 8, 1, made.FAST), map(float, range(20))))
+    made.pcap(bare, [])
+    paths = [os.path.join(folder, it) for it in ("eth8.pcap.xz", "eth9.pcap")]
+    for path, begin in zip(paths, (b"\xfd7zXZ\0", b"\0\1\2\3")):
+        with open(path, "wb") as out:
+            out.write(begin + bytes(40))
+    whole = subprocess.run(["node", EXPLAIN, good], stdin=subprocess.DEVNULL, capture_output=True, text=True).stdout
+    cases = (
+        ([good, paths[0]], "1 of 2 files was not read (xz). The link carries, both ways."),
+        ([paths[1], good], "1 of 2 files was not read (neither pcap nor pcapng). The link carries, both ways."),
+        ([*paths, good], "2 of 3 files were not read (xz, neither pcap nor pcapng). The link carries, both ways."),
+        ([bare, paths[0]], "1 of 2 files was not read (xz). No LACPDU is in this capture: "),
+    )
+    for given, head in cases:
+        ended = subprocess.run(["node", EXPLAIN, *given], stdin=subprocess.DEVNULL, capture_output=True, text=True)
+        tests.same(f"files that are not read: {head[:22]}", [ended.returncode, ended.stdout.startswith(head), "cannot read eth" in ended.stderr], [2, True, True])
+    tests.same("a file that is read, alone", whole.startswith("The link carries, both ways."), True)
 
 
 def of_strangers(tests: Tests, folder: str) -> None:
