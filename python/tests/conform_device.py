@@ -189,7 +189,7 @@ class LongTimeouts(Device):
 
 
 class WaitsThree(Device):
-    """Its wait_while is 3 s: of three ticks one takes no time, while a port waits."""
+    """Its wait_while is 3 s: of three ticks that come while a port waits, one is left out."""
 
     waited = 0
 
