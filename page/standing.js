@@ -153,12 +153,12 @@ function causesOfCrossed(found, groups) {
 /* Whether rule 29 compares links of a bundle that lead to one system with those of another bundle. */
 function isBeside({ rule, port }, bundles) {
     const [own] = bundles.filter(({ ports }) => ports.includes(port.said));
-    return rule === TWO_SYSTEMS && bundles.length > 1 && own !== undefined && !isSeveral(own.ports.filter((it) => it.partner), ({ partner }) => `${partner.priority}/${partner.system}`);
+    return rule === TWO_SYSTEMS && bundles.length > 1 && own !== undefined && !isSeveral(own.ports.filter((it) => it.partner?.system), ({ partner }) => `${partner.priority}/${partner.system}`);
 }
 
 /* That several bundles lead to one group there. */
 function causesOfOneGroup(found, bundles) {
-    const shared = found.filter((it) => it.isImplied && isBeside(it, bundles)), near = distinct(shared.map(({ port }) => bundles[bundleOf(port, bundles)]));
+    const shared = found.filter((it) => it.isImplied && it.port.said.partner.system && isBeside(it, bundles)), near = distinct(shared.map(({ port }) => bundles[bundleOf(port, bundles)]));
     const ports = near.flatMap((it) => it.ports).filter((it) => shared.some(({ port }) => ["system", "key"].every((name) => it.partner?.[name] === port.said.partner[name])));
     if (near.length < 2) return [];
     return [causeOf({

@@ -85,6 +85,16 @@ def of_empty(tests: Tests) -> None:
     tests.same("a bond that is cut in its first port", told_of(f"{empty('bond0')}\nSlave Inter")[0], 2)
 
 
+def of_unnamed(tests: Tests) -> None:
+    """ip does not name the partner of a port that is not used: of two bonds it is no second system."""
+    text, other = (read_text(os.path.join(STATUS, "keys-ip.json")) for _ in range(2))
+    for was, now in ("02:00:00:01:0a", "02:00:00:01:0d"), ("02:00:00:01:bb", "02:00:00:01:cc"), ('"bond0"', '"bond1"'), ('"p1"', '"q1"'), ('"p2"', '"q2"'):
+        other = other.replace(was, now)
+    said = told_of(f"{text}\n{other}")[1]
+    both = "Another aggregator than the one in use has p2. Another aggregator than the one in use has q2."
+    tests.same("two bonds by ip", [said.partition("\n")[0], "rule 29" in said], [f"2 of 4 links carry, in 2 bundles. {both}", False])
+
+
 def of_bonds(tests: Tests) -> None:
-    for it in of_crossed, of_backups, of_empty:
+    for it in of_crossed, of_backups, of_empty, of_unnamed:
         it(tests)
