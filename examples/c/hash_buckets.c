@@ -201,6 +201,7 @@ static void show_failing(void) {
         fails = times % 20;
         change();
         run(drawn() % 50);
+        if (one.loop.failed && strcmp(why_out(&one.loop, 1), "a write to the chip failed") != 0) puts("why_out tells of no write that failed");
     }
     fails = 0;
     put_back();
