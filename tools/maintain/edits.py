@@ -25,11 +25,13 @@ def write(path: str, text: str) -> None:
     write_text(path, text)
 
 
-def copy_crates(folder: str, crates: Iterable[str]) -> str:
-    """Copies these crates and those of the repository that they stand on, without their edits; answers their folder."""
+def copy_crates(folder: str, crates: Iterable[str], with_kept: bool = False) -> str:
+    """Copies these crates and those of the repository that they stand on, without their edits, and with what `rt` kept of them where that is asked;
+    answers their folder."""
     rows, taken = lines(), below(*crates)
+    left = shutil.ignore_patterns("must-fail", *(() if with_kept else ("out",)))
     for name in taken:
-        shutil.copytree(os.path.join(CRATES, name), os.path.join(folder, "crates", name), ignore=shutil.ignore_patterns("out", "must-fail"))
+        shutil.copytree(os.path.join(CRATES, name), os.path.join(folder, "crates", name), ignore=left)
     write(os.path.join(folder, "crates.txt"), "".join(f"{rows[name]}\n" for name in taken))
     shutil.copy(os.path.join(TOP, "HANDLES"), folder)
     return os.path.join(folder, "crates")

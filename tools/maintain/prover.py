@@ -1,7 +1,7 @@
-"""Edits that the prover has to refuse, as `rt ci` tries them: what wrong-bodies and wrong-definitions share.
+"""Edits that the prover has to refuse: what proofs, wrong-bodies and wrong-definitions share.
 
-The crates are copied to a temporary folder, where each edit is a file of must-fail. `rt ci` keeps on this machine what it proved and what each
-edit came to, by the sums of all that it read: a later run tries again only what changed. Its lines say how far it is, on standard error.
+The crates are copied to a temporary folder, where each edit is a file of must-fail. `rt must-fail` tries them, over what `rt check` kept of the
+crates below, or `rt ci`, which proves all from nothing.
 """
 
 from __future__ import annotations
@@ -10,17 +10,18 @@ import os
 import re
 import subprocess
 import sys
+from concurrent.futures import ThreadPoolExecutor
 from typing import Iterable, Iterator, NamedTuple
 
 from edits import Trial, copy_crates, write
 from lanes import lanes
-from repository import CRATES, RT, Missing, read_text
+from repository import CRATES, RT, Missing, crates, read_text
 
 # An edit, whether it passed, and what to print.
 Result = tuple[Trial, bool, str]
 # What `rt ci` says of an edit, of how far it is, and of an edit that the prover refuses.
 TOLD = re.compile(r"rt: must-fail (\w+)/(\S+\.edit): (.*)")
-AT = re.compile(r"rt: \w+(: its tests are)? (proved|NOT PROVED|is kept)|rt: \w+: trying its ")
+AT = re.compile(r"rt: \w+(: its tests are)? (proved|NOT PROVED)|rt: \w+: trying its ")
 REFUSED = "refused, as it must be"
 # The prover gave no verdict: it says nothing of the contract.
 LIMITED = f"{REFUSED} (only by a limit"
@@ -35,7 +36,7 @@ class Attempt(NamedTuple):
 
 
 def attempt(kind: str, trial: Trial) -> Attempt:
-    """A stored edit. What `rt ci` keeps goes by the name of its file and by its text."""
+    """A stored edit."""
     rows, last = [], ""
     for file, old, new in trial.pairs:
         if file != last:
@@ -51,12 +52,13 @@ def own(trial: Trial) -> Attempt:
     return Attempt(trial, file, read_text(os.path.join(CRATES, trial.crate, "must-fail", file)))
 
 
-def ran(folder: str) -> list[str]:
-    """Runs `rt ci` in a folder of crates; answers its lines. Those of a crate that is not proved are told."""
+def ran(folder: str, *words: str) -> list[str]:
+    """Runs a command of `rt` in a folder of crates; answers its lines. How far it is goes to standard error, with the lines of a crate that is not
+    proved."""
     found: list[str] = []
     since: list[str] = []
     given = {"RT_JOBS": str(lanes()), **os.environ}
-    with subprocess.Popen([RT, "ci"], cwd=folder, env=given, stdout=subprocess.PIPE, stderr=subprocess.STDOUT, text=True, errors="replace") as rt:
+    with subprocess.Popen([RT, *words], cwd=folder, env=given, stdout=subprocess.PIPE, stderr=subprocess.STDOUT, text=True, errors="replace") as rt:
         for line in rt.stdout or ():
             found.append(line.rstrip("\n"))
             since.append(line)
@@ -64,7 +66,7 @@ def ran(folder: str) -> list[str]:
                 print(*(since if "NOT PROVED" in line else [line]), sep="", end="", file=sys.stderr, flush=True)
                 since.clear()
     if rt.returncode not in (0, 1):
-        raise Missing(f"{RT} ci ended with status {rt.returncode}:\n" + "".join(since[-12:]))
+        raise Missing(f"{RT} {words[0]} ended with status {rt.returncode}:\n" + "".join(since[-12:]))
     return found
 
 
@@ -74,23 +76,45 @@ def result(trial: Trial, is_right: bool, text: str) -> Result:
 
 
 def judged(text: str | None) -> tuple[bool, str]:
-    """Whether an edit passed of which `rt ci` said this, and what to print."""
+    """Whether an edit passed of which `rt` said this, and what to print."""
     if text is None:
         return False, "was not tried, as its crate is not proved as it stands"
     return text.startswith(REFUSED) and not text.startswith(LIMITED), text
 
 
-def tried(folder: str, attempts: list[Attempt]) -> Iterator[Result]:
-    """Tries these edits in one run of `rt ci`. One of which it says nothing has failed."""
-    if not attempts:
-        return
-    top = copy_crates(folder, [it.trial.crate for it in attempts])
+def over_kept(folder: str, names: Iterable[str]) -> list[str]:
+    """Tries the edits of these crates, over what is kept in the folder; answers the lines of `rt`: none of a crate that is not proved as it stands."""
+
+    def of(crate: str) -> list[str]:
+        checked = subprocess.run([RT, "check"], cwd=os.path.join(folder, "crates", crate), capture_output=True, text=True, errors="replace")
+        if checked.returncode:
+            print(f"{crate} is not proved:\n{checked.stdout[-4000:]}{checked.stderr[-4000:]}", end="", file=sys.stderr, flush=True)
+        return [] if checked.returncode else ran(folder, "must-fail", crate)
+
+    with ThreadPoolExecutor(lanes()) as pool:
+        return [line for found in pool.map(of, names) for line in found]
+
+
+def tried(folder: str, attempts: list[Attempt], with_all: bool = False) -> Iterator[Result]:
+    """Tries these edits; one of which `rt` says nothing has failed. With all crates they are tried in a run of the test command, and what it says of
+    all but these edits is the last result."""
+    named = dict.fromkeys(it.trial.crate for it in attempts)
+    top = copy_crates(folder, [*crates()] if with_all else [*named], with_kept=not with_all)
     for it in attempts:
         write(os.path.join(top, it.trial.crate, "must-fail", it.file), it.text)
-    found = filter(None, map(TOLD.match, ran(folder)))
+    lines = ran(folder, "ci") if with_all else over_kept(folder, named)
+    found = filter(None, map(TOLD.match, lines))
     said = {(it[1], it[2]): it[3] for it in found}
     for it in attempts:
         yield result(it.trial, *judged(said.get((it.trial.crate, it.file))))
+    if with_all:
+        told: list[str] = next((line.split()[2:] for line in lines if line.startswith("rt: FAILED: ")), [])
+        files = {f"{it.trial.crate}/{it.file}" for it in attempts}
+        failed = " ".join(it for it in told if it not in files)
+        is_right = not failed and bool(re.match(r"[1-9]\d* passed, \d+ failed$", lines[-1]))
+        yield result(Trial("test", "proofs_tests_and_programs", ()), is_right, f"{lines[-1]}{f': {failed}' * bool(failed)}")
+        if not is_right:
+            print(*lines, sep="\n")
 
 
 def named(every: dict[str, list[Trial]], words: list[str]) -> list[Trial]:

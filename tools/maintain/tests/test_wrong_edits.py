@@ -2,6 +2,7 @@
 
 from __future__ import annotations
 
+import os
 from pathlib import Path
 
 import pytest
@@ -10,7 +11,7 @@ import loading
 import edits
 
 import prover
-from repository import Missing
+from repository import Missing, crates
 
 named = loading.module("wrong-definitions.d", "by_tests")
 by_prover = loading.module("wrong-definitions.d", "by_prover")
@@ -124,9 +125,9 @@ def test_an_edit_passes_where_the_prover_reads_and_refuses_it(text: str | None, 
 
 
 def fake(monkeypatch: pytest.MonkeyPatch, folder: Path, *lines: str, status: int = 0) -> None:
-    """A command rt that prints these lines, and the names of the edits that it finds."""
+    """A command rt that prints these lines. It proves each crate."""
     rt = folder / "rt"
-    rt.write_text("#!/bin/sh\ncat <<'END'\n" + "".join(f"{it}\n" for it in lines) + f"END\nls HANDLES crates/captures/must-fail\nexit {status}\n")
+    rt.write_text("#!/bin/sh\n[ $1 = check ] && exit\ncat <<'END'\n" + "".join(f"{it}\n" for it in lines) + f"END\nexit {status}\n")
     rt.chmod(0o755)
     monkeypatch.setattr(prover, "RT", str(rt))
 
@@ -136,11 +137,10 @@ PASSED = "rt: must-fail captures/body-one.edit: refused, as it must be: note: sr
 
 
 def test_each_edit_that_is_asked_has_a_line(tmp_path: Path, monkeypatch: pytest.MonkeyPatch, capsys: pytest.CaptureFixture[str]) -> None:
-    fake(monkeypatch, tmp_path, "== captures", "rt: captures proved", PASSED, "rt: must-fail captures/other.edit: refused, as it must be", status=1)
+    fake(monkeypatch, tmp_path, PASSED, "rt: must-fail captures/other.edit: refused, as it must be", status=1)
     results = list(prover.tried(str(tmp_path / "copy"), [prover.attempt("body", it) for it in TRIALS]))
     assert [(trial.name, is_right) for trial, is_right, _ in results] == [("one", True), ("other", False)]
     assert "was not tried" in results[1][2]
-    assert capsys.readouterr().err == "rt: captures proved\n"
     assert sorted(it.name for it in (tmp_path / "copy" / "crates" / "captures" / "must-fail").iterdir()) == ["body-one.edit", "body-other.edit"]
     assert prover.told(iter(results)) == 1
     assert capsys.readouterr().out.endswith("\n1 passed, 1 failed\n")
@@ -149,11 +149,14 @@ def test_each_edit_that_is_asked_has_a_line(tmp_path: Path, monkeypatch: pytest.
 
 def test_why_a_crate_is_not_proved_is_told(tmp_path: Path, monkeypatch: pytest.MonkeyPatch, capsys: pytest.CaptureFixture[str]) -> None:
     fake(monkeypatch, tmp_path, "== low", "axioms", "rt: low proved", "== captures", ERROR, "rt: captures NOT PROVED", status=1)
-    assert [it[1] for it in prover.tried(str(tmp_path / "copy"), [prover.attempt("body", TRIALS[0])])] == [False]
+    prover.ran(str(tmp_path), "ci")
     assert capsys.readouterr().err == f"rt: low proved\n== captures\n{ERROR}\nrt: captures NOT PROVED\n"
+    (tmp_path / "rt").write_text(f"#!/bin/sh\necho '{ERROR}'\nexit 1\n")
+    assert [it[1] for it in prover.tried(str(tmp_path / "copy"), [prover.attempt("body", TRIALS[0])])] == [False]
+    assert capsys.readouterr().err == f"captures is not proved:\n{ERROR}\n"
     fake(monkeypatch, tmp_path, "rt: crates.txt names no crate", status=2)
     with pytest.raises(Missing, match="ended with status 2:\nrt: crates.txt names no crate"):
-        prover.ran(str(tmp_path / "copy"))
+        prover.ran(str(tmp_path), "ci")
 
 
 def test_words_name_edits() -> None:
@@ -165,28 +168,36 @@ def test_words_name_edits() -> None:
 
 
 @pytest.mark.parametrize(
-    ("lines", "right", "said"),
+    ("runs", "right", "said"),
     [
-        (["rt: lagmodel proved", ERROR, "rt: lagnetwork NOT PROVED"], True, f"refused, as it must be: {ERROR}"),
-        (["rt: lagmodel proved", "rt: lagnetwork proved"], False, "the prover refuses nothing"),
-        ([ERROR, "rt: lagmodel NOT PROVED", "rt: lagnetwork NOT PROVED: its library"], False, "the prover refuses lagmodel, lagnetwork"),
-        (["rt: lagmodel proved", "./specs/B.antt:3:4: error: no", "rt: lagnetwork NOT PROVED"], False, "specs/B.antt does not read any more"),
-        (["rt: lagmodel proved", "rt: lagnetwork NOT PROVED"], False, "something does not read any more"),
+        ([None, None, [ERROR]], True, f"refused, as it must be: {ERROR}"),
+        ([None, None, None], False, "the prover refuses nothing"),
+        ([None, [ERROR]], False, "the prover refuses lagmodel"),
+        ([None, None, ["./specs/B.antt:3:4: error: no"]], False, "specs/B.antt does not read any more"),
+        ([None, None, []], False, "something does not read any more"),
+        ([[ERROR]], False, "is not proved as it stands"),
     ],
 )
 def test_an_edit_of_a_crate_below_is_refused_above_alone(
-    tmp_path: Path, monkeypatch: pytest.MonkeyPatch, lines: list[str], right: bool, said: str
+    tmp_path: Path, monkeypatch: pytest.MonkeyPatch, runs: list[list[str] | None], right: bool, said: str
 ) -> None:
-    trial = next(it for it in edits.stored_in(edits.DEFINITIONS, "lagnetwork") if it.pairs[0][0].startswith(".."))
-    runs = iter([["rt: lagmodel is kept", "rt: lagnetwork is kept"], lines])
-    monkeypatch.setattr(prover, "ran", lambda folder: next(runs))
-    assert by_prover.try_below(str(tmp_path), trial) == (right, said)
+    trial = next(it for it in edits.stored_in(edits.DEFINITIONS, "lagnetwork") if by_prover.names_below(it))
+    top = Path(edits.copy_crates(str(tmp_path), ["lagnetwork"]))
+    edited = top / "lagnetwork" / trial.pairs[0][0]
+    before = edited.read_text()
+    asked = iter(runs)
+    monkeypatch.setattr(by_prover, "checked", lambda crate: next(asked))
+    assert (by_prover.try_below(str(top), trial), [*asked]) == ((right, said), [])
+    assert edited.read_text() == before
 
 
-def test_a_crate_that_is_not_proved_refuses_nothing(tmp_path: Path, monkeypatch: pytest.MonkeyPatch) -> None:
-    trial = next(it for it in edits.stored_in(edits.DEFINITIONS, "lagnetwork") if it.pairs[0][0].startswith(".."))
-    monkeypatch.setattr(prover, "ran", lambda folder: ["rt: lagmodel proved", ERROR, "rt: lagnetwork NOT PROVED"])
-    assert by_prover.try_below(str(tmp_path), trial) == (False, "is not proved as it stands")
+def test_the_run_of_all_crates_tells_what_failed_besides_edits(tmp_path: Path, monkeypatch: pytest.MonkeyPatch) -> None:
+    attempts = [prover.attempt("body", it) for it in TRIALS]
+    for failed, told in (("captures/body-other.edit", "2 passed, 1 failed"), ("captures/body-other.edit lagtool (run)", "2 passed, 1 failed: lagtool (run)")):
+        monkeypatch.setattr(prover, "ran", lambda folder, word: [PASSED, f"rt: FAILED: {failed}", "2 passed, 1 failed"])
+        *_, last = prover.tried(str(tmp_path / told), attempts, with_all=True)
+        assert (last[0].crate, last[1], last[2].removeprefix("FAILED ")) == ("test", told == "2 passed, 1 failed", told)
+        assert set(os.listdir(tmp_path / told / "crates")) == {*crates()}
 
 
 def test_a_definition_that_does_not_read_is_none() -> None:

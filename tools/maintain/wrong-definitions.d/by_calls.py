@@ -2,7 +2,7 @@
 
 A static library is built only of a crate that is proved. So here an edit has to be proved too: no contract tells it from what stands there. Then
 tools/maintain/live.d/calls.c is linked with the library that it makes, and the function of calls.c that the edit names has to have a check that
-fails. `rt ci` makes the crates below, of what it kept; each lane has a copy of lagffi with what its first build proved, and builds over that.
+fails. `rt lib` makes the crates below, over what it kept; each lane has a copy of lagffi with what its first build proved, and builds over that.
 """
 
 from __future__ import annotations
@@ -21,7 +21,7 @@ from lanes import lanes
 from linking import build_calls
 from processors import rtlib
 from prover import Result
-from repository import kit, runtime
+from repository import RT, kit, runtime
 
 CRATE = "lagffi"
 # What stands in the place of a crate in a line `refused-by:`.
@@ -87,8 +87,8 @@ def try_all(folder: str, trials: list[Trial]) -> Iterator[Result]:
     """Tries these edits; answers each, whether it is refused, and what to print."""
     if not trials:
         return
-    first = os.path.join(copy_crates(folder, [CRATE]), CRATE)
-    prover.ran(folder)
+    first = os.path.join(copy_crates(folder, [CRATE], with_kept=True), CRATE)
+    subprocess.run([RT, "lib"], cwd=first, stdin=subprocess.DEVNULL, stdout=subprocess.DEVNULL, stderr=subprocess.DEVNULL)
     failed, fault = called(words_for(folder, lanes()), first)
     if failed or fault:
         yield from (prover.result(it, False, f"{CRATE} does not pass as it stands: {fault or ', '.join(failed)}") for it in trials)

@@ -1,7 +1,7 @@
 """The wrong definitions that the prover refuses: those of the laws of systems and of progress.
 
-An edit of files of its own crate is tried as wrong bodies are. One that names files of a crate below is made on a copy, in which that crate has
-to be proved still.
+An edit of files of its own crate is tried as wrong bodies are. One that names files of a crate below is made on a copy, over what `rt check` kept,
+in which that crate has to be proved still.
 """
 
 from __future__ import annotations
@@ -10,11 +10,11 @@ import os
 import re
 import shutil
 import subprocess
-from typing import Iterator
+from typing import Iterable, Iterator
 
 import prover
-from edits import DEFINITIONS, Trial, apply, copy_crates, write
-from prover import Result
+from edits import DEFINITIONS, Trial, apply, copy_crates, restore, write
+from prover import Attempt, Result
 from repository import RT, read_text
 
 CRATES = ("lagmodel", "lagnetwork", "lagfleet", "lagbeside", "lagprogress")
@@ -27,19 +27,28 @@ def unread(lines: list[str]) -> str | None:
     return next((file for file in files if not file.startswith("proofs/")), None)
 
 
-def try_below(folder: str, trial: Trial) -> tuple[bool, str]:
+def checked(crate: str) -> list[str] | None:
+    """Proves a crate over what is kept in its folder; answers the lines of errors, None where it is proved."""
+    ran = subprocess.run([RT, "check"], cwd=crate, stdin=subprocess.DEVNULL, stdout=subprocess.PIPE, stderr=subprocess.STDOUT, text=True, errors="replace")
+    return [line for line in ran.stdout.splitlines() if ERROR.match(line)] if ran.returncode else None
+
+
+def try_below(top: str, trial: Trial) -> tuple[bool, str]:
     """Makes an edit on a copy in which all is proved; the crates below have to be proved still, and the crate of the edit is to be refused."""
-    crate = os.path.join(copy_crates(folder, [trial.crate]), trial.crate)
-    if any("NOT PROVED" in line for line in prover.ran(folder)):
+    crate = os.path.join(top, trial.crate)
+    if checked(crate) is not None:
         return False, "is not proved as it stands"
-    _, fault = apply(crate, trial.pairs)
+    was, fault = apply(crate, trial.pairs)
     if fault:
         return False, fault
-    lines = prover.ran(folder)
-    refused = [found[1] for line in lines if (found := re.match(r"rt: (\w+) NOT PROVED", line))]
-    if refused != [trial.crate]:
+    try:
+        changed = dict.fromkeys(file.split("/")[1] for file, _, _ in trial.pairs if file.startswith(".."))
+        refused = [it for it in changed if checked(os.path.join(top, it)) is not None]
+        errors = None if refused else checked(crate)
+    finally:
+        restore(was)
+    if errors is None:
         return False, f"the prover refuses {', '.join(refused) or 'nothing'}"
-    errors = [line for line in lines if ERROR.match(line)]
     file = unread(errors)
     if file or not errors:
         return False, f"{file or 'something'} does not read any more"
@@ -63,19 +72,33 @@ def try_counterexample(folder: str, trial: Trial, path: str) -> tuple[bool, str]
     answer = f"use Rattle.{trial.crate}.proofs.Counterexample.{{refuted}}\nuse Rattle.{trial.crate}.proofs.refuted.Goals as goal\n\n"
     write(os.path.join(crate, "proofs", "refuted", "Answers.antt"), answer + "pub returns : goal.returns\nreturns c = refuted\n")
     subprocess.run([RT, "fmt"], cwd=crate, stdin=subprocess.DEVNULL, capture_output=True)
-    is_proved = any(re.match(rf"rt: {trial.crate} (proved|is kept)", line) for line in prover.ran(folder))
+    is_proved = any(re.match(rf"rt: {trial.crate} proved", line) for line in prover.ran(folder, "ci"))
     return is_proved, "refuted: the law is false of it" if is_proved else "the counterexample is not proved"
 
 
-def try_all(folder: str, trials: list[Trial]) -> Iterator[Result]:
-    """Tries these edits; answers each, whether it is refused, and what to print."""
-    others = [it for it in trials if any(file.startswith("..") for file, _, _ in it.pairs)]
-    attempts = [prover.attempt("definition", it) for it in trials if it not in others]
-    for trial, is_right, text in prover.tried(os.path.join(folder, "law"), attempts):
-        file = unread([text.removeprefix(f"{prover.REFUSED}: ")])
+def names_below(trial: Trial) -> bool:
+    """Whether an edit names files of a crate below, so that it is none of must-fail."""
+    return any(file.startswith("..") for file, _, _ in trial.pairs)
+
+
+def attempts(trials: list[Trial]) -> list[Attempt]:
+    """Those of these edits that are tried as must-fail."""
+    return [prover.attempt("definition", it) for it in trials if it.crate in CRATES and not it.fault() and not names_below(it)]
+
+
+def read_on(results: Iterable[Result], laws: list[Attempt]) -> Iterator[Result]:
+    """These results; one of these attempts that is refused only as a definition does not read any more has failed."""
+    tried = {id(it.trial) for it in laws}
+    for trial, is_right, text in results:
+        file = unread([text.removeprefix(f"{prover.REFUSED}: ")]) if id(trial) in tried else None
         yield prover.result(trial, False, f"{file} does not read any more") if file else (trial, is_right, text)
-    for number, trial in enumerate(others):
-        yield prover.result(trial, *try_below(os.path.join(folder, f"below {number}"), trial))
+
+
+def try_others(folder: str, trials: list[Trial]) -> Iterator[Result]:
+    """Tries the edits that name files of a crate below, and proves the counterexamples; answers each, whether it passed, and what to print."""
+    below = [it for it in trials if names_below(it)]
+    top = copy_crates(os.path.join(folder, "below"), [it.crate for it in below], with_kept=True) if below else ""
+    yield from (prover.result(it, *try_below(top, it)) for it in below)
     for trial in trials:
         path = os.path.join(DEFINITIONS, f"{trial.crate}.{trial.name}.counterexample")
         if os.path.exists(path):
