@@ -1,7 +1,8 @@
 """An edit of a crate: where it is written, how its texts are put in and taken out, and copies of the repository on which that is done.
 
 An edit of must-fail is a file crates/CRATE/must-fail/NAME.edit, as `rt` reads it. The others stand one behind the other in a file for each
-crate, wrong-bodies.d/CRATE.edits or wrong-definitions.d/CRATE.edits, each behind a line `edit: NAME`.
+crate, wrong-bodies.d/CRATE.edits or wrong-definitions.d/CRATE.edits, each behind a line `edit: NAME`. There a line `file:` holds for all that
+follows, up to the next one. It may name two files: the one of `old:` and `everywhere:`, and behind it the one of `body:`.
 """
 
 from __future__ import annotations
@@ -58,8 +59,17 @@ class Everywhere(str):
     """An old text that is replaced wherever it stands in its file."""
 
 
-def read_trial(crate: str, name: str, rows: Iterable[str]) -> Trial:
-    """The edit that these lines are."""
+@dataclass
+class Named:
+    """The files that the last line `file:` named."""
+
+    file: str = ""
+    body: str = ""
+
+
+def read_trial(crate: str, name: str, rows: Iterable[str], named: Named | None = None) -> Trial:
+    """The edit that these lines are; behind others, which named these files."""
+    named = named or Named()
     file = old = ""
     pairs: list[Pair] = []
     tests: list[tuple[str, str]] = []
@@ -69,12 +79,13 @@ def read_trial(crate: str, name: str, rows: Iterable[str]) -> Trial:
             of, test = text.split()
             tests.append((of, test))
         elif word == "file":
-            file = text
-        elif word == "old":
-            old = text
-        elif word == "everywhere":
-            old = Everywhere(text)
-        elif word == "new" or line == "new:":
+            named.file, _, named.body = text.partition(" ")
+        elif word in ("old", "everywhere", "body"):
+            file = named.body if word == "body" else named.file
+            old = Everywhere(text) if word == "everywhere" else text
+            if not file:
+                raise Missing(f"{crate}/{name}: no line `file:` says in which file this stands: {line}")
+        elif file and (word == "new" or line == "new:"):
             pairs.append((file, old, text))
         elif line:
             raise Missing(f"{crate}/{name}: not a line of an edit: {line}")
@@ -96,7 +107,8 @@ def stored_in(top: str, crate: str) -> list[Trial]:
             here.append(line)
         elif line:
             raise Missing(f"{path}: the first line is to be `edit: NAME`, and is: {line}")
-    return [read_trial(crate, name, its) for name, its in rows.items()]
+    named = Named()
+    return [read_trial(crate, name, its, named) for name, its in rows.items()]
 
 
 def stored(top: str) -> dict[str, list[Trial]]:

@@ -44,12 +44,37 @@ def test_another_line_is_refused_with_its_edit() -> None:
         edits.read_trial("lagsystem", "limit", ["file: src/x.rt", "older: a"])
 
 
+@pytest.mark.parametrize(
+    ("rows", "why"),
+    [
+        (["old: a", "new: b"], "no line `file:` says in which file this stands: old: a"),
+        (["file: specs/A.antt", "old: a", "new: b", "body: a", "new: b"], "no line `file:` says in which file this stands: body: a"),
+        (["file: specs/A.antt src/a.rt", "old: a", "new: b", "file: specs/B.antt", "body: a"], "in which file this stands: body: a"),
+        (["file: src/a.rt", "new: b"], "not a line of an edit: new: b"),
+    ],
+)
+def test_a_text_has_a_file_and_a_new_text_an_old_one(rows: list[str], why: str) -> None:
+    with pytest.raises(Missing, match=f"lagsystem/limit: .*{why}"):
+        edits.read_trial("lagsystem", "limit", rows)
+
+
 def test_a_file_has_edits_one_behind_the_other(tmp_path: Path) -> None:
     (tmp_path / "lagsystem.edits").write_text(f"edit: limit\n{EDIT}\nedit: other\nfile: src/a.rt\nold: 1\nnew: 2\n")
     first, second = edits.stored_in(str(tmp_path), "lagsystem")
     assert first == edits.read_trial("lagsystem", "limit", EDIT.splitlines())
     assert (second.name, second.pairs) == ("other", (("src/a.rt", "1", "2"),))
     assert edits.stored_in(str(tmp_path), "selection") == []
+
+
+def test_the_files_hold_for_the_edits_that_follow(tmp_path: Path) -> None:
+    rows = "file: specs/A.antt src/a.rt\nold: 1\nnew: 2\nbody: 3\nnew: 4\n\nedit: b\nbody: 5\nnew:\neverywhere: 6\nnew: 7\n"
+    (tmp_path / "lagsystem.edits").write_text(f"edit: a\n{rows}\nedit: c\nfile: src/c.rt\nold: 8\nnew: 9\n\nedit: d\nold: 10\nnew: 11\n")
+    assert [(it.name, it.pairs) for it in edits.stored_in(str(tmp_path), "lagsystem")] == [
+        ("a", (("specs/A.antt", "1", "2"), ("src/a.rt", "3", "4"))),
+        ("b", (("src/a.rt", "5", ""), ("specs/A.antt", "6", "7"))),
+        ("c", (("src/c.rt", "8", "9"),)),
+        ("d", (("src/c.rt", "10", "11"),)),
+    ]
 
 
 @pytest.mark.parametrize(
