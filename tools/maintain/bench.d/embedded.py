@@ -4,14 +4,13 @@ from __future__ import annotations
 
 import os
 import shutil
-import subprocess
 import tempfile
 
 import library
 import switch
 from building import BENCH, build_harness, log_run, say
 from report import PORTS, Measured, Table, machine
-from repository import Missing, read_text, want, write_text
+from repository import read_text, want, write_text
 from stacks import deepest
 
 RUNS = 5
@@ -31,10 +30,7 @@ WRAPS = [f"-Wl,--wrap={name}" for name in ("malloc", "calloc", "realloc", "free"
 
 def text(file: str) -> int:
     """The octets of code and constants of an object or a library."""
-    ended = subprocess.run(["size", "-t", file], capture_output=True, text=True)
-    if ended.returncode:
-        raise Missing(f"size {file}: {ended.stderr.strip()[-200:]}")
-    return int(ended.stdout.splitlines()[-1].split()[0])
+    return int(library.printed("size", "-t", file).splitlines()[-1].split()[0])
 
 
 def compiled(cache: str, folder: str, sources: str) -> list[str]:
@@ -50,11 +46,7 @@ def compiled(cache: str, folder: str, sources: str) -> list[str]:
 
 def ran(program: str) -> Measured:
     # What is freed goes back at once, so that the heap is what is held.
-    told = {**os.environ, "GLIBC_TUNABLES": "glibc.malloc.tcache_count=0"}
-    ended = subprocess.run([program, "2", "beside"], env=told, capture_output=True, text=True)
-    if ended.returncode:
-        raise Missing(f"{os.path.basename(program)} ended with {ended.returncode}: {ended.stderr.strip()[-200:]}")
-    return Measured(ended.stdout)
+    return Measured(library.printed(program, "2", "beside", env={**os.environ, "GLIBC_TUNABLES": "glibc.malloc.tcache_count=0"}))
 
 
 def pairs(runs: list[Measured], name: str, ports: str) -> list[tuple[float, float]]:

@@ -4,12 +4,12 @@ from __future__ import annotations
 
 import glob
 import re
-import subprocess
 import tempfile
 
+import library
 from building import build_harness, say
 from report import Measured, Table, call_rows, codec_rows
-from repository import Missing, read_text, want
+from repository import read_text, want
 
 
 def measure(cache: str, parts: list[str]) -> int:
@@ -18,10 +18,7 @@ def measure(cache: str, parts: list[str]) -> int:
     harness = build_harness(cache, ["-DINSTRUCTIONS", *parts], "instructions")
     say("counting, some minutes")
     with tempfile.TemporaryDirectory() as folder:
-        ended = subprocess.run(["valgrind", "--tool=callgrind", f"--callgrind-out-file={folder}/of", harness, "-1", "call"], capture_output=True, text=True)
-        if ended.returncode:
-            raise Missing(f"valgrind ended with {ended.returncode}: {ended.stderr.strip()[-400:]}")
-        m = Measured(ended.stdout)
+        m = Measured(library.printed("valgrind", "--tool=callgrind", f"--callgrind-out-file={folder}/of", harness, "-1", "call"))
         # A file for each run; the last one of its words is that of which the calls are told.
         for file in sorted(glob.glob(f"{folder}/of.*"), key=lambda it: int(it.rpartition(".")[2])):
             found = re.search(r"^desc: Trigger: Client Request: (.*)$(?:.|\n)*?^(?:totals|summary): (\d+)", read_text(file), re.M)

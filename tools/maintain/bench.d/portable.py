@@ -2,25 +2,15 @@
 
 from __future__ import annotations
 
-import subprocess
 import tempfile
 
 import library
 from building import build_harness, say
 from report import Measured, Table, machine, number
-from repository import Missing
 
 RUNS = 5
 # Ports, and conversations in use.
 COLUMNS = [("2", "1"), ("8", "256"), ("64", "all")]
-
-
-def ran(program: str) -> Measured:
-    """A run of the calls of systems of 256 conversations."""
-    ended = subprocess.run([program, "0", "call"], capture_output=True, text=True)
-    if ended.returncode:
-        raise Missing(f"{program} ended with {ended.returncode}")
-    return Measured(ended.stdout)
 
 
 def measure(cache: str) -> int:
@@ -28,7 +18,8 @@ def measure(cache: str) -> int:
     with tempfile.TemporaryDirectory() as folder:
         say("building the native library; what is not yet proved is proved first")
         programs = [build_harness(cache, library.proved(folder), "native"), build_harness(cache, [library.PORTABLE], "portable")]
-    runs = [[ran(it) for it in programs] for _ in range(RUNS)]
+    # The calls of systems of 256 conversations.
+    runs = [[Measured(library.printed(it, "0", "call")) for it in programs] for _ in range(RUNS)]
     print(f"{machine()}; {RUNS} runs of each, in turn; {library.printed('gcc', '--version').splitlines()[0]}, -O2")
     table, rows = Table(), []
     for name in runs[0][0].names("call"):

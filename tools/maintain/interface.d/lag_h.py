@@ -7,7 +7,7 @@ from typing import Iterator, Mapping
 
 import numbering
 import sources
-from numbering import ENUMS, Variant, in_c
+from numbering import Variant, in_c
 from repository import Missing
 from sources import Export, Structs
 

@@ -6,6 +6,7 @@ import re
 from typing import Iterator, Mapping, NamedTuple
 
 import sources
+from bindings import enumerators
 from repository import Missing
 
 # The enums whose variants have a name and a text of their own: what these begin with in lag.h, where they stand there.
@@ -61,9 +62,7 @@ def of_header(text: str) -> dict[str, int]:
     text = sources.plain(text)
     found = {name: int(number) for name, number in re.findall(r"^#define (NIW_\w+) (\d+)$", text, re.M) if name != "NIW_VERSION"}
     for body in re.findall(r"^enum \{(.*?)\};", text, re.M | re.S):
-        number = -1
-        for name, given in re.findall(r"(\w+)(?: = (\d+))?", body):
-            number = int(given) if given else number + 1
+        for name, number in enumerators(body):
             if name in found:
                 raise Missing(f"{name} stands twice in the header")
             found[name] = number

@@ -88,10 +88,6 @@ class Shim:
         rows += ["    for (size_t at = 0; IS_BIG && at < count; at++) {", f"        in_{kind}(AT(one), &list[at]);"]
         return "\n".join([*rows, f"        COPY(&list[at], one, {size});", "    }", "}\n"])
 
-    def in_module(self, it: Export) -> str:
-        """The name of the export in the module's C."""
-        return f"its_{it.name}"
-
     def function(self, it: Export) -> str:
         """A function of lag.h."""
         kind = self.module.functions[self.module.exports[f"lagffi_{it.name}"]].kind
@@ -113,7 +109,7 @@ class Shim:
 
     def body(self, it: Export, call: Call, told: str, is_small: bool) -> list[str]:
         """The call, and what follows it."""
-        called = f"{self.in_module(it)}({', '.join(call.given)})"
+        called = f"its_{it.name}({', '.join(call.given)})"
         if told:
             first = f"    st64(AT(told_), {called});" if is_small else f"    {called};"
             return [first, f"    out_{told}(&told, AT(told_));", *call.after, "    return told;"]
