@@ -124,33 +124,37 @@ def test_a_port_that_does_not_exist() -> None:
         assert told.value.status is Status.NOT_ASSIGNED
 
 
-def test_a_system_is_neither_copied_nor_called_by_another_thread() -> None:
-    with System(CONFIG) as system:
-        with pytest.raises(TypeError):
-            copy.copy(system)
-        with pytest.raises(TypeError):
-            copy.deepcopy(system)
+HANDLES = [(System, (CONFIG,), "tick"), (niwhopera.HeldFrames, (1, 1, 1), "counts")]
+
+
+@pytest.mark.parametrize("kind, given, name", HANDLES, ids=[kind.__name__ for kind, _, _ in HANDLES])
+def test_a_handle_is_neither_copied_nor_called_by_another_thread(kind: Any, given: tuple[Any, ...], name: str) -> None:
+    with kind(*given) as made:
+        for copies in copy.copy, copy.deepcopy:
+            with pytest.raises(TypeError):
+                copies(made)
         raised: list[BaseException] = []
 
         def ask() -> None:
             try:
-                system.tick()
+                getattr(made, name)()
             except RuntimeError as why:
                 raised.append(why)
 
         other = threading.Thread(target=ask)
         other.start()
         other.join()
-        assert len(raised) == 1
+        assert [str(it) for it in raised] == [f"only the thread that made a {kind.__name__} calls it"]
 
 
-def test_a_system_that_is_not_closed_is_told() -> None:
+@pytest.mark.parametrize("kind, given, name", HANDLES, ids=[kind.__name__ for kind, _, _ in HANDLES])
+def test_a_handle_that_is_not_closed_is_told(kind: Any, given: tuple[Any, ...], name: str) -> None:
     gc.collect()  # what other tests left is told before
     with warnings.catch_warnings(record=True) as told:
         warnings.simplefilter("always")
-        System(CONFIG)
+        kind(*given)
         gc.collect()
-    assert [it.category for it in told] == [ResourceWarning]
+    assert [(it.category, str(it.message)) for it in told] == [(ResourceWarning, f"a {kind.__name__} was not closed")]
 
 
 def test_a_port_shows_what_it_is_and_sends() -> None:
@@ -217,18 +221,15 @@ def test_a_held_frame_raises_held() -> None:
         come_up(system)
         assert system.conversation(frame) == 0x13 and system.offer(1, frame) == 5
         system.move_conversation(1, 0x13, 3)
-        with pytest.raises(Held) as told:
-            system.offer(1, frame)
-        assert told.value.status is Status.HELD
-        with pytest.raises(LagError) as other:
-            system.offer(1, frame[:13])
-        assert other.value.status is Status.FRAME_LENGTH
-        with pytest.raises(LagError) as slow:
-            system.offer(1, frame[:12] + b"\x88\x09")
-        assert slow.value.status is Status.SLOW_FRAME
-        with pytest.raises(LagError) as none:
-            system.offer(2, frame)
-        assert none.value.status is Status.NO_AGGREGATOR
+        for error, aggregator, offered, status in (
+            (Held, 1, frame, Status.HELD),
+            (LagError, 1, frame[:13], Status.FRAME_LENGTH),
+            (LagError, 1, frame[:12] + b"\x88\x09", Status.SLOW_FRAME),
+            (LagError, 2, frame, Status.NO_AGGREGATOR),
+        ):
+            with pytest.raises(error) as told:
+                system.offer(aggregator, offered)
+            assert told.value.status is status
 
 
 def test_every_export_of_the_module_is_documented() -> None:
