@@ -7,7 +7,7 @@ from __future__ import annotations
 
 from typing import Iterable
 
-from conform_device import OWN, Device, Drops, Hears, Says, faults, is_lacpdu, part, put
+from conform_device import OWN, Device, Drops, Hears, HearsAndSays, Says, faults, is_lacpdu, part, put
 from niwhopera import MuxState, ReceiveState
 
 SYNC = 8
@@ -23,18 +23,6 @@ def set_bits(frame: bytes, at: int, bits: int, on: bool) -> bytes:
 
 
 # The frames that it sends.
-
-
-class PortZero(Device):
-    """Has port number 0."""
-
-    finds = "FM-05"
-
-    def hears(self, port: int, frame: bytes) -> Iterable[bytes]:
-        yield put(frame, 36, port.to_bytes(2, "big")) if is_lacpdu(frame) and part(frame, 36, 2) == bytes(2) else frame
-
-    def says(self, port: int, frame: bytes) -> Iterable[bytes]:
-        yield put(frame, 16, bytes(2))
 
 
 class WrongEcho(Says):
@@ -87,15 +75,6 @@ class SecondFallsSilent(Device):
             yield frame
 
 
-class SecondSaysTwice(Device):
-    """Sends each LACPDU twice on port 2."""
-
-    finds = "TX-01 IV-05"
-
-    def says(self, port: int, frame: bytes) -> Iterable[bytes]:
-        yield from [frame] * (2 if port == 2 else 1)
-
-
 class DataTwice(Device):
     """Sends each frame of its client twice."""
 
@@ -136,6 +115,16 @@ class FlickeringTimeout(Device):
 
 
 ROWS = [
+    *faults(
+        HearsAndSays, "heard said",
+        ("PortZero", "Has port number 0.", "FM-05",
+         lambda self, port, frame: put(frame, 36, port.to_bytes(2, "big")) if part(frame, 36, 2) == bytes(2) else frame,
+         lambda self, port, frame: put(frame, 16, bytes(2))),
+    ),
+    *faults(
+        Device, "says",
+        ("SecondSaysTwice", "Sends each LACPDU twice on port 2.", "TX-01 IV-05", lambda self, port, frame: [frame] * (2 if port == 2 else 1)),
+    ),
     *faults(
         Says, "said",
         ("UnicastDestination", "Sends to an individual address.", "FM-01", lambda self, port, frame: b"\2" + frame[1:]),
@@ -178,13 +167,9 @@ class FirstOneLost(Device):
 class KeepsLast(Device):
     """Keeps the last LACPDU of each port, and when it came."""
 
-    def __init__(self) -> None:
-        super().__init__()
-        self.last: dict[int, tuple[float, bytes]] = {}
-
     def took(self, port: int, frame: bytes) -> None:
         if is_lacpdu(frame):
-            self.last[port] = self.now, frame
+            self.kept[port] = self.now, frame
 
 
 class Repeats(KeepsLast):
@@ -193,9 +178,9 @@ class Repeats(KeepsLast):
     finds = "RX-02 RX-03 SL-08"
 
     def ticked(self) -> None:
-        for port, (when, frame) in list(self.last.items()):
+        for port, (when, frame) in list(self.kept.items()):
             if self.now - when >= 2:
-                del self.last[port]
+                del self.kept[port]
                 self.on.receive(port, frame)
 
 
@@ -205,7 +190,7 @@ class TimeoutOfPartner(KeepsLast):
     finds = "RX-16"
 
     def ticked(self) -> None:
-        for port, (when, frame) in self.last.items():
+        for port, (when, frame) in self.kept.items():
             if not frame[32] & 2 and 1 < self.now - when < 30 and int(self.now * 10) % 10 == 0:
                 self.on.receive(port, frame)
 
@@ -213,21 +198,17 @@ class TimeoutOfPartner(KeepsLast):
 class ShortCurrentWhile(Device):
     """current_while is 2.2 s."""
 
-    finds = "RX-02 RX-04"
+    finds, left = "RX-02 RX-04", 8
 
     def ticked(self) -> None:
-        if any(self.on.receive_state(port) is ReceiveState.CURRENT and self.on.current_while(port) == 8 for port in (1, 2)):
-            self.on.tick(8)
+        if any(self.on.receive_state(port) is ReceiveState.CURRENT and self.on.current_while(port) == self.left for port in (1, 2)):
+            self.on.tick(self.left)
 
 
-class LongTimer(Device):
+class LongTimer(ShortCurrentWhile):
     """Asks for long timeouts, and waits 80 s."""
 
-    finds, short, long = "RX-14", False, True
-
-    def ticked(self) -> None:
-        if any(self.on.receive_state(port) is ReceiveState.CURRENT and self.on.current_while(port) == 100 for port in (1, 2)):
-            self.on.tick(100)
+    finds, left, short, long = "RX-14", 100, False, True
 
 
 class RestartsOnChange(Device):
@@ -235,14 +216,10 @@ class RestartsOnChange(Device):
 
     finds = "RX-04 EN-01"
 
-    def __init__(self) -> None:
-        super().__init__()
-        self.last: dict[int, bytes] = {}
-
     def hears(self, port: int, frame: bytes) -> Iterable[bytes]:
-        same = is_lacpdu(frame) and self.last.get(port) == frame and self.on.receive_state(port) is ReceiveState.CURRENT
+        same = is_lacpdu(frame) and self.kept.get(port) == frame and self.on.receive_state(port) is ReceiveState.CURRENT
         if is_lacpdu(frame):
-            self.last[port] = frame
+            self.kept[port] = frame
         if not same:
             yield frame
 
@@ -282,20 +259,15 @@ class NoWaitAfterDefaults(Hurries):
 
     finds = "RX-06"
 
-    def __init__(self) -> None:
-        super().__init__()
-        self.was_defaulted: dict[int, bool] = {}
-
     def hurries(self, port: int) -> bool:
-        return self.was_defaulted.get(port, False)
+        return bool(self.kept.get(port))
 
     def took(self, port: int, frame: bytes) -> None:
         super().took(port, frame)
-        self.was_defaulted[port] = self.on.defaulted(port)
+        self.kept[port] = self.on.defaulted(port)
 
     def ticked(self) -> None:
-        for port in (1, 2):
-            self.was_defaulted[port] = self.on.defaulted(port)
+        self.kept = {port: self.on.defaulted(port) for port in (1, 2)}
 
 
 class StartsCarrying(Hurries):
@@ -340,13 +312,8 @@ class KeyUnchecked(FieldUnchecked):
 class SelectionUnchanged(Device):
     """Does not select anew where the partner changes a field: it goes on with the old value inside, and tells the new one."""
 
+    # By port it keeps the value that the system has, that of the partner, and the other fields.
     field = ""
-
-    def __init__(self) -> None:
-        super().__init__()
-        # By port: the value that the system has, and that of the partner.
-        self.values: dict[int, tuple[bytes, bytes]] = {}
-        self.others: dict[int, bytes] = {}
 
     def value(self, frame: bytes) -> bytes:
         at, count = FIELDS[self.field]
@@ -361,15 +328,15 @@ class SelectionUnchanged(Device):
             return
         at, count = FIELDS[self.field]
         rest = put(put(frame, 18, bytes([frame[32] & AGGREGATION])), at, bytes(count))[18:33]
-        old = self.values.get(port)
-        if old is None or (self.others.get(port) != rest and self.field != "system"):
-            old = self.value(frame), self.value(frame)
-        self.others[port], self.values[port] = rest, (old[0], self.value(frame))
-        yield self.changed(frame, at, old[0])
+        inside, _, others = self.kept.get(port, (self.value(frame), b"", rest))
+        if others != rest and self.field != "system":
+            inside = self.value(frame)
+        self.kept[port] = inside, self.value(frame), rest
+        yield self.changed(frame, at, inside)
 
     def says(self, port: int, frame: bytes) -> Iterable[bytes]:
         at, count = FIELDS[self.field]
-        inside, outside = self.values.get(port, (b"", b""))
+        inside, outside, _ = self.kept.get(port, (b"", b"", b""))
         told = bytes([frame[14 + at + 20] & AGGREGATION]) if self.field == "aggregation" else part(frame, at + 20, count)
         yield self.changed(frame, at + 20, outside) if inside and told == inside else frame
 
@@ -379,16 +346,12 @@ class LowOctet(Hears):
 
     finds = "RX-12g SL-13"
 
-    def __init__(self) -> None:
-        super().__init__()
-        self.high = {1: b"\0", 2: b"\0"}
-
     def heard(self, port: int, frame: bytes) -> bytes:
-        self.high[port] = part(frame, 12, 1)
+        self.kept[port] = part(frame, 12, 1)
         return put(frame, 12, b"\0")
 
     def says(self, port: int, frame: bytes) -> Iterable[bytes]:
-        yield put(frame, 32, self.high[port])
+        yield put(frame, 32, self.kept.get(port, b"\0"))
 
 
 class LinkUnseen(Device):
@@ -456,25 +419,17 @@ class SleepsOnDefaults(Mute):
 
     finds = "MX-06"
 
-    def __init__(self) -> None:
-        super().__init__()
-        self.was_defaulted: dict[int, bool] = {}
-
     def ticked(self) -> None:
         for port in self.links:
-            if self.on.defaulted(port) and not self.was_defaulted.get(port, True):
+            if self.on.defaulted(port) and not self.kept.get(port, True):
                 self.mute[port] = self.now + 20
-            self.was_defaulted[port] = self.on.defaulted(port)
+            self.kept[port] = self.on.defaulted(port)
 
 
 class MuteBesideNew(Mute):
     """Is mute for 6 s beside a partner that comes later, and is not in sync."""
 
-    finds = "RX-09"
-
-    def __init__(self) -> None:
-        super().__init__()
-        self.partner = b""
+    finds, partner = "RX-09", b""
 
     def took(self, port: int, frame: bytes) -> None:
         new = part(frame, 6, 6)
@@ -489,14 +444,10 @@ class MuteBesideTwo(Mute):
 
     finds = "SL-03"
 
-    def __init__(self) -> None:
-        super().__init__()
-        self.partners: dict[int, bytes] = {}
-
     def took(self, port: int, frame: bytes) -> None:
         if is_lacpdu(frame):
-            self.partners[port] = part(frame, 6, 6)
-        if len(set(self.partners.values())) > 1 and not self.mute:
+            self.kept[port] = part(frame, 6, 6)
+        if len(set(self.kept.values())) > 1 and not self.mute:
             self.mute = dict.fromkeys(self.links, self.now + 12)
 
 

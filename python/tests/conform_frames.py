@@ -7,7 +7,7 @@ from __future__ import annotations
 
 from typing import Iterable, Iterator, Optional
 
-from conform_device import OWN, SLOW, Device, Drops, faults, is_lacpdu, part, put
+from conform_device import OWN, SLOW, Device, Drops, Hears, HearsAndSays, LooksSeldom, faults, is_lacpdu, part, put
 from conform_faults import set_bits
 from niwhopera import ReceiveState, State
 
@@ -52,36 +52,14 @@ class WornOut(Device):
     finds = "RB-05"
     worn = False
 
-    def __init__(self) -> None:
-        super().__init__()
-        self.partners: dict[bytes, float] = {}
-
     def hears(self, port: int, frame: bytes) -> Iterable[bytes]:
         if is_lacpdu(frame):
-            self.partners = {it: when for it, when in self.partners.items() if self.now - when < 10}
-            self.partners[part(frame, 4, 8)] = self.now
-            if len(self.partners) > 50:
+            self.kept = {it: when for it, when in self.kept.items() if self.now - when < 10}
+            self.kept[part(frame, 4, 8)] = self.now
+            if len(self.kept) > 50:
                 self.worn = True
         if not self.worn:
             yield frame
-
-
-class SubtypeUnchecked(Device):
-    """Takes each slow protocol for LACP."""
-
-    finds = "VN-14 VN-15 VN-16 RB-03"
-
-    def hears(self, port: int, frame: bytes) -> Iterable[bytes]:
-        yield put(frame, 0, b"\1") if frame[12:14] == SLOW and len(frame) > 14 and frame[14] != 2 else frame
-
-
-class TypeUnchecked(Device):
-    """Does not look at the EtherType."""
-
-    finds = "VN-17 VN-18 RB-02"
-
-    def hears(self, port: int, frame: bytes) -> Iterable[bytes]:
-        yield frame[:12] + SLOW + frame[14:]
 
 
 class PadsShort(Device):
@@ -165,25 +143,6 @@ class AnswersMore(Device):
             self.send(port, frame[:6] + bytes([2, 0, 0, 0, 0xBB, port]) + SLOW + payload)
 
 
-class MarkersWhenCollecting(Device):
-    """Answers on ports that collect alone."""
-
-    finds = "MK-10"
-
-    def responds(self, port: int, marker: bytes, response: bytes) -> Iterator[tuple[int, bytes]]:
-        if self.is_on(port, State.COLLECTING):
-            yield port, response
-
-
-class StrayResponses(Device):
-    """Answers on the other link, where it carries."""
-
-    finds = "MK-11"
-
-    def responds(self, port: int, marker: bytes, response: bytes) -> Iterator[tuple[int, bytes]]:
-        yield (3 - port if self.is_on(2, State.COLLECTING) and port == 1 else port), response
-
-
 class KeptByMarkers(Device):
     """A marker keeps the partner current."""
 
@@ -193,40 +152,21 @@ class KeptByMarkers(Device):
         """Whether a frame is taken for a sign of life."""
         return frame[12:15] == SLOW + b"\2"
 
-    def __init__(self) -> None:
-        super().__init__()
-        self.last: dict[int, bytes] = {}
-
     def hears(self, port: int, frame: bytes) -> Iterable[bytes]:
         if is_lacpdu(frame):
-            self.last[port] = frame
+            self.kept[port] = frame
         yield frame
-        if self.keeps(frame) and port in self.last and self.on.receive_state(port) is ReceiveState.CURRENT:
-            yield self.last[port]
+        if self.keeps(frame) and port in self.kept and self.on.receive_state(port) is ReceiveState.CURRENT:
+            yield self.kept[port]
 
 
-class KeptByRunts(KeptByMarkers):
-    """Any frame but LACPDUs and markers keeps the partner current."""
-
-    finds = "RX-18"
-
-    def keeps(self, frame: bytes) -> bool:
-        return not is_lacpdu(frame) and frame[12:15] != SLOW + b"\2"
-
-
-class LateUnderData(Device):
+class LateUnderData(LooksSeldom):
     """Answers up to a second late while data goes out."""
 
-    finds = "TX-08"
-    looked = 0.0
+    finds, pause = "TX-08", 0.95
 
     def may_send(self) -> bool:
-        if not self.sends_data:
-            return True
-        if self.now - self.looked < 0.95:
-            return False
-        self.looked = self.now
-        return True
+        return not self.sends_data or super().may_send()
 
 
 # Two links, and the engine.
@@ -252,7 +192,7 @@ class AllAggregators(OneAggregator):
 class LinkDrops(Device):
     """A link begins anew some seconds after so many links carry."""
 
-    wanted, seconds, dropped = 2, 3, 2
+    wanted = seconds = dropped = 0
     since = 0.0
 
     def ticked(self) -> None:
@@ -260,24 +200,6 @@ class LinkDrops(Device):
             self.since = self.now
         elif self.now - self.since > self.seconds:
             self.restart(self.dropped)
-
-
-class SecondLinkDrops(LinkDrops):
-    """Drops the second link three seconds after it carries."""
-
-    finds = "SL-01 EN-02"
-
-
-class ThirdLinkDrops(LinkDrops):
-    """Drops the third link three seconds after all carry."""
-
-    finds, wanted, dropped = "SL-14 EN-04", 3, 3
-
-
-class Restless(LinkDrops):
-    """Begins anew each four seconds."""
-
-    finds, wanted, seconds, dropped = "EN-01 RX-04", 1, 4, 1
 
 
 class SendsTwice(Device):
@@ -297,17 +219,17 @@ class KeepsBack(Device):
 
     def __init__(self) -> None:
         super().__init__()
-        self.kept: list[tuple[float, bytes]] = []
+        self.late: list[tuple[float, bytes]] = []
 
     def put_data(self, port: int, frame: bytes) -> None:
         if port == 2:
-            self.kept.append((self.now, frame))
+            self.late.append((self.now, frame))
         else:
             self.send(port, frame)
 
     def ticked(self) -> None:
-        while self.kept and self.now - self.kept[0][0] > 0.25:
-            self.send(2, self.kept.pop(0)[1])
+        while self.late and self.now - self.late[0][0] > 0.25:
+            self.send(2, self.late.pop(0)[1])
 
 
 class AllLeave(Device):
@@ -323,47 +245,17 @@ class AllLeave(Device):
                 self.restart(1)
 
 
-class OnePortNumber(Device):
-    """Has one port number on both links."""
-
-    finds = "SL-02"
-
-    def hears(self, port: int, frame: bytes) -> Iterable[bytes]:
-        yield put(frame, 36, b"\0\2") if is_lacpdu(frame) and port == 2 and part(frame, 36, 2) == b"\0\1" else frame
-
-    def says(self, port: int, frame: bytes) -> Iterable[bytes]:
-        yield put(frame, 16, b"\0\1")
-
-
 class BothLeave(Device):
     """A key that changes on one link takes the other one out."""
 
     finds = "SL-07 SL-12"
 
-    def __init__(self) -> None:
-        super().__init__()
-        self.partners: dict[int, bytes] = {}
-
     def took(self, port: int, frame: bytes) -> None:
         if not is_lacpdu(frame):
             return
-        old, self.partners[port] = self.partners.get(port), part(frame, 6, 8)
-        if old and old != self.partners[port]:
+        old, self.kept[port] = self.kept.get(port), part(frame, 6, 8)
+        if old and old != self.kept[port]:
             self.restart(3 - port)
-
-
-class CarriesForItself(Device):
-    """Takes itself for another system."""
-
-    finds = "SL-10 SL-11"
-    STRANGER = b"\2\xee\0\0\0\1"
-
-    def hears(self, port: int, frame: bytes) -> Iterable[bytes]:
-        own = is_lacpdu(frame) and part(frame, 6, 6) == OWN.mac
-        yield put(frame, 6, self.STRANGER) if own else frame
-
-    def says(self, port: int, frame: bytes) -> Iterable[bytes]:
-        yield put(frame, 26, OWN.mac) if part(frame, 26, 6) == self.STRANGER else frame
 
 
 class BadLengths(Device):
@@ -377,17 +269,47 @@ class BadLengths(Device):
         yield put(frame, 43, b"\x0f") if self.count % 2 == 0 else frame
 
 
-class ForgetsNaming(Device):
-    """Takes a partner that names nobody for one that names it."""
-
-    finds = "RX-08"
-
-    def hears(self, port: int, frame: bytes) -> Iterable[bytes]:
-        nobody = is_lacpdu(frame) and not any(part(frame, 24, 14))
-        yield set_bits(put(frame, 24, self.own(port)), 38, 4, True) if nobody else frame
-
-
+# What a device that takes itself for another system calls it.
+STRANGER = b"\2\xee\0\0\0\1"
 ROWS = [
+    *faults(
+        Hears, "heard",
+        ("ForgetsNaming", "Takes a partner that names nobody for one that names it.", "RX-08",
+         lambda self, port, frame: frame if any(part(frame, 24, 14)) else set_bits(put(frame, 24, self.own(port)), 38, 4, True)),
+    ),
+    *faults(
+        Device, "hears",
+        ("SubtypeUnchecked", "Takes each slow protocol for LACP.", "VN-14 VN-15 VN-16 RB-03",
+         lambda self, port, frame: [put(frame, 0, b"\1") if frame[12:14] == SLOW and len(frame) > 14 and frame[14] != 2 else frame]),
+        ("TypeUnchecked", "Does not look at the EtherType.", "VN-17 VN-18 RB-02", lambda self, port, frame: [frame[:12] + SLOW + frame[14:]]),
+    ),
+    *faults(
+        HearsAndSays, "heard said",
+        ("OnePortNumber", "Has one port number on both links.", "SL-02",
+         lambda self, port, frame: put(frame, 36, b"\0\2") if port == 2 and part(frame, 36, 2) == b"\0\1" else frame,
+         lambda self, port, frame: put(frame, 16, b"\0\1")),
+        ("CarriesForItself", "Takes itself for another system.", "SL-10 SL-11",
+         lambda self, port, frame: put(frame, 6, STRANGER) if part(frame, 6, 6) == OWN.mac else frame,
+         lambda self, port, frame: put(frame, 26, OWN.mac) if part(frame, 26, 6) == STRANGER else frame),
+    ),
+    *faults(
+        Device, "responds",
+        ("MarkersWhenCollecting", "Answers on ports that collect alone.", "MK-10",
+         lambda self, port, marker, response: [(port, response)] if self.is_on(port, State.COLLECTING) else []),
+        ("StrayResponses", "Answers on the other link, where it carries.", "MK-11",
+         lambda self, port, marker, response: [(3 - port if self.is_on(2, State.COLLECTING) and port == 1 else port, response)]),
+    ),
+    *faults(
+        KeptByMarkers, "keeps",
+        ("KeptByRunts", "Any frame but LACPDUs and markers keeps the partner current.", "RX-18",
+         lambda self, frame: not is_lacpdu(frame) and frame[12:15] != SLOW + b"\2"),
+    ),
+    *faults(
+        LinkDrops, "wanted seconds dropped",
+        ("SecondLinkDrops", "Drops the second link three seconds after it carries.", "SL-01 EN-02", 2, 3, 2),
+        ("ThirdLinkDrops", "Drops the third link three seconds after all carry.", "SL-14 EN-04", 3, 3, 3),
+        ("Restless", "Begins anew each four seconds.", "EN-01 RX-04", 1, 4, 1),
+    ),
     *faults(
         Drops, "drops",
         ("CollectingOnly", "Takes no LACPDU of a partner that stops collecting.", "VN-01",
