@@ -1,11 +1,12 @@
 """A device in memory for the tests of `lagconform`: a system of niwhopera at the far end of two links, with a clock that the bench moves.
 
 `Device` is right. A fault is a class below it that changes one thing: what it hears, what it says, its clock, or its data. Where an expression
-says the change, the fault is a row of a table (`faults`).
+says the change, the fault is a row of a table (`devices`).
 """
 
 from __future__ import annotations
 
+import sys
 import time
 from collections import defaultdict, deque
 from contextlib import contextmanager
@@ -272,14 +273,14 @@ class LooksSeldom(Device):
         return True
 
 
-# Of a fault: its name, what it does, the tests that find it, and what it has in place of each attribute of its base that the table names.
+# Of a device: its name, what it does, the tests that find its fault, and what it has in place of each attribute of its base that the table names.
 Row = tuple[Any, ...]
 
 
-def faults(base: Type[Device], attributes: str, *rows: Row) -> list[Type[Device]]:
-    """The devices of a table."""
-    names = attributes.split()
-    return [type(name, (base,), {"__doc__": what, "finds": finds, **dict(zip(names, given))}) for name, what, finds, *given in rows]
+def devices(base: Type[Device], attributes: str, *rows: Row) -> list[Type[Device]]:
+    """The devices of a table, which are of the module that it stands in."""
+    names, shared = attributes.split(), {"__module__": sys._getframe(1).f_globals["__name__"]}
+    return [type(name, (base,), {**shared, "__doc__": what, "finds": finds, **dict(zip(names, given))}) for name, what, finds, *given in rows]
 
 
 # Benches beside devices.

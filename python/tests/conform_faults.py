@@ -1,13 +1,13 @@
 """Devices with one fault each, and the tests that have to find it: the frames that it sends, and the receive machine.
 
-A fault that other tests name, or that takes more than an expression, is a class. The others are rows of `ROWS`.
+A fault that takes more than an expression is a class. The others are rows: of `ROWS`, or with a name here if other tests name them.
 """
 
 from __future__ import annotations
 
 from typing import Iterable
 
-from conform_device import OWN, Device, Drops, Hears, HearsAndSays, Says, faults, is_lacpdu, part, put
+from conform_device import OWN, Device, Drops, Hears, HearsAndSays, Says, devices, is_lacpdu, part, put
 from niwhopera import MuxState, ReceiveState
 
 SYNC = 8
@@ -25,15 +25,6 @@ def set_bits(frame: bytes, at: int, bits: int, on: bool) -> bytes:
 # The frames that it sends.
 
 
-class WrongEcho(Says):
-    """Tells another port priority of the partner."""
-
-    finds = "FM-06"
-
-    def said(self, port: int, frame: bytes) -> bytes:
-        return put(frame, 34, b"\0\0")
-
-
 class SecondPort(Device):
     """Is wrong on port 2 alone."""
 
@@ -43,36 +34,6 @@ class SecondPort(Device):
 
     def says(self, port: int, frame: bytes) -> Iterable[bytes]:
         yield self.wrong(frame) if port == 2 else frame
-
-
-class SecondPartnerKey(SecondPort):
-    """Tells the key of the partner with its octets swapped."""
-
-    finds = "FM-06 EN-02 EN-04"
-
-    def wrong(self, frame: bytes) -> bytes:
-        return put(frame, 32, part(frame, 32, 2)[::-1])
-
-
-class SecondTimeout(SecondPort):
-    """Tells Timeout now and then."""
-
-    finds = "FM-08"
-    count = 0
-
-    def wrong(self, frame: bytes) -> bytes:
-        self.count += 1
-        return set_bits(frame, 18, 0x02, bool(self.count % 2))
-
-
-class SecondFallsSilent(Device):
-    """Says nothing more on port 2 from a second on."""
-
-    finds, silent_from = "MX-06", 5.0
-
-    def says(self, port: int, frame: bytes) -> Iterable[bytes]:
-        if port != 2 or self.now < self.silent_from:
-            yield frame
 
 
 class DataTwice(Device):
@@ -85,47 +46,45 @@ class DataTwice(Device):
             self.send(port, frame)
 
 
-class CutOff(Says):
-    """Sends 60 octets: the least length of a frame."""
-
-    finds = "FM-02 FM-03"
-
-    def said(self, port: int, frame: bytes) -> bytes:
-        return frame[:60]
-
-
-class PartnerLength(Says):
-    """Sends a Partner TLV of length 22."""
-
-    finds = "FM-03"
-
-    def said(self, port: int, frame: bytes) -> bytes:
-        return put(frame, 23, b"\x16")
-
-
 class FlickeringTimeout(Device):
     """Tells another LACP_Timeout in each LACPDU."""
 
-    finds = "FM-08"
-    turn = 0
+    finds, turn, ports = "FM-08", 0, 1 | 2
 
     def says(self, port: int, frame: bytes) -> Iterable[bytes]:
         self.turn ^= port
-        yield set_bits(frame, 18, 2, bool(self.turn & port))
+        yield set_bits(frame, 18, 2, bool(self.turn & port)) if port & self.ports else frame
 
 
+WrongEcho, CutOff, PartnerLength = devices(
+    Says, "said",
+    ("WrongEcho", "Tells another port priority of the partner.", "FM-06", lambda self, port, frame: put(frame, 34, b"\0\0")),
+    ("CutOff", "Sends 60 octets: the least length of a frame.", "FM-02 FM-03", lambda self, port, frame: frame[:60]),
+    ("PartnerLength", "Sends a Partner TLV of length 22.", "FM-03", lambda self, port, frame: put(frame, 23, b"\x16")),
+)  # fmt: skip
+(SecondFallsSilent,) = devices(
+    Device, "silent_from says",
+    ("SecondFallsSilent", "Says nothing more on port 2 from a second on.", "MX-06", 5.0,
+     lambda self, port, frame: [frame] if port != 2 or self.now < self.silent_from else []),
+)  # fmt: skip
+(SecondPartnerKey,) = devices(
+    SecondPort, "wrong",
+    ("SecondPartnerKey", "Tells the key of the partner with its octets swapped.", "FM-06 EN-02 EN-04",
+     lambda self, frame: put(frame, 32, part(frame, 32, 2)[::-1])),
+)  # fmt: skip
 ROWS = [
-    *faults(
+    *devices(
         HearsAndSays, "heard said",
         ("PortZero", "Has port number 0.", "FM-05",
          lambda self, port, frame: put(frame, 36, port.to_bytes(2, "big")) if part(frame, 36, 2) == bytes(2) else frame,
          lambda self, port, frame: put(frame, 16, bytes(2))),
     ),
-    *faults(
+    *devices(
         Device, "says",
         ("SecondSaysTwice", "Sends each LACPDU twice on port 2.", "TX-01 IV-05", lambda self, port, frame: [frame] * (2 if port == 2 else 1)),
     ),
-    *faults(
+    *devices(FlickeringTimeout, "ports", ("SecondTimeout", "Tells Timeout now and then on port 2.", "FM-08", 2)),
+    *devices(
         Says, "said",
         ("UnicastDestination", "Sends to an individual address.", "FM-01", lambda self, port, frame: b"\2" + frame[1:]),
         ("LongFrame", "Sends four octets too many.", "FM-02", lambda self, port, frame: frame + bytes(4)),
@@ -139,7 +98,7 @@ ROWS = [
         ("SyncOnDefaults", "Stays synchronized when it defaults.", "RX-06",
          lambda self, port, frame: set_bits(frame, 18, SYNC, True) if frame[32] & 0x40 else frame),
     ),
-    *faults(
+    *devices(
         SecondPort, "wrong",
         ("SecondShape", "Sends to an individual address, with another type of the Partner TLV, a reserved octet that is not 0, and four octets too many.",
          "FM-01 FM-02 FM-03 FM-04", lambda self, frame: b"\2" + put(put(frame, 22, b"\x07"), 39, b"\1")[1:] + bytes(4)),
@@ -203,12 +162,6 @@ class ShortCurrentWhile(Device):
     def ticked(self) -> None:
         if any(self.on.receive_state(port) is ReceiveState.CURRENT and self.on.current_while(port) == self.left for port in (1, 2)):
             self.on.tick(self.left)
-
-
-class LongTimer(ShortCurrentWhile):
-    """Asks for long timeouts, and waits 80 s."""
-
-    finds, left, short, long = "RX-14", 100, False, True
 
 
 class RestartsOnChange(Device):
@@ -297,16 +250,11 @@ class FieldUnchecked(Hears):
         return put(frame, 20 + at, own)
 
 
-class SystemUnchecked(FieldUnchecked):
-    """Does not compare its system."""
-
-    finds, field = "RX-07b RX-07g TX-02b", "system"
-
-
-class KeyUnchecked(FieldUnchecked):
-    """Does not compare its key."""
-
-    finds, field = "RX-07c TX-02c", "key"
+SystemUnchecked, KeyUnchecked = devices(
+    FieldUnchecked, "field",
+    ("SystemUnchecked", "Does not compare its system.", "RX-07b RX-07g TX-02b", "system"),
+    ("KeyUnchecked", "Does not compare its key.", "RX-07c TX-02c", "key"),
+)  # fmt: skip
 
 
 class SelectionUnchanged(Device):
@@ -354,13 +302,7 @@ class LowOctet(Hears):
         yield put(frame, 32, self.kept.get(port, b"\0"))
 
 
-class LinkUnseen(Device):
-    """Does not see that a link goes down."""
-
-    finds = "RX-13"
-
-    def link(self, port: int, up: bool) -> None:
-        pass
+(LinkUnseen,) = devices(Device, "link", ("LinkUnseen", "Does not see that a link goes down.", "RX-13", lambda self, port, up: None))
 
 
 class Mute(Device):
@@ -452,14 +394,15 @@ class MuteBesideTwo(Mute):
 
 
 ROWS += [
-    *faults(
+    *devices(ShortCurrentWhile, "left short long", ("LongTimer", "Asks for long timeouts, and waits 80 s.", "RX-14", 100, False, True)),
+    *devices(
         FieldUnchecked, "field",
         ("PriorityUnchecked", "Does not compare its system priority.", "RX-07a TX-02a", "priority"),
         ("PortPriorityUnchecked", "Does not compare its port priority.", "RX-07d TX-02d", "port_priority"),
         ("PortUnchecked", "Does not compare its port number.", "RX-07e TX-02e", "port"),
         ("AggregationUnchecked", "Does not compare its Aggregation.", "RX-07f TX-02f", "aggregation"),
     ),
-    *faults(
+    *devices(
         SelectionUnchanged, "field",
         ("NewPriority", "Does not select anew for another priority of the partner.", "RX-12a", "priority"),
         ("NewSystem", "Does not select anew for another system of the partner.", "RX-12b MX-01", "system"),
@@ -468,7 +411,7 @@ ROWS += [
         ("NewPort", "Does not select anew for another port number of the partner.", "RX-12e", "port"),
         ("NewAggregation", "Does not select anew for another Aggregation of the partner.", "RX-12f", "aggregation"),
     ),
-    *faults(
+    *devices(
         Hears, "heard",
         ("AnyNaming", "Takes each partner as though it named the device.", "RX-07a RX-07b RX-07c RX-07d RX-07e RX-07g RX-08 RX-11",
          lambda self, port, frame: put(frame, 24, self.own(port))),
@@ -483,7 +426,7 @@ ROWS += [
         ("NamedToTheBit", "A partner has to tell its state to the bit.", "RX-19",
          lambda self, port, frame: set_bits(frame, 18, SYNC, False) if (frame[52] ^ self.own(port)[14]) & 0x3A else frame),
     ),
-    *faults(
+    *devices(
         Drops, "drops",
         ("PassiveRefused", "Takes no LACPDU of a passive partner.", "RX-10", lambda self, port, frame: not frame[32] & 1),
     ),

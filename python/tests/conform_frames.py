@@ -1,24 +1,20 @@
 """Devices with one fault each, and the tests that have to find it: frames of other shapes, markers, storms, and two links.
 
-A fault that other tests name, or that takes more than an expression, is a class. The others are rows of `ROWS`.
+A fault that takes more than an expression is a class. The others are rows: of `ROWS`, or with a name here if other tests name them.
 """
 
 from __future__ import annotations
 
 from typing import Iterable, Iterator, Optional
 
-from conform_device import OWN, SLOW, Device, Drops, Hears, HearsAndSays, LooksSeldom, faults, is_lacpdu, part, put
+from conform_device import OWN, SLOW, Device, Drops, Hears, HearsAndSays, LooksSeldom, devices, is_lacpdu, part, put
 from conform_faults import set_bits
 from niwhopera import ReceiveState, State
 
 
-class VersionChecked(Drops):
-    """Takes version 1 alone."""
-
-    finds = "VN-02 VN-03 VN-04 VN-05 VN-10"
-
-    def drops(self, port: int, frame: bytes) -> bool:
-        return frame[15] != 1
+(VersionChecked,) = devices(
+    Drops, "drops", ("VersionChecked", "Takes version 1 alone.", "VN-02 VN-03 VN-04 VN-05 VN-10", lambda self, port, frame: frame[15] != 1)
+)
 
 
 class Upset(Device):
@@ -62,14 +58,9 @@ class WornOut(Device):
             yield frame
 
 
-class PadsShort(Device):
-    """Reads a frame that is cut off as though zeros stood behind it."""
-
-    finds = "VN-22 RB-01 RB-04"
-
-    def hears(self, port: int, frame: bytes) -> Iterable[bytes]:
-        whole = put(put(put(frame.ljust(124, b"\0"), 3, b"\x14"), 23, b"\x14"), 43, b"\x10")
-        yield whole if frame[12:15] == SLOW + b"\1" and len(frame) < 124 else frame
+def padded(frame: bytes) -> bytes:
+    """A frame that is cut off, as though zeros stood behind it but for the lengths of TLVs."""
+    return put(put(put(frame.ljust(124, b"\0"), 3, b"\x14"), 23, b"\x14"), 43, b"\x10")
 
 
 # Markers.
@@ -88,22 +79,12 @@ class Responds(Device):
             yield port, given
 
 
-class NoMarkers(Responds):
-    """Answers no marker."""
-
-    finds = "MK-01 EN-03"
-
-    def says_back(self, marker: bytes, response: bytes) -> Optional[bytes]:
-        return None
-
-
-class OtherId(Responds):
-    """Answers with another identifier."""
-
-    finds = "MK-01 MK-02 MK-05 MK-06 MK-09 MK-10 MK-11 EN-03"
-
-    def says_back(self, marker: bytes, response: bytes) -> Optional[bytes]:
-        return put(response, 15, bytes([response[29] ^ 1]))
+NoMarkers, OtherId = devices(
+    Responds, "says_back",
+    ("NoMarkers", "Answers no marker.", "MK-01 EN-03", lambda self, marker, response: None),
+    ("OtherId", "Answers with another identifier.", "MK-01 MK-02 MK-05 MK-06 MK-09 MK-10 MK-11 EN-03",
+     lambda self, marker, response: put(response, 15, bytes([response[29] ^ 1]))),
+)  # fmt: skip
 
 
 class ThirdId(Responds):
@@ -181,12 +162,6 @@ class OneAggregator(Device):
     def port_of(self, frame: bytes) -> Optional[int]:
         ports = [port for port in self.links if port <= self.used and self.on.distributes(port)]
         return ports[frame[11] % len(ports)] if ports else None
-
-
-class AllAggregators(OneAggregator):
-    """Its client uses each of three links that distributes, whatever the aggregator."""
-
-    finds, used = "SL-15", 3
 
 
 class LinkDrops(Device):
@@ -272,18 +247,20 @@ class BadLengths(Device):
 # What a device that takes itself for another system calls it.
 STRANGER = b"\2\xee\0\0\0\1"
 ROWS = [
-    *faults(
+    *devices(
         Hears, "heard",
         ("ForgetsNaming", "Takes a partner that names nobody for one that names it.", "RX-08",
          lambda self, port, frame: frame if any(part(frame, 24, 14)) else set_bits(put(frame, 24, self.own(port)), 38, 4, True)),
     ),
-    *faults(
+    *devices(
         Device, "hears",
         ("SubtypeUnchecked", "Takes each slow protocol for LACP.", "VN-14 VN-15 VN-16 RB-03",
          lambda self, port, frame: [put(frame, 0, b"\1") if frame[12:14] == SLOW and len(frame) > 14 and frame[14] != 2 else frame]),
+        ("PadsShort", "Reads a frame that is cut off as though zeros stood behind it.", "VN-22 RB-01 RB-04",
+         lambda self, port, frame: [padded(frame) if frame[12:15] == SLOW + b"\1" and len(frame) < 124 else frame]),
         ("TypeUnchecked", "Does not look at the EtherType.", "VN-17 VN-18 RB-02", lambda self, port, frame: [frame[:12] + SLOW + frame[14:]]),
     ),
-    *faults(
+    *devices(
         HearsAndSays, "heard said",
         ("OnePortNumber", "Has one port number on both links.", "SL-02",
          lambda self, port, frame: put(frame, 36, b"\0\2") if port == 2 and part(frame, 36, 2) == b"\0\1" else frame,
@@ -292,25 +269,26 @@ ROWS = [
          lambda self, port, frame: put(frame, 6, STRANGER) if part(frame, 6, 6) == OWN.mac else frame,
          lambda self, port, frame: put(frame, 26, OWN.mac) if part(frame, 26, 6) == STRANGER else frame),
     ),
-    *faults(
+    *devices(
         Device, "responds",
         ("MarkersWhenCollecting", "Answers on ports that collect alone.", "MK-10",
          lambda self, port, marker, response: [(port, response)] if self.is_on(port, State.COLLECTING) else []),
         ("StrayResponses", "Answers on the other link, where it carries.", "MK-11",
          lambda self, port, marker, response: [(3 - port if self.is_on(2, State.COLLECTING) and port == 1 else port, response)]),
     ),
-    *faults(
+    *devices(
         KeptByMarkers, "keeps",
         ("KeptByRunts", "Any frame but LACPDUs and markers keeps the partner current.", "RX-18",
          lambda self, frame: not is_lacpdu(frame) and frame[12:15] != SLOW + b"\2"),
     ),
-    *faults(
+    *devices(OneAggregator, "used", ("AllAggregators", "Its client uses each of three links that distributes, whatever the aggregator.", "SL-15", 3)),
+    *devices(
         LinkDrops, "wanted seconds dropped",
         ("SecondLinkDrops", "Drops the second link three seconds after it carries.", "SL-01 EN-02", 2, 3, 2),
         ("ThirdLinkDrops", "Drops the third link three seconds after all carry.", "SL-14 EN-04", 3, 3, 3),
         ("Restless", "Begins anew each four seconds.", "EN-01 RX-04", 1, 4, 1),
     ),
-    *faults(
+    *devices(
         Drops, "drops",
         ("CollectingOnly", "Takes no LACPDU of a partner that stops collecting.", "VN-01",
          lambda self, port, frame: self.is_on(port, State.COLLECTING) and frame[32] & 0x18 == 8),
@@ -320,7 +298,7 @@ ROWS = [
         ("ReservedChecked", "Looks at reserved octets.", "VN-06", lambda self, port, frame: any(part(frame, 60, 50)) or any(part(frame, 46, 12))),
         ("LongerDropped", "Takes LACPDUs of 110 octets alone.", "VN-10", lambda self, port, frame: len(frame) > 124),
     ),
-    *faults(
+    *devices(
         Upset, "upsets",
         ("UpsetByLengths", "A wrong length of a TLV takes the link down.", "VN-11 VN-12 VN-13",
          lambda self, frame: is_lacpdu(frame) and (frame[17], frame[37], frame[57]) != (20, 20, 16)),
@@ -336,14 +314,14 @@ ROWS = [
         ("UpsetBySource", "An LACPDU from a group address takes the link down.", "RB-07", lambda self, frame: bool(frame[6] & 1)),
         ("UpsetByLongFrame", "A frame of more than 1500 octets takes the link down.", "RB-08", lambda self, frame: len(frame) > 1500),
     ),
-    *faults(
+    *devices(
         Responds, "says_back",
         ("OtherSystem", "Answers with another system.", "MK-01 MK-02", lambda self, marker, response: put(response, 6, OWN.mac)),
         ("OtherSource", "Answers from another address.", "MK-03", lambda self, marker, response: response[:6] + b"\2\0\0\0\0\1" + response[12:]),
         ("MarkerVersion", "Answers markers of version 1 alone.", "MK-04", lambda self, marker, response: response if marker[15] == 1 else None),
         ("LongResponse", "Sends back all octets of a marker.", "MK-13", lambda self, marker, response: response + marker[124:]),
     ),
-    *faults(
+    *devices(
         AnswersMore, "answers",
         ("AnswersResponses", "Answers responses.", "MK-07", lambda self, frame: frame[14:] if frame[15:17] == b"\1\2" and len(frame) >= 124 else b""),
         ("AnswersUnknown", "Answers Marker PDUs of each TLV type.", "MK-08",
@@ -351,5 +329,5 @@ ROWS = [
         ("AnswersShort", "Sends markers back that are cut off.", "MK-09 IV-03",
          lambda self, frame: put(frame, 2, b"\2")[14:] + bytes(1) if frame[15:17] == b"\1\1" and len(frame) < 124 else b""),
     ),
-    *faults(Device, "most_responses", ("ManyResponses", "Answers each marker, however many come.", "MK-06", 10**9)),
+    *devices(Device, "most_responses", ("ManyResponses", "Answers each marker, however many come.", "MK-06", 10**9)),
 ]  # fmt: skip

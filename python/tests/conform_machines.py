@@ -1,13 +1,13 @@
 """Devices with one fault each, and the tests that have to find it: the periodic, mux and transmit machines of a link.
 
-A fault that other tests name, or that takes more than an expression, is a class. The others are rows of `ROWS`.
+A fault that takes more than an expression is a class. The others are rows: of `ROWS`, or with a name here if other tests name them.
 """
 
 from __future__ import annotations
 
 from typing import Iterable, Optional
 
-from conform_device import SLOW, Device, Drops, Hears, LooksSeldom, Says, faults, is_lacpdu, part, put
+from conform_device import SLOW, Device, Drops, Hears, LooksSeldom, Says, devices, is_lacpdu, part, put
 from conform_faults import AGGREGATION, SYNC, set_bits
 from niwhopera import MuxState, State
 
@@ -34,12 +34,6 @@ class DisabledByChurn(Drops):
 
     def drops(self, port: int, frame: bytes) -> bool:
         return self.now < self.out.get(port, 0)
-
-
-class DisabledByLongChurn(DisabledByChurn):
-    """A partner that is out of sync for 60 s takes the port out: what churn detection finds."""
-
-    finds, long, most = "MX-10", True, 60
 
 
 class OneASecond(Device):
@@ -223,21 +217,25 @@ class SharedLimit(Device):
 
 
 ROWS = [
-    *faults(LooksSeldom, "pause", ("LooksOnceASecond", "Sends what is due once a second.", "TX-02b TX-02e TX-03b", 0.99)),
-    *faults(
+    *devices(
+        DisabledByChurn, "most long",
+        ("DisabledByLongChurn", "A partner that is out of sync for 60 s takes the port out: what churn detection finds.", "MX-10", 60, True),
+    ),
+    *devices(LooksSeldom, "pause", ("LooksOnceASecond", "Sends what is due once a second.", "TX-02b TX-02e TX-03b", 0.99)),
+    *devices(
         Device, "tick_seconds",
         ("SlowClock", "Its clock is slow: a second has 1.45 s.", "PT-01 RX-02", 0.145),
         ("FastClock", "Its clock is fast.", "PT-01 MX-01 RX-02", 0.055),
     ),
-    *faults(Device, "tick_seconds long", ("SlowPeriod", "Its clock is a twentieth slow.", "PT-07", 0.105, True)),
-    *faults(
+    *devices(Device, "tick_seconds long", ("SlowPeriod", "Its clock is a twentieth slow.", "PT-07", 0.105, True)),
+    *devices(
         Device, "says long",
         ("SilentOnDefaults", "Says nothing where it has no partner.", "PT-08", lambda self, port, frame: [] if frame[32] & 0x40 else [frame], True),
     ),
-    *faults(
+    *devices(
         Hears, "heard",
         ("AnswersOtherBits", "Answers an LACPDU that tells any bit of its state otherwise.", "TX-07",
-         lambda self, port, frame: put(frame, 38, bytes([frame[52] ^ 2])) if (other := frame[52] ^ self.own(port)[14]) and not other & 0x0F else frame),
+         lambda self, port, frame: set_bits(frame, 38, 2, not frame[52] & 2) if (frame[52] ^ self.own(port)[14]) in range(16, 256, 16) else frame),
         ("AlwaysShort", "Sends each second, whatever the partner asks for.", "PT-02 PT-04 TX-04", lambda self, port, frame: set_bits(frame, 18, 2, True)),
         ("AlwaysLong", "Sends each 30 s, whatever the partner asks for.", "PT-01 PT-03 PT-06", lambda self, port, frame: set_bits(frame, 18, 2, False)),
         ("CollectsAsPartner", "Takes a partner that does not collect for one out of sync.", "MX-02 MX-04",
@@ -247,7 +245,7 @@ ROWS = [
         ("OwnSyncUnchecked", "Does not look at its Synchronization as the partner tells it.", "TX-03c",
          lambda self, port, frame: set_bits(frame, 38, SYNC, self.is_on(port, State.SYNCHRONIZATION))),
     ),
-    *faults(
+    *devices(
         Says, "said",
         ("AggregatesAlways", "Tells a partner that is individual as aggregatable.", "MX-08",
          lambda self, port, frame: set_bits(frame, 38, AGGREGATION, True) if any(part(frame, 26, 6)) else frame),

@@ -5,7 +5,7 @@ from __future__ import annotations
 from typing import Iterable, Sequence, Type
 
 import pytest
-from conform_device import BY_NAME, Device, Individual, LongTimeouts, NoData, World, is_lacpdu, play, put
+from conform_device import BY_NAME, Device, Individual, LongTimeouts, NoData, Says, World, devices, is_lacpdu, play, put
 from conform_faults import set_bits
 from niwhopera import State
 
@@ -36,12 +36,6 @@ class SpokenTo(Passive):
             yield frame
 
 
-class PassiveOfLongTimeouts(Device):
-    """Is passive, and asks for long timeouts."""
-
-    active = short = False
-
-
 class Independent(Device):
     """Has independent control: it distributes when the partner collects, and tells each step."""
 
@@ -70,39 +64,24 @@ class AtTicks(Device):
         return sends
 
 
-class LongTicks(Device):
-    """Its second is 0.2 s long."""
-
-    tick_seconds = 0.106
-
-
-class OneSource(Device):
-    """Both links send from one address."""
-
-    def says(self, port: int, frame: bytes) -> Iterable[bytes]:
-        yield frame[:6] + bytes([2, 0, 0, 0, 0xBB, 1]) + frame[12:]
-
-    def responds(self, port: int, marker: bytes, response: bytes) -> Iterable[tuple[int, bytes]]:  # type: ignore[override]
-        yield port, response[:6] + bytes([2, 0, 0, 0, 0xBB, 1]) + response[12:]
+def from_one(frame: bytes) -> bytes:
+    """A frame from the address of the first link."""
+    return frame[:6] + bytes([2, 0, 0, 0, 0xBB, 1]) + frame[12:]
 
 
-class SecondVersion(Device):
-    """Sends LACPDUs of version 2 with the TLVs of that version."""
-
-    def says(self, port: int, frame: bytes) -> Iterable[bytes]:
-        more = b"\4\6\0\x80\xc2\0" + b"\5\x14\0\1" + b"\x5a" * 16 + b"\6\3\0" + bytes(2)
-        yield put(put(frame, 1, b"\2"), 58, more)
-
-
-class Doubled(Device):
-    """Gets each frame twice, from a hub."""
-
-    def hears(self, port: int, frame: bytes) -> Iterable[bytes]:
-        yield frame
-        yield frame
-
-
-KINDS = [LongTimeouts, Passive, SpokenTo, PassiveOfLongTimeouts, Individual, Independent, AtTicks, LongTicks, OneSource, SecondVersion, Doubled]
+VERSION_2 = b"\4\6\0\x80\xc2\0" + b"\5\x14\0\1" + b"\x5a" * 16 + b"\6\3\0" + bytes(2)  # the TLVs of that version
+KINDS = [
+    LongTimeouts, Passive, SpokenTo, Individual, Independent, AtTicks,
+    *devices(Device, "active short", ("PassiveOfLongTimeouts", "Is passive, and asks for long timeouts.", "", False, False)),
+    *devices(Device, "tick_seconds", ("LongTicks", "Its second is 0.2 s long.", "", 0.106)),
+    *devices(Device, "hears", ("Doubled", "Gets each frame twice, from a hub.", "", lambda self, port, frame: [frame, frame])),
+    *devices(Says, "said", ("SecondVersion", "Sends LACPDUs of version 2.", "", lambda self, port, frame: put(put(frame, 1, b"\2"), 58, VERSION_2))),
+    *devices(
+        Says, "said responds",
+        ("OneSource", "Both links send from one address.", "",
+         lambda self, port, frame: from_one(frame), lambda self, port, marker, response: [(port, from_one(response))]),
+    ),
+]  # fmt: skip
 
 
 def found_by(kind: Type[Device], tests: Sequence[Case], phase: float = 0.037, links: int = 2) -> list[Result]:

@@ -179,29 +179,21 @@ def test_a_pass_stands_beside_a_late_bench_and_is_told(bench, monkeypatch: pytes
 
 
 def test_a_late_bench_excuses_no_count_of_lacpdus(bench) -> None:  # type: ignore[no-untyped-def]
-    b = bench(Device)
-    for bears, late, verdict in (SURE, 0.3, FAIL), (SURE, 1.3, INCONCLUSIVE), (0.0, 0.3, INCONCLUSIVE):
-        found = Result(BY_NAME["TX-01"], claims=[Claim(False, "19 LACPDUs within one second", (), bears)])
-        b.late = late
-        judge(b, found)
-        assert found.verdict == verdict and ("too busy" in found.why) == (verdict == INCONCLUSIVE), (bears, late)
-    of_all = Result(BY_NAME["IV-05"], claims=[Claim(False, "four LACPDUs", (), SURE)])
-    b.late = 0.0
-    judge(b, of_all)
-    assert of_all.verdict == INCONCLUSIVE and "the bench was 1.30 s late" in of_all.why
-    b.latest = 0.9
-    of_all = Result(BY_NAME["IV-05"], claims=[Claim(False, "four LACPDUs", (), SURE)])
-    judge(b, of_all)
-    assert of_all.verdict == FAIL and of_all.why == "four LACPDUs"
-    flooded = Result(BY_NAME["TX-01"], claims=[Claim(False, "19 LACPDUs within one second", (), SURE)])
-    b.late = 0.0
-    judge(b, flooded, Flood("link 1 is flooded", True))
-    assert flooded.verdict == INCONCLUSIVE
-    for late, verdict in (0.3, FAIL), (1.3, INCONCLUSIVE):
-        twice = Result(BY_NAME["SL-17"], claims=[Claim(False, "3 came twice", (), SURE, in_flood=True)])
-        b.late = late
-        judge(b, twice, Flood("link 1 is flooded", True))
-        assert twice.verdict == verdict and "link 1 is flooded" in twice.why
+    b, calm, flood, told = bench(Device), Flood(), Flood("link 1 is flooded", True), "came too soon"
+    for name, bears, flooded, late, latest, verdict, why in (
+        ("TX-01", SURE, calm, 0.3, 0.0, FAIL, told),
+        ("TX-01", SURE, calm, 1.3, 0.0, INCONCLUSIVE, "too busy"),
+        ("TX-01", 0.0, calm, 0.3, 0.0, INCONCLUSIVE, "too busy"),
+        ("TX-01", SURE, flood, 0.0, 0.0, INCONCLUSIVE, "link 1 is flooded"),
+        ("IV-05", SURE, calm, 0.0, 1.3, INCONCLUSIVE, "the bench was 1.30 s late"),
+        ("IV-05", SURE, calm, 0.0, 0.9, FAIL, told),
+        ("SL-17", SURE, flood, 0.3, 0.0, FAIL, "link 1 is flooded"),
+        ("SL-17", SURE, flood, 1.3, 0.0, INCONCLUSIVE, "link 1 is flooded"),
+    ):
+        found = Result(BY_NAME[name], claims=[Claim(False, told, (), bears, in_flood=name == "SL-17")])
+        b.late, b.latest = late, latest
+        judge(b, found, flooded)
+        assert found.verdict == verdict and why in found.why and (why != told or found.why == told), (name, bears, late, latest, found.why)
 
 
 def test_junit_and_tap_have_what_the_device_said(run, tmp_path: Path) -> None:  # type: ignore[no-untyped-def]
@@ -237,7 +229,7 @@ def test_junit_and_tap_have_the_clause_of_each_test_and_what_explains_a_fail(run
 
 
 @pytest.mark.parametrize("known", [[], ["--known", "known"]], ids=["none is known", "it is known"])
-def test_status_junit_and_tap_agree_on_what_has_no_answer_which_is_no_known_fail(stack, known: list[str], tmp_path: Path, capsys: pytest.CaptureFixture[str]) -> None:  # type: ignore[no-untyped-def]
+def test_what_has_no_answer_is_told_alike_and_is_no_known_fail(stack, known: list[str], tmp_path: Path, capsys: pytest.CaptureFixture[str]) -> None:  # type: ignore[no-untyped-def]
     (tmp_path / "known").write_text("SL-06 of the chip\n")
     words = ["--only", "FM-01", "--only", "SL-06", *known, "--junit", "r.xml", "--tap", "r.tap"]
     for strict, status, count, tag, point in ((), 0, "skipped", "skipped", "ok 2 - SL-06"), (("--strict",), 1, "errors", "error", "not ok 2 - SL-06"):

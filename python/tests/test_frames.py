@@ -8,7 +8,7 @@ from typing import Iterator, Optional
 import pytest
 from niwhopera._library import functions
 from niwhopera._numbers import NiwQueue
-from niwhopera import MOST_CONVERSATIONS, Carried, Closed, FrameCounts, Full, HeldFrames, LagError, Move, NoMemory, Released, Status, next_move
+from niwhopera import MOST_CONVERSATIONS, Carried, FrameCounts, Full, HeldFrames, LagError, Move, NoMemory, Released, Status, next_move
 
 
 def test_frames_leave_in_the_order_in_which_they_came() -> None:
@@ -69,27 +69,10 @@ def test_a_number_without_room_is_refused_by_python() -> None:
         with pytest.raises(ValueError):
             HeldFrames[int](*numbers)
     with HeldFrames[int](1, 1, 1) as held:
-        calls = (held.next, held.drop, held.oldest, held.waiting, lambda number: held.put(number, 0), lambda number: held.next_released([number]))
-        for call in calls:
+        of_one = (held.next, held.drop, held.oldest, held.waiting, lambda number: held.put(number, 0), lambda number: held.next_released([number]))
+        for call in (*of_one, lambda number: next_move([number], []), lambda _: Carried(1, 2**32)):
             with pytest.raises(ValueError):
                 call(65536)
-    with pytest.raises(ValueError):
-        Carried(1, 2**32)
-    with pytest.raises(ValueError):
-        next_move([65536], [])
-
-
-def test_held_frames_that_are_closed_raise_closed() -> None:
-    held = HeldFrames[int](1, 1, 1)
-    held.put(0, 7)
-    held.close()
-    held.close()
-    assert held.closed
-    of_one = (held.next, held.drop, held.oldest, held.waiting, lambda number: held.put(number, 1), lambda number: held.next_released([number]))
-    for call in (lambda _: held.counts(), *of_one):
-        with pytest.raises(Closed) as told:
-            call(0)
-        assert told.value.status is Status.NO_QUEUE
 
 
 def test_more_memory_than_there_is_is_refused() -> None:

@@ -83,33 +83,37 @@ def test_a_configuration_is_refused_with_its_reason(change: dict[str, Any], reas
 @pytest.mark.parametrize("number", [-1, 65536])
 def test_a_number_without_room_is_refused_by_python(number: int) -> None:
     with System(CONFIG) as system:
-        calls: list[Callable[[int], object]] = [system.transmit, system.load, system.force_port, system.tick, system.distributing]
+        calls: list[Callable[[int], object]] = [
+            *(system.transmit, system.load, system.force_port, system.tick, system.distributing),
+            lambda _: system.configure(3, key=number, priority=1, aggregatable=True),
+            *(lambda _, field=field: dataclasses.replace(PORT, **{field: number}) for field in ("number", "key", "priority")),
+            lambda _: SystemId(number, OWN),
+            lambda _: dataclasses.replace(CONFIG, first_marker=number - 65535 + 0xFFFFFFFF if number > 0 else -1),
+            lambda _: dataclasses.replace(CONFIG, max_links=0),
+        ]
         for call in calls:
             with pytest.raises(ValueError):
                 call(number)
-        with pytest.raises(ValueError):
-            system.configure(3, key=number, priority=1, aggregatable=True)
-    for field in ("number", "key", "priority"):
-        with pytest.raises(ValueError):
-            dataclasses.replace(PORT, **{field: number})
-    with pytest.raises(ValueError):
-        SystemId(number, OWN)
-    with pytest.raises(ValueError):
-        dataclasses.replace(CONFIG, first_marker=number - 65535 + 0xFFFFFFFF if number > 0 else -1)
-    with pytest.raises(ValueError):
-        dataclasses.replace(CONFIG, max_links=0)
 
 
-def test_a_closed_system_raises_closed() -> None:
-    system = System(CONFIG)
-    assert not system.closed
-    system.close()
-    system.close()
-    assert system.closed
-    for call in (system.ports, system.tick, system.ticks_until_due, system.due, system.views, system.next_marker):
+# What holds a part of the library: how it is made, and calls with their words.
+OF_SYSTEM: dict[str, tuple[Any, ...]] = dict.fromkeys(("tick", "ports", "ticks_until_due", "due", "views", "next_marker"), ())
+OF_FRAMES = {"counts": (), "next": (0,), "drop": (0,), "oldest": (0,), "waiting": (0,), "put": (0, 1), "next_released": ([0],)}
+HANDLES = [(System, (CONFIG,), OF_SYSTEM), (niwhopera.HeldFrames, (1, 1, 1), OF_FRAMES)]
+of_each_handle = pytest.mark.parametrize("kind, given, calls", HANDLES, ids=[kind.__name__ for kind, *_ in HANDLES])
+
+
+@of_each_handle
+def test_a_closed_handle_raises_closed(kind: Any, given: tuple[Any, ...], calls: dict[str, tuple[Any, ...]]) -> None:
+    made = kind(*given)
+    assert not made.closed
+    made.close()
+    made.close()
+    assert made.closed
+    for name, words in calls.items():
         with pytest.raises(Closed) as told:
-            call()
-        assert told.value.status is Status.NO_SYSTEM
+            getattr(made, name)(*words)
+        assert told.value.status is (Status.NO_SYSTEM if kind is System else Status.NO_QUEUE), name
 
 
 def test_a_port_that_does_not_exist() -> None:
@@ -124,11 +128,8 @@ def test_a_port_that_does_not_exist() -> None:
         assert told.value.status is Status.NOT_ASSIGNED
 
 
-HANDLES = [(System, (CONFIG,), "tick"), (niwhopera.HeldFrames, (1, 1, 1), "counts")]
-
-
-@pytest.mark.parametrize("kind, given, name", HANDLES, ids=[kind.__name__ for kind, _, _ in HANDLES])
-def test_a_handle_is_neither_copied_nor_called_by_another_thread(kind: Any, given: tuple[Any, ...], name: str) -> None:
+@of_each_handle
+def test_a_handle_is_neither_copied_nor_called_by_another_thread(kind: Any, given: tuple[Any, ...], calls: dict[str, tuple[Any, ...]]) -> None:
     with kind(*given) as made:
         for copies in copy.copy, copy.deepcopy:
             with pytest.raises(TypeError):
@@ -137,7 +138,7 @@ def test_a_handle_is_neither_copied_nor_called_by_another_thread(kind: Any, give
 
         def ask() -> None:
             try:
-                getattr(made, name)()
+                getattr(made, next(iter(calls)))()
             except RuntimeError as why:
                 raised.append(why)
 
@@ -147,8 +148,8 @@ def test_a_handle_is_neither_copied_nor_called_by_another_thread(kind: Any, give
         assert [str(it) for it in raised] == [f"only the thread that made a {kind.__name__} calls it"]
 
 
-@pytest.mark.parametrize("kind, given, name", HANDLES, ids=[kind.__name__ for kind, _, _ in HANDLES])
-def test_a_handle_that_is_not_closed_is_told(kind: Any, given: tuple[Any, ...], name: str) -> None:
+@of_each_handle
+def test_a_handle_that_is_not_closed_is_told(kind: Any, given: tuple[Any, ...], calls: dict[str, tuple[Any, ...]]) -> None:
     gc.collect()  # what other tests left is told before
     with warnings.catch_warnings(record=True) as told:
         warnings.simplefilter("always")
