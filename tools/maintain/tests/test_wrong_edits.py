@@ -164,29 +164,27 @@ def test_words_name_edits() -> None:
         prover.named(every, ["captures/none"])
 
 
+KEPT = ["rt: lagmodel is kept", "rt: lagnetwork is kept"]
+
+
 @pytest.mark.parametrize(
-    ("lines", "right", "said"),
+    ("stands", "lines", "right", "said"),
     [
-        (["rt: lagmodel proved", ERROR, "rt: lagnetwork NOT PROVED"], True, f"refused, as it must be: {ERROR}"),
-        (["rt: lagmodel proved", "rt: lagnetwork proved"], False, "the prover refuses nothing"),
-        ([ERROR, "rt: lagmodel NOT PROVED", "rt: lagnetwork NOT PROVED: its library"], False, "the prover refuses lagmodel, lagnetwork"),
-        (["rt: lagmodel proved", "./specs/B.antt:3:4: error: no", "rt: lagnetwork NOT PROVED"], False, "specs/B.antt does not read any more"),
-        (["rt: lagmodel proved", "rt: lagnetwork NOT PROVED"], False, "something does not read any more"),
+        (["rt: lagmodel proved", ERROR, "rt: lagnetwork NOT PROVED"], [], False, "is not proved as it stands"),
+        (KEPT, ["rt: lagmodel proved", ERROR, "rt: lagnetwork NOT PROVED"], True, f"refused, as it must be: {ERROR}"),
+        (KEPT, ["rt: lagmodel proved", "rt: lagnetwork proved"], False, "the prover refuses nothing"),
+        (KEPT, [ERROR, "rt: lagmodel NOT PROVED", "rt: lagnetwork NOT PROVED: its library"], False, "the prover refuses lagmodel, lagnetwork"),
+        (KEPT, ["rt: lagmodel proved", "./specs/B.antt:3:4: error: no", "rt: lagnetwork NOT PROVED"], False, "specs/B.antt does not read any more"),
+        (KEPT, ["rt: lagmodel proved", "rt: lagnetwork NOT PROVED"], False, "something does not read any more"),
     ],
 )
 def test_an_edit_of_a_crate_below_is_refused_above_alone(
-    tmp_path: Path, monkeypatch: pytest.MonkeyPatch, lines: list[str], right: bool, said: str
+    tmp_path: Path, monkeypatch: pytest.MonkeyPatch, stands: list[str], lines: list[str], right: bool, said: str
 ) -> None:
     trial = next(it for it in edits.stored_in(edits.DEFINITIONS, "lagnetwork") if it.pairs[0][0].startswith(".."))
-    runs = iter([["rt: lagmodel is kept", "rt: lagnetwork is kept"], lines])
+    runs = iter([stands, lines])
     monkeypatch.setattr(prover, "ran", lambda folder: next(runs))
     assert by_prover.try_below(str(tmp_path), trial) == (right, said)
-
-
-def test_a_crate_that_is_not_proved_refuses_nothing(tmp_path: Path, monkeypatch: pytest.MonkeyPatch) -> None:
-    trial = next(it for it in edits.stored_in(edits.DEFINITIONS, "lagnetwork") if it.pairs[0][0].startswith(".."))
-    monkeypatch.setattr(prover, "ran", lambda folder: ["rt: lagmodel proved", ERROR, "rt: lagnetwork NOT PROVED"])
-    assert by_prover.try_below(str(tmp_path), trial) == (False, "is not proved as it stands")
 
 
 def test_a_definition_that_does_not_read_is_none() -> None:
