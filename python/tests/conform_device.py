@@ -1,20 +1,24 @@
 """A device in memory for the tests of `lagconform`: a system of niwhopera at the far end of two links, with a clock that the bench moves.
 
 `Device` is right. A fault is a class below it that changes one thing: what it hears, what it says, its clock, or its data. Where an expression
-says the change, the fault is a row of a table (`faults`).
+says the change, the fault is a row of a table (`devices`).
 """
 
 from __future__ import annotations
 
+import sys
+import time
 from collections import defaultdict, deque
 from contextlib import contextmanager
-from typing import DefaultDict, Deque, Iterable, Iterator, Optional, Sequence, Type
+from typing import Any, DefaultDict, Deque, Iterable, Iterator, Optional, Sequence, Type
 
 from lagconform.bench import Bench
-from lagconform.memory import FLOWS, Stack, World, flow
-from lagconform.model import Result
+from lagconform.groups import TESTS
+from lagconform.memory import FLOWS, Done, Stack, World, flow
+from lagconform.model import CAVEAT, Result
 from lagconform.model import Test as Case
 from lagconform.runner import meet, ordered, run_all
+from lagconform.sockets import Command
 from lagconform.wires import Hook
 from niwhopera import Config, LagError, Mac, MuxState, PortConfig, State, System, SystemId
 
@@ -24,6 +28,9 @@ KEY = 23
 OWN = SystemId(32768, Mac("0200000000bb"))
 # A port may send so many Marker PDUs in any second (802.3 57A).
 MOST_RESPONSES = 10
+BY_NAME = {it.id: it for it in TESTS}
+# What stands behind the counts in the last line.
+LAST = f". {CAVEAT}\n"
 
 
 def put(frame: bytes, at: int, octets: bytes) -> bytes:
@@ -56,6 +63,8 @@ class Device(Stack):
         self.system: Optional[System] = None
         self.sends_data, self.count = False, 0
         self.responses: DefaultDict[int, Deque[float]] = defaultdict(deque)
+        # What a fault keeps, most of them by port.
+        self.kept: dict[Any, Any] = {}
 
     @property
     def on(self) -> System:
@@ -182,6 +191,13 @@ class Device(Stack):
         return bool(self.on.state(port) & bit)
 
 
+class NoData(Device):
+    """Its client sends nothing."""
+
+    def data(self, on: bool) -> None:
+        raise NotImplementedError
+
+
 class LongTimeouts(Device):
     """Asks for long timeouts."""
 
@@ -241,32 +257,70 @@ class Says(Device):
         yield self.said(port, frame)
 
 
-# Of a fault: its name, what it does, the tests that find it, and what it has in place of one attribute of its base.
-Row = tuple[str, str, str, object]
+class HearsAndSays(Hears, Says):
+    """Takes each LACPDU for another one, and changes each that it sends."""
 
 
-def faults(base: Type[Device], attribute: str, *rows: Row) -> list[Type[Device]]:
-    """The devices of a table."""
-    return [type(name, (base,), {"__doc__": what, "finds": finds, attribute: given}) for name, what, finds, given in rows]
+class LooksSeldom(Device):
+    """Sends what is due with a pause behind each look."""
+
+    pause = looked = 0.0
+
+    def may_send(self) -> bool:
+        if self.now - self.looked < self.pause:
+            return False
+        self.looked = self.now
+        return True
+
+
+# Of a device: its name, what it does, the tests that find its fault, and what it has in place of each attribute of its base that the table names.
+Row = tuple[Any, ...]
+
+
+def devices(base: Type[Device], attributes: str, *rows: Row) -> list[Type[Device]]:
+    """The devices of a table, which are of the module that it stands in."""
+    names, shared = attributes.split(), {"__module__": sys._getframe(1).f_globals["__name__"]}
+    return [type(name, (base,), {**shared, "__doc__": what, "finds": finds, **dict(zip(names, given))}) for name, what, finds, *given in rows]
 
 
 # Benches beside devices.
 
 
+class Full(World):
+    """A machine that drops frames."""
+
+    def drops(self) -> int:
+        return 3
+
+
+class Waits:
+    """A hook whose command has ended where it is asked."""
+
+    def __init__(self, line: str) -> None:
+        self.line = line
+
+    def call(self, words: Sequence[str]) -> Done:
+        doing, limit = Command(self.line).call(words), time.monotonic() + 20
+        while (answer := doing.answer()) is None:
+            assert time.monotonic() < limit
+            time.sleep(0.01)
+        return Done(answer)
+
+
 @contextmanager
-def beside(world: World, hook: Optional[Hook] = None, flaps: bool = False, slack: float = 0.15) -> Iterator[Bench]:
+def beside(world: World, hook: Optional[Hook] = None, **how: Any) -> Iterator[Bench]:
     """A bench beside the device of a world, which ends with it."""
-    b = Bench(world, hook, slack, flaps=flaps)
+    b = Bench(world, hook, **how)
     try:
         yield b
     finally:
         b.close()
 
 
-def play(world: World, tests: Sequence[Case], slack: float = 0.15) -> list[Result]:
+def play(world: World, tests: Iterable[Case], **how: Any) -> list[Result]:
     """Runs tests beside the device of a world, whose hook is there."""
     results: list[Result] = []
-    with beside(world, world, slack=slack) as b:
+    with beside(world, world, **how) as b:
         meet(b)
         run_all(b, ordered(tests), results.append)
     return results

@@ -1,13 +1,13 @@
 """Devices with one fault each, and the tests that have to find it: the frames that it sends, and the receive machine.
 
-A fault that other tests name, or that takes more than an expression, is a class. The others are rows of `ROWS`.
+A fault that takes more than an expression is a class. The others are rows: of `ROWS`, or with a name here if other tests name them.
 """
 
 from __future__ import annotations
 
 from typing import Iterable
 
-from conform_device import OWN, Device, Drops, Hears, Says, faults, is_lacpdu, part, put
+from conform_device import OWN, Device, Drops, Hears, HearsAndSays, Says, devices, is_lacpdu, part, put
 from niwhopera import MuxState, ReceiveState
 
 SYNC = 8
@@ -25,27 +25,6 @@ def set_bits(frame: bytes, at: int, bits: int, on: bool) -> bytes:
 # The frames that it sends.
 
 
-class PortZero(Device):
-    """Has port number 0."""
-
-    finds = "FM-05"
-
-    def hears(self, port: int, frame: bytes) -> Iterable[bytes]:
-        yield put(frame, 36, port.to_bytes(2, "big")) if is_lacpdu(frame) and part(frame, 36, 2) == bytes(2) else frame
-
-    def says(self, port: int, frame: bytes) -> Iterable[bytes]:
-        yield put(frame, 16, bytes(2))
-
-
-class WrongEcho(Says):
-    """Tells another port priority of the partner."""
-
-    finds = "FM-06"
-
-    def said(self, port: int, frame: bytes) -> bytes:
-        return put(frame, 34, b"\0\0")
-
-
 class SecondPort(Device):
     """Is wrong on port 2 alone."""
 
@@ -55,45 +34,6 @@ class SecondPort(Device):
 
     def says(self, port: int, frame: bytes) -> Iterable[bytes]:
         yield self.wrong(frame) if port == 2 else frame
-
-
-class SecondPartnerKey(SecondPort):
-    """Tells the key of the partner with its octets swapped."""
-
-    finds = "FM-06 EN-02 EN-04"
-
-    def wrong(self, frame: bytes) -> bytes:
-        return put(frame, 32, part(frame, 32, 2)[::-1])
-
-
-class SecondTimeout(SecondPort):
-    """Tells Timeout now and then."""
-
-    finds = "FM-08"
-    count = 0
-
-    def wrong(self, frame: bytes) -> bytes:
-        self.count += 1
-        return set_bits(frame, 18, 0x02, bool(self.count % 2))
-
-
-class SecondFallsSilent(Device):
-    """Says nothing more on port 2 from a second on."""
-
-    finds, silent_from = "MX-06", 5.0
-
-    def says(self, port: int, frame: bytes) -> Iterable[bytes]:
-        if port != 2 or self.now < self.silent_from:
-            yield frame
-
-
-class SecondSaysTwice(Device):
-    """Sends each LACPDU twice on port 2."""
-
-    finds = "TX-01 IV-05"
-
-    def says(self, port: int, frame: bytes) -> Iterable[bytes]:
-        yield from [frame] * (2 if port == 2 else 1)
 
 
 class DataTwice(Device):
@@ -106,37 +46,45 @@ class DataTwice(Device):
             self.send(port, frame)
 
 
-class CutOff(Says):
-    """Sends 60 octets: the least length of a frame."""
-
-    finds = "FM-02 FM-03"
-
-    def said(self, port: int, frame: bytes) -> bytes:
-        return frame[:60]
-
-
-class PartnerLength(Says):
-    """Sends a Partner TLV of length 22."""
-
-    finds = "FM-03"
-
-    def said(self, port: int, frame: bytes) -> bytes:
-        return put(frame, 23, b"\x16")
-
-
 class FlickeringTimeout(Device):
     """Tells another LACP_Timeout in each LACPDU."""
 
-    finds = "FM-08"
-    turn = 0
+    finds, turn, ports = "FM-08", 0, 1 | 2
 
     def says(self, port: int, frame: bytes) -> Iterable[bytes]:
         self.turn ^= port
-        yield set_bits(frame, 18, 2, bool(self.turn & port))
+        yield set_bits(frame, 18, 2, bool(self.turn & port)) if port & self.ports else frame
 
 
+WrongEcho, CutOff, PartnerLength = devices(
+    Says, "said",
+    ("WrongEcho", "Tells another port priority of the partner.", "FM-06", lambda self, port, frame: put(frame, 34, b"\0\0")),
+    ("CutOff", "Sends 60 octets: the least length of a frame.", "FM-02 FM-03", lambda self, port, frame: frame[:60]),
+    ("PartnerLength", "Sends a Partner TLV of length 22.", "FM-03", lambda self, port, frame: put(frame, 23, b"\x16")),
+)  # fmt: skip
+(SecondFallsSilent,) = devices(
+    Device, "silent_from says",
+    ("SecondFallsSilent", "Says nothing more on port 2 from a second on.", "MX-06", 5.0,
+     lambda self, port, frame: [frame] if port != 2 or self.now < self.silent_from else []),
+)  # fmt: skip
+(SecondPartnerKey,) = devices(
+    SecondPort, "wrong",
+    ("SecondPartnerKey", "Tells the key of the partner with its octets swapped.", "FM-06 EN-02 EN-04",
+     lambda self, frame: put(frame, 32, part(frame, 32, 2)[::-1])),
+)  # fmt: skip
 ROWS = [
-    *faults(
+    *devices(
+        HearsAndSays, "heard said",
+        ("PortZero", "Has port number 0.", "FM-05",
+         lambda self, port, frame: put(frame, 36, port.to_bytes(2, "big")) if part(frame, 36, 2) == bytes(2) else frame,
+         lambda self, port, frame: put(frame, 16, bytes(2))),
+    ),
+    *devices(
+        Device, "says",
+        ("SecondSaysTwice", "Sends each LACPDU twice on port 2.", "TX-01 IV-05", lambda self, port, frame: [frame] * (2 if port == 2 else 1)),
+    ),
+    *devices(FlickeringTimeout, "ports", ("SecondTimeout", "Tells Timeout now and then on port 2.", "FM-08", 2)),
+    *devices(
         Says, "said",
         ("UnicastDestination", "Sends to an individual address.", "FM-01", lambda self, port, frame: b"\2" + frame[1:]),
         ("LongFrame", "Sends four octets too many.", "FM-02", lambda self, port, frame: frame + bytes(4)),
@@ -150,7 +98,7 @@ ROWS = [
         ("SyncOnDefaults", "Stays synchronized when it defaults.", "RX-06",
          lambda self, port, frame: set_bits(frame, 18, SYNC, True) if frame[32] & 0x40 else frame),
     ),
-    *faults(
+    *devices(
         SecondPort, "wrong",
         ("SecondShape", "Sends to an individual address, with another type of the Partner TLV, a reserved octet that is not 0, and four octets too many.",
          "FM-01 FM-02 FM-03 FM-04", lambda self, frame: b"\2" + put(put(frame, 22, b"\x07"), 39, b"\1")[1:] + bytes(4)),
@@ -178,13 +126,9 @@ class FirstOneLost(Device):
 class KeepsLast(Device):
     """Keeps the last LACPDU of each port, and when it came."""
 
-    def __init__(self) -> None:
-        super().__init__()
-        self.last: dict[int, tuple[float, bytes]] = {}
-
     def took(self, port: int, frame: bytes) -> None:
         if is_lacpdu(frame):
-            self.last[port] = self.now, frame
+            self.kept[port] = self.now, frame
 
 
 class Repeats(KeepsLast):
@@ -193,9 +137,9 @@ class Repeats(KeepsLast):
     finds = "RX-02 RX-03 SL-08"
 
     def ticked(self) -> None:
-        for port, (when, frame) in list(self.last.items()):
+        for port, (when, frame) in list(self.kept.items()):
             if self.now - when >= 2:
-                del self.last[port]
+                del self.kept[port]
                 self.on.receive(port, frame)
 
 
@@ -205,7 +149,7 @@ class TimeoutOfPartner(KeepsLast):
     finds = "RX-16"
 
     def ticked(self) -> None:
-        for port, (when, frame) in self.last.items():
+        for port, (when, frame) in self.kept.items():
             if not frame[32] & 2 and 1 < self.now - when < 30 and int(self.now * 10) % 10 == 0:
                 self.on.receive(port, frame)
 
@@ -213,21 +157,11 @@ class TimeoutOfPartner(KeepsLast):
 class ShortCurrentWhile(Device):
     """current_while is 2.2 s."""
 
-    finds = "RX-02 RX-04"
+    finds, left = "RX-02 RX-04", 8
 
     def ticked(self) -> None:
-        if any(self.on.receive_state(port) is ReceiveState.CURRENT and self.on.current_while(port) == 8 for port in (1, 2)):
-            self.on.tick(8)
-
-
-class LongTimer(Device):
-    """Asks for long timeouts, and waits 80 s."""
-
-    finds, short, long = "RX-14", False, True
-
-    def ticked(self) -> None:
-        if any(self.on.receive_state(port) is ReceiveState.CURRENT and self.on.current_while(port) == 100 for port in (1, 2)):
-            self.on.tick(100)
+        if any(self.on.receive_state(port) is ReceiveState.CURRENT and self.on.current_while(port) == self.left for port in (1, 2)):
+            self.on.tick(self.left)
 
 
 class RestartsOnChange(Device):
@@ -235,14 +169,10 @@ class RestartsOnChange(Device):
 
     finds = "RX-04 EN-01"
 
-    def __init__(self) -> None:
-        super().__init__()
-        self.last: dict[int, bytes] = {}
-
     def hears(self, port: int, frame: bytes) -> Iterable[bytes]:
-        same = is_lacpdu(frame) and self.last.get(port) == frame and self.on.receive_state(port) is ReceiveState.CURRENT
+        same = is_lacpdu(frame) and self.kept.get(port) == frame and self.on.receive_state(port) is ReceiveState.CURRENT
         if is_lacpdu(frame):
-            self.last[port] = frame
+            self.kept[port] = frame
         if not same:
             yield frame
 
@@ -282,20 +212,15 @@ class NoWaitAfterDefaults(Hurries):
 
     finds = "RX-06"
 
-    def __init__(self) -> None:
-        super().__init__()
-        self.was_defaulted: dict[int, bool] = {}
-
     def hurries(self, port: int) -> bool:
-        return self.was_defaulted.get(port, False)
+        return bool(self.kept.get(port))
 
     def took(self, port: int, frame: bytes) -> None:
         super().took(port, frame)
-        self.was_defaulted[port] = self.on.defaulted(port)
+        self.kept[port] = self.on.defaulted(port)
 
     def ticked(self) -> None:
-        for port in (1, 2):
-            self.was_defaulted[port] = self.on.defaulted(port)
+        self.kept = {port: self.on.defaulted(port) for port in (1, 2)}
 
 
 class StartsCarrying(Hurries):
@@ -325,28 +250,18 @@ class FieldUnchecked(Hears):
         return put(frame, 20 + at, own)
 
 
-class SystemUnchecked(FieldUnchecked):
-    """Does not compare its system."""
-
-    finds, field = "RX-07b RX-07g TX-02b", "system"
-
-
-class KeyUnchecked(FieldUnchecked):
-    """Does not compare its key."""
-
-    finds, field = "RX-07c TX-02c", "key"
+SystemUnchecked, KeyUnchecked = devices(
+    FieldUnchecked, "field",
+    ("SystemUnchecked", "Does not compare its system.", "RX-07b RX-07g TX-02b", "system"),
+    ("KeyUnchecked", "Does not compare its key.", "RX-07c TX-02c", "key"),
+)  # fmt: skip
 
 
 class SelectionUnchanged(Device):
     """Does not select anew where the partner changes a field: it goes on with the old value inside, and tells the new one."""
 
+    # By port it keeps the value that the system has, that of the partner, and the other fields.
     field = ""
-
-    def __init__(self) -> None:
-        super().__init__()
-        # By port: the value that the system has, and that of the partner.
-        self.values: dict[int, tuple[bytes, bytes]] = {}
-        self.others: dict[int, bytes] = {}
 
     def value(self, frame: bytes) -> bytes:
         at, count = FIELDS[self.field]
@@ -361,15 +276,15 @@ class SelectionUnchanged(Device):
             return
         at, count = FIELDS[self.field]
         rest = put(put(frame, 18, bytes([frame[32] & AGGREGATION])), at, bytes(count))[18:33]
-        old = self.values.get(port)
-        if old is None or (self.others.get(port) != rest and self.field != "system"):
-            old = self.value(frame), self.value(frame)
-        self.others[port], self.values[port] = rest, (old[0], self.value(frame))
-        yield self.changed(frame, at, old[0])
+        inside, _, others = self.kept.get(port, (self.value(frame), b"", rest))
+        if others != rest and self.field != "system":
+            inside = self.value(frame)
+        self.kept[port] = inside, self.value(frame), rest
+        yield self.changed(frame, at, inside)
 
     def says(self, port: int, frame: bytes) -> Iterable[bytes]:
         at, count = FIELDS[self.field]
-        inside, outside = self.values.get(port, (b"", b""))
+        inside, outside, _ = self.kept.get(port, (b"", b"", b""))
         told = bytes([frame[14 + at + 20] & AGGREGATION]) if self.field == "aggregation" else part(frame, at + 20, count)
         yield self.changed(frame, at + 20, outside) if inside and told == inside else frame
 
@@ -379,25 +294,15 @@ class LowOctet(Hears):
 
     finds = "RX-12g SL-13"
 
-    def __init__(self) -> None:
-        super().__init__()
-        self.high = {1: b"\0", 2: b"\0"}
-
     def heard(self, port: int, frame: bytes) -> bytes:
-        self.high[port] = part(frame, 12, 1)
+        self.kept[port] = part(frame, 12, 1)
         return put(frame, 12, b"\0")
 
     def says(self, port: int, frame: bytes) -> Iterable[bytes]:
-        yield put(frame, 32, self.high[port])
+        yield put(frame, 32, self.kept.get(port, b"\0"))
 
 
-class LinkUnseen(Device):
-    """Does not see that a link goes down."""
-
-    finds = "RX-13"
-
-    def link(self, port: int, up: bool) -> None:
-        pass
+(LinkUnseen,) = devices(Device, "link", ("LinkUnseen", "Does not see that a link goes down.", "RX-13", lambda self, port, up: None))
 
 
 class Mute(Device):
@@ -456,25 +361,17 @@ class SleepsOnDefaults(Mute):
 
     finds = "MX-06"
 
-    def __init__(self) -> None:
-        super().__init__()
-        self.was_defaulted: dict[int, bool] = {}
-
     def ticked(self) -> None:
         for port in self.links:
-            if self.on.defaulted(port) and not self.was_defaulted.get(port, True):
+            if self.on.defaulted(port) and not self.kept.get(port, True):
                 self.mute[port] = self.now + 20
-            self.was_defaulted[port] = self.on.defaulted(port)
+            self.kept[port] = self.on.defaulted(port)
 
 
 class MuteBesideNew(Mute):
     """Is mute for 6 s beside a partner that comes later, and is not in sync."""
 
-    finds = "RX-09"
-
-    def __init__(self) -> None:
-        super().__init__()
-        self.partner = b""
+    finds, partner = "RX-09", b""
 
     def took(self, port: int, frame: bytes) -> None:
         new = part(frame, 6, 6)
@@ -489,26 +386,23 @@ class MuteBesideTwo(Mute):
 
     finds = "SL-03"
 
-    def __init__(self) -> None:
-        super().__init__()
-        self.partners: dict[int, bytes] = {}
-
     def took(self, port: int, frame: bytes) -> None:
         if is_lacpdu(frame):
-            self.partners[port] = part(frame, 6, 6)
-        if len(set(self.partners.values())) > 1 and not self.mute:
+            self.kept[port] = part(frame, 6, 6)
+        if len(set(self.kept.values())) > 1 and not self.mute:
             self.mute = dict.fromkeys(self.links, self.now + 12)
 
 
 ROWS += [
-    *faults(
+    *devices(ShortCurrentWhile, "left short long", ("LongTimer", "Asks for long timeouts, and waits 80 s.", "RX-14", 100, False, True)),
+    *devices(
         FieldUnchecked, "field",
         ("PriorityUnchecked", "Does not compare its system priority.", "RX-07a TX-02a", "priority"),
         ("PortPriorityUnchecked", "Does not compare its port priority.", "RX-07d TX-02d", "port_priority"),
         ("PortUnchecked", "Does not compare its port number.", "RX-07e TX-02e", "port"),
         ("AggregationUnchecked", "Does not compare its Aggregation.", "RX-07f TX-02f", "aggregation"),
     ),
-    *faults(
+    *devices(
         SelectionUnchanged, "field",
         ("NewPriority", "Does not select anew for another priority of the partner.", "RX-12a", "priority"),
         ("NewSystem", "Does not select anew for another system of the partner.", "RX-12b MX-01", "system"),
@@ -517,7 +411,7 @@ ROWS += [
         ("NewPort", "Does not select anew for another port number of the partner.", "RX-12e", "port"),
         ("NewAggregation", "Does not select anew for another Aggregation of the partner.", "RX-12f", "aggregation"),
     ),
-    *faults(
+    *devices(
         Hears, "heard",
         ("AnyNaming", "Takes each partner as though it named the device.", "RX-07a RX-07b RX-07c RX-07d RX-07e RX-07g RX-08 RX-11",
          lambda self, port, frame: put(frame, 24, self.own(port))),
@@ -532,7 +426,7 @@ ROWS += [
         ("NamedToTheBit", "A partner has to tell its state to the bit.", "RX-19",
          lambda self, port, frame: set_bits(frame, 18, SYNC, False) if (frame[52] ^ self.own(port)[14]) & 0x3A else frame),
     ),
-    *faults(
+    *devices(
         Drops, "drops",
         ("PassiveRefused", "Takes no LACPDU of a passive partner.", "RX-10", lambda self, port, frame: not frame[32] & 1),
     ),

@@ -1,24 +1,20 @@
 """Devices with one fault each, and the tests that have to find it: frames of other shapes, markers, storms, and two links.
 
-A fault that other tests name, or that takes more than an expression, is a class. The others are rows of `ROWS`.
+A fault that takes more than an expression is a class. The others are rows: of `ROWS`, or with a name here if other tests name them.
 """
 
 from __future__ import annotations
 
 from typing import Iterable, Iterator, Optional
 
-from conform_device import OWN, SLOW, Device, Drops, faults, is_lacpdu, part, put
+from conform_device import OWN, SLOW, Device, Drops, Hears, HearsAndSays, LooksSeldom, devices, is_lacpdu, part, put
 from conform_faults import set_bits
 from niwhopera import ReceiveState, State
 
 
-class VersionChecked(Drops):
-    """Takes version 1 alone."""
-
-    finds = "VN-02 VN-03 VN-04 VN-05 VN-10"
-
-    def drops(self, port: int, frame: bytes) -> bool:
-        return frame[15] != 1
+(VersionChecked,) = devices(
+    Drops, "drops", ("VersionChecked", "Takes version 1 alone.", "VN-02 VN-03 VN-04 VN-05 VN-10", lambda self, port, frame: frame[15] != 1)
+)
 
 
 class Upset(Device):
@@ -52,46 +48,19 @@ class WornOut(Device):
     finds = "RB-05"
     worn = False
 
-    def __init__(self) -> None:
-        super().__init__()
-        self.partners: dict[bytes, float] = {}
-
     def hears(self, port: int, frame: bytes) -> Iterable[bytes]:
         if is_lacpdu(frame):
-            self.partners = {it: when for it, when in self.partners.items() if self.now - when < 10}
-            self.partners[part(frame, 4, 8)] = self.now
-            if len(self.partners) > 50:
+            self.kept = {it: when for it, when in self.kept.items() if self.now - when < 10}
+            self.kept[part(frame, 4, 8)] = self.now
+            if len(self.kept) > 50:
                 self.worn = True
         if not self.worn:
             yield frame
 
 
-class SubtypeUnchecked(Device):
-    """Takes each slow protocol for LACP."""
-
-    finds = "VN-14 VN-15 VN-16 RB-03"
-
-    def hears(self, port: int, frame: bytes) -> Iterable[bytes]:
-        yield put(frame, 0, b"\1") if frame[12:14] == SLOW and len(frame) > 14 and frame[14] != 2 else frame
-
-
-class TypeUnchecked(Device):
-    """Does not look at the EtherType."""
-
-    finds = "VN-17 VN-18 RB-02"
-
-    def hears(self, port: int, frame: bytes) -> Iterable[bytes]:
-        yield frame[:12] + SLOW + frame[14:]
-
-
-class PadsShort(Device):
-    """Reads a frame that is cut off as though zeros stood behind it."""
-
-    finds = "VN-22 RB-01 RB-04"
-
-    def hears(self, port: int, frame: bytes) -> Iterable[bytes]:
-        whole = put(put(put(frame.ljust(124, b"\0"), 3, b"\x14"), 23, b"\x14"), 43, b"\x10")
-        yield whole if frame[12:15] == SLOW + b"\1" and len(frame) < 124 else frame
+def padded(frame: bytes) -> bytes:
+    """A frame that is cut off, as though zeros stood behind it but for the lengths of TLVs."""
+    return put(put(put(frame.ljust(124, b"\0"), 3, b"\x14"), 23, b"\x14"), 43, b"\x10")
 
 
 # Markers.
@@ -110,22 +79,12 @@ class Responds(Device):
             yield port, given
 
 
-class NoMarkers(Responds):
-    """Answers no marker."""
-
-    finds = "MK-01 EN-03"
-
-    def says_back(self, marker: bytes, response: bytes) -> Optional[bytes]:
-        return None
-
-
-class OtherId(Responds):
-    """Answers with another identifier."""
-
-    finds = "MK-01 MK-02 MK-05 MK-06 MK-09 MK-10 MK-11 EN-03"
-
-    def says_back(self, marker: bytes, response: bytes) -> Optional[bytes]:
-        return put(response, 15, bytes([response[29] ^ 1]))
+NoMarkers, OtherId = devices(
+    Responds, "says_back",
+    ("NoMarkers", "Answers no marker.", "MK-01 EN-03", lambda self, marker, response: None),
+    ("OtherId", "Answers with another identifier.", "MK-01 MK-02 MK-05 MK-06 MK-09 MK-10 MK-11 EN-03",
+     lambda self, marker, response: put(response, 15, bytes([response[29] ^ 1]))),
+)  # fmt: skip
 
 
 class ThirdId(Responds):
@@ -165,25 +124,6 @@ class AnswersMore(Device):
             self.send(port, frame[:6] + bytes([2, 0, 0, 0, 0xBB, port]) + SLOW + payload)
 
 
-class MarkersWhenCollecting(Device):
-    """Answers on ports that collect alone."""
-
-    finds = "MK-10"
-
-    def responds(self, port: int, marker: bytes, response: bytes) -> Iterator[tuple[int, bytes]]:
-        if self.is_on(port, State.COLLECTING):
-            yield port, response
-
-
-class StrayResponses(Device):
-    """Answers on the other link, where it carries."""
-
-    finds = "MK-11"
-
-    def responds(self, port: int, marker: bytes, response: bytes) -> Iterator[tuple[int, bytes]]:
-        yield (3 - port if self.is_on(2, State.COLLECTING) and port == 1 else port), response
-
-
 class KeptByMarkers(Device):
     """A marker keeps the partner current."""
 
@@ -193,40 +133,21 @@ class KeptByMarkers(Device):
         """Whether a frame is taken for a sign of life."""
         return frame[12:15] == SLOW + b"\2"
 
-    def __init__(self) -> None:
-        super().__init__()
-        self.last: dict[int, bytes] = {}
-
     def hears(self, port: int, frame: bytes) -> Iterable[bytes]:
         if is_lacpdu(frame):
-            self.last[port] = frame
+            self.kept[port] = frame
         yield frame
-        if self.keeps(frame) and port in self.last and self.on.receive_state(port) is ReceiveState.CURRENT:
-            yield self.last[port]
+        if self.keeps(frame) and port in self.kept and self.on.receive_state(port) is ReceiveState.CURRENT:
+            yield self.kept[port]
 
 
-class KeptByRunts(KeptByMarkers):
-    """Any frame but LACPDUs and markers keeps the partner current."""
-
-    finds = "RX-18"
-
-    def keeps(self, frame: bytes) -> bool:
-        return not is_lacpdu(frame) and frame[12:15] != SLOW + b"\2"
-
-
-class LateUnderData(Device):
+class LateUnderData(LooksSeldom):
     """Answers up to a second late while data goes out."""
 
-    finds = "TX-08"
-    looked = 0.0
+    finds, pause = "TX-08", 0.95
 
     def may_send(self) -> bool:
-        if not self.sends_data:
-            return True
-        if self.now - self.looked < 0.95:
-            return False
-        self.looked = self.now
-        return True
+        return not self.sends_data or super().may_send()
 
 
 # Two links, and the engine.
@@ -243,16 +164,10 @@ class OneAggregator(Device):
         return ports[frame[11] % len(ports)] if ports else None
 
 
-class AllAggregators(OneAggregator):
-    """Its client uses each of three links that distributes, whatever the aggregator."""
-
-    finds, used = "SL-15", 3
-
-
 class LinkDrops(Device):
     """A link begins anew some seconds after so many links carry."""
 
-    wanted, seconds, dropped = 2, 3, 2
+    wanted = seconds = dropped = 0
     since = 0.0
 
     def ticked(self) -> None:
@@ -260,24 +175,6 @@ class LinkDrops(Device):
             self.since = self.now
         elif self.now - self.since > self.seconds:
             self.restart(self.dropped)
-
-
-class SecondLinkDrops(LinkDrops):
-    """Drops the second link three seconds after it carries."""
-
-    finds = "SL-01 EN-02"
-
-
-class ThirdLinkDrops(LinkDrops):
-    """Drops the third link three seconds after all carry."""
-
-    finds, wanted, dropped = "SL-14 EN-04", 3, 3
-
-
-class Restless(LinkDrops):
-    """Begins anew each four seconds."""
-
-    finds, wanted, seconds, dropped = "EN-01 RX-04", 1, 4, 1
 
 
 class SendsTwice(Device):
@@ -297,17 +194,17 @@ class KeepsBack(Device):
 
     def __init__(self) -> None:
         super().__init__()
-        self.kept: list[tuple[float, bytes]] = []
+        self.late: list[tuple[float, bytes]] = []
 
     def put_data(self, port: int, frame: bytes) -> None:
         if port == 2:
-            self.kept.append((self.now, frame))
+            self.late.append((self.now, frame))
         else:
             self.send(port, frame)
 
     def ticked(self) -> None:
-        while self.kept and self.now - self.kept[0][0] > 0.25:
-            self.send(2, self.kept.pop(0)[1])
+        while self.late and self.now - self.late[0][0] > 0.25:
+            self.send(2, self.late.pop(0)[1])
 
 
 class AllLeave(Device):
@@ -323,47 +220,17 @@ class AllLeave(Device):
                 self.restart(1)
 
 
-class OnePortNumber(Device):
-    """Has one port number on both links."""
-
-    finds = "SL-02"
-
-    def hears(self, port: int, frame: bytes) -> Iterable[bytes]:
-        yield put(frame, 36, b"\0\2") if is_lacpdu(frame) and port == 2 and part(frame, 36, 2) == b"\0\1" else frame
-
-    def says(self, port: int, frame: bytes) -> Iterable[bytes]:
-        yield put(frame, 16, b"\0\1")
-
-
 class BothLeave(Device):
     """A key that changes on one link takes the other one out."""
 
     finds = "SL-07 SL-12"
 
-    def __init__(self) -> None:
-        super().__init__()
-        self.partners: dict[int, bytes] = {}
-
     def took(self, port: int, frame: bytes) -> None:
         if not is_lacpdu(frame):
             return
-        old, self.partners[port] = self.partners.get(port), part(frame, 6, 8)
-        if old and old != self.partners[port]:
+        old, self.kept[port] = self.kept.get(port), part(frame, 6, 8)
+        if old and old != self.kept[port]:
             self.restart(3 - port)
-
-
-class CarriesForItself(Device):
-    """Takes itself for another system."""
-
-    finds = "SL-10 SL-11"
-    STRANGER = b"\2\xee\0\0\0\1"
-
-    def hears(self, port: int, frame: bytes) -> Iterable[bytes]:
-        own = is_lacpdu(frame) and part(frame, 6, 6) == OWN.mac
-        yield put(frame, 6, self.STRANGER) if own else frame
-
-    def says(self, port: int, frame: bytes) -> Iterable[bytes]:
-        yield put(frame, 26, OWN.mac) if part(frame, 26, 6) == self.STRANGER else frame
 
 
 class BadLengths(Device):
@@ -377,18 +244,51 @@ class BadLengths(Device):
         yield put(frame, 43, b"\x0f") if self.count % 2 == 0 else frame
 
 
-class ForgetsNaming(Device):
-    """Takes a partner that names nobody for one that names it."""
-
-    finds = "RX-08"
-
-    def hears(self, port: int, frame: bytes) -> Iterable[bytes]:
-        nobody = is_lacpdu(frame) and not any(part(frame, 24, 14))
-        yield set_bits(put(frame, 24, self.own(port)), 38, 4, True) if nobody else frame
-
-
+# What a device that takes itself for another system calls it.
+STRANGER = b"\2\xee\0\0\0\1"
 ROWS = [
-    *faults(
+    *devices(
+        Hears, "heard",
+        ("ForgetsNaming", "Takes a partner that names nobody for one that names it.", "RX-08",
+         lambda self, port, frame: frame if any(part(frame, 24, 14)) else set_bits(put(frame, 24, self.own(port)), 38, 4, True)),
+    ),
+    *devices(
+        Device, "hears",
+        ("SubtypeUnchecked", "Takes each slow protocol for LACP.", "VN-14 VN-15 VN-16 RB-03",
+         lambda self, port, frame: [put(frame, 0, b"\1") if frame[12:14] == SLOW and len(frame) > 14 and frame[14] != 2 else frame]),
+        ("PadsShort", "Reads a frame that is cut off as though zeros stood behind it.", "VN-22 RB-01 RB-04",
+         lambda self, port, frame: [padded(frame) if frame[12:15] == SLOW + b"\1" and len(frame) < 124 else frame]),
+        ("TypeUnchecked", "Does not look at the EtherType.", "VN-17 VN-18 RB-02", lambda self, port, frame: [frame[:12] + SLOW + frame[14:]]),
+    ),
+    *devices(
+        HearsAndSays, "heard said",
+        ("OnePortNumber", "Has one port number on both links.", "SL-02",
+         lambda self, port, frame: put(frame, 36, b"\0\2") if port == 2 and part(frame, 36, 2) == b"\0\1" else frame,
+         lambda self, port, frame: put(frame, 16, b"\0\1")),
+        ("CarriesForItself", "Takes itself for another system.", "SL-10 SL-11",
+         lambda self, port, frame: put(frame, 6, STRANGER) if part(frame, 6, 6) == OWN.mac else frame,
+         lambda self, port, frame: put(frame, 26, OWN.mac) if part(frame, 26, 6) == STRANGER else frame),
+    ),
+    *devices(
+        Device, "responds",
+        ("MarkersWhenCollecting", "Answers on ports that collect alone.", "MK-10",
+         lambda self, port, marker, response: [(port, response)] if self.is_on(port, State.COLLECTING) else []),
+        ("StrayResponses", "Answers on the other link, where it carries.", "MK-11",
+         lambda self, port, marker, response: [(3 - port if self.is_on(2, State.COLLECTING) and port == 1 else port, response)]),
+    ),
+    *devices(
+        KeptByMarkers, "keeps",
+        ("KeptByRunts", "Any frame but LACPDUs and markers keeps the partner current.", "RX-18",
+         lambda self, frame: not is_lacpdu(frame) and frame[12:15] != SLOW + b"\2"),
+    ),
+    *devices(OneAggregator, "used", ("AllAggregators", "Its client uses each of three links that distributes, whatever the aggregator.", "SL-15", 3)),
+    *devices(
+        LinkDrops, "wanted seconds dropped",
+        ("SecondLinkDrops", "Drops the second link three seconds after it carries.", "SL-01 EN-02", 2, 3, 2),
+        ("ThirdLinkDrops", "Drops the third link three seconds after all carry.", "SL-14 EN-04", 3, 3, 3),
+        ("Restless", "Begins anew each four seconds.", "EN-01 RX-04", 1, 4, 1),
+    ),
+    *devices(
         Drops, "drops",
         ("CollectingOnly", "Takes no LACPDU of a partner that stops collecting.", "VN-01",
          lambda self, port, frame: self.is_on(port, State.COLLECTING) and frame[32] & 0x18 == 8),
@@ -398,7 +298,7 @@ ROWS = [
         ("ReservedChecked", "Looks at reserved octets.", "VN-06", lambda self, port, frame: any(part(frame, 60, 50)) or any(part(frame, 46, 12))),
         ("LongerDropped", "Takes LACPDUs of 110 octets alone.", "VN-10", lambda self, port, frame: len(frame) > 124),
     ),
-    *faults(
+    *devices(
         Upset, "upsets",
         ("UpsetByLengths", "A wrong length of a TLV takes the link down.", "VN-11 VN-12 VN-13",
          lambda self, frame: is_lacpdu(frame) and (frame[17], frame[37], frame[57]) != (20, 20, 16)),
@@ -414,14 +314,14 @@ ROWS = [
         ("UpsetBySource", "An LACPDU from a group address takes the link down.", "RB-07", lambda self, frame: bool(frame[6] & 1)),
         ("UpsetByLongFrame", "A frame of more than 1500 octets takes the link down.", "RB-08", lambda self, frame: len(frame) > 1500),
     ),
-    *faults(
+    *devices(
         Responds, "says_back",
         ("OtherSystem", "Answers with another system.", "MK-01 MK-02", lambda self, marker, response: put(response, 6, OWN.mac)),
         ("OtherSource", "Answers from another address.", "MK-03", lambda self, marker, response: response[:6] + b"\2\0\0\0\0\1" + response[12:]),
         ("MarkerVersion", "Answers markers of version 1 alone.", "MK-04", lambda self, marker, response: response if marker[15] == 1 else None),
         ("LongResponse", "Sends back all octets of a marker.", "MK-13", lambda self, marker, response: response + marker[124:]),
     ),
-    *faults(
+    *devices(
         AnswersMore, "answers",
         ("AnswersResponses", "Answers responses.", "MK-07", lambda self, frame: frame[14:] if frame[15:17] == b"\1\2" and len(frame) >= 124 else b""),
         ("AnswersUnknown", "Answers Marker PDUs of each TLV type.", "MK-08",
@@ -429,5 +329,5 @@ ROWS = [
         ("AnswersShort", "Sends markers back that are cut off.", "MK-09 IV-03",
          lambda self, frame: put(frame, 2, b"\2")[14:] + bytes(1) if frame[15:17] == b"\1\1" and len(frame) < 124 else b""),
     ),
-    *faults(Device, "most_responses", ("ManyResponses", "Answers each marker, however many come.", "MK-06", 10**9)),
+    *devices(Device, "most_responses", ("ManyResponses", "Answers each marker, however many come.", "MK-06", 10**9)),
 ]  # fmt: skip

@@ -1,13 +1,13 @@
 """Devices with one fault each, and the tests that have to find it: the periodic, mux and transmit machines of a link.
 
-A fault that other tests name, or that takes more than an expression, is a class. The others are rows of `ROWS`.
+A fault that takes more than an expression is a class. The others are rows: of `ROWS`, or with a name here if other tests name them.
 """
 
 from __future__ import annotations
 
 from typing import Iterable, Optional
 
-from conform_device import SLOW, Device, Drops, Hears, Says, faults, is_lacpdu, part, put
+from conform_device import SLOW, Device, Drops, Hears, LooksSeldom, Says, devices, is_lacpdu, part, put
 from conform_faults import AGGREGATION, SYNC, set_bits
 from niwhopera import MuxState, State
 
@@ -36,30 +36,10 @@ class DisabledByChurn(Drops):
         return self.now < self.out.get(port, 0)
 
 
-class DisabledByLongChurn(DisabledByChurn):
-    """A partner that is out of sync for 60 s takes the port out: what churn detection finds."""
-
-    finds, long, most = "MX-10", True, 60
-
-
-class AnswersOtherBits(Hears):
-    """Answers an LACPDU that tells any bit of its state otherwise."""
-
-    finds = "TX-07"
-
-    def heard(self, port: int, frame: bytes) -> bytes:
-        other = frame[52] ^ self.own(port)[14]
-        return put(frame, 38, bytes([frame[52] ^ 2])) if other and not other & 0x0F else frame
-
-
 class OneASecond(Device):
     """Sends one LACPDU a second at most."""
 
-    finds = "TX-09"
-
-    def __init__(self) -> None:
-        super().__init__()
-        self.sent = -9.0
+    finds, sent = "TX-09", -9.0
 
     def may_send(self) -> bool:
         if self.now - self.sent < 0.95:
@@ -88,15 +68,11 @@ class QuietInExpired(Device):
 
     finds = "PT-05"
 
-    def __init__(self) -> None:
-        super().__init__()
-        self.told = {1: False, 2: False}
-
     def says(self, port: int, frame: bytes) -> Iterable[bytes]:
         expired = bool(frame[32] & 0x80)
-        if not (expired and self.told[port]):
+        if not (expired and self.kept.get(port)):
             yield frame
-        self.told[port] = expired
+        self.kept[port] = expired
 
 
 class QuietToPassive(Device):
@@ -104,12 +80,8 @@ class QuietToPassive(Device):
 
     finds = "PT-06"
 
-    def __init__(self) -> None:
-        super().__init__()
-        self.last: dict[int, bytes] = {}
-
     def says(self, port: int, frame: bytes) -> Iterable[bytes]:
-        told, self.last[port] = self.last.get(port), frame[:54]
+        told, self.kept[port] = self.kept.get(port), frame[:54]
         if frame[52] & 1 or told != frame[:54]:
             yield frame
 
@@ -119,12 +91,8 @@ class TellsOldBits(Device):
 
     finds = "MX-05"
 
-    def __init__(self) -> None:
-        super().__init__()
-        self.last: dict[int, int] = {}
-
     def says(self, port: int, frame: bytes) -> Iterable[bytes]:
-        last, self.last[port] = self.last.get(port, 0), frame[32]
+        last, self.kept[port] = self.kept.get(port, 0), frame[32]
         yield put(frame, 18, bytes([last])) if last & SYNC and not frame[32] & SYNC else frame
 
 
@@ -133,14 +101,10 @@ class LateBits(Device):
 
     finds = "MX-03 MX-07 IV-02"
 
-    def __init__(self) -> None:
-        super().__init__()
-        self.since: dict[int, float] = {}
-
     def says(self, port: int, frame: bytes) -> Iterable[bytes]:
         if frame[32] & CARRIES:
-            self.since[port] = self.now
-        late = self.now - self.since.get(port, -9) < 1.05
+            self.kept[port] = self.now
+        late = self.now - self.kept.get(port, -9) < 1.05
         yield set_bits(frame, 18, CARRIES | SYNC, True) if late else frame
 
 
@@ -188,19 +152,6 @@ class NoNtt(Device):
         return True
 
 
-class LooksOnceASecond(Device):
-    """Sends what is due once a second."""
-
-    finds = "TX-02b TX-02e TX-03b"
-    looked = 0.0
-
-    def may_send(self) -> bool:
-        if self.now - self.looked < 0.99:
-            return False
-        self.looked = self.now
-        return True
-
-
 class ToldWithThePeriod(Device):
     """Tells with its next periodic LACPDU alone that it has detached."""
 
@@ -229,16 +180,11 @@ class ToldWithThePeriod(Device):
 class Stale(Device):
     """What waits behind three LACPDUs is told three seconds long as it was when it began to wait."""
 
-    finds = "TX-05"
-
-    def __init__(self) -> None:
-        super().__init__()
-        self.times: list[float] = []
-        self.old, self.until = b"", 0.0
+    finds, old, until = "TX-05", b"", 0.0
 
     def says(self, port: int, frame: bytes) -> Iterable[bytes]:
-        self.times = [it for it in self.times if self.now - it < 1.2] + [self.now]
-        if len(self.times) == 4 and self.now >= self.until:
+        times = self.kept[0] = [*(it for it in self.kept.get(0, []) if self.now - it < 1.2), self.now]
+        if len(times) == 4 and self.now >= self.until:
             self.until = self.now + 3
         if self.now >= self.until or port != 1:
             self.old = frame
@@ -250,14 +196,10 @@ class ThrowsAway(Device):
 
     finds = "TX-10"
 
-    def __init__(self) -> None:
-        super().__init__()
-        self.sent: dict[int, list[float]] = {}
-
     def says(self, port: int, frame: bytes) -> Iterable[bytes]:
-        self.sent[port] = [it for it in self.sent.get(port, []) if self.now - it < 1.25]
-        if len(self.sent[port]) < 3:
-            self.sent[port].append(self.now)
+        sent = self.kept[port] = [it for it in self.kept.get(port, []) if self.now - it < 1.25]
+        if len(sent) < 3:
+            sent.append(self.now)
             yield frame
 
 
@@ -266,42 +208,34 @@ class SharedLimit(Device):
 
     finds = "TX-11"
 
-    def __init__(self) -> None:
-        super().__init__()
-        self.sent: list[float] = []
-
     def send_due(self) -> None:
-        self.sent = [it for it in self.sent if self.now - it < 1]
+        times = self.kept[0] = [it for it in self.kept.get(0, []) if self.now - it < 1]
         for port in self.on.due():
-            if len(self.sent) < 3 and (sent := self.on.transmit(port)):
-                self.sent.append(self.now)
+            if len(times) < 3 and (sent := self.on.transmit(port)):
+                times.append(self.now)
                 self.send(port, sent.frame)
 
 
-class SilentOnDefaults(Device):
-    """Says nothing where it has no partner."""
-
-    finds, long = "PT-08", True
-
-    def says(self, port: int, frame: bytes) -> Iterable[bytes]:
-        if not frame[32] & 0x40:
-            yield frame
-
-
-class SlowPeriod(Device):
-    """Its clock is a twentieth slow."""
-
-    finds, tick_seconds, long = "PT-07", 0.105, True
-
-
 ROWS = [
-    *faults(
+    *devices(
+        DisabledByChurn, "most long",
+        ("DisabledByLongChurn", "A partner that is out of sync for 60 s takes the port out: what churn detection finds.", "MX-10", 60, True),
+    ),
+    *devices(LooksSeldom, "pause", ("LooksOnceASecond", "Sends what is due once a second.", "TX-02b TX-02e TX-03b", 0.99)),
+    *devices(
         Device, "tick_seconds",
         ("SlowClock", "Its clock is slow: a second has 1.45 s.", "PT-01 RX-02", 0.145),
         ("FastClock", "Its clock is fast.", "PT-01 MX-01 RX-02", 0.055),
     ),
-    *faults(
+    *devices(Device, "tick_seconds long", ("SlowPeriod", "Its clock is a twentieth slow.", "PT-07", 0.105, True)),
+    *devices(
+        Device, "says long",
+        ("SilentOnDefaults", "Says nothing where it has no partner.", "PT-08", lambda self, port, frame: [] if frame[32] & 0x40 else [frame], True),
+    ),
+    *devices(
         Hears, "heard",
+        ("AnswersOtherBits", "Answers an LACPDU that tells any bit of its state otherwise.", "TX-07",
+         lambda self, port, frame: set_bits(frame, 38, 2, not frame[52] & 2) if (frame[52] ^ self.own(port)[14]) in range(16, 256, 16) else frame),
         ("AlwaysShort", "Sends each second, whatever the partner asks for.", "PT-02 PT-04 TX-04", lambda self, port, frame: set_bits(frame, 18, 2, True)),
         ("AlwaysLong", "Sends each 30 s, whatever the partner asks for.", "PT-01 PT-03 PT-06", lambda self, port, frame: set_bits(frame, 18, 2, False)),
         ("CollectsAsPartner", "Takes a partner that does not collect for one out of sync.", "MX-02 MX-04",
@@ -311,7 +245,7 @@ ROWS = [
         ("OwnSyncUnchecked", "Does not look at its Synchronization as the partner tells it.", "TX-03c",
          lambda self, port, frame: set_bits(frame, 38, SYNC, self.is_on(port, State.SYNCHRONIZATION))),
     ),
-    *faults(
+    *devices(
         Says, "said",
         ("AggregatesAlways", "Tells a partner that is individual as aggregatable.", "MX-08",
          lambda self, port, frame: set_bits(frame, 38, AGGREGATION, True) if any(part(frame, 26, 6)) else frame),

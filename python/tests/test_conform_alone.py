@@ -5,43 +5,33 @@ from __future__ import annotations
 import inspect
 import json
 import re
-import sys
 from pathlib import Path
 from xml.etree import ElementTree
-from typing import Iterator, Optional, Sequence, Type
+from typing import Any, Optional, Sequence, Type
 
 import pytest
-from conform_device import Device, World, put
+from conform_device import BY_NAME, Device, World, beside, put
+from conform_device import play as play_in
 from conform_faults import KeyUnchecked, NeverBack, SecondPartnerKey, StartsTooLate, WrongEcho
 from conform_frames import Responds
 from test_conform_kinds import Bridge, JoinsKeys
 from test_conform_right import NoIndividual
 
 from lagconform import causes, command, listing, options, pics
-from lagconform.bench import BASE, Bench
+from lagconform.bench import Bench
 from lagconform.edition import edition
 from lagconform.groups import GROUPS, TESTS
 from lagconform.model import ERROR, FAIL, INCONCLUSIVE, PASS, SKIPPED, SPARE, WHOLE_RUN, Group, Result
 from lagconform.model import Test as Case
-from lagconform.runner import meet, ordered, run_all
+from lagconform.runner import meet
 from niwhopera import Mac
 
-BY_NAME = {it.id: it for it in TESTS}
 PAGE = Path(__file__).parents[2] / "docs" / "CONFORM.md"
 
 
-def play(kind: Type[Device], tests: Sequence[Case], base: Mac = BASE) -> list[Result]:
+def play(kind: Type[Device], tests: Sequence[Case], **how: Any) -> list[Result]:
     """Runs tests beside a device with three links and a hook."""
-    device = kind()
-    world = World(device, 3)
-    b, results = Bench(world, world, base=base), list[Result]()
-    try:
-        meet(b)
-        run_all(b, ordered(tests), results.append)
-        return results
-    finally:
-        b.close()
-        device.stop()
+    return play_in(World(kind(), 3), tests, **how)
 
 
 @pytest.fixture(scope="module")
@@ -90,21 +80,6 @@ class IdBefore(Responds):
 def test_a_wrong_answer_is_not_told_as_none() -> None:
     told = play(IdBefore, [BY_NAME["MK-11"]])[0]
     assert (told.verdict, told.why) == (SKIPPED, "no marker is answered rightly on link 2 (MK-01)")
-
-
-@pytest.fixture
-def run(monkeypatch: pytest.MonkeyPatch, tmp_path: Path) -> Iterator[object]:
-    """Runs the command beside a stack in a file; its status."""
-    kept, groups = list(TESTS), list(GROUPS)
-    monkeypatch.setattr(sys, "path", list(sys.path))
-
-    def begin(kind: Type[Device], *words: str) -> int:
-        (tmp_path / "device.py").write_text(f"from {kind.__module__} import {kind.__name__} as Device\n")
-        monkeypatch.chdir(tmp_path)
-        return command.main(["--memory", "device.py", *words])
-
-    yield begin
-    TESTS[:], GROUPS[:] = kept, groups
 
 
 def test_a_run_that_is_resumed_comes_to_what_a_whole_one_does(run, whole: dict[str, str], tmp_path: Path) -> None:  # type: ignore[no-untyped-def]
@@ -206,13 +181,10 @@ def test_a_resumed_run_has_the_seed_of_the_first_and_tests_of_one_edition(run, t
 
 def test_the_systems_of_a_bench_are_those_that_it_was_given(run, capsys: pytest.CaptureFixture[str]) -> None:  # type: ignore[no-untyped-def]
     base = Mac("06d100000003")
-    assert [it.verdict for it in play(Device, [BY_NAME["SL-02"], BY_NAME["IV-04"]], base)] == [PASS, PASS]
-    device = Device()
-    b = Bench(World(device, 1), base=base)
-    meet(b)
-    assert str(b.device().partner.system.mac) == "06-d1-00-00-01-03" and b.is_ours(b.new_mac())
-    b.close()
-    device.stop()
+    assert [it.verdict for it in play(Device, [BY_NAME["SL-02"], BY_NAME["IV-04"]], base=base)] == [PASS, PASS]
+    with beside(World(Device(), 1), base=base) as b:
+        meet(b)
+        assert str(b.device().partner.system.mac) == "06-d1-00-00-01-03" and b.is_ours(b.new_mac())
     reasons = {"03:d1:00:00:00:01": "is a multicast address", "06-d1-00-01-00-01": "counts its systems in octets 3 to 5", "lag0": "an address, as 02-cf"}
     for text, why in reasons.items():
         with pytest.raises(SystemExit) as ended:

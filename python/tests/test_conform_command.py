@@ -10,14 +10,13 @@ import signal
 import struct
 import subprocess
 import sys
-import time
 import xml.etree.ElementTree as xml
 from dataclasses import replace
 from pathlib import Path
 from typing import Any, Iterator, Sequence, Type
 
 import pytest
-from conform_device import Device, Individual, LongTimeouts, WaitsThree, World, beside
+from conform_device import BY_NAME, LAST, Device, Individual, LongTimeouts, NoData, Waits, WaitsThree, World, beside
 from conform_faults import CutOff, KeyUnchecked, NoWait, SystemUnchecked
 from conform_frames import NoMarkers
 from niwhopera import __version__
@@ -25,15 +24,9 @@ from niwhopera import __version__
 from lagconform import causes, command, files, known, listing, options, page, pics, refusals, report
 from lagconform.bench import Bench, most_within
 from lagconform.groups import GROUPS, TESTS
-from lagconform.memory import Done
-from lagconform.model import CAVEAT, DEVICES, ERROR, FAIL, INCONCLUSIVE, LONG, MEMORY, NOT_APPLICABLE, PASS, PROFILE, SKIPPED, Claim, Result
-from lagconform.runner import NoDevice, judge, meet, run_one
+from lagconform.model import CAVEAT, DEVICES, ERROR, FAIL, INCONCLUSIVE, LONG, MEMORY, NOT_APPLICABLE, PASS, PROFILE, SKIPPED, Result
+from lagconform.runner import NoDevice, meet, run_one
 from lagconform.shadow import compare
-from lagconform.sockets import Command
-
-BY_NAME = {it.id: it for it in TESTS}
-# What stands behind the counts in the last line.
-LAST = f". {CAVEAT}\n"
 
 
 @pytest.fixture
@@ -240,15 +233,9 @@ def test_a_report_that_can_not_be_written_is_refused_before_the_run(run, path: s
 
 
 def test_a_run_without_an_answer_is_no_success(run, capsys: pytest.CaptureFixture[str]) -> None:  # type: ignore[no-untyped-def]
-    for strict in (), ("--strict",):
-        assert run(Device, "--only", "RX-14", *strict) == 2  # it asks for short timeouts
-        assert "no test came to pass or fail" in capsys.readouterr().err
-
-
-def test_a_strict_run_without_an_answer_has_the_same_status(run, tmp_path: Path, capsys: pytest.CaptureFixture[str]) -> None:  # type: ignore[no-untyped-def]
-    """Whatever its tests came to: with one that has an answer, --strict makes it 1."""
-    for only, status in (["--only", "SL-06"], 2), (["--only", "SL-06", "--only", "FM-01"], 1):
-        assert run(NoData, *only, "--strict") == status
+    """Whatever its tests came to, also with --strict; with one that has an answer, that makes it 1. RX-14 wants a device of long timeouts."""
+    for words, status in ("--only RX-14", 2), ("--only RX-14 --strict", 2), ("--only SL-06 --strict", 2), ("--only SL-06 --only FM-01 --strict", 1):
+        assert run(NoData, *words.split()) == status
         assert ("no test came to pass or fail" in capsys.readouterr().err) == (status == 2)
 
 
@@ -430,35 +417,13 @@ def test_a_fault_of_the_bench_before_the_first_test_is_no_fail(tmp_path: Path, m
     assert json.loads((tmp_path / "r.json").read_text())["about"]["incomplete"] == told and "in stand" in capsys.readouterr().err
 
 
-class NoData(Device):
-    """Its client sends nothing."""
-
-    def data(self, on: bool) -> None:
-        raise NotImplementedError
-
-
-class Waits:
-    """A hook whose command has ended where it is asked."""
-
-    def __init__(self, line: str) -> None:
-        self.line = line
-
-    def call(self, words: Sequence[str]) -> Done:
-        doing, limit = Command(self.line).call(words), time.monotonic() + 20
-        while (answer := doing.answer()) is None:
-            assert time.monotonic() < limit
-            time.sleep(0.01)
-        return Done(answer)
-
-
 @pytest.mark.parametrize("line, why", [("/none/hook", "does not find it"), ("{}/data", "may not run it")])
 def test_a_hook_that_can_not_be_run_is_refused_by_name(line: str, why: str, tmp_path: Path) -> None:
     (tmp_path / "data").write_text("no program")
     line = line.format(tmp_path)
-    b = Bench(World(Device()), Waits(line))
-    with pytest.raises(refusals.Refused, match=f"^--hook {re.escape(line)}: the shell {why}: .*{re.escape(line)}"):
+    told = f"^--hook {re.escape(line)}: the shell {why}: .*{re.escape(line)}"
+    with beside(World(Device()), Waits(line)) as b, pytest.raises(refusals.Refused, match=told):
         command.prepare_device(argparse.Namespace(hook=line, set=[]), b)
-    b.close()
 
 
 FREE = refusals.Interface(True, True, True, "", "master")
@@ -504,18 +469,10 @@ def test_each_cause_is_a_test() -> None:
     assert {name for it in TESTS for name in it.causes} <= set(BY_NAME)
 
 
-def test_a_busy_machine_gives_no_fail() -> None:
-    with beside(World(Device())) as b:
-        found = Result(BY_NAME["FM-01"], claims=[Claim(False, "it was seen", ())])
-        b.late = 0.3
-        judge(b, found)
-        assert found.verdict == INCONCLUSIVE and "too busy" in found.why
-
-
-def test_a_test_without_its_hook_is_skipped() -> None:
+def test_a_test_without_its_hook_is_skipped_and_leaves_nothing_for_the_shadow() -> None:
     with beside(World(Device())) as b:
         meet(b)
-        assert run_one(b, BY_NAME["RX-15"]).verdict == SKIPPED
+        assert run_one(b, BY_NAME["RX-15"]).verdict == SKIPPED and not b.events
         assert run_one(b, BY_NAME["RX-14"]).verdict == NOT_APPLICABLE
 
 
@@ -598,11 +555,6 @@ def test_the_shadow_says_what_it_can_not_see() -> None:
 def test_most_within() -> None:
     assert most_within([], 1) == 0
     assert most_within([0, 0.4, 0.9, 1.0, 1.3], 1) == 4
-
-
-def test_the_module_runs_by_its_name() -> None:
-    folder = os.path.dirname(os.path.dirname(os.path.abspath(command.__file__)))
-    assert os.path.exists(os.path.join(folder, "lagconform", "__main__.py"))
 
 
 def page_of(name: str) -> str:

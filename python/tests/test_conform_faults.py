@@ -12,7 +12,7 @@ import conform_faults
 import conform_frames
 import conform_machines
 import pytest
-from conform_device import Device, LongTimeouts, World, play
+from conform_device import BY_NAME, Device, LongTimeouts, World, play
 
 from lagconform.groups import TESTS
 from lagconform.model import FAIL, INCONCLUSIVE, PASS, SURE, Result
@@ -21,12 +21,11 @@ from lagconform.model import Test as Case
 MODULES = conform_faults, conform_machines, conform_frames
 CLASSES = [it for module in MODULES for it in vars(module).values() if isinstance(it, type) and issubclass(it, Device) and it.finds]
 FAULTS: list[Type[Device]] = [*CLASSES, *(it for module in MODULES for it in module.ROWS)]
-BY_NAME = {it.id: it for it in TESTS}
 
 
 def found_by(kind: Type[Device], tests: Sequence[Case], slack: float = 0.15) -> list[Result]:
     """What tests find beside a device of a kind, on as many links as they want."""
-    return play(World(kind(), max(2, *(it.links for it in tests), 2)), tests, slack)
+    return play(World(kind(), max(2, *(it.links for it in tests), 2)), tests, slack=slack)
 
 
 def told(results: Sequence[Result]) -> list[str]:

@@ -5,7 +5,7 @@ from __future__ import annotations
 from typing import Iterable, Sequence, Type
 
 import pytest
-from conform_device import Device, Individual, LongTimeouts, World, is_lacpdu, play, put
+from conform_device import BY_NAME, Device, Individual, LongTimeouts, NoData, Says, World, devices, is_lacpdu, play, put
 from conform_faults import set_bits
 from niwhopera import State
 
@@ -23,46 +23,32 @@ class Passive(Device):
 class SpokenTo(Passive):
     """Is passive, and behind a link that comes up it says nothing before it is spoken to."""
 
-    def __init__(self) -> None:
-        super().__init__()
-        self.heard: dict[int, bool] = {}
-
     def link(self, link: int, up: bool) -> None:
-        self.heard[link] = False
+        self.kept[link] = False
         super().link(link, up)
 
     def hears(self, port: int, frame: bytes) -> Iterable[bytes]:
-        self.heard[port] = True
+        self.kept[port] = True
         yield frame
 
     def says(self, port: int, frame: bytes) -> Iterable[bytes]:
-        if self.heard.get(port, True):
+        if self.kept.get(port, True):
             yield frame
-
-
-class PassiveOfLongTimeouts(Device):
-    """Is passive, and asks for long timeouts."""
-
-    active = short = False
 
 
 class Independent(Device):
     """Has independent control: it distributes when the partner collects, and tells each step."""
 
-    def __init__(self) -> None:
-        super().__init__()
-        self.collecting: dict[int, int] = {}
-
     def hears(self, port: int, frame: bytes) -> Iterable[bytes]:
         if not is_lacpdu(frame):
             yield frame
             return
-        before, self.collecting[port] = self.collecting.get(port, 0), frame[32] & 0x10
-        changed = before != self.collecting[port] and self.is_on(port, State.COLLECTING)
+        before, self.kept[port] = self.kept.get(port, 0), frame[32] & 0x10
+        changed = before != self.kept[port] and self.is_on(port, State.COLLECTING)
         yield put(frame, 38, bytes([frame[52] ^ 2])) if changed else frame  # asks for an LACPDU
 
     def says(self, port: int, frame: bytes) -> Iterable[bytes]:
-        yield frame if self.collecting.get(port) else set_bits(frame, 18, 0x20, False)
+        yield frame if self.kept.get(port) else set_bits(frame, 18, 0x20, False)
 
 
 class AtTicks(Device):
@@ -78,39 +64,24 @@ class AtTicks(Device):
         return sends
 
 
-class LongTicks(Device):
-    """Its second is 0.2 s long."""
-
-    tick_seconds = 0.106
-
-
-class OneSource(Device):
-    """Both links send from one address."""
-
-    def says(self, port: int, frame: bytes) -> Iterable[bytes]:
-        yield frame[:6] + bytes([2, 0, 0, 0, 0xBB, 1]) + frame[12:]
-
-    def responds(self, port: int, marker: bytes, response: bytes) -> Iterable[tuple[int, bytes]]:  # type: ignore[override]
-        yield port, response[:6] + bytes([2, 0, 0, 0, 0xBB, 1]) + response[12:]
+def from_one(frame: bytes) -> bytes:
+    """A frame from the address of the first link."""
+    return frame[:6] + bytes([2, 0, 0, 0, 0xBB, 1]) + frame[12:]
 
 
-class SecondVersion(Device):
-    """Sends LACPDUs of version 2 with the TLVs of that version."""
-
-    def says(self, port: int, frame: bytes) -> Iterable[bytes]:
-        more = b"\4\6\0\x80\xc2\0" + b"\5\x14\0\1" + b"\x5a" * 16 + b"\6\3\0" + bytes(2)
-        yield put(put(frame, 1, b"\2"), 58, more)
-
-
-class Doubled(Device):
-    """Gets each frame twice, from a hub."""
-
-    def hears(self, port: int, frame: bytes) -> Iterable[bytes]:
-        yield frame
-        yield frame
-
-
-KINDS = [LongTimeouts, Passive, SpokenTo, PassiveOfLongTimeouts, Individual, Independent, AtTicks, LongTicks, OneSource, SecondVersion, Doubled]
+VERSION_2 = b"\4\6\0\x80\xc2\0" + b"\5\x14\0\1" + b"\x5a" * 16 + b"\6\3\0" + bytes(2)  # the TLVs of that version
+KINDS = [
+    LongTimeouts, Passive, SpokenTo, Individual, Independent, AtTicks,
+    *devices(Device, "active short", ("PassiveOfLongTimeouts", "Is passive, and asks for long timeouts.", "", False, False)),
+    *devices(Device, "tick_seconds", ("LongTicks", "Its second is 0.2 s long.", "", 0.106)),
+    *devices(Device, "hears", ("Doubled", "Gets each frame twice, from a hub.", "", lambda self, port, frame: [frame, frame])),
+    *devices(Says, "said", ("SecondVersion", "Sends LACPDUs of version 2.", "", lambda self, port, frame: put(put(frame, 1, b"\2"), 58, VERSION_2))),
+    *devices(
+        Says, "said responds",
+        ("OneSource", "Both links send from one address.", "",
+         lambda self, port, frame: from_one(frame), lambda self, port, marker, response: [(port, from_one(response))]),
+    ),
+]  # fmt: skip
 
 
 def found_by(kind: Type[Device], tests: Sequence[Case], phase: float = 0.037, links: int = 2) -> list[Result]:
@@ -133,11 +104,8 @@ def test_the_phase_of_the_clock_has_no_part(phase: float) -> None:
         assert not [f"{it.test.id} {it.verdict}: {it.why}" for it in results if it.verdict in (FAIL, INCONCLUSIVE)]
 
 
-class Bridge(Device):
+class Bridge(NoData):
     """A bridge without a hook for data: what goes to everyone comes out of each other aggregator."""
-
-    def data(self, on: bool) -> None:
-        raise NotImplementedError
 
     def aggregator(self, port: int) -> object:
         """The aggregator of a port that carries."""
@@ -165,7 +133,6 @@ class NeverJoins(Bridge):
         return port if super().aggregator(port) else None
 
 
-BY_NAME = {it.id: it for it in TESTS}
 SELECTION = ("SL-01", "SL-03", "SL-04", "SL-05", "SL-06", "SL-07", "SL-13")
 
 
@@ -184,10 +151,6 @@ def test_where_a_device_is_known_to_forward_broadcasts_two_links_are_seen_to_agg
 
 
 def test_what_forwards_nothing_has_no_answer() -> None:
-    class Host(Device):
-        def data(self, on: bool) -> None:
-            raise NotImplementedError
-
-    found = {it.test.id: it for it in found_by(Host, [it for it in TESTS if it.id in ("SL-01", "SL-03")])}
+    found = {it.test.id: it for it in found_by(NoData, [it for it in TESTS if it.id in ("SL-01", "SL-03")])}
     assert found["SL-01"].verdict == INCONCLUSIVE and "one aggregator, or two of a device that forwards none. Data of its client would show it" in found["SL-01"].why
     assert found["SL-03"].verdict == INCONCLUSIVE and "of 20 broadcasts into link 1, 0 come out of link 2: one aggregator, or a device that forwards none" in found["SL-03"].why

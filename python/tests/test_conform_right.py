@@ -6,25 +6,23 @@ import xml.etree.ElementTree as xml
 from typing import Iterable, Iterator, Optional, Sequence, Type
 
 import pytest
-from conform_device import Device, World, beside, is_lacpdu, put
+from conform_device import BY_NAME, Device, Full, World, beside, is_lacpdu, put
 from conform_faults import KeyUnchecked, LinkUnseen, set_bits
 
 from lagconform import command, junit, options, report
-from lagconform.bench import BASE, HOOK_SECONDS, Bench
+from lagconform.bench import BASE, HOOK_SECONDS
 from lagconform.groups import TESTS
 from lagconform.memory import Done
-from lagconform.model import FAIL, INCONCLUSIVE, PASS, SKIPPED, Result
+from lagconform.model import FAIL, INCONCLUSIVE, PASS, Result
 from lagconform.refusals import Refused
 from lagconform.runner import NoDevice, meet, run_all, run_one
 from lagconform.wires import Answer, Arrival, Gone
-
-BY_NAME = {it.id: it for it in TESTS}
 
 
 def play(kind: Type[Device], *names: str, world: Type[World] = World, flaps: bool = False) -> list[Result]:
     """Runs tests beside a device; a hook is there."""
     wire = world(kind())
-    with beside(wire, wire, flaps) as b:
+    with beside(wire, wire, flaps=flaps) as b:
         meet(b)
         return [run_one(b, BY_NAME[it]) for it in names]
 
@@ -130,13 +128,6 @@ class Refuses(World):
         return not (is_lacpdu(octets) and octets[14 + 32 : 14 + 34] != b"\0\x17")
 
 
-class Full(World):
-    """A machine that drops frames."""
-
-    def drops(self) -> int:
-        return 3
-
-
 @pytest.mark.parametrize("world, why", [(Refuses, "the link refused "), (Full, "it dropped 3 frames")])
 def test_a_bench_that_loses_frames_gives_no_fail(world: Type[World], why: str) -> None:
     assert play(KeyUnchecked, "RX-07c")[0].verdict == FAIL
@@ -227,12 +218,6 @@ def test_a_hook_that_does_not_end_is_refused() -> None:
         assert hook.stopped and HOOK_SECONDS <= b.now() < HOOK_SECONDS + 1
 
 
-def test_a_test_without_its_hook_leaves_nothing_for_the_shadow() -> None:
-    with beside(World(Device())) as b:
-        meet(b)
-        assert run_one(b, BY_NAME["RX-15"]).verdict == SKIPPED and not b.events
-
-
 def test_a_closed_bench_closes_its_links() -> None:
     closed: list[bool] = []
 
@@ -246,10 +231,7 @@ def test_a_closed_bench_closes_its_links() -> None:
 
 
 def test_junit_is_xml_whatever_a_text_has() -> None:
-    device = Device()
-    b = Bench(World(device))
     found = Result(BY_NAME["FM-01"], FAIL, why="\x1b[31mred\x00\ufffe\ud800", notes=["\x07"])
-    text = junit.as_junit(report.Run(b, {"device": "a\x08b"}, {}, [found]))
+    with beside(World(Device())) as b:
+        text = junit.as_junit(report.Run(b, {"device": "a\x08b"}, {}, [found]))
     assert xml.fromstring(text.encode()).get("name") == "a\ufffdb"
-    b.close()
-    device.stop()

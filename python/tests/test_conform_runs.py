@@ -16,7 +16,7 @@ from textwrap import dedent, indent
 from typing import Iterable, Iterator, Optional, Sequence, Type
 
 import pytest
-from conform_device import Device, World, beside, put
+from conform_device import BY_NAME, LAST, Device, Full, World, beside, play, put
 from conform_faults import CutOff, DataTwice, KeyUnchecked, PartnerLength, RestartsOnChange, SecondFallsSilent, SecondPartnerKey, WrongEcho
 from conform_frames import BadLengths, OtherId, Responds, VersionChecked
 from conform_machines import NoNtt
@@ -26,12 +26,10 @@ from lagconform.bench import Bench
 from lagconform.edition import edition
 from lagconform.groups import TESTS
 from lagconform.model import CAVEAT, FAIL, INCONCLUSIVE, NOT_APPLICABLE, PASS, SKIPPED, SURE, Claim, Result
-from lagconform.runner import IN_TURN, CameToNothing, Flood, StoppedForGood, judge, meet, ordered, run_all, run_times
+from lagconform.model import Test as Case
+from lagconform.runner import IN_TURN, CameToNothing, Flood, StoppedForGood, judge, meet, run_all, run_times
 from lagconform.wires import Answer
 
-BY_NAME = {it.id: it for it in TESTS}
-# What stands behind the counts in the last line.
-LAST = f". {CAVEAT}\n"
 EXAMPLES = Path(__file__).parents[2] / "examples" / "conform"
 PAGE = Path(__file__).parents[2] / "docs" / "CONFORM.md"
 HEADER = Path(__file__).parents[2] / "crates" / "lagffi" / "include"
@@ -134,34 +132,17 @@ class DataManyTimes(DataTwice):
 
 
 @pytest.mark.parametrize("kind, flooded", [(DataTwice, False), (DataManyTimes, True)])
-def test_data_that_comes_twice_is_a_fail_also_in_a_flood(bench, kind: Type[Device], flooded: bool) -> None:  # type: ignore[no-untyped-def]
-    b, results = bench(kind), list[Result]()
-    meet(b)
-    run_all(b, [BY_NAME[it] for it in ("SL-01", "SL-17", "IV-05")], results.append)
-    one, twice, rate = results
+def test_data_that_comes_twice_is_a_fail_also_in_a_flood(kind: Type[Device], flooded: bool) -> None:
+    one, twice, rate = play(World(kind()), [BY_NAME[it] for it in ("SL-01", "SL-17", "IV-05")])
     assert twice.verdict == FAIL and " came twice; has to be none" in twice.why and ("Beside it, link 1 (link1) is flooded" in twice.why) == flooded
     assert one.verdict == rate.verdict == (INCONCLUSIVE if flooded else PASS), (one.why, rate.why)
 
 
-def test_one_number_that_is_told_wrong_costs_no_other_test(bench) -> None:  # type: ignore[no-untyped-def]
-    b, results = bench(WrongEcho), list[Result]()
-    meet(b)
-    run_all(b, ordered(it for it in TESTS if not it.is_long), results.append)
+def test_one_number_that_is_told_wrong_costs_no_other_test() -> None:
+    results = play(World(WrongEcho()), [it for it in TESTS if not it.is_long])
     assert not [it.test.id for it in results if it.verdict == INCONCLUSIVE]
     assert [it.name for it in causes.grouped(results)] == ["FM-06"] and len([it for it in results if it.verdict == FAIL]) < 10
     assert "has to be what was sent, 258/02-cf" in next(it.why for it in results if it.test.id == "FM-06")
-
-
-@pytest.fixture
-def run(monkeypatch: pytest.MonkeyPatch, tmp_path: Path) -> object:
-    """Runs the command beside a stack in a file that has this device; its status."""
-
-    def play(kind: Type[Device], *words: str) -> int:
-        (tmp_path / "device.py").write_text(f"from {kind.__module__} import {kind.__name__} as Device\n")
-        monkeypatch.chdir(tmp_path)
-        return command.main(["--memory", "device.py", *words])
-
-    return play
 
 
 @pytest.fixture
@@ -198,38 +179,21 @@ def test_a_pass_stands_beside_a_late_bench_and_is_told(bench, monkeypatch: pytes
 
 
 def test_a_late_bench_excuses_no_count_of_lacpdus(bench) -> None:  # type: ignore[no-untyped-def]
-    b = bench(Device)
-    for bears, late, verdict in (SURE, 0.3, FAIL), (SURE, 1.3, INCONCLUSIVE), (0.0, 0.3, INCONCLUSIVE):
-        found = Result(BY_NAME["TX-01"], claims=[Claim(False, "19 LACPDUs within one second", (), bears)])
-        b.late = late
-        judge(b, found)
-        assert found.verdict == verdict and ("too busy" in found.why) == (verdict == INCONCLUSIVE), (bears, late)
-    of_all = Result(BY_NAME["IV-05"], claims=[Claim(False, "four LACPDUs", (), SURE)])
-    b.late = 0.0
-    judge(b, of_all)
-    assert of_all.verdict == INCONCLUSIVE and "the bench was 1.30 s late" in of_all.why
-    b.latest = 0.9
-    of_all = Result(BY_NAME["IV-05"], claims=[Claim(False, "four LACPDUs", (), SURE)])
-    judge(b, of_all)
-    assert of_all.verdict == FAIL and of_all.why == "four LACPDUs"
-    flooded = Result(BY_NAME["TX-01"], claims=[Claim(False, "19 LACPDUs within one second", (), SURE)])
-    b.late = 0.0
-    judge(b, flooded, Flood("link 1 is flooded", True))
-    assert flooded.verdict == INCONCLUSIVE
-    for late, verdict in (0.3, FAIL), (1.3, INCONCLUSIVE):
-        twice = Result(BY_NAME["SL-17"], claims=[Claim(False, "3 came twice", (), SURE, in_flood=True)])
-        b.late = late
-        judge(b, twice, Flood("link 1 is flooded", True))
-        assert twice.verdict == verdict and "link 1 is flooded" in twice.why
-
-
-def test_status_junit_and_tap_agree_on_what_has_no_answer(stack, tmp_path: Path) -> None:  # type: ignore[no-untyped-def]
-    words = ["--only", "FM-01", "--only", "SL-06", "--junit", "r.xml", "--tap", "r.tap"]
-    for strict, status, tag, point in ((), 0, "skipped", "ok 2 - SL-06"), (("--strict",), 1, "errors", "not ok 2 - SL-06"):
-        assert stack("def data(self, on):\n    raise NotImplementedError", *words, *strict) == status
-        root = xml.parse(tmp_path / "r.xml").getroot()
-        assert (root.get(tag), root.get("failures")) == ("1", "0")
-        assert f"\n{point}" in (tmp_path / "r.tap").read_text()
+    b, calm, flood, told = bench(Device), Flood(), Flood("link 1 is flooded", True), "came too soon"
+    for name, bears, flooded, late, latest, verdict, why in (
+        ("TX-01", SURE, calm, 0.3, 0.0, FAIL, told),
+        ("TX-01", SURE, calm, 1.3, 0.0, INCONCLUSIVE, "too busy"),
+        ("TX-01", 0.0, calm, 0.3, 0.0, INCONCLUSIVE, "too busy"),
+        ("TX-01", SURE, flood, 0.0, 0.0, INCONCLUSIVE, "link 1 is flooded"),
+        ("IV-05", SURE, calm, 0.0, 1.3, INCONCLUSIVE, "the bench was 1.30 s late"),
+        ("IV-05", SURE, calm, 0.0, 0.9, FAIL, told),
+        ("SL-17", SURE, flood, 0.3, 0.0, FAIL, "link 1 is flooded"),
+        ("SL-17", SURE, flood, 1.3, 0.0, INCONCLUSIVE, "link 1 is flooded"),
+    ):
+        found = Result(BY_NAME[name], claims=[Claim(False, told, (), bears, in_flood=name == "SL-17")])
+        b.late, b.latest = late, latest
+        judge(b, found, flooded)
+        assert found.verdict == verdict and why in found.why and (why != told or found.why == told), (name, bears, late, latest, found.why)
 
 
 def test_junit_and_tap_have_what_the_device_said(run, tmp_path: Path) -> None:  # type: ignore[no-untyped-def]
@@ -264,14 +228,15 @@ def test_junit_and_tap_have_the_clause_of_each_test_and_what_explains_a_fail(run
     assert not re.findall(r"^    - \S+\s*:\s.*", "".join(block for _, block in points), re.M)  # which readers take for a map
 
 
-def test_a_known_fail_that_comes_to_no_answer_is_no_known_fail(stack, tmp_path: Path, capsys: pytest.CaptureFixture[str]) -> None:  # type: ignore[no-untyped-def]
+@pytest.mark.parametrize("known", [[], ["--known", "known"]], ids=["none is known", "it is known"])
+def test_what_has_no_answer_is_told_alike_and_is_no_known_fail(stack, known: list[str], tmp_path: Path, capsys: pytest.CaptureFixture[str]) -> None:  # type: ignore[no-untyped-def]
     (tmp_path / "known").write_text("SL-06 of the chip\n")
-    words = ["--only", "FM-01", "--only", "SL-06", "--known", "known", "--junit", "r.xml", "--tap", "r.tap"]
-    for strict, status, tag, point in ((), 0, "skipped", "ok 2 - SL-06"), (("--strict",), 1, "error", "not ok 2 - SL-06"):
+    words = ["--only", "FM-01", "--only", "SL-06", *known, "--junit", "r.xml", "--tap", "r.tap"]
+    for strict, status, count, tag, point in ((), 0, "skipped", "skipped", "ok 2 - SL-06"), (("--strict",), 1, "errors", "error", "not ok 2 - SL-06"):
         assert stack("def data(self, on):\n    raise NotImplementedError", *words, *strict) == status
-        said = capsys.readouterr().out
+        said, root = capsys.readouterr().out, xml.parse(tmp_path / "r.xml").getroot()
         assert "\ninconclusive   SL-06 " in said and "known" not in said and said.endswith(f"1 pass, 0 fail, 1 inconclusive{LAST}")
-        assert [it.get("message", "")[:14] for it in xml.parse(tmp_path / "r.xml").getroot().iter(tag)] == ["inconclusive: "]
+        assert (root.get(count), root.get("failures"), [it.get("message", "")[:14] for it in root.iter(tag)]) == ("1", "0", ["inconclusive: "])
         assert f"\n{point}" in (tmp_path / "r.tap").read_text() and "TODO" not in (tmp_path / "r.tap").read_text()
 
 
@@ -372,28 +337,19 @@ def test_the_page_says_of_each_fail_what_carries_its_rule(run, tmp_path: Path) -
     assert 'RX-08</a> (by PROFILE) ' in said and 'explains <a href="#RX-11">RX-11</a> (by PROFILE)</li>' in said
 
 
-def test_fails_that_are_late_by_one_number_have_one_cause(bench) -> None:  # type: ignore[no-untyped-def]
-    b, results = bench(NoNtt), list[Result]()
-    meet(b)
-    run_all(b, ordered(it for it in TESTS if it.group in ("RX", "TX", "MX") and not it.is_long), results.append)
-    found = causes.grouped(results)
-    assert [it.name for it in found] == ["late"] and len(found[0].explains) > 25
+OF_TIMES = [it for it in TESTS if it.group in ("RX", "TX", "MX") and not it.is_long]
+OF_ONE_LINK = [it for it in TESTS if it.links == 1 and not it.is_long]
 
 
-def test_a_device_that_does_not_stay_up_has_one_cause(bench) -> None:  # type: ignore[no-untyped-def]
-    b, results = bench(RestartsOnChange), list[Result]()
-    meet(b)
-    run_all(b, ordered(it for it in TESTS if not it.is_long and it.links == 1), results.append)
-    found = causes.grouped(results)
-    assert [it.name for it in found] == ["RX-04"] and len(found[0].explains) > 10, [it.text for it in found]
+@pytest.mark.parametrize("kind, tests, root, most", [(NoNtt, OF_TIMES, "late", 25), (RestartsOnChange, OF_ONE_LINK, "RX-04", 10)])
+def test_what_is_late_by_one_number_and_what_does_not_stay_up_have_one_cause(kind: Type[Device], tests: Sequence[Case], root: str, most: int) -> None:
+    found = causes.grouped(play(World(kind()), tests))
+    assert [it.name for it in found] == [root] and len(found[0].explains) > most, [it.text for it in found]
 
 
 @pytest.mark.parametrize("kind, root, others", [(OtherId, "MK-02", ["MK-01", "MK-05", "MK-06", "MK-10", "EN-03", "MK-11"]), (VersionChecked, "VN-02", ["VN-03"])])
-def test_the_cause_is_the_fault(bench, kind: Type[Device], root: str, others: list[str]) -> None:  # type: ignore[no-untyped-def]
-    b, results = bench(kind), list[Result]()
-    meet(b)
-    run_all(b, ordered(BY_NAME[it] for it in [root, *others]), results.append)
-    found = causes.grouped(results)
+def test_the_cause_is_the_fault(kind: Type[Device], root: str, others: list[str]) -> None:
+    found = causes.grouped(play(World(kind()), [BY_NAME[it] for it in [root, *others]]))
     assert [it.name for it in found] == [root] and [it.test.id for it in found[0].explains] == others
 
 
@@ -419,11 +375,9 @@ class LengthAlone(Responds):
         return put(response, 3, b"\x0f")
 
 
-def test_an_echo_of_a_wrong_marker_is_told_and_no_cause_of_its_own(bench) -> None:  # type: ignore[no-untyped-def]
+def test_an_echo_of_a_wrong_marker_is_told_and_no_cause_of_its_own() -> None:
     for kind, roots in (EchoesLengthRight, []), (EchoesLength, ["MK-02"]), (LengthAlone, ["MK-01"]), (BadLengths, ["IV-03"]):
-        b, results = bench(kind), list[Result]()
-        meet(b)
-        run_all(b, [BY_NAME[it] for it in ("MK-01", "MK-02", "MK-09", "IV-03")], results.append)
+        results = play(World(kind()), [BY_NAME[it] for it in ("MK-01", "MK-02", "MK-09", "IV-03")])
         whole = results[-1]
         assert [it.name for it in causes.grouped(results)] == roots and (whole.verdict == FAIL) == bool(roots), (kind, whole.why)
         echoes = [it for it in whole.notes if re.fullmatch("1 response to wrong markers of the bench may be as wrong: packet [0-9]+: .*octet 3 is 15", it)]
@@ -541,13 +495,6 @@ class Unplugged(World):
 
     def without_carrier(self) -> Sequence[str]:
         return ["link1"]
-
-
-class Full(World):
-    """A machine that drops frames."""
-
-    def drops(self) -> int:
-        return 3
 
 
 class NoStart(World):
@@ -709,14 +656,19 @@ def test_a_library_that_breaks_fails_the_test_and_begins_again(fault: str, why: 
     assert "Bail out!" not in (tmp_path / "r.tap").read_text()
 
 
+def shared(folder: Path, text: str, *words: str) -> str:
+    """A shared library of a text in C."""
+    (folder / "broken.c").write_text(text)
+    made = str(folder / "broken.so")
+    subprocess.run(["cc", "-shared", "-fPIC", f"-I{HEADER}", f"-I{EXAMPLES}", "-o", made, str(folder / "broken.c"), *words], check=True)
+    return made
+
+
 def broken(folder: Path, line: str, other: str) -> str:
     """The example in C with another line, as a shared library."""
     text = (EXAMPLES / "device.c").read_text()
     assert line in text
-    (folder / "broken.c").write_text(f"#include <stdio.h>\n#include <unistd.h>\n{text.replace(line, other)}")
-    made = str(folder / "broken.so")
-    subprocess.run(["cc", "-shared", "-fPIC", f"-I{HEADER}", f"-I{EXAMPLES}", "-o", made, str(folder / "broken.c"), os.environ["NIWHOPERA_LIBRARY"]], check=True)
-    return made
+    return shared(folder, f"#include <stdio.h>\n#include <unistd.h>\n{text.replace(line, other)}", os.environ["NIWHOPERA_LIBRARY"])
 
 
 @needs_library
@@ -749,13 +701,11 @@ def test_a_library_that_crashes_on_a_runt_fails_the_tests_that_send_one(tmp_path
 @pytest.mark.parametrize("fault, why", [("__builtin_trap()", "crashed by SIG"), ("for (;;)", "hangs in device_start")])
 def test_a_library_that_breaks_at_its_start_is_refused(fault: str, why: str, tmp_path: Path, capfd: pytest.CaptureFixture[str], monkeypatch: pytest.MonkeyPatch) -> None:
     monkeypatch.setattr(child, "CALL_SECONDS", 0.5)
-    (tmp_path / "broken.c").write_text(f"void device_start(void) {{ {fault}; }}\nvoid device_take(void) {{ }}\nvoid device_tick(void) {{ }}\n")
-    made = str(tmp_path / "broken.so")
-    subprocess.run(["cc", "-shared", "-fPIC", "-o", made, str(tmp_path / "broken.c")], check=True)
-    assert command.main(["--memory", made]) == 2 and f"the stack {why}" in capfd.readouterr().err
-    (tmp_path / "broken.c").write_text(f"__attribute__((constructor)) static void begin(void) {{ {fault}; }}\n")
-    subprocess.run(["cc", "-shared", "-fPIC", "-o", made, str(tmp_path / "broken.c")], check=True)
-    assert command.main(["--memory", made]) == 2 and f"the stack {why.partition(' in ')[0]}" in (said := capfd.readouterr().err) and " as it was loaded" in said
-    (tmp_path / "broken.c").write_text("void device_start(void) { }\n")
-    subprocess.run(["cc", "-shared", "-fPIC", "-o", made, str(tmp_path / "broken.c")], check=True)
-    assert command.main(["--memory", made]) == 2 and "has no device_take" in capfd.readouterr().err
+    for text, told in (
+        (f"void device_start(void) {{ {fault}; }}\nvoid device_take(void) {{ }}\nvoid device_tick(void) {{ }}\n", [f"the stack {why}"]),
+        (f"__attribute__((constructor)) static void begin(void) {{ {fault}; }}\n", [f"the stack {why.partition(' in ')[0]}", " as it was loaded"]),
+        ("void device_start(void) { }\n", ["has no device_take"]),
+    ):
+        assert command.main(["--memory", shared(tmp_path, text)]) == 2
+        said = capfd.readouterr().err
+        assert all(it in said for it in told), said

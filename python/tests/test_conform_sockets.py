@@ -10,6 +10,7 @@ import time
 from pathlib import Path
 
 import pytest
+from conform_device import Waits
 
 from lagconform import sockets
 from lagconform.refusals import Refused
@@ -128,11 +129,7 @@ def test_frames_pass_a_pair() -> None:
 
 def said(line: str) -> Answer:
     """What a command says that ends soon."""
-    doing, limit = Command(line).call([]), time.monotonic() + 20
-    while (answer := doing.answer()) is None:
-        assert time.monotonic() < limit
-        time.sleep(0.01)
-    return answer
+    return Waits(line).call([]).answer()
 
 
 def test_a_hook_gets_its_words() -> None:

@@ -6,7 +6,7 @@ from dataclasses import replace
 from typing import Iterable, Type
 
 import pytest
-from conform_device import OWN, SLOW, Device, WaitsThree, World, beside, play
+from conform_device import BY_NAME, OWN, SLOW, Device, WaitsThree, World, beside, play
 from conform_faults import SYNC, KeyUnchecked, NoWait, set_bits
 from conform_machines import ToldWithThePeriod
 
@@ -17,7 +17,6 @@ from lagconform.model import FAIL, INCONCLUSIVE, PASS, Result
 from lagconform.runner import meet, run_one
 from niwhopera import MuxState
 
-BY_NAME = {it.id: it for it in TESTS}
 SELECTS_ANEW = [f"RX-12{it}" for it in "abcdefgh"]
 
 

@@ -2,17 +2,13 @@
 
 from __future__ import annotations
 
-import copy
 import ctypes
-import gc
-import threading
-import warnings
-from typing import Optional
+from typing import Iterator, Optional
 
 import pytest
 from niwhopera._library import functions
 from niwhopera._numbers import NiwQueue
-from niwhopera import MOST_CONVERSATIONS, Carried, Closed, FrameCounts, Full, HeldFrames, LagError, Move, NoMemory, Released, Status, next_move
+from niwhopera import MOST_CONVERSATIONS, Carried, FrameCounts, Full, HeldFrames, LagError, Move, NoMemory, Released, Status, next_move
 
 
 def test_frames_leave_in_the_order_in_which_they_came() -> None:
@@ -32,31 +28,31 @@ def test_frames_leave_in_the_order_in_which_they_came() -> None:
         assert held.counts() == FrameCounts(waiting=0, dropped=1, refused=0)
 
 
-def test_the_oldest_of_those_that_wait_is_told_and_stays() -> None:
-    with HeldFrames[str](3, 3, 2) as held:
+@pytest.fixture
+def held() -> Iterator[HeldFrames[str]]:
+    """As many frames as may wait, and of conversation 1 as many as may."""
+    with HeldFrames[str](3, 3, 2) as made:
         for conversation, frame in ((1, "a"), (1, "b"), (2, "c")):
-            held.put(conversation, frame)
-        for _ in range(2):
-            assert [held.oldest(conversation) for conversation in (0, 1, 2, 9)] == [None, "a", "c", None]
-            assert [held.waiting(conversation) for conversation in (0, 1, 2, 9)] == [0, 2, 1, 0]
-        assert held.next(1) == "a" and held.oldest(1) == "b" and held.waiting(1) == 1
-        assert held.drop(1) == "b" and held.oldest(1) is None and held.waiting(1) == 0
-        assert held.counts() == FrameCounts(waiting=1, dropped=1, refused=0)
+            made.put(conversation, frame)
+        yield made
 
 
-def test_a_frame_that_is_refused_is_counted_and_not_put() -> None:
-    with HeldFrames[str](3, 3, 2) as held:
-        for conversation, frame in ((1, "a"), (1, "b"), (2, "c")):
-            held.put(conversation, frame)
-        for conversation, status in ((1, Status.CONVERSATION_FULL), (0, Status.ALL_FULL)):
-            with pytest.raises(Full) as full:
-                held.put(conversation, "d")
-            assert full.value.status is status
-        with pytest.raises(LagError) as other:
-            held.put(3, "d")
-        assert other.value.status is Status.NOT_ASSIGNED
-        assert held.counts() == FrameCounts(waiting=3, dropped=0, refused=3)
-        assert [held.next(1), held.next(1), held.next(1), held.next(2), held.next(0), held.next(9)] == ["a", "b", None, "c", None, None]
+def test_the_oldest_of_those_that_wait_is_told_and_stays(held: HeldFrames[str]) -> None:
+    for _ in range(2):
+        assert [held.oldest(conversation) for conversation in (0, 1, 2, 9)] == [None, "a", "c", None]
+        assert [held.waiting(conversation) for conversation in (0, 1, 2, 9)] == [0, 2, 1, 0]
+    assert held.next(1) == "a" and held.oldest(1) == "b" and held.waiting(1) == 1
+    assert held.drop(1) == "b" and held.oldest(1) is None and held.waiting(1) == 0
+    assert held.counts() == FrameCounts(waiting=1, dropped=1, refused=0)
+
+
+def test_a_frame_that_is_refused_is_counted_and_not_put(held: HeldFrames[str]) -> None:
+    for conversation, error, status in ((1, Full, Status.CONVERSATION_FULL), (0, Full, Status.ALL_FULL), (3, LagError, Status.NOT_ASSIGNED)):
+        with pytest.raises(error) as refused:
+            held.put(conversation, "d")
+        assert refused.value.status is status
+    assert held.counts() == FrameCounts(waiting=3, dropped=0, refused=3)
+    assert [held.next(1), held.next(1), held.next(1), held.next(2), held.next(0), held.next(9)] == ["a", "b", None, "c", None, None]
 
 
 def test_a_list_of_too_many_conversations_is_refused() -> None:
@@ -73,27 +69,10 @@ def test_a_number_without_room_is_refused_by_python() -> None:
         with pytest.raises(ValueError):
             HeldFrames[int](*numbers)
     with HeldFrames[int](1, 1, 1) as held:
-        calls = (held.next, held.drop, held.oldest, held.waiting, lambda number: held.put(number, 0), lambda number: held.next_released([number]))
-        for call in calls:
+        of_one = (held.next, held.drop, held.oldest, held.waiting, lambda number: held.put(number, 0), lambda number: held.next_released([number]))
+        for call in (*of_one, lambda number: next_move([number], []), lambda _: Carried(1, 2**32)):
             with pytest.raises(ValueError):
                 call(65536)
-    with pytest.raises(ValueError):
-        Carried(1, 2**32)
-    with pytest.raises(ValueError):
-        next_move([65536], [])
-
-
-def test_held_frames_that_are_closed_raise_closed() -> None:
-    held = HeldFrames[int](1, 1, 1)
-    held.put(0, 7)
-    held.close()
-    held.close()
-    assert held.closed
-    of_one = (held.next, held.drop, held.oldest, held.waiting, lambda number: held.put(number, 1), lambda number: held.next_released([number]))
-    for call in (lambda _: held.counts(), *of_one):
-        with pytest.raises(Closed) as told:
-            call(0)
-        assert told.value.status is Status.NO_QUEUE
 
 
 def test_more_memory_than_there_is_is_refused() -> None:
@@ -110,33 +89,6 @@ def test_a_frame_is_told_by_64_bits() -> None:
     assert library.queue_new(queue, 1, 1, 1) == library.queue_put(queue, 0, frame) == 0
     assert library.queue_oldest(queue, 0).frame == library.queue_next(queue, 0).frame == frame
     assert library.queue_free(queue) == 0
-
-
-def test_held_frames_are_neither_copied_nor_called_by_another_thread() -> None:
-    raised: list[BaseException] = []
-
-    def ask(held: HeldFrames[int]) -> None:
-        try:
-            held.counts()
-        except RuntimeError as why:
-            raised.append(why)
-
-    with HeldFrames[int](1, 1, 1) as held:
-        with pytest.raises(TypeError):
-            copy.copy(held)
-        other = threading.Thread(target=ask, args=(held,))
-        other.start()
-        other.join()
-    assert [str(it) for it in raised] == ["only the thread that made a HeldFrames calls it"]
-
-
-def test_held_frames_that_are_not_closed_are_told() -> None:
-    gc.collect()  # what other tests left is told before
-    with warnings.catch_warnings(record=True) as told:
-        warnings.simplefilter("always")
-        HeldFrames[int](1, 1, 1)
-        gc.collect()
-    assert [str(it.message) for it in told] == ["a HeldFrames was not closed"]
 
 
 def test_the_next_move_makes_the_loads_more_alike() -> None:

@@ -83,33 +83,37 @@ def test_a_configuration_is_refused_with_its_reason(change: dict[str, Any], reas
 @pytest.mark.parametrize("number", [-1, 65536])
 def test_a_number_without_room_is_refused_by_python(number: int) -> None:
     with System(CONFIG) as system:
-        calls: list[Callable[[int], object]] = [system.transmit, system.load, system.force_port, system.tick, system.distributing]
+        calls: list[Callable[[int], object]] = [
+            *(system.transmit, system.load, system.force_port, system.tick, system.distributing),
+            lambda _: system.configure(3, key=number, priority=1, aggregatable=True),
+            *(lambda _, field=field: dataclasses.replace(PORT, **{field: number}) for field in ("number", "key", "priority")),
+            lambda _: SystemId(number, OWN),
+            lambda _: dataclasses.replace(CONFIG, first_marker=number - 65535 + 0xFFFFFFFF if number > 0 else -1),
+            lambda _: dataclasses.replace(CONFIG, max_links=0),
+        ]
         for call in calls:
             with pytest.raises(ValueError):
                 call(number)
-        with pytest.raises(ValueError):
-            system.configure(3, key=number, priority=1, aggregatable=True)
-    for field in ("number", "key", "priority"):
-        with pytest.raises(ValueError):
-            dataclasses.replace(PORT, **{field: number})
-    with pytest.raises(ValueError):
-        SystemId(number, OWN)
-    with pytest.raises(ValueError):
-        dataclasses.replace(CONFIG, first_marker=number - 65535 + 0xFFFFFFFF if number > 0 else -1)
-    with pytest.raises(ValueError):
-        dataclasses.replace(CONFIG, max_links=0)
 
 
-def test_a_closed_system_raises_closed() -> None:
-    system = System(CONFIG)
-    assert not system.closed
-    system.close()
-    system.close()
-    assert system.closed
-    for call in (system.ports, system.tick, system.ticks_until_due, system.due, system.views, system.next_marker):
+# What holds a part of the library: how it is made, and calls with their words.
+OF_SYSTEM: dict[str, tuple[Any, ...]] = dict.fromkeys(("tick", "ports", "ticks_until_due", "due", "views", "next_marker"), ())
+OF_FRAMES = {"counts": (), "next": (0,), "drop": (0,), "oldest": (0,), "waiting": (0,), "put": (0, 1), "next_released": ([0],)}
+HANDLES = [(System, (CONFIG,), OF_SYSTEM), (niwhopera.HeldFrames, (1, 1, 1), OF_FRAMES)]
+of_each_handle = pytest.mark.parametrize("kind, given, calls", HANDLES, ids=[kind.__name__ for kind, *_ in HANDLES])
+
+
+@of_each_handle
+def test_a_closed_handle_raises_closed(kind: Any, given: tuple[Any, ...], calls: dict[str, tuple[Any, ...]]) -> None:
+    made = kind(*given)
+    assert not made.closed
+    made.close()
+    made.close()
+    assert made.closed
+    for name, words in calls.items():
         with pytest.raises(Closed) as told:
-            call()
-        assert told.value.status is Status.NO_SYSTEM
+            getattr(made, name)(*words)
+        assert told.value.status is (Status.NO_SYSTEM if kind is System else Status.NO_QUEUE), name
 
 
 def test_a_port_that_does_not_exist() -> None:
@@ -124,33 +128,34 @@ def test_a_port_that_does_not_exist() -> None:
         assert told.value.status is Status.NOT_ASSIGNED
 
 
-def test_a_system_is_neither_copied_nor_called_by_another_thread() -> None:
-    with System(CONFIG) as system:
-        with pytest.raises(TypeError):
-            copy.copy(system)
-        with pytest.raises(TypeError):
-            copy.deepcopy(system)
+@of_each_handle
+def test_a_handle_is_neither_copied_nor_called_by_another_thread(kind: Any, given: tuple[Any, ...], calls: dict[str, tuple[Any, ...]]) -> None:
+    with kind(*given) as made:
+        for copies in copy.copy, copy.deepcopy:
+            with pytest.raises(TypeError):
+                copies(made)
         raised: list[BaseException] = []
 
         def ask() -> None:
             try:
-                system.tick()
+                getattr(made, next(iter(calls)))()
             except RuntimeError as why:
                 raised.append(why)
 
         other = threading.Thread(target=ask)
         other.start()
         other.join()
-        assert len(raised) == 1
+        assert [str(it) for it in raised] == [f"only the thread that made a {kind.__name__} calls it"]
 
 
-def test_a_system_that_is_not_closed_is_told() -> None:
+@of_each_handle
+def test_a_handle_that_is_not_closed_is_told(kind: Any, given: tuple[Any, ...], calls: dict[str, tuple[Any, ...]]) -> None:
     gc.collect()  # what other tests left is told before
     with warnings.catch_warnings(record=True) as told:
         warnings.simplefilter("always")
-        System(CONFIG)
+        kind(*given)
         gc.collect()
-    assert [it.category for it in told] == [ResourceWarning]
+    assert [(it.category, str(it.message)) for it in told] == [(ResourceWarning, f"a {kind.__name__} was not closed")]
 
 
 def test_a_port_shows_what_it_is_and_sends() -> None:
@@ -217,18 +222,15 @@ def test_a_held_frame_raises_held() -> None:
         come_up(system)
         assert system.conversation(frame) == 0x13 and system.offer(1, frame) == 5
         system.move_conversation(1, 0x13, 3)
-        with pytest.raises(Held) as told:
-            system.offer(1, frame)
-        assert told.value.status is Status.HELD
-        with pytest.raises(LagError) as other:
-            system.offer(1, frame[:13])
-        assert other.value.status is Status.FRAME_LENGTH
-        with pytest.raises(LagError) as slow:
-            system.offer(1, frame[:12] + b"\x88\x09")
-        assert slow.value.status is Status.SLOW_FRAME
-        with pytest.raises(LagError) as none:
-            system.offer(2, frame)
-        assert none.value.status is Status.NO_AGGREGATOR
+        for error, aggregator, offered, status in (
+            (Held, 1, frame, Status.HELD),
+            (LagError, 1, frame[:13], Status.FRAME_LENGTH),
+            (LagError, 1, frame[:12] + b"\x88\x09", Status.SLOW_FRAME),
+            (LagError, 2, frame, Status.NO_AGGREGATOR),
+        ):
+            with pytest.raises(error) as told:
+                system.offer(aggregator, offered)
+            assert told.value.status is status
 
 
 def test_every_export_of_the_module_is_documented() -> None:

@@ -73,22 +73,15 @@ def test_a_payload_is_refused_with_its_fault(payload: bytes, fault: WireFault, a
 
 
 def test_a_number_without_room_is_refused() -> None:
+    pdus: list[Lacpdu | Marker] = [Marker(MarkerKind.RESPONSE, 1, ACTOR.system.mac, 1 << 32)]
     for wrong in (-1, 65536):
-        for end in (
-            dataclasses.replace(ACTOR, key=wrong),
-            dataclasses.replace(ACTOR, port=PortId(wrong, 1)),
-            dataclasses.replace(ACTOR, port=PortId(1, wrong)),
-        ):
-            with pytest.raises(ValueError):
-                encode(Lacpdu(end, NOBODY))
-            with pytest.raises(ValueError):
-                encode(Lacpdu(NOBODY, end))
+        for changes in {"key": wrong}, {"port": PortId(wrong, 1)}, {"port": PortId(1, wrong)}:
+            end = dataclasses.replace(ACTOR, **changes)  # type: ignore[arg-type]
+            pdus += [Lacpdu(end, NOBODY), Lacpdu(NOBODY, end)]
+        pdus += [dataclasses.replace(READ, max_delay=wrong), Marker(MarkerKind.RESPONSE, wrong, ACTOR.system.mac, 1)]
+    for pdu in pdus:
         with pytest.raises(ValueError):
-            encode(dataclasses.replace(READ, max_delay=wrong))
-        with pytest.raises(ValueError):
-            encode(Marker(MarkerKind.RESPONSE, wrong, ACTOR.system.mac, 1))
-    with pytest.raises(ValueError):
-        encode(Marker(MarkerKind.RESPONSE, 1, ACTOR.system.mac, 1 << 32))
+            encode(pdu)
 
 
 def test_a_system_takes_a_frame_that_is_written_here() -> None:

@@ -109,7 +109,8 @@ def of_verdicts(tests: Tests, browser: Browser, folder: str) -> None:
     browser.choose(cut)
     tests.same("of a capture that is cut short it is not said", browser.value(VERDICT), [ONE, "bad"])
     split = os.path.join(folder, "split.pcap")
-    made.split(split)
+    ends = ((made.Party(1, 7, port, made.UP), made.Party(port + 1, 8, 4, made.UP), made.at(port / 100, 10)) for port in (1, 2))
+    made.capture(split, *(made.exchange(*it) for it in ends))
     browser.choose(split)
     said = "Links of one system lead to two systems", "02-00-00-00-00-01 leads to 02-00-00-00-00-02 and 02-00-00-00-00-03"
     named = [*browser.value(VERDICT), browser.value(TITLES), browser.value("document.querySelector('#findings .first').textContent")]
@@ -126,7 +127,7 @@ def of_idle_links(tests: Tests, browser: Browser, folder: str) -> None:
         "two of three": ([made.UP, made.DOWN, made.DOWN], [f"1 of 3 links carries. {ALONE}", ""]),
     }
     for name, (states, wanted) in cases.items():
-        made.links(path, states)
+        made.capture(path, *(made.exchange(*made.one_link(state, port=port), made.at(port / 100, 20)) for port, state in enumerate(states, 1)))
         browser.choose(path)
         tests.same(f"{name}: without a finding the page says what carries", browser.value(VERDICT), wanted)
 
@@ -140,16 +141,19 @@ def of_effects(tests: Tests, browser: Browser, folder: str) -> None:
     wanted = UNSHOWN, "rule 13 is normal if both ends distribute later"
     tests.same("it says so, and that it is normal after a start", [it in said for it in wanted], [True, True])
     path = os.path.join(folder, "attached.pcap")
-    made.attached(path, True)
+    one, other = made.one_link(made.DOWN, made.ATTACHED)
+    made.capture(path, made.sends(one, other, range(20)), made.sends(other, one, made.at(0.004, 20)))
     browser.choose(path)
     tests.same("so has a link that the partner does not attach", [*browser.value(VERDICT), UNSHOWN in browser.value(first)], [f"0 of 1 link carries. {UNATTACHED}; {NOT_WHY}", "", True])
-    made.attached(path, False)
+    one, stray = made.one_link(made.DEFAULTED)
+    made.capture(path, made.sends(one, None, range(20)), made.sends(other, one, made.at(0.004, 20)))
     browser.choose(path)
     tests.same("an end that hears nothing is a fault", browser.value(VERDICT), ["0 of 1 link carries. An end hears nobody for longer than 6 seconds.", "bad"])
     titles = ["An end hears nobody for longer than 6 seconds"]
     said = browser.value("document.getElementById('findings').textContent")
     tests.same("it stands first, and explains the other", [browser.value(TITLES), UNSHOWN in said], [titles, False])
-    made.astray(path)
+    elsewhere = [(second, made.SLOW[:-1] + b"\x00" + octets[6:]) for second, octets in made.sends(stray, None, made.at(0.004, 20))]
+    made.capture(path, made.sends(one, None, range(20)), elsewhere)
     browser.choose(path)
     tests.same("it follows from a fault of whoever is on its interface", browser.value(VERDICT), ["0 of 1 link carries. A frame to another destination.", "bad"])
 
@@ -157,7 +161,9 @@ def of_effects(tests: Tests, browser: Browser, folder: str) -> None:
 def of_copies(tests: Tests, browser: Browser, folder: str) -> None:
     """Two machines with one system, and a port that hears itself."""
     copied = os.path.join(folder, "copied.pcap")
-    made.copied(copied)
+    one, itself = made.Party(1, 7, 1, made.DOWN), made.Party(1, 7, 2, made.DOWN)
+    twin = made.sends(one, one, made.at(0.1, 10), made.Party(9, 7, 1, made.DOWN).source())
+    made.capture(copied, made.sends(one, one, range(10)), twin, made.sends(itself, itself, made.at(0.2, 10)))
     browser.choose(copied)
     tests.same("each end is a place of a copied system", browser.value("document.getElementById('counts').textContent"), "1 fault, 1 likely effect, at 5 places")
     tests.same("what follows from it is no fault", browser.value(TITLES), ["The partner's system is the end's own"])
@@ -238,9 +244,8 @@ def of_silence(tests: Tests, browser: Browser, folder: str) -> None:
 
 def of_unread(tests: Tests, browser: Browser, folder: str) -> None:
     """Frames of the slow protocols that are refused are no good news, unless they are of another protocol."""
-    one, other = made.Party(1, 7, 1, made.UP), made.Party(2, 7, 1, made.UP)
-    whole = [made.frame(it.source(), made.lacpdu(it, one if it is other else other)) for it in (one, other)]
-    oam = [made.frame(one.source(), b"\x03" + bytes(109))]
+    one, other = made.one_link(made.UP)
+    whole, oam = [octets for _, octets in made.exchange(one, other, [0.0])], [made.frame(one.source(), b"\x03" + bytes(109))]
     frames, how, path = "frames of the slow protocols could not be read", "capture whole frames (tcpdump -s 0)", os.path.join(folder, "short.pcap")
     cases = {
         "no LACPDU": (whole, 50, [f"No LACPDU could be read: 2 of 2 {frames}: {how}.", "bad"]),
@@ -259,10 +264,9 @@ def of_unread(tests: Tests, browser: Browser, folder: str) -> None:
 
 def of_lasting(tests: Tests, browser: Browser, folder: str) -> None:
     """A capture says how long it lasts, and whether that is too short for timeouts."""
-    one, other = made.Party(1, 7, 1, made.UP), made.Party(2, 7, 1, made.UP)
-    frames, path = [made.frame(it.source(), made.lacpdu(it, one if it is other else other)) for it in (one, other)], os.path.join(folder, "long.pcap")
+    path = os.path.join(folder, "long.pcap")
     for last, more in (92, ", shorter than 93 s: not each timeout may show."), (93, "."):
-        made.pcap(path, [(second, frames[way]) for second in range(last + 1) for way in (0, 1)])
+        made.capture(path, made.exchange(*made.one_link(made.UP), range(last + 1)))
         browser.choose(path)
         said = browser.value("document.getElementById('lasts').textContent")
         tests.same(f"{last} seconds of a capture", said, f"Its LACPDUs span {last}.0 s{more}")
@@ -273,8 +277,7 @@ def of_bundles(tests: Tests, browser: Browser, folder: str) -> None:
     names = {name: os.path.join(folder, name) for name in ("bundle.pcap", "crowd.pcap", "timeless.pcapng")}
     made.bundle(names["bundle.pcap"])
     made.crowd(names["crowd.pcap"], 5000)
-    one, other = made.Party(1, 7, 1, made.UP), made.Party(2, 7, 1, made.UP)
-    made.pcapng(names["timeless.pcapng"], [made.frame(it.source(), made.lacpdu(it, one if it is other else other)) for it in [one, other] * 9])
+    made.pcapng(names["timeless.pcapng"], [octets for _, octets in made.exchange(*made.one_link(made.UP), range(9))])
     browser.choose(names["bundle.pcap"])
     counts = browser.value("['#links > details', '#links svg .name', '#links svg .name.bad'].map((it) => document.querySelectorAll(it).length)")
     tests.same("eight links of two systems stand on one axis, the silent one too", counts, [1, 16, 1])

@@ -2,11 +2,8 @@
 
 from __future__ import annotations
 
-import os
-
-from repository import read_text
 from stored import Tests
-from texts import STATUS, told_of
+from texts import status, told_of
 
 SWITCH = "00:1c:73:aa:bb:01"
 CROSSED = "Cables of two bundles are crossed, or a port is in the group of another link: "
@@ -14,7 +11,7 @@ CROSSED = "Cables of two bundles are crossed, or a port is in the group of anoth
 
 def bond(number: int, names: str, keys: tuple[int, int], partner: str = SWITCH) -> str:
     """A bond of two links with its line of tail: a port whose partner has another key than the first one's is in another aggregator."""
-    text = read_text(os.path.join(STATUS, "healthy-bonding.txt")).replace("02:00:00:01:0a:", f"02:00:00:01:{number:02x}:").replace("02:00:00:01:0b:01", partner)
+    text = status("healthy-bonding.txt").replace("02:00:00:01:0a:", f"02:00:00:01:{number:02x}:").replace("02:00:00:01:0b:01", partner)
     head, *parts = text.replace("Partner Key: 15", f"Partner Key: {keys[0]}").split("Slave Interface: ")
     for at, (name, key) in enumerate(zip(names.split(), keys)):
         part = parts[at].replace(f"p{at + 1}", name, 1).replace("oper key: 15", f"oper key: {key}")
@@ -59,9 +56,9 @@ def of_backups(tests: Tests) -> None:
         "a healthy one": (good, 0, "2 of 2 links carry. LACP is not your trouble", 1),
         "a broken one": (broken, 1, "1 of 2 links carries. In bond1: keys differ within one pair of systems: ens1f0, ens1f1.", 2),
     }
-    for name, (text, status, headline, at) in cases.items():
+    for name, (text, wanted, headline, at) in cases.items():
         ended, said = told_of(text)
-        tests.same(f"a bond without LACP beside {name}", [ended, said.startswith(headline), f"\n{at}. remark: t{told}\n" in said], [status, True, True])
+        tests.same(f"a bond without LACP beside {name}", [ended, said.startswith(headline), f"\n{at}. remark: t{told}\n" in said], [wanted, True, True])
     for count, text in (1, backup(0)), (2, backup(0) + backup(2)):
         ended, said = told_of(text)
         tests.same(f"{count} without LACP", [ended, said.partition("\n")[0], "remark" in said], [1, f"T{told}.", False])
@@ -69,7 +66,7 @@ def of_backups(tests: Tests) -> None:
 
 def empty(name: str) -> str:
     """A bond without a port, as root reads it."""
-    head = read_text(os.path.join(STATUS, "healthy-bonding.txt")).partition("Active Aggregator Info:")[0]
+    head = status("healthy-bonding.txt").partition("Active Aggregator Info:")[0]
     return f"{head.replace('MII Status: up', 'MII Status: down')}bond {name} has no active aggregator\n"
 
 
@@ -87,7 +84,7 @@ def of_empty(tests: Tests) -> None:
 
 def of_unnamed(tests: Tests) -> None:
     """ip does not name the partner of a port that is not used: of two bonds it is no second system."""
-    text, other = (read_text(os.path.join(STATUS, "keys-ip.json")) for _ in range(2))
+    text, other = (status("keys-ip.json") for _ in range(2))
     for was, now in ("02:00:00:01:0a", "02:00:00:01:0d"), ("02:00:00:01:bb", "02:00:00:01:cc"), ('"bond0"', '"bond1"'), ('"p1"', '"q1"'), ('"p2"', '"q2"'):
         other = other.replace(was, now)
     said = told_of(f"{text}\n{other}")[1]

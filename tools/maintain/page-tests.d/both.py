@@ -3,14 +3,12 @@
 from __future__ import annotations
 
 import os
-import subprocess
 import tempfile
 
 from browser import Browser
-from judged import status, told_of_two
 from repository import write_text
 from stored import CAPTURES, Tests
-from texts import EXPLAIN, STATUS, pasted, second_port
+from texts import STATUS, explain, pasted, second_port, status, told_of_two
 
 HEALTHY = "2 of 2 links carry. LACP is not your trouble"
 ASKED = "if the other end says so, too"
@@ -105,7 +103,7 @@ def of_counts(tests: Tests, browser: Browser) -> None:
     capture = os.path.join(CAPTURES, "bonding.pcap")
 
     def explained(*given: str) -> list[object]:
-        ended = subprocess.run(["node", EXPLAIN, *given], stdin=subprocess.DEVNULL, capture_output=True, text=True)
+        ended = explain(*given)
         return [ended.returncode, ended.stdout.partition("\n")[0], ended.stderr]
 
     def dropped(*given: str) -> list[object]:

@@ -143,9 +143,9 @@ class Browser:
         node = self.call("DOM.querySelector", nodeId=root, selector="#file")["nodeId"]
         self.call("DOM.setFileInputFiles", nodeId=node, files=[os.path.abspath(it) for it in paths])
 
-    def choose(self, path: str, patience: float = PATIENCE) -> dict[str, Any]:
-        """Gives a capture to the page by its input, and gives what is shown then."""
-        self.begin(path)
+    def choose(self, *paths: str, patience: float = PATIENCE) -> dict[str, Any]:
+        """Gives files to the page by its input, and gives what is shown then."""
+        self.begin(*paths)
         return self.shown(patience)
 
     def replay(self, path: str) -> dict[str, Any]:

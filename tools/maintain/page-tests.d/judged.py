@@ -2,32 +2,15 @@
 
 from __future__ import annotations
 
-import os
 import re
-import subprocess
-import tempfile
 
-from repository import read_text
 from stored import Tests
-from texts import EXPLAIN, STATUS, second_port, told_of
+from texts import second_port, status, told_first_of, told_of, told_of_two
 
 COPIED = "are of system 02-00-00-0{}-0a-01: if these are two hosts, give one of them another identifier"
 WAYS = "bonding: ad_actor_system; Open vSwitch: other_config:lacp-system-id; teamd: hwaddr, the address of the team device"
 COLLECTS = "the other end does not collect"
 UNHEARD = "No LACPDU comes on any link: is LACP on at the far end?"
-
-
-def status(name: str) -> str:
-    return read_text(os.path.join(STATUS, name))
-
-
-def told_of_two(here: str, there: str) -> str:
-    """What lagtool explain prints of two texts."""
-    with tempfile.NamedTemporaryFile("w", suffix=".txt") as one, tempfile.NamedTemporaryFile("w", suffix=".txt") as other:
-        for file, text in (one, here), (other, there):
-            file.write(text)
-            file.flush()
-        return subprocess.run(["node", EXPLAIN, one.name, other.name], stdin=subprocess.DEVNULL, capture_output=True, text=True).stdout
 
 
 def of_copies(tests: Tests) -> None:
@@ -142,8 +125,7 @@ def of_team_text(tests: Tests) -> None:
     """The text that teamdctl prints for people has no LACPDUs."""
     lines = "setup:", "  runner: lacp", "ports:", "  p1", "    link watches:", "      link summary: up", "    runner:", "      aggregator ID: 2, Selected", "      state: current"
     for name, text in ("plain", "\n".join(lines)), ("with a prompt", "\n".join(["root@host:~# teamdctl team0 state", *lines])):
-        ended, said = told_of(text)
-        tests.same(f"teamdctl team0 state, {name}", [ended, said.partition("\n")[0]], [2, "This text of teamdctl lacks the LACPDUs: give teamdctl team0 state dump."])
+        tests.same(f"teamdctl team0 state, {name}", told_first_of(text), [2, "This text of teamdctl lacks the LACPDUs: give teamdctl team0 state dump."])
     tests.same("another runner", told_of("\n".join(lines).replace("lacp", "roundrobin"))[1].partition("\n")[0], 'This team does not speak LACP: its runner is "roundrobin".')
 
 

@@ -18,8 +18,7 @@ PATIENCE = 900.0  # seconds
 
 def write(path: str) -> tuple[int, int]:
     """Writes a capture of two ends with much data between their LACPDUs; gives how many packets and LACPDUs it has."""
-    one, other = made.Party(1, 7, 1, made.UP), made.Party(2, 7, 1, made.UP)
-    frames = [made.frame(one.source(), made.lacpdu(one, other)), made.frame(other.source(), made.lacpdu(other, one))]
+    frames = [octets for _, octets in made.exchange(*made.one_link(made.UP), [0.0])]
     data, group = bytes.fromhex("0200000000020200000000010800") + bytes(DATA), EACH * (DATA + 30) + 140
     count = SIZE // group + 1
     made.pcap(path, ((number / 2 + part / 1000, [frames[number % 2], data][part > 0]) for number in range(count) for part in range(EACH + 1)))
@@ -35,7 +34,7 @@ def of_large(tests: Tests, browser: Browser, folder: str) -> None:
     shown = browser.shown()
     tests.same("a capture of 1 GB shows how far it is read, and is stopped", shown["said"], "stopped")
     began = time.monotonic()
-    shown = browser.choose(path, PATIENCE)
+    shown = browser.choose(path, patience=PATIENCE)
     tests.same("a capture of 1 GB is read to its end", shown["printed"].splitlines()[-1].split(" ends")[0], f"packets {packets} slow {lacpdus}")
     took, most = time.monotonic() - began, browser.most_memory()
     print(f"a capture of 1 GB took {took:.0f} s; the page had {most / 1e6:.0f} MB in memory at most", flush=True)

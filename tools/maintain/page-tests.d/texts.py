@@ -33,15 +33,39 @@ def truths() -> list[dict[str, str]]:
         return list(csv.DictReader(it, delimiter="\t"))
 
 
+def status(name: str) -> str:
+    """A text of examples/status."""
+    return read_text(os.path.join(STATUS, name))
+
+
+def explain(*words: str, given: str = "") -> subprocess.CompletedProcess[str]:
+    """lagtool explain with these words, and what it is given."""
+    return subprocess.run(["node", EXPLAIN, *words], input=given, capture_output=True, text=True)
+
+
 def told_of(text: str) -> tuple[int, str]:
     """The status of lagtool explain of a text, and all that it prints."""
-    ended = subprocess.run(["node", EXPLAIN, "-"], input=text, capture_output=True, text=True)
+    ended = explain("-", given=text)
     return ended.returncode, ended.stdout
 
 
-def explained(*paths: str) -> str:
-    """The headline of lagtool explain."""
-    return subprocess.run(["node", EXPLAIN, *paths], stdin=subprocess.DEVNULL, capture_output=True, text=True).stdout.partition("\n")[0]
+def told_first(ended: subprocess.CompletedProcess[str]) -> list[object]:
+    """The status of lagtool explain, and the headline."""
+    return [ended.returncode, ended.stdout.partition("\n")[0]]
+
+
+def told_first_of(text: str) -> list[object]:
+    """The same of a text."""
+    return told_first(explain("-", given=text))
+
+
+def told_of_two(here: str, there: str) -> str:
+    """What lagtool explain prints of two texts."""
+    with tempfile.NamedTemporaryFile("w", suffix=".txt") as one, tempfile.NamedTemporaryFile("w", suffix=".txt") as other:
+        for file, text in (one, here), (other, there):
+            file.write(text)
+            file.flush()
+        return explain(one.name, other.name).stdout
 
 
 def of_explain(tests: Tests, browser: Browser) -> None:
@@ -49,23 +73,22 @@ def of_explain(tests: Tests, browser: Browser) -> None:
     for name in captures():
         path = os.path.join(CAPTURES, name)
         browser.choose(path)
-        tests.same(f"{name}: explain says the same", explained(path), browser.value("document.getElementById('verdict').textContent"))
+        tests.same(f"{name}: explain says the same", told_first(explain(path))[1], browser.value("document.getElementById('verdict').textContent"))
     for row in truths():
         paths = [os.path.join(STATUS, row[name]) for name in ("text", "other end") if row[name]]
-        tests.same(f"{row['text']}: explain says the same", explained(*paths), pasted(browser, *map(read_text, paths))[0])
+        tests.same(f"{row['text']}: explain says the same", told_first(explain(*paths))[1], pasted(browser, *map(read_text, paths))[0])
 
 
 def of_words(tests: Tests) -> None:
     """lagtool explain reads standard input, and says why a file cannot be read."""
-    words = ["node", EXPLAIN]
-    with open(os.path.join(STATUS, "keys-bonding.txt"), encoding="utf-8") as it:
-        piped = subprocess.run([*words, "-"], stdin=it, capture_output=True, text=True)
-    tests.same("explain reads standard input", [piped.returncode, piped.stdout.partition("\n")[0]], [1, explained(os.path.join(STATUS, "keys-bonding.txt"))])
-    for path, why in (os.path.join(STATUS, "none.txt"), "no such file"), (STATUS, "is a folder"):
-        ended = subprocess.run([*words, path], stdin=subprocess.DEVNULL, capture_output=True, text=True)
-        tests.same(f"explain: {why}", [ended.returncode, ended.stderr], [2, f"lagtool: cannot read {path}: {why}\n"])
     text, capture = os.path.join(STATUS, "keys-bonding.txt"), os.path.join(CAPTURES, "bonding.pcap")
-    ended = subprocess.run([*words, text, capture], stdin=subprocess.DEVNULL, capture_output=True, text=True)
+    with open(text, encoding="utf-8") as it:
+        piped = subprocess.run(["node", EXPLAIN, "-"], stdin=it, capture_output=True, text=True)
+    tests.same("explain reads standard input", told_first(piped), [1, told_first(explain(text))[1]])
+    for path, why in (os.path.join(STATUS, "none.txt"), "no such file"), (STATUS, "is a folder"):
+        ended = explain(path)
+        tests.same(f"explain: {why}", [ended.returncode, ended.stderr], [2, f"lagtool: cannot read {path}: {why}\n"])
+    ended = explain(text, capture)
     apart = f"lagtool: captures and texts are explained apart: give {capture} without {text}\n"
     tests.same("explain of a text and a capture says what to give", [ended.returncode, ended.stderr], [2, apart])
     for given in ["explain", "--help"], ["--help"]:
@@ -77,27 +100,27 @@ def of_words(tests: Tests) -> None:
 def of_endings(tests: Tests) -> None:
     """The status of explain: each link carries, something is found, or there is no LACPDU."""
     wanted = {"healthy-bonding.txt": 0, "healthy-lagd.txt": 0, "keys-bonding.txt": 1, "static-bonding.txt": 1, "setdown-ip.json": 1, "healthy-bonding-user.txt": 2}
-    tests.same("explain ends with the status of what is found", {name: told_of(read_text(os.path.join(STATUS, name)))[0] for name in wanted}, wanted)
-    whole = read_text(os.path.join(STATUS, "healthy-bonding.txt"))
+    tests.same("explain ends with the status of what is found", {name: told_of(status(name))[0] for name in wanted}, wanted)
+    whole = status("healthy-bonding.txt")
     tests.same("a bond without LACP is a finding", told_of(whole.replace("IEEE 802.3ad Dynamic link aggregation", "load balancing (xor)"))[0], 1)
     tests.same("a text that is cut has no LACPDU to judge", told_of(whole[: len(whole) // 2])[0], 2)
     with tempfile.NamedTemporaryFile(suffix=".pcap") as it:
         made.pcap(it.name, [])
-        tests.same("a capture without an LACPDU ends with 2", subprocess.run(["node", EXPLAIN, it.name], stdin=subprocess.DEVNULL, capture_output=True).returncode, 2)
+        tests.same("a capture without an LACPDU ends with 2", explain(it.name).returncode, 2)
     hears = os.path.join(CAPTURES, "bonding.pcap")
-    tests.same("a link that does not carry, without a cause, is a finding", subprocess.run(["node", EXPLAIN, hears], stdin=subprocess.DEVNULL, capture_output=True).returncode, 1)
+    tests.same("a link that does not carry, without a cause, is a finding", explain(hears).returncode, 1)
 
 
 def of_programs(tests: Tests) -> None:
     """Each text is told in the words of its program, once, and in whole sentences."""
-    said = {row["text"]: told_of(read_text(os.path.join(STATUS, row["text"])))[1] for row in truths()}
+    said = {row["text"]: told_of(status(row["text"]))[1] for row in truths()}
     tests.same("commands of Open vSwitch stand at its texts alone", [name for name, text in said.items() if "ovs-" in text and "open-vswitch" not in name], [])
     tests.same("a text without root says once how it is read", said["healthy-bonding-user.txt"].count("sudo cat"), 1)
     tests.same("nothing came 1 times", [name for name, text in said.items() if " 1 times" in text], [])
-    failed = read_text(os.path.join(STATUS, "healthy-bonding.txt")).replace("Link Failure Count: 0", "Link Failure Count: 1", 1)
+    failed = status("healthy-bonding.txt").replace("Link Failure Count: 0", "Link Failure Count: 1", 1)
     tests.same("a link failed once", "p1: its link failed once since the bond has it" in told_of(failed)[1], True)
     partner = "the partner of q2 says that it is synchronized, and this end does not"
-    tests.same("of an end that attached nothing it is said who did not", partner in told_of(read_text(os.path.join(STATUS, "standby-bonding.other.txt")))[1], True)
+    tests.same("of an end that attached nothing it is said who did not", partner in told_of(status("standby-bonding.other.txt"))[1], True)
     keys = said["keys-bonding.txt"]
     tests.same("two boxes that are one system are one finding", ["two boxes have one system" in keys, "channel-group" in keys, "remark: p1, p2 name" in keys], [True, False, False])
     churned = said["churned-bonding.txt"]
@@ -107,7 +130,7 @@ def of_programs(tests: Tests) -> None:
 def of_waiting(tests: Tests) -> None:
     """A link that is back, and that lagd does not use yet, is no fault, and does not carry; another one that is down is."""
     word = "1 of 2 links carries. The link of p2 is back, and waits until its carrier was steady for so long (wait-to-restore): it is not used before."
-    text, line = (read_text(os.path.join(STATUS, f"waiting-lagd{end}")) for end in (".txt", "-json.json"))
+    text, line = (status(f"waiting-lagd{end}") for end in (".txt", "-json.json"))
     for form, it in ("text", text), ("JSON", line):
         ended, said = told_of(it)
         found = [ended, said.partition("\n")[0], "\n1. remark: the link of p2 is back" in said, "down" in said]
@@ -120,9 +143,9 @@ def of_waiting(tests: Tests) -> None:
 def of_away(tests: Tests) -> None:
     """A link whose carrier is away, and that lagd takes as up, is no fault, and does not carry."""
     away, word = "its carrier is away, for less than delay-down so far", "1 of 2 links carries. The carrier of p2 is away, and LACP takes the link as up (delay-down): it passes nothing now."
-    head, last = read_text(os.path.join(STATUS, "healthy-lagd.txt")).split("member: p2:")
+    head, last = status("healthy-lagd.txt").split("member: p2:")
     shown = f"{head}member: p2:{last.replace('it distributes', away).replace('link: up', 'link: away')}"
-    head, last = read_text(os.path.join(STATUS, "healthy-lagd-json.json")).split('{"port":2,')
+    head, last = status("healthy-lagd-json.json").split('{"port":2,')
     line = head + '{"port":2,' + last.replace("it distributes", away).replace('"link":"up"', '"link":"away"')
     for form, text in ("text", shown), ("JSON", line):
         ended, said = told_of(text)
@@ -132,8 +155,8 @@ def of_away(tests: Tests) -> None:
 def of_a_device_that_is_down(tests: Tests) -> None:
     """While the device of lagd is down its ports say so: that is the cause, not their cables."""
     word, told = "0 of 2 links carry. The device of the bundle", "LACP has ended on p1, p2."
-    off = read_text(os.path.join(STATUS, "healthy-lagd.txt")).replace("it distributes", "the device is down").replace("link: up", "link: down").replace("may_enable: true", "may_enable: false")
-    line = read_text(os.path.join(STATUS, "healthy-lagd-json.json")).replace("it distributes", "the device is down").replace('"link":"up"', '"link":"down"').replace('"carries":true', '"carries":false')
+    off = status("healthy-lagd.txt").replace("it distributes", "the device is down").replace("link: up", "link: down").replace("may_enable: true", "may_enable: false")
+    line = status("healthy-lagd-json.json").replace("it distributes", "the device is down").replace('"link":"up"', '"link":"down"').replace('"carries":true', '"carries":false')
     for form, text in ("text", off), ("JSON", line):
         first = told_of(text)[1].partition("\n")[0]
         tests.same(f"a device that is down, as {form}", [first.startswith(word), first.endswith(told), "cable" in first], [True, True, False])
@@ -141,7 +164,7 @@ def of_a_device_that_is_down(tests: Tests) -> None:
 
 def of_held(tests: Tests) -> None:
     """A link that lagd holds is said to be held, and not that it waits, or that the other end is ahead of it."""
-    text, line = read_text(os.path.join(STATUS, "healthy-lagd.txt")), read_text(os.path.join(STATUS, "healthy-lagd-json.json"))
+    text, line = status("healthy-lagd.txt"), status("healthy-lagd-json.json")
     bits = {"aggregation synchronization collecting distributing": "aggregation", '"aggregation","synchronization","collecting","distributing"': '"aggregation"'}
 
     def held(part: str) -> str:
@@ -164,8 +187,8 @@ def of_held(tests: Tests) -> None:
 def of_set_down(tests: Tests) -> None:
     """A link that is set down here is to be set up first; where the text does not tell that, both are said; a link that is up by its flags has its cable."""
     cable, both = "there: look at the cable", "there: if it is set down here, ip link set p2 up; else look at the cable"
-    shown = read_text(os.path.join(STATUS, "minlinksdown-ip-text.txt"))
-    links = json.loads(read_text(os.path.join(STATUS, "healthy-ip.json")))
+    shown = status("minlinksdown-ip-text.txt")
+    links = json.loads(status("healthy-ip.json"))
     data = links[2]["linkinfo"]["info_slave_data"]
     data["mii_status"], links[2]["flags"] = "DOWN", ["BROADCAST", "MULTICAST", "SLAVE"]
     data["ad_actor_oper_port_state"] = data["ad_partner_oper_port_state"] = 7
@@ -175,29 +198,27 @@ def of_set_down(tests: Tests) -> None:
         found = [ended, *(it.strip() for it in said.split("\n")[:2]), "\n   ip link set p2 up\n" in said, "cable" in said]
         tests.same(f"a link that is set down, as ip's {form}", found, wanted)
     for name, word in ("minlinksdown-ip-text.txt", cable), ("down-lagd.txt", both), ("down-bonding.txt", both):
-        tests.same(f"{name}: what is looked at first", word in told_of(read_text(os.path.join(STATUS, name)))[1], True)
+        tests.same(f"{name}: what is looked at first", word in told_of(status(name))[1], True)
 
 
 def of_nothing(tests: Tests) -> None:
     """A bundle of lagd without links is whole; a text without a bond, and one that is empty, have nothing to read."""
-    head = read_text(os.path.join(STATUS, "healthy-lagd.txt")).split("member: ")[0].replace("up, 2 of 2", "down, 0 of 0")
-    line = json.loads(read_text(os.path.join(STATUS, "healthy-lagd-json.json")))
+    head = status("healthy-lagd.txt").split("member: ")[0].replace("up, 2 of 2", "down, 0 of 0")
+    line = json.loads(status("healthy-lagd-json.json"))
     empty = json.dumps({**line, "state": "down", "links": 0, "carrying": 0, "aggregator": 0, "ports": []}, separators=(",", ":"))
     for form, text in ("text", head), ("JSON", empty):
-        ended, said = told_of(text)
-        tests.same(f"a bundle without links, as {form}", [ended, said.partition("\n")[0]], [1, "The bundle p1 has no links."])
+        tests.same(f"a bundle without links, as {form}", told_first_of(text), [1, "The bundle p1 has no links."])
     tests.same("one that is cut behind its head is cut", told_of(head.replace("0 of 0", "0 of 2"))[0], 2)
-    alone = json.dumps(json.loads(read_text(os.path.join(STATUS, "healthy-ip.json")))[:1])
-    ended, said = told_of(alone)
-    tests.same("a text without a bond", [ended, said.partition("\n")[0]], [2, "No bond is in this text."])
+    alone = json.dumps(json.loads(status("healthy-ip.json"))[:1])
+    tests.same("a text without a bond", told_first_of(alone), [2, "No bond is in this text."])
     for text in "", "\n":
-        run = subprocess.run(["node", EXPLAIN, "-"], input=text, capture_output=True, text=True)
+        run = explain("-", given=text)
         tests.same(f"an input of {len(text)} octets", [run.returncode, run.stdout, run.stderr], [2, "", "lagtool: the input is empty: did the command before it fail?\n"])
 
 
 def of_speeds(tests: Tests) -> None:
     """Where keys differ because speeds do, the speeds come first, and the keys below them; else the keys."""
-    text = read_text(os.path.join(STATUS, "speeds-bonding.txt"))
+    text = status("speeds-bonding.txt")
     text = text.replace("oper key: 9", "oper key: 5").replace("oper key: 7", "oper key: 5")
     one_there = told_of(text)[1]
     first, keys = "1 of 2 links carries. The links of the bond differ in speed or duplex.", "keys differ within one pair of systems"
@@ -209,7 +230,7 @@ def of_speeds(tests: Tests) -> None:
 
 def of_partners(tests: Tests) -> None:
     """How the partner of a port that is not used differs: its system priority, or it is individual."""
-    head, last = read_text(os.path.join(STATUS, "keys-bonding.txt")).split("Slave Interface: p2")
+    head, last = status("keys-bonding.txt").split("Slave Interface: p2")
     own, partner = last.replace("oper key: 143", "oper key: 79").rsplit("details partner", 1)
     partner = partner.replace("port number: 1", "port number: 2")
     cases = {
@@ -225,7 +246,7 @@ def of_partners(tests: Tests) -> None:
 
 def second_port(own: int, there: int, key: int = 15, port: int = 2) -> str:
     """A bond of two links: what it says of the second one: the states of both ends, and of its partner the key and the port."""
-    head, last = read_text(os.path.join(STATUS, "healthy-bonding.txt")).split("Slave Interface: p2")
+    head, last = status("healthy-bonding.txt").split("Slave Interface: p2")
     before, partner = last.rsplit("details partner", 1)
     for name, now, value in ("oper key", 15, key), ("port number", 2, port), ("port state", 63, there):
         partner = partner.replace(f"{name}: {now}", f"{name}: {value}")
@@ -249,12 +270,8 @@ def of_partner_states(tests: Tests) -> None:
         headline, line, _, _, told, *_ = told_of(second_port(own, there))[1].split("\n")
         wanted = [f"1 of 2 links carries. {cause}", why, True, False]
         tests.same(name, [headline, line.split("does not carry: ")[-1], advice in told, "channel-group" in told], wanted)
-    deaf = read_text(os.path.join(STATUS, "deaf-bonding.txt")).replace(":0b:", ":0c:").replace(":0a:", ":0b:").replace(":0c:", ":0a:").replace("p2", "q2")
-    with tempfile.NamedTemporaryFile("w", suffix=".txt") as one, tempfile.NamedTemporaryFile("w", suffix=".txt") as other:
-        for file, text in (one, second_port(13, 69)), (other, deaf):
-            file.write(text)
-            file.flush()
-        both = subprocess.run(["node", EXPLAIN, one.name, other.name], stdin=subprocess.DEVNULL, capture_output=True, text=True).stdout
+    deaf = status("deaf-bonding.txt").replace(":0b:", ":0c:").replace(":0a:", ":0b:").replace(":0c:", ":0a:").replace("p2", "q2")
+    both = told_of_two(second_port(13, 69), deaf)
     tests.same("the same with the text of the deaf end", ["both texts have LACP, and the far end's q2 does not hear p2." in both, "channel-group" in both], [True, False])
     far = "The numbers of the ports there lie far apart"
     for port, is_two in (3, False), (32770, True):
@@ -262,18 +279,18 @@ def of_partner_states(tests: Tests) -> None:
         found = [it in said for it in (far, "one MLAG number", "each has another partner, key or speed")]
         tests.same(f"keys that differ, with port {port} there", found, [is_two, True, False])
     for name, word in ("third-bonding.txt", "mode=active-backup"), ("third-teamd.json", "the runner activebackup"):
-        said = told_of(read_text(os.path.join(STATUS, name)))[1]
+        said = told_of(status(name))[1]
         words = f"without MLAG: {word}, which needs no LACP", "take both ports there out of their LACP groups", "want a bond each", "ether proto 0x88cc"
         tests.same(f"{name}: what goes without MLAG, and how a switch is found", [it in said for it in words], [True] * 4)
     receiver = "If it asks for one each second, and one comes each 30 s, that end hears nobody, either"
-    tests.same("of bonding that hears nobody: what a capture then says", receiver in told_of(read_text(os.path.join(STATUS, "deaf-bonding.txt")))[1], True)
+    tests.same("of bonding that hears nobody: what a capture then says", receiver in told_of(status("deaf-bonding.txt"))[1], True)
 
 
 def of_one_file(tests: Tests) -> None:
     """Several statuses in one file: it is said that they are there, and what to do where they are both ends of links."""
     names = "bonding.txt", "bonding.other.txt", "ip.json", "ip-text.txt", "teamd.json", "lagd.txt"
-    whole = {name: read_text(os.path.join(STATUS, f"healthy-{name}")) for name in names}
-    plain = read_text(os.path.join(STATUS, "healthy-bonding-user.txt"))
+    whole = {name: status(f"healthy-{name}") for name in names}
+    plain = status("healthy-bonding-user.txt")
     tests.same("two statuses without LACPDUs are not said to be both ends", "remark: 2 bundles are in one text" in told_of(f"{plain}\n{plain}")[1], True)
     both = "both ends of links are in one text"
     for one, other, word in ("bonding.txt", "bonding.other.txt", both), *((it, it, "2 bundles are in one text") for it in names[2:]):
@@ -286,14 +303,14 @@ def of_hashes(tests: Tests) -> None:
     def head(name: str) -> str:
         return "2 of 2 links carry. LACP is not your trouble, if the other end says so, too. One flow has the speed of one link: the hash " + f"({name}) chooses it."
 
-    bond, machine, connection = read_text(os.path.join(STATUS, "healthy-bonding.txt")), "By it all that it sends to one machine goes over one link", "By it each connection goes over one link"
+    bond, machine, connection = status("healthy-bonding.txt"), "By it all that it sends to one machine goes over one link", "By it each connection goes over one link"
     config = json.dumps({"device": "team0", "runner": {"name": "lacp", "tx_hash": ["eth", "ipv4", "ipv6"]}}, indent=4)
-    backup = read_text(os.path.join(STATUS, "backup-open-vswitch.txt"))
+    backup = status("backup-open-vswitch.txt")
     cases = {
         "xmit_hash_policy layer2": (bond, machine),
         "xmit_hash_policy layer3+4": (bond.replace("layer2 (0)", "layer3+4 (1)"), connection),
-        "tx_hash eth, ipv4, ipv6": (f"{read_text(os.path.join(STATUS, 'healthy-teamd.json'))}\n{config}\n", machine),
-        "hash layer2+3": (read_text(os.path.join(STATUS, "healthy-lagd.txt")).replace("\n\n", "\n  carry: lag0, carrier on, hash layer2+3, flight 10 ms, the kernel\n\n", 1), machine),
+        "tx_hash eth, ipv4, ipv6": (f"{status('healthy-teamd.json')}\n{config}\n", machine),
+        "hash layer2+3": (status("healthy-lagd.txt").replace("\n\n", "\n  carry: lag0, carrier on, hash layer2+3, flight 10 ms, the kernel\n\n", 1), machine),
         "bond_mode balance-tcp": (backup.replace("bond_mode: active-backup", "bond_mode: balance-tcp"), connection),
     }
     for name, (text, meaning) in cases.items():
@@ -306,11 +323,11 @@ def of_hashes(tests: Tests) -> None:
 
 def of_passive(tests: Tests) -> None:
     """What sets a passive end to active, in the words of its program, with the name of the bond where the text has it."""
-    bond, links = read_text(os.path.join(STATUS, "healthy-bonding.txt")).replace("port state: 63", "port state: 62"), json.loads(read_text(os.path.join(STATUS, "healthy-ip.json")))
+    bond, links = status("healthy-bonding.txt").replace("port state: 63", "port state: 62"), json.loads(status("healthy-ip.json"))
     for it in links[1:3]:
         it["linkinfo"]["info_slave_data"]["ad_actor_oper_port_state"] = it["linkinfo"]["info_slave_data"]["ad_partner_oper_port_state"] = 62
-    show = read_text(os.path.join(STATUS, "healthy-open-vswitch.txt")).replace(": activity ", ": ")
-    team, lagd = (read_text(os.path.join(STATUS, f"healthy-{it}")) for it in ("teamd.json", "lagd.txt"))
+    show = status("healthy-open-vswitch.txt").replace(": activity ", ": ")
+    team, lagd = (status(f"healthy-{it}") for it in ("teamd.json", "lagd.txt"))
     cases = {
         "bonding": (bond, "ip link set BOND down; ip link set BOND type bond lacp_active on; ip link set BOND up"),
         "bonding, named": (f"==> /proc/net/bonding/bond7 <==\n{bond}", "ip link set bond7 type bond lacp_active on"),
@@ -322,13 +339,13 @@ def of_passive(tests: Tests) -> None:
     for name, (text, command) in cases.items():
         said = told_of(text)[1]
         tests.same(f"two passive ends, by {name}", [said.partition("\n")[0].startswith("0 of 2 links carry. Both ends are passive:"), command in said], [True, True])
-    one = read_text(os.path.join(STATUS, "passive-bonding.txt"))
+    one = status("passive-bonding.txt")
     tests.same("a passive end that hears nobody", "type bond lacp_active on" in told_of(one)[1], True)
 
 
 def of_names(tests: Tests) -> None:
     """Bonds have the names that tail writes before them; without these they are counted."""
-    keys, down = (read_text(os.path.join(STATUS, f"{it}-bonding.txt")) for it in ("keys", "passive"))
+    keys, down = (status(f"{it}-bonding.txt") for it in ("keys", "passive"))
     down = down.replace("02:00:00:01:0a:", "02:00:00:01:0d:")
     named = f"==> /proc/net/bonding/bond0 <==\n{keys}\n==> /proc/net/bonding/up link <==\n{down}"
     said, counted = told_of(named), told_of(f"{keys}\n{down}")
@@ -342,7 +359,7 @@ def of_names(tests: Tests) -> None:
 
 def of_lines(tests: Tests) -> None:
     """Lines of a bond that are not known change nothing; without one that says whether a link is up, or of an LACPDU, nothing is judged."""
-    bond = read_text(os.path.join(STATUS, "healthy-bonding.txt"))
+    bond = status("healthy-bonding.txt")
     tests.same("lines of another driver", told_of(bond.replace("LACP rate:", "New line: 5\nLACP rate:").replace("Slave queue", "New count: 7\nSlave queue")), told_of(bond))
     for name in "MII Status", "system priority", "system mac address", "port key", "oper key", "port priority", "port number", "port state":
         head, first, *others = bond.split("Slave Interface: ")
@@ -353,7 +370,7 @@ def of_lines(tests: Tests) -> None:
 
 def of_order(tests: Tests) -> None:
     """Of bonding that hears nobody on a link the capture comes first, then what it tells."""
-    said = told_of(read_text(os.path.join(STATUS, "deaf-bonding.txt")))[1]
+    said = told_of(status("deaf-bonding.txt"))[1]
     words = "timeout 100 tcpdump -i p2 -w p2.pcap", "LACPDUs of the other end come as often", "If it asks for one each second", "None comes: look whether the port at the other end", "show lacp counters"
     places = [said.find(it) for it in words]
     tests.same("of a deaf link the capture comes first", [-1 in places, places == sorted(places), said[places[0] :].count("\n") >= len(words) - 2], [False, True, True])
@@ -361,7 +378,7 @@ def of_order(tests: Tests) -> None:
 
 def of_texts(tests: Tests, browser: Browser) -> None:
     for row in truths():
-        text, other = (read_text(os.path.join(STATUS, row[name])) if row[name] else "" for name in ("text", "other end"))
+        text, other = (status(row[name]) if row[name] else "" for name in ("text", "other end"))
         verdict, first, said = pasted(browser, text, other)
         cause = "" if first.startswith("Remark: ") else first
         right = verdict.startswith(row["links that carry"]) and (row["first cause"].lower() in cause.lower() if row["first cause"] else not cause) and not said
@@ -371,7 +388,7 @@ def of_texts(tests: Tests, browser: Browser) -> None:
     of_explain(tests, browser)
     for it in of_words, of_endings, of_programs, of_away, of_a_device_that_is_down, of_waiting, of_held, of_set_down, of_nothing, of_speeds, of_partners, of_partner_states, of_passive, of_names, of_lines, of_order, of_one_file, of_hashes:
         it(tests)
-    passive = read_text(os.path.join(STATUS, "healthy-bonding.txt")).replace("port state: 63", "port state: 62")
+    passive = status("healthy-bonding.txt").replace("port state: 63", "port state: 62")
     tests.same("two passive ends do not carry, as in a capture", pasted(browser, passive)[0], "0 of 2 links carry. Both ends are passive: p1, p2.")
     shown = browser.choose(os.path.join(STATUS, "keys-bonding.txt"))
     tests.same("a status that is a file is explained", [shown["status"], browser.value(SAID)[0].split(".")[0]], [1, "1 of 2 links carries"])
@@ -381,7 +398,7 @@ def of_texts(tests: Tests, browser: Browser) -> None:
 def of_ways(tests: Tests, browser: Browser) -> None:
     """As people paste: with other ends of lines, a prompt, marks of a quotation, indented."""
     for name in "keys-bonding.txt", "keys-open-vswitch.txt", "third-teamd.json", "down-lagd.txt":
-        text = read_text(os.path.join(STATUS, name))
+        text = status(name)
         lines = text.split("\n")
         ways = ["\r\n".join(lines), f"root@host:~# cat it\n{text}\nroot@host:~# ", "\n".join(f"> {it}" for it in lines), "\n".join(f"    {it}" for it in lines)]
         plain = pasted(browser, text)
@@ -391,7 +408,7 @@ def of_ways(tests: Tests, browser: Browser) -> None:
 def of_cuts(tests: Tests, browser: Browser) -> None:
     """Of a text that is cut no cause is named."""
     for name in (it["text"] for it in truths() if it["text"].startswith("healthy-")):
-        text, named = read_text(os.path.join(STATUS, name)), []
+        text, named = status(name), []
         for turn in range(1, CUTS):
             verdict, first, _ = pasted(browser, text[: len(text) * turn // CUTS])
             if first and not first.startswith("Remark: ") and "lacks the LACPDUs" not in first:
@@ -402,7 +419,7 @@ def of_cuts(tests: Tests, browser: Browser) -> None:
 
 def of_cut_bonds(tests: Tests) -> None:
     """A text of bonding that is cut behind its first port, or in the last line, is said to be cut, and where."""
-    both, apart = (read_text(os.path.join(STATUS, f"{it}-bonding.txt")) for it in ("healthy", "keys"))
+    both, apart = (status(f"{it}-bonding.txt") for it in ("healthy", "keys"))
     first, begin, last = both.index("Slave Interface: p2"), apart.index("Slave Interface: p2"), apart.rstrip("\n")
     cut = "The text is cut: {}. Nothing is named: give all of it, with the line behind it."
     cases = {
@@ -412,8 +429,7 @@ def of_cut_bonds(tests: Tests) -> None:
         "in its last number": (last, 2, cut.format('its last line, "port state: 15", may go on')),
         "behind a number that is whole": (last[: -len("15")] + "0", 1, "1 of 2 links carries. Keys differ within one pair of systems: p1, p2."),
     }
-    for name, (text, status, said) in cases.items():
-        ended, told = told_of(text)
-        tests.same(f"a text of bonding that is cut {name}", [ended, told.partition("\n")[0]], [status, said])
+    for name, (text, ended, said) in cases.items():
+        tests.same(f"a text of bonding that is cut {name}", told_first_of(text), [ended, said])
     ended, told = told_of(apart[:begin])
     tests.same("of one port alone the page cannot tell, and says so", [ended, "If the bundle has more, the text is cut" in told], [0, True])

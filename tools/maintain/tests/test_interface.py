@@ -165,26 +165,11 @@ def test_functions_are_written_in_their_places_and_new_ones_behind_the_one_befor
     assert lag_h.with_functions(WRITTEN, [TELL, TICK]) == WRITTEN
 
 
-def test_a_type_that_c_has_not_is_refused() -> None:
-    with pytest.raises(sources.Missing, match="no type of C for String"):
-        sources.Structs("#[repr(C)]\npub struct LagText {\n    pub text: String,\n}\n")
-
-
 def test_structs_and_numbers_that_differ_are_told_by_their_names() -> None:
     structs = "".join(f"struct {name} {{ {' '.join(f'{it.declared()};' for it in body)}\n}};\n" for name, body in STRUCTS.all.items())
     assert list(lag_h.differences(structs + "#define NIW_ROOM 24\n", STRUCTS, {"NIW_ROOM": 24})) == []
     struct, number = lag_h.differences(structs.replace("mac[6]", "mac[5]") + "#define NIW_ROOM 24\n", STRUCTS, {"NIW_ROOM": 25})
     assert struct.startswith("struct niw_end: ") and number == "number NIW_ROOM: the sources have 25; the header has 24"
-
-
-def test_a_header_has_each_enumerator_once() -> None:
-    with pytest.raises(numbering.Missing, match="NIW_FIRST stands twice in the header"):
-        numbering.of_header("enum { NIW_FIRST };\nenum { NIW_FIRST };\n")
-
-
-def test_a_constant_has_one_number() -> None:
-    with pytest.raises(numbering.Missing, match="NIW_NOT_HERE has two numbers in the sources"):
-        numbering.of_sources("const NOT_HERE: u32 = 7;\nconst NOT_HERE: u32 = 8;", {})
 
 
 @pytest.mark.parametrize(("old", "new"), [("NoRoad => 1", "NoRoad => 2"), ("::Other(_) => 4,", ""), ("    /// 4: this is wrong.\n", "")])
@@ -206,11 +191,6 @@ def test_two_names_of_one_number_and_a_missing_one_are_refused(monkeypatch: pyte
     monkeypatch.setitem(lag_h.MORE, "SystemFault", ["NIW_MORE"])
     with pytest.raises(lag_h.Missing):
         lag_h.enumerators("SystemFault", KNOWN, body)
-
-
-def test_a_number_without_a_text_is_refused() -> None:
-    with pytest.raises(lag_h.Missing, match="no text of NIW_NEW"):
-        lag_h.written_texts({"NIW_OK": 0, "NIW_NEW": 1}, {"NIW_OK": "done"})
 
 
 def test_a_refusal_keeps_its_cells_and_a_new_one_says_its_line(monkeypatch: pytest.MonkeyPatch) -> None:
@@ -255,7 +235,19 @@ def test_a_word_of_rust_gets_its_mark() -> None:
     assert "    pub r#where: u16,\n" in told and "    pub fn lagffi_new(r#type: usize) -> Made;\n" in told
 
 
-@pytest.mark.parametrize(("read", "text"), [(bindings.enum_class, "NIW_NEW = 1"), (bindings.in_ctypes, "long double"), (rust.in_rust, "float")])
-def test_what_python_and_rust_have_not_is_refused(read: Callable[[str], object], text: str) -> None:
-    with pytest.raises(Missing):
-        read(text)
+REFUSED: dict[str, tuple[Callable[..., object], tuple[object, ...], str]] = {
+    "a type that C has not": (sources.Structs, ("#[repr(C)]\npub struct LagText {\n    pub text: String,\n}\n",), "no type of C for String"),
+    "an enumerator that stands twice": (numbering.of_header, ("enum { NIW_FIRST };\nenum { NIW_FIRST };\n",), "NIW_FIRST stands twice in the header"),
+    "a constant of two numbers":
+        (numbering.of_sources, ("const NOT_HERE: u32 = 7;\nconst NOT_HERE: u32 = 8;", {}), "NIW_NOT_HERE has two numbers in the sources"),
+    "a number without a text": (lag_h.written_texts, ({"NIW_OK": 0, "NIW_NEW": 1}, {"NIW_OK": "done"}), "no text of NIW_NEW"),
+    "an enum that Python has not": (bindings.enum_class, ("NIW_NEW = 1",), ""),
+    "a type that ctypes has not": (bindings.in_ctypes, ("long double",), ""),
+    "a type that Rust has not": (rust.in_rust, ("float",), ""),
+}
+
+
+@pytest.mark.parametrize(("read", "given", "told"), REFUSED.values(), ids=REFUSED)
+def test_what_cannot_be_written_is_refused(read: Callable[..., object], given: tuple[object, ...], told: str) -> None:
+    with pytest.raises(Missing, match=told):
+        read(*given)

@@ -55,13 +55,9 @@ def played(agrees_after: int) -> Callable[[object, list[str]], list[str]]:
 ROUND = ["tick 1 1", "tick 2 1", "emit 1 4", "emit 1 4", "deliver 1 2", "deliver 1 2"]
 
 
-def test_what_stands_for_itself_stays() -> None:
+def test_what_stands_for_itself_stays_and_addresses_get_hyphens() -> None:
     script = read('["sense 1 2", "cut 1"]').script()
     assert script.startswith('# A title\n\nevents = [\n    "sense 1 2",\n    "cut 1",\n]\n\n[[system]]\n')
-
-
-def test_addresses_get_hyphens() -> None:
-    script = read("[]").script()
     assert 'mac = "02-00-00-00-00-a1"\n' in script and "mac = '02-00-00-00-00-b2'\n" in script
 
 
@@ -70,18 +66,12 @@ def test_a_repeat_is_its_entries_so_often() -> None:
     assert script.count('"lose 1 1"') == 2 and script.count('"cut 1"') == 6
 
 
-def test_a_round_has_what_does_something(monkeypatch: pytest.MonkeyPatch) -> None:
-    monkeypatch.setattr(longer.Longer, "report", played(agrees_after=9))
-    made = read('["round 1"]')
-    made.add("round 1", "event 1")
-    assert made.events == ROUND
-
-
-def test_a_wait_ends_with_agreement(monkeypatch: pytest.MonkeyPatch) -> None:
-    monkeypatch.setattr(longer.Longer, "report", played(agrees_after=3))
+@pytest.mark.parametrize(("entry", "agrees_after", "rounds"), [("round 1", 9, 1), ("until 1 same 5", 3, 3)])
+def test_a_round_has_what_does_something_and_a_wait_ends(monkeypatch: pytest.MonkeyPatch, entry: str, agrees_after: int, rounds: int) -> None:
+    monkeypatch.setattr(longer.Longer, "report", played(agrees_after))
     made = read("[]")
-    made.add("until 1 same 5", "event 1")
-    assert made.events == ROUND * 3
+    made.add(entry, "event 1")
+    assert made.events == ROUND * rounds
 
 
 @pytest.mark.parametrize(
