@@ -1,7 +1,8 @@
 /* One end of link aggregation whose ports come and go, over lag.h: for hosts that have ports, clocks and sockets of their own.
  *
  * A system of liblag has its ports for life. lag_end_remake makes it anew of the ports that there are now: each port that carried goes on where
- * it was, and its peer notices nothing; a port that is new, or whose peer has to be told something new, negotiates.
+ * it was, and its peer notices nothing, or learns another LACP_Activity or LACP_Timeout; a port that is new, or whose peer has to be told something else,
+ * negotiates.
  *
  * Functions in a header, so that the build of a host has no further source file. Their caller holds one lock for all ends. */
 #ifndef LAG_END_H
@@ -18,8 +19,9 @@
 /* The most responses to markers that a port sends in a second. */
 #define LAG_RESPONSES 10
 
-/* Where the frame of an LACPDU has the state of its sender. */
+/* Where the frame of an LACPDU has the state of its sender, and the state that this knows of the port to which it is sent. */
 #define LAG_ACTOR_STATE 32
+#define LAG_PARTNER_STATE 52
 
 /* How often a partner sends that is asked for long timeouts, in ticks (IEEE 802.1AX-2014, 6.4.4). */
 #define LAG_SLOW_TICKS 300
@@ -53,7 +55,7 @@ struct lag_port {
     bool up;
     bool carried;                  /* It distributes and has a partner, or did for the program that ran before. */
     uint16_t aggregator;           /* In which it did so, as niw_view tells it. */
-    const struct lag_heard *heard; /* May be NULL. */
+    struct lag_heard *heard;       /* May be NULL. */
     void *owner;                   /* The caller's. */
     bool begins;                   /* Answer: it carried, and has to begin anew. */
     uint32_t why;                  /* Of `begins`: NIW_STALE or NIW_NOT_DISTRIBUTING; 0 of a port without an LACPDU or a link. */
@@ -209,38 +211,80 @@ lag_end_save(struct lag_port *ports, size_t count, struct niw_saved *saved, int6
     return kept;
 }
 
-/* Makes the system of `count` ports, of which the first `kept` of `saved` go on. Where one of them can't, it begins anew and the others go on. */
+/* Gives a port the LACP_Activity and LACP_Timeout that its partner knows, by the partner's last LACPDU: with others it would not go on. Where it is to be
+ * passive beside a passive partner it keeps its own: no LACPDU would tell the partner. */
+static inline void
+lag_take_known_mode(struct niw_port *port, const uint8_t *frame)
+{
+    if (port->active || frame[LAG_ACTOR_STATE] & NIW_STATE_ACTIVITY) {
+        port->active = frame[LAG_PARTNER_STATE] & NIW_STATE_ACTIVITY;
+        port->short_timeout = frame[LAG_PARTNER_STATE] & NIW_STATE_TIMEOUT;
+    }
+}
+
+/* Gives a port another LACP_Activity or LACP_Timeout, and has its partner told: one that carries goes on. `heard` has the LACPDU that it last took. */
+static inline void
+lag_end_set_mode(struct lag_end *end, uint16_t port, bool active, bool short_timeout, struct lag_heard *heard)
+{
+    uint64_t state = niw_state(&end->system, port).number;
+    bool was_active = state & NIW_STATE_ACTIVITY, was_short = state & NIW_STATE_TIMEOUT;
+
+    if (active == was_active && short_timeout == was_short) {
+        return;
+    }
+    niw_set_mode(&end->system, port, active, short_timeout);
+    /* A partner that is told of a long timeout sends its next LACPDU up to 30 s later, and the timer has the rest of the short one: the last LACPDU
+     * comes again, as the partner sends it once it is told, and starts the timer with the long one. It is kept so for the next remake, too. */
+    if (was_short && !short_timeout && niw_receive_state(&end->system, port).number == NIW_RECEIVE_CURRENT) {
+        uint8_t response[NIW_FRAME];
+
+        heard->frame[LAG_PARTNER_STATE] &= (uint8_t) ~NIW_STATE_TIMEOUT;
+        niw_receive(&end->system, port, heard->frame, sizeof heard->frame, response, sizeof response);
+    }
+}
+
+/* Makes the system of `count` ports, of which the first `kept` of `saved` go on, which have the order of the ports. Where one of them can't, it begins anew
+ * and the others go on. */
 static inline struct niw_made
 lag_end_resume(struct lag_end *end, const struct niw_config *config, struct lag_port *ports, size_t count, struct niw_saved *saved, size_t kept)
 {
-    struct niw_port own[NIW_MOST_PORTS];
+    struct niw_port known[NIW_MOST_PORTS];
     uint16_t keys[NIW_MOST_PORTS];
+    struct niw_made made;
 
-    for (size_t i = 0; i < count; i++) {
-        own[i] = ports[i].port;
-        keys[i] = own[i].key;
+    for (size_t i = 0, next = 0; i < count; i++) {
+        known[i] = ports[i].port;
+        keys[i] = known[i].key;
+        if (next < kept && saved[next].port == known[i].number) {
+            lag_take_known_mode(&known[i], saved[next++].frame);
+        }
     }
     for (;;) {
-        struct niw_made made = niw_resume(&end->system, config, keys, count, own, count, saved, kept);
         size_t i = 0;
 
+        made = niw_resume(&end->system, config, keys, count, known, count, saved, kept);
         if (made.status != NIW_STALE && made.status != NIW_NOT_DISTRIBUTING) {
-            return made;
+            break;
         }
         while (i < kept && saved[i].port != made.place) {
             i++;
         }
         if (i == kept) {
-            return made;
+            break;
         }
         for (size_t j = 0; j < count; j++) {
-            if (own[j].number == made.place) {
+            if (known[j].number == made.place) {
+                known[j] = ports[j].port;
                 ports[j].begins = true;
                 ports[j].why = made.status;
             }
         }
         memmove(&saved[i], &saved[i + 1], (--kept - i) * sizeof *saved);
     }
+    for (size_t i = 0; made.status == NIW_OK && i < count; i++) {
+        lag_end_set_mode(end, ports[i].port.number, ports[i].port.active, ports[i].port.short_timeout, ports[i].heard);
+    }
+    return made;
 }
 
 /* Makes the system anew, of `count` ports, in the place of the one that is there; `end` has none then if `count` is 0 or the call is refused.

@@ -8,8 +8,8 @@
  *     device NAME IFINDEX ADDRESS NEXT-MARKER
  *     port NAME IFINDEX NUMBER PRIORITY KEY ADDRESS CARRIER-CHANGES CARRIED CHOSEN AGGREGATOR AGE-MS LACPDU
  *
- * LACPDU are the first octets of its frame, or "-" with an age of -1. A file that is cut short, of another version or with a line that
- * is none of these tells nothing. */
+ * LACPDU are the first octets of its frame, of which lag_end_set_mode may have changed a bit, or "-" with an age of -1. A file that is cut short, of
+ * another version or with a line that is none of these tells nothing. */
 #ifndef LAG_STATE_H
 #define LAG_STATE_H
 

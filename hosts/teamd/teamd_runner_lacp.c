@@ -22,7 +22,6 @@
 #define TICK_NAME "lacp_tick"
 #define SOCKET_NAME "lacp_socket"
 #define TELLING_MS 1200	/* while the device goes down: how long the peers are told, before the links fall silent */
-#define PARTNER_STATE 52	/* where the frame of an LACPDU has what its sender knows of the state of this end */
 #define RETRY_MS 1000	/* until what was refused is tried again: a system, or a port by the kernel */
 
 static const uint8_t slow_address[ETH_ALEN] = { 0x01, 0x80, 0xC2, 0x00, 0x00, 0x02 };
@@ -491,7 +490,7 @@ static void send_last(struct lacp_port *port)
 	if (!port->heard.is || niw_receive_state(system, port->number).number != NIW_RECEIVE_CURRENT)
 		return;
 	memcpy(frame, port->heard.frame, NIW_FRAME);
-	frame[PARTNER_STATE] ^= NIW_STATE_TIMEOUT;
+	frame[LAG_PARTNER_STATE] ^= NIW_STATE_TIMEOUT;
 	niw_receive(system, port->number, frame, sizeof(frame), response, sizeof(response));
 	send_port(port);
 }

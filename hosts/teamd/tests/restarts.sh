@@ -11,6 +11,14 @@ end
 N=1; begin; until_state "$BOTH" 10; sleep 1
 for k in $(seq 10); do trip "SIGTERM with -N, -o -N" 8 'end_it; take'; lost_none "a clean restart loses nothing ($k)"; done
 until_state "$BOTH" 10; is "both carry in the end" "$BOTH" "$(state)"
+# Other timeouts than those of the teamd before: the peer is told. Where they are long now, its next LACPDU may come 30 s later.
+asks() { for p in eth1 eth2; do echo $(($(item ports.$p.runner.actor_lacpdu_info.state) & 2)); done | paste -s -d' '; }
+for FAST in false true false; do
+    want="2 2"; [ $FAST = true ] || want="0 0"
+    trip "SIGTERM with -N, -o -N with fast_rate $FAST" 12 'end_it; take'; lost_none "a clean restart with fast_rate $FAST loses nothing"
+    until_state "$BOTH" 10; is "its ports ask for those timeouts, and both carry" "$want $BOTH" "$(asks) $(state)"
+done
+FAST=true
 N=; end
 # With long timeouts at both ends a peer waits for 90 s, and an LACPDU goes every 30 s. So it matters how old the peer's last one is when teamd ends: how
 # many seconds ago it came, the file tells, which is written with each.
