@@ -62,8 +62,8 @@ const portOfText = (given) => ({
 });
 
 const times = (number) => Number(number) === 1 ? "once" : `${number} times`;
-/* What to do where a link failed so often. */
-const adviceOnFailures = (name, count) => Number(count) > 0 ? `If that count grows, the carrier of ${name} comes and goes: look at journalctl -k, at the errors of ethtool -S ${name}, at optics and cable.` : "";
+/* What to do where a link failed so often; once is seldom a fault. */
+const adviceOnFailures = (name, count) => Number(count) > 1 ? `If that count grows, the carrier of ${name} comes and goes: look at journalctl -k, at the errors of ethtool -S ${name}, at optics and cable.` : "";
 
 /* ---- /proc/net/bonding/NAME ---- */
 

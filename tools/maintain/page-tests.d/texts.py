@@ -237,7 +237,8 @@ def of_counts(tests: Tests) -> None:
         said = told_of(text.replace(old, old.replace("0", "7"), 1))[1].splitlines()
         at = next(number for number, line in enumerate(said) if ". remark: p1: " in line)
         tests.same(f"a link that {name} 7 times", said[at + 1], f"   {advice}")
-    tests.same("a link without such counts", "If that count" in told_of(text)[1] or "Churned" in told_of(text)[1], False)
+    for name, it in ("without such counts", text), ("that failed once", text.replace("Link Failure Count: 0", "Link Failure Count: 1", 1)):
+        tests.same(f"a link {name}", "If that count" in told_of(it)[1] or "Churned" in told_of(it)[1], False)
 
 
 def of_a_limit(tests: Tests) -> None:
