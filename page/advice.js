@@ -1,6 +1,7 @@
 /* What a rule says of a text: its title where a status is one moment, what is seen, and what to do, in the words of the program whose text it is. */
 
 import { adviceOnTwoSystems, capitalized, joinedBy, OWN_SYSTEM, TWO_BOXES } from "./keys.js";
+import { NO_ROOM } from "./status.js";
 
 /* For each form of a text what to look at where it does not say whether a link is up, how its program counts LACPDUs (of bonding, which counts none, what a
  * capture tells), what sets it to active, what gives its ports one key, and how it uses one link, with a spare, without LACP. */
@@ -67,6 +68,20 @@ function aloneSaid(ports, form) {
 
 /* A start lasts less than 10 s; who churns has been so for 60 s (6.4.17). */
 const asLong = ({ isLasting }) => isLasting ? "It has been so for 60 s or more, so it is no start: " : "Look again in 10 s: after a start it ends by itself. If it is still so: ";
+
+/* What the program of the end that has not attached ports says of why; nothing where no text has that. */
+function whySaid({ meant, isImplied }) {
+    const said = meant.map((it) => isImplied ? [nameOfPort(it), it.says] : [it.far, it.saysThere]).filter(([, why]) => why);
+    return { isFull: said.length > 0 && said.length === meant.length && said.every(([, why]) => why === NO_ROOM), text: said.map(([name, why]) => `what ${name} says of it: ${why}`).join("; ") };
+}
+
+/* What to do where an end has not attached a port, though the other one has. */
+function adviceOnUnattached(it) {
+    const { isFull, text } = whySaid(it);
+    if (isFull) return `${capitalized(text)} (max-links). It takes over when a link in use fails; to use it beside them, set max-links higher at that end.`;
+    if (text) return `${asLong(it)}${text}.`;
+    return `${asLong(it)}${it.isImplied ? "this end" : "the other end"} has chosen another aggregator, or has links enough (switch: max links).${it.isImplied ? "" : " Look at its status."}`;
+}
 
 /* The partner of a port, with its port there. */
 const partnerSaid = ({ partner: { system, port } }) => `${system ? dashed(system) : "a system that is not named"}${port ? ` port ${port}` : ""}`;
@@ -159,7 +174,7 @@ export const RULES = new Map([
     }],
     [22, {
         title: "it is attached, and the other end has not attached it", implied: (names) => `the partner of ${names} says that it is synchronized, and this end does not`,
-        advice: (it) => `${asLong(it)}${it.isImplied ? "this end" : "the other end"} has chosen another aggregator, or has links enough (switch: max links).${it.isImplied ? "" : " Look at its status."}`,
+        advice: adviceOnUnattached,
     }],
     [29, {
         title: "links lead to two systems", said: ({ ports }) => [eachOf(ports, systemSaid(ports))],

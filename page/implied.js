@@ -67,7 +67,7 @@ function lacpduOctets(source, actor, partner) {
 /* Who sends on a link: its end, and the other one, as a text has it or as this end was told. An implied peer has an address of its own, and is
  * left out where it has the end's system, since another LACPDU would be the same. */
 function sendersOf([end, far], number) {
-    const sender = (it, other = null) => ({ number, source: it.source || it.actor.system, actor: it.actor, partner: it.partner, of: { ...it, far: other && nameOfPort(other), isHeldThere: other?.isHeld } });
+    const sender = (it, other = null) => ({ number, source: it.source || it.actor.system, actor: it.actor, partner: it.partner, of: { ...it, far: other && nameOfPort(other), isHeldThere: other?.isHeld, saysThere: other?.says } });
     if (far) return [sender(end, far), sender(far, end)];
     if (!end.isHeard || end.actor.state & EXPIRED_BIT || end.partner.system === end.actor.system) return [sender(end)];
     return [sender(end), { number, source: `02:fe:00:00:${hexadecimal(number >> 8)}:${hexadecimal(number & 255)}`, actor: end.partner, partner: end.actor, of: { ...end, isImplied: true } }];

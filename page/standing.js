@@ -11,7 +11,11 @@ import { isDenied, linksOfTexts } from "./implied.js";
 import { adviceOnPassive, areTwinsApart, dashed, isLinked, isSeveral, keysFollowSpeed, nameOfPort, namesIn, RULES, portsNamedAlike } from "./advice.js";
 
 const isHalf = (it) => it.speed.endsWith("half");
+/* Whether the device of a port does not report its speed, or its duplex: Linux bonding sends nothing on it. */
+const isSpeedless = (it) => it.speed.includes("Unknown");
 const speedOf = (it) => parseInt(it.speed, 10);
+/* What a virtual card is set to where no other link has a speed, in Mb/s. */
+const USUAL_SPEED = 10000;
 /* The links that are slower than another, or half duplex. */
 const slowIn = (ports) => ports.filter((it) => isHalf(it) || ports.some((other) => speedOf(other) > speedOf(it)));
 const hearsNobody = (it) => (it.state & (DEFAULTED_BIT | EXPIRED_BIT)) !== 0;
@@ -21,6 +25,8 @@ const isPassive = (it) => !(it.state & ACTIVITY_BIT);
 
 /* A command of each port. */
 const eachDone = (ports, commandOf) => ports.map(({ name }) => commandOf(name)).join("; ");
+/* Bonding reads a speed as a link comes up. */
+const setSpeed = (ports, [other]) => eachDone(ports, (name) => `ip link set ${name} down; ethtool -s ${name} speed ${other ? speedOf(other) : USUAL_SPEED} duplex full; ip link set ${name} up`);
 const setUp = (ports) => eachDone(ports, (name) => `ip link set ${name} up`);
 const OF_CABLE = "look at the cable and at the other end's port.";
 
@@ -28,11 +34,12 @@ function linkFacts({ name, told, ports, hash, isFar }) {
     const dead = ports.filter((it) => it.link === false && !it.isWaiting && !it.isOff), setDown = dead.filter((it) => it.isSetDown), down = dead.filter((it) => !it.isSetDown);
     const held = ports.filter((it) => it.isHeld), isSetUp = down.every((it) => it.isSetDown === false);
     const off = ports.filter((it) => it.isOff), waiting = ports.filter((it) => it.isWaiting), up = ports.filter((it) => isLinked(it) && it.aggregator !== null), linked = ports.filter(isLinked);
-    const parts = [...new Set(up.map((it) => it.aggregator))], standing = ports.filter((it) => it.standsBy), away = ports.filter((it) => it.isAway);
+    const speeds = linked.filter((it) => !isSpeedless(it)), speedless = linked.filter((it) => isSpeedless(it) && !(saysCarry(it) && it.partner));
+    const mute = down.filter(isSpeedless), parts = [...new Set(up.map((it) => it.aggregator))], standing = ports.filter((it) => it.standsBy), away = ports.filter((it) => it.isAway);
     return [
         { name: "link-set-down", ports: setDown, title: `the link of ${namesIn(setDown)} is set down ${isFar ? "there" : "here"}`, advice: setUp(setDown) },
         { name: "link-down", ports: down, title: `the link of ${namesIn(down)} is down`,
-            advice: `Nothing of LACP is to be judged there: ${isSetUp ? "" : `if it is set down ${isFar ? "there" : "here"}, ${setUp(down)}; else `}${OF_CABLE}` },
+            advice: `Nothing of LACP is to be judged there: ${isSetUp ? "" : `if it is set down ${isFar ? "there" : "here"}, ${setUp(down)}; else `}${OF_CABLE}${mute.length ? ` If ip link says LOWER_UP of ${namesIn(mute)}, the device reports no speed, and bonding takes such a link as down: ${setSpeed(mute, speeds)}` : ""}` },
         { name: "held", ports: held, title: `the host holds ${namesIn(held)} out of use`,
             advice: `${eachDone(held, (name) => `lagd --release ${name}`)}. If the file of the bundle has hold=yes, take that out, too.` },
         { name: "device-down", ports: off, title: `the device of ${told} is down: LACP has ended on ${namesIn(off)}`,
@@ -43,8 +50,10 @@ function linkFacts({ name, told, ports, hash, isFar }) {
             advice: "Nothing is to be done. If it still waits later, its carrier comes and goes: look at the cable." },
         { name: "aggregators", ports: parts.length > 1 ? up : [], title: `${told} is in ${parts.length} parts, of which one is used`,
             advice: `${up.map((it) => `${it.name} in ${it.aggregator}`).join(", ")}: each has another partner, key or speed, or no partner.` },
-        { name: "speeds", ports: isSeveral(linked, (it) => it.speed) ? linked : [], title: `the links of ${told} differ in speed or duplex`,
-            advice: `${linked.map((it) => `${it.name} ${it.speed}`).join(", ")}: look at ethtool ${distinct(slowIn(linked).map((it) => it.name)).join(", ")} (what both ends advertise). A link that was faster before is a cable with two good pairs, or a port with a forced speed: set autonegotiation at both ends, try another cable. All want one speed and full duplex.${linked.some(isHalf) ? " Linux bonding sends no LACPDUs at half duplex." : ""}` },
+        { name: "no-speed", ports: speedless, title: `the device of ${namesIn(speedless)} reports no speed, and bonding leaves such a link out`,
+            advice: `Look at ${eachDone(speedless, (name) => `ethtool ${name}`)}. On a virtual card set one, that of the other links: ${setSpeed(speedless, speeds)}` },
+        { name: "speeds", ports: isSeveral(speeds, (it) => it.speed) ? speeds : [], title: `the links of ${told} differ in speed or duplex`,
+            advice: `${speeds.map((it) => `${it.name} ${it.speed}`).join(", ")}: look at ethtool ${distinct(slowIn(speeds).map((it) => it.name)).join(", ")} (what both ends advertise). A link that was faster before has often a cable with two good pairs, or a port with a forced speed: set autonegotiation at both ends, try another cable. All want one speed and full duplex.${speeds.some(isHalf) ? " Linux bonding sends no LACPDUs at half duplex." : ""}` },
         { name: "stands-by", ports: standing, title: `${told} uses one link at a time: its ${hash?.join(" is ")}`,
             advice: `${namesIn(standing)} stands by. For all links: ovs-vsctl set port ${name} bond_mode=balance-tcp` },
     ];
@@ -104,7 +113,7 @@ function factsIn(texts, between) {
 /* ---- Causes ---- */
 
 /* What explains the rest comes first: facts by name, rules by number. */
-const RANKS = ["no-lacp", "no-state", "no-root", "set-down", 30, "own-address", "never-heard", "copied", "crossed", 29, 15, "apart", "device-down", "link-set-down", "link-down", "held", "speeds", "stands-by", 5, "passive-unheard", 14, "deaf-there", 12, 22, 17, 2, 3, 4, "too-few", "no-links"];
+const RANKS = ["no-lacp", "no-state", "no-root", "set-down", 30, "own-address", "never-heard", "copied", "crossed", 29, 15, "apart", "device-down", "link-set-down", "link-down", "held", "no-speed", "speeds", "stands-by", 5, "passive-unheard", 14, "deaf-there", 12, 22, 17, 2, 3, 4, "too-few", "no-links"];
 const isUnheard = ({ rank }) => rank === 12;
 /* What calls for nothing by itself. */
 const ASIDE = ["away", "waiting", "aggregators", "same-partner-port", "one-system", "not-far", "several", "note", "said"];
@@ -209,7 +218,7 @@ function causesOfRules(found, { bundles, form, notes }) {
         const near = bundles.filter((it) => meant.some((port) => it.ports.includes(port.said)));
         const ports = (near.length ? near : bundles).flatMap((it) => it.ports);
         const who = here.length ? namesIn(here.map((it) => it.port)) : `the other end of ${namesIn(meant)}`;
-        const seen = { ports, form, advice, device: deviceOf(near), meant: meant.map(({ said, far }) => ({ ...said, far })), isLasting: meant.some((it) => it.isLasting), isImplied: !here.length };
+        const seen = { ports, form, advice, device: deviceOf(near), meant: meant.map(({ said, far, saysThere }) => ({ ...said, far, saysThere })), isLasting: meant.some((it) => it.isLasting), isImplied: !here.length };
         const silent = near.filter(hasNoPartner), isOfSeveral = silent.length < bundles.length;
         const plain = (!here.length && own.implied?.(namesIn(meant))) || `${own.case?.(seen) ?? own.title ?? name}: ${who}`;
         const head = isOneOfBonds && near.length === 1 ? `in ${near[0].name}: ` : "", title = own.whole?.({ ...seen, silent, isOfSeveral }) ?? `${head}${plain}`;
@@ -226,7 +235,7 @@ function causesFound(found, text) {
 
 /* Whether a cause follows from another one, in its bundles. */
 function followsFrom(it, { rank, ports }, bundles, isOfSpeed) {
-    const isOfRank = { speeds: () => (it.rank === 15 && isOfSpeed) || (it.rank === 12 && it.ports.every(isHalf)), "never-heard": isUnheard, "passive-unheard": isUnheard, "deaf-there": isUnheard }[rank];
+    const isOfRank = { "no-speed": () => [12, 14].includes(it.rank) && it.ports.every(isSpeedless), speeds: () => (it.rank === 15 && isOfSpeed) || (it.rank === 12 && it.ports.every(isHalf)), "never-heard": isUnheard, "passive-unheard": isUnheard, "deaf-there": isUnheard }[rank];
     const own = ports.map((port) => bundleOf(port, bundles)), isNear = !own.length || !it.ports.length || it.ports.some((port) => own.includes(bundleOf(port, bundles)));
     return isNear && ([17, 22].includes(it.rank) || Boolean(isOfRank?.(it)));
 }
@@ -255,7 +264,7 @@ const isBesideLacp = ({ name }, { bundles }) => name === "no-lacp" && bundles.le
 export function causesOfTexts({ texts, facts: between }, { found, left }) {
     const bundles = texts.flatMap((it) => it.bundles), aside = (rank) => ASIDE.includes(rank) ? REMARK : FAULT;
     const notes = texts.flatMap((text) => text.notes.map((it) => causeOf({ rank: it.name, title: it.text, advice: it.advice ?? "", kind: isBesideLacp(it, text) ? REMARK : aside(it.name) })));
-    const said = bundles.flatMap((it) => it.ports).filter((it) => it.facts.length).map((it) => causeOf({ rank: "said", kind: REMARK, title: `${nameOfPort(it)}: ${it.facts.join("; ")}`, advice: "" }));
+    const said = bundles.flatMap((it) => it.ports).filter((it) => it.facts.length).map((it) => causeOf({ rank: "said", kind: REMARK, title: `${nameOfPort(it)}: ${it.facts.join("; ")}`, advice: it.advice }));
     const more = left ? [causeOf({ rank: "note", kind: REMARK, title: `${counted(left, "link")} beyond the first 32 are not looked at`, advice: "Give the others alone." })] : [];
     if (texts.some(isCutIn)) return [...notes, ...said];
     const facts = factsIn(texts, between).map((it) => causeOf({ rank: it.name, title: it.title, advice: it.advice, ports: it.ports, kind: aside(it.name) }));
@@ -300,7 +309,7 @@ function whyIdle(port, bundle) {
     if (port.standsBy) return `it stands by: ${bundle.hash.join(" is ")}`;
     if (!port.actor) return "the text has nothing of its LACPDUs";
     if (port.isHeld) return "the host holds it out of use";
-    if (!port.partner) return "it hears nobody";
+    if (!port.partner) return isSpeedless(port) ? "its device reports no speed" : "it hears nobody";
     const used = bundle.ports.find((it) => it.isUsed), state = bitsOf(port.partner.state);
     if (used && used.aggregator !== null && port.aggregator !== null && used.aggregator !== port.aggregator) {
         const differs = howApart(port, used);

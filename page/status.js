@@ -4,8 +4,8 @@
  * A text gives `{ form, bundles, notes }`. A bundle has a name, how it is told, ports, `hash` (what names it, and its words; null: not said), and
  * whether the text is cut in it (`cut` says where, if that is known). A port has `name`, `link` (true, false or null: not said), `source`, `actor`
  * and `partner`, `aggregator`, `isSetDown` (null: not said), `isUsed` (whether the text says that it carries data; null: not said), `isAlone`
- * (whether it does so without a partner), `isLasting` (whether an end has not been synchronized for 60 s), `speed`, and `facts`, texts of what no
- * LACPDU has. A note has what is so, and what to do. A party has `priority`, `system`, `key`, `portPriority`, `port` and `state`; what the text does
+ * (whether it does so without a partner), `isLasting` (whether an end has not been synchronized for 60 s), `speed`, `says` (why its program does not
+ * use it, in its words), and `facts`, texts of what no LACPDU has, with `advice` on them. A note has what is so, and what to do. A party has `priority`, `system`, `key`, `portPriority`, `port` and `state`; what the text does
  * not have is null; `partner` is null where none is heard. */
 
 export const NO_ADDRESS = "00:00:00:00:00:00";
@@ -58,10 +58,12 @@ const bundleOfText = (name, told, ports, given) => ({ name, told, ports, hash: n
 
 /* A port with what a form has of it. */
 const portOfText = (given) => ({
-    link: null, isAway: false, isWaiting: false, isOff: false, isHeld: false, isSetDown: null, source: "", actor: null, partner: null, aggregator: null, isUsed: null, isAlone: false, isLasting: false, speed: "", facts: [], ...given,
+    link: null, isAway: false, isWaiting: false, isOff: false, isHeld: false, isSetDown: null, source: "", actor: null, partner: null, aggregator: null, isUsed: null, isAlone: false, isLasting: false, speed: "", says: "", facts: [], advice: "", ...given,
 });
 
 const times = (number) => Number(number) === 1 ? "once" : `${number} times`;
+/* What to do where a link failed so often; once is seldom a fault. */
+const adviceOnFailures = (name, count) => Number(count) > 1 ? `If that count grows, the carrier of ${name} comes and goes: look at journalctl -k, at the errors of ethtool -S ${name}, at optics and cable.` : "";
 
 /* ---- /proc/net/bonding/NAME ---- */
 
@@ -91,6 +93,13 @@ function factsOfBonding(it) {
     return facts;
 }
 
+/* What to do where counts of a member are not 0. */
+function adviceOfBonding(it) {
+    const churned = SIDES.some((side) => Number(it.get(`${side} Churned Count`)) > 0), failed = it.get("Link Failure Count");
+    const lost = churned ? "If a Churned Count grows and the Link Failure Count does not, the carrier stays, and LACPDUs are likely lost: capture." : "";
+    return [adviceOnFailures(it.get("Slave Interface"), failed), lost].filter(Boolean).join(" ");
+}
+
 /* One member, and whether the text has all of it. Of an active aggregator without a partner the driver uses the one port all the same. */
 function memberOfBonding(part, active, isHeard) {
     const it = valuesIn(part.replace(/^\s*details [\s\S]*/m, "")), aggregator = numberOf(it.get("Aggregator ID")), link = it.get("MII Status") === "up";
@@ -99,7 +108,7 @@ function memberOfBonding(part, active, isHeard) {
     const isUsed = active !== null && actor ? isActive && (isAlone || isDistributing(actor)) : null;
     const port = portOfText({
         name: it.get("Slave Interface"), link, source: macOf(it.get("Permanent HW addr")), actor, partner: knownPartner(actor, partner), aggregator, isUsed, isAlone,
-        isLasting: SIDES.some((side) => isChurned(it, side)), speed: `${it.get("Speed")} ${it.get("Duplex")}`, facts: factsOfBonding(it),
+        isLasting: SIDES.some((side) => isChurned(it, side)), speed: `${it.get("Speed")} ${it.get("Duplex")}`, facts: factsOfBonding(it), advice: adviceOfBonding(it),
     });
     return { port, isWhole: it.has("MII Status") && it.has("Partner Churned Count") && (active === null || (actor !== null && partner !== null)) };
 }
@@ -174,6 +183,7 @@ function memberOfIp(it, { linkinfo: { info_data: said }, address }) {
     return portOfText({
         name: it.ifname, link: data.mii_status === "UP", isSetDown: it.flags ? !it.flags.includes("UP") : null, source: macOf(it.address), actor, partner: knownPartner(actor, partner), aggregator: data.ad_aggregator_id,
         isUsed: isActive && (isAlone || isDistributing(actor)), isAlone, facts: data.link_failure_count ? [`its link failed ${times(data.link_failure_count)}`] : [],
+        advice: adviceOnFailures(it.ifname, data.link_failure_count),
     });
 }
 
@@ -235,6 +245,7 @@ function memberOfTeam([name, it]) {
         name, link: link.up, source: macOf(it.ifinfo.dev_addr), actor, partner: knownPartner(actor, partyOf(runner.partner_lacpdu_info)), aggregator: runner.aggregator.id,
         isUsed: runner.aggregator.selected && runner.selected && runner.state === "current" && isDistributing(actor), speed: `${link.speed} ${link.duplex}`,
         facts: [...downs ? [`its link went down ${times(downs)}`] : [], ...link.up && it.link_watches?.up === false ? ["a link watch says that it is down"] : []],
+        advice: adviceOnFailures(name, downs),
     });
 }
 
@@ -285,7 +296,7 @@ function factsOfShow(part, said, receive, actor) {
     const rests = numberOf(said.get("current_while")), why = said.get("status"), facts = [];
     const whole = actor && actor.state & TIMEOUT_BIT ? 30 : 900;
     if (actor && rests !== null && receive.startsWith("CURRENT") && rests < overdueIn(actor)) facts.push(`its last LACPDU came ${(whole - rests) / 10} s ago: the next is overdue, and the link still counts as heard`);
-    if (why && why !== "it distributes") facts.push(`lagd says: ${why}`);
+    if (whyNot(why)) facts.push(`lagd says: ${why}`);
     if (said.has("other system")) facts.push(`another system speaks: ${said.get("other system")}`);
     for (const it of ["actor_churn", "partner_churn"]) if (said.get(it) === "CHURN") facts.push(it);
     return [...facts, ...countsSaid(counts)];
@@ -297,6 +308,10 @@ const isChurning = (churns) => churns.includes("CHURN");
 const DEVICE_DOWN = "the device is down";
 /* What it says of a port that its administrator holds, whose link is up. */
 const HELD = "the host holds it";
+/* What it says of one that is beyond max-links. */
+export const NO_ROOM = "its aggregator has no room for one more link";
+/* Why it does not use a port; nothing where it does. */
+const whyNot = (status) => !status || status === "it distributes" ? "" : status;
 
 /* The link of a port, as lagd says it: with `away` LACP takes it as up (delay-down), and nothing passes; with `waiting` it is back, and LACP takes it as
  * down (wait-to-restore). */
@@ -310,7 +325,7 @@ function memberOfShow(part, active) {
     return portOfText({
         name, ...of, isOff: said.get("status") === DEVICE_DOWN, isHeld: said.get("status") === HELD, source: macOf(said.get("address") ?? said.get("actor sys_id")), actor, partner: known,
         aggregator, isUsed, isAlone: isUsed === true && actor !== null && !known, isLasting: isChurning([said.get("actor_churn"), said.get("partner_churn")]),
-        facts: factsOfShow(part, said, receive, actor), isWhole: actor !== null && partner !== null,
+        says: whyNot(said.get("status")), facts: factsOfShow(part, said, receive, actor), isWhole: actor !== null && partner !== null,
     });
 }
 
@@ -360,7 +375,7 @@ function memberOfLagd(bundle, port) {
     return portOfText({
         name: port.interface, ...of, isOff: port.status === DEVICE_DOWN, isHeld: port.status === HELD, source: macOf(port.address), actor, partner: known, aggregator: port.aggregator,
         isUsed, isAlone: isUsed && !known, isLasting: isChurning([port.actor_churn, port.partner_churn]),
-        facts: [...port.status !== "it distributes" ? [`lagd says: ${port.status}`] : [], ...port.other_system ? [`another system speaks: ${port.other_system.system}`] : [], ...countsSaid(port.counters ?? {})],
+        says: whyNot(port.status), facts: [...whyNot(port.status) ? [`lagd says: ${port.status}`] : [], ...port.other_system ? [`another system speaks: ${port.other_system.system}`] : [], ...countsSaid(port.counters ?? {})],
     });
 }
 

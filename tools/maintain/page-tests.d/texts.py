@@ -228,6 +228,51 @@ def of_speeds(tests: Tests) -> None:
     tests.same("keys that differ at one speed come first", other.partition("\n")[0], "1 of 2 links carries. Keys differ within one pair of systems: p1, p2.")
 
 
+def of_no_speed(tests: Tests) -> None:
+    """A link whose device reports no speed: who that is, and what sets one; where bonding takes it as down, the same behind the cable."""
+    text, ways = read_text(os.path.join(STATUS, "nospeed-bonding.txt")), "ip link set p2 down; ethtool -s p2 speed {} duplex full; ip link set p2 up"
+    told = """1 of 2 links carries. The device of p2 reports no speed, and bonding leaves such a link out.
+  p2: does not carry: its device reports no speed
+  p1 (partner 02-00-00-01-0b-01 port 1): carries, as this end says
+1. the device of p2 reports no speed, and bonding leaves such a link out
+   Look at ethtool p2. On a virtual card set one, that of the other links: ip link set p2 down; ethtool -s p2 speed 10000 duplex full; ip link set p2 up
+   likely effect: a port hears nobody: p2
+"""
+    tests.same("a device that reports no speed", told_of(text), (1, told))
+    slow = told_of(text.replace("10000 Mbps", "1000 Mbps"))[1]
+    tests.same("the speed of the other links is set", [ways.format(1000) in slow, "differ in speed" in slow], [True, False])
+    down = told_of(text.replace("MII Status: up\nSpeed: Unknown", "MII Status: down\nSpeed: Unknown"))[1]
+    found = [down.partition("\n")[0], f"If ip link says LOWER_UP of p2, the device reports no speed, and bonding takes such a link as down: {ways.format(10000)}" in down]
+    tests.same("a link without a speed that is down", found, ["1 of 2 links carries. The link of p2 is down.", True])
+    head, last = text.split("Slave Interface: p2")
+    both = told_of(f"{head.replace('10000 Mbps', 'Unknown').replace('Duplex: full', 'Duplex: Unknown')}Slave Interface: p2{last}")[1]
+    tests.same("a link that carries has a speed, whatever its text says", "The device of p2 reports no speed" in both, True)
+
+
+def of_counts(tests: Tests) -> None:
+    """What to do where the counts of a member are not 0."""
+    text = read_text(os.path.join(STATUS, "healthy-bonding.txt"))
+    failed = "If that count grows, the carrier of p1 comes and goes: look at journalctl -k, at the errors of ethtool -S p1, at optics and cable."
+    churned = "If a Churned Count grows and the Link Failure Count does not, the carrier stays, and LACPDUs are likely lost: capture."
+    for name, old, advice in ("failed", "Link Failure Count: 0", failed), ("churned", "Partner Churned Count: 0", churned):
+        said = told_of(text.replace(old, old.replace("0", "7"), 1))[1].splitlines()
+        at = next(number for number, line in enumerate(said) if ". remark: p1: " in line)
+        tests.same(f"a link that {name} 7 times", said[at + 1], f"   {advice}")
+    for name, it in ("without such counts", text), ("that failed once", text.replace("Link Failure Count: 0", "Link Failure Count: 1", 1)):
+        tests.same(f"a link {name}", "If that count" in told_of(it)[1] or "Churned" in told_of(it)[1], False)
+
+
+def of_a_limit(tests: Tests) -> None:
+    """Where the end that has not attached a link says why, no other cause of it is named."""
+    ours, theirs = (os.path.join(STATUS, f"standby-bonding{it}.txt") for it in ("", ".other"))
+    both = subprocess.run(["node", EXPLAIN, ours, theirs], stdin=subprocess.DEVNULL, capture_output=True, text=True).stdout
+    why, over = "its aggregator has no room for one more link (max-links)", "It takes over when a link in use fails; to use it beside them, set max-links higher at that end."
+    alone = {name: told_of(read_text(path))[1] for name, path in (("ours", ours), ("theirs", theirs))}
+    for name, said, line in ("both texts", both, f"   What the far end's q2 says of it: {why}. {over}"), ("its own text", alone["theirs"], f"   What q2 says of it: {why}. {over}"):
+        tests.same(f"a link beyond a limit, by {name}", [line in said.splitlines(), "has chosen another aggregator" in said, "Look again" in said], [True, False, False])
+    tests.same("a link beyond a limit, by the text that lacks it", "the other end has chosen another aggregator, or has links enough (switch: max links). Look at its status." in alone["ours"], True)
+
+
 def of_partners(tests: Tests) -> None:
     """How the partner of a port that is not used differs: its system priority, or it is individual."""
     head, last = status("keys-bonding.txt").split("Slave Interface: p2")
@@ -386,7 +431,7 @@ def of_texts(tests: Tests, browser: Browser) -> None:
     of_ways(tests, browser)
     of_cuts(tests, browser)
     of_explain(tests, browser)
-    for it in of_words, of_endings, of_programs, of_away, of_a_device_that_is_down, of_waiting, of_held, of_set_down, of_nothing, of_speeds, of_partners, of_partner_states, of_passive, of_names, of_lines, of_order, of_one_file, of_hashes:
+    for it in of_words, of_endings, of_programs, of_away, of_a_device_that_is_down, of_waiting, of_held, of_set_down, of_nothing, of_speeds, of_no_speed, of_counts, of_a_limit, of_partners, of_partner_states, of_passive, of_names, of_lines, of_order, of_one_file, of_hashes:
         it(tests)
     passive = status("healthy-bonding.txt").replace("port state: 63", "port state: 62")
     tests.same("two passive ends do not carry, as in a capture", pasted(browser, passive)[0], "0 of 2 links carry. Both ends are passive: p1, p2.")
