@@ -46,6 +46,15 @@ class WrongEcho(Says):
         return put(frame, 34, b"\0\0")
 
 
+class GroupSystem(Says):
+    """Tells a group address as its system."""
+
+    finds = "FM-05 EN-01"
+
+    def said(self, port: int, frame: bytes) -> bytes:
+        return put(frame, 6, b"\3")
+
+
 class SecondPort(Device):
     """Is wrong on port 2 alone."""
 
@@ -529,6 +538,7 @@ ROWS += [
          lambda self, port, frame: set_bits(frame, 38, 1, True)),
         ("VendorOfPartner", "Compares the last three octets of the partner's system alone.", "RX-12h",
          lambda self, port, frame: put(frame, 6, b"\2\xcf\0")),
+        ("HighOctetLost", "Takes the high octet of the partner's keys for 0.", "FM-06 RX-12g SL-13 IV-04", lambda self, port, frame: put(frame, 12, b"\0")),
         ("NamedToTheBit", "A partner has to tell its state to the bit.", "RX-19",
          lambda self, port, frame: set_bits(frame, 18, SYNC, False) if (frame[52] ^ self.own(port)[14]) & 0x3A else frame),
     ),
@@ -536,4 +546,5 @@ ROWS += [
         Drops, "drops",
         ("PassiveRefused", "Takes no LACPDU of a passive partner.", "RX-10", lambda self, port, frame: not frame[32] & 1),
     ),
+    *faults(Mute, "is_mute", ("FallsSilent", "Is mute for good from a second on.", "MX-06 SL-03", lambda self, port: self.now > 5)),
 ]  # fmt: skip
