@@ -12,7 +12,7 @@ from niwhopera import Lacpdu, Mac, MarkerKind, State
 from .floods import Meters
 from .model import Claim, Frame, NotHere, Result, Stop, Stopped, Stuck
 from .partner import PLACES, Partner, slow
-from .pdus import CARRIES, COUNT_AT, PAYLOAD, SLOW, end, is_data, read, told, value
+from .pdus import CARRIES, COUNT_AT, PAYLOAD, SLOW, end, is_data, is_individual, read, told, value
 from .wires import UNKNOWN, Answer, Hook, Wire
 
 # 6.4.4: each timer may be wrong by so much. What is due at once has to be seen so soon: the standard has no number for that, but its
@@ -31,6 +31,8 @@ QUIET = 35.0
 HOOK_SECONDS = 40.0
 # So long a hook's data is waited for: on a busy device its sender takes seconds to begin.
 DATA_BEGINS = 10.0
+# What is told of a device that says nothing.
+UNHEARD = "no LACPDU of the device"
 # Words of the hook behind which the device has to begin anew, on a link or on all.
 ENDING = ("down", "stop", "reset")
 # What undoes which word.
@@ -254,7 +256,7 @@ class Bench:
         frame, spoke = it.current(it.frame), it.current(it.spoke)
         if not frame:
             since = " since it was taken down, or the device ended" if it.is_quiet else ""
-            silent = f"no LACPDU of the device was heard on link {link}{since}"
+            silent = f"{UNHEARD} was heard on link {link}{since}"
             raise self.stuck(f"what the device sends on link {link} is no LACPDU: {spoke.fault}" if spoke else silent, link)
         return frame
 
@@ -280,6 +282,10 @@ class Bench:
         """Whether the device told our end last; it did not where it has said nothing since the link was taken down."""
         return not self.links[link].is_quiet and self.partner(link).is_named_by(self.device(link))
 
+    def is_ready(self, link: int = 1) -> bool:
+        """Whether it told last that it carries, beside our end."""
+        return self.carries(link) and self.names_us(link)
+
     def begin(self, *links: int, same: bool = True, silent: bool = False) -> None:
         """New partners on these links; one system for all of them if `same`."""
         mac = self.new_mac()
@@ -295,11 +301,12 @@ class Bench:
         mark = self.mark()
         self.until(QUIET if all(self.links[it].frame for it in links) else 2, lambda: all(next(self.heard(it, mark), None) for it in links))
         heard = [it for it in links if next(self.heard(it, mark), None)]
-        if not self.until(limit if heard else 0, lambda: len(heard) == len(links) and all(self.carries(it) and self.names_us(it) for it in links)):
+        if not self.until(limit if heard else 0, lambda: len(heard) == len(links) and all(map(self.is_ready, links))):
             self.look_past(*links)
-            left = [it for it in links if it not in heard or not self.carries(it) or not self.names_us(it)]
+            left = {it: self.stands(it) if it in heard else f"link {it}: {UNHEARD} came" for it in links if it not in heard or not self.is_ready(it)}
             if left:
-                raise self.stuck(f"the device does not carry after {limit:g} s beside a right partner: {', '.join(map(self.stands, left))}", *left)
+                silent = f"{UNHEARD} came in {QUIET:g} s beside a right partner"
+                raise self.stuck(f"the device does not carry after {limit:g} s beside a right partner: {', '.join(left.values())}" if heard else silent, *left)
         self.until(1.5, lambda: all(self.partner(it).tells_carrying for it in links))
 
     def look_past(self, *links: int, mixed: bool = True) -> None:
@@ -318,16 +325,19 @@ class Bench:
         pdu = self.device(link)
         if pdu.actor.system.mac in {it.partner.me.system.mac for it in self.links.values()}:
             return f"link {link}: our own LACPDUs come back: it is looped back, or joined to another link of the bench"
+        if not is_individual(pdu.actor.system.mac):
+            return f"link {link}: its system has to have an individual address (FM-05): {end(pdu.actor)}"
         if self.carries(link) and not self.names_us(link):
             return f"link {link}: it names another partner, {end(pdu.partner)}, and has to name {end(self.partner(link).me.info)}"
-        return f"link {link}: {end(pdu.actor)}"
+        alone = "" if pdu.actor.state & State.AGGREGATION else ": the device says that its links are individual: it aggregates none"
+        return f"link {link}: {end(pdu.actor)}{alone}"
 
     def is_up(self, link: int = 1) -> bool:
         """Whether the link of the last test still carries for a right partner with short timeouts."""
         partner, frame = self.partner(link), self.links[link].current(self.links[link].frame)
         if not (frame and partner.is_right and partner.me.short and partner.me.active and partner.me.aggregatable):
             return False
-        return self.now() - frame.time < 1.5 and self.carries(link) and self.names_us(link) and partner.tells_carrying
+        return self.now() - frame.time < 1.5 and self.is_ready(link) and partner.tells_carrying
 
     def still_up(self, link: int = 1) -> None:
         """The link of the last test if it is up still, or a new partner."""

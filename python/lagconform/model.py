@@ -114,8 +114,8 @@ class Test:
 class Result:
     """What came of a test: packets `first` to `last`, seconds `begin` to `end`, and how late the bench was at most. `gone` says which
     interface is no longer there, or why a stack is not started again, `known` why a fail is known, `obsolete` why one was known of a test that passes,
-    `stuck` that no test can go on like this, `stopped` that this is the device's doing, which went on before, and `crashed` how a stack in memory broke,
-    and behind which kind of frame. `times` counts the verdicts of a test that ran several times."""
+    `stuck` that no test can go on like this, `unheard` that no LACPDU of the device came, `stopped` that this is the device's doing, which went on
+    before, and `crashed` how a stack in memory broke, and behind which kind of frame. `times` counts the verdicts of a test that ran several times."""
 
     test: Test
     verdict: str = PASS
@@ -131,6 +131,7 @@ class Result:
     obsolete: str = ""
     gone: str = ""
     stuck: bool = False
+    unheard: bool = False
     stopped: bool = False
     crashed: str = ""
     times: dict[str, int] = field(default_factory=dict)

@@ -83,6 +83,11 @@ def is_data(frame: bytes) -> bool:
     return frame[12:14] == DATA and frame[26:28] == SENDERS
 
 
+def is_individual(address: bytes) -> bool:
+    """Whether a MAC address is that of one station: no group, and not 0."""
+    return any(address) and not address[0] & 1
+
+
 def read(frame: bytes) -> tuple[Optional[Pdu], str]:
     """The PDU of a frame; or none, and why its payload is refused, if it has the EtherType of Slow Protocols."""
     if frame[12:14] != SLOW:

@@ -4,11 +4,12 @@ from __future__ import annotations
 
 import math
 import traceback
+from itertools import takewhile
 from typing import Callable, Iterable, Mapping, NamedTuple, Optional, Sequence
 
 from niwhopera import State
 
-from .bench import QUIET, SOON, Bench
+from .bench import QUIET, SOON, UNHEARD, Bench, HookFailed, is_lacp
 from .floods import FLOOD
 from .matrix import WORST
 from .model import ERROR, FAIL, INCONCLUSIVE, NOT_APPLICABLE, PASS, SKIPPED, SURE, WHOLE_RUN
@@ -18,8 +19,8 @@ from .pics import ITEMS, lacking
 from .refusals import Refused
 from .wires import Broke, Gone
 
-# So long a device is waited for at the start.
-MEETS = 35.0
+# So long a device is waited for at the start, and so long a test lasts at least that tells that none of its LACPDUs came.
+MEETS, LISTENS = 35.0, 1.5
 
 
 class NoDevice(Exception):
@@ -120,6 +121,8 @@ def run_one(b: Bench, test: Test, claimed: Optional[Mapping[str, bool]] = None) 
     except Stop as why:
         result.verdict, result.why = why.verdict, str(why)
         result.stuck, result.stopped = isinstance(why, Stuck), isinstance(why, Stopped)
+        if why.verdict == INCONCLUSIVE and not isinstance(why, HookFailed):
+            listen(b, result)
     except Broke as why:
         broke = why
         text, _, trace = str(why).partition("\n")
@@ -149,6 +152,27 @@ def run_one(b: Bench, test: Test, claimed: Optional[Mapping[str, bool]] = None) 
         b.ran.add(test.id)
     b.result = None
     return result
+
+
+def listen(b: Bench, result: Result) -> None:
+    """Where a test that came to no answer heard no LACPDU of the device, tells so: nothing that the device told before is the reason."""
+    if not is_silent(b, result):
+        return
+    result.unheard = result.stuck = True
+    result.stopped = isinstance(b.stuck("", *own(b, result)), Stopped)
+    told, why = f"{UNHEARD} came in {b.now() - result.begin:.1f} s", result.why
+    result.why = told if why == UNHEARD else why if why.startswith(UNHEARD) else f"{told}: {why}"
+
+
+def own(b: Bench, result: Result) -> list[int]:
+    """The links of a test."""
+    return [it for it in b.links if it <= result.test.links]
+
+
+def is_silent(b: Bench, result: Result) -> bool:
+    """Whether no LACPDU of the device came on the links of a test since it began, though it listened."""
+    heard = any(not it.out and it.link in own(b, result) and is_lacp(it.octets) for it in b.frames[result.first - 1 :])
+    return not heard and b.now() - result.begin >= LISTENS
 
 
 def raised(why: BaseException) -> str:
@@ -202,6 +226,7 @@ def judge(b: Bench, result: Result, flood: Flood = Flood()) -> None:
     if result.verdict == FAIL:
         blame(b, result, failed, flood.text if flood.hides else "")
         result.why += f". Beside it, {flood.text}" if flood.text and (result.verdict == FAIL or not flood.hides) else ""
+        result.why += ". No LACPDU of the device came in this test" if result.verdict == FAIL and not result.crashed and is_silent(b, result) else ""
     elif result.verdict == INCONCLUSIVE and flood.text or result.verdict == PASS and flood.hides:
         result.verdict, result.why = INCONCLUSIVE, f"{flood.text}. Seen: {result.why or 'what came between was right'}"
     elif result.verdict == PASS and (told := dropped(b)):
@@ -266,9 +291,19 @@ def run_all(
         last = results[-IN_TURN:]
         if not ends and len(last) == IN_TURN and all(it.stuck for it in last):
             ends = nothing_goes(b, last, goes_on)
-    if ends:
+    if ends := ends or falls_silent(results):
         raise ends
     return results
+
+
+def falls_silent(results: Sequence[Result]) -> Optional[CameToNothing]:
+    """That the run ended while no LACPDU of the device came, if so: fewer than IN_TURN tests say nothing of why."""
+    asked = [it for it in results if it.test.group != WHOLE_RUN and it.verdict not in (SKIPPED, NOT_APPLICABLE)]
+    last = [*takewhile(lambda it: it.unheard, reversed(asked))]
+    if not last:
+        return None
+    tests = f"the last {len(last)} tests, {last[-1].test.id} to {last[0].test.id}" if len(last) > 1 else f"the last test, {last[0].test.id}"
+    return CameToNothing(f"{tests}, came to nothing: {last[0].why}")
 
 
 def nothing_goes(b: Bench, last: Sequence[Result], goes_on: bool) -> Exception:
@@ -286,7 +321,7 @@ def run_times(b: Bench, test: Test, claimed: Optional[Mapping[str, bool]], repea
     while len(found) < repeat and not (found and found[-1].gone):
         found.append(run_one(b, test, claimed))
     result = min(found, key=lambda it: WORST.index(it.verdict))
-    result.gone, result.stopped = found[-1].gone, found[-1].stopped
+    result.gone, result.stopped, result.unheard = found[-1].gone, found[-1].stopped, found[-1].unheard
     if len(found) > 1:
         result.times = {verdict: count for verdict in WORST if (count := sum(it.verdict == verdict for it in found))}
         result.notes.append(f"of {len(found)} runs: {', '.join(f'{count} {verdict}' for verdict, count in result.times.items())}")

@@ -56,9 +56,10 @@ class FlickeringTimeout(Device):
         yield set_bits(frame, 18, 2, bool(self.turn & port)) if port & self.ports else frame
 
 
-WrongEcho, CutOff, PartnerLength = devices(
+WrongEcho, GroupSystem, CutOff, PartnerLength = devices(
     Says, "said",
     ("WrongEcho", "Tells another port priority of the partner.", "FM-06", lambda self, port, frame: put(frame, 34, b"\0\0")),
+    ("GroupSystem", "Tells a group address as its system.", "FM-05 EN-01", lambda self, port, frame: put(frame, 6, b"\3")),
     ("CutOff", "Sends 60 octets: the least length of a frame.", "FM-02 FM-03", lambda self, port, frame: frame[:60]),
     ("PartnerLength", "Sends a Partner TLV of length 22.", "FM-03", lambda self, port, frame: put(frame, 23, b"\x16")),
 )  # fmt: skip
@@ -423,6 +424,7 @@ ROWS += [
          lambda self, port, frame: set_bits(frame, 38, 1, True)),
         ("VendorOfPartner", "Compares the last three octets of the partner's system alone.", "RX-12h",
          lambda self, port, frame: put(frame, 6, b"\2\xcf\0")),
+        ("HighOctetLost", "Takes the high octet of the partner's keys for 0.", "FM-06 RX-12g SL-13 IV-04", lambda self, port, frame: put(frame, 12, b"\0")),
         ("NamedToTheBit", "A partner has to tell its state to the bit.", "RX-19",
          lambda self, port, frame: set_bits(frame, 18, SYNC, False) if (frame[52] ^ self.own(port)[14]) & 0x3A else frame),
     ),
@@ -430,4 +432,5 @@ ROWS += [
         Drops, "drops",
         ("PassiveRefused", "Takes no LACPDU of a passive partner.", "RX-10", lambda self, port, frame: not frame[32] & 1),
     ),
+    *devices(Mute, "is_mute", ("FallsSilent", "Is mute for good from a second on.", "MX-06 SL-03", lambda self, port: self.now > 5)),
 ]  # fmt: skip

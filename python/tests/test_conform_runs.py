@@ -17,7 +17,7 @@ from typing import Iterable, Iterator, Optional, Sequence, Type
 
 import pytest
 from conform_device import BY_NAME, LAST, Device, Full, World, beside, play, put
-from conform_faults import CutOff, DataTwice, KeyUnchecked, PartnerLength, RestartsOnChange, SecondFallsSilent, SecondPartnerKey, WrongEcho
+from conform_faults import CutOff, DataTwice, GroupSystem, KeyUnchecked, PartnerLength, RestartsOnChange, SecondFallsSilent, SecondPartnerKey, WrongEcho
 from conform_frames import BadLengths, OtherId, Responds, VersionChecked
 from conform_machines import NoNtt
 
@@ -347,7 +347,10 @@ def test_what_is_late_by_one_number_and_what_does_not_stay_up_have_one_cause(kin
     assert [it.name for it in found] == [root] and len(found[0].explains) > most, [it.text for it in found]
 
 
-@pytest.mark.parametrize("kind, root, others", [(OtherId, "MK-02", ["MK-01", "MK-05", "MK-06", "MK-10", "EN-03", "MK-11"]), (VersionChecked, "VN-02", ["VN-03"])])
+@pytest.mark.parametrize("kind, root, others", [
+    (OtherId, "MK-02", ["MK-01", "MK-05", "MK-06", "MK-10", "EN-03", "MK-11"]), (VersionChecked, "VN-02", ["VN-03"]),
+    (GroupSystem, "FM-05", ["RX-10", "EN-01", "SL-03"]),
+])  # fmt: skip
 def test_the_cause_is_the_fault(kind: Type[Device], root: str, others: list[str]) -> None:
     found = causes.grouped(play(World(kind()), [BY_NAME[it] for it in [root, *others]]))
     assert [it.name for it in found] == [root] and [it.test.id for it in found[0].explains] == others
@@ -458,6 +461,9 @@ def test_a_device_that_stops_for_good_fails_its_run(stack, tmp_path: Path, capsy
     assert said.err.endswith("lagconform: the device ended the run, which is a fail of the device\n")
     assert "5 tests in turn came to nothing" in told["about"]["incomplete"], told["about"]
     assert told["counts"]["fail"] == 0 and told["counts"]["pass"] > 0, told["counts"]
+    assert stack(ENDS, "--only", "FM-*", "--json", "r.json") == 2
+    last = "the last 2 tests, FM-08 to FM-09, came to nothing: no LACPDU of the device came in 35 s beside a right partner"
+    assert f"lagconform: {last}; the reports have what was run\n" in capsys.readouterr().err and last in json.loads((tmp_path / "r.json").read_text())["about"]["incomplete"]
 
 
 def test_a_run_that_goes_on_has_the_status_of_one_that_ends(run, stack, tmp_path: Path, capsys: pytest.CaptureFixture[str]) -> None:  # type: ignore[no-untyped-def]
@@ -468,6 +474,23 @@ def test_a_run_that_goes_on_has_the_status_of_one_that_ends(run, stack, tmp_path
         assert "5 tests in turn came to nothing, " in said and "the run went on (--keep-going)" in said and said.endswith(last), said
         count = sum(it.id.startswith(("FM-", "RX-0")) for it in TESTS)
         assert len(told["tests"]) == count and told["about"]["incomplete"].endswith(f"{count} of {count} tests ran")
+
+
+LOSES_HIGH_OCTETS = "def hears(self, port, frame):\n    yield frame[:26] + b'\\0' + frame[27:] if frame[12:15] == b'\\x88\\x09\\1' else frame\n"
+DIES = "def says(self, port, frame):\n    yield from [frame] if self.now < 4 else []\n"
+NO_DATA = "def data(self, on):\n    raise NotImplementedError\n"
+
+
+@pytest.mark.parametrize("lines, tests, status, why", [
+    (LOSES_HIGH_OCTETS, "SL-13", 1, "has to be one link alone"), (LOSES_HIGH_OCTETS + NO_DATA, "SL-13", 2, "both links carry (link 2 names 32768/"),
+    ("def says(self, port, frame):\n    yield frame[:20] + b'\\3' + frame[21:]\n", "FM-07", 2, "its system has to have an individual address (FM-05): 32768/03-"),
+    ("def says(self, port, frame):\n    yield frame[:32] + bytes([frame[32] & ~4]) + frame[33:]\n", "FM-07", 2, "synchronized: the device says that its links are individual: it aggregates none"),
+    (DIES, "FM-01 MX-08", 2, "no LACPDU of the device came in 5.7 s\n"),
+    (DIES, "FM-01 EN-01", 1, "link 1 DISTRIBUTING, and no LACPDU of the device came there"),
+    (DIES, "FM-01 SL-06", 2, "no LACPDU of the device came in 8.0 s\n"),
+])  # fmt: skip
+def test_a_verdict_tells_what_the_device_says_and_does(stack, lines: str, tests: str, status: int, why: str, capsys: pytest.CaptureFixture[str]) -> None:  # type: ignore[no-untyped-def]
+    assert stack(lines, *(f"--only={it}" for it in tests.split())) == status and why in capsys.readouterr().out
 
 
 class LateSilence(SecondFallsSilent):
@@ -519,7 +542,7 @@ class Uncarrying(Device):
 
 
 @pytest.mark.parametrize("kind, world, ends, why", [
-    (Mute, World, StoppedForGood, "no LACPDU of the device was heard|does not carry"), (Mute, Full, CameToNothing, ""),
+    (Mute, World, StoppedForGood, "no LACPDU of the device came in 35 s"), (Mute, Full, CameToNothing, ""),
     (Mute, Unplugged, CameToNothing, "There is no carrier on link1$"), (Uncarrying, World, CameToNothing, "does not carry"),
     (Device, NoStart, CameToNothing, "no LACPDU of the device was heard on link 1 since it was taken down, or the device ended"),
 ])  # fmt: skip

@@ -7,7 +7,7 @@ from typing import Callable, Optional
 
 from niwhopera import Answers, Config, PortConfig, System, SystemId
 
-from ..bench import Bench
+from ..bench import UNHEARD, Bench
 from ..model import Group
 from ..partner import TICK
 from ..pdus import SIX, SLOW, value
@@ -63,16 +63,20 @@ def mistold(b: Bench, system: System, link: int) -> str:
 
 def comes_up(b: Bench, links: tuple[int, ...]) -> None:
     """Both ends carry on these links, and go on."""
-    engine, begin = Engine(b, links), b.now()
+    engine, begin, mark = Engine(b, links), b.now(), b.mark()
     with engine.system as system:
 
+        def heard(link: int) -> bool:
+            return next(b.heard(link, mark), None) is not None
+
         def both() -> bool:
-            return all(system.distributes(it) and b.carries(it) for it in links)
+            return all(system.distributes(it) and heard(it) and b.carries(it) for it in links)
 
         engine.run(12, both)
-        states = ", ".join(f"link {it} {system.port_status(it).name}{mistold(b, system, it)}" for it in links)
-        told = f"both ends carry after {b.now() - begin:.1f} s" if both() else f"not both ends carry after {b.now() - begin:.1f} s, and have to after 12 s"
-        b.claim(both(), f"{told}: {states}", *[b.frame(it) for it in links])
+        told = [mistold(b, system, it) if heard(it) else f", and {UNHEARD} came there" for it in links]
+        states = ", ".join(f"link {it} {system.port_status(it).name}{text}" for it, text in zip(links, told))
+        carry = f"both ends carry after {b.now() - begin:.1f} s" if both() else f"not both ends carry after {b.now() - begin:.1f} s, and have to after 12 s"
+        b.claim(both(), f"{carry}: {states}", *[b.frame(it) for it in links if heard(it)])
         broken: list[bool] = []
 
         def looks() -> bool:
@@ -87,7 +91,7 @@ def comes_up(b: Bench, links: tuple[int, ...]) -> None:
 
 
 @group.test("01", "6.4", "One link to the library's engine", "be a system of the engine on link 1",
-            rule="both ends distribute within 12 s, and for 5 s more", takes=8, causes=("FM-06", "RX-04", "PT-01"))  # fmt: skip
+            rule="both ends distribute within 12 s, and for 5 s more", takes=8, causes=("FM-05", "FM-06", "RX-04", "PT-01"))  # fmt: skip
 def one_link(b: Bench) -> None:
     """A partner that is right for every input, with its own wait_while, comes up with the device."""
     comes_up(b, (1,))

@@ -8,8 +8,8 @@ from typing import Callable
 from niwhopera import PortId, State, SystemId
 
 from ..bench import SOON, Bench, is_lacp
-from ..model import SURE, Frame, Group, Stop, Stuck
-from ..pdus import GROUP, PAYLOAD, end, mac, words
+from ..model import SURE, Frame, Group, Stuck
+from ..pdus import GROUP, PAYLOAD, end, is_individual, mac, words
 from ..pics import denied
 
 # These look at each link, but for FM-07 and FM-09, which have the device answer at once.
@@ -44,24 +44,16 @@ def collected(b: Bench, least: int, takes: Callable[[Frame], object]) -> dict[in
     return {it: found(it) for it in links if it == 1 or len(found(it)) >= least}
 
 
-def sample(b: Bench, least: int = 3) -> dict[int, list[Frame]]:
-    """Some LACPDUs of the device on each link, beside a right partner."""
-    b.still_up()
-    found = collected(b, least, lambda it: it.lacpdu)
-    if len(found[1]) < least:
-        raise Stop(f"{len(found[1])} LACPDUs in 6 s")
-    return found
-
-
-def spoken(b: Bench, least: int = 3) -> dict[int, list[Frame]]:
-    """Some frames of the device on each link with the subtype of LACP, whether they can be read or not, beside a right partner."""
+def spoken(b: Bench, least: int = 3, reads: bool = False) -> dict[int, list[Frame]]:
+    """Some frames of the device on each link with the subtype of LACP, beside a right partner, whether the device carries or not; `reads`: those that
+    can be read."""
     try:
         b.still_up()
     except Stuck:
         b.begin(1)
-    found = collected(b, least, lambda it: is_lacp(it.octets))
+    found = collected(b, least, lambda it: it.lacpdu if reads else is_lacp(it.octets))
     if len(found[1]) < least:
-        raise Stuck(f"{len(found[1])} LACPDUs in 6 s")
+        raise b.stuck(f"{len(found[1])} LACPDUs in 6 s", 1)
     return found
 
 
@@ -85,7 +77,7 @@ def addresses(b: Bench) -> None:
         b.claim(not wrong, text, *wrong[:3] or found[:1], bears=SURE)
         sources = {it.octets[6:12] for it in found}
         one = min(sources)
-        right = len(sources) == 1 and not one[0] & 1 and any(one)
+        right = len(sources) == 1 and is_individual(one)
         b.claim(right, f"{on(link)}source {', '.join(map(mac, sources))}; has to be one individual address", found[0], bears=SURE)
 
 
@@ -129,11 +121,10 @@ def reserved(b: Bench) -> None:
             rule="an individual system address that is not 0; port number not 0; system, key and port stay", takes=4.5)  # fmt: skip
 def identifiers(b: Bench) -> None:
     """The system identifier has an individual MAC address, the port number is not 0, and neither changes."""
-    for link, found in sample(b, least=4).items():
+    for link, found in spoken(b, least=4, reads=True).items():
         actors = [it.lacpdu.actor for it in found if it.lacpdu]
         system, port = actors[0].system, actors[0].port
-        individual = any(system.mac) and not system.mac[0] & 1
-        b.claim(individual, f"{on(link)}system {system}; has to be an individual address, not 0", found[0], bears=SURE)
+        b.claim(is_individual(system.mac), f"{on(link)}system {system}; has to be an individual address, not 0", found[0], bears=SURE)
         b.claim(port.number, f"{on(link)}port number {port.number}; has to be another than 0", found[0], bears=SURE)
         ends = {it: (it.lacpdu.actor.system, it.lacpdu.actor.key, it.lacpdu.actor.port) for it in found if it.lacpdu}
         changed = [it for it in found if ends.get(it) != ends[found[0]]]
@@ -195,7 +186,7 @@ def steady_bits(b: Bench) -> None:
     """Beside a right partner, Defaulted and Expired are 0, and Activity, Timeout and Aggregation stay."""
     b.still_up()
     b.wait(0.5)
-    for link, found in sample(b).items():
+    for link, found in spoken(b, reads=True).items():
         # Beside link 1, what came before the device heard its new partner is of no matter.
         own = b.partner(link).me.system
         heard = [it for it in found if link == 1 or it.lacpdu and it.lacpdu.partner.system == own]

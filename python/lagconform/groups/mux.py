@@ -6,7 +6,7 @@ from typing import Optional
 
 from niwhopera import Lacpdu, State
 
-from ..bench import LIMIT, PROMPT, REST, SOON, TIMERS, Bench, apart
+from ..bench import LIMIT, PROMPT, REST, SOON, TIMERS, UNHEARD, Bench, apart
 from ..model import SURE, Frame, Group, Run, Stop
 from ..pdus import CARRIES, words
 from .receive import WAITS, carries, does_not_carry
@@ -223,5 +223,7 @@ def individual(b: Bench) -> None:
     if seen:
         b.timed("it is synchronized", sent, seen, 2, 2, timer=True, causes=waited_wrong(b, sent, seen))
     b.wait(0.7)
+    if not next(b.heard(1, mark), None):
+        raise Stop(UNHEARD)
     b.note("it carries on an individual link" if b.carries() else "it does not carry on an individual link")
     b.holds(not b.device().partner.state & State.AGGREGATION, "Aggregation of the partner is told as 0", b.frame())

@@ -7,7 +7,7 @@ from typing import Any
 
 from niwhopera import Info, Lacpdu, Mac, PortId, State, SystemId
 
-from ..bench import PROMPT, QUIET, SOON, TIMERS, Bench
+from ..bench import PROMPT, QUIET, SOON, TIMERS, UNHEARD, Bench
 from ..model import DoesNotApply, Group, Run, Stop
 from ..pdus import CARRIES, NOBODY, SIX, end, other, other_octet, six
 
@@ -106,7 +106,7 @@ def never_named(b: Bench) -> None:
     partner.keep_pace(1)
     b.wait(6)
     if not list(b.heard(1, mark)):
-        raise Stop("no LACPDU of the device")
+        raise Stop(UNHEARD)
     wrong = list(b.heard(1, mark, lambda pdu: pdu.actor.state & CARRIES and pdu.partner.system == partner.me.system))
     b.claim(not wrong, f"{len(wrong)} LACPDUs collect or distribute, of {len(list(b.heard(1, mark)))} in 6 s; has to be none", *wrong[:3])
 
@@ -199,7 +199,7 @@ def selected_anew(b: Bench, what: str, **changes: Any) -> None:
     mark, sent = b.mark(), partner.send()
     seen = b.first(1, mark, lambda pdu: not pdu.actor.state & State.SYNCHRONIZATION, SOON)
     b.timed(f"with another {what} it is no longer synchronized", sent, seen, 0, PROMPT)
-    b.until(6, lambda: b.carries() and b.names_us())
+    b.until(6, b.is_ready)
 
 
 @group.test("12g", "6.4.9 (update_Selected)", "The high octets of the partner's numbers are compared", "carry",
@@ -257,7 +257,7 @@ def other_bits(b: Bench) -> None:
         if wrong:
             partner.right()
             partner.send()
-            b.until(4, lambda: b.carries() and b.names_us())
+            b.until(4, b.is_ready)
 
 
 # So many seconds a device is given to carry again behind a link that was down.
@@ -308,7 +308,7 @@ def begins(b: Bench) -> None:
     if not first or not first.lacpdu:
         b.claim(False, f"no LACPDU came in {QUIET:g} s after the start; has to carry within 9 s")
         return
-    b.until(9, lambda: b.carries() and b.names_us())
+    b.until(9, b.is_ready)
     after = [it for it in b.heard(1, mark) if it.time <= first.time + 1]
     wrong = [it for it in after if it.lacpdu and it.lacpdu.actor.state & (State.SYNCHRONIZATION | CARRIES)]
     told = end(first.lacpdu.actor)

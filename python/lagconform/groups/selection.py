@@ -17,7 +17,7 @@ from typing import Sequence
 
 from niwhopera import Lacpdu, State
 
-from ..bench import PROMPT, SOON, Bench
+from ..bench import PROMPT, SOON, UNHEARD, Bench
 from ..model import MEMORY, SURE, Frame, Group, NotHere, Stop
 from ..pdus import BROADCAST, BROADCAST_TYPE, CARRIES, COUNT_AT, end
 from .receive import carries, does_not_carry
@@ -74,45 +74,64 @@ def floods(b: Bench) -> bool:
         for link in (1, 2):
             b.partner(link).speak()
         b.wait(PARTED)
-        b.floods = all(b.carries(it) and b.names_us(it) for it in (1, 2)) and broadcasts(b) > 0
+        b.floods = all(map(b.is_ready, (1, 2))) and broadcasts(b) > 0
     return b.floods
+
+
+class Told:
+    """What the device told on some links since a mark: by it a link on which it says that it carries does so, also where it tells a number of its
+    partner wrong."""
+
+    def __init__(self, b: Bench, mark: int, links: Sequence[int] = (1, 2)) -> None:
+        self.frames = {it: b.frame(it) for it in links if next(b.heard(it, mark), None)}
+        self.carrying = [it for it in self.frames if b.carries(it)]
+        # Where it carries beside our system, and not beside one that was there before.
+        self.ours = [it for it in self.carrying if b.device(it).partner.system.mac == b.partner(it).me.system.mac]
+        wrong = {it: f"names {end(b.device(it).partner)}, and has to name {end(b.partner(it).me.info)}" for it in self.carrying if not b.names_us(it)}
+        told = {it: ", ".join([end(b.device(it).actor), *([wrong[it]] if it in wrong else [])]) if it in self.frames else f"{UNHEARD} came" for it in links}
+        self.text = "; ".join(f"link {it}: {text}" for it, text in told.items())
+        misnamed = "; ".join(f"link {it} {text}" for it, text in wrong.items())
+        self.carry = f"{'both' if len(links) == 2 else 'all'} links carry{f' ({misnamed})' if wrong else ''}"
 
 
 def apart(b: Bench, seconds: float = PARTED, one: bool = True) -> None:
     """Claims that after some seconds the device does not use both links in one aggregator, whatever its LACPDUs say of each; and, if
-    `one`, that it uses one of them."""
+    `one`, that it uses one of them. A link on which it says that it carries does so, however it names its partner."""
+    mark = b.mark()
     b.wait(seconds)
-    frames = [b.frame(it) for it in (1, 2)]
-    if not all(b.carries(it) and b.names_us(it) for it in (1, 2)):
-        told = "; ".join(f"link {it}: {end(b.device(it).actor)}" for it in (1, 2))
-        b.claim(True, f"after {seconds:g} s it does not carry on both: {told}", *frames)
+    told = Told(b, mark)
+    frames = list(told.frames.values())
+    if not frames and not one:
+        raise Stop(UNHEARD)
+    if len(told.carrying) < 2:
+        b.claim(True, f"after {seconds:g} s it does not carry on both: {told.text}", *frames)
         if one:
-            b.holds(any(b.carries(it) and b.names_us(it) for it in (1, 2)), "it carries on one", *frames)
+            b.claim(told.ours, f"{told.text}; one of them has to carry", *frames)
         return
-    b.note("both links carry by their LACPDUs: in one aggregator, or in two")
+    b.note(f"{told.carry} by their LACPDUs: in one aggregator, or in two")
     try:
         found = flows(b)
     except NotHere as why:
-        apart_by_broadcasts(b, frames, str(why))
+        apart_by_broadcasts(b, told, str(why))
         return
     if not any(found.values()):
-        raise Stop("both links carry, and no data of the device came")
+        raise Stop(f"{told.carry}, and no data of the device came")
     if not all(found.values()) and not spreads(b):
-        raise Stop("both links carry, and data came on one: but the device does so for one aggregator, too")
+        raise Stop(f"{told.carry}, and data came on one: but the device does so for one aggregator, too")
     text = f"flows of one client: {found[1]} on link 1, {found[2]} on link 2; has to be one link alone"
     b.claim(not all(found.values()), text, *frames, bears=1.0)
 
 
-def apart_by_broadcasts(b: Bench, frames: Sequence[Frame], why: str) -> None:
+def apart_by_broadcasts(b: Bench, told: Told, why: str) -> None:
     """Claims that two links that carry are two aggregators, as broadcasts show it where the device is a bridge."""
-    found = broadcasts(b)
+    found, frames = broadcasts(b), told.frames.values()
     text = f"of {BROADCASTS} broadcasts into link 1, {found} come out of link 2"
     if found:
         b.claim(True, f"{text}: two aggregators", *frames)
     elif floods(b):
         b.claim(False, f"{text}: one aggregator; has to be two, between which this device forwards broadcasts", *frames, bears=1.0)
     else:
-        raise Stop(f"both links carry, and {text}: one aggregator, or a device that forwards none. Data of its client would show it ({why})")
+        raise Stop(f"{told.carry}, and {text}: one aggregator, or a device that forwards none. Data of its client would show it ({why})")
 
 
 def joined_by_broadcasts(b: Bench, why: str) -> None:
@@ -257,7 +276,7 @@ def restarts(b: Bench) -> None:
     for link in (1, 2):
         seen = b.first(link, mark, lambda pdu: not pdu.actor.state & State.SYNCHRONIZATION, 2)
         b.holds(seen, f"link {link} detaches", seen)
-    both = b.until(8, lambda: all(b.carries(it) and b.names_us(it) for it in (1, 2)))
+    both = b.until(8, lambda: all(map(b.is_ready, (1, 2))))
     b.holds(both, "both carry again", b.frame(1), b.frame(2))
 
 
@@ -282,7 +301,7 @@ def in_order(b: Bench) -> None:
         b.wait(3)
         partner.become(key=key)
         partner.send()
-        b.until(5, lambda: b.carries(2) and b.names_us(2))
+        b.until(5, lambda: b.is_ready(2))
         b.wait(2)
     b.hook("data", "stop")
     flows_seen = b.flows(mark)
@@ -323,7 +342,7 @@ def looped(b: Bench) -> None:
     mark = reflect(b, False, 7)
     found = list(b.heard(1, mark))
     if not found:
-        raise Stop("no LACPDU of the device")
+        raise Stop(UNHEARD)
     wrong = list(b.heard(1, mark, lambda pdu: carries_for_itself(pdu) and pdu.partner.port == pdu.actor.port))
     b.claim(not wrong, f"{len(wrong)} LACPDUs that carry with the port itself as the partner; has to be none", *wrong[:2])
 
@@ -386,19 +405,19 @@ def two_and_one(b: Bench) -> None:
     """Links of two LAG IDs are two aggregators, also where one of them has several links."""
     b.begin(1, 2)
     b.begin(3)
-    b.wait(8)
-    frames = [b.frame(it) for it in THREE]
-    both = all(b.carries(it) and b.names_us(it) for it in (1, 2))
-    told = "; ".join(f"link {it}: {end(b.device(it).actor)}" for it in THREE)
-    b.claim(both or b.carries(3) and not (b.carries(1) or b.carries(2)), f"{told}; links 1 and 2 have to carry, or link 3 alone", *frames)
+    mark = b.mark()
+    b.wait(PARTED)
+    told = Told(b, mark, THREE)
+    frames, right = list(told.frames.values()), {1, 2} <= set(told.ours) or told.carrying == told.ours == [3]
+    b.claim(right, f"{told.text}; links 1 and 2 have to carry, or link 3 alone", *frames)
     try:
         found = flows(b, THREE)
     except NotHere as why:
-        if both and b.carries(3):
-            raise Stop(f"all links carry; without data it cannot be seen in how many aggregators ({why})") from why
+        if told.carrying == [*THREE]:
+            raise Stop(f"{told.carry}; without data it cannot be seen in how many aggregators ({why})") from why
         return
-    if both and b.carries(3) and sum(map(bool, found.values())) < 2 and not spreads(b):
-        raise Stop("all links carry, and data came on one at most: but the device does so for one aggregator, too")
+    if told.carrying == [*THREE] and sum(map(bool, found.values())) < 2 and not spreads(b):
+        raise Stop(f"{told.carry}, and data came on one at most: but the device does so for one aggregator, too")
     mixed = found[3] and (found[1] or found[2])
     b.claim(not mixed, f"flows of one client by link: {found}; has to be links 1 and 2, or link 3", *frames, bears=1.0)
 

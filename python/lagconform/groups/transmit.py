@@ -7,7 +7,7 @@ from typing import Callable, Sequence
 
 from niwhopera import Info, PortId, State
 
-from ..bench import PROMPT, REST, SOON, Bench, most_within
+from ..bench import PROMPT, REST, SOON, UNHEARD, Bench, most_within
 from ..model import SURE, Frame, Group, Run, Stop, Stuck
 from ..pdus import NOBODY, SIX, other
 from .periodic import calm
@@ -30,7 +30,7 @@ def three(b: Bench) -> None:
             b.partner(link).send()
         b.wait(0.05)
     if not next(b.heard(1, mark), None):
-        raise Stuck("no LACPDU of the device")
+        raise Stuck(UNHEARD)
     heard = {link: list(b.heard(link, mark)) for link in b.links}
     near = [three_at_most(b, found, "" if link == 1 else f"link {link}: ") for link, found in heard.items() if found]
     if why := "; ".join(filter(None, near)):
@@ -55,7 +55,7 @@ def still_calm(b: Bench) -> None:
     """Carrying and asked for long timeouts, as the test before left it, or anew."""
     partner, frame = b.partner(), b.links[1].frame
     quiet = partner.pace is not None and not partner.me.short and not partner.forced and partner.says is None
-    if not (quiet and frame and b.now() - frame.time < 25 and b.carries() and b.names_us() and partner.tells_carrying):
+    if not (quiet and frame and b.now() - frame.time < 25 and b.is_ready() and partner.tells_carrying):
         calm(b, False)
         return
     b.wait(1.2)  # the transmit machine of the device has room again
@@ -75,7 +75,7 @@ def asks(what: str, change: Callable[[Info], Info], phase: float) -> Run:
         b.timed(f"an LACPDU that tells {what} wrong is answered", sent, seen, 0, PROMPT)
         partner.says = None
         partner.send()
-        b.until(2, lambda: b.carries() and b.names_us())
+        b.until(2, b.is_ready)
 
     return run
 
@@ -122,7 +122,7 @@ def silent_for_other_bits(b: Bench) -> None:
     text = f"told Collecting, Distributing, Defaulted and Expired wrong, it sends {len(found)} LACPDUs in 6 s; has to be at most 1"
     b.claim(len(found) <= 1, text, *found[:3], bears=SURE)
     partner.send()
-    b.until(2, lambda: b.carries() and b.names_us())
+    b.until(2, b.is_ready)
 
 
 @group.test("08", "6.4.16, 6.4.9", "Prompt while data flows", "carry, asked for long timeouts, while the device's client sends (hook: data)",
@@ -144,7 +144,7 @@ def prompt_under_data(b: Bench) -> None:
             b.timed("while data flows, an LACPDU that tells key wrong is answered", sent, seen, 0, PROMPT)
             partner.says = None
             partner.send()
-            b.until(SOON, lambda: b.carries() and b.names_us())
+            b.until(SOON, b.is_ready)
     b.hook("data", "stop")
 
 
@@ -165,7 +165,7 @@ def three_are_sent(b: Bench) -> None:
     found = [it for it in b.heard(1, start) if it.time <= asked[-1].time + PROMPT + b.slack]
     b.claim(len(found) >= 3, f"asked three times in 0.4 s, it sent {len(found)} LACPDUs in 1 s; has to be 3", *asked, *found)
     partner.send()
-    b.until(SOON, lambda: b.carries() and b.names_us())
+    b.until(SOON, b.is_ready)
 
 
 def ask_thrice(b: Bench, *links: int) -> list[Frame]:
@@ -198,7 +198,7 @@ def told_behind_the_limit(b: Bench) -> None:
     b.timed(f"behind {before} LACPDUs, the change is told", sent, seen, 0, PROMPT)
     b.partner().forced.clear()
     b.partner().send()
-    b.until(SOON, lambda: b.carries() and b.names_us())
+    b.until(SOON, b.is_ready)
 
 
 @group.test("11", "6.4.16", "Each link has its own three LACPDUs a second", "carry on two links, asked for long timeouts, and ask for nothing for 1.2 s",

@@ -11,7 +11,7 @@ from typing import Callable, Optional, Sequence
 
 from niwhopera import State, encode
 
-from ..bench import Bench
+from ..bench import UNHEARD, Bench
 from ..model import DEVICES, MEMORY, PROFILE, Frame, Group, Stop
 from ..partner import slow
 from ..pdus import CARRIES, GROUP, SLOW, put
@@ -38,7 +38,7 @@ def taken(b: Bench, change: Change, wrap: Optional[Change]) -> tuple[Frame, Opti
     partner.send()
     partner.speak()
     if not heard:
-        raise Stop(f"no LACPDU of the device in {SEEN} s")
+        raise Stop(f"{UNHEARD} in {SEEN} s")
     b.until(3, lambda: b.carries() and b.device().partner.state & CARRIES)
     return sent, seen
 
