@@ -1,6 +1,6 @@
-/* A switch with one chip of 128 ports in 64 LAGs: a handle for each LAG, by lag_end.h, and one buffer for all of them. A port moves from one handle to another,
- * no call is made for a LAG in which nothing is due, and all LAGs start warm while the chip forwards. Two such switches are joined by a cable at each port, and
- * their chips are played here.
+/* A switch with one chip of 128 ports in 64 LAGs: a handle for each LAG, by hosts/shared/lag_end.h, and one buffer for all of them. A port moves from one
+ * handle to another, no call is made for a LAG in which nothing is due, and all LAGs start warm while the chip forwards. Two such switches are joined by a cable
+ * at each port, and their chips are played here.
  *
  * The chip spreads frames over a trunk by a hash of its own, and has no rows. So no conversation is offered, no marker is sent, and order is not promised
  * when the ports of a trunk change. For a chip with rows each LAG takes the steps of trunk.c. One task makes all calls: the handles share their memory.
