@@ -55,9 +55,12 @@ examples: $(addprefix out/bin/,$(EXAMPLES))
 out/bin/%: examples/c/%.c $(wildcard examples/c/*.h) out/lib/liblag.so.0 | out/bin
 	$(CC) $(CFLAGS) -Iout/lib -o $@ $< out/lib/liblag.a
 
-# The library by -DNIW_POOL is of this program alone.
-out/bin/pool: examples/c/pool.c examples/c/loop.h c/lag.c $(HEADER) | out/bin
-	$(CC) $(CFLAGS) -DNIW_POOL -I$(dir $(HEADER)) -o $@ examples/c/pool.c c/lag.c
+# The library by -DNIW_POOL is of these programs alone.
+out/bin/pool out/bin/large_chip: out/bin/%: examples/c/%.c examples/c/loop.h hosts/shared/lag_end.h out/bin/pool.o
+	$(CC) $(CFLAGS) -DNIW_POOL -I$(dir $(HEADER)) -o $@ $< out/bin/pool.o
+
+out/bin/pool.o: c/lag.c $(HEADER) | out/bin
+	$(CC) $(CFLAGS) -DNIW_POOL -I$(dir $(HEADER)) -c -o $@ c/lag.c
 
 out/bin:
 	mkdir -p $@
