@@ -10,7 +10,7 @@ from xml.etree import ElementTree
 from typing import Any, Optional, Sequence, Type
 
 import pytest
-from conform_device import BY_NAME, Device, World, beside, put
+from conform_device import BY_NAME, Device, World, beside, devices, put
 from conform_device import play as play_in
 from conform_faults import KeyUnchecked, NeverBack, SecondPartnerKey, StartsTooLate, WrongEcho
 from conform_frames import Responds
@@ -54,12 +54,11 @@ def test_what_a_device_does_is_found_out_by_each_test_that_wants_it(kind: Type[D
     assert {it.id: play(kind, [it])[0].verdict for it in tests} == run
 
 
-class OnOneLink(Device):
-    """Sends the data of an aggregator on one of its links alone."""
-
-    def put_data(self, port: int, frame: bytes) -> None:
-        if port == min(it for it in self.links if self.on.choice(it) == self.on.choice(port)):
-            super().put_data(port, frame)
+(OnOneLink,) = devices(
+    Device, "puts",
+    ("OnOneLink", "Sends the data of an aggregator on one of its links alone.", "",
+     lambda self, port, frame: [port] if port == min(it for it in self.links if self.on.choice(it) == self.on.choice(port)) else []),
+)  # fmt: skip
 
 
 def test_where_data_of_one_aggregator_comes_on_one_link_the_reason_is_right() -> None:

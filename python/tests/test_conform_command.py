@@ -16,7 +16,7 @@ from pathlib import Path
 from typing import Any, Iterator, Sequence, Type
 
 import pytest
-from conform_device import BY_NAME, LAST, Device, Individual, LongTimeouts, NoData, Waits, WaitsThree, World, beside
+from conform_device import BY_NAME, LAST, Device, Individual, LongTimeouts, NoData, Waits, WaitsThree, World, beside, devices
 from conform_faults import CutOff, KeyUnchecked, NoWait, SystemUnchecked
 from conform_frames import NoMarkers
 from niwhopera import __version__

@@ -13,10 +13,10 @@ from contextlib import ExitStack
 from dataclasses import replace
 from pathlib import Path
 from textwrap import dedent, indent
-from typing import Iterable, Iterator, Optional, Sequence, Type
+from typing import Iterable, Iterator, Sequence, Type
 
 import pytest
-from conform_device import BY_NAME, LAST, Device, Full, World, beside, play, put
+from conform_device import BY_NAME, LAST, Device, Full, Says, World, beside, devices, play, put
 from conform_faults import CutOff, DataTwice, GroupSystem, KeyUnchecked, PartnerLength, RestartsOnChange, SecondFallsSilent, SecondPartnerKey, WrongEcho
 from conform_frames import BadLengths, OtherId, Responds, VersionChecked
 from conform_machines import NoNtt
@@ -46,6 +46,20 @@ def bench() -> Iterator[object]:
             return made.enter_context(beside(world, world))
 
         yield make
+
+
+SometimesWrong, LateKey, Uncarrying = devices(
+    Says, "said",
+    ("SometimesWrong", "Sends a wrong version in the first 8 s of its life.", "",
+     lambda self, port, frame: put(frame, 1, b"\x09") if self.now < 8 else frame),
+    # A partner that tells the key back is out of sync for it, so that the link no longer carries.
+    ("LateKey", "Tells another key on its second link from a second on.", "",
+     lambda self, port, frame: put(frame, 12, b"\0\x77") if port == 2 and self.now > 600 else frame),
+    ("Uncarrying", "Never carries.", "", lambda self, port, frame: put(frame, 18, bytes([frame[32] & 0x0F]))),
+)  # fmt: skip
+(LateSilence,) = devices(SecondFallsSilent, "silent_from", ("LateSilence", "Its second link falls silent once it has carried.", "", 100.0))
+(DataManyTimes,) = devices(Device, "puts", ("DataManyTimes", "Sends more copies than the bench keeps.", "", lambda self, port, frame: [port] * 20))
+(Mute,) = devices(Device, "may_send", ("Mute", "Says nothing more once its links were up for a while.", "", lambda self: self.now < 10))
 
 
 class Loop(Device):
@@ -123,12 +137,6 @@ def test_data_that_a_hook_asks_for_is_no_flood_of_lacpdus() -> None:
     assert all(meters.takes(1.2, memory.flow(it % 64, 1)) for it in range(floods.DATA_KEPT)) and not meters.takes(1.3, memory.flow(0, 1))
     assert all(meters.takes(1.4, bytes(20)) for _ in range(floods.KEPT))
     assert "data of the device's client came at up to 5001 a second: 1 beyond 5000 a second were not kept, as one of type 0800" in meters.spilled()
-
-
-class DataManyTimes(DataTwice):
-    """Sends more copies than the bench keeps."""
-
-    copies = 20
 
 
 @pytest.mark.parametrize("kind, flooded", [(DataTwice, False), (DataManyTimes, True)])
@@ -265,13 +273,6 @@ def test_a_capture_for_each_test(run, tmp_path: Path) -> None:  # type: ignore[n
     assert run(Device, "--captures", "file") == 2
 
 
-class SometimesWrong(Device):
-    """Sends a wrong version in the first 8 s of its life."""
-
-    def says(self, port: int, frame: bytes) -> Iterable[bytes]:
-        yield put(frame, 1, b"\x09") if self.now < 8 else frame
-
-
 def test_a_repeated_test_has_its_worst_verdict(bench) -> None:  # type: ignore[no-untyped-def]
     b = bench(SometimesWrong)
     meet(b)
@@ -364,18 +365,12 @@ class EchoesLength(OtherId):
             self.send(port, response)
 
 
-class EchoesLengthRight(EchoesLength):
-    """The rest of its responses is right."""
-
-    def says_back(self, marker: bytes, response: bytes) -> Optional[bytes]:
-        return response
-
-
-class LengthAlone(Responds):
-    """Its responses have length 15."""
-
-    def says_back(self, marker: bytes, response: bytes) -> Optional[bytes]:
-        return put(response, 3, b"\x0f")
+(EchoesLengthRight,) = devices(
+    EchoesLength, "says_back", ("EchoesLengthRight", "The rest of its responses is right.", "", lambda self, marker, response: response)
+)
+(LengthAlone,) = devices(
+    Responds, "says_back", ("LengthAlone", "Its responses have length 15.", "", lambda self, marker, response: put(response, 3, b"\x0f"))
+)
 
 
 def test_an_echo_of_a_wrong_marker_is_told_and_no_cause_of_its_own() -> None:
@@ -493,19 +488,6 @@ def test_a_verdict_tells_what_the_device_says_and_does(stack, lines: str, tests:
     assert stack(lines, *(f"--only={it}" for it in tests.split())) == status and why in capsys.readouterr().out
 
 
-class LateSilence(SecondFallsSilent):
-    """Its second link falls silent once it has carried."""
-
-    finds, silent_from = "", 100.0
-
-
-class LateKey(Device):
-    """Tells another key on its second link from a second on: a partner that tells it back is out of sync for it, so that the link no longer carries."""
-
-    def says(self, port: int, frame: bytes) -> Iterable[bytes]:
-        yield put(frame, 12, b"\0\x77") if port == 2 and self.now > 600 else frame
-
-
 @pytest.mark.parametrize("kind, words, fails", [(LateSilence, ["--not", "MX-06"], 0), (LateSilence, [], 1), (LateKey, [], 0)])
 def test_a_second_link_that_carried_and_stops_fails_its_run(run, kind: Type[Device], words: Sequence[str], fails: int, tmp_path: Path, capsys: pytest.CaptureFixture[str]) -> None:  # type: ignore[no-untyped-def]
     assert run(kind, "--json", "r.json", *words) == 1
@@ -525,20 +507,6 @@ class NoStart(World):
 
     def call(self, words: Sequence[str]) -> memory.Done:
         return memory.Done(Answer(1, "no")) if words[0] == "start" else super().call(words)
-
-
-class Mute(Device):
-    """Says nothing more once its links were up for a while."""
-
-    def may_send(self) -> bool:
-        return self.now < 10
-
-
-class Uncarrying(Device):
-    """Never carries."""
-
-    def says(self, port: int, frame: bytes) -> Iterable[bytes]:
-        yield put(frame, 18, bytes([frame[32] & 0x0F]))
 
 
 @pytest.mark.parametrize("kind, world, ends, why", [
