@@ -303,10 +303,12 @@ class Waits:
 
 
 @contextmanager
-def beside(world: World, hook: Optional[Hook] = None, **how: Any) -> Iterator[Bench]:
-    """A bench beside the device of a world, which ends with it."""
+def beside(world: World, hook: Optional[Hook] = None, meets: bool = True, **how: Any) -> Iterator[Bench]:
+    """A bench that has met the device of a world, or is to meet it; it ends with it."""
     b = Bench(world, hook, **how)
     try:
+        if meets:
+            meet(b)
         yield b
     finally:
         b.close()
@@ -316,6 +318,5 @@ def play(world: World, tests: Iterable[Case], **how: Any) -> list[Result]:
     """Runs tests beside the device of a world, whose hook is there."""
     results: list[Result] = []
     with beside(world, world, **how) as b:
-        meet(b)
         run_all(b, ordered(tests), results.append)
     return results

@@ -23,7 +23,6 @@ from lagconform.edition import edition
 from lagconform.groups import GROUPS, TESTS
 from lagconform.model import ERROR, FAIL, INCONCLUSIVE, PASS, SKIPPED, SPARE, WHOLE_RUN, Group, Result
 from lagconform.model import Test as Case
-from lagconform.runner import meet
 from niwhopera import Mac
 
 PAGE = Path(__file__).parents[2] / "docs" / "CONFORM.md"
@@ -182,7 +181,6 @@ def test_the_systems_of_a_bench_are_those_that_it_was_given(run, capsys: pytest.
     base = Mac("06d100000003")
     assert [it.verdict for it in play(Device, [BY_NAME["SL-02"], BY_NAME["IV-04"]], base=base)] == [PASS, PASS]
     with beside(World(Device(), 1), base=base) as b:
-        meet(b)
         assert str(b.device().partner.system.mac) == "06-d1-00-00-01-03" and b.is_ours(b.new_mac())
     reasons = {"03:d1:00:00:00:01": "is a multicast address", "06-d1-00-01-00-01": "counts its systems in octets 3 to 5", "lag0": "an address, as 02-cf"}
     for text, why in reasons.items():

@@ -23,7 +23,6 @@ def play(kind: Type[Device], *names: str, world: Type[World] = World, flaps: boo
     """Runs tests beside a device; a hook is there."""
     wire = world(kind())
     with beside(wire, wire, flaps=flaps) as b:
-        meet(b)
         return [run_one(b, BY_NAME[it]) for it in names]
 
 
@@ -63,9 +62,8 @@ def test_a_right_device_of_its_own_kind_passes(kind: Type[Device], name: str) ->
 
 def test_what_a_device_tells_of_the_run_before_is_not_looked_at() -> None:
     with beside(World(Device())) as b:
-        meet(b)
         octets = next(it.octets for it in b.frames if not it.out)
-    with beside(World(BehindAnotherRun())) as b:
+    with beside(World(BehindAnotherRun()), meets=False) as b:
         b.log(1, 0.0, False, put(octets, 26, BEFORE))
         meet(b)
         found = [run_one(b, BY_NAME[it]) for it in ("FM-01", "IV-04")]
@@ -136,7 +134,6 @@ def test_a_run_ends_where_an_interface_is_gone() -> None:
 
     results = list[Result]()
     with beside(Leaves(KeyUnchecked())) as b:
-        meet(b)
         with pytest.raises(Gone, match="link1 is gone"):
             run_all(b, [BY_NAME[it] for it in ("RX-07c", "FM-01", "FM-02", "FM-03", "FM-04")], results.append)
         assert results[-1].verdict == INCONCLUSIVE and results[-1].why == "the interface link1 is gone" and len(results) < 5
@@ -169,7 +166,6 @@ class Told(World):
 def test_an_end_within_a_test_leaves_the_device_as_it_was(name: str, flaps: bool, done: str) -> None:
     world = Told(Device())
     with beside(world, world, flaps=flaps) as b:
-        meet(b)
         with pytest.raises(KeyboardInterrupt):
             run_one(b, BY_NAME[name])
         assert " ".join(world.done) == done
@@ -192,7 +188,7 @@ class Endless:
 
 def test_a_hook_that_does_not_end_is_refused() -> None:
     hook = Endless()
-    with beside(World(Device()), hook) as b:
+    with beside(World(Device()), hook, meets=False) as b:
         with pytest.raises(Refused, match="the hook did not end in 40 s: reset"):
             command.prepare_device(options.reader().parse_args(["a", "--hook", "x"]), b)
         assert hook.stopped and HOOK_SECONDS <= b.now() < HOOK_SECONDS + 1
@@ -212,6 +208,6 @@ def test_a_closed_bench_closes_its_links() -> None:
 
 def test_junit_is_xml_whatever_a_text_has() -> None:
     found = Result(BY_NAME["FM-01"], FAIL, why="\x1b[31mred\x00\ufffe\ud800", notes=["\x07"])
-    with beside(World(Device())) as b:
+    with beside(World(Device()), meets=False) as b:
         text = junit.as_junit(report.Run(b, {"device": "a\x08b"}, {}, [found]))
     assert xml.fromstring(text.encode()).get("name") == "a\ufffdb"

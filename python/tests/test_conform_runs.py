@@ -27,7 +27,7 @@ from lagconform.edition import edition
 from lagconform.groups import TESTS
 from lagconform.model import CAVEAT, FAIL, INCONCLUSIVE, NOT_APPLICABLE, PASS, SKIPPED, SURE, Claim, Result
 from lagconform.model import Test as Case
-from lagconform.runner import IN_TURN, CameToNothing, Flood, StoppedForGood, judge, meet, run_all, run_times
+from lagconform.runner import IN_TURN, CameToNothing, Flood, StoppedForGood, judge, run_all, run_times
 from lagconform.wires import Answer
 
 EXAMPLES = Path(__file__).parents[2] / "examples" / "conform"
@@ -38,7 +38,7 @@ needs_library = pytest.mark.skipif(not HEADER.exists() or not shutil.which("cc")
 
 @pytest.fixture
 def bench() -> Iterator[object]:
-    """Makes benches beside devices."""
+    """Makes benches that have met devices."""
     with ExitStack() as made:
 
         def make(kind: Type[Device]) -> Bench:
@@ -83,7 +83,6 @@ class BesideALoop(Loop):
 @pytest.mark.parametrize("kind", [Loop, BesideALoop])
 def test_a_flood_is_told_and_ends_the_run(bench, kind: Type[Device]) -> None:  # type: ignore[no-untyped-def]
     b, results = bench(kind), list[Result]()
-    meet(b)
     with pytest.raises(CameToNothing, match=f"{IN_TURN} tests in turn came to nothing.*link 1 .link1. is flooded: [0-9]+ frames a second came on average"):
         run_all(b, [BY_NAME[it] for it in ("RX-01", "RX-02", "RX-04", "RX-06", "RX-09", "RX-10", "TX-01", "MX-07")], results.append)
     assert b.now() < 120 and len(b.frames) < 2 * floods.KEPT * b.now()
@@ -103,7 +102,6 @@ class BesideAShortLoop(BesideALoop):
 
 def test_what_looks_at_all_frames_takes_none_of_a_flood_for_the_device(bench) -> None:  # type: ignore[no-untyped-def]
     b, results = bench(BesideAShortLoop), list[Result]()
-    meet(b)
     run_all(b, [BY_NAME[it] for it in ("FM-01", "RX-04", "FM-02", "IV-03", "IV-05")], results.append)
     assert b.now() > 14 and [it.verdict for it in results[-3:]] == [PASS, INCONCLUSIVE, INCONCLUSIVE], [it.why for it in results]
     assert "is flooded" in results[-1].why and not [it.test.id for it in results if it.verdict == FAIL]
@@ -116,7 +114,6 @@ def test_a_fail_beside_the_traffic_of_others_stays_and_tells_of_it() -> None:
 
     world = Busy(KeyUnchecked())
     with beside(world, world) as b:
-        meet(b)
         fails, passes = (run_times(b, BY_NAME[it], None, 1) for it in ("RX-07c", "FM-01"))
         assert fails.verdict == FAIL and "has to be at most 0.65 s. Beside it, link 1 (link1) is flooded: 20000 frames a second came on average" in fails.why
         assert passes.verdict == PASS and not fails.stuck
@@ -275,7 +272,6 @@ def test_a_capture_for_each_test(run, tmp_path: Path) -> None:  # type: ignore[n
 
 def test_a_repeated_test_has_its_worst_verdict(bench) -> None:  # type: ignore[no-untyped-def]
     b = bench(SometimesWrong)
-    meet(b)
     found = run_times(b, BY_NAME["FM-02"], None, 4)
     assert found.verdict == FAIL and found.times[FAIL] + found.times[PASS] == 4 and found.times[PASS] > 0
     assert found.why.endswith(f"(in {found.times[FAIL]} of 4 runs)") and found.first == 1 + len([it for it in b.frames if it.number < found.first])
@@ -384,7 +380,6 @@ def test_an_echo_of_a_wrong_marker_is_told_and_no_cause_of_its_own() -> None:
 
 def test_what_a_device_tells_wrong_on_one_link_is_told_with_the_link(bench) -> None:  # type: ignore[no-untyped-def]
     b = bench(SecondPartnerKey)
-    meet(b)
     fields, engine = (run_times(b, BY_NAME[it], None, 1) for it in ("FM-06", "EN-02"))
     assert fields.why.startswith("link 2: the partner told is 258/02-cf") and "key 65279 port 165/61454" in fields.why and "key 65534 port 165/61454" in fields.why
     assert "link 1 DISTRIBUTING, link 2 PARTNER_NOT_SYNCHRONIZED" in engine.why and ", where the device tells of our port 2 key 4352, and has to tell 17" in engine.why
@@ -517,7 +512,6 @@ class NoStart(World):
 def test_only_a_device_that_carried_is_to_blame_for_tests_that_come_to_nothing(kind: Type[Device], world: Type[World], ends: Type[Exception], why: str) -> None:
     wire = world(kind())
     with beside(wire, wire) as b:
-        meet(b)
         with pytest.raises(ends, match=why):
             run_all(b, [BY_NAME[it] for it in ("FM-01", "RX-15", "RX-02", "RX-03", "RX-05", "RX-06", "RX-16", "RX-17", "RX-18", "RX-14")], lambda _: None)
 
@@ -588,7 +582,6 @@ def test_what_a_stack_can_not_do_is_told_as_such(stack, capsys: pytest.CaptureFi
 
 def test_what_is_looked_past_is_that_one_parameter(bench) -> None:  # type: ignore[no-untyped-def]
     b = bench(WrongEcho)
-    meet(b)
     found = run_times(b, BY_NAME["FM-07"], None, 1)
     assert found.verdict == PASS and b.mistold == {"port_priority"}, found.why
     assert found.notes == ["the device tells our port_priority wrong (FM-06): tests go by the other parameters from here on"]
