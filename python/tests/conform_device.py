@@ -119,8 +119,8 @@ class Device(Stack):
             self.count += 1
             for frame in (flow(number, self.count) for number in range(FLOWS)):
                 port = self.port_of(frame)
-                if port:
-                    self.put_data(port, frame)
+                for it in self.puts(port, frame) if port else ():
+                    self.send(it, frame)
 
     def send_due(self) -> None:
         """Sends what is due."""
@@ -161,9 +161,9 @@ class Device(Stack):
         """Whether what is due goes out now."""
         return True
 
-    def put_data(self, port: int, frame: bytes) -> None:
-        """A frame of the client goes out on a port."""
-        self.send(port, frame)
+    def puts(self, port: int, frame: bytes) -> Iterable[int]:
+        """The ports on which a frame of the client goes out, that of `port_of` by a right device."""
+        yield port
 
     def port_of(self, frame: bytes) -> Optional[int]:
         """The port of a frame of the client."""
@@ -198,12 +198,6 @@ class NoData(Device):
         raise NotImplementedError
 
 
-class LongTimeouts(Device):
-    """Asks for long timeouts."""
-
-    short = False
-
-
 class WaitsThree(Device):
     """Its wait_while is 3 s: of three ticks that come while a port waits, one is left out."""
 
@@ -215,12 +209,6 @@ class WaitsThree(Device):
             if self.waited % 3 == 1:
                 return
         super().tick()
-
-
-class Individual(Device):
-    """Its ports are individual."""
-
-    aggregatable = False
 
 
 class Hears(Device):
@@ -283,6 +271,13 @@ def devices(base: Type[Device], attributes: str, *rows: Row) -> list[Type[Device
     return [type(name, (base,), {**shared, "__doc__": what, "finds": finds, **dict(zip(names, given))}) for name, what, finds, *given in rows]
 
 
+LongTimeouts, Individual = devices(
+    Device, "short aggregatable",
+    ("LongTimeouts", "Asks for long timeouts.", "", False),
+    ("Individual", "Its ports are individual.", "", True, False),
+)  # fmt: skip
+
+
 # Benches beside devices.
 
 
@@ -308,10 +303,12 @@ class Waits:
 
 
 @contextmanager
-def beside(world: World, hook: Optional[Hook] = None, **how: Any) -> Iterator[Bench]:
-    """A bench beside the device of a world, which ends with it."""
+def beside(world: World, hook: Optional[Hook] = None, meets: bool = True, **how: Any) -> Iterator[Bench]:
+    """A bench that has met the device of a world, or is to meet it; it ends with it."""
     b = Bench(world, hook, **how)
     try:
+        if meets:
+            meet(b)
         yield b
     finally:
         b.close()
@@ -321,6 +318,5 @@ def play(world: World, tests: Iterable[Case], **how: Any) -> list[Result]:
     """Runs tests beside the device of a world, whose hook is there."""
     results: list[Result] = []
     with beside(world, world, **how) as b:
-        meet(b)
         run_all(b, ordered(tests), results.append)
     return results

@@ -36,16 +36,6 @@ class SecondPort(Device):
         yield self.wrong(frame) if port == 2 else frame
 
 
-class DataTwice(Device):
-    """Sends each frame of its client twice."""
-
-    finds, copies = "SL-17", 2
-
-    def put_data(self, port: int, frame: bytes) -> None:
-        for _ in range(self.copies):
-            self.send(port, frame)
-
-
 class FlickeringTimeout(Device):
     """Tells another LACP_Timeout in each LACPDU."""
 
@@ -63,6 +53,7 @@ WrongEcho, GroupSystem, CutOff, PartnerLength = devices(
     ("CutOff", "Sends 60 octets: the least length of a frame.", "FM-02 FM-03", lambda self, port, frame: frame[:60]),
     ("PartnerLength", "Sends a Partner TLV of length 22.", "FM-03", lambda self, port, frame: put(frame, 23, b"\x16")),
 )  # fmt: skip
+(DataTwice,) = devices(Device, "puts", ("DataTwice", "Sends each frame of its client twice.", "SL-17", lambda self, port, frame: [port] * 2))
 (SecondFallsSilent,) = devices(
     Device, "silent_from says",
     ("SecondFallsSilent", "Says nothing more on port 2 from a second on.", "MX-06", 5.0,
@@ -124,34 +115,21 @@ class FirstOneLost(Device):
         yield frame
 
 
-class KeepsLast(Device):
-    """Keeps the last LACPDU of each port, and when it came."""
+class HearsAgain(Device):
+    """Hears the last LACPDU of a port again, some ticks of 0.1 s behind it."""
+
+    def again(self, ticks: int, frame: bytes) -> bool:
+        """Whether it does so as many ticks behind it."""
+        return False
 
     def took(self, port: int, frame: bytes) -> None:
         if is_lacpdu(frame):
-            self.kept[port] = self.now, frame
-
-
-class Repeats(KeepsLast):
-    """Hears the last LACPDU once more, two seconds later: current_while is 5 s."""
-
-    finds = "RX-02 RX-03 SL-08"
+            self.kept[port] = 0, frame
 
     def ticked(self) -> None:
-        for port, (when, frame) in list(self.kept.items()):
-            if self.now - when >= 2:
-                del self.kept[port]
-                self.on.receive(port, frame)
-
-
-class TimeoutOfPartner(KeepsLast):
-    """current_while goes by the partner's LACP_Timeout: each LACPDU of a partner that asks for long ones is heard on for 30 s."""
-
-    finds = "RX-16"
-
-    def ticked(self) -> None:
-        for port, (when, frame) in self.kept.items():
-            if not frame[32] & 2 and 1 < self.now - when < 30 and int(self.now * 10) % 10 == 0:
+        for port, (ticks, frame) in self.kept.items():
+            self.kept[port] = ticks + 1, frame
+            if self.again(ticks + 1, frame):
                 self.on.receive(port, frame)
 
 
@@ -202,10 +180,11 @@ class Hurries(Device):
             self.on.receive(port, frame)
 
 
-class NoWait(Hurries):
-    """wait_while does not run: a new partner is synchronized at once."""
-
-    finds = "RX-06 RX-12a RX-12b RX-12c RX-12d RX-12e RX-12f MX-01 MX-05 MX-06 MX-08 SL-09 SL-12"
+(NoWait,) = devices(
+    Hurries, "",
+    ("NoWait", "wait_while does not run: a new partner is synchronized at once.",
+     "RX-06 RX-12a RX-12b RX-12c RX-12d RX-12e RX-12f MX-01 MX-05 MX-06 MX-08 SL-09 SL-12"),
+)  # fmt: skip
 
 
 class NoWaitAfterDefaults(Hurries):
@@ -395,6 +374,13 @@ class MuteBesideTwo(Mute):
 
 
 ROWS += [
+    *devices(
+        HearsAgain, "again",
+        ("Repeats", "Hears the last LACPDU once more, two seconds later: current_while is 5 s.", "RX-02 RX-03 SL-08",
+         lambda self, ticks, frame: ticks == 20),
+        ("TimeoutOfPartner", "current_while goes by the partner's LACP_Timeout: one that asks for long ones is heard on for 30 s.", "RX-16",
+         lambda self, ticks, frame: not frame[32] & 2 and ticks in range(10, 300, 10)),
+    ),
     *devices(ShortCurrentWhile, "left short long", ("LongTimer", "Asks for long timeouts, and waits 80 s.", "RX-14", 100, False, True)),
     *devices(
         FieldUnchecked, "field",

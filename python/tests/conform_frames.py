@@ -177,60 +177,32 @@ class LinkDrops(Device):
             self.restart(self.dropped)
 
 
-class SendsTwice(Device):
-    """Sends each tenth frame of its client on both links."""
-
-    finds = "SL-17"
-
-    def put_data(self, port: int, frame: bytes) -> None:
-        for it in (1, 2) if frame[45] % 10 == 0 and self.on.distributes(3 - port) else (port,):
-            self.send(it, frame)
-
-
 class KeepsBack(Device):
     """A frame that goes out on the second link goes out 0.3 s late."""
 
     finds = "SL-17"
 
-    def __init__(self) -> None:
-        super().__init__()
-        self.late: list[tuple[float, bytes]] = []
-
-    def put_data(self, port: int, frame: bytes) -> None:
+    def puts(self, port: int, frame: bytes) -> Iterable[int]:
         if port == 2:
-            self.late.append((self.now, frame))
-        else:
-            self.send(port, frame)
+            self.kept[frame] = self.now
+        return [] if port == 2 else [port]
 
     def ticked(self) -> None:
-        while self.late and self.now - self.late[0][0] > 0.25:
-            self.send(2, self.late.pop(0)[1])
+        for frame in [it for it, when in self.kept.items() if self.now - when > 0.25]:
+            del self.kept[frame]
+            self.send(2, frame)
 
 
-class AllLeave(Device):
-    """A key that changes on the third link takes the others out."""
+class OtherLeaves(Device):
+    """A partner that changes its system or its key on a link takes another link out."""
 
-    finds = "SL-16"
-    key = b""
-
-    def took(self, port: int, frame: bytes) -> None:
-        if port == 3 and is_lacpdu(frame):
-            old, self.key = self.key, part(frame, 12, 2)
-            if old and old != self.key:
-                self.restart(1)
-
-
-class BothLeave(Device):
-    """A key that changes on one link takes the other one out."""
-
-    finds = "SL-07 SL-12"
+    leaves: dict[int, int] = {}
 
     def took(self, port: int, frame: bytes) -> None:
-        if not is_lacpdu(frame):
-            return
-        old, self.kept[port] = self.kept.get(port), part(frame, 6, 8)
-        if old and old != self.kept[port]:
-            self.restart(3 - port)
+        if is_lacpdu(frame):
+            old, self.kept[port] = self.kept.get(port), part(frame, 6, 8)
+            if old not in (None, self.kept[port]) and port in self.leaves:
+                self.restart(self.leaves[port])
 
 
 class BadLengths(Device):
@@ -280,6 +252,16 @@ ROWS = [
         KeptByMarkers, "keeps",
         ("KeptByRunts", "Any frame but LACPDUs and markers keeps the partner current.", "RX-18",
          lambda self, frame: not is_lacpdu(frame) and frame[12:15] != SLOW + b"\2"),
+    ),
+    *devices(
+        OtherLeaves, "leaves",
+        ("AllLeave", "A key that changes on the third link takes the others out.", "SL-16", {3: 1}),
+        ("BothLeave", "A key that changes on one link takes the other one out.", "SL-07 SL-12", {1: 2, 2: 1}),
+    ),
+    *devices(
+        Device, "puts",
+        ("SendsTwice", "Sends each tenth frame of its client on both links.", "SL-17",
+         lambda self, port, frame: (1, 2) if frame[45] % 10 == 0 and self.on.distributes(3 - port) else (port,)),
     ),
     *devices(OneAggregator, "used", ("AllAggregators", "Its client uses each of three links that distributes, whatever the aggregator.", "SL-15", 3)),
     *devices(

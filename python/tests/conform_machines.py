@@ -63,37 +63,16 @@ class LateToShort(Device):
         yield frame
 
 
-class QuietInExpired(Device):
-    """Tells once that it is EXPIRED."""
+class SaysByLast(Device):
+    """What goes out for an LACPDU goes by the one before, which has zeros for the first."""
 
-    finds = "PT-05"
-
-    def says(self, port: int, frame: bytes) -> Iterable[bytes]:
-        expired = bool(frame[32] & 0x80)
-        if not (expired and self.kept.get(port)):
-            yield frame
-        self.kept[port] = expired
-
-
-class QuietToPassive(Device):
-    """Sends nothing periodically to a passive partner."""
-
-    finds = "PT-06"
+    def behind(self, port: int, last: bytes, frame: bytes) -> Iterable[bytes]:
+        """An LACPDU of the system, as it goes out behind the last one."""
+        yield frame
 
     def says(self, port: int, frame: bytes) -> Iterable[bytes]:
-        told, self.kept[port] = self.kept.get(port), frame[:54]
-        if frame[52] & 1 or told != frame[:54]:
-            yield frame
-
-
-class TellsOldBits(Device):
-    """Tells once more that it carries when it has detached."""
-
-    finds = "MX-05"
-
-    def says(self, port: int, frame: bytes) -> Iterable[bytes]:
-        last, self.kept[port] = self.kept.get(port, 0), frame[32]
-        yield put(frame, 18, bytes([last])) if last & SYNC and not frame[32] & SYNC else frame
+        last, self.kept[port] = self.kept.get(port, bytes(124)), frame
+        yield from self.behind(port, last, frame)
 
 
 class LateBits(Device):
@@ -106,18 +85,6 @@ class LateBits(Device):
             self.kept[port] = self.now
         late = self.now - self.kept.get(port, -9) < 1.05
         yield set_bits(frame, 18, CARRIES | SYNC, True) if late else frame
-
-
-class MixesLinks(Device):
-    """Tells on link 2 the partner of link 1."""
-
-    finds = "IV-04"
-    first = b""
-
-    def says(self, port: int, frame: bytes) -> Iterable[bytes]:
-        if port == 1:
-            self.first = part(frame, 24, 14)
-        yield put(frame, 24, self.first) if port == 2 and self.first else frame
 
 
 class Chatty(Device):
@@ -220,6 +187,16 @@ ROWS = [
     *devices(
         DisabledByChurn, "most long",
         ("DisabledByLongChurn", "A partner that is out of sync for 60 s takes the port out: what churn detection finds.", "MX-10", 60, True),
+    ),
+    *devices(
+        SaysByLast, "behind",
+        ("QuietInExpired", "Tells once that it is EXPIRED.", "PT-05", lambda self, port, last, frame: [] if last[32] & frame[32] & 0x80 else [frame]),
+        ("QuietToPassive", "Sends nothing periodically to a passive partner.", "PT-06",
+         lambda self, port, last, frame: [frame] if frame[52] & 1 or last[:54] != frame[:54] else []),
+        ("TellsOldBits", "Tells once more that it carries when it has detached.", "MX-05",
+         lambda self, port, last, frame: [put(frame, 18, last[32:33]) if last[32] & SYNC and not frame[32] & SYNC else frame]),
+        ("MixesLinks", "Tells on link 2 the partner of link 1.", "IV-04",
+         lambda self, port, last, frame: [put(frame, 24, part(self.kept[1], 24, 14)) if port == 2 and 1 in self.kept else frame]),
     ),
     *devices(LooksSeldom, "pause", ("LooksOnceASecond", "Sends what is due once a second.", "TX-02b TX-02e TX-03b", 0.99)),
     *devices(

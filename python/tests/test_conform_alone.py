@@ -10,7 +10,7 @@ from xml.etree import ElementTree
 from typing import Any, Optional, Sequence, Type
 
 import pytest
-from conform_device import BY_NAME, Device, World, beside, put
+from conform_device import BY_NAME, Device, World, beside, devices, put
 from conform_device import play as play_in
 from conform_faults import KeyUnchecked, NeverBack, SecondPartnerKey, StartsTooLate, WrongEcho
 from conform_frames import Responds
@@ -23,7 +23,6 @@ from lagconform.edition import edition
 from lagconform.groups import GROUPS, TESTS
 from lagconform.model import ERROR, FAIL, INCONCLUSIVE, PASS, SKIPPED, SPARE, WHOLE_RUN, Group, Result
 from lagconform.model import Test as Case
-from lagconform.runner import meet
 from niwhopera import Mac
 
 PAGE = Path(__file__).parents[2] / "docs" / "CONFORM.md"
@@ -54,12 +53,11 @@ def test_what_a_device_does_is_found_out_by_each_test_that_wants_it(kind: Type[D
     assert {it.id: play(kind, [it])[0].verdict for it in tests} == run
 
 
-class OnOneLink(Device):
-    """Sends the data of an aggregator on one of its links alone."""
-
-    def put_data(self, port: int, frame: bytes) -> None:
-        if port == min(it for it in self.links if self.on.choice(it) == self.on.choice(port)):
-            super().put_data(port, frame)
+(OnOneLink,) = devices(
+    Device, "puts",
+    ("OnOneLink", "Sends the data of an aggregator on one of its links alone.", "",
+     lambda self, port, frame: [port] if port == min(it for it in self.links if self.on.choice(it) == self.on.choice(port)) else []),
+)  # fmt: skip
 
 
 def test_where_data_of_one_aggregator_comes_on_one_link_the_reason_is_right() -> None:
@@ -183,7 +181,6 @@ def test_the_systems_of_a_bench_are_those_that_it_was_given(run, capsys: pytest.
     base = Mac("06d100000003")
     assert [it.verdict for it in play(Device, [BY_NAME["SL-02"], BY_NAME["IV-04"]], base=base)] == [PASS, PASS]
     with beside(World(Device(), 1), base=base) as b:
-        meet(b)
         assert str(b.device().partner.system.mac) == "06-d1-00-00-01-03" and b.is_ours(b.new_mac())
     reasons = {"03:d1:00:00:00:01": "is a multicast address", "06-d1-00-01-00-01": "counts its systems in octets 3 to 5", "lag0": "an address, as 02-cf"}
     for text, why in reasons.items():

@@ -16,7 +16,7 @@ from pathlib import Path
 from typing import Any, Iterator, Sequence, Type
 
 import pytest
-from conform_device import BY_NAME, LAST, Device, Individual, LongTimeouts, NoData, Waits, WaitsThree, World, beside
+from conform_device import BY_NAME, LAST, Device, Individual, LongTimeouts, NoData, Waits, WaitsThree, World, beside, devices
 from conform_faults import CutOff, KeyUnchecked, NoWait, SystemUnchecked
 from conform_frames import NoMarkers
 from niwhopera import __version__
@@ -383,7 +383,6 @@ def test_verdicts_of_another_device_are_not_taken_over(run, name: str, words: li
 @pytest.mark.parametrize("verdict, wants", [("64", SKIPPED), ("255", INCONCLUSIVE), ("127", INCONCLUSIVE)])
 def test_a_hook_that_fails_skips_no_test(verdict: str, wants: str) -> None:
     with beside(World(Device()), Waits(f"exit {verdict} #")) as b:
-        meet(b)
         found = [run_one(b, BY_NAME[it]) for it in ("RX-13", "RX-15", "SL-17")]
         assert [it.verdict for it in found] == [wants] * 3 and not any(it.stuck for it in found)
         said = [it.why for it in found]
@@ -398,7 +397,7 @@ def test_a_hook_that_fails_skips_no_test(verdict: str, wants: str) -> None:
 ])  # fmt: skip
 def test_a_hook_that_fails_before_the_first_test_ends_the_run(line: str, words: list[str], why: str) -> None:
     given = argparse.Namespace(hook=line, set=words)
-    with beside(World(Device()), Waits(line)) as b:
+    with beside(World(Device()), Waits(line), meets=False) as b:
         if not why:
             command.prepare_device(given, b)
             return
@@ -422,7 +421,7 @@ def test_a_hook_that_can_not_be_run_is_refused_by_name(line: str, why: str, tmp_
     (tmp_path / "data").write_text("no program")
     line = line.format(tmp_path)
     told = f"^--hook {re.escape(line)}: the shell {why}: .*{re.escape(line)}"
-    with beside(World(Device()), Waits(line)) as b, pytest.raises(refusals.Refused, match=told):
+    with beside(World(Device()), Waits(line), meets=False) as b, pytest.raises(refusals.Refused, match=told):
         command.prepare_device(argparse.Namespace(hook=line, set=[]), b)
 
 
@@ -444,11 +443,8 @@ def test_an_interface_that_is_not_free(changes: dict[str, Any], why: str, monkey
 
 
 def test_a_silent_device_is_refused_with_the_usual_causes() -> None:
-    class Silent(Device):
-        def may_send(self) -> bool:
-            return False
-
-    with beside(World(Silent())) as b:
+    (silent,) = devices(Device, "may_send", ("Silent", "Says nothing.", "", lambda self: False))
+    with beside(World(silent()), meets=False) as b:
         with pytest.raises(NoDevice, match="^the device is silent: no LACPDU came in 35 s on link1, link2. The usual causes"):
             meet(b)
         assert b.now() >= 35
@@ -471,7 +467,6 @@ def test_each_cause_is_a_test() -> None:
 
 def test_a_test_without_its_hook_is_skipped_and_leaves_nothing_for_the_shadow() -> None:
     with beside(World(Device())) as b:
-        meet(b)
         assert run_one(b, BY_NAME["RX-15"]).verdict == SKIPPED and not b.events
         assert run_one(b, BY_NAME["RX-14"]).verdict == NOT_APPLICABLE
 
@@ -484,7 +479,7 @@ def test_a_fault_of_a_test_is_an_error_and_one_of_the_network_is_not(why: BaseEx
     def wrong(_: Bench) -> None:
         raise why
 
-    with beside(World(Device())) as b:
+    with beside(World(Device()), meets=False) as b:
         found = run_one(b, replace(BY_NAME["FM-01"], run=wrong))
         assert found.verdict == verdict and found.why.startswith(told) and found.why.endswith(__file__)
         found = run_one(b, replace(BY_NAME["FM-01"], run=lambda: None))
@@ -534,7 +529,6 @@ def test_the_shadow_agrees_with_a_right_device() -> None:
     for kind, differs in (Device, False), (NoWait, True), (SystemUnchecked, True):
         world = World(kind())
         with beside(world, world) as b:
-            meet(b)
             for name in "RX-01", "RX-07b", "RX-12b", "RX-02", "MX-01", "VN-01", "SL-03":
                 run_one(b, BY_NAME[name])
             shadow = compare(b)
@@ -542,9 +536,7 @@ def test_the_shadow_agrees_with_a_right_device() -> None:
 
 
 def test_the_shadow_says_what_it_can_not_see() -> None:
-    world = World(WaitsThree())
-    with beside(world) as b:
-        meet(b)
+    with beside(World(WaitsThree())) as b:
         assert compare(b).text.startswith("nothing was compared: LACPDUs of the first 5 s")
         found = [run_one(b, BY_NAME[it]).verdict for it in ("MX-01", "RX-12b", "MX-08")]
         assert found == [FAIL] * 3
@@ -617,7 +609,6 @@ def test_the_page_says_what_makes_the_counts_differ() -> None:
     long, three = listed([it.id for it in TESTS if it.is_long]), listed([it.id for it in TESTS if it.links == 3])
     assert f"`--long` adds {long}, which take more than {LONG} s each. Three links add {three}." in " ".join(text.split())
     with beside(World(Device())) as b:
-        meet(b)
         wanted = [run_one(b, it) for it in TESTS if it.hooks and it.links < 3]
         skipped = listed([it.test.id for it in wanted if it.verdict == SKIPPED]).replace("RX-13", "RX-13 (but with `--flap`)")
         assert f"without `--hook`, {skipped} are skipped" in " ".join(text.split())

@@ -230,7 +230,7 @@ def test_the_hook_of_a_trial_tells_what_is_unknown_from_what_failed(answer: str,
 
 def test_the_flows_are_those_that_the_bench_counts() -> None:
     flow = runpy.run_path(str(FOLDER / "flows.py"))["flow"]
-    with beside(World(Device())) as b:
+    with beside(World(Device()), meets=False) as b:
         for number in range(64):
             octets = flow(number)
             header = octets[14:34]

@@ -3,10 +3,10 @@
 from __future__ import annotations
 
 import xml.etree.ElementTree as xml
-from typing import Iterable, Iterator, Optional, Sequence, Type
+from typing import Optional, Sequence, Type
 
 import pytest
-from conform_device import BY_NAME, Device, Full, World, beside, is_lacpdu, put
+from conform_device import BY_NAME, Device, Drops, Full, HearsAndSays, World, beside, devices, is_lacpdu, put
 from conform_faults import KeyUnchecked, LinkUnseen, set_bits
 
 from lagconform import command, junit, options, report
@@ -23,34 +23,35 @@ def play(kind: Type[Device], *names: str, world: Type[World] = World, flaps: boo
     """Runs tests beside a device; a hook is there."""
     wire = world(kind())
     with beside(wire, wire, flaps=flaps) as b:
-        meet(b)
         return [run_one(b, BY_NAME[it]) for it in names]
 
 
-class NoIndividual(Device):
-    """Attaches no individual partner."""
-
-    def says(self, port: int, frame: bytes) -> Iterable[bytes]:
-        yield frame if frame[52] & 4 else set_bits(frame, 18, 0x38, False)
+BEFORE = BASE[:2] + b"\0\0\x63" + BASE[5:]
 
 
-class Individual(Device):
-    """Its ports are individual."""
-
-    def hears(self, port: int, frame: bytes) -> Iterable[bytes]:
-        yield set_bits(frame, 38, 4, True) if is_lacpdu(frame) else frame
-
-    def says(self, port: int, frame: bytes) -> Iterable[bytes]:
-        yield set_bits(frame, 18, 4, False)
+def of_others(frame: bytes) -> list[bytes]:
+    """OAM and ESMC, from the address of a frame."""
+    return [frame[:14] + it + bytes(45) for it in (b"\3", b"\x0a")]
 
 
-class Neighbours(Device):
-    """Sends OAM and ESMC, too."""
-
-    def says(self, port: int, frame: bytes) -> Iterable[bytes]:
-        yield frame
-        yield frame[:14] + b"\3" + bytes(45)
-        yield frame[:14] + b"\x0a" + bytes(45)
+NoIndividual, Neighbours, Others, BehindAnotherRun = devices(
+    Device, "says",
+    ("NoIndividual", "Attaches no individual partner.", "",
+     lambda self, port, frame: [frame if frame[52] & 4 else set_bits(frame, 18, 0x38, False)]),
+    ("Neighbours", "Sends OAM and ESMC, too.", "", lambda self, port, frame: [frame, *of_others(frame)]),
+    ("Others", "Sends OAM and ESMC alone.", "", lambda self, port, frame: of_others(frame)),
+    ("BehindAnotherRun", "Tells a partner of the run before until it has taken one of this run, which takes a while.", "",
+     lambda self, port, frame: [put(frame, 26, BEFORE) if self.now < 0.45 else frame]),
+)  # fmt: skip
+(Individual,) = devices(
+    HearsAndSays, "heard said",
+    ("Individual", "Its ports are individual.", "",
+     lambda self, port, frame: set_bits(frame, 38, 4, True), lambda self, port, frame: set_bits(frame, 18, 4, False)),
+)  # fmt: skip
+(TerminatorMeasured,) = devices(
+    Drops, "drops",
+    ("TerminatorMeasured", "Validates the length of the Terminator TLV, as 6.4.12 lets it.", "", lambda self, port, frame: frame[14 + 59] != 0),
+)  # fmt: skip
 
 
 @pytest.mark.parametrize("kind, name", [(NoIndividual, "RX-12f"), (NoIndividual, "MX-08"), (Individual, "FM-08"), (Neighbours, "IV-03")])
@@ -59,35 +60,16 @@ def test_a_right_device_of_its_own_kind_passes(kind: Type[Device], name: str) ->
     assert found.verdict == PASS, found.why
 
 
-BEFORE = BASE[:2] + b"\0\0\x63" + BASE[5:]
-
-
-class BehindAnotherRun(Device):
-    """Tells a partner of the run before until it has taken one of this run, which takes a while."""
-
-    def says(self, port: int, frame: bytes) -> Iterable[bytes]:
-        yield put(frame, 26, BEFORE) if self.now < 0.45 else frame
-
-
 def test_what_a_device_tells_of_the_run_before_is_not_looked_at() -> None:
     with beside(World(Device())) as b:
-        meet(b)
         octets = next(it.octets for it in b.frames if not it.out)
-    with beside(World(BehindAnotherRun())) as b:
+    with beside(World(BehindAnotherRun()), meets=False) as b:
         b.log(1, 0.0, False, put(octets, 26, BEFORE))
         meet(b)
         found = [run_one(b, BY_NAME[it]) for it in ("FM-01", "IV-04")]
         told = [it.number for it in b.frames if it.lacpdu and it.lacpdu.partner.system.mac == BEFORE]
     assert told[0] == 1 and len(told) > 2
     assert {it.verdict for it in found} == {PASS}, found[-1].why
-
-
-class TerminatorMeasured(Device):
-    """Validates the length of the Terminator TLV, as 6.4.12 lets it."""
-
-    def hears(self, port: int, frame: bytes) -> Iterable[bytes]:
-        if not is_lacpdu(frame) or not frame[14 + 59]:
-            yield frame
 
 
 def test_a_device_may_validate_the_length_of_the_terminator() -> None:
@@ -97,10 +79,6 @@ def test_a_device_may_validate_the_length_of_the_terminator() -> None:
 
 
 def test_oam_and_esmc_are_no_faulty_lacpdus() -> None:
-    class Others(Neighbours):
-        def says(self, port: int, frame: bytes) -> Iterator[bytes]:
-            yield from list(super().says(port, frame))[1:]
-
     with pytest.raises(NoDevice, match="no LACPDU came in 35 s"):
         play(Others)
 
@@ -156,7 +134,6 @@ def test_a_run_ends_where_an_interface_is_gone() -> None:
 
     results = list[Result]()
     with beside(Leaves(KeyUnchecked())) as b:
-        meet(b)
         with pytest.raises(Gone, match="link1 is gone"):
             run_all(b, [BY_NAME[it] for it in ("RX-07c", "FM-01", "FM-02", "FM-03", "FM-04")], results.append)
         assert results[-1].verdict == INCONCLUSIVE and results[-1].why == "the interface link1 is gone" and len(results) < 5
@@ -189,7 +166,6 @@ class Told(World):
 def test_an_end_within_a_test_leaves_the_device_as_it_was(name: str, flaps: bool, done: str) -> None:
     world = Told(Device())
     with beside(world, world, flaps=flaps) as b:
-        meet(b)
         with pytest.raises(KeyboardInterrupt):
             run_one(b, BY_NAME[name])
         assert " ".join(world.done) == done
@@ -212,7 +188,7 @@ class Endless:
 
 def test_a_hook_that_does_not_end_is_refused() -> None:
     hook = Endless()
-    with beside(World(Device()), hook) as b:
+    with beside(World(Device()), hook, meets=False) as b:
         with pytest.raises(Refused, match="the hook did not end in 40 s: reset"):
             command.prepare_device(options.reader().parse_args(["a", "--hook", "x"]), b)
         assert hook.stopped and HOOK_SECONDS <= b.now() < HOOK_SECONDS + 1
@@ -232,6 +208,6 @@ def test_a_closed_bench_closes_its_links() -> None:
 
 def test_junit_is_xml_whatever_a_text_has() -> None:
     found = Result(BY_NAME["FM-01"], FAIL, why="\x1b[31mred\x00\ufffe\ud800", notes=["\x07"])
-    with beside(World(Device())) as b:
+    with beside(World(Device()), meets=False) as b:
         text = junit.as_junit(report.Run(b, {"device": "a\x08b"}, {}, [found]))
     assert xml.fromstring(text.encode()).get("name") == "a\ufffdb"

@@ -13,10 +13,10 @@ from contextlib import ExitStack
 from dataclasses import replace
 from pathlib import Path
 from textwrap import dedent, indent
-from typing import Iterable, Iterator, Optional, Sequence, Type
+from typing import Iterable, Iterator, Sequence, Type
 
 import pytest
-from conform_device import BY_NAME, LAST, Device, Full, World, beside, play, put
+from conform_device import BY_NAME, LAST, Device, Full, Says, World, beside, devices, play, put
 from conform_faults import CutOff, DataTwice, GroupSystem, KeyUnchecked, PartnerLength, RestartsOnChange, SecondFallsSilent, SecondPartnerKey, WrongEcho
 from conform_frames import BadLengths, OtherId, Responds, VersionChecked
 from conform_machines import NoNtt
@@ -27,7 +27,7 @@ from lagconform.edition import edition
 from lagconform.groups import TESTS
 from lagconform.model import CAVEAT, FAIL, INCONCLUSIVE, NOT_APPLICABLE, PASS, SKIPPED, SURE, Claim, Result
 from lagconform.model import Test as Case
-from lagconform.runner import IN_TURN, CameToNothing, Flood, StoppedForGood, judge, meet, run_all, run_times
+from lagconform.runner import IN_TURN, CameToNothing, Flood, StoppedForGood, judge, run_all, run_times
 from lagconform.wires import Answer
 
 EXAMPLES = Path(__file__).parents[2] / "examples" / "conform"
@@ -38,7 +38,7 @@ needs_library = pytest.mark.skipif(not HEADER.exists() or not shutil.which("cc")
 
 @pytest.fixture
 def bench() -> Iterator[object]:
-    """Makes benches beside devices."""
+    """Makes benches that have met devices."""
     with ExitStack() as made:
 
         def make(kind: Type[Device]) -> Bench:
@@ -46,6 +46,20 @@ def bench() -> Iterator[object]:
             return made.enter_context(beside(world, world))
 
         yield make
+
+
+SometimesWrong, LateKey, Uncarrying = devices(
+    Says, "said",
+    ("SometimesWrong", "Sends a wrong version in the first 8 s of its life.", "",
+     lambda self, port, frame: put(frame, 1, b"\x09") if self.now < 8 else frame),
+    # A partner that tells the key back is out of sync for it, so that the link no longer carries.
+    ("LateKey", "Tells another key on its second link from a second on.", "",
+     lambda self, port, frame: put(frame, 12, b"\0\x77") if port == 2 and self.now > 600 else frame),
+    ("Uncarrying", "Never carries.", "", lambda self, port, frame: put(frame, 18, bytes([frame[32] & 0x0F]))),
+)  # fmt: skip
+(LateSilence,) = devices(SecondFallsSilent, "silent_from", ("LateSilence", "Its second link falls silent once it has carried.", "", 100.0))
+(DataManyTimes,) = devices(Device, "puts", ("DataManyTimes", "Sends more copies than the bench keeps.", "", lambda self, port, frame: [port] * 20))
+(Mute,) = devices(Device, "may_send", ("Mute", "Says nothing more once its links were up for a while.", "", lambda self: self.now < 10))
 
 
 class Loop(Device):
@@ -69,7 +83,6 @@ class BesideALoop(Loop):
 @pytest.mark.parametrize("kind", [Loop, BesideALoop])
 def test_a_flood_is_told_and_ends_the_run(bench, kind: Type[Device]) -> None:  # type: ignore[no-untyped-def]
     b, results = bench(kind), list[Result]()
-    meet(b)
     with pytest.raises(CameToNothing, match=f"{IN_TURN} tests in turn came to nothing.*link 1 .link1. is flooded: [0-9]+ frames a second came on average"):
         run_all(b, [BY_NAME[it] for it in ("RX-01", "RX-02", "RX-04", "RX-06", "RX-09", "RX-10", "TX-01", "MX-07")], results.append)
     assert b.now() < 120 and len(b.frames) < 2 * floods.KEPT * b.now()
@@ -89,7 +102,6 @@ class BesideAShortLoop(BesideALoop):
 
 def test_what_looks_at_all_frames_takes_none_of_a_flood_for_the_device(bench) -> None:  # type: ignore[no-untyped-def]
     b, results = bench(BesideAShortLoop), list[Result]()
-    meet(b)
     run_all(b, [BY_NAME[it] for it in ("FM-01", "RX-04", "FM-02", "IV-03", "IV-05")], results.append)
     assert b.now() > 14 and [it.verdict for it in results[-3:]] == [PASS, INCONCLUSIVE, INCONCLUSIVE], [it.why for it in results]
     assert "is flooded" in results[-1].why and not [it.test.id for it in results if it.verdict == FAIL]
@@ -102,7 +114,6 @@ def test_a_fail_beside_the_traffic_of_others_stays_and_tells_of_it() -> None:
 
     world = Busy(KeyUnchecked())
     with beside(world, world) as b:
-        meet(b)
         fails, passes = (run_times(b, BY_NAME[it], None, 1) for it in ("RX-07c", "FM-01"))
         assert fails.verdict == FAIL and "has to be at most 0.65 s. Beside it, link 1 (link1) is flooded: 20000 frames a second came on average" in fails.why
         assert passes.verdict == PASS and not fails.stuck
@@ -123,12 +134,6 @@ def test_data_that_a_hook_asks_for_is_no_flood_of_lacpdus() -> None:
     assert all(meters.takes(1.2, memory.flow(it % 64, 1)) for it in range(floods.DATA_KEPT)) and not meters.takes(1.3, memory.flow(0, 1))
     assert all(meters.takes(1.4, bytes(20)) for _ in range(floods.KEPT))
     assert "data of the device's client came at up to 5001 a second: 1 beyond 5000 a second were not kept, as one of type 0800" in meters.spilled()
-
-
-class DataManyTimes(DataTwice):
-    """Sends more copies than the bench keeps."""
-
-    copies = 20
 
 
 @pytest.mark.parametrize("kind, flooded", [(DataTwice, False), (DataManyTimes, True)])
@@ -265,16 +270,8 @@ def test_a_capture_for_each_test(run, tmp_path: Path) -> None:  # type: ignore[n
     assert run(Device, "--captures", "file") == 2
 
 
-class SometimesWrong(Device):
-    """Sends a wrong version in the first 8 s of its life."""
-
-    def says(self, port: int, frame: bytes) -> Iterable[bytes]:
-        yield put(frame, 1, b"\x09") if self.now < 8 else frame
-
-
 def test_a_repeated_test_has_its_worst_verdict(bench) -> None:  # type: ignore[no-untyped-def]
     b = bench(SometimesWrong)
-    meet(b)
     found = run_times(b, BY_NAME["FM-02"], None, 4)
     assert found.verdict == FAIL and found.times[FAIL] + found.times[PASS] == 4 and found.times[PASS] > 0
     assert found.why.endswith(f"(in {found.times[FAIL]} of 4 runs)") and found.first == 1 + len([it for it in b.frames if it.number < found.first])
@@ -364,18 +361,12 @@ class EchoesLength(OtherId):
             self.send(port, response)
 
 
-class EchoesLengthRight(EchoesLength):
-    """The rest of its responses is right."""
-
-    def says_back(self, marker: bytes, response: bytes) -> Optional[bytes]:
-        return response
-
-
-class LengthAlone(Responds):
-    """Its responses have length 15."""
-
-    def says_back(self, marker: bytes, response: bytes) -> Optional[bytes]:
-        return put(response, 3, b"\x0f")
+(EchoesLengthRight,) = devices(
+    EchoesLength, "says_back", ("EchoesLengthRight", "The rest of its responses is right.", "", lambda self, marker, response: response)
+)
+(LengthAlone,) = devices(
+    Responds, "says_back", ("LengthAlone", "Its responses have length 15.", "", lambda self, marker, response: put(response, 3, b"\x0f"))
+)
 
 
 def test_an_echo_of_a_wrong_marker_is_told_and_no_cause_of_its_own() -> None:
@@ -389,7 +380,6 @@ def test_an_echo_of_a_wrong_marker_is_told_and_no_cause_of_its_own() -> None:
 
 def test_what_a_device_tells_wrong_on_one_link_is_told_with_the_link(bench) -> None:  # type: ignore[no-untyped-def]
     b = bench(SecondPartnerKey)
-    meet(b)
     fields, engine = (run_times(b, BY_NAME[it], None, 1) for it in ("FM-06", "EN-02"))
     assert fields.why.startswith("link 2: the partner told is 258/02-cf") and "key 65279 port 165/61454" in fields.why and "key 65534 port 165/61454" in fields.why
     assert "link 1 DISTRIBUTING, link 2 PARTNER_NOT_SYNCHRONIZED" in engine.why and ", where the device tells of our port 2 key 4352, and has to tell 17" in engine.why
@@ -493,19 +483,6 @@ def test_a_verdict_tells_what_the_device_says_and_does(stack, lines: str, tests:
     assert stack(lines, *(f"--only={it}" for it in tests.split())) == status and why in capsys.readouterr().out
 
 
-class LateSilence(SecondFallsSilent):
-    """Its second link falls silent once it has carried."""
-
-    finds, silent_from = "", 100.0
-
-
-class LateKey(Device):
-    """Tells another key on its second link from a second on: a partner that tells it back is out of sync for it, so that the link no longer carries."""
-
-    def says(self, port: int, frame: bytes) -> Iterable[bytes]:
-        yield put(frame, 12, b"\0\x77") if port == 2 and self.now > 600 else frame
-
-
 @pytest.mark.parametrize("kind, words, fails", [(LateSilence, ["--not", "MX-06"], 0), (LateSilence, [], 1), (LateKey, [], 0)])
 def test_a_second_link_that_carried_and_stops_fails_its_run(run, kind: Type[Device], words: Sequence[str], fails: int, tmp_path: Path, capsys: pytest.CaptureFixture[str]) -> None:  # type: ignore[no-untyped-def]
     assert run(kind, "--json", "r.json", *words) == 1
@@ -527,20 +504,6 @@ class NoStart(World):
         return memory.Done(Answer(1, "no")) if words[0] == "start" else super().call(words)
 
 
-class Mute(Device):
-    """Says nothing more once its links were up for a while."""
-
-    def may_send(self) -> bool:
-        return self.now < 10
-
-
-class Uncarrying(Device):
-    """Never carries."""
-
-    def says(self, port: int, frame: bytes) -> Iterable[bytes]:
-        yield put(frame, 18, bytes([frame[32] & 0x0F]))
-
-
 @pytest.mark.parametrize("kind, world, ends, why", [
     (Mute, World, StoppedForGood, "no LACPDU of the device came in 35 s"), (Mute, Full, CameToNothing, ""),
     (Mute, Unplugged, CameToNothing, "There is no carrier on link1$"), (Uncarrying, World, CameToNothing, "does not carry"),
@@ -549,7 +512,6 @@ class Uncarrying(Device):
 def test_only_a_device_that_carried_is_to_blame_for_tests_that_come_to_nothing(kind: Type[Device], world: Type[World], ends: Type[Exception], why: str) -> None:
     wire = world(kind())
     with beside(wire, wire) as b:
-        meet(b)
         with pytest.raises(ends, match=why):
             run_all(b, [BY_NAME[it] for it in ("FM-01", "RX-15", "RX-02", "RX-03", "RX-05", "RX-06", "RX-16", "RX-17", "RX-18", "RX-14")], lambda _: None)
 
@@ -620,7 +582,6 @@ def test_what_a_stack_can_not_do_is_told_as_such(stack, capsys: pytest.CaptureFi
 
 def test_what_is_looked_past_is_that_one_parameter(bench) -> None:  # type: ignore[no-untyped-def]
     b = bench(WrongEcho)
-    meet(b)
     found = run_times(b, BY_NAME["FM-07"], None, 1)
     assert found.verdict == PASS and b.mistold == {"port_priority"}, found.why
     assert found.notes == ["the device tells our port_priority wrong (FM-06): tests go by the other parameters from here on"]

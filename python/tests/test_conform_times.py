@@ -14,7 +14,7 @@ from lagconform import causes
 from lagconform.bench import apart
 from lagconform.groups import TESTS
 from lagconform.model import FAIL, INCONCLUSIVE, PASS, Result
-from lagconform.runner import meet, run_one
+from lagconform.runner import run_one
 from niwhopera import MuxState
 
 SELECTS_ANEW = [f"RX-12{it}" for it in "abcdefgh"]
@@ -22,9 +22,7 @@ SELECTS_ANEW = [f"RX-12{it}" for it in "abcdefgh"]
 
 @pytest.mark.parametrize("tenths", range(10))
 def test_no_phase_of_its_period_makes_a_device_prompt(tenths: int) -> None:
-    world = World(ToldWithThePeriod())
-    with beside(world) as b:
-        meet(b)
+    with beside(World(ToldWithThePeriod())) as b:
         run_one(b, BY_NAME["RX-01"])
         b.wait(3 + tenths / 10)
         found = run_one(b, BY_NAME[SELECTS_ANEW[tenths % len(SELECTS_ANEW)]])
@@ -50,7 +48,6 @@ def stand_still(world: World, seconds: float) -> None:
 def test_a_pause_between_tests_is_no_fault_of_the_device(name: str, seconds: float) -> None:
     world = World(Device())
     with beside(world) as b:
-        meet(b)
         run_one(b, BY_NAME["RX-01"])
         b.up()
         b.wait(0.85)
@@ -62,7 +59,6 @@ def test_a_pause_between_tests_is_no_fault_of_the_device(name: str, seconds: flo
 def test_a_fail_behind_a_pause_is_no_verdict() -> None:
     world = World(KeyUnchecked())
     with beside(world) as b:
-        meet(b)
         run_one(b, BY_NAME["RX-01"])
         stand_still(world, 0.6)
         found = [run_one(b, BY_NAME[it]) for it in ("RX-07c", "RX-07c", "FM-01")]
@@ -212,7 +208,6 @@ def test_markers_of_the_device_are_no_answers() -> None:
 def test_no_fail_prints_a_number_that_keeps_the_rule() -> None:
     assert [apart(2.9005, 1.6, 2.9), apart(2.904, 2.9), apart(2.91, 2.9), apart(0.64, 0.65), apart(2.877, 2.875)] == [3, 3, 2, 2, 3]
     with beside(World(Device())) as b:
-        meet(b)
         b.result, sent = Result(BY_NAME["MX-01"]), b.frame()
         for took in 2.75, 2.9005, 2.91, 1.5999:
             b.timed("it is there", sent, replace(sent, time=sent.time + took), 2, 2, timer=True)

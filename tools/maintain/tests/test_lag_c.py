@@ -115,15 +115,14 @@ def test_each_instruction_of_numbers_computes_what_node_does(level: str, tmp_pat
 
 def test_memory_has_the_octets_of_a_number_from_low_to_high(tmp_path: pathlib.Path) -> None:
     at, value = b"\x20\x00", b"\x20\x01"
-    jobs = {f"put_{code:x}": ([I64, kind], I32, at + value + bytes([code, 0, 3]) + b"\x41\x00") for code, kind in
-            ((0x36, I32), (0x37, I64), (0x3A, I32), (0x3B, I32), (0x3C, I64), (0x3D, I64), (0x3E, I64))}
+    puts = ((0x36, I32, 32), (0x37, I64, 64), (0x3A, I32, 8), (0x3B, I32, 16), (0x3C, I64, 8), (0x3D, I64, 16), (0x3E, I64, 32))
+    jobs = {f"put_{code:x}": ([I64, kind], I32, at + value + bytes([code, 0, 3]) + b"\x41\x00") for code, kind, _ in puts}
     jobs.update({f"get_{code:x}": ([I64], kind, at + bytes([code, 0, 3])) for code, kind in
                  ((0x28, I32), (0x29, I64), (0x2C, I32), (0x2D, I32), (0x2E, I32), (0x2F, I32), (0x30, I64), (0x31, I64), (0x32, I64), (0x33, I64), (0x34, I64), (0x35, I64))})
     memory = section(2, [b"\x03env\x06memory\x02\x04\x01"])
-    puts = [(code, bits) for code, bits in ((0x36, 32), (0x37, 64), (0x3A, 8), (0x3B, 16), (0x3C, 8), (0x3D, 16), (0x3E, 32))]
     lines = ["    unsigned char m[16];"]
-    for code, bits in puts:
-        lines += ["    memset(m, 7, 16);", f"    its_put_{code:x}(AT(m), {'0x8182838485868788ull' if code in (0x37, 0x3C, 0x3D, 0x3E) else '0x85868788u'});"]
+    for code, kind, bits in puts:
+        lines += ["    memset(m, 7, 16);", f"    its_put_{code:x}(AT(m), {'0x8182838485868788ull' if kind == I64 else '0x85868788u'});"]
         lines += [f"    for (int i = 0; i < 16; i++) if (m[i] != (i >= 3 && i < {3 + bits // 8} ? 0x88 - (i - 3) : 7)) return 1;"]
     lines += ["    for (int i = 0; i < 16; i++) m[i] = (unsigned char)(0x88 - (i - 3));"]
     wanted = {0x28: 0x85868788, 0x29: 0x8182838485868788, 0x2C: 0xFFFFFF88, 0x2D: 0x88, 0x2E: 0xFFFF8788, 0x2F: 0x8788, 0x30: 2**64 - 0x78, 0x31: 0x88,

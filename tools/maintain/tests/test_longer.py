@@ -97,18 +97,13 @@ def test_what_is_no_form_is_refused_with_its_place(monkeypatch: pytest.MonkeyPat
         ("events = 3\n" + TABLES, "events is no array"),
         ("events = []\n", "it has no table of a system"),
         ("[[system]]\n[[cable]]\nends = [1]\n", "cable 1: ends"),
+        ("events = ['round 1']\n" + TABLES, "script: event 3: word"),  # the program refuses it
     ],
 )
 def test_what_is_no_script_is_refused(text: str, why: str) -> None:
     with pytest.raises(longer.Refused) as refused:
-        longer.Longer(text, refuses)
+        longer.Longer(text, refuses).script()
     assert str(refused.value) == why
-
-
-def test_a_refusal_of_the_program_is_told() -> None:
-    with pytest.raises(longer.Refused) as refused:
-        read("[]").add("round 1", "event 1")
-    assert str(refused.value) == "script: event 3: word"
 
 
 @pytest.mark.skipif(not shutil.which("node"), reason="there is no node")
