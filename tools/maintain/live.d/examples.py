@@ -27,10 +27,10 @@ def check_example(folder: str, libraries: list[str]) -> None:
 
 def check_programs(folder: str, libraries: list[str]) -> None:
     """Each program of examples/c that has a text beside it prints that text; what it measures goes to standard error. pool.c has a library of its own, and
-    prints the same of a larger switch; restarts.c, restarts_rows.c and two_handles.c print the same by both libraries."""
+    prints the same of a larger switch; restarts.c, restarts_rows.c, two_handles.c and hash_buckets_64.c print the same by both libraries."""
     pooled = ["-DNIW_POOL", library.PORTABLE]
     both = [libraries, pooled]
-    ways = {"pool": [pooled, [*pooled, *LARGER]], "restarts": both, "restarts_rows": both, "two_handles": both}
+    ways = {"pool": [pooled, [*pooled, *LARGER]], "restarts": both, "restarts_rows": both, "two_handles": both, "hash_buckets_64": both}
     for text in sorted(glob.glob(f"{EXAMPLES}/*.txt")):
         name = os.path.basename(text).removesuffix(".txt")
         wanted = read_text(text)
