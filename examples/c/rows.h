@@ -79,7 +79,8 @@ static void level(struct loop *here, uint16_t lag) {
 /* The rows of a LAG in a list that has a place for each conversation. */
 static uint16_t *list_of(struct rows *rows, uint16_t lag) {
 #if ROWS < NIW_FEW_CONVERSATIONS
-    return memcpy(rows->all, rows->port[lag - 1], sizeof rows->port[0]);
+    for (uint16_t row = 0; row < ROWS; row++) rows->all[row] = rows->port[lag - 1][row];
+    return rows->all;
 #else
     return rows->port[lag - 1];
 #endif
