@@ -1,6 +1,7 @@
-/* A chip that spreads frames over 256 hash buckets, each with a row that names a port, by rows.h: one aggregator for the LAG, in which a port that hears nobody
- * is held. A port leaves, a cable is pulled, and one falls silent; each comes back, and gets its share of the rows. A chip is reset, writes to both fail, and
- * the firmware of one starts again, warm, while rows move. Two such switches are joined by a cable at each port, and their chips are played here. Each row sends a frame a tick, on cables of unlike delay: none of a bucket may come late or twice. */
+/* A chip that spreads frames over 256 or ROWS hash buckets, each with a row that names a port, by rows.h: one aggregator for the LAG, in which a port that hears
+ * nobody is held. A port leaves, a cable is pulled, and one falls silent; each comes back, and gets its share of the rows. A chip is reset, writes to both
+ * fail, and the firmware of one starts again, warm, while rows move. Two such switches are joined by a cable at each port, and their chips are played here.
+ * Each row sends a frame a tick, on cables of unlike delay: none of a bucket may come late or twice. */
 #include <stdio.h>
 
 #define PORTS 4
@@ -10,7 +11,7 @@
 
 #include "rows.h"
 
-_Static_assert(sizeof(struct rows) == 2312 + 1028 * LAGS + 4 * PORTS, "docs/FIRMWARE.md tells this size");
+_Static_assert(sizeof(struct rows) == 264 + (ROWS > 64 ? 8 * ROWS : 512) + (4 + 4 * ROWS) * LAGS + 4 * PORTS, "docs/FIRMWARE.md tells this size");
 
 struct packet {
     uint32_t arrives;
@@ -145,7 +146,7 @@ static void run(unsigned ticks) {
 }
 
 static struct niw_config config_of(const struct box *box) {
-    return (struct niw_config){.priority = 32768, .mac = {2, 0, 0, 0, 0, box->number}, .first_marker = 1, .conversations = ROWS};
+    return (struct niw_config){.priority = 32768, .mac = {2, 0, 0, 0, 0, box->number}, .first_marker = 1, .conversations = NIW_FEW_CONVERSATIONS};
 }
 
 static bool make(struct box *box) {
@@ -236,7 +237,7 @@ static void show_restarts(void) {
 
 int main(void) {
 #ifdef NIW_POOL
-    static _Alignas(16) uint8_t room[2 * NIW_MEMORY(PORTS, LAGS, ROWS)];
+    static _Alignas(16) uint8_t room[2 * NIW_MEMORY(PORTS, LAGS, NIW_FEW_CONVERSATIONS)];
     niw_give_memory(room, sizeof room);
 #endif
     silent = bit_of(4);

@@ -1,6 +1,6 @@
 /* loop.h for a chip that looks up the port of a frame in a table, with a row for each hash bucket of each LAG. Frames of a bucket stay in order when the ports
  * of the trunk change, behind markers, if the peer answers them. A program includes this file in place of loop.h, and gives two functions more. One aggregator
- * a LAG will do, as there. hash_buckets.c is such a program, and so is restarts_rows.c.
+ * a LAG will do, as there. hash_buckets.c is such a program, and so are hash_buckets_64.c and restarts_rows.c.
  *
  * `chip_send` sends behind the data that rows sent on its port: it waits until each queue of the port is empty, or takes the same queue. */
 #ifndef ROWS_H
@@ -9,7 +9,12 @@
 #define HAS_ROWS
 #include "loop.h"
 
+/* The rows of a LAG: -DROWS=64 for a chip with that many. The library has 256 conversations at least; those beyond the rows stay free. */
+#ifndef ROWS
 #define ROWS NIW_FEW_CONVERSATIONS
+#endif
+_Static_assert(ROWS >= 16 && ROWS <= NIW_FEW_CONVERSATIONS && (ROWS & (ROWS - 1)) == 0, "ROWS is a power of two from 16 to 256");
+
 #define WORST_DELAY 50 /* ticks that a frame can be on its way at most */
 
 struct rows {
@@ -19,8 +24,11 @@ struct rows {
     uint32_t asked[PORTS + 1];  /* the tick of the last probe */
     uint16_t adopted;           /* the tick of a warm start, its low 16 bits; and whether a row was clear then, whose frames may be on their way */
     bool waits;
-    struct niw_carried carried[ROWS]; /* of one call, as is `changed` */
-    bool changed[ROWS];
+    union {                   /* of one call, as is `changed` */
+        struct niw_carried carried[ROWS];
+        uint16_t all[NIW_FEW_CONVERSATIONS];
+    };
+    bool changed[NIW_FEW_CONVERSATIONS];
 };
 
 /* What the program gives besides. */
@@ -68,13 +76,24 @@ static void level(struct loop *here, uint16_t lag) {
     }
 }
 
+/* The rows of a LAG in a list that has a place for each conversation. */
+static uint16_t *list_of(struct rows *rows, uint16_t lag) {
+#if ROWS < NIW_FEW_CONVERSATIONS
+    for (uint16_t row = 0; row < ROWS; row++) rows->all[row] = rows->port[lag - 1][row];
+    return rows->all;
+#else
+    return rows->port[lag - 1];
+#endif
+}
+
 /* Before anything is sent: `port` is what the chip's rows hold, also those that were offered. */
 static void clear_rows(struct loop *here) {
     struct rows *rows = rows_of(here);
     for (uint16_t lag = 1; lag <= LAGS; lag++) {
-        niw_conversation_ports(&here->system, lag, rows->port[lag - 1], ROWS, rows->changed, ROWS);
+        uint16_t *ports = list_of(rows, lag);
+        niw_conversation_ports(&here->system, lag, ports, NIW_FEW_CONVERSATIONS, rows->changed, NIW_FEW_CONVERSATIONS);
         for (uint16_t row = 0; row < ROWS; row++)
-            if (rows->changed[row]) set_row(here, lag, row, rows->port[lag - 1][row]);
+            if (rows->changed[row]) set_row(here, lag, row, ports[row]);
         if (rows->level[lag - 1] != here->trunk[lag - 1]) level(here, lag);
     }
 }

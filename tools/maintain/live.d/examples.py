@@ -27,10 +27,11 @@ def check_example(folder: str, libraries: list[str]) -> None:
 
 def check_programs(folder: str, libraries: list[str]) -> None:
     """Each program of examples/c that has a text beside it prints that text; what it measures goes to standard error. large_chip.c and pool.c have a library of
-    their own, and pool.c prints the same of a larger switch; restarts.c, restarts_rows.c and two_handles.c print the same by both libraries."""
+    their own, and pool.c prints the same of a larger switch; the others that are named print the same by both libraries."""
     pooled = ["-DNIW_POOL", library.PORTABLE]
     both = [libraries, pooled]
-    ways = {"large_chip": [pooled], "pool": [pooled, [*pooled, *LARGER]], "restarts": both, "restarts_rows": both, "two_handles": both}
+    ways = {"large_chip": [pooled], "pool": [pooled, [*pooled, *LARGER]]}
+    ways |= dict.fromkeys(("hash_buckets_64", "restarts", "restarts_rows", "two_handles"), both)
     for text in sorted(glob.glob(f"{EXAMPLES}/*.txt")):
         name = os.path.basename(text).removesuffix(".txt")
         wanted = read_text(text)
