@@ -226,7 +226,8 @@ def judge(b: Bench, result: Result, flood: Flood = Flood()) -> None:
     if result.verdict == FAIL:
         blame(b, result, failed, flood.text if flood.hides else "")
         result.why += f". Beside it, {flood.text}" if flood.text and (result.verdict == FAIL or not flood.hides) else ""
-        result.why += ". No LACPDU of the device came in this test" if result.verdict == FAIL and not result.crashed and is_silent(b, result) else ""
+        silent = result.verdict == FAIL and not result.crashed and "no LACPDU" not in result.why and is_silent(b, result)
+        result.why += ". No LACPDU of the device came in this test" if silent else ""
     elif result.verdict == INCONCLUSIVE and flood.text or result.verdict == PASS and flood.hides:
         result.verdict, result.why = INCONCLUSIVE, f"{flood.text}. Seen: {result.why or 'what came between was right'}"
     elif result.verdict == PASS and (told := dropped(b)):
