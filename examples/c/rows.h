@@ -76,24 +76,25 @@ static void level(struct loop *here, uint16_t lag) {
     }
 }
 
-/* The rows of a LAG in a list that has a place for each conversation. */
-static uint16_t *list_of(struct rows *rows, uint16_t lag) {
+/* The library is asked with a list that has a place for each conversation: that of the rows, or a copy. */
 #if ROWS < NIW_FEW_CONVERSATIONS
+#define LIST(rows, lag) (rows)->all
+static void copy_rows(struct rows *rows, uint16_t lag) {
     for (uint16_t row = 0; row < ROWS; row++) rows->all[row] = rows->port[lag - 1][row];
-    return rows->all;
-#else
-    return rows->port[lag - 1];
-#endif
 }
+#else
+#define LIST(rows, lag) (rows)->port[(lag) - 1]
+static void copy_rows(struct rows *rows, uint16_t lag) { (void)rows, (void)lag; }
+#endif
 
 /* Before anything is sent: `port` is what the chip's rows hold, also those that were offered. */
 static void clear_rows(struct loop *here) {
     struct rows *rows = rows_of(here);
     for (uint16_t lag = 1; lag <= LAGS; lag++) {
-        uint16_t *ports = list_of(rows, lag);
-        niw_conversation_ports(&here->system, lag, ports, NIW_FEW_CONVERSATIONS, rows->changed, NIW_FEW_CONVERSATIONS);
+        copy_rows(rows, lag);
+        niw_conversation_ports(&here->system, lag, LIST(rows, lag), NIW_FEW_CONVERSATIONS, rows->changed, NIW_FEW_CONVERSATIONS);
         for (uint16_t row = 0; row < ROWS; row++)
-            if (rows->changed[row]) set_row(here, lag, row, ports[row]);
+            if (rows->changed[row]) set_row(here, lag, row, LIST(rows, lag)[row]);
         if (rows->level[lag - 1] != here->trunk[lag - 1]) level(here, lag);
     }
 }
