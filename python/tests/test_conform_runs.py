@@ -682,9 +682,11 @@ def test_a_library_that_crashes_on_a_runt_fails_the_tests_that_send_one(tmp_path
 
 
 @pytest.mark.skipif(not HEADER.exists() or not shutil.which("cc"), reason="no C compiler")
-@pytest.mark.parametrize("fault, why", [("__builtin_trap()", "crashed by SIG"), ("for (;;)", "hangs in device_start")])
-def test_a_library_that_breaks_at_its_start_is_refused(fault: str, why: str, tmp_path: Path, capfd: pytest.CaptureFixture[str], monkeypatch: pytest.MonkeyPatch) -> None:
-    monkeypatch.setattr(child, "CALL_SECONDS", 0.5)
+@pytest.mark.parametrize("fault, seconds, why", [("__builtin_trap()", 60, "crashed by SIG"), ("for (;;)", 0.5, "hangs in device_start")])
+def test_a_library_that_breaks_at_its_start_is_refused(
+    fault: str, seconds: float, why: str, tmp_path: Path, capfd: pytest.CaptureFixture[str], monkeypatch: pytest.MonkeyPatch
+) -> None:
+    monkeypatch.setattr(child, "CALL_SECONDS", seconds)
     for text, told in (
         (f"void device_start(void) {{ {fault}; }}\nvoid device_take(void) {{ }}\nvoid device_tick(void) {{ }}\n", [f"the stack {why}"]),
         (f"__attribute__((constructor)) static void begin(void) {{ {fault}; }}\n", [f"the stack {why.partition(' in ')[0]}", " as it was loaded"]),
