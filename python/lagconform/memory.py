@@ -123,7 +123,7 @@ class World:
                 yield
         except Gone as why:
             raise Broke(str(why), self.again) from why
-        except Exception as why:
+        except (Exception, SystemExit) as why:
             text = " ".join(str(why).split())
             raise Broke(f"the stack broke by {type(why).__name__} in {name}: {text}\n{traceback.format_exc(limit=-3)}", self.again) from why
 
@@ -308,5 +308,5 @@ def loaded(path: str) -> Stack:
         raise Refused(f"{path}: {why}") from why
     except (Refused, Gone):
         raise
-    except Exception as why:
+    except (Exception, SystemExit) as why:
         raise Refused(f"{path} breaks {where}, by {type(why).__name__}: {why}") from why

@@ -79,11 +79,13 @@ class Responds(Device):
             yield port, given
 
 
-NoMarkers, OtherId = devices(
+NoMarkers, OtherId, FourthUnanswered = devices(
     Responds, "says_back",
     ("NoMarkers", "Answers no marker.", "MK-01 EN-03", lambda self, marker, response: None),
     ("OtherId", "Answers with another identifier.", "MK-01 MK-02 MK-05 MK-06 MK-09 MK-10 MK-11 EN-03",
      lambda self, marker, response: put(response, 15, bytes([response[29] ^ 1]))),
+    ("FourthUnanswered", "Leaves each fourth marker unanswered.", "MK-05 MK-02",
+     lambda self, marker, response: response if self.kept.setdefault(marker, len(self.kept)) % 4 != 3 else None),
 )  # fmt: skip
 
 
@@ -247,6 +249,7 @@ ROWS = [
          lambda self, port, marker, response: [(port, response)] if self.is_on(port, State.COLLECTING) else []),
         ("StrayResponses", "Answers on the other link, where it carries.", "MK-11",
          lambda self, port, marker, response: [(3 - port if self.is_on(2, State.COLLECTING) and port == 1 else port, response)]),
+        ("AnswersOnOne", "Answers on the first link alone.", "MK-11", lambda self, port, marker, response: [(port, response)] if port == 1 else []),
     ),
     *devices(
         KeptByMarkers, "keeps",
@@ -300,6 +303,8 @@ ROWS = [
         Responds, "says_back",
         ("OtherSystem", "Answers with another system.", "MK-01 MK-02", lambda self, marker, response: put(response, 6, OWN.mac)),
         ("OtherSource", "Answers from another address.", "MK-03", lambda self, marker, response: response[:6] + b"\2\0\0\0\0\1" + response[12:]),
+        ("FirstUnanswered", "Leaves the first marker unanswered.", "MK-02",
+         lambda self, marker, response: response if self.kept.setdefault(0, marker) != marker else None),
         ("MarkerVersion", "Answers markers of version 1 alone.", "MK-04", lambda self, marker, response: response if marker[15] == 1 else None),
         ("LongResponse", "Sends back all octets of a marker.", "MK-13", lambda self, marker, response: response + marker[124:]),
     ),

@@ -13,7 +13,7 @@ import pytest
 from conform_device import BY_NAME, Device, World, beside, devices, put
 from conform_device import play as play_in
 from conform_faults import KeyUnchecked, NeverBack, SecondPartnerKey, StartsTooLate, WrongEcho
-from conform_frames import Responds
+from conform_frames import FourthUnanswered, NoMarkers, Responds
 from test_conform_kinds import Bridge, JoinsKeys
 from test_conform_right import NoIndividual
 
@@ -75,9 +75,12 @@ class IdBefore(Responds):
         return put(response, 12, before) if before else response
 
 
-def test_a_wrong_answer_is_not_told_as_none() -> None:
+def test_a_marker_without_a_right_answer_is_a_fail_where_others_have_one() -> None:
     told = play(IdBefore, [BY_NAME["MK-11"]])[0]
-    assert (told.verdict, told.why) == (SKIPPED, "no marker is answered rightly on link 2 (MK-01)")
+    assert (told.verdict, told.why) == (FAIL, "link 2: answered wrongly there, and 0 times on the other link; has to be answered there alone")
+    tests = [BY_NAME[it] for it in ("MK-01", "MK-02", "MK-11")]
+    assert [it.verdict for it in play(FourthUnanswered, tests)] == [PASS, FAIL, PASS]
+    assert [it.verdict for it in play(NoMarkers, tests)] == [FAIL, SKIPPED, SKIPPED]
 
 
 def test_a_run_that_is_resumed_comes_to_what_a_whole_one_does(run, whole: dict[str, str], tmp_path: Path) -> None:  # type: ignore[no-untyped-def]

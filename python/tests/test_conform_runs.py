@@ -418,15 +418,16 @@ def test_a_stack_that_can_not_be_made_is_no_fault_of_the_bench(stack, capsys: py
     assert capsys.readouterr().err == "lagconform: device.py breaks where its Device is made, by AttributeError: 'Device' object has no attribute '_lagconform'\n"
 
 
-def test_a_stack_that_raises_fails_the_test_and_begins_again(stack, tmp_path: Path, capsys: pytest.CaptureFixture[str]) -> None:  # type: ignore[no-untyped-def]
-    lines = "def ticked(self):\n    if {}:\n        raise ValueError('no partner')\n"
+@pytest.mark.parametrize("kind", ["ValueError", "SystemExit"])
+def test_a_stack_that_raises_fails_the_test_and_begins_again(stack, kind: str, tmp_path: Path, capsys: pytest.CaptureFixture[str]) -> None:  # type: ignore[no-untyped-def]
+    lines = f"def ticked(self):\n    if {{}}:\n        raise {kind}('no partner')\n"
     assert stack(lines.format("self.now > 0") + "def take(self, port, frame):\n    pass\n", "--only", "FM-*", "--json", "r.json") == 2
     said = capsys.readouterr().err
-    assert "the stack broke by ValueError in tick: no partner" in said and "in ticked" in said
+    assert f"the stack broke by {kind} in tick: no partner" in said and "in ticked" in said
     assert stack(lines.format("8 < self.now < 8.2"), "--only", "FM-*", "--json", "r.json", "--shadow", "--captures", "each") == 1
     told = json.loads((tmp_path / "r.json").read_text())
     (failed,) = [it for it in told["tests"] if it["verdict"] == "fail"]
-    assert told["counts"]["pass"] == 8 and failed["why"] == "the stack broke by ValueError in tick: no partner; has to go on"
+    assert told["counts"]["pass"] == 8 and failed["why"] == f"the stack broke by {kind} in tick: no partner; has to go on"
     assert "in ticked" in failed["notes"][-1] and told["about"]["the stack broke"] == f"and was started again 1 time, in {failed['id']}"
 
 
@@ -614,7 +615,7 @@ def test_a_stack_in_python_that_goes_on_to_hang_ends_its_run(stack, name: str, w
 
 def test_a_stack_that_breaks_where_it_is_loaded_is_refused(tmp_path: Path, capsys: pytest.CaptureFixture[str]) -> None:
     path = tmp_path / "device.py"
-    for text, why in ("import nothing_of_this_name\n", "ModuleNotFoundError: No module named"), ("class Device(\n", "SyntaxError: "):
+    for text, why in ("import nothing_of_this_name\n", "ModuleNotFoundError: No module named"), ("class Device(\n", "SyntaxError: "), ("raise SystemExit(0)\n", "SystemExit: 0"):
         path.write_text(text)
         assert command.main(["--memory", str(path)]) == 2
         assert f"{path} breaks where it is loaded, by {why}" in capsys.readouterr().err
