@@ -35,11 +35,11 @@ function linkFacts({ name, told, ports, hash, isFar }) {
     const held = ports.filter((it) => it.isHeld), isSetUp = down.every((it) => it.isSetDown === false);
     const off = ports.filter((it) => it.isOff), waiting = ports.filter((it) => it.isWaiting), up = ports.filter((it) => isLinked(it) && it.aggregator !== null), linked = ports.filter(isLinked);
     const speeds = linked.filter((it) => !isSpeedless(it)), speedless = linked.filter((it) => isSpeedless(it) && !(saysCarry(it) && it.partner));
-    const mute = down.filter(isSpeedless), parts = [...new Set(up.map((it) => it.aggregator))], standing = ports.filter((it) => it.standsBy), away = ports.filter((it) => it.isAway);
+    const unreported = down.filter(isSpeedless), parts = [...new Set(up.map((it) => it.aggregator))], standing = ports.filter((it) => it.standsBy), away = ports.filter((it) => it.isAway);
     return [
         { name: "link-set-down", ports: setDown, title: `the link of ${namesIn(setDown)} is set down ${isFar ? "there" : "here"}`, advice: setUp(setDown) },
         { name: "link-down", ports: down, title: `the link of ${namesIn(down)} is down`,
-            advice: `Nothing of LACP is to be judged there: ${isSetUp ? "" : `if it is set down ${isFar ? "there" : "here"}, ${setUp(down)}; else `}${OF_CABLE}${mute.length ? ` If ip link says LOWER_UP of ${namesIn(mute)}, the device reports no speed, and bonding takes such a link as down: ${setSpeed(mute, speeds)}` : ""}` },
+            advice: `Nothing of LACP is to be judged there: ${isSetUp ? "" : `if it is set down ${isFar ? "there" : "here"}, ${setUp(down)}; else `}${OF_CABLE}${unreported.length ? ` If ip link says LOWER_UP of ${namesIn(unreported)}, the device reports no speed, and bonding takes such a link as down: ${setSpeed(unreported, speeds)}` : ""}` },
         { name: "held", ports: held, title: `the host holds ${namesIn(held)} out of use`,
             advice: `${eachDone(held, (name) => `lagd --release ${name}`)}. If the file of the bundle has hold=yes, take that out, too.` },
         { name: "device-down", ports: off, title: `the device of ${told} is down: LACP has ended on ${namesIn(off)}`,

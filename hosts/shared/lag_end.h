@@ -274,7 +274,6 @@ lag_end_resume(struct lag_end *end, const struct niw_config *config, struct lag_
         }
         for (size_t j = 0; j < count; j++) {
             if (known[j].number == made.place) {
-                known[j] = ports[j].port;
                 ports[j].begins = true;
                 ports[j].why = made.status;
             }
