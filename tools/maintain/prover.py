@@ -1,7 +1,7 @@
 """Edits that the prover has to refuse: what proofs, wrong-bodies and wrong-definitions share.
 
 The crates are copied to a temporary folder, where each edit is a file of must-fail. `rt must-fail` tries them, over what `rt check` kept of the
-crates below, or `rt ci`, which proves all from nothing.
+crates below, or `rt ci`, which takes no such work, and proves from nothing what no earlier run of it passed on this machine.
 """
 
 from __future__ import annotations
