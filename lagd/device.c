@@ -65,8 +65,7 @@ bool has_carrier(const struct device *own) {
 }
 
 /* The MTU of the device is the longest that each member takes, or a lower one that an administrator set. A higher one would lose frames. */
-void settle_tap_mtu(struct plane *plane) {
-    struct device *own = plane->device;
+void settle_tap_mtu(struct device *own) {
     struct ifreq now = {0}, wanted = {0};
     if (!ask_tap(own, SIOCGIFMTU, &now)) return;
     uint32_t mtu = (uint32_t)now.ifr_mtu;
@@ -82,14 +81,14 @@ void settle_tap_mtu(struct plane *plane) {
 
 void limit_mtu(struct device *own, uint32_t most) {
     own->most_mtu = most < LONGEST_PAYLOAD ? most : LONGEST_PAYLOAD;
-    settle_tap_mtu(own->plane);
+    settle_tap_mtu(own);
 }
 
 void follow_tap(struct device *own, bool has_now, const char *discipline) {
     own->carrier_told = has_now;
     CALL(own->plane->passing->follow_discipline, own->plane->tap, discipline);
     if (own->carrier && has_now) CALL(own->plane->passing->open_host, own->plane->tap, true);
-    CALL(own->plane->carrying->settle_mtu, own->plane);
+    CALL(own->plane->carrying->settle_mtu, own);
 }
 
 /* 100 ms passed. Of a device that is not up the kernel tells no carrier, whoever set one. */
@@ -150,7 +149,7 @@ static void set_up(struct device *own, const uint8_t *mac) {
     choose_segments(own);
     queue.ifr_qlen = HOST_QUEUE;
     (void)ask_tap(own, SIOCSIFTXQLEN, &queue);
-    settle_tap_mtu(own->plane);
+    settle_tap_mtu(own);
     CALL(own->plane->passing->set_up_device, own->index);
 }
 

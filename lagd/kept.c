@@ -3,8 +3,8 @@
 #include "tap/tap.h"
 
 /* The name of a file, or with `.new` behind it that of the one that is to take its place. */
-static const char *name_of(const struct link *link, const char *kind, const char *behind, char room[static 64]) {
-    snprintf(room, 64, "%lu.%d.%s%s", network_namespace(), link->index, kind, behind);
+static const char *name_in_namespace(int index, const char *kind, const char *behind, char room[static 64]) {
+    snprintf(room, 64, "%lu.%d.%s%s", network_namespace(), index, kind, behind);
     return room;
 }
 
@@ -18,7 +18,7 @@ const char *boot_id(char room[static BOOT_ROOM]) {
 /* Opens what is kept of an interface, behind the head; or answers NULL. What is of another boot, or another interface, counts for nothing. */
 FILE *read_kept(int folder, const struct link *link, const char *kind) {
     char name[64], boot[BOOT_ROOM], now[BOOT_ROOM], mac[32], own[32];
-    FILE *file = open_in(folder, name_of(link, kind, "", name), O_RDONLY, "r");
+    FILE *file = open_in(folder, name_in_namespace(link->index, kind, "", name), O_RDONLY, "r");
     if (!file) return NULL;
     if (fscanf(file, "boot=%63s mac=%31s", boot, mac) == 2 && strcmp(boot, boot_id(now)) == 0 && strcmp(mac, mac_text(link->mac, own)) == 0)
         return file;
@@ -29,7 +29,7 @@ FILE *read_kept(int folder, const struct link *link, const char *kind) {
 /* Begins a file that end_kept puts in the place of the one that is there; or answers NULL, and errno tells why not. */
 FILE *begin_kept(int folder, const struct link *link, const char *kind) {
     char next[64], boot[BOOT_ROOM], mac[32];
-    FILE *file = open_in(folder, name_of(link, kind, ".new", next), O_WRONLY | O_CREAT | O_TRUNC, "w");
+    FILE *file = open_in(folder, name_in_namespace(link->index, kind, ".new", next), O_WRONLY | O_CREAT | O_TRUNC, "w");
     if (file) fprintf(file, "boot=%s\nmac=%s\n", boot_id(boot), mac_text(link->mac, mac));
     return file;
 }
@@ -38,9 +38,11 @@ FILE *begin_kept(int folder, const struct link *link, const char *kind) {
 bool end_kept(int folder, const struct link *link, const char *kind, FILE *file, bool done) {
     char next[64], name[64];
     done = done && !ferror(file);
-    done = fclose(file) == 0 && done && renameat(folder, name_of(link, kind, ".new", next), folder, name_of(link, kind, "", name)) == 0;
+    (void)name_in_namespace(link->index, kind, ".new", next);
+    (void)name_in_namespace(link->index, kind, "", name);
+    done = fclose(file) == 0 && done && renameat(folder, next, folder, name) == 0;
     int fault = errno;
-    if (!done) (void)unlinkat(folder, name_of(link, kind, ".new", next), 0);
+    if (!done) (void)unlinkat(folder, next, 0);
     errno = fault;
     return done;
 }
@@ -48,8 +50,8 @@ bool end_kept(int folder, const struct link *link, const char *kind, FILE *file,
 /* Removes what is kept of an interface, and what a daemon that was killed began of it. */
 void drop_kept(int folder, const struct link *link, const char *kind) {
     char name[64];
-    (void)unlinkat(folder, name_of(link, kind, ".new", name), 0);
-    (void)unlinkat(folder, name_of(link, kind, "", name), 0);
+    (void)unlinkat(folder, name_in_namespace(link->index, kind, ".new", name), 0);
+    (void)unlinkat(folder, name_in_namespace(link->index, kind, "", name), 0);
 }
 
 /* What an interface had before an earlier daemon changed it; zeros, where nobody knows. */

@@ -246,7 +246,8 @@ static int run_daemon(struct lagd *lagd, const struct options *options) {
     choose_plane(&lagd->plane, &lagd->settings);
     recall_state(&lagd->state);
     make_system(&lagd->protocol);
-    begin_resuming(&lagd->process, &lagd->plane);
+    begin_resuming(&lagd->process);
+    if (lagd->process.inherited->others && !lagd->plane.carrying->keeps_members) release_former_members(&lagd->plane);
     CALL(lagd->plane.carrying->open, &lagd->plane);
     start_halt(&lagd->protocol);
     need(await_input(lagd->process.epoll_file, open_changes(&lagd->protocol), CHANGES), "epoll");

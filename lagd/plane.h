@@ -29,13 +29,13 @@ enum form { AS_TEXT, AS_JSON, AS_METRICS };
 
 /* The device, what is done with an interface that is a port, and where conversations go: by nothing, a TAP device or a team device. */
 struct carrying {
-    void (*open)(struct plane *plane);                  /* makes the device, or takes that of the last daemon; a fault ends the program */
+    void (*open)(struct plane *plane);                  /* makes the device, or takes that of the last daemon, and has what ends it called at the exit; a fault ends the program */
     void (*end)(struct plane *plane);                   /* nothing goes or comes from here on, and members are as they were */
     void (*lose_device)(struct plane *plane);           /* it was deleted, or moved to another namespace */
     void (*keep_device)(struct plane *plane, bool keeps); /* it outlives the daemon, or goes with it */
     void (*leave)(struct plane *plane, int index, bool owned); /* the last daemon had it by other settings: it is free, and goes if it `owned` it */
     bool (*give_carrier)(const struct plane *plane, bool on); /* whether the kernel does so */
-    void (*settle_mtu)(struct plane *plane); /* the longest MTU that each member takes, or a lower one of an administrator */
+    void (*settle_mtu)(struct device *device); /* the longest MTU that each member takes, or a lower one of an administrator */
     int (*add)(struct plane *plane, struct link *link); /* takes an interface up: 0, or -errno */
     void (*remove)(struct plane *plane, const struct link *link); /* it is a member no more, and has what it had before */
     bool (*renew)(struct plane *plane, struct link *link); /* it has another queueing discipline: whether it is still taken up */

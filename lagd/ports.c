@@ -72,9 +72,9 @@ static bool is_same(const struct facts *one, const struct facts *other) {
         && one->partner_port == other->partner_port;
 }
 
-static bool print_facts(struct process *process, const struct ports *ports, const struct link *link, const struct facts *facts, bool watched) {
+static bool print_facts(struct process *process, const struct ports *ports, const struct link *link, const struct facts *facts, bool watchers_told) {
     char whose[96] = "no partner", system[32], trouble[128] = "", holder[HOLDER_ROOM];
-    int level = (facts->status == NIW_PORT_STATUS_DISTRIBUTING ? LOG_NOTICE : LOG_WARNING) | (watched ? WATCHED : 0) | ABOUT_PORT;
+    int level = (facts->status == NIW_PORT_STATUS_DISTRIBUTING ? LOG_NOTICE : LOG_WARNING) | (watchers_told ? WATCHED : 0) | ABOUT_PORT;
     if (!facts->defaulted)
         snprintf(whose, sizeof whose, "partner %s key %u port %u", system_text(&facts->partner, system), facts->partner_key, facts->partner_port);
     if (link->trouble == EADDRINUSE)

@@ -59,11 +59,9 @@ static void set_other_links(struct protocol *protocol, const bool *back) {
             return;
 }
 
-/* Before the interfaces are taken up: whether there is something to go on with. Where no data is carried any more, or by the team driver, what
- * was set of members is set back. */
-void begin_resuming(struct process *process, struct plane *plane) {
+/* Before the interfaces are taken up: whether there is something to go on with. */
+void begin_resuming(struct process *process) {
     for (unsigned i = 0; i < process->inherited->link_count; i++) process->resuming = process->resuming || process->inherited->links[i].carried;
-    if (process->inherited->others && !plane->carrying->keeps_members) release_former_members(plane);
 }
 
 /* Tells what became of the links of the last daemon, if some are there. */

@@ -132,7 +132,7 @@ void pass_tick_of_frames(struct plane *plane) {
     CALL(plane->passing->tick, tap);
     note_heard(tap->carry);
     pass_flight_tick(tap);
-    count_losses(tap);
+    count_full_sockets(tap->members, tap->ports->count);
     CALL(plane->queueing->watch, tap);
     end_carry_tick(tap->carry);
 }

@@ -53,13 +53,12 @@ static uint64_t take(uint64_t *count) {
 }
 
 /* What the kernel did for the last daemon is no count of this one, and ports that are no more collect nothing. */
-static void begin_counts(struct tap_plane *tap) {
-    struct fast_programs *own = &tap->fast;
+static void begin_tables(struct fast_programs *own, uint16_t ports) {
     for (uint16_t number = 0; number < CONVERSATIONS; number++) own->rows[number].passed = own->rows[number].overflowed = 0;
     for (uint16_t i = 0; i < NIW_MOST_PORTS; i++) {
         struct fast_member *entry = &own->entries[i];
         entry->passed_up = entry->uncollected = entry->wrong_length = 0;
-        if (i >= tap->ports->count) __atomic_store_n(&entry->up_to, 0, __ATOMIC_SEQ_CST);
+        if (i >= ports) __atomic_store_n(&entry->up_to, 0, __ATOMIC_SEQ_CST);
     }
     own->host->overflowed = own->host->unfit = 0;
 }
@@ -73,7 +72,7 @@ static void start_fast(struct tap_plane *tap) {
     own->entries = open_map(tap, 1, sizeof *own->entries, NIW_MOST_PORTS, &maps.members);
     own->host = open_map(tap, 2, sizeof *own->host, 1, &maps.host);
     own->places = open_map(tap, 3, sizeof *own->places, PLACES, &maps.places);
-    begin_counts(tap);
+    begin_tables(own, tap->ports->count);
     if (own->host->mac == 0) memcpy(&own->host->mac, tap->settings->config.mac, ETH_ALEN);
     own->receiver = load(tap->settings, "receiver", &maps);
     own->handover = keep_program(tap, "handover", &maps, false);

@@ -524,15 +524,15 @@ void close_guard(struct tap_plane *tap, const struct link *link, struct guard *g
 }
 
 /* An interface was a member of the last daemon, and is none of this one: it gets what it had, unless somebody else has it by now. */
-void put_back(struct tap_plane *tap, int index, const uint8_t *mac) {
-    struct link link = {.index = index};
+void put_back(struct tap_plane *tap, const struct inherited_link *was) {
+    struct link link = {.index = was->index};
     struct guard guard = {.classifier = CLASSIFIER_ALONE};
-    int lock = lock_interface(tap->process, index);
+    int lock = lock_interface(tap->process, was->index);
     if (lock < 0) return;
-    guard.opened = claim_stored(&tap->process->store, "guard", index);
-    guard.chooser = claim_stored(&tap->process->store, "queues", index);
-    memcpy(link.mac, mac, sizeof link.mac);
+    guard.opened = claim_stored(&tap->process->store, "guard", was->index);
+    guard.chooser = claim_stored(&tap->process->store, "queues", was->index);
+    memcpy(link.mac, was->mac, sizeof link.mac);
     recall_settings(tap->process->folder, &link, &guard.before);
     close_guard(tap, &link, &guard);
-    return_stored(&tap->process->store, "lock", index, lock);
+    return_stored(&tap->process->store, "lock", was->index, lock);
 }

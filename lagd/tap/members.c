@@ -228,8 +228,8 @@ bool is_fast(const struct member *member) {
     return is_open(member) && member->guard.fast;
 }
 
-void count_losses(struct tap_plane *tap) {
-    for (uint16_t i = 0; i < tap->ports->count; i++) count_loss(&tap->members[i]);
+void count_full_sockets(struct member *members, uint16_t count) {
+    for (uint16_t i = 0; i < count; i++) count_loss(&members[i]);
 }
 
 static void close_member(struct plane *plane, const struct link *link) {

@@ -110,7 +110,7 @@ static bool read_tcp(const uint8_t *packet, size_t length, struct tcp_packet *tc
 }
 
 /* The sum of the addresses and of the length of a packet of TCP, as its checksum has it. */
-static uint64_t sum_beside(const uint8_t *packet, const struct tcp_packet *tcp) {
+static uint64_t sum_of_pseudo_header(const uint8_t *packet, const struct tcp_packet *tcp) {
     bool six = has_ipv6(packet, tcp);
     uint64_t sum = (uint64_t)htons(IPPROTO_TCP) + htons((uint16_t)(tcp->length - tcp->transport));
     return add_octets(sum, packet + tcp->network + (six ? IPV6_ADDRESSES : IPV4_ADDRESSES), six ? 32 : 8);
@@ -121,7 +121,7 @@ static bool is_as_sent(const uint8_t *packet, const struct tcp_packet *tcp) {
     struct virtio_net_hdr told = head_of(packet);
     if (told.flags & VIRTIO_NET_HDR_F_NEEDS_CSUM) return told.csum_start + head_octets() == tcp->transport && told.csum_offset == TCP_SUM;
     if (told.flags & VIRTIO_NET_HDR_F_DATA_VALID) return true;
-    return fold(add_octets(sum_beside(packet, tcp), packet + tcp->transport, tcp->length - tcp->transport)) == UINT16_MAX;
+    return fold(add_octets(sum_of_pseudo_header(packet, tcp), packet + tcp->transport, tcp->length - tcp->transport)) == UINT16_MAX;
 }
 
 static bool is_same(const uint8_t *one, const uint8_t *other, size_t from, size_t to) {
@@ -163,7 +163,7 @@ static bool give_all(const struct tap_plane *tap) {
     memcpy(headers, first, all->payload);
     memcpy(headers, &told, sizeof told);
     write_length(headers, all);
-    uint16_t sum = fold(sum_beside(headers, all));
+    uint16_t sum = fold(sum_of_pseudo_header(headers, all));
     memcpy(headers + all->transport + TCP_SUM, &sum, sizeof sum);
     headers[all->transport + TCP_FLAGS] |= last[all->transport + TCP_FLAGS];
     for (unsigned i = 0; i < own->count; i++) {

@@ -233,7 +233,7 @@ bool keep_queues(struct tap_plane *tap, struct link *link, struct guard *guard, 
 void look_at_discipline(struct tap_plane *tap, struct link *link, struct guard *guard);
 void reopen_guard(struct tap_plane *tap, struct link *link, struct guard *guard);
 void close_guard(struct tap_plane *tap, const struct link *link, struct guard *guard);
-void put_back(struct tap_plane *tap, int index, const uint8_t *mac);
+void put_back(struct tap_plane *tap, const struct inherited_link *was);
 
 /* members.c */
 extern const struct carrying TAP_DEVICE;
@@ -248,7 +248,7 @@ void put_data(struct tap_plane *tap, uint16_t port, uint16_t number, uint8_t *pa
 void flush_data(struct tap_plane *tap);
 void receive_data(struct tap_plane *tap, struct link *link);
 bool send_marker_again(struct tap_plane *tap, uint16_t port);
-void count_losses(struct tap_plane *tap);
+void count_full_sockets(struct member *members, uint16_t count);
 
 /* hash.c */
 struct niw_number conversation_of(struct protocol *protocol, const uint8_t *frame, size_t length);
