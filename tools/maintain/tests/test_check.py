@@ -51,11 +51,11 @@ def test_no_check_and_an_unknown_one_are_refused(words: list[str]) -> None:
         check.asked(words)
 
 
-def test_no_two_checks_that_prove_nor_two_that_measure_but_carry_run_at_a_time() -> None:
-    toolchain, carry, root, others = ([name for name, _ in it] for it in check.lanes(check.asked(["--all"])))
-    assert sorted([*toolchain, *carry, *root, *others]) == sorted(check.CHECKS)
+def test_no_two_checks_that_prove_in_one_folder_nor_two_that_measure_but_carry_run_at_a_time() -> None:
+    proofs, carry, toolchain, root, others = ([name for name, _ in it] for it in check.lanes(check.asked(["--all"])))
+    assert sorted([*proofs, *carry, *toolchain, *root, *others]) == sorted(check.CHECKS)
     assert all("toolchain" in check.CHECKS[it].wants for it in toolchain) and "machines" in toolchain
-    assert (carry, {*root}) == (["carry"], {"live", "peers", "hosts"})
+    assert (proofs, carry, {*root}) == (["proofs"], ["carry"], {"live", "peers", "hosts"})
     assert not any(word in check.CHECKS[it].wants for it in others for word in ("toolchain", "root"))
 
 
