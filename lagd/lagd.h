@@ -466,6 +466,7 @@ void make_system(struct protocol *protocol);
 size_t resume_system(struct protocol *protocol, struct niw_saved *saved, size_t count);
 void set_link(struct protocol *protocol, struct link *link, bool up);
 bool apply_hold(struct protocol *protocol, const struct link *link) MUST_USE;
+void hold_by_settings(struct protocol *protocol);
 void lose_link(struct protocol *protocol, struct link *link);
 void send_due(struct protocol *protocol);
 void settle_calls(struct protocol *protocol);
@@ -608,6 +609,7 @@ uint32_t first_marker_left(const struct inherited *inherited);
 bool was_away_briefly(const struct inherited *inherited);
 void begin_resuming(struct process *process);
 unsigned resume(struct protocol *protocol);
+void release_others(struct protocol *protocol);
 void resume_data(struct protocol *protocol, unsigned count);
 
 /* carry.c */

@@ -258,6 +258,7 @@ static int run_daemon(struct lagd *lagd, const struct options *options) {
     unsigned resumed = resume(&lagd->protocol);
     lagd->process.has_started = true;
     resume_data(&lagd->protocol, resumed);
+    release_others(&lagd->protocol);
     halt_if_down(&lagd->protocol);
     leave_left_ports(&lagd->protocol);
     CALL(lagd->plane.carrying->end_resuming, &lagd->plane);

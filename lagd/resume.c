@@ -51,14 +51,6 @@ static void recall_partner(const struct process *process, struct link *link) {
     link->lacpdus_at[MOST_LACPDUS - 1] = was->spoken - process->inherited->ahead;
 }
 
-/* The links that are up, and do not go on, come up for the library, too. */
-static void set_other_links(struct protocol *protocol, const bool *back) {
-    EACH_LINK(link, protocol->ports)
-        if (link->up && !back[link - protocol->ports->links]
-            && !is_done(protocol->process, niw_set_link(&protocol->own_system, link->settings.number, true), "niw_set_link"))
-            return;
-}
-
 /* Before the interfaces are taken up: whether there is something to go on with. */
 void begin_resuming(struct process *process) {
     for (unsigned i = 0; i < process->inherited->link_count; i++) process->resuming = process->resuming || process->inherited->links[i].carried;
@@ -74,26 +66,31 @@ static void tell_links(struct process *process, const struct ports *ports, unsig
         (void)say(process, LOG_NOTICE | ABOUT_HANDOVER, "%u of %u links go on where the last daemon left them", count, count_links(ports));
 }
 
-/* Once the interfaces are taken up: the ports that distributed do so again. The others come after them, so that none takes the place of one
- * where links are limited. Answers how many ports went on. */
+/* Once the interfaces are taken up: the ports that distributed do so again. Answers how many went on. Nothing but conversations that stay where they
+ * were comes before release_others: so the system goes on from the last one as a warm start does. */
 unsigned resume(struct protocol *protocol) {
     struct niw_saved saved[NIW_MOST_PORTS];
-    bool back[NIW_MOST_PORTS] = {false};
     size_t count = 0;
     protocol->resumed_at = boottime() + protocol->process->inherited->ahead;
     EACH_LINK(link, protocol->ports)
         if (protocol->process->resuming && goes_on(protocol, link))
             saved[count++] = saved_of(protocol->process->inherited, link, protocol->resumed_at);
     count = resume_system(protocol, saved, count);
-    for (size_t i = 0; i < count; i++) {
-        back[saved[i].port - 1] = true;
-        recall_partner(protocol->process, &protocol->ports->links[saved[i].port - 1]);
-    }
-    if (protocol->process->resuming) set_other_links(protocol, back);
-    protocol->process->resuming = false;
-    send_due(protocol);
+    for (size_t i = 0; i < count; i++) recall_partner(protocol->process, &protocol->ports->links[saved[i].port - 1]);
     tell_links(protocol->process, protocol->ports, (unsigned)count);
     return (unsigned)count;
+}
+
+/* Behind the conversations that stay: the settings hold ports, and the links that are up come up for the library, too. Those that went on were up
+ * before, so none of the others takes the place of one where links are limited. */
+void release_others(struct protocol *protocol) {
+    hold_by_settings(protocol);
+    EACH_LINK(link, protocol->ports)
+        if (protocol->process->resuming && link->up
+            && !is_done(protocol->process, niw_set_link(&protocol->own_system, link->settings.number, true), "niw_set_link"))
+            break;
+    protocol->process->resuming = false;
+    settle_calls(protocol);
 }
 
 static void stay(struct carry *carry, uint16_t number, uint16_t port) {

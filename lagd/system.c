@@ -44,7 +44,7 @@ static struct niw_made put_system(struct protocol *protocol, const struct niw_sa
     return niw_resume(own, config, protocol->aggregator_keys, protocol->aggregator_count, ports, slots, saved, count);
 }
 
-static void hold_by_settings(struct protocol *protocol) {
+void hold_by_settings(struct protocol *protocol) {
     EACH_LINK_AS_IS(link, protocol->ports)
         if (link->held && !apply_hold(protocol, link)) return;
 }
@@ -60,9 +60,7 @@ size_t resume_system(struct protocol *protocol, struct niw_saved *saved, size_t 
         count = at < count ? count - 1 : 0;
         made = put_system(protocol, saved, count);
     }
-    if (!is_done(protocol->process, made.status, "niw_resume")) return 0;
-    hold_by_settings(protocol);
-    return count;
+    return is_done(protocol->process, made.status, "niw_resume") ? count : 0;
 }
 
 void make_system(struct protocol *protocol) {
