@@ -25,6 +25,8 @@ CACHE = os.environ.get("XDG_CACHE_HOME") or os.path.expanduser("~/.cache")
 # The program that tools/lagtool --prove makes; and that which tools run: it, or one that LAGTOOL names.
 MADE = os.path.join(CRATES, "lagtool", "out", "lagtool")
 PROGRAM = os.environ.get("LAGTOOL", MADE)
+# What tools/test leaves: the commit that it ran on, and the last line of `rt ci`. The programs and tests that it made stand in the folders out/ of crates.
+VERDICT = os.path.join(TOP, "out", "verdict")
 RT = os.environ.get("RT", "rt")
 CC = os.environ.get("CC", "cc")
 # CC may be words, such as `ccache gcc`: what a command line begins with.
@@ -127,9 +129,34 @@ def below(*names: str) -> list[str]:
     return found
 
 
+def commit() -> str | None:
+    """The commit whose sources these are; None where they are of none, or there is no git."""
+    wanted = ["git", "rev-parse", "HEAD"], ["git", "status", "--porcelain"]
+    try:
+        asked = [subprocess.run(words, cwd=TOP, capture_output=True, text=True) for words in wanted]
+    except OSError:
+        return None
+    return None if any(it.returncode for it in asked) or asked[1].stdout else asked[0].stdout.strip()
+
+
+def verdict() -> str | None:
+    """The last line of the test command for the commit whose sources these are, where it ran here; else None."""
+    try:
+        tested, line = read_text(VERDICT).split("\n")[:2]
+    except (OSError, ValueError):
+        return None
+    return line if tested == commit() else None
+
+
+def is_made_by_gate(path: str) -> bool:
+    """Whether this file is one that the test command made of these sources, and passed."""
+    line = verdict()
+    return bool(line and re.match(r"[1-9]\d* passed, 0 failed", line)) and os.path.isfile(path)
+
+
 def make_program() -> None:
     """Makes the proved program, where it is missing or older than its sources and LAGTOOL names none, and looks that it works."""
-    if PROGRAM == MADE and subprocess.run([os.path.join(TOOLS, "lagtool"), "--prove"]).returncode:
+    if PROGRAM == MADE and not is_made_by_gate(MADE) and subprocess.run([os.path.join(TOOLS, "lagtool"), "--prove"]).returncode:
         raise Missing("the program is not proved, as the lines above say")
     if subprocess.run([PROGRAM, "check", os.devnull], stdout=subprocess.DEVNULL).returncode:
         raise Missing(f"{PROGRAM} check fails, as the lines above say")

@@ -15,7 +15,7 @@ import library
 import manual
 from library import printed
 from processors import AMD64, Processor, compile_crate, want_tools
-from repository import CRATES, RT, TOOLS, TOP, Missing, make_program, read_bytes, read_text, say, want
+from repository import CRATES, RT, TOOLS, TOP, Missing, make_program, read_bytes, read_text, say, verdict, want
 
 
 class File(NamedTuple):
@@ -115,15 +115,11 @@ def of_subagent() -> list[File]:
     return [File("sbin/lagd-snmp", read(made), True), File("share/man/man8/lagd-snmp.8", page.encode())]
 
 
-def verdict() -> str:
-    """The last line of the test command for this commit, as tools/test left it."""
+def of_build() -> str:
+    """What the file BUILD says: the commit, the toolchain, and the last line of the test command for this commit, as tools/test left it."""
     commit = printed("git", "rev-parse", "HEAD", cwd=TOP).strip()
-    try:
-        tested, line = read_text(os.path.join(TOP, "out", "verdict")).split("\n")[:2]
-    except (OSError, ValueError):
-        tested, line = "", ""
     changed = printed("git", "status", "--porcelain", cwd=TOP).strip()
-    said = line if tested == commit and not changed else "tools/test did not run on just these sources"
+    said = verdict() or "tools/test did not run on just these sources"
     return f"version {version()}\ncommit {commit}{' and changes' if changed else ''}\n{printed(RT, 'version').strip()}\n{said}\n"
 
 
@@ -208,7 +204,7 @@ def parts(processor: Processor = AMD64) -> Parts:
     found += [File("include/lag.h", read(library.HEADER)), File("lib/liblag.a", read(archive))]
     found += [File(f"lib/{library.SONAME}", read(shared)), File("lib/liblag.so", b"", link=library.SONAME)]
     found += [File("share/liblag/lag.c", read(library.PORTABLE)), File("share/liblag/lag.h", read(library.HEADER))]
-    made = {"lib/pkgconfig/lag.pc": pkg_config("${pcfiledir}/../..", "lib"), "share/doc/niwhopera/BUILD": verdict(), **manuals(ask)}
+    made = {"lib/pkgconfig/lag.pc": pkg_config("${pcfiledir}/../..", "lib"), "share/doc/niwhopera/BUILD": of_build(), **manuals(ask)}
     for to, file in programs.items():
         name = os.path.basename(to)
         made[f"share/bash-completion/completions/{name}"] = completion.text(name, partial(printed, *processor.runs, file))

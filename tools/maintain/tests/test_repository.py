@@ -96,3 +96,30 @@ def test_a_missing_tool_ends_with_status_2(monkeypatch: pytest.MonkeyPatch, caps
     with pytest.raises(SystemExit) as ended:
         repository.run(fails)
     assert (ended.value.code, capsys.readouterr().err) == (2, "some-tool: no tape\n")
+
+
+@pytest.fixture
+def tested(tmp_path: Path, monkeypatch: pytest.MonkeyPatch) -> Path:
+    """A checkout with one commit, the file in which the test command leaves its verdict, and a program."""
+    monkeypatch.setattr(repository, "TOP", str(tmp_path))
+    monkeypatch.setattr(repository, "VERDICT", str(tmp_path / "out" / "verdict"))
+    (tmp_path / ".gitignore").write_text("out\n")
+    (tmp_path / "out").mkdir()
+    (tmp_path / "out" / "program").write_text("")
+    for words in ["init", "-q"], ["add", "."], ["-c", "user.name=a", "-c", "user.email=a@example", "commit", "-qm", "one"]:
+        subprocess.run(["git", *words], cwd=tmp_path, check=True)
+    return tmp_path
+
+
+@pytest.mark.parametrize(
+    ("line", "edited", "made"),
+    [("140 passed, 0 failed (106 edits refused)", False, True), ("139 passed, 1 failed", False, False), ("140 passed, 0 failed", True, False), (None, False, False)],
+)
+def test_what_the_gate_made_counts_where_it_passed_on_these_sources(tested: Path, line: str | None, edited: bool, made: bool) -> None:
+    if line:
+        (tested / "out" / "verdict").write_text(f"{repository.commit()}\n{line}\n")
+    if edited:
+        (tested / "new").write_text("")
+    assert repository.verdict() == (None if edited else line)
+    assert repository.is_made_by_gate(str(tested / "out" / "program")) == made
+    assert not repository.is_made_by_gate(str(tested / "out" / "none"))
