@@ -607,6 +607,7 @@ void tell_watchers_of(struct control *control, const struct link *link);
 uint64_t boottime(void);
 uint32_t first_marker_left(const struct inherited *inherited);
 bool was_away_briefly(const struct inherited *inherited);
+bool lacpdu_holds(uint64_t now, uint64_t then, bool short_timeout);
 void begin_resuming(struct process *process);
 unsigned resume(struct protocol *protocol);
 void release_others(struct protocol *protocol);

@@ -1,5 +1,5 @@
 /* A file that is read again: what the library can change is changed, and of the rest a line says that it needs a restart. */
-#include "lagd.h"
+#include "state.h"
 
 /* What cannot be changed without a restart, or NULL. */
 static const char *restart_for(const struct settings *now, const struct keys *keys, const struct settings *wanted) {
@@ -8,6 +8,22 @@ static const char *restart_for(const struct settings *now, const struct keys *ke
     for (uint16_t port = 1; port <= wanted->port_count; port++)
         if (wanted->ports[port - 1].name[0] && !has_aggregator(keys, port_of(wanted, port).key)) return "a key that no port had at the start";
     return NULL;
+}
+
+/* A port goes from the short timeout to the long one. Its partner, once told, may send its next LACPDU 30 s later (Slow_Periodic_Time, IEEE
+ * 802.1AX-2014, 6.4.4), and current_while has the rest of the short timeout: the last LACPDU comes again, as the partner will send it, and starts the
+ * timer with the long one. It is kept so for the next daemon. No frame came, so nothing is counted. An LACPDU that is too old for the short timeout
+ * does not come again, nor one whose actor may no longer be the partner. Answers whether the library took that. */
+static bool take_again(struct protocol *protocol, struct link *link) {
+    uint16_t port = link->settings.number;
+    uint8_t response[NIW_FRAME];
+    struct system_id actor;
+    uint64_t state;
+    if (!is_told(protocol->process, niw_receive_state(&protocol->own_system, port), "niw_receive_state", &state)) return false;
+    if (state != NIW_RECEIVE_CURRENT || !lacpdu_holds(boottime(), link->lacpdu_at, true) || !may_be_partner(link, link->lacpdu, &actor)) return true;
+    link->lacpdu[PARTNER_STATE] &= (uint8_t)~NIW_STATE_TIMEOUT;
+    struct niw_received received = niw_receive(&protocol->own_system, port, link->lacpdu, sizeof link->lacpdu, response, sizeof response);
+    return is_done(protocol->process, received.status, "niw_receive");
 }
 
 /* Gives a port what the library can change; answers whether anything differs. The aggregators keep the keys that they were made with: a port
@@ -27,7 +43,8 @@ static bool change_port(struct protocol *protocol, struct link *link, const stru
         now->aggregatable = change.aggregatable;
     }
     if ((next.active != now->active || next.short_timeout != now->short_timeout)
-        && is_done(protocol->process, niw_set_mode(&protocol->own_system, port, next.active, next.short_timeout), "niw_set_mode")) {
+        && is_done(protocol->process, niw_set_mode(&protocol->own_system, port, next.active, next.short_timeout), "niw_set_mode")
+        && (!now->short_timeout || next.short_timeout || take_again(protocol, link))) {
         now->active = next.active;
         now->short_timeout = next.short_timeout;
         changed = true;
@@ -86,9 +103,9 @@ static unsigned apply_settings(struct protocol *protocol, const struct settings 
     now->short_timeout = wanted->short_timeout;
     now->port_priority = wanted->port_priority;
     if (has_aggregator(&protocol->keys, wanted->key)) now->key = wanted->key;
+    change_policy(now, protocol->ports, wanted);
     for (uint16_t port = 1; port <= protocol->ports->slots; port++) changed += apply_port(protocol, port, wanted);
     limit_links(protocol, wanted->config.max_links);
-    change_policy(now, protocol->ports, wanted);
     if (wanted->select != now->select) ask_links(&protocol->changes, protocol->ports); /* for their speeds */
     for (const struct key *key = BUNDLE_KEYS; key->name; key++)
         if (key->change == AT_ONCE || (key->change == WITH_DATA && alike)) copy_setting(key, wanted, now);

@@ -17,7 +17,7 @@ static const struct inherited_link *inherited_of(const struct inherited *inherit
 
 /* Whether an LACPDU of then still holds. What is of later than now is of another clock; what is of before this boot wraps around, and still
  * counts right. */
-static bool holds(uint64_t now, uint64_t then, bool short_timeout) {
+bool lacpdu_holds(uint64_t now, uint64_t then, bool short_timeout) {
     return now - then < (uint64_t)(short_timeout ? SHORT_TIMEOUT : LONG_TIMEOUT);
 }
 
@@ -26,8 +26,8 @@ static bool goes_on(const struct protocol *protocol, const struct link *link) {
     const struct inherited_link *was = link->up && !link->held ? inherited_of(protocol->process->inherited, link) : NULL;
     struct system_id actor;
     return was && was->carried && (was->losses == link->kernel_losses || protocol->process->inherited->ahead != 0)
-        && holds(protocol->resumed_at, was->heard, link->settings.short_timeout)
-        && holds(protocol->resumed_at, was->spoken, (was->lacpdu[ACTOR_STATE] & NIW_STATE_TIMEOUT) != 0)
+        && lacpdu_holds(protocol->resumed_at, was->heard, link->settings.short_timeout)
+        && lacpdu_holds(protocol->resumed_at, was->spoken, (was->lacpdu[ACTOR_STATE] & NIW_STATE_TIMEOUT) != 0)
         && may_be_partner(link, was->lacpdu, &actor);
 }
 

@@ -7,8 +7,9 @@
 #include <net/ethernet.h>
 #include <sys/types.h>
 
-/* Where an LACPDU has the state of its actor (IEEE 802.1AX-2014, 6.4.2.3). */
+/* Where an LACPDU has the state of its actor, and the one that this knows of the port that takes it (IEEE 802.1AX-2014, 6.4.2.3). */
 #define ACTOR_STATE (ETH_HLEN + 18)
+#define PARTNER_STATE (ETH_HLEN + 38)
 
 /* Of a link. Times are milliseconds of CLOCK_BOOTTIME. */
 struct inherited_link {

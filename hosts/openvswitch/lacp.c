@@ -424,7 +424,7 @@ lacp_configure(struct lacp *lacp, const struct lacp_settings *s)
         lag_end_advance(&lacp->end, time_msec());
         HMAP_FOR_EACH (member, node, &lacp->members) {
             if (member->in) {
-                niw_set_mode(&lacp->end.system, member->port_id, s->active, s->fast);
+                lag_end_set_mode(&lacp->end, member->port_id, s->active, s->fast, &member->heard);
             }
         }
         refresh(lacp);

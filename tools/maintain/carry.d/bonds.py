@@ -100,12 +100,12 @@ class End(Daemon):
     sets_up = True  # whether the device is set up as it is started
 
     def __init__(self, programs: Programs, space: str, *, program: str = "", options: Sequence[str] = (), links: int = 2,
-                 before: Sequence[str] = (), names: Sequence[str] = (), files: Sequence[int] = ()) -> None:
+                 before: Sequence[str] = (), names: Sequence[str] = (), files: Sequence[int] = (), file: str | None = None) -> None:
         ours = space == OURS
         names = names or [f"{'a' if ours else 'b'}{number}" for number in range(links)]
         given = ["--carry", DEVICE, "--flight", str(FLIGHT), *options]
         super().__init__(program or programs.daemon, programs.folder, space, SYSTEM if ours else OTHER, "23" if ours else "5", *names,
-                         options=given, before=before, files=files)
+                         options=given, before=before, files=files, file=file)
         started.append(self)
         if not within(COMES_UP, lambda: inside(space, "ip", "link", "show", DEVICE).returncode == 0):
             raise Failed(f"there is a device {DEVICE}", self.printed())

@@ -1,4 +1,4 @@
-"""What is tried of members that come and go while a daemon runs, and of a daemon that is started again with fewer of them."""
+"""What is tried of members that come and go while a daemon runs, of a daemon that is started again with fewer of them, and of other timeouts."""
 
 from __future__ import annotations
 
@@ -9,10 +9,11 @@ import time
 from threading import Event, Thread
 from typing import Callable
 
-from bonds import COMES_UP, DEVICE, LATE, RATE, End, Outcome, Programs, cables, check_order, kernel_count, late, lay_direct, run_flows, wait_for_links
+from bonds import COMES_UP, DEVICE, FLIGHT, LATE, RATE, End, Outcome, Programs, cables, check_order, kernel_count, late, lay_direct, run_flows, wait_for_links
 from checking import Failed, check, within
-from repository import read_text
-from restarting import WAYS, Kept, Manager
+from daemon import SYSTEM
+from repository import read_text, write_text
+from restarting import WAYS, Kept, Manager, seen
 from spaces import OURS, THEIRS, inside, ip
 
 # How many links there are, and how many changes.
@@ -170,4 +171,32 @@ def none_left(programs: Programs) -> None:
         ours.ends("the daemon")
 
 
-PARTS: dict[str, Callable[[Programs], None]] = {it.__name__: it for it in (changes, fewer, none_left)}
+def timeouts(programs: Programs) -> None:
+    """The file of a daemon has other timeouts, long ones and short ones again: no frame is lost, and no port changes."""
+    for way, keys in {"plain": "", "fast": "fast=yes\n"}.items():
+        with cables(programs, ()):
+            path = f"{programs.folder}/timeouts.conf"
+
+            def give(timeout: str) -> None:
+                text = f"[Bundle]\nkey=23\nsystem=32768,{SYSTEM}\ncarry={DEVICE}\nflight={FLIGHT}\n{keys}timeout={timeout}\n[Port a0]\n[Port a1]\n"
+                write_text(path, text)
+
+            def change(timeout: str) -> None:
+                give(timeout)
+                ours.process.send_signal(signal.SIGHUP)
+
+            give("short")
+            ours, theirs = End(programs, OURS, file=path), End(programs, THEIRS, options=WAYS[way])
+            wait_for_links(ours, theirs)
+            run_flows(programs, 1)
+            before = seen(ours), seen(theirs)
+            outcome = run_flows(programs, 9, [(1, lambda: change("long")), (7, lambda: change("short"))])
+            check_order(outcome, f"{way}: long timeouts, and short ones", ours.text())
+            check_lost(outcome, outcome.lost_here, f"{way}: {outcome.sent - outcome.received} of {outcome.sent:,} frames are lost", ours.text(), theirs.text())
+            check(ours.printed().count("read again, 2 ports changed") == 2, f"{way}: the timeouts changed twice", ours.printed())
+            check((seen(ours), seen(theirs)) == before, f"{way}: no port and no bundle changed", ours.printed(), theirs.printed())
+            ours.ends("the daemon")
+            theirs.ends("the other one")
+
+
+PARTS: dict[str, Callable[[Programs], None]] = {it.__name__: it for it in (changes, fewer, none_left, timeouts)}

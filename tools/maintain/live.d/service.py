@@ -15,9 +15,9 @@ from typing import Callable, Mapping, Sequence
 
 from checking import Skipped, check, command, within
 from daemon import ENDS, KEY, OTHER, SYSTEM, Daemon, Part
-from daemons import COMES_UP, GOES_DOWN, NOBODY, both_up, pair_up
+from daemons import COMES_UP, GOES_DOWN, NOBODY, STRANGER, both_up, pair_up
 from repository import TOP, daemon_words, read_text, write_text
-from spaces import OURS, THEIRS, flap, inside, ip, make_pair
+from spaces import OURS, THEIRS, Wire, flap, inside, ip, make_pair
 
 UNIT = os.path.join(TOP, "lagd", "lagd@.service")
 # Where the journal listens, and a line that it gets.
@@ -35,6 +35,11 @@ min-links=1
 [Port a1]
 priority=100
 """
+LONG = FILE.replace("min-links=1", "min-links=1\ntimeout=long")
+# Short_Timeout_Time in seconds, and Long_Timeout_Time in ticks of 100 ms (IEEE 802.1AX-2014, 6.4.4).
+TIMEOUT, LONG_TICKS = 3, 900
+# How the payload of an LACPDU begins.
+LACPDU = b"\1\1"
 # How else the MAC address of the system may be written.
 NOTATIONS = "02-00-00-00-00-AA", "0200000000aa", "0200.0000.00aa"
 # A wrong file, and where what was expected is told.
@@ -415,6 +420,54 @@ def running_settings(part: Part) -> None:
     check(within(COMES_UP, lambda: again.distributes("a0")) and again.port("a1")["status"] == "the host holds it", "a port is held from the start", again.text())
 
 
+def running_timeouts(part: Part) -> None:
+    """SIGHUP makes timeouts long, and a peer that is told sends up to 30 s later: no port stops, no LACPDU is counted that did not come, and the next
+    daemon goes on. One that may no longer be the partner, or fell silent, is not waited for any longer than without a change."""
+    ours, theirs = filed(part)
+    wire = Wire(OURS, "a0")
+
+    def counted() -> int:
+        """How many LACPDUs the port has taken, when none is on its way."""
+        wire.arrivals(LACPDU)
+        count = ours.count("a0", "lacpdus_received")
+        return counted() if wire.arrivals(LACPDU) else count
+
+    def reload_behind(text: str) -> None:
+        """Reads the file right behind an LACPDU of the peer, so that none is on its way."""
+        wire.arrivals(LACPDU)
+        check(within(ENDS, lambda: bool(wire.arrivals(LACPDU))), "the peer sends an LACPDU", theirs.text())
+        ours.reload(text, "read again, 2 ports changed")
+
+    knows = lambda word: word == ("short" if "timeout" in theirs.port("b0")["partner"]["state"] else "long")
+    told = lambda: [ours.lines("a0"), ours.lines("a1"), theirs.lines("b0"), theirs.lines("b1")]
+    before, lines = counted(), told()
+    ours.reload(LONG, "read again, 2 ports changed")
+    time.sleep(2 * TIMEOUT)
+    check(told() == lines and knows("long"), "with long timeouts no port stops, for twice the short one", ours.printed(), theirs.printed())
+    came, count = len(wire.arrivals(LACPDU)), ours.count("a0", "lacpdus_received")
+    check(count == before + came and ours.count("a0", "expired") == 0, f"{came} LACPDUs came, and so many are counted", before, count, ours.text())
+    ours.reload(FILE, "read again, 2 ports changed")
+    check(within(ENDS, lambda: knows("short")), "the peer knows of the short ones again", theirs.text())
+    reload_behind(LONG)
+    ours.leave()
+    lines = told()[2:]
+    ours = Filed(part, ours.file)
+    check(within(ENDS, lambda: "2 of 2 links go on" in ours.printed()), "the next daemon goes on, before an LACPDU came", ours.printed())
+    time.sleep(2 * TIMEOUT)
+    check(told()[2:] == lines and ours.distributes("a0", "a1"), "and its peer has seen nothing", ours.printed(), theirs.printed())
+    ours.reload(FILE, "read again, 2 ports changed")
+    check(within(ENDS, lambda: knows("short")), "the peer knows of the short ones", theirs.text())
+    reload_behind(LONG.replace("partner=first", f"partner=32768,{STRANGER}"))
+    stops = lambda: not (ours.distributes("a0") or ours.distributes("a1"))
+    check(within(GOES_DOWN, stops), "one that may no longer be the partner is waited for by the short timeout", ours.text())
+    ours.reload(FILE, "read again, 2 ports changed")
+    both_up(ours, theirs, "as the partner it is one again")
+    theirs.kill()
+    ours.reload(LONG, "read again, 2 ports changed")
+    left = ours.port("a0")["current_while"]
+    check(0 < left <= LONG_TICKS, f"one that fell silent is waited for by the long timeout: {left} ticks", ours.text())
+
+
 def watchers(part: Part) -> None:
     """Changes as they happen: lines, and JSON; and counts in the form of Prometheus."""
     ours, theirs = pair_up(part)
@@ -616,6 +669,7 @@ PARTS: dict[str, Callable[[Part], None]] = {
     "the address of an interface": own_address,
     "a reload": reloads,
     "settings of a running bundle": running_settings,
+    "timeouts of a running bundle": running_timeouts,
     "settings that are shown": shows_settings,
     "ports that come and go": ports_change,
     "questions": questions,
