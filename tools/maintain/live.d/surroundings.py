@@ -256,6 +256,35 @@ def kept_settings(part: Part) -> None:
     check(has("a0", False), "another interface of the same number keeps what it had")
 
 
+def kept_masks(part: Part) -> None:
+    """What the queues had that a member gave up they have again: after SIGTERM, and where a daemon before was killed."""
+    if not shutil.which("ethtool"):
+        raise Skipped("no command ethtool (Debian: ethtool)")
+    ip(OURS, "link", "del", "a0")
+    make_pair(0, ("numrxqueues", "3", "numtxqueues", "3"))
+    wanted = {"rx-0/rps_cpus": "3", "rx-2/rps_cpus": "3", "tx-0/xps_cpus": "1", "tx-1/xps_cpus": "2"}
+    for name, mask in wanted.items():
+        inside(OURS, "sh", "-c", f"echo {mask} >/sys/class/net/a0/queues/{name}")
+
+    def masks() -> dict[str, str]:
+        return {name: inside(OURS, "cat", f"/sys/class/net/a0/queues/{name}").stdout.strip().lstrip("0,") for name in wanted}
+
+    def files() -> list[str]:
+        return [name for name in os.listdir(os.path.join(part.folder, "run")) if name.endswith((".member", ".queues"))]
+
+    check(masks() == wanted, "an interface whose queues have processors of their own", masks())
+    for options in [*PLAIN_AND_FAST, ["--queues", "all"]]:
+        for by in signal.SIGTERM, signal.SIGKILL:
+            first = part.ours("a0", options=["--carry", "lag0"])
+            one = lambda: first.ports() and not masks()["tx-1/xps_cpus"]
+            check(within(ENDS, one), "a member has one queue", first.printed())
+            first.leave(by)
+            second = part.ours("a0", options=["--carry", "lag0", *options])
+            check(within(ENDS, lambda: second.ports()), f"after {by.name} the next daemon, {' '.join(options) or 'plain'}", second.printed())
+            second.ends("it")
+            check(masks() == wanted and not files(), "the queues have again what they had", masks(), files())
+
+
 def long_masks(part: Part) -> None:
     """The mask of RPS of a machine with many processors is put back whole."""
     mask = ",".join(["ffffffff"] * 64)
@@ -349,6 +378,7 @@ PARTS = {
     "daemons that do not answer": silent_daemons,
     "bundles of one name": one_name,
     "what members had": kept_settings,
+    "what queues of members had": kept_masks,
     "a long mask of processors": long_masks,
     "a second cut": second_cut,
     "a queue of data": queued_data,
