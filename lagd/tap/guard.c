@@ -12,6 +12,7 @@
 
 /* Why an interface is no member such as others. */
 #define DISORDER "its queueing discipline is neither noqueue, bfifo nor pfifo"
+#define SPREADS "RPS spreads what it receives over processors, and markers may be answered before data"
 #define STACKED "it stands on another interface, whose queues are not seen"
 
 /* A line about what troubles the data of a member, and why, where there is more to tell. */
@@ -517,9 +518,12 @@ void open_guard(struct tap_plane *tap, struct link *link, struct guard *guard) {
     struct kept *before = &guard->before;
     *guard = (struct guard){.opened = -1, .chooser = -1, .queues = 1, .before.joins = read_joins(link->index).wanted};
     if (queues_of(link->index, &before->queues) <= 1) before->queues = (struct ethtool_channels){0};
-    if (!tap->plane->passing->steers || !read_steering(link->index, before->steered)) before->steered[0] = 0;
+    if (!read_steering(link->index, before->steered)) before->steered[0] = 0;
+    if (!tap->plane->passing->steers && is_none(before->steered)) before->steered[0] = 0;
+    bool gathers = before->steered[0] && !tap->plane->passing->steers; /* where the kernel passes data on, it does so only then */
     keep_settings(tap->process, link, before);
     bool has_queues = tap->plane->queueing->set(tap, link, guard, false);
+    if (gathers && !guard->spread && !steer(link)) warn_of(tap->process, link, SPREADS, NULL);
     run_programs(tap, link, guard);
     if ((read_joins(link->index).on & ~joins_allowed(tap->settings, link, guard)) != 0)
         warn_of(tap->process, link, "GRO or LRO stays on, and markers may overtake data", NULL);
