@@ -15,10 +15,13 @@ uint64_t namespace_cookie(void) {
     return getsockopt(asker, SOL_SOCKET, SO_NETNS_COOKIE, &cookie, &length) == 0 ? cookie : 0;
 }
 
-/* Opens a file of a folder, for who owns it alone, and follows no link; or answers NULL, and errno tells why not. */
+/* Opens a regular file of a folder, for who owns it alone; or answers NULL, and errno tells why not. It follows no link, and waits for nobody at the
+ * other end of a FIFO. */
 FILE *open_in(int folder, const char *name, int flags, const char *mode) {
-    CLOSED_FILE int opened = openat(folder, name, flags | O_NOFOLLOW | O_CLOEXEC, 0600);
-    FILE *file = opened < 0 ? NULL : fdopen(opened, mode);
+    struct stat found = {0};
+    CLOSED_FILE int opened = openat(folder, name, flags | O_NOFOLLOW | O_NONBLOCK | O_CLOEXEC, 0600);
+    if (opened >= 0 && fstat(opened, &found) == 0 && !S_ISREG(found.st_mode)) errno = EINVAL;
+    FILE *file = S_ISREG(found.st_mode) ? fdopen(opened, mode) : NULL;
     if (file) (void)kept_open(&opened);
     return file;
 }

@@ -149,7 +149,7 @@ void keep_port(struct state *own, uint16_t number, uint16_t port) {
 static int remove_file(int folder, const char *name, bool lasts) {
     int fault = unlinkat(folder, name, 0) < 0 ? last_fault() : 0;
     if (fault == -ENOENT) return 0;
-    CLOSED_FILE int emptied = fault < 0 ? openat(folder, name, O_WRONLY | O_TRUNC | O_NOFOLLOW | O_CLOEXEC) : -1;
+    CLOSED_FILE int emptied = fault < 0 ? openat(folder, name, O_WRONLY | O_TRUNC | O_NOFOLLOW | O_NONBLOCK | O_CLOEXEC) : -1;
     if (fault < 0 && emptied < 0) return last_fault();
     return lasts && fsync(emptied < 0 ? folder : emptied) < 0 ? last_fault() : 0;
 }
@@ -433,10 +433,9 @@ static const char *take_over_state(struct state *own, FILE *file, bool is_copy) 
 
 /* Opens the file, if it is one of root or of this user, who alone may write it. */
 static FILE *open_state(int folder, const char *name) {
-    struct stat found;
-    FILE *file = open_in(folder, name, O_RDONLY | O_NONBLOCK, "r");
+    FILE *file = open_in(folder, name, O_RDONLY, "r");
     if (!file) return NULL;
-    if (fstat(fileno(file), &found) == 0 && S_ISREG(found.st_mode) && !fault_of_owner(fileno(file))) return file;
+    if (!fault_of_owner(fileno(file))) return file;
     fclose(file);
     return NULL;
 }
@@ -450,7 +449,7 @@ static void open_copy_folder(struct state *own) {
     own->copy_folder = try_folder(folder, &fault);
     if (own->copy_folder >= 0) {
         snprintf(lock, sizeof lock, "%s.lock", own->copy_name);
-        own->lock = openat(own->copy_folder, lock, O_RDONLY | O_NOFOLLOW | O_CLOEXEC);
+        own->lock = openat(own->copy_folder, lock, O_RDONLY | O_NOFOLLOW | O_NONBLOCK | O_CLOEXEC);
         if (own->lock < 0 && errno == ENOENT) own->lock = openat(own->copy_folder, lock, O_RDONLY | O_CREAT | O_NOFOLLOW | O_CLOEXEC, 0600);
         own->has_copy = own->lock >= 0 && flock(own->lock, LOCK_EX | LOCK_NB) == 0;
     }

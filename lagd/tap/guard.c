@@ -12,6 +12,7 @@
 
 /* Why an interface is no member such as others. */
 #define DISORDER "its queueing discipline is neither noqueue, bfifo nor pfifo"
+#define SPREADS "RPS spreads what it receives over processors, and markers may be answered before data"
 #define STACKED "it stands on another interface, whose queues are not seen"
 
 /* A line about what troubles the data of a member, and why, where there is more to tell. */
@@ -188,19 +189,35 @@ static bool change_processors(int folder, const struct link *link, FILE *next) {
     return done;
 }
 
-/* Writes the file anew, from what is known, which is closed, and what the queues have `now`, before it is changed; answers whether it did. */
-static bool rewrite_known(int folder, const struct link *link, FILE *file, bool now) {
+/* Keeps what the queues have that an interface loses where it gets one: the kernel forgets it with them. Answers whether all was done. */
+static bool keep_lost(int folder, const struct link *link, FILE *next) {
+    char name[NAME_OCTETS], now[PROCESSORS_ROOM];
+    bool done = true;
+    for (enum setting setting = 0; setting < SETTINGS; setting++) {
+        unsigned count = count_entries(link->index, setting == TAKEN_BY ? "rx-" : "tx-");
+        for (unsigned queue = 1; queue < count; queue++) {
+            name_setting(setting, queue, name);
+            if (!read_line(link->index, name, now) || is_none(now)) continue;
+            done = (is_known(folder, link, name) || fprintf(next, "%s %s\n", name, now) > 0) && done;
+        }
+    }
+    return done;
+}
+
+/* Writes the file anew, from what is known, which is closed, and what `keep` adds of what the queues have now, before it is changed; answers whether
+ * it did. */
+static bool rewrite_known(int folder, const struct link *link, FILE *file, bool (*keep)(int folder, const struct link *link, FILE *next)) {
     FILE *next = begin_kept(folder, link, "queues");
     bool done = next && (!file || copy_known(file, next));
     if (file) fclose(file);
-    return next && end_kept(folder, link, "queues", next, (!now || change_processors(folder, link, next)) && done);
+    return next && end_kept(folder, link, "queues", next, (!keep || keep(folder, link, next)) && done);
 }
 
 /* An interface has another MAC address from now on: what its queues had stays known by that one. */
 void move_former(struct process *process, struct link *link, const uint8_t *mac) {
     FILE *file = read_kept(process->folder, link, "queues");
     memcpy(link->mac, mac, sizeof link->mac);
-    if (file && !rewrite_known(process->folder, link, file, false))
+    if (file && !rewrite_known(process->folder, link, file, NULL))
         warn_of(process, link, "nobody knows any more what its queues had", strerror(errno));
 }
 
@@ -215,7 +232,7 @@ static const char *try_spreading(int folder, const struct link *link, const stru
     if (link->stacked) return STACKED;
     if (count == 0) return "/sys does not show its queues";
     if (!guard->in_order) return DISORDER;
-    if (!rewrite_known(folder, link, read_kept(folder, link, "queues"), true)) return "what its queues have cannot be kept";
+    if (!rewrite_known(folder, link, read_kept(folder, link, "queues"), change_processors)) return "what its queues have cannot be kept";
     if (!change_processors(folder, link, NULL)) return "RPS or XPS of its queues cannot be set";
     return NULL;
 }
@@ -362,13 +379,16 @@ static unsigned queues_of(int index, struct ethtool_channels *channels) {
     return channels->combined_count + (sends > receives ? sends : receives);
 }
 
-static void give_one_queue(int index) {
+/* Gives an interface one queue for each direction. What the others have has to be known, so that they get it back. */
+static void give_one_queue(struct process *process, const struct link *link) {
     struct ethtool_channels wanted;
-    if (queues_of(index, &wanted) <= 1) return;
+    if (queues_of(link->index, &wanted) <= 1) return;
+    if (!rewrite_known(process->folder, link, read_kept(process->folder, link, "queues"), keep_lost))
+        warn_of(process, link, "nobody knows what its queues had", strerror(errno));
     wanted.cmd = ETHTOOL_SCHANNELS;
     wanted.rx_count = wanted.tx_count = wanted.combined_count == 0;
     wanted.combined_count = wanted.combined_count > 0;
-    (void)ask_driver(index, &wanted);
+    (void)ask_driver(link->index, &wanted);
 }
 
 static bool has_channels(int index, const struct ethtool_channels *wanted) {
@@ -449,7 +469,7 @@ static unsigned joins_allowed(const struct settings *settings, const struct link
 
 bool join_queues(struct tap_plane *tap, struct link *link, struct guard *guard, bool again) {
     look_at_discipline(tap, link, guard);
-    if (!again) give_one_queue(link->index);
+    if (!again) give_one_queue(tap->process, link);
     return true;
 }
 
@@ -466,7 +486,7 @@ bool keep_queues(struct tap_plane *tap, struct link *link, struct guard *guard, 
     spread(tap, link, guard);
     if (guard->spread && has_channels(link->index, before)) *before = (struct ethtool_channels){0};
     write_settings(tap->process, link, &guard->before);
-    if (!guard->spread) give_one_queue(link->index);
+    if (!guard->spread) give_one_queue(tap->process, link);
     return true;
 }
 
@@ -498,9 +518,12 @@ void open_guard(struct tap_plane *tap, struct link *link, struct guard *guard) {
     struct kept *before = &guard->before;
     *guard = (struct guard){.opened = -1, .chooser = -1, .queues = 1, .before.joins = read_joins(link->index).wanted};
     if (queues_of(link->index, &before->queues) <= 1) before->queues = (struct ethtool_channels){0};
-    if (!tap->plane->passing->steers || !read_steering(link->index, before->steered)) before->steered[0] = 0;
+    if (!read_steering(link->index, before->steered)) before->steered[0] = 0;
+    if (!tap->plane->passing->steers && is_none(before->steered)) before->steered[0] = 0;
+    bool gathers = before->steered[0] && !tap->plane->passing->steers; /* where the kernel passes data on, it does so only then */
     keep_settings(tap->process, link, before);
     bool has_queues = tap->plane->queueing->set(tap, link, guard, false);
+    if (gathers && !guard->spread && !steer(link)) warn_of(tap->process, link, SPREADS, NULL);
     run_programs(tap, link, guard);
     if ((read_joins(link->index).on & ~joins_allowed(tap->settings, link, guard)) != 0)
         warn_of(tap->process, link, "GRO or LRO stays on, and markers may overtake data", NULL);

@@ -2,6 +2,7 @@
 
 from __future__ import annotations
 
+import contextlib
 import os
 import re
 import signal
@@ -307,6 +308,27 @@ def folders(part: Part) -> None:
     is_refused("through a symbolic link")
 
 
+def fifos(part: Part) -> None:
+    """Of each file of the folder there is a FIFO at whose other end nobody is: the daemon waits for nobody, at its start and later."""
+    made = os.path.join(part.folder, "run")
+    os.makedirs(made, exist_ok=True)
+    space, index = os.stat("/run/netns/" + OURS).st_ino, inside(OURS, "cat", "/sys/class/net/a0/ifindex").stdout.strip()
+    for name in f"{space}.{index}.member", f"{space}.{index}.member.new", f"{space}.{index}.queues", f"{space}.a0.state.new":
+        path = os.path.join(made, name)
+        os.mkfifo(path)
+        ours = part.ours("a0", options=["--carry", "lag0"])
+        answers = within(ENDS, lambda: ours.port("a0")["link"] == "up")
+        check(answers, f"a daemon starts beside a FIFO {name[len(str(space)) + 1:]}", ours.printed())
+        if answers:
+            before = ours.count("a0", "lacpdus_sent")
+            check(within(3, lambda: ours.count("a0", "lacpdus_sent") > before), "and goes on")
+            ours.ends("it")
+        else:
+            ours.kill()
+        with contextlib.suppress(FileNotFoundError):
+            os.unlink(path)
+
+
 def false_socket(part: Part) -> None:
     """Somebody else's socket says escape sequences."""
     folder = os.path.join(part.folder, "false")
@@ -371,6 +393,7 @@ PARTS = {
     "the mode of the status socket": modes,
     "busy askers": busy_askers,
     "folders of others": folders,
+    "FIFOs in the folder": fifos,
     "a false daemon": false_socket,
     "two folders": two_folders,
     "alternative names": other_names,

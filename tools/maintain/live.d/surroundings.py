@@ -256,6 +256,56 @@ def kept_settings(part: Part) -> None:
     check(has("a0", False), "another interface of the same number keeps what it had")
 
 
+def kept_masks(part: Part) -> None:
+    """What the queues had that a member gave up they have again: after SIGTERM, and where a daemon before was killed."""
+    if not shutil.which("ethtool"):
+        raise Skipped("no command ethtool (Debian: ethtool)")
+    ip(OURS, "link", "del", "a0")
+    make_pair(0, ("numrxqueues", "3", "numtxqueues", "3"))
+    wanted = {"rx-0/rps_cpus": "3", "rx-2/rps_cpus": "3", "tx-0/xps_cpus": "1", "tx-1/xps_cpus": "2"}
+    for name, mask in wanted.items():
+        inside(OURS, "sh", "-c", f"echo {mask} >/sys/class/net/a0/queues/{name}")
+
+    def masks() -> dict[str, str]:
+        return {name: inside(OURS, "cat", f"/sys/class/net/a0/queues/{name}").stdout.strip().lstrip("0,") for name in wanted}
+
+    def files() -> list[str]:
+        return [name for name in os.listdir(os.path.join(part.folder, "run")) if name.endswith((".member", ".queues"))]
+
+    check(masks() == wanted, "an interface whose queues have processors of their own", masks())
+    for options in [*PLAIN_AND_FAST, ["--queues", "all"]]:
+        for by in signal.SIGTERM, signal.SIGKILL:
+            first = part.ours("a0", options=["--carry", "lag0"])
+            one = lambda: first.ports() and not masks()["tx-1/xps_cpus"]
+            check(within(ENDS, one), "a member has one queue", first.printed())
+            first.leave(by)
+            second = part.ours("a0", options=["--carry", "lag0", *options])
+            check(within(ENDS, lambda: second.ports()), f"after {by.name} the next daemon, {' '.join(options) or 'plain'}", second.printed())
+            second.ends("it")
+            check(masks() == wanted and not files(), "the queues have again what they had", masks(), files())
+
+
+def one_processor(part: Part) -> None:
+    """RPS spreads what a member receives over processors: a marker could come before data that was sent before it. One takes all, until the end; where
+    /sys cannot be written, as under the unit, a line says so."""
+    place = "/sys/class/net/a0/queues/rx-0/rps_cpus"
+    mask = lambda: inside(OURS, "cat", place).stdout.strip().lstrip("0,")
+    for options in [*PLAIN_AND_FAST, ["--offload"]]:
+        way = " ".join(options) or "plain"
+        for by in signal.SIGTERM, signal.SIGKILL:
+            inside(OURS, "sh", "-c", f"echo 3 >{place}")
+            ours = part.ours("a0", options=["--carry", "lag0", *options])
+            check(within(ENDS, lambda: ours.ports() and mask() in ("1", "2")), f"{way}: one processor takes what a member receives", mask(), ours.printed())
+            ours.leave(by)
+            if by == signal.SIGKILL:
+                part.alone(options=["--carry", "lag0"]).ends("the next daemon")
+            check(mask() == "3", f"{way}: behind it, after {by.name}, those that did before", mask())
+    line = "a0: RPS spreads what it receives over processors, and markers may be answered before data"
+    ours = part.ours("a0", options=["--carry", "lag0"], before=["unshare", "-m", "sh", "-c", 'mount -o remount,bind,ro /sys; exec "$@"', "sh"])
+    check(within(ENDS, lambda: line in ours.printed()), "where it cannot be set, a line says so", ours.printed())
+    check(mask() == "3", "and it stays", mask())
+
+
 def long_masks(part: Part) -> None:
     """The mask of RPS of a machine with many processors is put back whole."""
     mask = ",".join(["ffffffff"] * 64)
@@ -349,6 +399,8 @@ PARTS = {
     "daemons that do not answer": silent_daemons,
     "bundles of one name": one_name,
     "what members had": kept_settings,
+    "what queues of members had": kept_masks,
+    "one processor for what a member receives": one_processor,
     "a long mask of processors": long_masks,
     "a second cut": second_cut,
     "a queue of data": queued_data,
