@@ -534,6 +534,7 @@ void look_at_bundle(struct protocol *protocol);
 void end_bundle(struct protocol *protocol);
 
 /* reload.c */
+bool change_port(struct protocol *protocol, struct link *link, const struct settings *wanted);
 void reload(struct protocol *protocol, const char *file);
 
 /* kept.c */

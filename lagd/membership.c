@@ -300,14 +300,17 @@ static const char *add_by_words(struct protocol *protocol, char *text, uint16_t 
     const char *fault = known ? NULL : try_interface(protocol, settings->name);
     if (known && !known->leaving) return "it is a port already";
     if (fault) return fault;
-    if (!known && settings->key != AS_BUNDLE && !has_aggregator(&protocol->keys, (uint16_t)settings->key))
+    if (settings->key != AS_BUNDLE && !has_aggregator(&protocol->keys, (uint16_t)settings->key))
         return "no port had this key at the start: a restart of this bundle makes aggregators of it";
     if (!link) return "there is no room for one more port: a restart of this bundle makes it";
     *port = link->settings.number;
-    if (known)
+    if (known) {
         stay_port(protocol, known);
-    else
+        protocol->settings->ports[*port - 1] = *settings;
+        if (change_port(protocol, known, protocol->settings)) settle_calls(protocol);
+    } else {
         join_port(protocol, link, settings);
+    }
     return NULL;
 }
 

@@ -28,7 +28,7 @@ static bool take_again(struct protocol *protocol, struct link *link) {
 
 /* Gives a port what the library can change; answers whether anything differs. The aggregators keep the keys that they were made with: a port
  * that is given another key keeps the one that it has. */
-static bool change_port(struct protocol *protocol, struct link *link, const struct settings *wanted) {
+bool change_port(struct protocol *protocol, struct link *link, const struct settings *wanted) {
     uint16_t port = link->settings.number;
     struct niw_port *now = &link->settings, next = port_of(wanted, port);
     struct niw_change change = {.priority = next.priority, .aggregatable = next.aggregatable};
