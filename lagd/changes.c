@@ -241,10 +241,10 @@ void ask_links(struct changes *own, const struct ports *ports) {
 
 /* Looks at carriers, at each tick and where one is suspected: the kernel counts at once that one came or went, but tells of those that go
  * once a second, over all interfaces. It is asked then, and answers at once. */
-void watch_carriers(struct protocol *protocol, bool all) {
+void watch_carriers(struct protocol *protocol, bool tick) {
     struct changes *own = &protocol->changes;
     bool any = false;
-    if (!all && !own->suspected) return;
+    if (!tick && !own->suspected) return;
     own->suspected = false;
     EACH_LINK(link, protocol->ports) {
         bool changed = link->socket >= 0 && see_new_carrier(link);

@@ -446,7 +446,7 @@ void watch_changes(struct protocol *protocol);
 void lose_member(struct protocol *protocol, struct link *link);
 void ask_links(struct changes *own, const struct ports *ports);
 void ask_now(struct protocol *protocol);
-void watch_carriers(struct protocol *protocol, bool all);
+void watch_carriers(struct protocol *protocol, bool tick);
 
 /* keys.c */
 void choose_slots(struct protocol *protocol);

@@ -36,22 +36,20 @@ static size_t slot_octets(size_t room) {
 }
 
 /* Takes all memory. Its pages are in use once they are written. */
-void start_held(struct tap_plane *tap) {
-    struct held *own = &tap->held;
+void start_held(struct process *process, struct held *own) {
     own->small = (struct pool){.octets = slot_octets(SMALL_ROOM), .most = MOST_WAIT};
     own->large = (struct pool){.octets = slot_octets(packet_room()), .most = MOST_LARGE};
     size_t before = own->small.octets * MOST_WAIT, behind = own->large.octets * MOST_LARGE;
     own->small.slots = mmap(NULL, before + behind, PROT_READ | PROT_WRITE, MAP_PRIVATE | MAP_ANONYMOUS | MAP_NORESERVE, -1, 0);
     if (own->small.slots == MAP_FAILED) stop(REFUSED, "no room for held frames", strerror(errno));
     own->large.slots = own->small.slots + before;
-    if (!is_done(tap->process, niw_queue_new(&own->queues, CONVERSATIONS, MOST_WAIT, MOST_OF_ONE), "niw_queue_new")) return;
+    if (!is_done(process, niw_queue_new(&own->queues, CONVERSATIONS, MOST_WAIT, MOST_OF_ONE), "niw_queue_new")) return;
     own->octets = before + behind;
 }
 
 /* The daemon ends: once the library has no number of a slot, the memory goes back. */
-void end_held(struct tap_plane *tap) {
-    struct held *own = &tap->held;
-    if (own->octets == 0 || !is_done(tap->process, niw_queue_free(&own->queues), "niw_queue_free")) return;
+void end_held(struct process *process, struct held *own) {
+    if (own->octets == 0 || !is_done(process, niw_queue_free(&own->queues), "niw_queue_free")) return;
     (void)munmap(own->small.slots, own->octets);
     own->octets = 0;
 }

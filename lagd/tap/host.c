@@ -163,7 +163,7 @@ void open_tap_plane(struct plane *plane) {
     own->packets = make_rooms();
     own->segments = make_rooms();
     own->rooms = make_rooms();
-    start_held(tap);
+    start_held(tap->process, &tap->held);
     tap->rooms = make_rooms();
     tap->dropper = load_program(tap->settings, "dropper", NULL);
     CALL(plane->queueing->start, tap);
@@ -180,7 +180,7 @@ void end_tap_plane(struct plane *plane) {
     set_carrier(tap->device, false);
     remove_all_members(plane, tap->ports);
     CALL(plane->passing->end, tap);
-    end_held(tap);
+    end_held(tap->process, &tap->held);
 }
 
 void remove_all_members(struct plane *plane, const struct ports *ports) {

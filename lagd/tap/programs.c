@@ -13,7 +13,7 @@ const char *program_fault(void) {
     return reason;
 }
 
-static void keep_line(const char *line) {
+static void keep_reason(const char *line) {
     snprintf(reason, sizeof reason, "%.*s", (int)strcspn(line, "\n"), line);
 }
 
@@ -22,7 +22,7 @@ static int keep_first(enum libbpf_print_level level, const char *format, va_list
     char text[2 * REASON_ROOM];
     if (level != LIBBPF_WARN || reason[0]) return 0;
     vsnprintf(text, sizeof text, format, values);
-    keep_line(text);
+    keep_reason(text);
     return 0;
 }
 
@@ -31,7 +31,7 @@ static void keep_last(char *log) {
     char *rest = log;
     for (char *line; (line = strsep(&rest, "\n"));)
         if (line[0] && strncmp(line, "processed ", 10) != 0 && strncmp(line, "verification time", 17) != 0 && strncmp(line, "stack depth", 11) != 0)
-            keep_line(line);
+            keep_reason(line);
 }
 
 /* Has the programs use a table of the daemon, or none. */
@@ -68,7 +68,7 @@ int load_program(const struct settings *settings, const char *name, const struct
     (void)libbpf_set_print(keep_first);
     int loaded = load_with_log(settings, name, maps, log);
     if (loaded < 0) keep_last(log);
-    if (loaded < 0 && !reason[0]) keep_line(strerror(-loaded));
+    if (loaded < 0 && !reason[0]) keep_reason(strerror(-loaded));
     free(log);
     return loaded;
 }

@@ -292,8 +292,8 @@ void close_fast_receiver(struct fast_programs *own, const struct link *link);
 int fast_member_of(const struct plane *plane, uint16_t number);
 
 /* held.c */
-void start_held(struct tap_plane *tap);
-void end_held(struct tap_plane *tap);
+void start_held(struct process *process, struct held *own);
+void end_held(struct process *process, struct held *own);
 bool count_held(struct tap_plane *tap, uint16_t number, uint64_t *waiting) MUST_USE;
 bool none_held(struct tap_plane *tap, uint16_t number);
 bool count_all_held(struct tap_plane *tap, uint64_t *waiting) MUST_USE;

@@ -157,8 +157,9 @@ static void fuzz_state(const uint8_t *octets, size_t length) {
     lagd->inherited = (struct inherited){0};
     recall_state(&lagd->state);
     (void)unlink(name);
-    begin_resuming(&lagd->process, &lagd->plane);
+    begin_resuming(&lagd->process);
     resume_data(&lagd->protocol, resume(&lagd->protocol));
+    release_others(&lagd->protocol);
 }
 
 /* The kernel gets no question. */

@@ -117,13 +117,13 @@ static void check_large(void) {
 
 int main(void) {
     join_parts(lagd);
-    start_held(&lagd->tap);
+    start_held(&lagd->process, &lagd->tap.held);
     check_order();
     for (unsigned times = 0; times < 2; times++) {
         check_refused(false);
         check_refused(true);
         check_large();
     }
-    end_held(&lagd->tap);
+    end_held(&lagd->process, &lagd->tap.held);
     return tell_checks();
 }

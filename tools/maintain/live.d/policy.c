@@ -269,7 +269,7 @@ static void accept_any(struct tap_plane *tap, struct link *link, const struct ar
 }
 
 /* and what is not here: the settings of the device. */
-NOTHING(count_losses, struct tap_plane *tap)
+NOTHING(count_full_sockets, struct member *members, uint16_t count)
 NOTHING(pass_announcing_tick, struct carry *carry)
 NOTHING(pass_tap_tick, struct device *device)
 NOTHING(announce_soon, struct announce *own)
@@ -320,7 +320,7 @@ static void make_end(struct end *end, uint8_t which) {
         end->wires[i + 1].delay = 20;
     }
     CHECK(niw_new(&lagd->protocol.own_system, &lagd->settings.config, keys, KEYS, ports, PORTS).status == NIW_OK);
-    start_held(&lagd->tap);
+    start_held(&lagd->process, &lagd->tap.held);
     end->next_tick = now + below(TICK);
 }
 
