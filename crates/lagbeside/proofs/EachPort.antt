@@ -56,12 +56,6 @@ zip_kept R P Q k xs ys h a = absurd h
 
 -- a port that is SELECTED gets no other value of Selected
 
-chosen_not_eligible : (v : PortView) → is_selected v.choice ≡ true → is_eligible v ≡ false
-chosen_not_eligible v h = grind (arith, nat_tests)
-
-none_for : (aggs : AggregatorsValue) (l : List SystemPort) (s : SystemPort) → is_selected s.port.choice ≡ true → choice_for aggs l s ≡ None
-none_for aggs l s h = grind (arith, nat_tests, chosen_not_eligible)
-
 -- a port whose link is down gets none
 down_none : (aggs : AggregatorsValue) (l : List SystemPort) (s : SystemPort) → s.port.enabled ≡ false → choice_for aggs l s ≡ None
 down_none aggs l s h = grind (arith, nat_tests)

@@ -32,9 +32,6 @@ rests_still rows (suc n) p q r run =
 
 -- no row of the receive machine is enabled while there are ticks left
 
-not_run_out : (b : Bool) (most n : ℕ) → (b && (n == 0)) ≡ true → 1 ≤ most → most ≤ n → ⊥
-not_run_out b most n h l m = grind (arith, nat_tests)
-
 pub receive_known : (v : Lacpdu) (most k : ℕ) → EnabledKeep (Known v most k) receive_rows
 receive_known v most k = grind (arith, nat_tests)
 

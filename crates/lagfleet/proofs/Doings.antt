@@ -56,10 +56,6 @@ offered_there : (there known : Bool) (gives : ℕ → ℕ → ℕ → Type 0) (a
     (new : SystemState) → OffersIf there known gives agg conv old (Ok port) new → known ≡ true
 offered_there there known gives agg conv old port new h = grind (arith, nat_tests)
 
-offer_refused : (there known : Bool) (gives : ℕ → ℕ → ℕ → Type 0) (agg : AggId) (conv : ℕ) (old : SystemState) (fault : SystemFault)
-    (new : SystemState) → OffersIf there known gives agg conv old (Err fault) new → new ≡ old
-offer_refused there known gives agg conv old fault new h = grind (arith, nat_tests)
-
 offer_lawful : (gives : ℕ → ℕ → ℕ → Type 0) (agg : AggId) (conv : ℕ) (answer : Result ℕ SystemFault) (old new : SystemState)
     → OffersConversation gives agg conv old answer new
     → ((octets : List ℕ) → MayBeOffered octets → number_of_conversation old octets ≡ conv
@@ -104,17 +100,6 @@ pub told_received : (n : ℕ) (octets : List ℕ) (seen : ModelCall) (o : Option
 told_received n octets seen o pdu x e h = grind (arith, nat_tests, pdu_read, drop, control_message)
 
 -- ---- what is held on a port is forced
-
-freed_held : (port : ℕ) (a : Assignment) → is_held_on port a ≡ true → model_conversation (after_forcing port a) ≡ Free
-freed_held port a h = grind (arith, nat_tests)
-
-not_held : (port : ℕ) (a : Assignment) → is_held_on port a ≡ false → after_forcing port a ≡ a
-not_held port a h = grind (arith, nat_tests)
-
--- a conversation that is there is one of the table
-in_table : (s : SystemState) (g k : ℕ) → HasConversations s → has_aggregator s (aggregator_numbered g) ≡ true
-    → nat_lt k (conversation_count s) ≡ true → IsConversation s.table g k
-in_table s g k c a b = grind (arith, nat_tests)
 
 -- what the law sees of the system
 pub held_freed : (port : ℕ) (old new : SystemState) → HasConversations old → FreesHeld port old new

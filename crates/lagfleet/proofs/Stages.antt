@@ -234,15 +234,6 @@ asks_nothing law = false
 fits_any : (law : ModelCall) (ends : ℕ → Option ℕ) (w : Scene) → is_restart law ≡ false → asks_nothing law ≡ true → Fits law 0 ends w
 fits_any law ends w r h = grind arith
 
-receive_force : (p g k : ℕ) (a : Option ControlMessage) → Force g k ≡ Receive p a → ⊥
-receive_force p g k a e = cc
-
-link_force : (p g k : ℕ) (up : Bool) → Force g k ≡ Set_link p up → ⊥
-link_force p g k up e = cc
-
-force_parts : (g k h j : ℕ) → Force g k ≡ Force h j → (g ≡ h) × (k ≡ j)
-force_parts g k h j e = (cc, cc)
-
 fits_forced : (g k : ℕ) (ends : ℕ → Option ℕ) (w : Scene) → Fits (Force g k) 0 ends (record w { forced = at_two w.forced g k true })
 fits_forced g k ends w = grind arith
 

@@ -7,11 +7,6 @@ use Rattle.lagnetwork.proofs.Common.{without_first}
 use native.Mathlib.Omega.{arith}
 use Rattle.lagmodel.proofs.Subsequence.{both_grow, grows}
 
--- subsequences
-one_more : (xs ys : List ℕ) (y : ℕ) → IsSubsequence xs ys → IsSubsequence xs (y ∷ ys)
-one_more [] ys y h = tt
-one_more (x ∷ xs) ys y h = inr h
-
 part_of : (xs ys zs : List ℕ) → IsSubsequence xs ys → IsSubsequence ys zs → IsSubsequence xs zs
 part_of [] ys zs h k = tt
 part_of (x ∷ xs) [] zs h k = absurd h

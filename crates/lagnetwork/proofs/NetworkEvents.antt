@@ -18,12 +18,6 @@ use Rattle.lagnetwork.proofs.Networks.{Last, freed_part, apart_first, Fine, Fine
 use Rattle.lagnetwork.proofs.Networks.{counted_part, forced_part, there, elsewhere, is_or_not}
 use Rattle.lagmodel.proofs.Events.{quiet}
 
-quiet_not : (call other : ModelCall) → quiet call ≡ true → quiet other ≡ false → call ≡ other → ⊥
-quiet_not call other h n e = true≢false (sym h ∙ ap quiet e ∙ n)
-
-quiet-running : (call : ModelCall) → quiet call ≡ true → is_restart call ≡ false
-quiet-running call h = grind arith
-
 amid_quiet : (x : NetworkSetup) (call : ModelCall) (stamp s : ℕ) (towards : ℕ → ℕ → List Message) (whole : ℕ → ℕ → Bool) (forced : ℕ → ℕ → Bool)
     → quiet call ≡ true → Amid x call stamp s towards whole forced
 amid_quiet x call stamp s towards whole forced h = grind arith
@@ -42,9 +36,6 @@ link_parts p q a b e = (cc, cc)
 
 link_force : (p g k : ℕ) (a : Bool) → Set_link p a ≡ Force g k → ⊥
 link_force p g k a e = cc
-
-force_parts : (g k h j : ℕ) → Force g k ≡ Force h j → (g ≡ h) × (k ≡ j)
-force_parts g k h j e = (cc, cc)
 
 amid_receive : (x : NetworkSetup) (s p : ℕ) (pdu : ControlMessage) (stamp : ℕ) (towards : ℕ → ℕ → List Message) (whole : ℕ → ℕ → Bool) (forced : ℕ → ℕ → Bool)
     → BeginsWith (Control pdu stamp) (towards s p) → Amid x (Receive p (Some pdu)) stamp s towards whole forced

@@ -15,16 +15,8 @@ use Rattle.lagnetwork.proofs.Networks.{AllFine}
 pub one_partner_each : (x : NetworkSetup) (w : Network) → AllFine x w → EachOnePartner w
 one_partner_each x w i s = one_partner (x.setup s) (w.view s) (i.each s).members
 
-party_there : (v : View) (p : ℕ) (a : PortFacts) (y : Party) → v.port p ≡ Some a → party_at v p ≡ Some y → a.party ≡ y
-party_there v p a y h e = same_Some a.party y (sym (ap (option_map (λ (a : PortFacts). a.party)) h) ∙ e)
-
 ends_there : (x : NetworkSetup) (t q : ℕ) (a : Place) → x.far t q ≡ Some a → ends_of x t q ≡ Some q
 ends_there x t q a e = ap (option_map (λ (a : Place). q)) e
-
--- the partner that a port records is the party of the port that the LACPDU came from which it took last, if that did not change
-named : (x : NetworkSetup) (w : Network) → AllFine x w → (s p t q : ℕ) (a b : PortFacts)
-    → IsUpToDate w s p t q a → (w.view t).port q ≡ Some b → a.partner ≡ b.party
-named x w i s p t q a b h hb = grind arith
 
 pub cables_agree : (x : NetworkSetup) (w : Network) → AllFine x w → CablesAgree w
 cables_agree x w i s p t q a b h k = grind arith

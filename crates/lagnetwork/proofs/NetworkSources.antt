@@ -58,8 +58,6 @@ sourced_all : (x : NetworkSetup) (s : ℕ) (call : ModelCall) (stamp : ℕ) (ms 
 sourced_all x s call stamp [] w a i = i
 sourced_all x s call stamp (m ∷ ms) w a i = sourced_all x s call stamp ms (network_after x s stamp m w) a.1 one
   where
-    o : Option Act
-    o = act (x.setup s) m.0 (w.view s)
 
     one : Sourced x (network_after x s stamp m w)
     one t = is_or_not (SourcedAt (x.far t) (w.moved t) ((network_after x s stamp m w).view t).port ((network_after x s stamp m w).taken t)
