@@ -228,6 +228,13 @@ elsewhere f s y t ne = elim (cases_Bool (eqb t s)) [ inl e ↦ absurd (ne (eqb-t
 pub is_or_not : (P : Type 0) (r s : ℕ) → (r ≡ s → P) → ((r ≡ s → ⊥) → P) → P
 is_or_not P r s a b = elim (cases_Bool (eqb r s)) [ inl e ↦ a (eqb-true r s e) | inr e ↦ b (eqb-false r s e) ]
 
+-- what depends on whether it is of system s
+pub by_system : (s : ℕ) (Q : ℕ → Bool → Type 0) → Q s true → ((t : ℕ) → (t ≡ s → ⊥) → Q t false) → (t : ℕ) → Q t (eqb t s)
+by_system s Q here others t = elim (cases_Bool (eqb t s)) [
+  | inl e ↦ subst (Q t) (sym e) (subst (λ t. Q t true) (sym (eqb-true t s e)) here)
+  | inr e ↦ subst (Q t) (sym e) (others t (eqb-false t s e))
+]
+
 -- one move
 module _ (x : NetworkSetup) (f : IsNetworkSetup x) (s : ℕ) (call : ModelCall) (stamp : ℕ) (party : ℕ → ℕ → Option Party) (m : Move × Bool)
     (w : Network) (a : MoveAllowed (x.setup s) call (w.view s) m.0) (i : Calling x s call stamp party w) where
