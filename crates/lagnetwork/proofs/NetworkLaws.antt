@@ -6,11 +6,16 @@ use Rattle.lagnetwork.proofs.Common.{Moved_up, Network, NetworkSetup, Place, Unm
 use Rattle.lagnetwork.proofs.Common.{EachOnePartner, EachTookInSync, FlushedBehindMarker, FlyOnItsCable, GoesByItsCable, IsUpToDate, NamesFarEnd}
 use Rattle.lagnetwork.proofs.Common.{NetworkInOrder, NotWithItself, OneDevice, TookFromFarEnd, TookFromFixedEnd, scene_of}
 use native.Mathlib.Omega.{arith}
+use Rattle.lagnetwork.specs.NetworkLaw.{IsNetworkInvariant}
 use Rattle.lagnetwork.proofs.NetworkSources.{sourced, unmoved, Sourced}
 use Rattle.lagnetwork.proofs.NetworkEvents.{all_fine}
 use Rattle.lagnetwork.proofs.NetworkLines.{at_far, ends_of, out_of}
 use Rattle.lagmodel.specs.AnyPeer.{Scene, TookInSync}
 use Rattle.lagnetwork.proofs.Networks.{AllFine}
+
+-- what follows from the facts holds after each event
+pub holds : (P : NetworkSetup → Network → Type 0) → ((x : NetworkSetup) (w : Network) → AllFine x w → P x w) → IsNetworkInvariant P
+holds P h x events w f r = h (recabled_all x events) w (all_fine x events w f r).1
 
 pub one_partner_each : (x : NetworkSetup) (w : Network) → AllFine x w → EachOnePartner w
 one_partner_each x w i s = one_partner (x.setup s) (w.view s) (i.each s).members
@@ -94,11 +99,12 @@ took_in_sync u w members heard p a h d n =
 pub each_took_in_sync : (x : NetworkSetup) (w : Network) → AllFine x w → EachTookInSync x w
 each_took_in_sync x w i s = took_in_sync (x.setup s) (scene_of x w s) (i.each s).members (i.each s).heard
 
+pub took_from_ends : IsNetworkInvariant TookFromFarEnd
+took_from_ends x events w f r = took_from_far_end (recabled_all x events) w (all_fine x events w f r).1 (sourced x events w f r)
+
 pub took_from_fixed_end : TookFromFixedEnd
-took_from_fixed_end x events w f stays r =
-    let u = unmoved x events w stays r in
-    let took = took_from_far_end (recabled_all x events) w (all_fine x events w f r).1 (sourced x f events w r) in (
-      u.0,
-      λ s p a h d. took s p a h d (subst (λ (m : Moved). GoesByItsCable m a) (sym (u.1 s p)) tt)
-          ∙ ap (λ (far : ℕ → ℕ → Option Place). far s p) u.0,
-    )
+took_from_fixed_end x events w f stays r = let u = unmoved x events w f stays r in (
+  u.0,
+  λ s p a h d. took_from_ends x events w f r s p a h d (subst (λ (m : Moved). GoesByItsCable m a) (sym (u.1 s p)) tt)
+      ∙ ap (λ (far : ℕ → ℕ → Option Place). far s p) u.0,
+)
