@@ -296,25 +296,14 @@ pub call_kept : (x : NetworkSetup) → IsNetworkSetup x → (s : ℕ) (call : Mo
     → Calling x s call stamp (λ t. party_at (old.view t)) mid → NetworkCall x s call stamp old mid new → AllFine x new
 call_kept x f s call stamp old mid new same i z =
     let end = calling_all x f s call stamp (λ t. party_at (old.view t)) z.0 mid z.1 i in
-    subst (AllFine x) (sym z.2.2) (record {
-      alike = end.alike;
-      each = λ r. counted_part (end.each r) (z.2.0 r) (λ p. rises r p (z.2.1 r p));
-    })
+    let after : Network = network_after_all x s stamp z.0 mid in
+    let rises = subst (λ (n : ℕ → ℕ → ℕ). (r p : ℕ) → ((party_at (after.view r) p ≡ party_at (old.view r) p) × (z.2.0 r p ≡ n r p))
+    ⊎ ((party_at (after.view r) p ≢ party_at (old.view r) p) × (z.2.0 r p ≡ suc (n r p)))) (sym (counts z.0 mid ∙ same)) z.2.1 in
+    subst (AllFine x) (sym z.2.2) (record { alike = end.alike; each = λ r. counted_part (end.each r) (z.2.0 r) (rises r) })
   where
     counts : (ms : List (Move × Bool)) (w : Network) → (network_after_all x s stamp ms w).count ≡ w.count
     counts [] w = refl
     counts (m ∷ ms) w = counts ms (network_after x s stamp m w)
-
-    rises : (r p : ℕ) → ((party_at ((network_after_all x s stamp z.0 mid).view r) p ≡ party_at (old.view r) p) × (z.2.0 r p ≡ old.count r p))
-        ⊎ ((party_at ((network_after_all x s stamp z.0 mid).view r) p ≢ party_at (old.view r) p) × (z.2.0 r p ≡ suc (old.count r p)))
-        → ((party_at ((network_after_all x s stamp z.0 mid).view r) p ≡ party_at (old.view r) p)
-        × (z.2.0 r p ≡ (network_after_all x s stamp z.0 mid).count r p))
-        ⊎ ((party_at ((network_after_all x s stamp z.0 mid).view r) p ≢ party_at (old.view r) p)
-        × (z.2.0 r p ≡ suc ((network_after_all x s stamp z.0 mid).count r p)))
-    rises r p h =
-        let e : old.count r p ≡ (network_after_all x s stamp z.0 mid).count r p =
-        ap (λ (n : ℕ → ℕ → ℕ). n r p) (sym same ∙ sym (counts z.0 mid)) in
-        elim h [ inl y ↦ inl (y.0, y.1 ∙ e) | inr y ↦ inr (y.0, y.1 ∙ ap suc e) ]
 
 begins_all : (x : NetworkSetup) (s stamp : ℕ) (ms : List (Move × Bool)) (w : Network) (m : Message) (t q : ℕ) → BeginsWith m (w.towards t q)
     → BeginsWith m ((network_after_all x s stamp ms w).towards t q)
