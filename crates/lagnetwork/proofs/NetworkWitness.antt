@@ -1,5 +1,5 @@
 -- A run of three systems, of which two have one identifier: one aggregator of the first reaches both. And one in which a cable is moved.
-use Rattle.lagnetwork.proofs.Common.{◌++◌, ControlMessage, NetworkRun, true≢false}
+use Rattle.lagnetwork.proofs.Common.{◌++◌, changed_port, ControlMessage, NetworkRun, true≢false}
 use Rattle.lagnetwork.proofs.Common.{Bool, List, None, Option, Some, [], ap, arith, cond, eqb, eqb-true, false, inl, inr, refl, subst, sym, true, ℕ}
 use Rattle.lagnetwork.proofs.Common.{◌∙◌, ◌∷◌, ◌≡◌, ◌≢◌, false≢true, none-some, same_Some, SystemId, Party, Announce, Answered, Become, Desynchronize}
 use Rattle.lagnetwork.proofs.Common.{Distribute, Flow, Join, Leave, Mark, Move, Port, Respond, Send, Take, Want, pair_at, port_after, view_after}
@@ -73,9 +73,6 @@ emits s p ms = step (NetworkEvent.Emit s p) s ModelCall.Transmit ms (λ w. w)
 abbrev hears : ℕ → ℕ → ControlMessage → List (Move × Bool) → Step
 hears s p pdu ms = step (NetworkEvent.Deliver s p) s (Receive p (Some pdu)) ms (without_first s p)
 
-abbrev offers : ℕ → Step
-offers p = step (NetworkEvent.Offer 1 1 frame) 1 ModelCall.Offer ((Flow (Send 1 48 p), true) ∷ []) (λ w. w)
-
 -- a frame of conversation 48, from this place
 abbrev collects : ℕ → ℕ → Place → ℕ → Step
 collects s p a n = step (NetworkEvent.Deliver s p) s (Receive p None) []
@@ -142,6 +139,9 @@ abbrev meets : ℕ → ℕ → List Step
 meets s q = emits s q (says q false) ∷ hears 1 q (Lacp (hello q)) (joins q) ∷ emits 1 q (says q true) ∷ hears s q (Lacp (answer q)) (comes_up q)
     ∷ emits s q (says q true) ∷ hears 1 q (Lacp (agreed q)) (follows q) ∷ []
 
+abbrev offers : ℕ → Step
+offers p = step (NetworkEvent.Offer 1 1 frame) 1 ModelCall.Offer ((Flow (Send 1 48 p), true) ∷ []) (λ w. w)
+
 -- conversation 48 sends by port 1, moves, and sends by port 2
 abbrev moves_over : List Step
 moves_over = offers 1 ∷ collects 2 1 (place 1 1) 0
@@ -155,7 +155,10 @@ EachPort P ports = (q : ℕ) (b : PortFacts) → ports q ≡ Some b → P q b
 
 each_kept : (P : ℕ → PortFacts → Type 0) (ports : ℕ → Option PortFacts) (p : ℕ) (a : PortFacts) (f : PortFacts → PortFacts)
     → ports p ≡ Some a → P p (f a) → EachPort P ports → EachPort P (at_port ports p f)
-each_kept P ports p a f h n i q b hb = grind arith
+each_kept P ports p a f h n i q b hb = elim (changed_port ports p q f a b h hb) [
+  | inl x ↦ subst (λ (b : PortFacts). P q b) x.1 (subst (λ q. P q (f a)) (sym x.0) n)
+  | inr x ↦ i q b x.1
+]
 
 -- it is not in the aggregator
 abbrev Outside : ℕ → PortFacts → Type 0
@@ -168,7 +171,10 @@ outside_first n q b h e = grind arith
 abbrev Alike : Pair → ℕ → PortFacts → Type 0
 Alike g q b = b.aggregator ≡ Some 1 → SamePair (pair_at b) g
 
-n-- a system that has no port in the aggregator may join it by a port that took this, also when the port said something before
+ne₁ : (q r : ℕ) → (party_of 2 q).system ≢ (party_of 1 r).system
+ne₁ q r e = let h : ◌≡◌ {A = ℕ} 2 1 = ap (λ (s : SystemId). s.priority) e in absurd (omega (arith, h))
+
+-- a system that has no port in the aggregator may join it by a port that took this, also when the port said something before
 joins_first : (n q : ℕ) (pdu : LacpMessage) (s : Bool) → (first_view (setup_of n)).port q ≡ Some (first_port (party_of n q))
     → EachPort Outside (at_port (first_view (setup_of n)).port q (port_after (Take pdu s)))
 joins_first n q pdu s h = each_kept Outside _ q (first_port (party_of n q)) (port_after (Take pdu s)) h (λ h. none-some 1 h) (outside_first n)
@@ -181,9 +187,9 @@ joins_told n q pdu h k = each_kept Outside _ q (first_port (party_of n q)) (port
 
 first_meet : IsPlayed x₀ (meets 2 1) (first_network x₀)
 first_meet = plays ((refl, λ h. absurd (false≢true h)), tt) refl (λ c. c)
-    (plays ((refl, inr refl, λ h. absurd (false≢true h)), ((refl, ne₁ 0 1 1, refl, inl (joins_first 1 1 (hello 1) false refl)), tt)) refl
+    (plays ((refl, inr refl, λ h. absurd (false≢true h)), ((refl, ne₁ 1 1, refl, inl (joins_first 1 1 (hello 1) false refl)), tt)) refl
     (λ c. (_, c, refl)) (plays ((refl, λ h. refl), tt) refl (λ c. c)
-    (plays ((refl, inr refl, λ h. (refl, inl refl)), ((refl, (λ e. ne₁ 0 1 1 (sym e)), refl, inl (joins_told 2 1 (answer 1) refl refl)), ((refl, refl), tt)))
+    (plays ((refl, inr refl, λ h. (refl, inl refl)), ((refl, (λ e. ne₁ 1 1 (sym e)), refl, inl (joins_told 2 1 (answer 1) refl refl)), ((refl, refl), tt)))
     refl (λ c. (_, c, refl)) (plays ((refl, λ h. refl), tt) refl (λ c. c)
     (plays ((refl, inl refl, λ h. (refl, inl refl)), ((refl, refl), tt)) refl (λ c. (_, c, refl)) tt)))))
 
@@ -200,7 +206,7 @@ second_meet = plays ((refl, λ h. absurd (false≢true h)), tt) refl (λ c. c) (
   (
     (
       refl,
-      ne₁ 0 2 2,
+      ne₁ 2 2,
       refl,
       inr (
         each_kept (Alike g₀) _ 2 (first_port (party_of 1 2)) (port_after (Take (hello 2) false)) refl (λ h. absurd (none-some 1 h))
@@ -216,9 +222,9 @@ second_meet = plays ((refl, λ h. absurd (false≢true h)), tt) refl (λ c. c) (
     tt,
   ),
 ) refl (λ c. (_, c, refl)) (plays ((refl, λ h. refl), tt) refl (λ c. c)
-    (plays ((refl, inr refl, λ h. (refl, inl refl)), ((refl, (λ e. ne₁ 0 2 2 (sym e)), refl, inl (joins_told 2 2 (answer 2) refl refl)), ((refl, refl), tt)))
+    (plays ((refl, inr refl, λ h. (refl, inl refl)), ((refl, (λ e. ne₁ 2 2 (sym e)), refl, inl (joins_told 2 2 (answer 2) refl refl)), ((refl, refl), tt)))
     refl (λ c. (_, c, refl)) (plays ((refl, λ h. refl), tt) refl (λ c. c)
-    (plays ((refl, inl refl, λ h. (refl, inl refl)), ((refl, refl), tt)) refl (λ c. (_, c, refl)) tt))))
+    (plays ((refl, inl refl, λ h. (refl, inl refl)), ((refl, refl), tt)) refl (λ c. (_, c, refl)) tt)))))
 
 abbrev w₂ : Network
 w₂ = after x₀ (meets 3 2) w₁
@@ -231,16 +237,6 @@ then_moves = plays ((refl, inl (refl, (refl, refl))), tt) refl (λ c. c) (plays 
 
 fixed₀ : IsNetworkSetup x₀
 fixed₀ = grind (arith, priority_of, setup_of, chosen, eqb, party_of, same_Some, none-some, eqb-true, far_of, place)
-
--- port q, which names the same port of the other system, carries
-abbrev up : ℕ → ℕ → ℕ → PortFacts
-up n m q = record (first_port (party_of n q)) {
-  partner = party_of m q;
-  synchronized = true;
-  defaulted = false;
-  aggregator = Some 1;
-  distributes = true;
-}
 
 -- port q, which names the same port of the other system, carries
 abbrev up : ℕ → ℕ → ℕ → PortFacts
@@ -293,7 +289,10 @@ but_kept ports p a f h = each_kept (OutsideBut p) ports p a f h (λ ne. absurd (
 
 but_left : (ports : ℕ → Option PortFacts) (p : ℕ) (a : PortFacts) → ports p ≡ Some a → EachPort (OutsideBut p) ports
     → EachPort Outside (at_port ports p (port_after Leave))
-but_left ports p a h i q b hb e = grind arith
+but_left ports p a h i q b hb e = elim (changed_port ports p q (port_after Leave) a b h hb) [
+  | inl x ↦ none-some 1 (ap (λ (c : PortFacts). c.aggregator) x.1 ∙ e)
+  | inr x ↦ i q b x.1 x.0 e
+]
 
 -- the cable of port 1 of the first system is taken out, and then put in at the third
 abbrev x₁ : NetworkSetup
@@ -316,7 +315,7 @@ meet_again = plays tt refl (λ c. refl) (plays (tt, (tt, tt)) refl (λ c. c) (pl
     (plays tt refl (λ c. (refl, refl, refl)) (plays (
       (
         refl,
-        ne₁ 0 1 1,
+        ne₁ 1 1,
         refl,
         inl (but_left _ 1 _ refl (but_kept _ 1 _ (port_after Desynchronize) refl (but_kept _ 1 _ (port_after Distribute) refl
             (but_kept _ 1 _ (port_after (Take (agreed 1) true)) refl (but_kept _ 1 _ (port_after (Announce true)) refl
@@ -326,7 +325,7 @@ meet_again = plays tt refl (λ c. refl) (plays (tt, (tt, tt)) refl (λ c. c) (pl
       ),
       ((refl, λ h. refl), tt),
     ) refl (λ c. c)
-    (plays ((refl, inr refl, λ h. (refl, inl refl)), ((refl, (λ e. ne₁ 0 1 1 (sym e)), refl, inl (joins_first 2 1 (answer 1) true refl)), ((refl, refl), tt)))
+    (plays ((refl, inr refl, λ h. (refl, inl refl)), ((refl, (λ e. ne₁ 1 1 (sym e)), refl, inl (joins_first 2 1 (answer 1) true refl)), ((refl, refl), tt)))
     refl (λ c. (_, c, refl)) (plays ((refl, λ h. refl), tt) refl (λ c. c)
     (plays ((refl, inl refl, λ h. (refl, inl refl)), ((refl, refl), tt)) refl (λ c. (_, c, refl)) tt)))))))
 
