@@ -11,11 +11,6 @@ use Rattle.lagbeside.proofs.Common.{Releases, Restart, Runt, Set_link, SetsPortE
 use Rattle.lagbeside.proofs.Common.{HasJustStarted, IsFirst, setup_of, collecting, TransmitsAt, TransmitsIf, ChoosesIn, PortsChangeBy, PromotesNext}
 use Rattle.lagbeside.proofs.Common.{Settling, choice_for, ready_of, with_choice, SystemState, aggregators_value, port_index, with_system_ports, views}
 use Rattle.lagbeside.proofs.Common.{last_slots, same_slots, zip_all, all-get, all-set, found_place}
-use Rattle.slowpdu.specs.Frames.{frame_octets}
-use Rattle.lagsystem.specs.declared.received.FrameEffect.{FrameEffect}
-use Rattle.lagsystem.specs.declared.received.FrameEffect.TheVariants.{Answered, ProcessLacpdu, Response}
-use Rattle.lagsystem.specs.declared.received.Received.TheVariants.{Disabled, Dropped, Ignored, Respond}
-use Rattle.lagsystem.specs.Calls.{is_own_response}
 use Rattle.lagsystem.specs.Windows.{reply_has_lacpdu, subtype}
 use Rattle.lagsystem.proofs.Limiting.{next_stands}
 use Rattle.lagsystem.proofs.Preserves.{lacpdu_subtype}
@@ -60,6 +55,12 @@ zip_kept R P Q k (x ∷ xs) (y ∷ ys) h a = grind (arith, nat_tests, zip_kept R
 zip_kept R P Q k xs ys h a = absurd h
 
 -- a port that is SELECTED gets no other value of Selected
+
+chosen_not_eligible : (v : PortView) → is_selected v.choice ≡ true → is_eligible v ≡ false
+chosen_not_eligible v h = grind (arith, nat_tests)
+
+none_for : (aggs : AggregatorsValue) (l : List SystemPort) (s : SystemPort) → is_selected s.port.choice ≡ true → choice_for aggs l s ≡ None
+none_for aggs l s h = grind (arith, nat_tests, chosen_not_eligible)
 
 -- a port whose link is down gets none
 down_none : (aggs : AggregatorsValue) (l : List SystemPort) (s : SystemPort) → s.port.enabled ≡ false → choice_for aggs l s ≡ None
@@ -220,54 +221,71 @@ released_same : (b : Bool) (port : ℕ) (m : Marker) (old : SystemState) (answer
     → new.system_ports ≡ old.system_ports
 released_same b port m old answer new h = grind (arith, nat_tests)
 
--- an LACPDU was taken, or all ports stay
+-- what receive does, by the frame that came
+module _ (P : ℕ → Machines → Type 0) (s : KeptBySettling P) (n : ℕ) (octets : List ℕ) (old : SystemState) (answer : Received) (new : SystemState)
+    (k : (v : Lacpdu) (p q : Machines) → reply.Receive (Ok answer) ≡ reply.Receive (Ok TookLacpdu) → IsFrame octets (Carries (pdu.Lacpdu v))
+    → ProcessesLacpdu v p q → P n p → P n q)
+    (h : ReceivesAt (port_index n old.system_ports) octets old answer new) (a : OfEach P old.system_ports) where
+  stays_so : new ≡ old → OfEach P new.system_ports
+  stays_so e = same_each P old new (ap (λ (t : SystemState). t.system_ports) e) a
+
+  by_marker : (m : Marker) (o : Option Marker) → AnswersMarker h.0.mac m o h.1 → OfEach P new.system_ports
+  by_marker m None g =
+      let d = subst (λ e. Performs e h.0.number (port_index n old.system_ports) old answer new) g h.4 in
+      same_each P old new (released_same _ _ m old answer new d) a
+  by_marker m (Some reply) g =
+      let d = subst (λ e. Performs e h.0.number (port_index n old.system_ports) old answer new) g.3 h.4 in stays_so d.1
+
+  by_frame : (frame : ReceivedFrame) → IsFrame octets frame → GivesEffect h.0 frame h.1 → OfEach P new.system_ports
+  by_frame Runt f g = let d = subst (λ e. Performs e h.0.number (port_index n old.system_ports) old answer new) g h.4 in stays_so d.1
+  by_frame Data_frame f g = let d = subst (λ e. Performs e h.0.number (port_index n old.system_ports) old answer new) g h.4 in stays_so d.1
+  by_frame (Faulty fault) f g = let d = subst (λ e. Performs e h.0.number (port_index n old.system_ports) old answer new) g h.4 in stays_so d.1
+  by_frame (Carries (pdu.Lacpdu v)) f g =
+      let d = subst (λ e. Performs e h.0.number (port_index n old.system_ports) old answer new) g h.4 in
+      settling_each P s d.1.0 new d.1.2
+      (place_each P (ProcessesLacpdu v) n (λ p q. k v p q (ap (λ (r : Received). reply.Receive (Ok r)) d.0) f)
+      (port_index n old.system_ports) old.system_ports d.1.0.system_ports refl d.1.1.0 a)
+  by_frame (Carries (pdu.Marker m)) f g = by_marker m (response_to m) g
+
+  by_link : (up : Bool) → ParsesWhere up h.0 octets h.1 → OfEach P new.system_ports
+  by_link false g = let d = subst (λ e. Performs e h.0.number (port_index n old.system_ports) old answer new) g h.4 in stays_so d.1
+  by_link true g = by_frame g.0 g.1 g.2
+
+  receives_each : OfEach P new.system_ports
+  receives_each = by_link h.0.port.enabled h.3
+
+-- an LACPDU that was taken came in these octets
 no_lacpdu : (o : Option AggId) → TookLacpdu ≡ up_or_dropped o → ⊥
 no_lacpdu o e = grind (arith, nat_tests)
 
-no_release : (b : Bool) (port : ℕ) (m : Marker) (old : SystemState) (answer : Received) (new : SystemState) → Releases b port m old answer new
-    → answer ≡ TookLacpdu → ⊥
-no_release false port m old answer new h e = let f = sym h.0 ∙ e in cc
-no_release true port m old answer new h e = let f = sym h.0 ∙ e in cc
+no_release : (b : Bool) (port : ℕ) (m : Marker) (old new : SystemState) → Releases b port m old TookLacpdu new → ⊥
+no_release b port m old new h = grind (arith, nat_tests)
 
-module _ (index : Option ℕ) (octets : List ℕ) (old : SystemState) (answer : Received) (new : SystemState)
-    (h : ReceivesAt index octets old answer new) where
-  abbrev Takes : Type 0
-  Takes = (v : Lacpdu) × IsFrame octets (Carries (pdu.Lacpdu v)) × ThenSettles (OnlyPortChangesBy index (ProcessesLacpdu v)) old new
+module _ (index : Option ℕ) (octets : List ℕ) (old : SystemState) (new : SystemState) (h : ReceivesAt index octets old TookLacpdu new) where
+  abbrev Took : Type 0
+  Took = (v : Lacpdu) × IsFrame octets (Carries (pdu.Lacpdu v)) × ThenSettles (OnlyPortChangesBy index (ProcessesLacpdu v)) old new
 
-  abbrev Does : Type 0
-  Does = ((answer ≡ TookLacpdu) × Takes) ⊎ ((new.system_ports ≡ old.system_ports) × (answer ≡ TookLacpdu → ⊥))
+  took_marker : (m : Marker) (o : Option Marker) → AnswersMarker h.0.mac m o h.1 → Took
+  took_marker m None g =
+      let d = subst (λ e. Performs e h.0.number index old TookLacpdu new) g h.4 in absurd (no_release _ _ m old new d)
+  took_marker m (Some reply) g =
+      let d = subst (λ e. Performs e h.0.number index old TookLacpdu new) g.3 h.4 in let e = d.0 in absurd cc
 
-  performed : (e : FrameEffect) → h.1 ≡ e → Performs e h.0.number index old answer new
-  performed e g = subst (λ e. Performs e h.0.number index old answer new) g h.4
+  took_frame : (frame : ReceivedFrame) → IsFrame octets frame → GivesEffect h.0 frame h.1 → Took
+  took_frame Runt f g = let d = subst (λ e. Performs e h.0.number index old TookLacpdu new) g h.4 in let e = d.0 in absurd cc
+  took_frame Data_frame f g =
+      let d = subst (λ e. Performs e h.0.number index old TookLacpdu new) g h.4 in absurd (no_lacpdu (collecting h.0.port) d.0)
+  took_frame (Faulty fault) f g = let d = subst (λ e. Performs e h.0.number index old TookLacpdu new) g h.4 in let e = d.0 in absurd cc
+  took_frame (Carries (pdu.Lacpdu v)) f g =
+      let d = subst (λ e. Performs e h.0.number index old TookLacpdu new) g h.4 in (v, f, d.1)
+  took_frame (Carries (pdu.Marker m)) f g = took_marker m (response_to m) g
 
-  replied : (r : Received) → h.1 ≡ Answered r → (TookLacpdu ≡ r → ⊥) → Does
-  replied r g other =
-      let d = performed (Answered r) g in inr (ap (λ (t : SystemState). t.system_ports) d.1, λ e. other (sym e ∙ d.0))
+  took_link : (up : Bool) → ParsesWhere up h.0 octets h.1 → Took
+  took_link false g = let d = subst (λ e. Performs e h.0.number index old TookLacpdu new) g h.4 in let e = d.0 in absurd cc
+  took_link true g = took_frame g.0 g.1 g.2
 
-  by_marker : (m : Marker) (o : Option Marker) → AnswersMarker h.0.mac m o h.1 → Does
-  by_marker m None g = let d = performed (Response m) g in inr (
-    released_same (is_own_response old h.0.number m) h.0.number m old answer new d,
-    no_release (is_own_response old h.0.number m) h.0.number m old answer new d,
-  )
-  by_marker m (Some reply) g = replied (Respond (frame_octets h.0.mac g.0)) g.3 (λ e. cc)
-
-  by_frame : (frame : ReceivedFrame) → IsFrame octets frame → GivesEffect h.0 frame h.1 → Does
-  by_frame Runt f g = replied Dropped g (λ e. cc)
-  by_frame Data_frame f g = replied (up_or_dropped (collecting h.0.port)) g (no_lacpdu (collecting h.0.port))
-  by_frame (Faulty fault) f g = replied (Ignored fault) g (λ e. cc)
-  by_frame (Carries (pdu.Lacpdu v)) f g = let d = performed (ProcessLacpdu v) g in inl (d.0, (v, f, d.1))
-  by_frame (Carries (pdu.Marker m)) f g = by_marker m (response_to m) g
-
-  by_link : (up : Bool) → ParsesWhere up h.0 octets h.1 → Does
-  by_link false g = replied Disabled g (λ e. cc)
-  by_link true g = by_frame g.0 g.1 g.2
-
-  receives : Does
-  receives = by_link h.0.port.enabled h.3
-
-pub took : (index : Option ℕ) (octets : List ℕ) (old new : SystemState) (h : ReceivesAt index octets old TookLacpdu new)
-    → Takes index octets old TookLacpdu new h
-took index octets old new h = elim (receives index octets old TookLacpdu new h) [ inl d ↦ d.1 | inr d ↦ absurd (d.1 refl) ]
+  pub took : Took
+  took = took_link h.0.port.enabled h.3
 
 pub first_each : (P : ℕ → Machines → Type 0) → KeptBySettling P
     → ((n : ℕ) (u : Setup) (q : Machines) → Starts (before_start u) q → P n q) → (s : SystemState) → IsFirst s
@@ -297,12 +315,7 @@ Step-each P s gives old (Set_link n up) (reply.SetLink (Ok done)) new k h a =
     old.system_ports h.0.system_ports refl h.1.0 a)
 Step-each P s gives old (Set_link n up) (reply.SetLink (Err fault)) new k h a = same_each P old new (same_slots old new h.same) a
 Step-each P s gives old (Receive n octets) (reply.Receive (Ok answer)) new k h a =
-    elim (receives (port_index n old.system_ports) octets old answer new h) [
-      | inl d ↦ settling_each P s d.1.2.0 new d.1.2.2
-          (place_each P (ProcessesLacpdu d.1.0) n (λ p q. k d.1.0 p q (ap (λ (r : Received). reply.Receive (Ok r)) d.0) d.1.1)
-          (port_index n old.system_ports) old.system_ports d.1.2.0.system_ports refl d.1.2.1.0 a)
-      | inr d ↦ same_each P old new d.0 a
-    ]
+    receives_each P s n octets old answer new k h a
 Step-each P s gives old (Receive n octets) (reply.Receive (Err fault)) new k h a = same_each P old new (same_slots old new h.same) a
 Step-each P s gives old (Configure n change) (reply.Configure (Ok true)) new k h a =
     settling_each P s h.0 new h.2 (place_each P (ChangesParty change) n k (port_index n old.system_ports) old.system_ports

@@ -55,6 +55,9 @@ Setting-each P k old new (Setting.Set_max_links max_links) (Err fault) c h t = g
 abbrev pub Stands : SystemState → SystemState → Type 0
 Stands old new = (new.keys ≡ old.keys) × (new.ports ≡ old.ports)
 
+stands_settled : (old mid new : SystemState) → Stands old mid → Settling mid new → Stands old new
+stands_settled old mid new a h = grind arith
+
 setting_stands : (old new : SystemState) (setting : Setting) (answer : Result Unit SystemFault) → SettingStep old setting answer new
     → Stands old new
 setting_stands old new setting answer h = grind arith

@@ -92,5 +92,11 @@ Host-waits gives old new (host.Rest agg conv) (told.Rest (Err fault)) h w = grin
 Host-waits gives old new (host.ForcePort port) (told.ForcePort answer) h w = grind (arith, nat_tests)
 Host-waits gives old new call answer h w = absurd h
 
+pub host_keeps : (gives : ℕ → ℕ → ℕ → Type 0) (P : Machines → Type 0) → ((old new : SystemState) (call : Call) (a : Answer)
+    → Step gives old call a new → OfEach (λ n p. P p) old.system_ports → OfEach (λ n p. P p) new.system_ports)
+    → (old new : SystemState) (call : HostCall) (answer : HostReply) → HostPromise gives old call answer new
+    → OfEach (λ n p. P p) old.system_ports → OfEach (λ n p. P p) new.system_ports
+host_keeps gives P k old new call answer h t = grind (arith, nat_tests)
+
 pub Host-timed : (gives : ℕ → ℕ → ℕ → Type 0) → EachCallKeepsTimed gives → EachHostCallKeepsTimed gives
 Host-timed gives kept old new call answer h = grind (arith, nat_tests)

@@ -198,6 +198,9 @@ kind_takes key t w l (Some who) v p q same h a = joined_takes who t w l v p q (s
 
 -- where they start
 
+stays_there : (m : MuxState) (un : Bool) → (same_mux_state Detached m && not un) ≡ false → un ≡ false → same_mux_state Detached m ≡ false
+stays_there m un d e = grind (arith, nat_tests)
+
 first_kind : (key : Key) (t : ℕ) → t ≤ 30 → (o : Option Party) (p : Machines) → AtRest (mux_rows false) p
     → none_enabled receive_rows p ≡ true → p.wait_while ≤ 20 → StandsApart t key o p → Kind key t 20 o p
 first_kind key t l o p m r w a = grind (arith, nat_tests)

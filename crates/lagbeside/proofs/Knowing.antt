@@ -32,6 +32,9 @@ rests_still rows (suc n) p q r run =
 
 -- no row of the receive machine is enabled while there are ticks left
 
+not_run_out : (b : Bool) (most n : ℕ) → (b && (n == 0)) ≡ true → 1 ≤ most → most ≤ n → ⊥
+not_run_out b most n h l m = grind (arith, nat_tests)
+
 pub receive_known : (v : Lacpdu) (most k : ℕ) → EnabledKeep (Known v most k) receive_rows
 receive_known v most k = grind (arith, nat_tests)
 
@@ -110,6 +113,45 @@ placed [] i w t e = absurd (none-some w e)
 placed (y ∷ ys) zero w t e = refl
 placed (y ∷ ys) (suc i) w t e = placed ys i w t e
 
+-- after the LACPDU
+abbrev Begins : Lacpdu → Bool → Machines → Type 0
+Begins v short p = Known v (timeout_time short) 0 p × (p.short ≡ short)
+
+begins_settles : (v : Lacpdu) (n : ℕ) (short : Bool) → KeptBySettling (AtPort n (Begins v short))
+begins_settles v n short = settling_leaves (AtPort n (Begins v short))
+
+begins : (old mid : SystemState) (v : Lacpdu) (i : ℕ) (w x : SystemPort) → IsSound old → slice_get old.system_ports i ≡ Some w
+    → w.port.enabled ≡ true → ThenSettles (OnlyPortChangesBy (Some i) (ProcessesLacpdu v)) old mid
+    → slice_get mid.system_ports i ≡ Some x
+    → Known v (timeout_time x.port.short) 0 x.port
+begins old mid v i w x s at up h there =
+    let z = h.1.0.0 in
+    let q = h.1.0.1 in
+    let same : w ≡ z = same_Some w z (sym at ∙ h.1.0.2) in
+    let awake = can_receive_at_rest z.port
+    (all-get (λ (c : SystemPort). none_enabled receive_rows c.port ≡ true) old.system_ports i z h.1.0.2 s.rested.0) in
+    let first = recorded v z.port q (subst (λ (c : SystemPort). c.port.enabled ≡ true) same up) awake h.1.0.3 in
+    let after : SystemPort = record z { port = q } in
+    let rises : Rises 0 (port_numbers h.0.system_ports) =
+    subst (Rises 0) (sym (keeps_place (ProcessesLacpdu v) (Some i) old h.0 h.1).same) (ports_rise old s.ports) in
+    let here : slice_get h.0.system_ports i ≡ Some after =
+    subst (λ l. slice_get l i ≡ Some after) (sym h.1.0.4) (placed old.system_ports i z after h.1.0.2) in
+    let each = at_number (Begins v q.short) 0 h.0.system_ports i after rises here ((first.0, λ l. first.1), refl) in
+    let settled = settling_each (AtPort z.number (Begins v q.short)) (begins_settles v z.number q.short) h.0 mid h.2 each in
+    let numbers = (keeps_settled (OnlyPortChangesBy (Some i) (ProcessesLacpdu v)) old mid
+    (λ m o. keeps_place (ProcessesLacpdu v) (Some i) old m o) h).same in
+    let number = same_place old.system_ports mid.system_ports i z x numbers h.1.0.2 there in
+    let known = all-get (λ (c : SystemPort). AtPort z.number (Begins v q.short) c.number c.port) mid.system_ports i x there
+    settled number in
+    subst (λ b. Known v (timeout_time b) 0 x.port) (sym known.1) known.0
+
+pub is_known : (gives : ℕ → ℕ → ℕ → Type 0) → IsKnown gives
+is_known gives old mid new v calls replies i w x y s t at up h there run u few last =
+    let most = timeout_time x.port.short in
+    let end = goes_on (LeavesUnheard x.number) (Known v) gives most mid new calls replies i x y (known_goes_on v x.number) t there
+    (begins old mid v i w x s at up h there) run u last in
+    (end.1.1 (omega (arith, few))).0
+
 -- what holds of the port that processed an LACPDU, after the settling
 pub takes_each : (Q : Machines → Type 0) (old new : SystemState) (x : Lacpdu) (k : ℕ) (z : SystemPort) → IsSound old
     → slice_get old.system_ports k ≡ Some z → ((q : Machines) → can_receive z.port ≡ true → ProcessesLacpdu x z.port q → Q q)
@@ -130,26 +172,3 @@ takes_each Q old new x k z sound at does settles h =
     let each = at_number Q 0 h.0.system_ports k after rises here first in
     settling_each (AtPort z.number Q) settles h.0 new h.2 (subst (λ (c : SystemPort). OfEach (AtPort c.number Q) h.0.system_ports)
     (sym same) each)
-
--- after the LACPDU
-abbrev Begins : Lacpdu → Machines → Type 0
-Begins v p = Known v (timeout_time p.short) 0 p
-
-begins : (old mid : SystemState) (v : Lacpdu) (i : ℕ) (w x : SystemPort) → IsSound old → slice_get old.system_ports i ≡ Some w
-    → w.port.enabled ≡ true → ThenSettles (OnlyPortChangesBy (Some i) (ProcessesLacpdu v)) old mid
-    → slice_get mid.system_ports i ≡ Some x → Begins v x.port
-begins old mid v i w x s at up h there =
-    let first : (q : Machines) → can_receive w.port ≡ true → ProcessesLacpdu v w.port q → Begins v q =
-    λ q awake processed. (let r = recorded v w.port q up awake processed in (r.0, λ l. r.1)) in
-    let settled = takes_each (Begins v) old mid v i w s at first (settling_leaves (AtPort w.number (Begins v))) h in
-    let numbers = (keeps_settled (OnlyPortChangesBy (Some i) (ProcessesLacpdu v)) old mid
-    (λ m o. keeps_place (ProcessesLacpdu v) (Some i) old m o) h).same in
-    all-get (λ (c : SystemPort). AtPort w.number (Begins v) c.number c.port) mid.system_ports i x there settled
-    (same_place old.system_ports mid.system_ports i w x numbers at there)
-
-pub is_known : (gives : ℕ → ℕ → ℕ → Type 0) → IsKnown gives
-is_known gives old mid new v calls replies i w x y s t at up h there run u few last =
-    let most = timeout_time x.port.short in
-    let end = goes_on (LeavesUnheard x.number) (Known v) gives most mid new calls replies i x y (known_goes_on v x.number) t there
-    (begins old mid v i w x s at up h there) run u last in
-    (end.1.1 (omega (arith, few))).0

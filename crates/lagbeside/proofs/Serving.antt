@@ -30,6 +30,16 @@ Climbs u c may left t p = (IsServed u left p × (p.choice ≡ c)) × (Comes may 
 abbrev Rises-so : Bool → ℕ → Machines → Type 0
 Rises-so may t p = (is_selected p.choice ≡ true) × Comes may t p.mux p.wait_while
 
+not_attached : (m : MuxState) (g : Bool) (from : MuxState) → is_synchronized from ≡ false → (same_mux_state from m && g) ≡ true
+    → is_synchronized m ≡ true → ⊥
+not_attached m g from f h e = grind (arith, nat_tests)
+
+both_not : (c : Choice) → is_selected c ≡ true → is_unselected c ≡ true → ⊥
+both_not c h k = grind (arith, nat_tests)
+
+not_waiting : (m : MuxState) (g : Bool) (s : MuxState) → same_mux_state s Waiting ≡ false → (same_mux_state s m && g) ≡ true → m ≡ Waiting → ⊥
+not_waiting m g s f h e = no (sym (ap (λ b. b && g) f) ∙ subst (λ x. (same_mux_state s x && g) ≡ true) e h)
+
 pub and_right : (a b : Bool) → (a && b) ≡ true → b ≡ true
 and_right a b h = grind (arith, nat_tests)
 

@@ -34,6 +34,9 @@ not_silent e a b up h = grind (arith, nat_tests)
 
 -- the rows of the periodic machine
 
+last_false : (a b : Bool) → (a || b) ≡ false → b ≡ false
+last_false a b h = grind (arith, nat_tests)
+
 unordered : (a b : Bool) → (not a && b) ≡ true → (a ≡ false) × (b ≡ true)
 unordered a b h = grind (arith, nat_tests)
 

@@ -48,6 +48,10 @@ module _ (R : Assignment → Assignment → Type 0) (k : Turning R) where
   pub ticks_turn : (gives : ℕ → ℕ → ℕ → Type 0) (old new : SystemState) → Step gives old Tick answer.Tick new → Turns old.table new.table
   ticks_turn gives old new h = grind (arith, nat_tests)
 
+  pub sets_turn : (agg conv : ℕ) (state : Assignment) (old new : Table) → SetsAssignment old new agg conv state
+      → R (assignment_of old agg conv) state → Turns old new
+  sets_turn agg conv state old new h r g c = grind (arith, nat_tests)
+
   pub gives_turn : (agg : AggId) (conv : ℕ) (what : Result Assignment SystemFault) (old : SystemState) (a : Result Unit SystemFault)
       (new : SystemState) → ((s : Assignment) → what ≡ Ok s → R (assignment_of old.table agg.0 conv) s)
       → GivesOrRefuses agg conv what old a new → Turns old.table new.table

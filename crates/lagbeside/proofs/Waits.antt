@@ -13,6 +13,9 @@ use Rattle.lagbeside.proofs.TableSteps.{Turning, Turns, asks_turn, comes_turn, g
 abbrev pub Stays : Assignment → Assignment → Type 0
 Stays a b = IsAwaited a → IsAwaited b
 
+either : (b : Bool) (x y : Assignment) → IsAwaited x → IsAwaited y → IsAwaited (cond b x y)
+either b x y h k = grind (arith, nat_tests)
+
 ticked : (a : Assignment) → IsAwaited a → IsAwaited (after_tick a)
 ticked a h = grind (arith, nat_tests)
 
@@ -21,6 +24,9 @@ released port id a h = grind (arith, nat_tests)
 
 pub marked : (port id : ℕ) (a : Assignment) → IsAwaited a → IsAwaited (after_mark port id a)
 marked port id a h = grind (arith, nat_tests)
+
+downed : (port : ℕ) (a : Assignment) → IsAwaited a → IsAwaited (after_down port a)
+downed port a h = grind (arith, nat_tests)
 
 held : (ports : List ℕ) (a : Assignment) → IsAwaited a → IsAwaited (held_unless_on ports a)
 held ports a h = grind (arith, nat_tests)
