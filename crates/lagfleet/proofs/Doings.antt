@@ -1,10 +1,9 @@
 -- What is done to a system is lawful moves with at most one visible act.
-use Rattle.std.proofs.Common.{Bool, Err, List, None, Ok, Option, Result, Some, [], ap, arith, false, inl, inr, nat_lt, refl, subst, sym, true, ℕ}
-use Rattle.std.proofs.Common.{◌&&◌, ◌<◌, ◌∙◌, ◌∷◌, ◌≡◌, ◌≤◌}
-use Rattle.std.proofs.lemmas.Bool.{true≢false}
+use Rattle.std.proofs.Common.{Bool, Err, List, None, Ok, Option, Result, Some, [], ap, arith, inl, inr, nat_lt, refl, subst, sym, true, ℕ, ◌<◌, ◌∙◌}
+use Rattle.std.proofs.Common.{◌∷◌, ◌≡◌}
 use Rattle.lagtypes.specs.declared.identifiers.AggId.{AggId}
 use Rattle.lagmodel.specs.Move.{Act, LawfulMoves, Sends, Sends_frame, Took}
-use Rattle.lagmodel.specs.View.{ControlMessage, Free, ModelCall, SystemSetup, View}
+use Rattle.lagmodel.specs.View.{ControlMessage, ModelCall, SystemSetup, View}
 use Rattle.lagnetwork.specs.Network.{freed_view}
 use Rattle.lagsystem.specs.declared.fault.SystemFault.{SystemFault}
 use Rattle.lagsystem.specs.Calls.{Call}
@@ -19,16 +18,12 @@ use Rattle.std.proofs.lemmas.Bool.Decides.{nat_tests}
 use Rattle.std.specs.Prelude.{drop}
 use Rattle.slowpdu.proofs.PduInLemmas.{pdu_read}
 use Rattle.distributor.specs.declared.assignment.Assignment.{Assignment}
-use Rattle.distributor.specs.declared.assignment.Assignment.TheVariants as state
-use Rattle.distributor.specs.Chains.{is_held_on}
-use Rattle.distributor.specs.Conversations.{IsConversation}
-use Rattle.distributor.specs.Moves.{model_conversation}
 use Rattle.lagmodel.proofs.Brings.{moves_bring}
 use Rattle.lagsystem.specs.declared.drive.Reply.TheVariants as reply
 use Rattle.lagsystem.specs.declared.received.Received.TheVariants.{TookLacpdu, Respond}
 use Rattle.lagsystem.specs.Assigning.{OffersConversation, OffersIf, frame_of_conversation}
-use Rattle.lagsystem.specs.Forcing.{FreesHeld, after_forcing}
-use Rattle.lagsystem.specs.Readers.{aggregator_numbered, conversation_count, number_of_conversation}
+use Rattle.lagsystem.specs.Forcing.{FreesHeld}
+use Rattle.lagsystem.specs.Readers.{conversation_count, number_of_conversation}
 use Rattle.lagsystem.proofs.AssigningLemmas.{framed}
 
 -- ---- lawful moves

@@ -1,11 +1,9 @@
 -- One system beside any peer: what it does moves the scene as the law has it.
 use Rattle.std.proofs.Common.{Bool, Err, List, Ok, Option, Result, Some, [], ap, arith, false, inl, refl, subst, sym, true, ℕ, ◌∙◌, ◌∷◌, ◌≡◌}
-use Rattle.std.proofs.lemmas.Bool.{true≢false}
 use Rattle.lagtypes.specs.declared.identifiers.AggId.{AggId}
 use Rattle.lagmodel.specs.Move.{Act, LawfulMoves}
 use Rattle.lagmodel.specs.Succession.{IsSuccessor}
-use Rattle.lagmodel.specs.View.{ControlMessage, Flushing, Force, IsSystemSetup, ModelCall, On, Receive, Set_link, SystemSetup, View}
-use Rattle.lagmodel.specs.View.{conversation_port, first_view, is_restart}
+use Rattle.lagmodel.specs.View.{Flushing, Force, IsSystemSetup, ModelCall, On, SystemSetup, View, conversation_port, first_view, is_restart}
 use Rattle.lagmodel.specs.World.{One, at_two, on_cable_after, sent_after, taken_after}
 use Rattle.lagnetwork.specs.Network.{also_forced, freed_view}
 use Rattle.lagnetwork.proofs.NetworkEvents.{members_alike}

@@ -1,12 +1,8 @@
 -- What one collector got is a part of what all got.
-use Rattle.lagnetwork.proofs.Common.{Bool, List, None, Option, Some, [], eqb, inl, inr, subst, sym, ℕ, ◌&&◌, ◌++◌, ◌∙◌, ◌∷◌, ◌≡◌, ◌⊎◌, and_parts}
-use Rattle.lagnetwork.proofs.Common.{cases_Bool, IsSubsequence, Move, ModelCall, Control, Data, Message, at_two, cond_false, cond_true}
-use Rattle.lagnetwork.proofs.Common.{DeliversFirstAt, Network, NetworkCall, NetworkEvent, NetworkHappens, NetworkRun, NetworkSetup, Place}
-use Rattle.lagnetwork.proofs.Common.{RepeatsFirstAt, at_place, at_system, first_network, handed_up_from, network_after, network_after_all, recabled}
-use Rattle.lagnetwork.proofs.Common.{without_first}
+use Rattle.lagnetwork.proofs.Common.{List, Option, Some, [], eqb, inl, inr, subst, ℕ, ◌++◌, ◌∷◌, ◌≡◌, ◌⊎◌, and_parts, cases_Bool, IsSubsequence}
+use Rattle.lagnetwork.proofs.Common.{at_two, cond_false, cond_true, Network, Place, at_place, at_system, handed_up_from, recabled_all}
+use Rattle.lagnetwork.proofs.Common.{EachCollectorInOrder, IsNetworkInvariant}
 use native.Mathlib.Omega.{arith}
-use Rattle.lagnetwork.specs.NetworkLaw.{EachCollectorInOrder, IsNetworkInvariant}
-use Rattle.lagnetwork.proofs.Common.{recabled_all}
 use Rattle.lagnetwork.proofs.NetworkEvents.{all_fine}
 use Rattle.lagnetwork.proofs.NetworkLaws.{in_order_each}
 use Rattle.lagnetwork.proofs.NetworkRuns.{always}

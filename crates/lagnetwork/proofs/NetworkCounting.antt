@@ -1,12 +1,8 @@
 -- The serial numbers of each conversation of a network are 0, 1, 2 and so on.
-use Rattle.lagnetwork.proofs.Common.{cond}
-use Rattle.lagnetwork.proofs.Common.{Bool, List, Option, [], arith, get_or, inl, inr, length, length-append, subst, sym, ℕ, ◌++◌, ◌<◌, ◌∙◌, ◌∷◌, ◌≡◌}
-use Rattle.lagnetwork.proofs.Common.{cases_lt, Act, Move, act, ModelCall, sent_after, two_cases, Network, NetworkCall, NetworkEvent, NetworkHappens}
-use Rattle.lagnetwork.proofs.Common.{NetworkRun, NetworkSetup, at_system, first_network, network_after, network_after_all, recabled, AllCountFromZero}
+use Rattle.lagnetwork.proofs.Common.{List, Option, [], arith, cond, get_or, length, length-append, ℕ, ◌++◌, ◌<◌, ◌∷◌, ◌≡◌, cases_lt, Act, act}
+use Rattle.lagnetwork.proofs.Common.{sent_after, two_cases, AllCountFromZero, IsNetworkInvariant}
 use Rattle.std.proofs.lemmas.List.{get_or_append_left, get_or_push}
-use Rattle.lagnetwork.specs.NetworkLaw.{IsNetworkInvariant}
 use Rattle.lagnetwork.proofs.NetworkRuns.{always}
-use Rattle.lagnetwork.proofs.Common.{Place}
 use Rattle.lagnetwork.proofs.Networks.{by_system}
 
 abbrev IsCount : List ℕ → Type 0

@@ -1,20 +1,18 @@
 -- Every event of a network preserves the facts, and so does every run.
 use Rattle.lagnetwork.proofs.Common.{Bool, List, None, Option, Some, [], ap, cond, eq-eqb, eqb, eqb-true, false, inl, inr, refl, subst, sym, true, ℕ}
-use Rattle.lagnetwork.proofs.Common.{◌&&◌, ◌++◌, ◌∙◌, ◌∷◌, ◌≡◌, and_from, and_parts, cases_Bool, false≢true, true≢false, none-some, drop, Party}
-use Rattle.lagnetwork.proofs.Common.{Members, Configure, ControlMessage, Force, ModelCall, Move_conversation, Offer, PortFacts, Receive, Set_link}
-use Rattle.lagnetwork.proofs.Common.{SystemSetup, Tick, Transmit, View, first_view, is_restart, Control, Data, Message, One, Side, at_cable, at_two}
-use Rattle.lagnetwork.proofs.Common.{party_at, cond_false, cond_true, cable_cases, lanes_handed, lanes_restarted, Every, IsFrom, members_first}
-use Rattle.lagnetwork.proofs.Common.{Stamps, heard_first, stamps_emptied, CountsNetworkChanges, DeliversFirstAt, IsNetworkSetup, IsNetworkSuccessor}
-use Rattle.lagnetwork.proofs.Common.{Network, NetworkCall, NetworkEvent, NetworkHappens, NetworkRun, NetworkSetup, Place, RepeatsFirstAt, also_forced}
-use Rattle.lagnetwork.proofs.Common.{at_place, at_system, ends_at, first_network, freed_view, handed_up_from, is_at, is_end, moved_again, recabled}
-use Rattle.lagnetwork.proofs.Common.{recabled_all, without_first}
+use Rattle.lagnetwork.proofs.Common.{◌&&◌, ◌++◌, ◌∙◌, ◌∷◌, ◌≡◌, and_from, and_parts, cases_Bool, true≢false, drop, Party, Members, Configure}
+use Rattle.lagnetwork.proofs.Common.{ControlMessage, Force, ModelCall, Move_conversation, Offer, PortFacts, Receive, Set_link, SystemSetup, Tick}
+use Rattle.lagnetwork.proofs.Common.{Transmit, View, first_view, Control, Data, Message, One, Side, at_cable, at_two, party_at, cond_false, cond_true}
+use Rattle.lagnetwork.proofs.Common.{cable_cases, lanes_handed, lanes_restarted, Every, IsFrom, members_first, Stamps, heard_first, stamps_emptied}
+use Rattle.lagnetwork.proofs.Common.{CountsNetworkChanges, DeliversFirstAt, IsNetworkSetup, IsNetworkSuccessor, Network, NetworkCall, NetworkEvent}
+use Rattle.lagnetwork.proofs.Common.{NetworkHappens, NetworkRun, NetworkSetup, Place, RepeatsFirstAt, also_forced, at_place, at_system, ends_at}
+use Rattle.lagnetwork.proofs.Common.{first_network, freed_view, handed_up_from, is_at, is_end, moved_again, recabled, recabled_all, without_first}
 use native.Mathlib.Omega.{arith}
-use Rattle.lagmodel.specs.View.{Restart}
 use Rattle.lagmodel.specs.Succession.{IsAlikeSetup}
-use Rattle.lagnetwork.proofs.NetworkLines.{IsOwn, NamesSender, lanes_succeeded, ends_of, at_far, out_of, SeenAlike, BeginsWith, Amid, IsLess}
-use Rattle.lagnetwork.proofs.NetworkLines.{by_less, lanes_less, ends_once, same_near}
+use Rattle.lagnetwork.proofs.NetworkLines.{IsOwn, NamesSender, lanes_succeeded, ends_of, at_far, out_of, SeenAlike, BeginsWith, Amid, IsLess, by_less}
+use Rattle.lagnetwork.proofs.NetworkLines.{lanes_less, ends_once, same_near}
 use Rattle.lagnetwork.proofs.NetworkMoves.{end_alike, plug_setup, plugged_kept, pull_setup, pulled_kept}
-use Rattle.lagnetwork.proofs.Networks.{Last, freed_part, apart_first, Fine, FineIn, AllFine, Calling, call_kept, begins_call, fine_along, less_part}
+use Rattle.lagnetwork.proofs.Networks.{Last, freed_part, apart_first, Fine, AllFine, Calling, call_kept, begins_call, fine_along, less_part}
 use Rattle.lagnetwork.proofs.Networks.{by_system, counted_part, forced_part, there, elsewhere, is_or_not}
 use Rattle.lagmodel.proofs.Events.{quiet}
 

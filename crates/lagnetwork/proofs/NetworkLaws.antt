@@ -1,12 +1,11 @@
 -- What follows in a network in which the facts hold.
-use Rattle.lagnetwork.proofs.Common.{Option, Some, [], ap, eq-eqb, option_map, refl, subst, sym, true, ℕ, ◌++◌, ◌∙◌, ◌≡◌, same_Some, Party, Members}
-use Rattle.lagnetwork.proofs.Common.{serials, Marker, PortFacts, Response, SystemSetup, View, Control, One, party_at, Every, MarkerBelow, NoneBehind}
-use Rattle.lagnetwork.proofs.Common.{ResponseBelow, answers, behind_split, every_contains, handed_front, one_partner, AllHeard, Moved, Moved_down}
-use Rattle.lagnetwork.proofs.Common.{Moved_up, Network, NetworkSetup, Place, Unmoved, recabled_all, AllBelowNext, CablesAgree, CollectedThenFlying}
-use Rattle.lagnetwork.proofs.Common.{EachOnePartner, EachTookInSync, FlushedBehindMarker, FlyOnItsCable, GoesByItsCable, IsUpToDate, NamesFarEnd}
-use Rattle.lagnetwork.proofs.Common.{NetworkInOrder, NotWithItself, OneDevice, TookFromFarEnd, TookFromFixedEnd, scene_of}
+use Rattle.lagnetwork.proofs.Common.{Option, Some, [], ap, eq-eqb, option_map, refl, subst, sym, true, ℕ, ◌∙◌, ◌≡◌, Party, Members, serials, Marker}
+use Rattle.lagnetwork.proofs.Common.{Response, SystemSetup, Control, One, Every, MarkerBelow, NoneBehind, ResponseBelow, answers, behind_split}
+use Rattle.lagnetwork.proofs.Common.{every_contains, handed_front, one_partner, AllHeard, Moved, Moved_down, Moved_up, Network, NetworkSetup, Place}
+use Rattle.lagnetwork.proofs.Common.{Unmoved, recabled_all, AllBelowNext, CablesAgree, CollectedThenFlying, EachOnePartner, EachTookInSync}
+use Rattle.lagnetwork.proofs.Common.{FlushedBehindMarker, FlyOnItsCable, GoesByItsCable, IsNetworkInvariant, NamesFarEnd, NetworkInOrder}
+use Rattle.lagnetwork.proofs.Common.{NotWithItself, OneDevice, TookFromFarEnd, TookFromFixedEnd, scene_of}
 use native.Mathlib.Omega.{arith}
-use Rattle.lagnetwork.specs.NetworkLaw.{IsNetworkInvariant}
 use Rattle.lagnetwork.proofs.NetworkSources.{sourced, unmoved, Sourced}
 use Rattle.lagnetwork.proofs.NetworkEvents.{all_fine}
 use Rattle.lagnetwork.proofs.NetworkLines.{at_far, ends_of, out_of}

@@ -1,13 +1,12 @@
 -- What is on the cables of a network, as one system sees it: each of its ports is a cable with the number of the port.
 use Rattle.lagnetwork.proofs.Common.{Bool, List, None, Option, Some, [], ap, append-nil, cond, eq-eqb, eqb, eqb-true, false, inl, inr, length}
-use Rattle.lagnetwork.proofs.Common.{option_map, refl, subst, sym, true, ℕ, ◌&&◌, ◌++◌, ◌<◌, ◌∙◌, ◌∷◌, ◌≡◌, ◌≤◌, ◌⊎◌, and_from, false≢true}
-use Rattle.lagnetwork.proofs.Common.{true≢false, same_Some, SystemId, Party, IsSubsequence, Act, Sends, Sends_frame, Took, ControlMessage}
-use Rattle.lagnetwork.proofs.Common.{Conversation, DistributorFacts, Flushing, Force, Free, Lacp, LacpMessage, Marker, ModelCall, On, Receive}
-use Rattle.lagnetwork.proofs.Common.{Response, Set_link, conversation_port, is_restart, Control, Data, Message, One, Side, TakenLacpdu, is_port}
-use Rattle.lagnetwork.proofs.Common.{on_cable_after, put_on_cable, stamp_of, cond_false, cond_true, mapped_some, Within, Lanes, Every, IsFrom}
-use Rattle.lagnetwork.proofs.Common.{MarkerBelow, ResponseBelow, answers, every_push, every_weaker, marker_higher, put_each, response_higher, Orderly}
-use Rattle.lagnetwork.proofs.Common.{answer_taken, handed_front, taken_away, Stamps, IsNetworkSetup, NetworkSetup, Place, also_forced, is_place}
-use Rattle.lagnetwork.proofs.Common.{put_on_line, towards_after}
+use Rattle.lagnetwork.proofs.Common.{option_map, refl, subst, sym, true, ℕ, ◌&&◌, ◌++◌, ◌<◌, ◌∙◌, ◌∷◌, ◌≡◌, ◌≤◌, ◌⊎◌, and_from, true≢false, same_Some}
+use Rattle.lagnetwork.proofs.Common.{SystemId, Party, IsSubsequence, Act, Sends, Sends_frame, Took, ControlMessage, Conversation, DistributorFacts}
+use Rattle.lagnetwork.proofs.Common.{Flushing, Force, Free, Lacp, LacpMessage, Marker, ModelCall, On, Receive, Response, Set_link, conversation_port}
+use Rattle.lagnetwork.proofs.Common.{is_restart, Control, Data, Message, One, Side, TakenLacpdu, is_port, on_cable_after, put_on_cable, stamp_of}
+use Rattle.lagnetwork.proofs.Common.{cond_false, cond_true, mapped_some, Within, Lanes, Every, IsFrom, MarkerBelow, ResponseBelow, answers}
+use Rattle.lagnetwork.proofs.Common.{every_push, every_weaker, marker_higher, put_each, response_higher, Orderly, answer_taken, handed_front}
+use Rattle.lagnetwork.proofs.Common.{taken_away, Stamps, IsNetworkSetup, NetworkSetup, Place, also_forced, is_place, put_on_line, towards_after}
 use native.Mathlib.Omega.{arith}
 use Rattle.lagmodel.proofs.Overtaken.{every_overtaken, lanes_out_overtaken, lanes_back_overtaken}
 use Rattle.lagmodel.specs.Overtaking.{Overtakes}

@@ -1,12 +1,11 @@
 -- Cables are moved: what every event preserves holds on the cables as they are then.
-use native.Mathlib.Omega.{arith}
 use Rattle.lagnetwork.proofs.Common.{Bool, List, None, Option, Some, [], ap, append-nil, cond, eq-eqb, eqb, eqb-true, false, inl, inr, option_map}
-use Rattle.lagnetwork.proofs.Common.{refl, subst, sym, true, ℕ, ◌&&◌, ◌∙◌, ◌≡◌, ◌⊎◌, and_from, and_parts, cases_Bool, false≢true, true≢false}
-use Rattle.lagnetwork.proofs.Common.{none-some, IsSubsequence, Conversation, DistributorFacts, Message, Side, party_at, cond_false, cond_true, Lanes}
-use Rattle.lagnetwork.proofs.Common.{Every, IsFrom, MarkerBelow, ResponseBelow, Orderly, handed_front, Fresh, IsNetworkSetup, Moved, Network}
-use Rattle.lagnetwork.proofs.Common.{NetworkEvent, NetworkSetup, Place, at_place, is_end, is_place, moved_of, recabled, with_cable_moved}
-use Rattle.lagnetwork.proofs.NetworkLines.{NamesSender, SeenAlike, at_far, ends_of, is_place-some, out_of, place_parts, same_bool, same_near}
-use Rattle.lagnetwork.proofs.NetworkLines.{some-is_place}
+use Rattle.lagnetwork.proofs.Common.{refl, subst, sym, true, ℕ, ◌&&◌, ◌∙◌, ◌≡◌, ◌⊎◌, and_from, and_parts, cases_Bool, true≢false, none-some}
+use Rattle.lagnetwork.proofs.Common.{IsSubsequence, Conversation, DistributorFacts, Message, Side, party_at, cond_false, cond_true, Lanes, Every}
+use Rattle.lagnetwork.proofs.Common.{Orderly, handed_front, Fresh, IsNetworkSetup, Moved, Network, NetworkEvent, NetworkSetup, Place, at_place}
+use Rattle.lagnetwork.proofs.Common.{is_end, is_place, moved_of, recabled, with_cable_moved}
+use native.Mathlib.Omega.{arith}
+use Rattle.lagnetwork.proofs.NetworkLines.{SeenAlike, at_far, ends_of, is_place-some, out_of, place_parts, same_bool, same_near, some-is_place}
 use Rattle.lagnetwork.proofs.Networks.{AllFine, FineIn, less_part}
 
 -- the ends of a cable

@@ -1,10 +1,9 @@
 -- What each move of a system keeps of a network, and what each other change does, every run keeps.
-use Rattle.lagnetwork.proofs.Common.{Bool, List, None, Option, Some, [], subst, sym, ℕ, ◌∷◌, ◌≡◌, ◌⊎◌, Move, MoveAllowed, ModelCall, SystemSetup, View}
-use Rattle.lagnetwork.proofs.Common.{at_two, false, first_network, first_view, inl, inr, refl, true, Control, Data, Message, AllNetworkMoves, DeliversFirstAt, IsNetworkSetup}
-use Rattle.lagnetwork.proofs.Common.{Network, NetworkCall, NetworkEvent, NetworkHappens, NetworkRun, NetworkSetup, Place, RepeatsFirstAt, at_system}
-use Rattle.lagnetwork.proofs.Common.{freed_view, handed_up_from, moved_again, network_after, network_after_all, recabled, recabled_all}
-use Rattle.lagnetwork.proofs.Common.{with_cable_moved, without_first, also_forced}
-use Rattle.lagnetwork.specs.NetworkLaw.{IsNetworkInvariant}
+use Rattle.lagnetwork.proofs.Common.{Bool, List, None, Option, Some, [], false, inl, inr, refl, subst, sym, true, ℕ, ◌∷◌, ◌≡◌, ◌⊎◌, Move, MoveAllowed}
+use Rattle.lagnetwork.proofs.Common.{ModelCall, SystemSetup, View, first_view, Control, Data, Message, at_two, AllNetworkMoves, DeliversFirstAt}
+use Rattle.lagnetwork.proofs.Common.{IsNetworkSetup, Network, NetworkCall, NetworkEvent, NetworkHappens, NetworkRun, NetworkSetup, Place}
+use Rattle.lagnetwork.proofs.Common.{RepeatsFirstAt, also_forced, at_system, first_network, freed_view, handed_up_from, moved_again, network_after}
+use Rattle.lagnetwork.proofs.Common.{network_after_all, recabled, recabled_all, with_cable_moved, without_first, IsNetworkInvariant}
 use Rattle.lagnetwork.proofs.NetworkEvents.{setup_kept}
 
 -- each event is so

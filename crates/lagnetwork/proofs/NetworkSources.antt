@@ -1,14 +1,11 @@
 -- Where the LACPDU came from that a port took last.
-use Rattle.lagnetwork.proofs.Common.{◌⊎◌, None}
-use Rattle.lagnetwork.proofs.Common.{Bool, List, Option, Some, [], ap, cond, eqb, eqb-true, false, inl, inr, refl, subst, sym, true, ℕ, ◌∙◌, ◌∷◌, ◌≡◌}
-use Rattle.lagnetwork.proofs.Common.{cases_Bool, eqb-false, false≢true, true≢false, none-some, Act, Move, MoveAllowed, PortAllowed, PortMove, Restart}
-use Rattle.lagnetwork.proofs.Common.{act, act_of_port, distributor_act, port_act, port_after, view_after, ModelCall, PortFacts, SystemSetup, View}
-use Rattle.lagnetwork.proofs.Common.{at_port, first_view, Message, TakenLacpdu, taken_after, cond_false, cond_true, value_of, changed_port}
-use Rattle.lagnetwork.proofs.Common.{AllNetworkMoves, IsNetworkSetup, Moved, Moved_down, Network, NetworkCall, NetworkEvent, NetworkHappens}
-use Rattle.lagnetwork.proofs.Common.{NetworkRun, NetworkSetup, Place, Unmoved, at_system, first_network, is_end, moved_again, moved_of, network_after}
-use Rattle.lagnetwork.proofs.Common.{network_after_all, recabled, recabled_all, source_after, with_cable_moved, CablesStay}
+use Rattle.lagnetwork.proofs.Common.{Bool, List, None, Option, Some, [], ap, cond, eqb, eqb-true, false, inl, inr, refl, subst, sym, true, ℕ, ◌∷◌}
+use Rattle.lagnetwork.proofs.Common.{◌≡◌, ◌⊎◌, cases_Bool, eqb-false, none-some, Move, MoveAllowed, PortAllowed, PortMove, act, act_of_port}
+use Rattle.lagnetwork.proofs.Common.{distributor_act, port_act, port_after, view_after, ModelCall, PortFacts, SystemSetup, View, at_port, first_view}
+use Rattle.lagnetwork.proofs.Common.{Message, TakenLacpdu, taken_after, cond_false, cond_true, value_of, changed_port, IsNetworkSetup, Moved}
+use Rattle.lagnetwork.proofs.Common.{Moved_down, Network, NetworkEvent, NetworkRun, NetworkSetup, Place, Unmoved, at_system, first_network, is_end}
+use Rattle.lagnetwork.proofs.Common.{moved_again, moved_of, recabled, recabled_all, source_after, with_cable_moved, CablesStay, IsNetworkInvariant}
 use native.Mathlib.Omega.{arith}
-use Rattle.lagnetwork.specs.NetworkLaw.{IsNetworkInvariant}
 use Rattle.lagnetwork.proofs.NetworkMoves.{plug_away}
 use Rattle.lagnetwork.proofs.NetworkRuns.{Any, EachEvent, IsKept, always, runs}
 use Rattle.lagnetwork.proofs.Networks.{by_system}
@@ -128,9 +125,12 @@ unmoved x es w f c z = runs Stays At kept x f es (first_network x) w (stays_each
       apart = λ y w whole towards count forced h. h;
       handed = λ y t a b g k n w h. h;
       viewed = λ y s v w e h. h;
-      succeeded = λ y s setup after w h. (h.0, λ t p. by_system s
-          (λ t b. (cond b (λ p. moved_again (w.moved s p) ((w.view s).port p) (after.port p)) (w.moved t)) p ≡ Unmoved)
-          (ap (λ (m : Moved). moved_again m ((w.view s).port p) (after.port p)) (h.1 s p)) (λ t ne. h.1 t p) t);
+      succeeded = λ y s setup after w h. (
+        h.0,
+        λ t p. by_system s
+            (λ t b. (cond b (λ p. moved_again (w.moved s p) ((w.view s).port p) (after.port p)) (w.moved t)) p ≡ Unmoved)
+            (ap (λ (m : Moved). moved_again m ((w.view s).port p) (after.port p)) (h.1 s p)) (λ t ne. h.1 t p) t,
+      );
       pulled = λ y s p w c h. absurd c;
       plugged = λ y g s p t q w c none free h. absurd c;
     }

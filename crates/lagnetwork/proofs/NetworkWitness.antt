@@ -1,13 +1,12 @@
 -- A run of three systems, of which two have one identifier: one aggregator of the first reaches both. And one in which a cable is moved.
-use Rattle.lagnetwork.proofs.Common.{◌++◌, changed_port, ControlMessage, NetworkRun, true≢false}
 use Rattle.lagnetwork.proofs.Common.{Bool, List, None, Option, Some, [], ap, arith, cond, eqb, eqb-true, false, inl, inr, refl, subst, sym, true, ℕ}
-use Rattle.lagnetwork.proofs.Common.{◌∙◌, ◌∷◌, ◌≡◌, ◌≢◌, false≢true, none-some, same_Some, SystemId, Party, Announce, Answered, Become, Desynchronize}
-use Rattle.lagnetwork.proofs.Common.{Distribute, Flow, Join, Leave, Mark, Move, Port, Respond, Send, Take, Want, pair_at, port_after, view_after}
-use Rattle.lagnetwork.proofs.Common.{Lacp, LacpMessage, Marker, ModelCall, PortFacts, Receive, Response, SystemSetup, View, at_port, first_port}
-use Rattle.lagnetwork.proofs.Common.{first_view, is_restart, zero_party, party_at, chosen, party_moved, AllNetworkMoves, IsNetworkSetup, Network}
-use Rattle.lagnetwork.proofs.Common.{NetworkCall, NetworkEvent, NetworkHappens, NetworkSetup, Place, at_system, first_network, handed_up_from}
-use Rattle.lagnetwork.proofs.Common.{network_after, network_after_all, recabled, with_cable_moved, without_first, EndsMeetAfterMove}
-use Rattle.lagnetwork.proofs.Common.{OneAggregatorReachesTwo}
+use Rattle.lagnetwork.proofs.Common.{◌++◌, ◌∙◌, ◌∷◌, ◌≡◌, ◌≢◌, false≢true, true≢false, none-some, same_Some, SystemId, Party, Announce, Answered}
+use Rattle.lagnetwork.proofs.Common.{Become, Desynchronize, Distribute, Flow, Join, Leave, Mark, Move, Port, Respond, Send, Take, Want, pair_at}
+use Rattle.lagnetwork.proofs.Common.{port_after, view_after, ControlMessage, Lacp, LacpMessage, Marker, ModelCall, PortFacts, Receive, Response}
+use Rattle.lagnetwork.proofs.Common.{SystemSetup, at_port, first_port, first_view, is_restart, zero_party, party_at, chosen, changed_port}
+use Rattle.lagnetwork.proofs.Common.{party_moved, AllNetworkMoves, IsNetworkSetup, Network, NetworkCall, NetworkEvent, NetworkHappens, NetworkRun}
+use Rattle.lagnetwork.proofs.Common.{NetworkSetup, Place, first_network, handed_up_from, network_after, network_after_all, recabled, with_cable_moved}
+use Rattle.lagnetwork.proofs.Common.{without_first, EndsMeetAfterMove, OneAggregatorReachesTwo}
 use Rattle.lagtypes.specs.Group.{SamePair, Pair}
 use Rattle.lagnetwork.proofs.NetworkEvents.{runs_joined}
 use Rattle.lagnetwork.proofs.Networks.{by_system}

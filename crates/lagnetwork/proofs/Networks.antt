@@ -1,11 +1,11 @@
 -- What every event of any number of systems preserves.
 use Rattle.lagnetwork.proofs.Common.{Bool, IsSome, IsSomeAnd, List, None, Option, Some, [], ap, eq-eqb, eqb, eqb-true, false, inl, inr, option_map}
-use Rattle.lagnetwork.proofs.Common.{refl, subst, suc, sym, true, ℕ, ◌∙◌, ◌∷◌, ◌≡◌, ◌≢◌, ◌⊎◌, cases_Bool, eqb-false, true≢false, same_Some, Party}
-use Rattle.lagnetwork.proofs.Common.{Members, DistributorMove, Flow, Move, MoveAllowed, Port, PortAllowed, PortMove, Restart, Send, Take, act}
-use Rattle.lagnetwork.proofs.Common.{act_of_port, distributor_act, port_after, view_after, Lacp, ModelCall, PortFacts, SystemSetup, View, at_port}
-use Rattle.lagnetwork.proofs.Common.{first_view, is_restart, replies_frame, Control, Message, One, TakenLacpdu, at_two, on_cable_after, party_at}
-use Rattle.lagnetwork.proofs.Common.{sent_after, taken_after, cond_false, cond_true, value_of, Within, lanes_forced, lanes_own, lanes_peer, Lanes}
-use Rattle.lagnetwork.proofs.Common.{Every, AllHeard, Fresh, FreshPdu, Stamps, heard_own, parties_kept, stamps_counted, stamps_own, AllNetworkMoves}
+use Rattle.lagnetwork.proofs.Common.{refl, subst, suc, sym, true, ℕ, ◌∙◌, ◌∷◌, ◌≡◌, ◌≢◌, ◌⊎◌, cases_Bool, eqb-false, same_Some, Party, Members}
+use Rattle.lagnetwork.proofs.Common.{DistributorMove, Flow, Move, MoveAllowed, Port, PortAllowed, PortMove, Restart, Send, Take, act, act_of_port}
+use Rattle.lagnetwork.proofs.Common.{distributor_act, port_after, view_after, Lacp, ModelCall, PortFacts, SystemSetup, View, at_port, first_view}
+use Rattle.lagnetwork.proofs.Common.{is_restart, replies_frame, Control, Message, One, TakenLacpdu, at_two, on_cable_after, party_at, sent_after}
+use Rattle.lagnetwork.proofs.Common.{taken_after, cond_false, cond_true, value_of, Within, lanes_forced, lanes_own, lanes_peer, Lanes, Every}
+use Rattle.lagnetwork.proofs.Common.{AllHeard, Fresh, FreshPdu, Stamps, heard_own, parties_kept, stamps_counted, stamps_own, AllNetworkMoves}
 use Rattle.lagnetwork.proofs.Common.{IsNetworkSetup, Network, NetworkCall, NetworkSetup, Place, also_forced, at_system, freed_view, network_after}
 use Rattle.lagnetwork.proofs.Common.{network_after_all, source_after}
 use native.Mathlib.Omega.{arith}

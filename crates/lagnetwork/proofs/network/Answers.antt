@@ -1,8 +1,8 @@
-use Rattle.lagnetwork.proofs.Common.{recabled_all, AllBelowNext, AllCountFromZero, CablesAgree, CollectedThenFlying, EachOnePartner, EachTookInSync}
+use Rattle.lagnetwork.proofs.Common.{recabled_all, AllBelowNext, CablesAgree, CollectedThenFlying, EachOnePartner, EachTookInSync}
 use Rattle.lagnetwork.proofs.Common.{FlushedBehindMarker, FlyOnItsCable, MaySucceedItself, NamesFarEnd, NetworkInOrder, NotWithItself, OneDevice}
-use Rattle.lagnetwork.proofs.NetworkLaws.{all_below_next, cables_agree, collected_then_flying, each_took_in_sync, flushed_behind_marker, fly_on_its_cable}
-use Rattle.lagnetwork.proofs.NetworkLaws.{holds, in_order_each, names_far_end, not_with_itself, one_device, one_partner_each, took_from_ends}
-use Rattle.lagnetwork.proofs.NetworkLaws.{took_from_fixed_end}
+use Rattle.lagnetwork.proofs.NetworkLaws.{all_below_next, cables_agree, collected_then_flying, each_took_in_sync, flushed_behind_marker}
+use Rattle.lagnetwork.proofs.NetworkLaws.{fly_on_its_cable, holds, in_order_each, names_far_end, not_with_itself, one_device, one_partner_each}
+use Rattle.lagnetwork.proofs.NetworkLaws.{took_from_ends, took_from_fixed_end}
 use Rattle.lagnetwork.proofs.NetworkTakeovers.{first_markers_are_alike, may_begin_anew, may_succeed_itself}
 use Rattle.lagnetwork.proofs.NetworkEvents.{all_fine}
 use Rattle.lagnetwork.proofs.NetworkCounting.{counts_from_zero}
