@@ -1,10 +1,9 @@
 -- What is done to a system is lawful moves with at most one visible act.
-use Rattle.std.proofs.Common.{Bool, Err, List, None, Ok, Option, Result, Some, [], ap, arith, false, inl, inr, nat_lt, refl, subst, sym, true, ℕ}
-use Rattle.std.proofs.Common.{◌&&◌, ◌<◌, ◌∙◌, ◌∷◌, ◌≡◌, ◌≤◌}
-use Rattle.std.proofs.lemmas.Bool.{true≢false}
+use Rattle.std.proofs.Common.{Bool, Err, List, None, Ok, Option, Result, Some, [], ap, arith, inl, inr, nat_lt, refl, subst, sym, true, ℕ, ◌<◌, ◌∙◌}
+use Rattle.std.proofs.Common.{◌∷◌, ◌≡◌}
 use Rattle.lagtypes.specs.declared.identifiers.AggId.{AggId}
 use Rattle.lagmodel.specs.Move.{Act, LawfulMoves, Sends, Sends_frame, Took}
-use Rattle.lagmodel.specs.View.{ControlMessage, Free, ModelCall, SystemSetup, View}
+use Rattle.lagmodel.specs.View.{ControlMessage, ModelCall, SystemSetup, View}
 use Rattle.lagnetwork.specs.Network.{freed_view}
 use Rattle.lagsystem.specs.declared.fault.SystemFault.{SystemFault}
 use Rattle.lagsystem.specs.Calls.{Call}
@@ -19,16 +18,12 @@ use Rattle.std.proofs.lemmas.Bool.Decides.{nat_tests}
 use Rattle.std.specs.Prelude.{drop}
 use Rattle.slowpdu.proofs.PduInLemmas.{pdu_read}
 use Rattle.distributor.specs.declared.assignment.Assignment.{Assignment}
-use Rattle.distributor.specs.declared.assignment.Assignment.TheVariants as state
-use Rattle.distributor.specs.Chains.{is_held_on}
-use Rattle.distributor.specs.Conversations.{IsConversation}
-use Rattle.distributor.specs.Moves.{model_conversation}
 use Rattle.lagmodel.proofs.Brings.{moves_bring}
 use Rattle.lagsystem.specs.declared.drive.Reply.TheVariants as reply
 use Rattle.lagsystem.specs.declared.received.Received.TheVariants.{TookLacpdu, Respond}
 use Rattle.lagsystem.specs.Assigning.{OffersConversation, OffersIf, frame_of_conversation}
-use Rattle.lagsystem.specs.Forcing.{FreesHeld, after_forcing}
-use Rattle.lagsystem.specs.Readers.{aggregator_numbered, conversation_count, number_of_conversation}
+use Rattle.lagsystem.specs.Forcing.{FreesHeld}
+use Rattle.lagsystem.specs.Readers.{conversation_count, number_of_conversation}
 use Rattle.lagsystem.proofs.AssigningLemmas.{framed}
 
 -- ---- lawful moves
@@ -55,10 +50,6 @@ IsLawful law acts old new =
 offered_there : (there known : Bool) (gives : ℕ → ℕ → ℕ → Type 0) (agg : AggId) (conv : ℕ) (old : SystemState) (port : ℕ)
     (new : SystemState) → OffersIf there known gives agg conv old (Ok port) new → known ≡ true
 offered_there there known gives agg conv old port new h = grind (arith, nat_tests)
-
-offer_refused : (there known : Bool) (gives : ℕ → ℕ → ℕ → Type 0) (agg : AggId) (conv : ℕ) (old : SystemState) (fault : SystemFault)
-    (new : SystemState) → OffersIf there known gives agg conv old (Err fault) new → new ≡ old
-offer_refused there known gives agg conv old fault new h = grind (arith, nat_tests)
 
 offer_lawful : (gives : ℕ → ℕ → ℕ → Type 0) (agg : AggId) (conv : ℕ) (answer : Result ℕ SystemFault) (old new : SystemState)
     → OffersConversation gives agg conv old answer new
@@ -104,17 +95,6 @@ pub told_received : (n : ℕ) (octets : List ℕ) (seen : ModelCall) (o : Option
 told_received n octets seen o pdu x e h = grind (arith, nat_tests, pdu_read, drop, control_message)
 
 -- ---- what is held on a port is forced
-
-freed_held : (port : ℕ) (a : Assignment) → is_held_on port a ≡ true → model_conversation (after_forcing port a) ≡ Free
-freed_held port a h = grind (arith, nat_tests)
-
-not_held : (port : ℕ) (a : Assignment) → is_held_on port a ≡ false → after_forcing port a ≡ a
-not_held port a h = grind (arith, nat_tests)
-
--- a conversation that is there is one of the table
-in_table : (s : SystemState) (g k : ℕ) → HasConversations s → has_aggregator s (aggregator_numbered g) ≡ true
-    → nat_lt k (conversation_count s) ≡ true → IsConversation s.table g k
-in_table s g k c a b = grind (arith, nat_tests)
 
 -- what the law sees of the system
 pub held_freed : (port : ℕ) (old new : SystemState) → HasConversations old → FreesHeld port old new

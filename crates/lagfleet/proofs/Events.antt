@@ -64,6 +64,23 @@ module _ (gives : FleetAlgorithms) (far : ℕ → ℕ → Option Place) (s : ℕ
   called call answer law stamp before promise t =
       (left stamp promise.moves.1 before, answers (Makes call answer) law stamp promise.moves.1 before (promise, t, refl))
 
+  -- or just so
+  made : (call : Call) (answer : Reply) (law : ModelCall) → (promise : CallPromise (gives s) (old.systems s) call answer after)
+      → promise.moves.0 ≡ law → (new : Fleet) × ((seen : ModelCall) × (seen ≡ law)
+      × Answers gives far s (Makes call answer) seen 0 accepts old old.net new.systems new.net) × (new.systems ≡ systems)
+  made call answer law promise e =
+      let a = called call answer promise.moves.0 0 old.net promise (inl refl) in (fleet_after a.0, (promise.moves.0, e, a.1), refl)
+
+  -- of another doing
+  done : (doing : Doing) (law : ModelCall) (acts : List Act) (before : Network) → Does (gives s) doing law acts (old.systems s) after
+      → (new : Fleet) × Answers gives far s doing law 0 accepts old before new.systems new.net × (new.systems ≡ systems)
+  done doing law acts before does = (fleet_after (left 0 acts before), answers doing law 0 acts before does, refl)
+
+  -- of one that is refused
+  refused : (P : SystemState → Type 0) → after ≡ old.systems s → P after
+      → (new : Fleet) × (P (old.systems s) × (new ≡ old)) × (new.systems ≡ systems)
+  refused P same h = (old, (subst P same h, refl), same_again same)
+
   received : (p : ℕ) (octets : List ℕ) (answer : Reply) (o : Option Place) (line : List Message)
       → CarriesFirst o line octets → CallPromise (gives s) (old.systems s) (Call.Receive p octets) answer after
       → (new : Fleet) × FleetReceives gives far s p octets answer accepts o line old new × (new.systems ≡ systems)
@@ -89,19 +106,13 @@ module _ (gives : FleetAlgorithms) (far : ℕ → ℕ → Option Place) (s : ℕ
 
   each_call : (call : Call) (answer : Reply) → IsTrueOf far s old.net call → CallPromise (gives s) (old.systems s) call answer after
       → GoesOn gives far s old (Makes_call s call answer accepts) after
-  each_call Call.Tick answer h promise =
-      let a = called Call.Tick answer promise.moves.0 0 old.net promise (inl refl) in
-      (fleet_after a.0, (promise.moves.0, promise.moves.2, a.1), refl)
-  each_call (Call.Transmit p) answer h promise =
-      let a = called (Call.Transmit p) answer promise.moves.0 0 old.net promise (inl refl) in
-      (fleet_after a.0, (promise.moves.0, promise.moves.2, a.1), refl)
+  each_call Call.Tick answer h promise = made Call.Tick answer ModelCall.Tick promise promise.moves.2
+  each_call (Call.Transmit p) answer h promise = made (Call.Transmit p) answer ModelCall.Transmit promise promise.moves.2
   each_call (Call.Set_link p up) answer h promise =
       let a = called (Call.Set_link p up) answer (ModelCall.Set_link p up) 0 old.net promise (inl promise.moves.2) in
       (fleet_after a.0, (h, a.1), refl)
   each_call (Call.Receive p octets) answer h promise = received p octets answer (far s p) (old.net.towards s p) h promise
-  each_call (Call.Configure p to) answer h promise =
-      let a = called (Call.Configure p to) answer promise.moves.0 0 old.net promise (inl refl) in
-      (fleet_after a.0, (promise.moves.0, promise.moves.2, a.1), refl)
+  each_call (Call.Configure p to) answer h promise = made (Call.Configure p to) answer ModelCall.Configure promise promise.moves.2
   each_call Call.Restart reply.Restart h promise =
       let emptied : Network = record old.net {
         view = at_system old.net.view s (model_view (systems s));
@@ -118,49 +129,28 @@ module _ (gives : FleetAlgorithms) (far : ℕ → ℕ → Option Place) (s : ℕ
         refl,
       )
   each_call Call.Restart answer h promise = absurd (let x = promise.step in x)
-  each_call (Call.Offer agg frame) answer h promise =
-      let a = called (Call.Offer agg frame) answer promise.moves.0 0 old.net promise (inl refl) in
-      (fleet_after a.0, (promise.moves.0, promise.moves.2, a.1), refl)
-  each_call (Call.Move_conversation agg k p) answer h promise =
-      let a = called (Call.Move_conversation agg k p) answer promise.moves.0 0 old.net promise (inl refl) in
-      (fleet_after a.0, (promise.moves.0, promise.moves.2, a.1), refl)
-  each_call (Call.Force agg k) (reply.Force (Ok done)) h promise =
-      let before : Network = record old.net { forced = at_system old.net.forced s (at_two (old.net.forced s) agg.0 k true) } in
-      (fleet_after (left 0 [] before), answers (Forces agg k) (ModelCall.Force agg.0 k) 0 [] before (promise, refl, refl), refl)
+  each_call (Call.Offer agg frame) answer h promise = made (Call.Offer agg frame) answer ModelCall.Offer promise promise.moves.2
+  each_call (Call.Move_conversation agg k p) answer h promise = made (Call.Move_conversation agg k p) answer ModelCall.Move_conversation promise promise.moves.2
+  each_call (Call.Force agg k) (reply.Force (Ok unit)) h promise = done (Forces agg k) (ModelCall.Force agg.0 k) []
+      (record old.net { forced = at_system old.net.forced s (at_two (old.net.forced s) agg.0 k true) }) (promise, refl, refl)
   each_call (Call.Force agg k) (reply.Force (Err fault)) h promise =
-      let same = refused_same agg k (system_force_result (old.systems s) agg k) fault (old.systems s) after promise.step in (
-        old,
-        (subst (CallPromise (gives s) (old.systems s) (Call.Force agg k) (reply.Force (Err fault))) same promise, refl),
-        same_again same,
-      )
+      refused (CallPromise (gives s) (old.systems s) (Call.Force agg k) (reply.Force (Err fault)))
+      (refused_same agg k (system_force_result (old.systems s) agg k) fault (old.systems s) after promise.step) promise
   each_call (Call.Force agg k) answer h promise = absurd (let x = promise.step in x)
 
   each_host_call : (call : HostCall) (answer : HostReply) → IsOther call → HostPromise (gives s) (old.systems s) call answer after
       → GoesOn gives far s old (Asks_call s call answer accepts) after
-  each_host_call (host.OfferConversation agg conv) (told.OfferConversation answer) h promise = (
-    fleet_after (left 0 (offered agg conv answer) old.net),
-    answers (Offers agg conv answer) ModelCall.Offer 0 (offered agg conv answer) old.net (promise, refl, refl),
-    refl,
-  )
-  each_host_call (host.LeaveConversation agg conv) (told.LeaveConversation answer) h promise = (
-    fleet_after (left 0 [] old.net),
-    answers (Leaves agg conv answer) ModelCall.Move_conversation 0 [] old.net (promise, refl, refl),
-    refl,
-  )
-  each_host_call (host.Probe port) (told.Probe answer) h promise = (
-    fleet_after (left 0 promise.1.0 old.net),
-    answers (Probes port answer) ModelCall.Transmit 0 promise.1.0 old.net (promise, refl, refl),
-    refl,
-  )
-  each_host_call (host.Rest agg conv) (told.Rest (Ok done)) h promise =
-      let before : Network = record old.net { forced = at_system old.net.forced s (at_two (old.net.forced s) agg.0 conv true) } in
-      (fleet_after (left 0 [] before), answers (Rests agg conv) (ModelCall.Force agg.0 conv) 0 [] before (promise, refl, refl), refl)
+  each_host_call (host.OfferConversation agg conv) (told.OfferConversation answer) h promise =
+      done (Offers agg conv answer) ModelCall.Offer (offered agg conv answer) old.net (promise, refl, refl)
+  each_host_call (host.LeaveConversation agg conv) (told.LeaveConversation answer) h promise =
+      done (Leaves agg conv answer) ModelCall.Move_conversation [] old.net (promise, refl, refl)
+  each_host_call (host.Probe port) (told.Probe answer) h promise =
+      done (Probes port answer) ModelCall.Transmit promise.1.0 old.net (promise, refl, refl)
+  each_host_call (host.Rest agg conv) (told.Rest (Ok unit)) h promise = done (Rests agg conv) (ModelCall.Force agg.0 conv) []
+      (record old.net { forced = at_system old.net.forced s (at_two (old.net.forced s) agg.0 conv true) }) (promise, refl, refl)
   each_host_call (host.Rest agg conv) (told.Rest (Err fault)) h promise =
-      let same = refused_same agg conv (system_rest_result (old.systems s) agg conv) fault (old.systems s) after promise.0 in (
-        old,
-        (subst (HostPromise (gives s) (old.systems s) (host.Rest agg conv) (told.Rest (Err fault))) same promise, refl),
-        same_again same,
-      )
+      refused (HostPromise (gives s) (old.systems s) (host.Rest agg conv) (told.Rest (Err fault)))
+      (refused_same agg conv (system_rest_result (old.systems s) agg conv) fault (old.systems s) after promise.0) promise
   each_host_call (host.ForcePort port) (told.ForcePort (Ok count)) h promise = (
     fleet_after (record old.net {
       view = at_system old.net.view s (model_view (systems s));
@@ -174,11 +164,7 @@ module _ (gives : FleetAlgorithms) (far : ℕ → ℕ → Option Place) (s : ℕ
     refl,
   )
   each_host_call (host.ForcePort port) (told.ForcePort (Err fault)) h promise =
-      let same = promise.1.same in (
-        old,
-        (subst (HostPromise (gives s) (old.systems s) (host.ForcePort port) (told.ForcePort (Err fault))) same promise, refl),
-        same_again same,
-      )
+      refused (HostPromise (gives s) (old.systems s) (host.ForcePort port) (told.ForcePort (Err fault))) promise.1.same promise
   each_host_call (host.Call call) answer h promise = absurd h
   each_host_call call answer h promise = absurd promise
 
@@ -189,8 +175,5 @@ pub host_calls_are_events : (gives : FleetAlgorithms) → EachHostCallIsAnEvent 
 host_calls_are_events gives far s old call answer accepts after h promise = each_host_call gives far s old accepts after call answer h promise
 
 pub settings_are_events : (gives : FleetAlgorithms) → EachSettingIsAnEvent gives
-settings_are_events gives far s old setting answer after promise = (
-  fleet_after gives far s old (λ a. true) after (left gives far s old (λ a. true) after 0 [] old.net),
-  answers gives far s old (λ a. true) after (Sets setting answer) ModelCall.Tick 0 [] old.net (promise, refl, refl),
-  refl,
-)
+settings_are_events gives far s old setting answer after promise =
+    done gives far s old (λ a. true) after (Sets setting answer) ModelCall.Tick [] old.net (promise, refl, refl)

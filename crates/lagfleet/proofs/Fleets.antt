@@ -14,7 +14,8 @@ use Rattle.lagnetwork.specs.Network.{towards_after, without_first, Force}
 use Rattle.lagnetwork.specs.NetworkLaw.{CablesStay, IsNetworkInvariant, TookFromFixedEnd}
 use Rattle.lagnetwork.proofs.NetworkCalls.{calls_from}
 use Rattle.lagnetwork.proofs.NetworkEvents.{recabled_joined, runs_joined}
-use Rattle.lagnetwork.proofs.Networks.{elsewhere, is_or_not, there}
+use Rattle.lagnetwork.proofs.Networks.{AllFine, by_system, elsewhere, there}
+use Rattle.lagnetwork.proofs.NetworkLaws.{holds}
 use Rattle.lagsystem.specs.declared.drive.HostCall.{HostCall}
 use Rattle.lagsystem.specs.declared.drive.HostReply.{HostReply}
 use Rattle.lagsystem.specs.declared.drive.Reply.{Reply}
@@ -48,40 +49,18 @@ acts_view x s stamp accepts (a ∷ more) v w = acts_view x s stamp accepts more 
   source = at_system w.source s (source_after (x.far s) (Some a) (w.source s));
 })
 
--- one system answers, and the others stay
-one_by_one : (old new : ℕ → SystemState) (s : ℕ) (P : ℕ → SystemState → SystemState → Type 0) → new ≡ at_system old s (new s)
-    → P s (old s) (new s) → ((t : ℕ) → (t ≡ s → ⊥) → P t (old t) (old t)) → (t : ℕ) → P t (old t) (new t)
-one_by_one old new s P e here others t = grind arith
-
 module _ (gives : FleetAlgorithms) (x : NetworkSetup) where
-  -- one system is another, and the network shows it
-  seen : (s : ℕ) (old : Fleet) (systems : ℕ → SystemState) (net : Network) → Shown x.setup old.systems old.net
+  -- one system is another, of this configuration, and the network shows it
+  placed : (s : ℕ) (old : Fleet) (systems : ℕ → SystemState) (net : Network) (setups : ℕ → SystemSetup) → Shown x.setup old.systems old.net
       → systems ≡ at_system old.systems s (systems s) → net.view ≡ at_system old.net.view s (model_view (systems s))
-      → (t : ℕ) → net.view t ≡ model_view (systems t)
-  seen s old systems net i others view t = ap (λ (f : ℕ → View). f t) view
-      ∙ is_or_not (at_system old.net.view s (model_view (systems s)) t ≡ model_view (systems t)) t s
-      (λ e. subst (λ t. at_system old.net.view s (model_view (systems s)) t ≡ model_view (systems t)) (sym e)
-      (there old.net.view s (model_view (systems s))))
-      (λ ne. elsewhere old.net.view s (model_view (systems s)) t ne ∙ i.view t
-      ∙ ap model_view (sym (ap (λ (f : ℕ → SystemState). f t) others ∙ elsewhere old.systems s (systems s) t ne)))
-
-  -- of the same configuration
-  placed : (s : ℕ) (old : Fleet) (systems : ℕ → SystemState) (net : Network) → Shown x.setup old.systems old.net
-      → systems ≡ at_system old.systems s (systems s) → model_setup (systems s) ≡ model_setup (old.systems s)
-      → net.view ≡ at_system old.net.view s (model_view (systems s)) → Shown x.setup systems net
-  placed s old systems net i others kept view = record {
-    setup = one_by_one old.systems systems s (λ t o n. model_setup n ≡ x.setup t) others (kept ∙ i.setup s) (λ t ne. i.setup t);
-    view = seen s old systems net i others view;
-  }
-
-  -- or of this configuration
-  given_way : (s : ℕ) (setup : SystemSetup) (old : Fleet) (systems : ℕ → SystemState) (net : Network) → Shown x.setup old.systems old.net
-      → systems ≡ at_system old.systems s (systems s) → model_setup (systems s) ≡ setup
-      → net.view ≡ at_system old.net.view s (model_view (systems s)) → Shown (at_system x.setup s setup) systems net
-  given_way s setup old systems net i others is view = record {
-    setup = one_by_one old.systems systems s (λ t o n. model_setup n ≡ at_system x.setup s setup t) others
-        (is ∙ sym (there x.setup s setup)) (λ t ne. i.setup t ∙ sym (elsewhere x.setup s setup t ne));
-    view = seen s old systems net i others view;
+      → model_setup (systems s) ≡ setups s → ((t : ℕ) → (t ≡ s → ⊥) → x.setup t ≡ setups t) → Shown setups systems net
+  placed s old systems net setups i others view is same = record {
+    setup = λ t. ap (λ (f : ℕ → SystemState). model_setup (f t)) others
+        ∙ by_system s (λ t b. model_setup (cond b (systems s) (old.systems t)) ≡ setups t) is (λ t ne. i.setup t ∙ same t ne) t;
+    view = λ t. ap (λ (f : ℕ → View). f t) view
+        ∙ by_system s (λ t b. cond b (model_view (systems s)) (old.net.view t) ≡ model_view (cond b (systems s) (old.systems t)))
+        refl (λ t ne. i.view t) t
+        ∙ ap (λ (f : ℕ → SystemState). model_view (f t)) (sym others);
   }
 
   answered : (s : ℕ) (doing : Doing) (law : ModelCall) (stamp : ℕ) (accepts : Act → Bool) (old : Fleet) (before : Network)
@@ -96,10 +75,10 @@ module _ (gives : FleetAlgorithms) (x : NetworkSetup) where
       (sym (ap (λ (f : ℕ → View). f s) same ∙ i.view s))
       (subst (λ (u : SystemSetup). LawfulMoves u law (model_view (old.systems s)) a.acts shown) (i.setup s) both.0) in (
         calls_from x s law stamp old.net before after shown a.acts accepts a.count lawful a.counts a.leaves,
-        placed s old systems after i a.others both.1
+        placed s old systems after x.setup i a.others
             (ap (λ (w : Network). w.view) a.leaves
             ∙ acts_view (fleet_setup x.far old.systems) s stamp accepts a.acts shown before
-            ∙ ap (λ (v : ℕ → View). at_system v s shown) same),
+            ∙ ap (λ (v : ℕ → View). at_system v s shown) same) (both.1 ∙ i.setup s) (λ t ne. refl),
       )
 
   still : (old new : Fleet) → Shown x.setup old.systems old.net → new.systems ≡ old.systems → new.net.view ≡ old.net.view
@@ -197,7 +176,8 @@ module _ (gives : FleetAlgorithms) (x : NetworkSetup) where
             count = z.count;
           }) first,
         ),
-        placed s old new.systems new.net i z.others z.promise.configured (ap (λ (w : Network). w.view) z.leaves),
+        placed s old new.systems new.net x.setup i z.others (ap (λ (w : Network). w.view) z.leaves) (z.promise.configured ∙ i.setup s)
+            (λ t ne. refl),
       )
 
   -- a call of which the law is told so
@@ -207,11 +187,15 @@ module _ (gives : FleetAlgorithms) (x : NetworkSetup) where
   plain s doing law seen accepts old new i e z = answered s doing law 0 accepts old old.net new.systems new.net i refl
       (subst (λ l. Answers gives x.far s doing l 0 accepts old old.net new.systems new.net) e z)
 
+  made : (s : ℕ) (call : Call) (answer : Reply) (law : ModelCall) (accepts : Act → Bool) (old new : Fleet) → Shown x.setup old.systems old.net
+      → (seen : ModelCall) × (seen ≡ law) × Answers gives x.far s (Makes call answer) seen 0 accepts old old.net new.systems new.net
+      → NetworkCall x s law 0 old.net old.net new.net × Shown x.setup new.systems new.net
+  made s call answer law accepts old new i z = plain s (Makes call answer) law z.0 accepts old new i z.1 z.2
+
   calls : (s : ℕ) (call : Call) (answer : Reply) (accepts : Act → Bool) (old new : Fleet) → Shown x.setup old.systems old.net
       → FleetCalls gives x.far s call answer accepts old new → IsPlayed old new
-  calls s Call.Tick answer accepts old new i z = one (Tick s 1) old new (plain s (Makes Call.Tick answer) ModelCall.Tick z.0 accepts old new i z.1 z.2)
-  calls s (Call.Transmit p) answer accepts old new i z = one (Emit s p) old new
-      (plain s (Makes (Call.Transmit p) answer) ModelCall.Transmit z.0 accepts old new i z.1 z.2)
+  calls s Call.Tick answer accepts old new i z = one (Tick s 1) old new (made s Call.Tick answer ModelCall.Tick accepts old new i z)
+  calls s (Call.Transmit p) answer accepts old new i z = one (Emit s p) old new (made s (Call.Transmit p) answer ModelCall.Transmit accepts old new i z)
   calls s (Call.Set_link p up) answer accepts old new i z = one (Sense s p) old new
       (plain s (Makes (Call.Set_link p up) answer) (ModelCall.Set_link p (old.net.whole s p)) (ModelCall.Set_link p up) accepts old new i
       (ap (ModelCall.Set_link p) z.0) z.1)
@@ -219,13 +203,13 @@ module _ (gives : FleetAlgorithms) (x : NetworkSetup) where
       received s p octets answer accepts (x.far s p) (old.net.towards s p) old new refl refl i z
   calls s (Call.Configure p to) answer accepts old new i z =
       one (Configure s p (record { key = to.key; priority = to.priority; aggregatable = to.aggregatable })) old new
-      (plain s (Makes (Call.Configure p to) answer) ModelCall.Configure z.0 accepts old new i z.1 z.2)
+      (made s (Call.Configure p to) answer ModelCall.Configure accepts old new i z)
   calls s Call.Restart reply.Restart accepts old new i z = restarts s old new i z
   calls s Call.Restart answer accepts old new i z = absurd z
   calls s (Call.Offer agg frame) answer accepts old new i z = one (Offer s agg.0 frame) old new
-      (plain s (Makes (Call.Offer agg frame) answer) ModelCall.Offer z.0 accepts old new i z.1 z.2)
+      (made s (Call.Offer agg frame) answer ModelCall.Offer accepts old new i z)
   calls s (Call.Move_conversation agg k p) answer accepts old new i z = one (Move_conversation s agg.0 k p) old new
-      (plain s (Makes (Call.Move_conversation agg k p) answer) ModelCall.Move_conversation z.0 accepts old new i z.1 z.2)
+      (made s (Call.Move_conversation agg k p) answer ModelCall.Move_conversation accepts old new i z)
   calls s (Call.Force agg k) (reply.Force (Ok done)) accepts old new i z = forces s agg k (Forces agg k) accepts old new i z
   calls s (Call.Force agg k) (reply.Force (Err fault)) accepts old new i z = nothing old new i z.1
   calls s (Call.Force agg k) answer accepts old new i z = absurd z
@@ -240,7 +224,7 @@ module _ (gives : FleetAlgorithms) (x : NetworkSetup) where
           view = at_system old.net.view s v;
           forced = at_system old.net.forced s (also_forced test (old.net.forced s));
         }) seen,
-        placed s old new.systems new.net i z.others both.1 (ap (λ (w : Network). w.view) z.leaves),
+        placed s old new.systems new.net x.setup i z.others (ap (λ (w : Network). w.view) z.leaves) (both.1 ∙ i.setup s) (λ t ne. refl),
       )
 
   asks : (s : ℕ) (call : HostCall) (answer : HostReply) (accepts : Act → Bool) (old new : Fleet) → Shown x.setup old.systems old.net
@@ -257,37 +241,17 @@ module _ (gives : FleetAlgorithms) (x : NetworkSetup) where
   asks s (host.ForcePort port) (told.ForcePort (Err fault)) accepts old new i z = nothing old new i z.1
   asks s call answer accepts old new i z = absurd z
 
-  -- what happens on cables leaves the views
-  cables_view : (e : NetworkEvent) (old new : Network) → IsOnCables e → NetworkHappens x e old new
-      → new.view ≡ old.view
-  cables_view (Lose s p) old new h z = ap (λ (w : Network). w.view) z
-  cables_view (Cut s p) old new h z = ap (λ (w : Network). w.view) z
-  cables_view (Join s p) old new h z = ap (λ (w : Network). w.view) z
-  cables_view (Overtake s p line) old new h z = ap (λ (w : Network). w.view) z.1
-  cables_view (Pull s p) old new h z = ap (λ (w : Network). w.view) z
-  cables_view (Plug s p t q) old new h z = ap (λ (w : Network). w.view) z.2
-  cables_view e old new h z = absurd h
-
-  -- and the configurations
-  cables_setup : (e : NetworkEvent) → IsOnCables e → x.setup ≡ (recabled x e).setup
-  cables_setup (Lose s p) h = refl
-  cables_setup (Cut s p) h = refl
-  cables_setup (Join s p) h = refl
-  cables_setup (Overtake s p line) h = refl
-  cables_setup (Pull s p) h = refl
-  cables_setup (Plug s p t q) h = refl
-  cables_setup e h = absurd h
-
-  -- the law of cables knows no configuration
-  cables_alike : (e : NetworkEvent) (old new : Network) (systems : ℕ → SystemState) → IsOnCables e
-      → NetworkHappens (fleet_setup x.far systems) e old new → NetworkHappens x e old new
-  cables_alike (Lose s p) old new systems h z = z
-  cables_alike (Cut s p) old new systems h z = z
-  cables_alike (Join s p) old new systems h z = z
-  cables_alike (Overtake s p line) old new systems h z = z
-  cables_alike (Pull s p) old new systems h z = z
-  cables_alike (Plug s p t q) old new systems h z = z
-  cables_alike e old new systems h z = absurd h
+  -- what happens on cables leaves views and configurations, and its law knows no configuration
+  on_cables : (e : NetworkEvent) (old new : Network) (systems : ℕ → SystemState) → IsOnCables e
+      → NetworkHappens (fleet_setup x.far systems) e old new
+      → (new.view ≡ old.view) × (x.setup ≡ (recabled x e).setup) × NetworkHappens x e old new
+  on_cables (Lose s p) old new systems h z = (ap (λ (w : Network). w.view) z, refl, z)
+  on_cables (Cut s p) old new systems h z = (ap (λ (w : Network). w.view) z, refl, z)
+  on_cables (Join s p) old new systems h z = (ap (λ (w : Network). w.view) z, refl, z)
+  on_cables (Overtake s p line) old new systems h z = (ap (λ (w : Network). w.view) z.1, refl, z)
+  on_cables (Pull s p) old new systems h z = (ap (λ (w : Network). w.view) z, refl, z)
+  on_cables (Plug s p t q) old new systems h z = (ap (λ (w : Network). w.view) z.2, refl, z)
+  on_cables e old new systems h z = absurd h
 
   steps : (e : FleetEvent) (old new : Fleet) → Shown x.setup old.systems old.net → FleetSteps gives x.far e old new
       → PlaysTo (StaysBy e) (recabled_by x e) old new
@@ -310,15 +274,12 @@ module _ (gives : FleetAlgorithms) (x : NetworkSetup) where
           },
           z.2.2,
         ),
-        given_way s setup old new.systems new.net i z.1 z.0 (ap (λ (w : Network). w.view) z.2.2),
+        placed s old new.systems new.net (at_system x.setup s setup) i z.1 (ap (λ (w : Network). w.view) z.2.2)
+            (z.0 ∙ sym (there x.setup s setup)) (λ t ne. sym (elsewhere x.setup s setup t ne)),
       )
   steps (Befalls e) old new i z =
-      let happens = cables_alike e old.net new.net old.systems z.0 z.2 in
-      one e old new (
-        happens,
-        subst (λ (setups : ℕ → SystemSetup). Shown setups new.systems new.net) (cables_setup e z.0)
-            (still old new i z.1 (cables_view e old.net new.net z.0 happens)),
-      )
+      let r = on_cables e old.net new.net old.systems z.0 z.2 in
+      one e old new (r.2, subst (λ (setups : ℕ → SystemSetup). Shown setups new.systems new.net) r.1 (still old new i z.1 r.0))
 
 stay_joined : (es fs : List NetworkEvent) → CablesStay es → CablesStay fs → CablesStay (es ++ fs)
 stay_joined [] fs c d = d
@@ -360,6 +321,11 @@ fleet_setup_is far systems h = record { setup = λ s. configured_setup (systems 
 -- what holds after each event of a network holds after each of a fleet
 pub holds_of_fleet : (gives : FleetAlgorithms) (P : NetworkSetup → Network → Type 0) → IsNetworkInvariant P → IsFleetInvariant gives P
 holds_of_fleet gives P h far events start end cabled first z = grind (arith, fleet_runs, fleet_setup, fleet_setup_is)
+
+-- so does what follows from the facts
+pub kept_of_fleet : (gives : FleetAlgorithms) (P : NetworkSetup → Network → Type 0)
+    → ((x : NetworkSetup) (w : Network) → AllFine x w → P x w) → IsFleetInvariant gives P
+kept_of_fleet gives P h = holds_of_fleet gives P (holds P h)
 
 -- and what holds where no cable is moved
 pub fixed_of_fleet : (gives : FleetAlgorithms) → TookFromFixedEnd → FleetTookFromFixedEnd gives

@@ -1,11 +1,9 @@
 -- One system beside any peer: what it does moves the scene as the law has it.
 use Rattle.std.proofs.Common.{Bool, Err, List, Ok, Option, Result, Some, [], ap, arith, false, inl, refl, subst, sym, true, ℕ, ◌∙◌, ◌∷◌, ◌≡◌}
-use Rattle.std.proofs.lemmas.Bool.{true≢false}
 use Rattle.lagtypes.specs.declared.identifiers.AggId.{AggId}
 use Rattle.lagmodel.specs.Move.{Act, LawfulMoves}
 use Rattle.lagmodel.specs.Succession.{IsSuccessor}
-use Rattle.lagmodel.specs.View.{ControlMessage, Flushing, Force, IsSystemSetup, ModelCall, On, Receive, Set_link, SystemSetup, View}
-use Rattle.lagmodel.specs.View.{conversation_port, first_view, is_restart}
+use Rattle.lagmodel.specs.View.{Flushing, Force, IsSystemSetup, ModelCall, On, SystemSetup, View, conversation_port, first_view, is_restart}
 use Rattle.lagmodel.specs.World.{One, at_two, on_cable_after, sent_after, taken_after}
 use Rattle.lagnetwork.specs.Network.{also_forced, freed_view}
 use Rattle.lagnetwork.proofs.NetworkEvents.{members_alike}
@@ -233,15 +231,6 @@ asks_nothing law = false
 
 fits_any : (law : ModelCall) (ends : ℕ → Option ℕ) (w : Scene) → is_restart law ≡ false → asks_nothing law ≡ true → Fits law 0 ends w
 fits_any law ends w r h = grind arith
-
-receive_force : (p g k : ℕ) (a : Option ControlMessage) → Force g k ≡ Receive p a → ⊥
-receive_force p g k a e = cc
-
-link_force : (p g k : ℕ) (up : Bool) → Force g k ≡ Set_link p up → ⊥
-link_force p g k up e = cc
-
-force_parts : (g k h j : ℕ) → Force g k ≡ Force h j → (g ≡ h) × (k ≡ j)
-force_parts g k h j e = (cc, cc)
 
 fits_forced : (g k : ℕ) (ends : ℕ → Option ℕ) (w : Scene) → Fits (Force g k) 0 ends (record w { forced = at_two w.forced g k true })
 fits_forced g k ends w = grind arith

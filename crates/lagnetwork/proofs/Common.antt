@@ -31,7 +31,8 @@ pub use Rattle.lagnetwork.specs.Network.{RepeatsFirstAt, Unmoved, also_forced, a
 pub use Rattle.lagnetwork.specs.Network.{handed_up_from, is_at, is_end, is_place, moved_again, moved_of, network_after, network_after_act}
 pub use Rattle.lagnetwork.specs.Network.{network_after_acts, network_after_all, put_on_line, recabled, recabled_all, source_after, towards_after}
 pub use Rattle.lagnetwork.specs.Network.{with_cable_moved, without_first}
-pub use Rattle.lagnetwork.specs.NetworkLaw.{AllBelowNext, AllCountFromZero, CablesAgree, CablesStay, CollectedThenFlying, EachOnePartner}
-pub use Rattle.lagnetwork.specs.NetworkLaw.{EachTookInSync, EndsMeetAfterMove, FirstMarkersAreAlike, FlushedBehindMarker, FlyOnItsCable}
-pub use Rattle.lagnetwork.specs.NetworkLaw.{GoesByItsCable, IsUpToDate, MayBeginAnew, MaySucceedItself, NamesFarEnd, NetworkInOrder, NotWithItself}
-pub use Rattle.lagnetwork.specs.NetworkLaw.{OneAggregatorReachesTwo, OneDevice, TookFromFarEnd, TookFromFixedEnd, scene_of}
+pub use Rattle.lagnetwork.specs.NetworkLaw.{AllBelowNext, AllCountFromZero, CablesAgree, CablesStay, CollectedThenFlying, EachCollectorInOrder}
+pub use Rattle.lagnetwork.specs.NetworkLaw.{EachOnePartner, EachTookInSync, EndsMeetAfterMove, FirstMarkersAreAlike, FlushedBehindMarker}
+pub use Rattle.lagnetwork.specs.NetworkLaw.{FlyOnItsCable, GoesByItsCable, IsNetworkInvariant, MayBeginAnew, MaySucceedItself, NamesFarEnd}
+pub use Rattle.lagnetwork.specs.NetworkLaw.{NetworkInOrder, NotWithItself, OneAggregatorReachesTwo, OneDevice, TookFromFarEnd, TookFromFixedEnd}
+pub use Rattle.lagnetwork.specs.NetworkLaw.{scene_of}

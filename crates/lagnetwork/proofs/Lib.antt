@@ -3,7 +3,7 @@ pub mod NetworkLines
 pub mod Networks
 pub mod NetworkMoves
 pub mod NetworkEvents
-mod NetworkReceives
+mod NetworkRuns
 pub mod NetworkSources
 pub mod NetworkLaws
 pub mod NetworkTakeovers

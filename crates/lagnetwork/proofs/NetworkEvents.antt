@@ -1,50 +1,39 @@
 -- Every event of a network preserves the facts, and so does every run.
 use Rattle.lagnetwork.proofs.Common.{Bool, List, None, Option, Some, [], ap, cond, eq-eqb, eqb, eqb-true, false, inl, inr, refl, subst, sym, true, ℕ}
-use Rattle.lagnetwork.proofs.Common.{◌&&◌, ◌++◌, ◌∙◌, ◌∷◌, ◌≡◌, and_from, and_parts, cases_Bool, false≢true, true≢false, none-some, drop, Party}
-use Rattle.lagnetwork.proofs.Common.{Members, Configure, ControlMessage, Force, ModelCall, Move_conversation, Offer, PortFacts, Receive, Set_link}
-use Rattle.lagnetwork.proofs.Common.{SystemSetup, Tick, Transmit, View, first_view, is_restart, Control, Data, Message, One, Side, at_cable, at_two}
-use Rattle.lagnetwork.proofs.Common.{party_at, cond_false, cond_true, cable_cases, lanes_handed, lanes_restarted, Every, IsFrom, members_first}
-use Rattle.lagnetwork.proofs.Common.{Stamps, heard_first, stamps_emptied, CountsNetworkChanges, DeliversFirstAt, IsNetworkSetup, IsNetworkSuccessor}
-use Rattle.lagnetwork.proofs.Common.{Network, NetworkCall, NetworkEvent, NetworkHappens, NetworkRun, NetworkSetup, Place, RepeatsFirstAt, also_forced}
-use Rattle.lagnetwork.proofs.Common.{at_place, at_system, ends_at, first_network, freed_view, handed_up_from, is_at, is_end, moved_again, recabled}
-use Rattle.lagnetwork.proofs.Common.{recabled_all, without_first}
+use Rattle.lagnetwork.proofs.Common.{◌&&◌, ◌++◌, ◌∙◌, ◌∷◌, ◌≡◌, and_from, and_parts, cases_Bool, true≢false, drop, Party, Members, Configure}
+use Rattle.lagnetwork.proofs.Common.{ControlMessage, Force, ModelCall, Move_conversation, Offer, PortFacts, Receive, Set_link, SystemSetup, Tick}
+use Rattle.lagnetwork.proofs.Common.{Transmit, View, first_view, Control, Data, Message, One, Side, at_cable, at_two, party_at, cond_false, cond_true}
+use Rattle.lagnetwork.proofs.Common.{cable_cases, lanes_handed, lanes_restarted, Every, IsFrom, members_first, Stamps, heard_first, stamps_emptied}
+use Rattle.lagnetwork.proofs.Common.{CountsNetworkChanges, DeliversFirstAt, IsNetworkSetup, IsNetworkSuccessor, Network, NetworkCall, NetworkEvent}
+use Rattle.lagnetwork.proofs.Common.{NetworkHappens, NetworkRun, NetworkSetup, Place, RepeatsFirstAt, also_forced, at_place, at_system, ends_at}
+use Rattle.lagnetwork.proofs.Common.{first_network, freed_view, handed_up_from, is_at, is_end, moved_again, recabled, recabled_all, without_first}
 use native.Mathlib.Omega.{arith}
-use Rattle.lagmodel.specs.View.{Restart}
 use Rattle.lagmodel.specs.Succession.{IsAlikeSetup}
-use Rattle.lagnetwork.proofs.NetworkLines.{IsOwn, NamesSender, lanes_succeeded, ends_of, at_far, out_of, SeenAlike, BeginsWith, Amid, IsLess}
+use Rattle.lagnetwork.proofs.NetworkLines.{IsOwn, NamesSender, lanes_succeeded, ends_of, at_far, out_of, SeenAlike, BeginsWith, Amid, IsLess, by_less}
 use Rattle.lagnetwork.proofs.NetworkLines.{lanes_less, ends_once, same_near}
 use Rattle.lagnetwork.proofs.NetworkMoves.{end_alike, plug_setup, plugged_kept, pull_setup, pulled_kept}
-use Rattle.lagnetwork.proofs.Networks.{Last, freed_part, apart_first, Fine, FineIn, AllFine, Calling, call_kept, begins_call, fine_along, less_part}
-use Rattle.lagnetwork.proofs.Networks.{counted_part, forced_part, there, elsewhere, is_or_not}
+use Rattle.lagnetwork.proofs.Networks.{Last, freed_part, apart_first, Fine, AllFine, Calling, call_kept, begins_call, fine_along, less_part}
+use Rattle.lagnetwork.proofs.Networks.{by_system, counted_part, forced_part, there, elsewhere, is_or_not}
 use Rattle.lagmodel.proofs.Events.{quiet}
-
-quiet_not : (call other : ModelCall) → quiet call ≡ true → quiet other ≡ false → call ≡ other → ⊥
-quiet_not call other h n e = true≢false (sym h ∙ ap quiet e ∙ n)
-
-quiet-running : (call : ModelCall) → quiet call ≡ true → is_restart call ≡ false
-quiet-running call h = grind arith
 
 amid_quiet : (x : NetworkSetup) (call : ModelCall) (stamp s : ℕ) (towards : ℕ → ℕ → List Message) (whole : ℕ → ℕ → Bool) (forced : ℕ → ℕ → Bool)
     → quiet call ≡ true → Amid x call stamp s towards whole forced
 amid_quiet x call stamp s towards whole forced h = grind arith
 
-receive_parts : (p q : ℕ) (a b : ControlMessage) → Receive p (Some a) ≡ Receive q (Some b) → (p ≡ q) × (a ≡ b)
-receive_parts p q a b e = (cc, cc)
+-- of a link's state, or of what a port without a cable hears
+amid_link : (x : NetworkSetup) (s p : ℕ) (towards : ℕ → ℕ → List Message) (whole : ℕ → ℕ → Bool) (forced : ℕ → ℕ → Bool)
+    → Amid x (Set_link p (whole s p)) 0 s towards whole forced
+amid_link x s p towards whole forced =
+    record { running = refl; came = λ q pdu a y n. absurd cc; downed = λ q y. cc; forcing = λ g k y. absurd cc }
 
-receive_link : (p q : ℕ) (a : Option ControlMessage) (up : Bool) → Receive p a ≡ Set_link q up → ⊥
-receive_link p q a up e = cc
-
-receive_force : (p g k : ℕ) (a : Option ControlMessage) → Receive p a ≡ Force g k → ⊥
-receive_force p g k a e = cc
-
-link_parts : (p q : ℕ) (a b : Bool) → Set_link p a ≡ Set_link q b → (p ≡ q) × (a ≡ b)
-link_parts p q a b e = (cc, cc)
-
-link_force : (p g k : ℕ) (a : Bool) → Set_link p a ≡ Force g k → ⊥
-link_force p g k a e = cc
-
-force_parts : (g k h j : ℕ) → Force g k ≡ Force h j → (g ≡ h) × (k ≡ j)
-force_parts g k h j e = (cc, cc)
+amid_hear : (x : NetworkSetup) (s p : ℕ) (pdu : ControlMessage) (stamp : ℕ) (towards : ℕ → ℕ → List Message) (whole : ℕ → ℕ → Bool)
+    (forced : ℕ → ℕ → Bool) → x.far s p ≡ None → Amid x (Receive p (Some pdu)) stamp s towards whole forced
+amid_hear x s p pdu stamp towards whole forced none = record {
+  running = refl;
+  came = λ q other a e h. absurd cc;
+  downed = λ q e. absurd cc;
+  forcing = λ g k e. absurd cc;
+}
 
 amid_receive : (x : NetworkSetup) (s p : ℕ) (pdu : ControlMessage) (stamp : ℕ) (towards : ℕ → ℕ → List Message) (whole : ℕ → ℕ → Bool) (forced : ℕ → ℕ → Bool)
     → BeginsWith (Control pdu stamp) (towards s p) → Amid x (Receive p (Some pdu)) stamp s towards whole forced
@@ -60,17 +49,12 @@ quiet_kept x f s call old new q i z =
     call_kept x f s call 0 old old new refl (started x s call 0 old i (amid_quiet x call 0 s old.towards old.whole (old.forced s) q)) z
 
 less_nothing : (new : List Message) → IsLess new [] → new ≡ []
-less_nothing new h = elim h [
-  | inl x ↦ x
-  | inr y ↦ elim y [ inl x ↦ x | inr z ↦ elim z [ inl x ↦ absurd (impossible x.0 x.1) | inr o ↦ absurd (longer o.front o.other o.lacpdu o.back o.before) ] ]
-]
+less_nothing new h = by_less (λ l. l ≡ []) new [] h refl refl (λ m e. absurd cc)
+    (λ o. absurd (longer o.front o.other o.lacpdu o.back o.before))
   where
     longer : (front : List Message) (m n : Message) (back : List Message) → [] ≡ front ++ m ∷ n ∷ back → ⊥
     longer [] m n back e = cc
     longer (l ∷ front) m n back e = cc
-
-    impossible : (m : Message) → [] ≡ m ∷ new → ⊥
-    impossible m e = cc
 
 out_less : (x : NetworkSetup) (towards towards' : ℕ → ℕ → List Message) → ((t q : ℕ) → IsLess (towards' t q) (towards t q))
     → (r c : ℕ) → IsLess (out_of x towards' r c) (out_of x towards r c)
@@ -205,26 +189,21 @@ restarted_kept x f w s count i h = record {
 
     before : (r : ℕ) → Fine x r (at_system w.view s (first_view (x.setup s)) r) (party_at (w.view r)) (w.count r) (out_of x towards' r)
         (towards' r) (w.whole r) (w.sent r) (w.collected r) (w.forced r) (w.taken r) w.taken w.source
-    before r = is_or_not (Fine x r (at_system w.view s (first_view (x.setup s)) r) (party_at (w.view r)) (w.count r) (out_of x towards' r)
-        (towards' r) (w.whole r) (w.sent r) (w.collected r) (w.forced r) (w.taken r) w.taken w.source) r s
-        (λ e. subst (λ r. Fine x r (at_system w.view s (first_view (x.setup s)) r) (party_at (w.view r)) (w.count r) (out_of x towards' r)
-        (towards' r) (w.whole r) (w.sent r) (w.collected r) (w.forced r) (w.taken r) w.taken w.source) (sym e)
+    before r = by_system s (λ r b. Fine x r (cond b (first_view (x.setup s)) (w.view r)) (party_at (w.view r)) (w.count r)
+        (out_of x towards' r) (towards' r) (w.whole r) (w.sent r) (w.collected r) (w.forced r) (w.taken r) w.taken w.source)
         (fine_along x s (party_at (w.view s)) (w.count s) (w.whole s) (w.collected s) (w.forced s) _ _ _ _ _ _ _ _ _ _ w.taken w.source
-        (sym (there w.view s (first_view (x.setup s)))) (λ j c. out_none c j) (λ j q. back_none q j) refl refl at_start))
-        (λ ne. fine_along x r (party_at (w.view r)) (w.count r) (w.whole r) (w.collected r) (w.forced r) _ _ _ _ _ _ _ _ _ _ w.taken w.source
-        (sym (elsewhere w.view s (first_view (x.setup s)) r ne)) refl refl refl refl
-        (less_part (i.each r) (out_of x towards' r) (towards' r) (w.whole r) (out_less x w.towards towards' less r) (less r)
-        (still_nothing x w i towards' less r)))
+        refl (λ j c. out_none c j) (λ j q. back_none q j) refl refl at_start)
+        (λ r ne. less_part (i.each r) (out_of x towards' r) (towards' r) (w.whole r) (out_less x w.towards towards' less r) (less r)
+        (still_nothing x w i towards' less r)) r
 
 -- a frame is handed up
 handed_kept : (x : NetworkSetup) → IsNetworkSetup x → (w : Network) (s p up : ℕ) (a : Place) (g k n : ℕ) (ms : List Message) → AllFine x w
     → x.far s p ≡ Some a → w.towards s p ≡ Data One g k n ∷ ms → AllFine x (handed_up_from s (Some a) (Some up) g k n (without_first s p w))
 handed_kept x f w s p up a g k n ms i e h = record {
   alike = i.alike;
-  each = λ r. is_or_not (FineIn x (λ t. party_at (w.view t)) (handed_up_from s (Some a) (Some up) g k n (without_first s p w)) r) r a.system
-      (λ y. subst (FineIn x (λ t. party_at (w.view t)) (handed_up_from s (Some a) (Some up) g k n (without_first s p w))) (sym y) here)
-      (λ ne. collects r _ (sym (elsewhere w.collected a.system (at_two (w.collected a.system) g k (w.collected a.system g k ++ n ∷ [])) r ne))
-      (popped.each r));
+  each = by_system a.system (λ r b. Fine x r (w.view r) (party_at (w.view r)) (w.count r) (out_of x towards' r) (towards' r) (w.whole r)
+      (w.sent r) (cond b (at_two (w.collected a.system) g k (w.collected a.system g k ++ n ∷ [])) (w.collected r)) (w.forced r) (w.taken r)
+      w.taken w.source) here (λ r ne. popped.each r);
 }
   where
     popped : AllFine x (without_first s p w)
@@ -232,14 +211,6 @@ handed_kept x f w s p up a g k n ms i e h = record {
 
     towards' : ℕ → ℕ → List Message
     towards' = at_place w.towards s p (drop 1 (w.towards s p))
-
-    collects : (r : ℕ) (collected' : ℕ → ℕ → List ℕ) {collected : ℕ → ℕ → List ℕ} → collected ≡ collected'
-        → Fine x r (w.view r) (party_at (w.view r)) (w.count r) (out_of x towards' r) (towards' r) (w.whole r) (w.sent r) collected
-        (w.forced r) (w.taken r) w.taken w.source
-        → Fine x r (w.view r) (party_at (w.view r)) (w.count r) (out_of x towards' r) (towards' r) (w.whole r) (w.sent r) collected'
-        (w.forced r) (w.taken r) w.taken w.source
-    collects r collected' y z = subst (λ (c : ℕ → ℕ → List ℕ). Fine x r (w.view r) (party_at (w.view r)) (w.count r) (out_of x towards' r)
-        (towards' r) (w.whole r) (w.sent r) c (w.forced r) (w.taken r) w.taken w.source) y z
 
     back : x.far a.system a.port ≡ Some (record { system = s; port = p })
     back = f.cables s p a.system a.port e
@@ -268,19 +239,20 @@ handed_kept x f w s p up a g k n ms i e h = record {
           | inr y ↦ cond_false (eqb b.system s && eqb b.port p) (drop 1 (w.towards s p)) (w.towards b.system b.port) y
         ]
 
-    here : FineIn x (λ t. party_at (w.view t)) (handed_up_from s (Some a) (Some up) g k n (without_first s p w)) a.system
-    here = collects a.system _
-        (sym (there w.collected a.system (at_two (w.collected a.system) g k (w.collected a.system g k ++ n ∷ [])))) (record {
-          members = (popped.each a.system).members;
-          heard = (popped.each a.system).heard;
-          stamps = (popped.each a.system).stamps;
-          names = (popped.each a.system).names;
-          apart = (popped.each a.system).apart;
-          last = (popped.each a.system).last;
-          lanes = lanes_less (lanes_handed ((i.each a.system).lanes) a.port g k n ms (ends_once x a.system) first)
-              (out_of x towards' a.system) (towards' a.system) (w.whole a.system) (λ c. inl (same c)) (place_less w.towards s p (drop 1 (w.towards s p)) (first_less (w.towards s p)) a.system)
-              ((popped.each a.system).lanes.cut);
-        })
+    here : Fine x a.system (w.view a.system) (party_at (w.view a.system)) (w.count a.system) (out_of x towards' a.system)
+        (towards' a.system) (w.whole a.system) (w.sent a.system)
+        (at_two (w.collected a.system) g k (w.collected a.system g k ++ n ∷ [])) (w.forced a.system) (w.taken a.system) w.taken w.source
+    here = record {
+      members = (popped.each a.system).members;
+      heard = (popped.each a.system).heard;
+      stamps = (popped.each a.system).stamps;
+      names = (popped.each a.system).names;
+      apart = (popped.each a.system).apart;
+      last = (popped.each a.system).last;
+      lanes = lanes_less (lanes_handed ((i.each a.system).lanes) a.port g k n ms (ends_once x a.system) first) (out_of x towards' a.system)
+          (towards' a.system) (w.whole a.system) (λ c. inl (same c))
+          (place_less w.towards s p (drop 1 (w.towards s p)) (first_less (w.towards s p)) a.system) ((popped.each a.system).lanes.cut);
+    }
 
 -- a frame comes from the other end
 from_far : (x : NetworkSetup) → IsNetworkSetup x → (w : Network) (s p : ℕ) (a : Place) (origin : Side) (g k n : ℕ) (ms : List Message)
@@ -319,26 +291,16 @@ again_kept x f s p (Control pdu stamp ∷ ms) old new i e z = call_kept x f s (R
 senses_kept : (x : NetworkSetup) → IsNetworkSetup x → (s p : ℕ) (old new : Network) → AllFine x old
     → NetworkCall x s (Set_link p (old.whole s p)) 0 old old new → AllFine x new
 senses_kept x f s p old new i z = call_kept x f s (Set_link p (old.whole s p)) 0 old old new refl
-    (started x s (Set_link p (old.whole s p)) 0 old i (record {
-      running = refl;
-      came = λ q pdu a y n. absurd (receive_link q p (Some pdu) (old.whole s p) (sym y));
-      downed = λ q y. let parts = link_parts p q (old.whole s p) false y in
-          subst (λ q. old.whole s q ≡ false) parts.0 parts.1;
-      forcing = λ g k y. absurd (link_force p g k (old.whole s p) y);
-    })) z
+    (started x s (Set_link p (old.whole s p)) 0 old i (amid_link x s p old.towards old.whole (old.forced s))) z
 
 -- a conversation is forced
 forced_kept : (x : NetworkSetup) (s g k : ℕ) (w : Network) → AllFine x w
     → AllFine x (record w { forced = at_system w.forced s (at_two (w.forced s) g k true) })
 forced_kept x s g k w i = record {
   alike = i.alike;
-  each = λ r. is_or_not (FineIn x (λ t. party_at (w.view t)) (record w { forced = at_system w.forced s (at_two (w.forced s) g k true) }) r) r s
-      (λ e. subst (FineIn x (λ t. party_at (w.view t)) (record w { forced = at_system w.forced s (at_two (w.forced s) g k true) })) (sym e)
-      (subst (λ (c : ℕ → ℕ → Bool). Fine x s (w.view s) (party_at (w.view s)) (w.count s) (out_of x w.towards s) (w.towards s) (w.whole s)
-      (w.sent s) (w.collected s) c (w.taken s) w.taken w.source) (sym (there w.forced s (at_two (w.forced s) g k true))) (forced_part (i.each s) g k)))
-      (λ ne. subst (λ (c : ℕ → ℕ → Bool). Fine x r (w.view r) (party_at (w.view r)) (w.count r) (out_of x w.towards r) (w.towards r)
-      (w.whole r) (w.sent r) (w.collected r) c (w.taken r) w.taken w.source)
-      (sym (elsewhere w.forced s (at_two (w.forced s) g k true) r ne)) (i.each r));
+  each = by_system s (λ r b. Fine x r (w.view r) (party_at (w.view r)) (w.count r) (out_of x w.towards r) (w.towards r) (w.whole r) (w.sent r)
+      (w.collected r) (cond b (at_two (w.forced s) g k true) (w.forced r)) (w.taken r) w.taken w.source)
+      (forced_part (i.each s) g k) (λ r ne. i.each r);
 }
 
 amid_force : (x : NetworkSetup) (s : ℕ) (forced : ℕ → ℕ → ℕ → Bool) (g k : ℕ) (towards : ℕ → ℕ → List Message) (whole : ℕ → ℕ → Bool)
@@ -361,42 +323,18 @@ freed_kept : (x : NetworkSetup) (s : ℕ) (test : ℕ → ℕ → Bool) (w : Net
 })
 freed_kept x s test w i = record {
   alike = i.alike;
-  each = λ r. is_or_not (After r) r s
-      (λ e. subst After (sym e) (along s (sym (there w.view s (freed_view test (w.view s))))
-      (sym (there w.forced s (also_forced test (w.forced s)))) (freed_part (i.each s) test)))
-      (λ ne. along r (sym (elsewhere w.view s (freed_view test (w.view s)) r ne))
-      (sym (elsewhere w.forced s (also_forced test (w.forced s)) r ne)) (i.each r));
+  each = by_system s (λ r b. Fine x r (cond b (freed_view test (w.view s)) (w.view r))
+      (party_at (cond b (freed_view test (w.view s)) (w.view r))) (w.count r) (out_of x w.towards r) (w.towards r) (w.whole r) (w.sent r)
+      (w.collected r) (cond b (also_forced test (w.forced s)) (w.forced r)) (w.taken r) w.taken w.source)
+      (freed_part (i.each s) test) (λ r ne. i.each r);
 }
-  where
-    view' : ℕ → View
-    view' = at_system w.view s (freed_view test (w.view s))
-
-    forced' : ℕ → ℕ → ℕ → Bool
-    forced' = at_system w.forced s (also_forced test (w.forced s))
-
-    After : ℕ → Type 0
-    After r = Fine x r (view' r) (party_at (view' r)) (w.count r) (out_of x w.towards r) (w.towards r) (w.whole r) (w.sent r)
-        (w.collected r) (forced' r) (w.taken r) w.taken w.source
-
-    along : (r : ℕ) {v v' : View} {forced forced' : ℕ → ℕ → Bool} → v ≡ v' → forced ≡ forced'
-        → Fine x r v (party_at v) (w.count r) (out_of x w.towards r) (w.towards r) (w.whole r) (w.sent r) (w.collected r) forced (w.taken r)
-        w.taken w.source
-        → Fine x r v' (party_at v') (w.count r) (out_of x w.towards r) (w.towards r) (w.whole r) (w.sent r) (w.collected r) forced' (w.taken r)
-        w.taken w.source
-    along r {v} {v'} {forced} {forced'} a b z =
-        subst (λ (v : View). Fine x r v (party_at v) (w.count r) (out_of x w.towards r) (w.towards r) (w.whole r) (w.sent r) (w.collected r)
-        forced' (w.taken r) w.taken w.source) a
-        (subst (λ (c : ℕ → ℕ → Bool). Fine x r v (party_at v) (w.count r) (out_of x w.towards r) (w.towards r) (w.whole r) (w.sent r)
-        (w.collected r) c (w.taken r) w.taken w.source) b z)
 
 -- another system takes the place of one
 succeeded_kept : (x : NetworkSetup) (s : ℕ) (after : View) (w : Network) → IsNetworkSuccessor x w s after → AllFine x w
     → AllFine x (record w { view = at_system w.view s after; moved = at_system w.moved s (λ p. moved_again (w.moved s p) ((w.view s).port p) (after.port p)) })
 succeeded_kept x s after w y i = record {
   alike = i.alike;
-  each = λ r. is_or_not (With (at_system w.view s after r) r) r s
-      (λ e. subst (λ r. With (at_system w.view s after r) r) (sym e) (subst (λ (v : View). With v s) (sym (there w.view s after)) here))
-      (λ ne. subst (λ (v : View). With v r) (sym (elsewhere w.view s after r ne)) (i.each r));
+  each = by_system s (λ r b. With (cond b after (w.view r)) r) here (λ r ne. i.each r);
 }
   where
     With : View → ℕ → Type 0
@@ -426,10 +364,8 @@ setup_changed : (x : NetworkSetup) (s : ℕ) (setup : SystemSetup) (after : View
 setup_changed x s setup after a w i = record {
   alike = i.alike;
   each = λ r. let f = i.each r in record {
-    members = is_or_not (Members (setups r) (w.view r).port) r s
-        (λ e. subst (λ r. Members (setups r) (w.view r).port) (sym e) (subst (λ (u : SystemSetup). Members u (w.view s).port)
-        (sym (there x.setup s setup)) (members_alike (x.setup s) setup (w.view s).port a (i.each s).members)))
-        (λ ne. subst (λ (u : SystemSetup). Members u (w.view r).port) (sym (elsewhere x.setup s setup r ne)) f.members);
+    members = by_system s (λ r b. Members (cond b setup (x.setup r)) (w.view r).port)
+        (members_alike (x.setup s) setup (w.view s).port a (i.each s).members) (λ r ne. (i.each r).members) r;
     lanes = f.lanes;
     heard = f.heard;
     stamps = f.stamps;
@@ -443,10 +379,7 @@ setup_changed x s setup after a w i = record {
     setups = at_system x.setup s setup
 
     same : (r : ℕ) → (setups r).system ≡ (x.setup r).system
-    same r = is_or_not ((setups r).system ≡ (x.setup r).system) r s
-        (λ e. subst (λ r. (setups r).system ≡ (x.setup r).system) (sym e)
-        (ap (λ (u : SystemSetup). u.system) (there x.setup s setup) ∙ a.system))
-        (λ ne. ap (λ (u : SystemSetup). u.system) (elsewhere x.setup s setup r ne))
+    same = by_system s (λ r b. (cond b setup (x.setup r)).system ≡ (x.setup r).system) a.system (λ r ne. refl)
 
 -- a port without a cable hears anything
 hears_kept : (x : NetworkSetup) → IsNetworkSetup x → (s p : ℕ) (pdu : Option ControlMessage) (stamp : ℕ) (old new : Network) → AllFine x old
@@ -454,12 +387,7 @@ hears_kept : (x : NetworkSetup) → IsNetworkSetup x → (s p : ℕ) (pdu : Opti
 hears_kept x f s p None stamp old new i none z = call_kept x f s (Receive p None) stamp old old new refl
     (started x s (Receive p None) stamp old i (amid_quiet x (Receive p None) stamp s old.towards old.whole (old.forced s) refl)) z
 hears_kept x f s p (Some pdu) stamp old new i none z = call_kept x f s (Receive p (Some pdu)) stamp old old new refl
-    (started x s (Receive p (Some pdu)) stamp old i (record {
-      running = refl;
-      came = λ q other a e h. absurd (none-some a (sym none ∙ ap (x.far s) ((receive_parts p q pdu other e).0) ∙ h));
-      downed = λ q e. absurd (receive_link p q (Some pdu) false e);
-      forcing = λ g k e. absurd (receive_force p g k (Some pdu) e);
-    })) z
+    (started x s (Receive p (Some pdu)) stamp old i (amid_hear x s p pdu stamp old.towards old.whole (old.forced s) none)) z
 
 -- every event
 pub happens_kept : (x : NetworkSetup) → IsNetworkSetup x → (e : NetworkEvent) (old new : Network) → AllFine x old

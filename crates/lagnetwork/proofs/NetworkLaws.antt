@@ -1,10 +1,10 @@
 -- What follows in a network in which the facts hold.
-use Rattle.lagnetwork.proofs.Common.{Option, Some, [], ap, eq-eqb, option_map, refl, subst, sym, true, ℕ, ◌++◌, ◌∙◌, ◌≡◌, same_Some, Party, Members}
-use Rattle.lagnetwork.proofs.Common.{serials, Marker, PortFacts, Response, SystemSetup, View, Control, One, party_at, Every, MarkerBelow, NoneBehind}
-use Rattle.lagnetwork.proofs.Common.{ResponseBelow, answers, behind_split, every_contains, handed_front, one_partner, AllHeard, Moved, Moved_down}
-use Rattle.lagnetwork.proofs.Common.{Moved_up, Network, NetworkSetup, Place, Unmoved, recabled_all, AllBelowNext, CablesAgree, CollectedThenFlying}
-use Rattle.lagnetwork.proofs.Common.{EachOnePartner, EachTookInSync, FlushedBehindMarker, FlyOnItsCable, GoesByItsCable, IsUpToDate, NamesFarEnd}
-use Rattle.lagnetwork.proofs.Common.{NetworkInOrder, NotWithItself, OneDevice, TookFromFarEnd, TookFromFixedEnd, scene_of}
+use Rattle.lagnetwork.proofs.Common.{Option, Some, [], ap, eq-eqb, option_map, refl, subst, sym, true, ℕ, ◌∙◌, ◌≡◌, Party, Members, serials, Marker}
+use Rattle.lagnetwork.proofs.Common.{Response, SystemSetup, Control, One, Every, MarkerBelow, NoneBehind, ResponseBelow, answers, behind_split}
+use Rattle.lagnetwork.proofs.Common.{every_contains, handed_front, one_partner, AllHeard, Moved, Moved_down, Moved_up, Network, NetworkSetup, Place}
+use Rattle.lagnetwork.proofs.Common.{Unmoved, recabled_all, AllBelowNext, CablesAgree, CollectedThenFlying, EachOnePartner, EachTookInSync}
+use Rattle.lagnetwork.proofs.Common.{FlushedBehindMarker, FlyOnItsCable, GoesByItsCable, IsNetworkInvariant, NamesFarEnd, NetworkInOrder}
+use Rattle.lagnetwork.proofs.Common.{NotWithItself, OneDevice, TookFromFarEnd, TookFromFixedEnd, scene_of}
 use native.Mathlib.Omega.{arith}
 use Rattle.lagnetwork.proofs.NetworkSources.{sourced, unmoved, Sourced}
 use Rattle.lagnetwork.proofs.NetworkEvents.{all_fine}
@@ -12,19 +12,15 @@ use Rattle.lagnetwork.proofs.NetworkLines.{at_far, ends_of, out_of}
 use Rattle.lagmodel.specs.AnyPeer.{Scene, TookInSync}
 use Rattle.lagnetwork.proofs.Networks.{AllFine}
 
+-- what follows from the facts holds after each event
+pub holds : (P : NetworkSetup → Network → Type 0) → ((x : NetworkSetup) (w : Network) → AllFine x w → P x w) → IsNetworkInvariant P
+holds P h x events w f r = h (recabled_all x events) w (all_fine x events w f r).1
+
 pub one_partner_each : (x : NetworkSetup) (w : Network) → AllFine x w → EachOnePartner w
 one_partner_each x w i s = one_partner (x.setup s) (w.view s) (i.each s).members
 
-party_there : (v : View) (p : ℕ) (a : PortFacts) (y : Party) → v.port p ≡ Some a → party_at v p ≡ Some y → a.party ≡ y
-party_there v p a y h e = same_Some a.party y (sym (ap (option_map (λ (a : PortFacts). a.party)) h) ∙ e)
-
 ends_there : (x : NetworkSetup) (t q : ℕ) (a : Place) → x.far t q ≡ Some a → ends_of x t q ≡ Some q
 ends_there x t q a e = ap (option_map (λ (a : Place). q)) e
-
--- the partner that a port records is the party of the port that the LACPDU came from which it took last, if that did not change
-named : (x : NetworkSetup) (w : Network) → AllFine x w → (s p t q : ℕ) (a b : PortFacts)
-    → IsUpToDate w s p t q a → (w.view t).port q ≡ Some b → a.partner ≡ b.party
-named x w i s p t q a b h hb = grind arith
 
 pub cables_agree : (x : NetworkSetup) (w : Network) → AllFine x w → CablesAgree w
 cables_agree x w i s p t q a b h k = grind arith
@@ -102,11 +98,12 @@ took_in_sync u w members heard p a h d n =
 pub each_took_in_sync : (x : NetworkSetup) (w : Network) → AllFine x w → EachTookInSync x w
 each_took_in_sync x w i s = took_in_sync (x.setup s) (scene_of x w s) (i.each s).members (i.each s).heard
 
+pub took_from_ends : IsNetworkInvariant TookFromFarEnd
+took_from_ends x events w f r = took_from_far_end (recabled_all x events) w (all_fine x events w f r).1 (sourced x events w f r)
+
 pub took_from_fixed_end : TookFromFixedEnd
-took_from_fixed_end x events w f stays r =
-    let u = unmoved x events w stays r in
-    let took = took_from_far_end (recabled_all x events) w (all_fine x events w f r).1 (sourced x f events w r) in (
-      u.0,
-      λ s p a h d. took s p a h d (subst (λ (m : Moved). GoesByItsCable m a) (sym (u.1 s p)) tt)
-          ∙ ap (λ (far : ℕ → ℕ → Option Place). far s p) u.0,
-    )
+took_from_fixed_end x events w f stays r = let u = unmoved x events w f stays r in (
+  u.0,
+  λ s p a h d. took_from_ends x events w f r s p a h d (subst (λ (m : Moved). GoesByItsCable m a) (sym (u.1 s p)) tt)
+      ∙ ap (λ (far : ℕ → ℕ → Option Place). far s p) u.0,
+)

@@ -1,13 +1,12 @@
 -- What is on the cables of a network, as one system sees it: each of its ports is a cable with the number of the port.
 use Rattle.lagnetwork.proofs.Common.{Bool, List, None, Option, Some, [], ap, append-nil, cond, eq-eqb, eqb, eqb-true, false, inl, inr, length}
-use Rattle.lagnetwork.proofs.Common.{option_map, refl, subst, sym, true, ℕ, ◌&&◌, ◌++◌, ◌<◌, ◌∙◌, ◌∷◌, ◌≡◌, ◌≤◌, ◌⊎◌, and_from, false≢true}
-use Rattle.lagnetwork.proofs.Common.{true≢false, same_Some, SystemId, Party, IsSubsequence, Act, Sends, Sends_frame, Took, ControlMessage}
-use Rattle.lagnetwork.proofs.Common.{Conversation, DistributorFacts, Flushing, Force, Free, Lacp, LacpMessage, Marker, ModelCall, On, Receive}
-use Rattle.lagnetwork.proofs.Common.{Response, Set_link, conversation_port, is_restart, Control, Data, Message, One, Side, TakenLacpdu, is_port}
-use Rattle.lagnetwork.proofs.Common.{on_cable_after, put_on_cable, stamp_of, cond_false, cond_true, mapped_some, Within, Lanes, Every, IsFrom}
-use Rattle.lagnetwork.proofs.Common.{MarkerBelow, ResponseBelow, answers, every_push, every_weaker, marker_higher, put_each, response_higher, Orderly}
-use Rattle.lagnetwork.proofs.Common.{answer_taken, handed_front, taken_away, Stamps, IsNetworkSetup, NetworkSetup, Place, also_forced, is_place}
-use Rattle.lagnetwork.proofs.Common.{put_on_line, towards_after}
+use Rattle.lagnetwork.proofs.Common.{option_map, refl, subst, sym, true, ℕ, ◌&&◌, ◌++◌, ◌<◌, ◌∙◌, ◌∷◌, ◌≡◌, ◌≤◌, ◌⊎◌, and_from, true≢false, same_Some}
+use Rattle.lagnetwork.proofs.Common.{SystemId, Party, IsSubsequence, Act, Sends, Sends_frame, Took, ControlMessage, Conversation, DistributorFacts}
+use Rattle.lagnetwork.proofs.Common.{Flushing, Force, Free, Lacp, LacpMessage, Marker, ModelCall, On, Receive, Response, Set_link, conversation_port}
+use Rattle.lagnetwork.proofs.Common.{is_restart, Control, Data, Message, One, Side, TakenLacpdu, is_port, on_cable_after, put_on_cable, stamp_of}
+use Rattle.lagnetwork.proofs.Common.{cond_false, cond_true, mapped_some, Within, Lanes, Every, IsFrom, MarkerBelow, ResponseBelow, answers}
+use Rattle.lagnetwork.proofs.Common.{every_push, every_weaker, marker_higher, put_each, response_higher, Orderly, answer_taken, handed_front}
+use Rattle.lagnetwork.proofs.Common.{taken_away, Stamps, IsNetworkSetup, NetworkSetup, Place, also_forced, is_place, put_on_line, towards_after}
 use native.Mathlib.Omega.{arith}
 use Rattle.lagmodel.proofs.Overtaken.{every_overtaken, lanes_out_overtaken, lanes_back_overtaken}
 use Rattle.lagmodel.specs.Overtaking.{Overtakes}
@@ -212,14 +211,19 @@ names_put x r system whole kept p m out h i = grind (arith, put_each, NamesSende
 abbrev pub IsLess : List Message → List Message → Type 0
 IsLess new old = (new ≡ old) ⊎ ((new ≡ []) ⊎ (((m : Message) × (old ≡ m ∷ new)) ⊎ Overtakes old new))
 
-pub every_less : (P : Message → Type 0) (new old : List Message) → IsLess new old → Every P old → Every P new
-every_less P new old h e = elim h [
-  | inl x ↦ subst (Every P) (sym x) e
+-- what holds of the list, of none, of the list without its first, and where an LACPDU went by, holds then
+pub by_less : (Q : List Message → Type 0) (new old : List Message) → IsLess new old → Q old → Q [] → ((m : Message) → Q (m ∷ new) → Q new)
+    → (Overtakes old new → Q new) → Q new
+by_less Q new old h same none without over = elim h [
+  | inl x ↦ subst Q (sym x) same
   | inr y ↦ elim y [
-    | inl x ↦ subst (Every P) (sym x) tt
-    | inr z ↦ elim z [ inl x ↦ (subst (Every P) x.1 e).1 | inr o ↦ every_overtaken o P e ]
+    | inl x ↦ subst Q (sym x) none
+    | inr z ↦ elim z [ inl x ↦ without x.0 (subst Q x.1 same) | inr o ↦ over o ]
   ]
 ]
+
+pub every_less : (P : Message → Type 0) (new old : List Message) → IsLess new old → Every P old → Every P new
+every_less P new old h e = by_less (Every P) new old h e tt (λ m x. x.1) (λ o. every_overtaken o P e)
 
 out_blank : {me : Side} {g k : ℕ} {e : Option ℕ} {c : Conversation} {out back : List Message} {sent collected : List ℕ}
     → Orderly me g k e c out back sent collected → Orderly me g k e c [] back sent collected
@@ -247,40 +251,22 @@ module _ {me : Side} {ends : ℕ → Option ℕ} {f : DistributorFacts} {out bac
         responses = i.responses;
         origin = λ c. every_less (IsFrom me) (out' c) (out c) (lo c) (i.origin c);
         cut = cut;
-        orderly = λ g k c u. elim (lo c) [
-          | inl x ↦ subst (λ l. Orderly me g k (ends c) (f.state g k) l (back c) (sent g k) (collected g k)) (sym x) (i.orderly g k c u)
-          | inr y ↦ elim y [
-            | inl x ↦ subst (λ l. Orderly me g k (ends c) (f.state g k) l (back c) (sent g k) (collected g k)) (sym x)
-                (out_blank (i.orderly g k c u))
-            | inr z ↦ elim z [
-              | inl x ↦ taken_away (subst (λ l. Orderly me g k (ends c) (f.state g k) l (back c) (sent g k) (collected g k)) x.1
-                  (i.orderly g k c u))
-              | inr o ↦ subst (λ l. Orderly me g k (ends c) (f.state g k) l (back c) (sent g k) (collected g k))
-                  (cond_true (eqb c c) (out' c) (out c) (eq-eqb c c refl))
-                  ((lanes_out_overtaken me ends f whole sent collected forced out back c (out' c) o i).orderly g k c u)
-            ]
-          ]
-        ];
+        orderly = λ g k c u. let o = i.orderly g k c u in
+            by_less (λ l. Orderly me g k (ends c) (f.state g k) l (back c) (sent g k) (collected g k)) (out' c) (out c) (lo c) o (out_blank o)
+            (λ m x. taken_away x) (λ y. subst (λ l. Orderly me g k (ends c) (f.state g k) l (back c) (sent g k) (collected g k))
+            (cond_true (eqb c c) (out' c) (out c) (eq-eqb c c refl))
+            ((lanes_out_overtaken me ends f whole sent collected forced out back c (out' c) y i).orderly g k c u));
       } in record {
         waits = i.waits;
         markers = first.markers;
         responses = λ c. every_less (ResponseBelow f.next) (back' c) (back c) (lb c) (i.responses c);
         origin = first.origin;
         cut = cut;
-        orderly = λ g k c u. elim (lb c) [
-          | inl x ↦ subst (λ l. Orderly me g k (ends c) (f.state g k) (out' c) l (sent g k) (collected g k)) (sym x) (first.orderly g k c u)
-          | inr y ↦ elim y [
-            | inl x ↦ subst (λ l. Orderly me g k (ends c) (f.state g k) (out' c) l (sent g k) (collected g k)) (sym x)
-                (back_blank (first.orderly g k c u))
-            | inr z ↦ elim z [
-              | inl x ↦ answer_taken (subst (λ l. Orderly me g k (ends c) (f.state g k) (out' c) l (sent g k) (collected g k)) x.1
-                  (first.orderly g k c u))
-              | inr o ↦ subst (λ l. Orderly me g k (ends c) (f.state g k) (out' c) l (sent g k) (collected g k))
-                  (cond_true (eqb c c) (back' c) (back c) (eq-eqb c c refl))
-                  ((lanes_back_overtaken me ends f whole' sent collected forced out' back c (back' c) o first).orderly g k c u)
-            ]
-          ]
-        ];
+        orderly = λ g k c u. let o = first.orderly g k c u in
+            by_less (λ l. Orderly me g k (ends c) (f.state g k) (out' c) l (sent g k) (collected g k)) (back' c) (back c) (lb c) o (back_blank o)
+            (λ m x. answer_taken x) (λ y. subst (λ l. Orderly me g k (ends c) (f.state g k) (out' c) l (sent g k) (collected g k))
+            (cond_true (eqb c c) (back' c) (back c) (eq-eqb c c refl))
+            ((lanes_back_overtaken me ends f whole' sent collected forced out' back c (back' c) y first).orderly g k c u));
       }
 
   -- the conversations that pass a test are free, and count as forced

@@ -1,13 +1,12 @@
 -- Cables are moved: what every event preserves holds on the cables as they are then.
-use native.Mathlib.Omega.{arith}
 use Rattle.lagnetwork.proofs.Common.{Bool, List, None, Option, Some, [], ap, append-nil, cond, eq-eqb, eqb, eqb-true, false, inl, inr, option_map}
-use Rattle.lagnetwork.proofs.Common.{refl, subst, sym, true, ℕ, ◌&&◌, ◌∙◌, ◌≡◌, ◌⊎◌, and_from, and_parts, cases_Bool, false≢true, true≢false}
-use Rattle.lagnetwork.proofs.Common.{none-some, IsSubsequence, Conversation, DistributorFacts, Message, Side, party_at, cond_false, cond_true, Lanes}
-use Rattle.lagnetwork.proofs.Common.{Every, IsFrom, MarkerBelow, ResponseBelow, Orderly, handed_front, Fresh, IsNetworkSetup, Moved, Network}
-use Rattle.lagnetwork.proofs.Common.{NetworkEvent, NetworkSetup, Place, at_place, is_end, is_place, moved_of, recabled, with_cable_moved}
-use Rattle.lagnetwork.proofs.NetworkLines.{NamesSender, SeenAlike, at_far, ends_of, is_place-some, out_of, place_parts, same_bool, same_near}
-use Rattle.lagnetwork.proofs.NetworkLines.{some-is_place}
-use Rattle.lagnetwork.proofs.Networks.{AllFine, FineIn}
+use Rattle.lagnetwork.proofs.Common.{refl, subst, sym, true, ℕ, ◌&&◌, ◌∙◌, ◌≡◌, ◌⊎◌, and_from, and_parts, cases_Bool, true≢false, none-some}
+use Rattle.lagnetwork.proofs.Common.{IsSubsequence, Conversation, DistributorFacts, Message, Side, party_at, cond_false, cond_true, Lanes, Every}
+use Rattle.lagnetwork.proofs.Common.{Orderly, handed_front, Fresh, IsNetworkSetup, Moved, Network, NetworkEvent, NetworkSetup, Place, at_place}
+use Rattle.lagnetwork.proofs.Common.{is_end, is_place, moved_of, recabled, with_cable_moved}
+use native.Mathlib.Omega.{arith}
+use Rattle.lagnetwork.proofs.NetworkLines.{SeenAlike, at_far, ends_of, is_place-some, out_of, place_parts, same_bool, same_near, some-is_place}
+use Rattle.lagnetwork.proofs.Networks.{AllFine, FineIn, less_part}
 
 -- the ends of a cable
 end_other : (x : NetworkSetup) → IsNetworkSetup x → (s p t q r c : ℕ) → x.far t q ≡ Some (record { system = r; port = c })
@@ -30,33 +29,20 @@ blank {sent = sent} {collected} i = record {
 }
 
 -- some cables are others, and nothing is on them
-lanes_moved : {me : Side} {ends : ℕ → Option ℕ} {f : DistributorFacts} {out back : ℕ → List Message} {whole : ℕ → Bool}
+lanes_recabled : {me : Side} {ends : ℕ → Option ℕ} {f : DistributorFacts} {out back : ℕ → List Message} {whole : ℕ → Bool}
     {sent collected : ℕ → ℕ → List ℕ} {forced : ℕ → ℕ → Bool} → Lanes me ends f out back whole sent collected forced
-    → (ends' : ℕ → Option ℕ) (out' back' : ℕ → List Message) (whole' : ℕ → Bool)
-    → ((c : ℕ) → ((out' c ≡ []) × (back' c ≡ []))
-    ⊎ ((ends' c ≡ ends c) × (out' c ≡ out c) × (back' c ≡ back c) × (whole' c ≡ whole c)))
-    → Lanes me ends' f out' back' whole' sent collected forced
-lanes_moved {me} {ends} {f} {out} {back} {whole} {sent} {collected} {forced} i ends' out' back' whole' h = record {
+    → (ends' : ℕ → Option ℕ) → ((c : ℕ) → ((out c ≡ []) × (back c ≡ [])) ⊎ (ends' c ≡ ends c))
+    → Lanes me ends' f out back whole sent collected forced
+lanes_recabled {me} {ends} {f} {out} {back} {whole} {sent} {collected} {forced} i ends' h = record {
   waits = i.waits;
-  markers = λ c. elim (h c) [
-    | inl y ↦ subst (Every (MarkerBelow f.next)) (sym y.0) tt
-    | inr y ↦ subst (Every (MarkerBelow f.next)) (sym y.1) (i.markers c)
-  ];
-  responses = λ c. elim (h c) [
-    | inl y ↦ subst (Every (ResponseBelow f.next)) (sym y.1) tt
-    | inr y ↦ subst (Every (ResponseBelow f.next)) (sym y.2) (i.responses c)
-  ];
-  origin = λ c. elim (h c) [
-    | inl y ↦ subst (Every (IsFrom me)) (sym y.0) tt
-    | inr y ↦ subst (Every (IsFrom me)) (sym y.1) (i.origin c)
-  ];
-  cut = λ c n. elim (h c) [ inl y ↦ y.0 | inr y ↦ y.1 ∙ i.cut c (sym y.3 ∙ n) ];
+  markers = i.markers;
+  responses = i.responses;
+  origin = i.origin;
+  cut = i.cut;
   orderly = λ g k c u. elim (h c) [
-    | inl y ↦ subst (λ l. Orderly me g k (ends' c) (f.state g k) l (back' c) (sent g k) (collected g k)) (sym y.0)
+    | inl y ↦ subst (λ l. Orderly me g k (ends' c) (f.state g k) l (back c) (sent g k) (collected g k)) (sym y.0)
         (subst (λ l. Orderly me g k (ends' c) (f.state g k) [] l (sent g k) (collected g k)) (sym y.1) (blank (i.orderly g k c u)))
-    | inr y ↦ subst (λ e. Orderly me g k e (f.state g k) (out' c) (back' c) (sent g k) (collected g k)) (sym y.0)
-        (subst (λ l. Orderly me g k (ends c) (f.state g k) l (back' c) (sent g k) (collected g k)) (sym y.1)
-        (subst (λ l. Orderly me g k (ends c) (f.state g k) (out c) l (sent g k) (collected g k)) (sym y.2) (i.orderly g k c u)))
+    | inr y ↦ subst (λ e. Orderly me g k e (f.state g k) (out c) (back c) (sent g k) (collected g k)) (sym y) (i.orderly g k c u)
   ];
 }
 
@@ -97,24 +83,24 @@ module _ (x : NetworkSetup) (far' : ℕ → ℕ → Option Place) (ends : ℕ �
       same (Some a) h e = cond_false (ends a.system a.port) [] (w.towards a.system a.port) (apart r c a.system a.port e h)
 
   each_moved : (r : ℕ) → FineIn x' (λ s. party_at (w.view s)) (record w { whole = whole'; towards = towards'; moved = moved }) r
-  each_moved r = let f = i.each r in record {
-    members = f.members;
-    heard = f.heard;
-    apart = f.apart;
-    last = f.last;
-    lanes = lanes_moved f.lanes (ends_of x' r) (out_of x' towards' r) (towards' r) (whole' r) (parts r);
-    stamps = record {
-      flight = λ c p e. elim (parts r c) [
-        | inl y ↦ subst (Every (Fresh (w.count r p) (party_at (w.view r) p))) (sym y.0) tt
-        | inr y ↦ subst (Every (Fresh (w.count r p) (party_at (w.view r) p))) (sym y.1) (f.stamps.flight c p (sym y.0 ∙ e))
-      ];
-      last = λ c p q m e n. absurd (none-some q n);
-    };
-    names = λ c. elim (parts r c) [
-      | inl y ↦ subst (Every (NamesSender (x.setup r).system c)) (sym y.0) tt
-      | inr y ↦ subst (Every (NamesSender (x.setup r).system c)) (sym y.1) (f.names c)
-    ];
-  }
+  each_moved r =
+      let f = less_part (i.each r) (out_of x' towards' r) (towards' r) (whole' r)
+      (λ c. elim (parts r c) [ inl y ↦ inr (inl y.0) | inr y ↦ inl y.1 ]) (λ c. elim (parts r c) [ inl y ↦ inr (inl y.1) | inr y ↦ inl y.2 ])
+      (λ c n. elim (parts r c) [ inl y ↦ y.0 | inr y ↦ y.1 ∙ (i.each r).lanes.cut c (sym y.3 ∙ n) ]) in record {
+        members = f.members;
+        heard = f.heard;
+        apart = f.apart;
+        last = f.last;
+        names = f.names;
+        lanes = lanes_recabled f.lanes (ends_of x' r) (λ c. elim (parts r c) [ inl y ↦ inl y | inr y ↦ inr y.0 ]);
+        stamps = record {
+          flight = λ c p e. elim (parts r c) [
+            | inl y ↦ subst (Every (Fresh (w.count r p) (party_at (w.view r) p))) (sym y.0) tt
+            | inr y ↦ f.stamps.flight c p (sym y.0 ∙ e)
+          ];
+          last = λ c p q m e n. absurd (none-some q n);
+        };
+      }
 
   pub moved_kept : AllFine x' (record w { whole = whole'; towards = towards'; moved = moved })
   moved_kept = record { alike = alike; each = each_moved }

@@ -1,11 +1,11 @@
 -- What every event of any number of systems preserves.
 use Rattle.lagnetwork.proofs.Common.{Bool, IsSome, IsSomeAnd, List, None, Option, Some, [], ap, eq-eqb, eqb, eqb-true, false, inl, inr, option_map}
-use Rattle.lagnetwork.proofs.Common.{refl, subst, suc, sym, true, ℕ, ◌∙◌, ◌∷◌, ◌≡◌, ◌≢◌, ◌⊎◌, cases_Bool, eqb-false, true≢false, same_Some, Party}
-use Rattle.lagnetwork.proofs.Common.{Members, DistributorMove, Flow, Move, MoveAllowed, Port, PortAllowed, PortMove, Restart, Send, Take, act}
-use Rattle.lagnetwork.proofs.Common.{act_of_port, distributor_act, port_after, view_after, Lacp, ModelCall, PortFacts, SystemSetup, View, at_port}
-use Rattle.lagnetwork.proofs.Common.{first_view, is_restart, replies_frame, Control, Message, One, TakenLacpdu, at_two, on_cable_after, party_at}
-use Rattle.lagnetwork.proofs.Common.{sent_after, taken_after, cond_false, cond_true, value_of, Within, lanes_forced, lanes_own, lanes_peer, Lanes}
-use Rattle.lagnetwork.proofs.Common.{Every, AllHeard, Fresh, FreshPdu, Stamps, heard_own, parties_kept, stamps_counted, stamps_own, AllNetworkMoves}
+use Rattle.lagnetwork.proofs.Common.{refl, subst, suc, sym, true, ℕ, ◌∙◌, ◌∷◌, ◌≡◌, ◌≢◌, ◌⊎◌, cases_Bool, eqb-false, same_Some, Party, Members}
+use Rattle.lagnetwork.proofs.Common.{DistributorMove, Flow, Move, MoveAllowed, Port, PortAllowed, PortMove, Restart, Send, Take, act, act_of_port}
+use Rattle.lagnetwork.proofs.Common.{distributor_act, port_after, view_after, Lacp, ModelCall, PortFacts, SystemSetup, View, at_port, first_view}
+use Rattle.lagnetwork.proofs.Common.{is_restart, replies_frame, Control, Message, One, TakenLacpdu, at_two, on_cable_after, party_at, sent_after}
+use Rattle.lagnetwork.proofs.Common.{taken_after, cond_false, cond_true, value_of, Within, lanes_forced, lanes_own, lanes_peer, Lanes, Every}
+use Rattle.lagnetwork.proofs.Common.{AllHeard, Fresh, FreshPdu, Stamps, heard_own, parties_kept, stamps_counted, stamps_own, AllNetworkMoves}
 use Rattle.lagnetwork.proofs.Common.{IsNetworkSetup, Network, NetworkCall, NetworkSetup, Place, also_forced, at_system, freed_view, network_after}
 use Rattle.lagnetwork.proofs.Common.{network_after_all, source_after}
 use native.Mathlib.Omega.{arith}
@@ -228,6 +228,13 @@ elsewhere f s y t ne = elim (cases_Bool (eqb t s)) [ inl e ↦ absurd (ne (eqb-t
 pub is_or_not : (P : Type 0) (r s : ℕ) → (r ≡ s → P) → ((r ≡ s → ⊥) → P) → P
 is_or_not P r s a b = elim (cases_Bool (eqb r s)) [ inl e ↦ a (eqb-true r s e) | inr e ↦ b (eqb-false r s e) ]
 
+-- what depends on whether it is of system s
+pub by_system : (s : ℕ) (Q : ℕ → Bool → Type 0) → Q s true → ((t : ℕ) → (t ≡ s → ⊥) → Q t false) → (t : ℕ) → Q t (eqb t s)
+by_system s Q here others t = elim (cases_Bool (eqb t s)) [
+  | inl e ↦ subst (Q t) (sym e) (subst (λ t. Q t true) (sym (eqb-true t s e)) here)
+  | inr e ↦ subst (Q t) (sym e) (others t (eqb-false t s e))
+]
+
 -- one move
 module _ (x : NetworkSetup) (f : IsNetworkSetup x) (s : ℕ) (call : ModelCall) (stamp : ℕ) (party : ℕ → ℕ → Option Party) (m : Move × Bool)
     (w : Network) (a : MoveAllowed (x.setup s) call (w.view s) m.0) (i : Calling x s call stamp party w) where
@@ -289,25 +296,14 @@ pub call_kept : (x : NetworkSetup) → IsNetworkSetup x → (s : ℕ) (call : Mo
     → Calling x s call stamp (λ t. party_at (old.view t)) mid → NetworkCall x s call stamp old mid new → AllFine x new
 call_kept x f s call stamp old mid new same i z =
     let end = calling_all x f s call stamp (λ t. party_at (old.view t)) z.0 mid z.1 i in
-    subst (AllFine x) (sym z.2.2) (record {
-      alike = end.alike;
-      each = λ r. counted_part (end.each r) (z.2.0 r) (λ p. rises r p (z.2.1 r p));
-    })
+    let after : Network = network_after_all x s stamp z.0 mid in
+    let rises = subst (λ (n : ℕ → ℕ → ℕ). (r p : ℕ) → ((party_at (after.view r) p ≡ party_at (old.view r) p) × (z.2.0 r p ≡ n r p))
+    ⊎ ((party_at (after.view r) p ≢ party_at (old.view r) p) × (z.2.0 r p ≡ suc (n r p)))) (sym (counts z.0 mid ∙ same)) z.2.1 in
+    subst (AllFine x) (sym z.2.2) (record { alike = end.alike; each = λ r. counted_part (end.each r) (z.2.0 r) (rises r) })
   where
     counts : (ms : List (Move × Bool)) (w : Network) → (network_after_all x s stamp ms w).count ≡ w.count
     counts [] w = refl
     counts (m ∷ ms) w = counts ms (network_after x s stamp m w)
-
-    rises : (r p : ℕ) → ((party_at ((network_after_all x s stamp z.0 mid).view r) p ≡ party_at (old.view r) p) × (z.2.0 r p ≡ old.count r p))
-        ⊎ ((party_at ((network_after_all x s stamp z.0 mid).view r) p ≢ party_at (old.view r) p) × (z.2.0 r p ≡ suc (old.count r p)))
-        → ((party_at ((network_after_all x s stamp z.0 mid).view r) p ≡ party_at (old.view r) p)
-        × (z.2.0 r p ≡ (network_after_all x s stamp z.0 mid).count r p))
-        ⊎ ((party_at ((network_after_all x s stamp z.0 mid).view r) p ≢ party_at (old.view r) p)
-        × (z.2.0 r p ≡ suc ((network_after_all x s stamp z.0 mid).count r p)))
-    rises r p h =
-        let e : old.count r p ≡ (network_after_all x s stamp z.0 mid).count r p =
-        ap (λ (n : ℕ → ℕ → ℕ). n r p) (sym same ∙ sym (counts z.0 mid)) in
-        elim h [ inl y ↦ inl (y.0, y.1 ∙ e) | inr y ↦ inr (y.0, y.1 ∙ ap suc e) ]
 
 begins_all : (x : NetworkSetup) (s stamp : ℕ) (ms : List (Move × Bool)) (w : Network) (m : Message) (t q : ℕ) → BeginsWith m (w.towards t q)
     → BeginsWith m ((network_after_all x s stamp ms w).towards t q)
