@@ -273,6 +273,7 @@ def kept_masks(part: Part) -> None:
         return [name for name in os.listdir(os.path.join(part.folder, "run")) if name.endswith((".member", ".queues"))]
 
     check(masks() == wanted, "an interface whose queues have processors of their own", masks())
+    others = files()  # of parts before
     for options in [*PLAIN_AND_FAST, ["--queues", "all"]]:
         for by in signal.SIGTERM, signal.SIGKILL:
             first = part.ours("a0", options=["--carry", "lag0"])
@@ -282,7 +283,7 @@ def kept_masks(part: Part) -> None:
             second = part.ours("a0", options=["--carry", "lag0", *options])
             check(within(ENDS, lambda: second.ports()), f"after {by.name} the next daemon, {' '.join(options) or 'plain'}", second.printed())
             second.ends("it")
-            check(masks() == wanted and not files(), "the queues have again what they had", masks(), files())
+            check(masks() == wanted and files() == others, "the queues have again what they had", masks(), files(), others)
 
 
 def one_processor(part: Part) -> None:
