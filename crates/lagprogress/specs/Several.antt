@@ -13,7 +13,7 @@ use Rattle.lagsystem.specs.Sound.{IsSound}
 use Rattle.lagbeside.specs.Timers.{PortsAreTimed}
 use Rattle.lagprogress.specs.Beside.{LeavesPorts}
 use Rattle.lagprogress.specs.Bundle.{IsBundle}
-use Rattle.lagprogress.specs.HostRounds.{AsksIn, AtSomeWorld, Clearing, IsTickOf, RunReplies}
+use Rattle.lagprogress.specs.HostRounds.{AsksIn, AtSomeWorld, Clearing, IsBetweenTicks, IsTickOf, RunReplies}
 use Rattle.lagprogress.specs.LateRounds.{LateRounds, OldArrive}
 use Rattle.lagprogress.specs.Progress.{Distributes}
 use Rattle.lagprogress.specs.Rounds.{AtEnd, IsHealthyAt}
@@ -56,6 +56,26 @@ abbrev pub SeveralBeside : LinkState → Algorithms → ℕ → WorldState → W
 SeveralBeside l gives zero old new = new ≡ old
 SeveralBeside l gives (suc n) old new = (mid : WorldState) × SeveralBeside l gives n old mid × (ticks : ℕ) × (1 ≤ ticks) × (ticks ≤ most_ticks)
     × IsPlayedTicks (LeavesPorts (λ s. port_at s l)) OldArrive ticks gives mid new
+
+-- so many late rounds, in each of which each system ticks once at the least, and as often as the other
+abbrev pub SeveralRounds : Algorithms → ℕ → WorldState → WorldState → Type 0
+SeveralRounds gives zero old new = new ≡ old
+SeveralRounds gives (suc n) old new = (mid : WorldState) × SeveralRounds gives n old mid × (ticks : ℕ) × (1 ≤ ticks) × (ticks ≤ most_ticks)
+    × IsPlayedTicks IsBetweenTicks OldArrive ticks gives mid new
+
+-- After so many of these rounds the ends of healthy cables know each other, if both are active, and if one is.
+abbrev pub known_in_several_if_both_active : ℕ
+known_in_several_if_both_active = 365
+
+abbrev pub known_in_several_if_one_is : ℕ
+known_in_several_if_one_is = 671
+
+-- And they distribute and agree.
+abbrev pub up_in_several_if_both_active : ℕ
+up_in_several_if_both_active = 408
+
+abbrev pub up_in_several_if_one_is : ℕ
+up_in_several_if_one_is = 714
 
 -- one of the events after so many ticks of system s asks this port
 abbrev pub AsksAfterTicks : Side → ℕ → (ticks : ℕ) → List HostEvent → Type 0
