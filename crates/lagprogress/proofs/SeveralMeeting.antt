@@ -1,10 +1,10 @@
 -- How the ends of a cable come to know each other in rounds of several ticks.
-use Rattle.lagprogress.proofs.Common.{Bool, List, [], ap, arith, false, inl, inr, refl, subst, suc, sym, true, zero, ℕ, ◌&&◌, ◌+◌, ◌-◌, ◌==◌, ◌∙◌, ◌∷◌}
-use Rattle.lagprogress.proofs.Common.{◌≡◌, ◌≤◌, ◌⊎◌, cases_Bool, nat_tests, bits_of, Lacpdu, One, Side, Two, peer, ReceiveState, Current, Expired}
-use Rattle.lagprogress.proofs.Common.{Initialize, PortDisabled, Machines, periodic_rows, receive_rows, same_receive_state, mux_rows, AtRest, RunsToRest}
-use Rattle.lagprogress.proofs.Common.{count_down, Algorithms, LinkState, WorldState, half, port_at, HasRecorded, IsTimed, timeout_time, EnabledKeep, OfEach, no}
-use Rattle.lagprogress.proofs.Common.{not_down, times_keep, AtPort, mux_leaves, periodic_leaves, Calm, Sounds, counts_sounds, mux_sounds, not_silent}
-use Rattle.lagprogress.proofs.Common.{periodic_runs, silence_of, sounds_first, runs_keep, takes_keep, OldArrive, EndKnows, Knows, HostEvent, LeavesPorts}
+use Rattle.lagprogress.proofs.Common.{Bool, List, [], arith, false, inl, inr, refl, subst, suc, sym, true, zero, ℕ, ◌+◌, ◌-◌, ◌∙◌, ◌∷◌}
+use Rattle.lagprogress.proofs.Common.{◌≡◌, ◌≤◌, ◌⊎◌, cases_Bool, nat_tests, Lacpdu, One, Side, Two, peer}
+use Rattle.lagprogress.proofs.Common.{Machines}
+use Rattle.lagprogress.proofs.Common.{Algorithms, LinkState, WorldState, half, port_at, timeout_time, OfEach, no}
+use Rattle.lagprogress.proofs.Common.{AtPort, Sounds}
+use Rattle.lagprogress.proofs.Common.{silence_of, sounds_first, OldArrive, EndKnows, Knows, HostEvent, LeavesPorts}
 use Rattle.lagprogress.proofs.Common.{Clearing, IsBetweenTicks, IsPlayedTicks, TicksAmong, most_ticks, BothAreActive, OneIsActive, EndsOfEachKnow}
 use Rattle.lagprogress.specs.Several.{SeveralRounds, known_in_several_if_both_active, known_in_several_if_one_is}
 use Rattle.lagprogress.proofs.SeveralStart.{first_several}
@@ -12,22 +12,21 @@ use Rattle.lagprogress.proofs.LateStart.{counts_of, kept_of}
 use Rattle.lagprogress.proofs.Quieting.{leaves as leaves_ports}
 use Rattle.lagprogress.proofs.Starting.{Ends, active_at, end_of, awake_at, named_at, said_by, starts}
 use Rattle.lagprogress.proofs.Claims.{IsNamed, Wakeful}
-use Rattle.lagprogress.proofs.EndFacts.{Along, CanSound, IsEnd, Learnt, activity, both_along, constant_along, each_row, less_known, short_timeout, sounds_takes}
-use Rattle.lagprogress.proofs.EndFacts.{takes_known, wait_of}
+use Rattle.lagprogress.proofs.EndFacts.{CanSound, IsEnd, Learnt, activity, less_known, short_timeout}
+use Rattle.lagprogress.proofs.EndFacts.{wait_of}
 use Rattle.lagprogress.proofs.HostRound.{two, two_other, two_there}
 use Rattle.lagprogress.proofs.SeveralLapsing.{Brisk, IsQuick, Keen, LastingIn, NewTail, Tail, begins_lasting_in, brisk_passes, keen_active, keen_along, keen_calm}
 use Rattle.lagprogress.proofs.SeveralLapsing.{keen_ticks, lasting_in_now, lasting_ticks}
 use Rattle.lagprogress.proofs.Lapsing.{Phase}
 use Rattle.lagprogress.proofs.Linked.{EndIs, Fits, Link, both_at, each_map, each_side, end_here, of_end, peer_twice, with_ports}
-use Rattle.lagprogress.proofs.OneRound.{Nothing, at_rest, beside_here, forget, join, still_sounds}
+use Rattle.lagprogress.proofs.OneRound.{Nothing, at_rest, beside_here, forget, join}
 use Rattle.lagprogress.proofs.Knowing.{AtIt, GoingIn, MetIn, beside, can_known, ends_of, fits_first, goes_in, knows_in, learns_for, lower, mode}
 use Rattle.lagprogress.proofs.Knowing.{settled, stays_met_in, some_silence, sounds_now, two_less, wait, wakes_now}
 use Rattle.lagprogress.proofs.LateHearing.{AheadIn, Flies, HearsIn, Said, Whoever, ticks_bring, ticks_near, ticks_pass, ticks_stamp, ticks_take}
 use Rattle.lagprogress.proofs.LateHearing.{ticks_tell}
-use Rattle.lagprogress.proofs.SeveralTicks.{TickPasses, TicksBeside, no_less, ticked_by, ticks_hold, ticks_keep}
+use Rattle.lagprogress.proofs.SeveralTicks.{TicksBeside, no_less, ticked_by, ticks_hold, ticks_keep}
 use Rattle.lagprogress.proofs.Stamps.{Stamped, Took}
 use Rattle.lagprogress.proofs.Climbing.{PartnerInSync}
-use Rattle.lagprogress.proofs.Telling.{Wakes}
 
 module _ (at : Side → ℕ) (w : Side → Lacpdu) (s : Side) (quick : IsQuick (w (peer s))) where
   keen_wakes : (c : Side → ℕ) (e : ℕ) (j : WorldState) → Link 1 at w c One Nothing j → AtIt at w s (Keen (w (peer s)) e) j

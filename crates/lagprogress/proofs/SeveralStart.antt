@@ -1,7 +1,7 @@
 -- What is known of the items on a cable after a late round of several ticks: all of them were sent in it.
-use Rattle.lagprogress.proofs.Common.{Bool, List, Some, [], ap, arith, inl, inr, is_some, length, refl, subst, suc, sym, zero, ℕ, ◌++◌, ◌-◌, ◌∙◌, ◌∷◌}
+use Rattle.lagprogress.proofs.Common.{Bool, List, Some, [], ap, arith, inl, inr, length, refl, subst, suc, sym, ℕ, ◌++◌, ◌-◌, ◌∙◌, ◌∷◌}
 use Rattle.lagprogress.proofs.Common.{◌≡◌, ◌≤◌, ◌⊎◌, AllByRecursion, Lacpdu, One, Side, peer, Machines, periodic_rows, receive_rows, AtRest}
-use Rattle.lagprogress.proofs.Common.{RunsToRest, after_sending, count_down, Algorithms, ItemValue, WorldState, change_count_in, half, history_at}
+use Rattle.lagprogress.proofs.Common.{RunsToRest, after_sending, count_down, Algorithms, ItemValue, WorldState, half}
 use Rattle.lagprogress.proofs.Common.{OfEach, AtPort, ArriveIn, OldArrive, IsHealthyAt}
 use Rattle.lagprogress.proofs.EndFacts.{Along, IsEnd, Suits, Synced, nothing_along}
 use Rattle.lagprogress.proofs.HostRound.{KeptBeside, MadeByTick, between, healthy_link, two_there}

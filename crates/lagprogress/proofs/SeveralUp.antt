@@ -1,19 +1,19 @@
 -- How the links of a bundle come up and agree in rounds of several ticks.
-use Rattle.lagprogress.proofs.Common.{Bool, List, Option, Some, [], ap, arith, false, inl, inr, is_some, map, refl, slice_get, subst, suc, sym, true, zero, ℕ}
-use Rattle.lagprogress.proofs.Common.{◌+◌, ◌-◌, ◌∙◌, ◌∷◌, ◌≡◌, ◌≢◌, ◌≤◌, ◌⊎◌, cases_Bool, nat_tests, AllByRecursion, Key, SystemId, is_selected, Lacpdu}
-use Rattle.lagprogress.proofs.Common.{One, Side, Two, peer, Machines, receive_rows, RunsToRest, count_down, PortConfig, SystemPort, Table, MuxIsSettled}
+use Rattle.lagprogress.proofs.Common.{Bool, List, Option, Some, ap, arith, false, inl, inr, is_some, map, refl, slice_get, subst, suc, sym, true, zero, ℕ}
+use Rattle.lagprogress.proofs.Common.{◌+◌, ◌-◌, ◌∙◌, ◌≡◌, ◌≤◌, ◌⊎◌, cases_Bool, AllByRecursion, Key, SystemId, is_selected, Lacpdu}
+use Rattle.lagprogress.proofs.Common.{One, Side, Two, peer, Machines, receive_rows, RunsToRest, count_down, PortConfig, SystemPort, Table}
 use Rattle.lagprogress.proofs.Common.{configured_numbers, none_enabled, SystemState, port_numbers, with_system_ports, with_table, rests, all-get, ports_rise}
-use Rattle.lagprogress.proofs.Common.{Same, agreement_at, Reply, Algorithms, link_ends, IsWorldSound, WorldSteps, LinkState, WorldState, half, history_at}
-use Rattle.lagprogress.proofs.Common.{port_at, towards, same_place, ItemValue, HostEvent, Plays, OfEach, AtPort, at_number, StepReplies, BothAreActive}
-use Rattle.lagprogress.proofs.Common.{EachLinkAgrees, EachLinkComesUp, EndsHealthyCable, IsBundle, OneIsActive, IsBetweenTicks, IsPlayedTicks, TicksAmong}
+use Rattle.lagprogress.proofs.Common.{Same, agreement_at, Reply, Algorithms, link_ends, IsWorldSound, LinkState, WorldState, half, history_at}
+use Rattle.lagprogress.proofs.Common.{port_at, towards, same_place, ItemValue, HostEvent, Plays, AtPort, at_number, StepReplies, BothAreActive}
+use Rattle.lagprogress.proofs.Common.{EachLinkAgrees, EachLinkComesUp, IsBundle, OneIsActive, IsBetweenTicks, IsPlayedTicks, TicksAmong}
 use Rattle.lagprogress.proofs.Common.{OldArrive, Distributes, AtEnd, IsHealthyAt, IsSteady, most_ticks}
-use Rattle.lagprogress.specs.Several.{SeveralRounds, known_in_several_if_both_active, known_in_several_if_one_is, up_in_several_if_both_active}
+use Rattle.lagprogress.specs.Several.{SeveralRounds, up_in_several_if_both_active}
 use Rattle.lagprogress.specs.Several.{up_in_several_if_one_is}
 use Rattle.lagprogress.proofs.Bundling.{Awake, Named, agree_still, apart_ends, both_wake, down_first, down_keeps, heard_holds, is_chosen, names, one_wakes}
 use Rattle.lagprogress.proofs.Bundling.{said}
 use Rattle.lagprogress.proofs.Claims.{IsNamed}
-use Rattle.lagprogress.proofs.Climbing.{Down, PartnerInSync, Ripe, Rising, climbed, down_ticks, rising_along, rising_first, ticks_rising}
-use Rattle.lagprogress.proofs.ComingUp.{AgreesIn, AreSynced, agreed_on, distributes, hears_on, owed, rises_first, synced_in}
+use Rattle.lagprogress.proofs.Climbing.{Down, PartnerInSync, Ripe, Rising, climbed, down_ticks, rising_along, ticks_rising}
+use Rattle.lagprogress.proofs.ComingUp.{AgreesIn, AreSynced, distributes, hears_on, owed, rises_first, synced_in}
 use Rattle.lagprogress.proofs.EachRound.{EachAt, RoundKeeps, each_between, joins_kept, joins_tick, tick_keeps, tick_leaves, tick_makes}
 use Rattle.lagprogress.proofs.EndFacts.{Learnt, Synced, activity, wait_of}
 use Rattle.lagprogress.proofs.HostRound.{KeptBetween, MadeByTick}
@@ -32,7 +32,7 @@ use Rattle.lagprogress.proofs.SeveralMeeting.{MetSince, both_meet_in, met_knows_
 use Rattle.lagprogress.proofs.SeveralStart.{flush}
 use Rattle.lagprogress.proofs.SeveralTicks.{TicksBeside, holds_turns, no_less, ticked_by, ticks_hold, turned}
 use Rattle.lagprogress.proofs.SharedLemmas.{Finds, Lasted, Sleeps, is_disabled, shared_finds, sleeping_round, sleeping_ticks}
-use Rattle.lagprogress.proofs.Stamps.{Present, Stamped, Took}
+use Rattle.lagprogress.proofs.Stamps.{Stamped}
 use Rattle.lagprogress.proofs.Starting.{active_at, healthy_cable, named_at, raised, starts}
 use Rattle.lagprogress.proofs.Telling.{tells_map}
 use Rattle.lagscript.specs.declared.event.Event.TheVariants as event
