@@ -1,22 +1,18 @@
 -- How the ends of a cable come to know each other in rounds of several ticks.
-use Rattle.lagprogress.proofs.Common.{Bool, List, [], arith, false, inl, inr, refl, subst, suc, sym, true, zero, ℕ, ◌+◌, ◌-◌, ◌∙◌, ◌∷◌}
-use Rattle.lagprogress.proofs.Common.{◌≡◌, ◌≤◌, ◌⊎◌, cases_Bool, nat_tests, Lacpdu, One, Side, Two, peer}
-use Rattle.lagprogress.proofs.Common.{Machines}
-use Rattle.lagprogress.proofs.Common.{Algorithms, LinkState, WorldState, half, port_at, timeout_time, OfEach, no}
-use Rattle.lagprogress.proofs.Common.{AtPort, Sounds}
-use Rattle.lagprogress.proofs.Common.{silence_of, sounds_first, OldArrive, EndKnows, Knows, HostEvent, LeavesPorts}
-use Rattle.lagprogress.proofs.Common.{Clearing, IsBetweenTicks, IsPlayedTicks, TicksAmong, most_ticks, BothAreActive, OneIsActive, EndsOfEachKnow}
-use Rattle.lagprogress.specs.Several.{SeveralRounds, known_in_several_if_both_active, known_in_several_if_one_is}
+use Rattle.lagprogress.proofs.Common.{Bool, List, [], arith, false, inl, inr, refl, subst, suc, sym, true, zero, ℕ, ◌+◌, ◌-◌, ◌∙◌, ◌∷◌, ◌≡◌, ◌≤◌, ◌⊎◌}
+use Rattle.lagprogress.proofs.Common.{cases_Bool, nat_tests, Lacpdu, One, Side, Two, peer, Machines, Algorithms, LinkState, WorldState, half, port_at}
+use Rattle.lagprogress.proofs.Common.{HostEvent, timeout_time, OfEach, no, AtPort, Sounds, silence_of, sounds_first, LeavesPorts, BothAreActive}
+use Rattle.lagprogress.proofs.Common.{EndsOfEachKnow, OneIsActive, Clearing, IsBetweenTicks, OldArrive, EndKnows, Knows, IsPlayedTicks, SeveralRounds}
+use Rattle.lagprogress.proofs.Common.{TicksAmong, known_in_several_if_both_active, known_in_several_if_one_is, most_ticks}
 use Rattle.lagprogress.proofs.SeveralStart.{first_several}
 use Rattle.lagprogress.proofs.LateStart.{counts_of, kept_of}
 use Rattle.lagprogress.proofs.Quieting.{leaves as leaves_ports}
 use Rattle.lagprogress.proofs.Starting.{Ends, active_at, end_of, awake_at, named_at, said_by, starts}
 use Rattle.lagprogress.proofs.Claims.{IsNamed, Wakeful}
-use Rattle.lagprogress.proofs.EndFacts.{CanSound, IsEnd, Learnt, activity, less_known, short_timeout}
-use Rattle.lagprogress.proofs.EndFacts.{wait_of}
+use Rattle.lagprogress.proofs.EndFacts.{CanSound, IsEnd, Learnt, activity, less_known, short_timeout, wait_of}
 use Rattle.lagprogress.proofs.HostRound.{two, two_other, two_there}
-use Rattle.lagprogress.proofs.SeveralLapsing.{Brisk, IsQuick, Keen, LastingIn, NewTail, Tail, begins_lasting_in, brisk_passes, keen_active, keen_along, keen_calm}
-use Rattle.lagprogress.proofs.SeveralLapsing.{keen_ticks, lasting_in_now, lasting_ticks}
+use Rattle.lagprogress.proofs.SeveralLapsing.{Brisk, IsQuick, Keen, LastingIn, NewTail, Tail, begins_lasting_in, brisk_passes, keen_active}
+use Rattle.lagprogress.proofs.SeveralLapsing.{keen_along, keen_calm, keen_ticks, lasting_in_now, lasting_ticks}
 use Rattle.lagprogress.proofs.Lapsing.{Phase}
 use Rattle.lagprogress.proofs.Linked.{EndIs, Fits, Link, both_at, each_map, each_side, end_here, of_end, peer_twice, with_ports}
 use Rattle.lagprogress.proofs.OneRound.{Nothing, at_rest, beside_here, forget, join}

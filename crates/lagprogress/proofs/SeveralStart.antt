@@ -1,12 +1,12 @@
 -- What is known of the items on a cable after a late round of several ticks: all of them were sent in it.
-use Rattle.lagprogress.proofs.Common.{Bool, List, Some, [], ap, arith, inl, inr, length, refl, subst, suc, sym, ℕ, ◌++◌, ◌-◌, ◌∙◌, ◌∷◌}
-use Rattle.lagprogress.proofs.Common.{◌≡◌, ◌≤◌, ◌⊎◌, AllByRecursion, Lacpdu, One, Side, peer, Machines, periodic_rows, receive_rows, AtRest}
-use Rattle.lagprogress.proofs.Common.{RunsToRest, after_sending, count_down, Algorithms, ItemValue, WorldState, half}
-use Rattle.lagprogress.proofs.Common.{OfEach, AtPort, ArriveIn, OldArrive, IsHealthyAt}
+use Rattle.lagprogress.proofs.Common.{Bool, List, Some, [], ap, arith, inl, inr, length, refl, subst, suc, sym, ℕ, ◌++◌, ◌-◌, ◌∙◌, ◌∷◌, ◌≡◌, ◌≤◌, ◌⊎◌}
+use Rattle.lagprogress.proofs.Common.{AllByRecursion, Lacpdu, One, Side, peer, Machines, periodic_rows, receive_rows, AtRest, RunsToRest}
+use Rattle.lagprogress.proofs.Common.{after_sending, count_down, Algorithms, ItemValue, WorldState, half, OfEach, AtPort, ArriveIn, OldArrive}
+use Rattle.lagprogress.proofs.Common.{IsHealthyAt}
 use Rattle.lagprogress.proofs.EndFacts.{Along, IsEnd, Suits, Synced, nothing_along}
 use Rattle.lagprogress.proofs.HostRound.{KeptBeside, MadeByTick, between, healthy_link, two_there}
-use Rattle.lagprogress.proofs.SeveralTicks.{TicksBeside, Within, all_counted, fits_at, known_at, none_counted, own_at, peer_at}
-use Rattle.lagprogress.proofs.SeveralTicks.{side_turns, ticked_by, ticks_keep}
+use Rattle.lagprogress.proofs.SeveralTicks.{TicksBeside, Within, all_counted, fits_at, known_at, none_counted, own_at, peer_at, side_turns, ticked_by}
+use Rattle.lagprogress.proofs.SeveralTicks.{ticks_keep}
 use Rattle.lagprogress.proofs.LateStart.{counts_of, kept_of}
 use Rattle.lagprogress.proofs.HostStamps.{stamped_between, stamped_tick}
 use Rattle.lagprogress.proofs.LateFlow.{Adds, Past, cleared_on, gain_at}

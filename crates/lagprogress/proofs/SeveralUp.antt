@@ -1,23 +1,23 @@
 -- How the links of a bundle come up and agree in rounds of several ticks.
-use Rattle.lagprogress.proofs.Common.{Bool, List, Option, Some, ap, arith, false, inl, inr, is_some, map, refl, slice_get, subst, suc, sym, true, zero, ℕ}
-use Rattle.lagprogress.proofs.Common.{◌+◌, ◌-◌, ◌∙◌, ◌≡◌, ◌≤◌, ◌⊎◌, cases_Bool, AllByRecursion, Key, SystemId, is_selected, Lacpdu}
-use Rattle.lagprogress.proofs.Common.{One, Side, Two, peer, Machines, receive_rows, RunsToRest, count_down, PortConfig, SystemPort, Table}
-use Rattle.lagprogress.proofs.Common.{configured_numbers, none_enabled, SystemState, port_numbers, with_system_ports, with_table, rests, all-get, ports_rise}
-use Rattle.lagprogress.proofs.Common.{Same, agreement_at, Reply, Algorithms, link_ends, IsWorldSound, LinkState, WorldState, half, history_at}
-use Rattle.lagprogress.proofs.Common.{port_at, towards, same_place, ItemValue, HostEvent, Plays, AtPort, at_number, StepReplies, BothAreActive}
-use Rattle.lagprogress.proofs.Common.{EachLinkAgrees, EachLinkComesUp, IsBundle, OneIsActive, IsBetweenTicks, IsPlayedTicks, TicksAmong}
-use Rattle.lagprogress.proofs.Common.{OldArrive, Distributes, AtEnd, IsHealthyAt, IsSteady, most_ticks}
-use Rattle.lagprogress.specs.Several.{SeveralRounds, up_in_several_if_both_active}
-use Rattle.lagprogress.specs.Several.{up_in_several_if_one_is}
-use Rattle.lagprogress.proofs.Bundling.{Awake, Named, agree_still, apart_ends, both_wake, down_first, down_keeps, heard_holds, is_chosen, names, one_wakes}
-use Rattle.lagprogress.proofs.Bundling.{said}
+use Rattle.lagprogress.proofs.Common.{Bool, List, Option, Some, ap, arith, false, inl, inr, is_some, map, refl, slice_get, subst, suc, sym, true}
+use Rattle.lagprogress.proofs.Common.{zero, ℕ, ◌+◌, ◌-◌, ◌∙◌, ◌≡◌, ◌≤◌, ◌⊎◌, cases_Bool, AllByRecursion, Key, SystemId, is_selected, Lacpdu, One}
+use Rattle.lagprogress.proofs.Common.{Side, Two, peer, Machines, receive_rows, RunsToRest, count_down, Table, PortConfig, SystemPort}
+use Rattle.lagprogress.proofs.Common.{configured_numbers, none_enabled, SystemState, port_numbers, with_system_ports, with_table, rests, all-get}
+use Rattle.lagprogress.proofs.Common.{ports_rise, Same, Reply, agreement_at, Algorithms, link_ends, IsWorldSound, ItemValue, LinkState, WorldState}
+use Rattle.lagprogress.proofs.Common.{half, history_at, port_at, towards, HostEvent, Plays, AtPort, at_number, same_place, BothAreActive}
+use Rattle.lagprogress.proofs.Common.{EachLinkAgrees, EachLinkComesUp, IsBundle, OneIsActive, IsBetweenTicks, StepReplies, OldArrive, Distributes}
+use Rattle.lagprogress.proofs.Common.{AtEnd, IsHealthyAt, IsPlayedTicks, SeveralRounds, TicksAmong, most_ticks, up_in_several_if_both_active}
+use Rattle.lagprogress.proofs.Common.{up_in_several_if_one_is, IsSteady}
+use Rattle.lagprogress.proofs.Bundling.{Awake, Named, agree_still, apart_ends, both_wake, down_first, down_keeps, heard_holds, is_chosen, names}
+use Rattle.lagprogress.proofs.Bundling.{one_wakes, said}
 use Rattle.lagprogress.proofs.Claims.{IsNamed}
 use Rattle.lagprogress.proofs.Climbing.{Down, PartnerInSync, Ripe, Rising, climbed, down_ticks, rising_along, ticks_rising}
 use Rattle.lagprogress.proofs.ComingUp.{AgreesIn, AreSynced, distributes, hears_on, owed, rises_first, synced_in}
 use Rattle.lagprogress.proofs.EachRound.{EachAt, RoundKeeps, each_between, joins_kept, joins_tick, tick_keeps, tick_leaves, tick_makes}
 use Rattle.lagprogress.proofs.EndFacts.{Learnt, Synced, activity, wait_of}
 use Rattle.lagprogress.proofs.HostRound.{KeptBetween, MadeByTick}
-use Rattle.lagprogress.proofs.Knowing.{AtIt, Leaves, MetIn, able_in, beside, fits_in_round, fits_met, knows_in, mode, settled, stays_met_in, wakes_met}
+use Rattle.lagprogress.proofs.Knowing.{AtIt, Leaves, MetIn, able_in, beside, fits_in_round, fits_met, knows_in, mode, settled, stays_met_in}
+use Rattle.lagprogress.proofs.Knowing.{wakes_met}
 use Rattle.lagprogress.proofs.Halves.{timely}
 use Rattle.lagprogress.proofs.OneCable.{OnCable}
 use Rattle.lagprogress.proofs.Lasting.{Alike, IsAsBefore, alike_keeps, alike_ticks, all_by_place, ends_at, old_port, still_links}
