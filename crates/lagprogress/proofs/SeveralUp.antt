@@ -6,8 +6,8 @@ use Rattle.lagprogress.proofs.Common.{configured_numbers, none_enabled, SystemSt
 use Rattle.lagprogress.proofs.Common.{ports_rise, Same, Reply, agreement_at, Algorithms, link_ends, IsWorldSound, ItemValue, LinkState, WorldState}
 use Rattle.lagprogress.proofs.Common.{half, history_at, port_at, towards, HostEvent, Plays, AtPort, at_number, same_place, BothAreActive}
 use Rattle.lagprogress.proofs.Common.{EachLinkAgrees, EachLinkComesUp, IsBundle, OneIsActive, IsBetweenTicks, StepReplies, OldArrive, Distributes}
-use Rattle.lagprogress.proofs.Common.{AtEnd, IsHealthyAt, IsPlayedTicks, SeveralRounds, TicksAmong, most_ticks, up_in_several_if_both_active}
-use Rattle.lagprogress.proofs.Common.{up_in_several_if_one_is, IsSteady}
+use Rattle.lagprogress.proofs.Common.{AtEnd, IsHealthyAt, EachLinkStaysAgreedThroughout, EachLinkStaysUpThroughout, IsPlayedTicks, SeveralBeside}
+use Rattle.lagprogress.proofs.Common.{SeveralRounds, TicksAmong, most_ticks, up_in_several_if_both_active, up_in_several_if_one_is, IsSteady}
 use Rattle.lagprogress.proofs.Bundling.{Awake, Named, agree_still, apart_ends, both_wake, down_first, down_keeps, heard_holds, is_chosen, names}
 use Rattle.lagprogress.proofs.Bundling.{one_wakes, said}
 use Rattle.lagprogress.proofs.Claims.{IsNamed}
@@ -21,7 +21,7 @@ use Rattle.lagprogress.proofs.Knowing.{wakes_met}
 use Rattle.lagprogress.proofs.Halves.{timely}
 use Rattle.lagprogress.proofs.OneCable.{OnCable}
 use Rattle.lagprogress.proofs.Lasting.{Alike, IsAsBefore, alike_keeps, alike_ticks, all_by_place, ends_at, old_port, still_links}
-use Rattle.lagprogress.proofs.LateComingUp.{present_of, synced_along, tells_which, ticks_synced}
+use Rattle.lagprogress.proofs.LateComingUp.{present_of, several_agree, several_join, several_stamped, synced_along, tells_which, ticks_synced}
 use Rattle.lagprogress.proofs.LateFlow.{Past}
 use Rattle.lagprogress.proofs.LateHearing.{AheadIn, Whoever, ticks_near, ticks_stamp}
 use Rattle.lagprogress.proofs.LateStart.{counts_of, kept_of}
@@ -157,15 +157,15 @@ module _ (gives : Algorithms) where
 
 -- the ports at the ends of a cable have a history as before
 several_stamps : (gives : Algorithms) (at : Side → ℕ) (i : ℕ) (fl : Side → List ItemValue) (n : ℕ) (old new : WorldState) → OnCable i at fl old.links
-    → SeveralRounds gives n old new → (s : Side) → is_some (history_at (half s new).histories (at s)) ≡ is_some (history_at (half s old).histories (at s))
-several_stamps gives at i fl n old new c h = (several_from gives at (λ m j. Stamped 0 at (counts_of at old) (kept_of at old) j) old (record {
+    → SeveralRounds gives n old new → Stamped 0 at (counts_of at old) (kept_of at old) new
+several_stamps gives at i fl n old new c h = several_from gives at (λ m j. Stamped 0 at (counts_of at old) (kept_of at old) j) old (record {
   flying = fl;
   index = i;
   links = c;
   counts = λ t. refl;
   there = λ t. refl;
   items = λ l. absurd (omega (arith, l));
-}) (λ m k i j one less q a. ticks_stamp 0 gives at (counts_of at old) (kept_of at old) k i j q a) n new h).there
+}) (λ m k i j one less q a. ticks_stamp 0 gives at (counts_of at old) (kept_of at old) k i j q a) n new h
 
 -- one cable, whose ends know each other
 
@@ -466,7 +466,26 @@ module _ (Holds : LinkState → WorldState → Type 0) (first : ℕ) (gives : Al
   agrees_of sound i l y n new enough h =
       let at : Side → ℕ = λ t. port_at t l in
       agree_still i l old new sound (several_ends gives n old new h)
-      (several_stamps gives at i (λ t. towards t l) n old new (healthy_cable i l old sound.cabling y) h) y (are_synced i l y n new enough h)
+      (several_stamps gives at i (λ t. towards t l) n old new (healthy_cable i l old sound.cabling y) h).there y (are_synced i l y n new enough h)
+
+  -- and go on in rounds of several ticks beside their ends
+
+  stays_of : (i : ℕ) (l : LinkState) (y : IsHealthyAt i l old) (n m : ℕ) (mid new : WorldState) → first + 43 ≤ n → SeveralRounds gives n old mid
+      → SeveralBeside l gives m mid new → AreSynced (λ s. port_at s l) (said old i l y) new
+  stays_of i l y n m mid new enough h more =
+      let at : Side → ℕ = λ t. port_at t l in
+      synced_in at (said old i l y) (counts_of at old) (kept_of at old) (named_of i l y) (awake_of i l y) most_ticks (omega arith) new
+      (λ s stamped took. present_of gives at old new s (stamped, took)) (several_agree gives l (said old i l y) (counts_of at old) (kept_of at old)
+      (named_of i l y) (awake_of i l y) m mid new more (agree_in i l y n mid enough h))
+
+  stays_agreed_of : IsWorldSound old → (i : ℕ) (l : LinkState) (y : IsHealthyAt i l old) (n m : ℕ) (mid new : WorldState) → first + 43 ≤ n
+      → SeveralRounds gives n old mid → SeveralBeside l gives m mid new → agreement_at new (suc i) ≡ Some Same
+  stays_agreed_of sound i l y n m mid new enough h more =
+      let at : Side → ℕ = λ t. port_at t l in
+      let stamps = several_stamped gives l (counts_of at old) (kept_of at old) m mid new more
+      (several_stamps gives at i (λ t. towards t l) n old mid (healthy_cable i l old sound.cabling y) h) in
+      agree_still i l old new sound (several_join gives l m mid new more ∙ several_ends gives n old mid h) stamps.there y
+      (stays_of i l y n m mid new enough h more)
 
 -- the laws
 
@@ -499,3 +518,19 @@ both_agree_in_several gives n i l old new sound b y enough h =
 pub one_agrees_in_several : (gives : Algorithms) → EachLinkAgrees SeveralRounds OneIsActive up_in_several_if_one_is gives
 one_agrees_in_several gives n i l old new sound b y enough h =
     agrees_of OneIsActive 671 gives old b (one_meets gives old b) (one_wakes old) sound i l y n new enough h
+
+pub both_stay_up : (gives : Algorithms) → EachLinkStaysUpThroughout BothAreActive up_in_several_if_both_active gives
+both_stay_up gives n m i l old mid new b y enough h more = distributes (λ s. port_at s l) (said old i l y) new
+    (stays_of BothAreActive 365 gives old b (both_meets gives old b) (both_wake old) i l y n m mid new enough h more)
+
+pub one_stays_up : (gives : Algorithms) → EachLinkStaysUpThroughout OneIsActive up_in_several_if_one_is gives
+one_stays_up gives n m i l old mid new b y enough h more = distributes (λ s. port_at s l) (said old i l y) new
+    (stays_of OneIsActive 671 gives old b (one_meets gives old b) (one_wakes old) i l y n m mid new enough h more)
+
+pub both_stay_agreed : (gives : Algorithms) → EachLinkStaysAgreedThroughout BothAreActive up_in_several_if_both_active gives
+both_stay_agreed gives n m i l old mid new sound b y enough h more =
+    stays_agreed_of BothAreActive 365 gives old b (both_meets gives old b) (both_wake old) sound i l y n m mid new enough h more
+
+pub one_stays_agreed : (gives : Algorithms) → EachLinkStaysAgreedThroughout OneIsActive up_in_several_if_one_is gives
+one_stays_agreed gives n m i l old mid new sound b y enough h more =
+    stays_agreed_of OneIsActive 671 gives old b (one_meets gives old b) (one_wakes old) sound i l y n m mid new enough h more

@@ -102,3 +102,12 @@ EachLinkStaysUpInSeveral Holds least gives = (n m i : ℕ) (l : LinkState) (old 
 abbrev pub EachLinkStaysAgreedInSeveral : (LinkState → WorldState → Type 0) → ℕ → Algorithms → Type 0
 EachLinkStaysAgreedInSeveral Holds least gives = (n m i : ℕ) (l : LinkState) (old mid new : WorldState) → IsSoundWorld old → IsBundle Holds old
     → IsHealthyAt i l old → least ≤ n → LateRounds gives n old mid → SeveralBeside l gives m mid new → agreement_at new (suc i) ≡ Some Same
+
+-- So it is behind so many rounds of several ticks or more.
+abbrev pub EachLinkStaysUpThroughout : (LinkState → WorldState → Type 0) → ℕ → Algorithms → Type 0
+EachLinkStaysUpThroughout Holds least gives = (n m i : ℕ) (l : LinkState) (old mid new : WorldState) → IsBundle Holds old → IsHealthyAt i l old
+    → least ≤ n → SeveralRounds gives n old mid → SeveralBeside l gives m mid new → (s : Side) → AtEnd Distributes s l new
+
+abbrev pub EachLinkStaysAgreedThroughout : (LinkState → WorldState → Type 0) → ℕ → Algorithms → Type 0
+EachLinkStaysAgreedThroughout Holds least gives = (n m i : ℕ) (l : LinkState) (old mid new : WorldState) → IsSoundWorld old → IsBundle Holds old
+    → IsHealthyAt i l old → least ≤ n → SeveralRounds gives n old mid → SeveralBeside l gives m mid new → agreement_at new (suc i) ≡ Some Same

@@ -97,6 +97,7 @@ pub fn each_link_agrees_by_clocks<F: Fn(u16, usize) -> usize>()
 
 ghost use Rattle.lagprogress.specs.Beside.{EachLinkStaysAgreed, EachLinkStaysUp};
 ghost use Rattle.lagprogress.specs.Several.{EachLinkStaysAgreedInSeveral, EachLinkStaysUpInSeveral};
+ghost use Rattle.lagprogress.specs.Several.{EachLinkStaysAgreedThroughout, EachLinkStaysUpThroughout};
 
 // promise: **a setting of another port does no harm to a link that is up:** behind 356 | 657 late rounds both its ports stay up, and agree,
 //    for any number of late rounds in which hosts also hold other ports, let them go and set their modes, CollectorMaxDelay and any limit of
@@ -111,10 +112,15 @@ ghost use Rattle.lagprogress.specs.Several.{EachLinkStaysAgreedInSeveral, EachLi
 // contract: `each_link_stays_up_by_clocks` (`several_up_both`, `several_up_one`, `several_agrees_both`, `several_agrees_one`: `SeveralBeside`)
 // premises: as in the row above; each end of a healthy cable is asked after the last tick of its system in the round, and each tick is an event of its
 //    own. No clause says what ticks do that one end has more of than the other
+// promise: so it goes on behind 408 | 714 late rounds of several ticks
+// contract: `each_link_stays_up_by_clocks` (`throughout_up_both`, `throughout_up_one`, `throughout_agrees_both`, `throughout_agrees_one`: `SeveralRounds`,
+//    `SeveralBeside`)
+// premises: as in the row above
 /// The links that come up as in `each_link_comes_up_by_clocks` stay up, and agree, in any number of late rounds behind them in which hosts
 /// also make settings: other ports are held, let go, or set to other modes, CollectorMaxDelay is set, and so is any limit of links that
 /// `set_max_links` takes. No setting is one of `hold_port` or `set_mode` for a port at an end of the link (6.4.2.3, 6.4.7, 6.4.8; profile).
-/// So they do where hosts make up ticks: in each round each system may tick up to six times, as often as the other.
+/// So they do where hosts make up ticks: in each round each system may tick up to six times, as often as the other; also those that came up in
+/// such rounds.
 pub fn each_link_stays_up_by_clocks<F: Fn(u16, usize) -> usize>()
     ensures up_both { (one two : F) → EachLinkStaysUp BothAreActive up_if_both_active (both_algorithms (F.post one) (F.post two)) }
     ensures up_one { (one two : F) → EachLinkStaysUp OneIsActive up_if_one_is (both_algorithms (F.post one) (F.post two)) }
@@ -124,6 +130,10 @@ pub fn each_link_stays_up_by_clocks<F: Fn(u16, usize) -> usize>()
     ensures several_up_one { (one two : F) → EachLinkStaysUpInSeveral OneIsActive up_if_one_is (both_algorithms (F.post one) (F.post two)) }
     ensures several_agrees_both { (one two : F) → EachLinkStaysAgreedInSeveral BothAreActive up_if_both_active (both_algorithms (F.post one) (F.post two)) }
     ensures several_agrees_one { (one two : F) → EachLinkStaysAgreedInSeveral OneIsActive up_if_one_is (both_algorithms (F.post one) (F.post two)) }
+    ensures throughout_up_both { (one two : F) → EachLinkStaysUpThroughout BothAreActive up_in_several_if_both_active (both_algorithms (F.post one) (F.post two)) }
+    ensures throughout_up_one { (one two : F) → EachLinkStaysUpThroughout OneIsActive up_in_several_if_one_is (both_algorithms (F.post one) (F.post two)) }
+    ensures throughout_agrees_both { (one two : F) → EachLinkStaysAgreedThroughout BothAreActive up_in_several_if_both_active (both_algorithms (F.post one) (F.post two)) }
+    ensures throughout_agrees_one { (one two : F) → EachLinkStaysAgreedThroughout OneIsActive up_in_several_if_one_is (both_algorithms (F.post one) (F.post two)) }
 {}
 
 ghost use Rattle.lagprogress.specs.Bundle.{SelectedPairsAgree, SelectedPairsComeUp};
