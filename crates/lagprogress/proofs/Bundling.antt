@@ -92,7 +92,7 @@ down_rounds E gives n old new steady s enough h = played_on E gives (λ m j. Eac
 -- a bundle
 
 -- of each healthy cable it holds, since no port has two cables
-holds_there : (Holds : LinkState → WorldState → Type 0) (old : WorldState) → IsCabling (world_setup old).cables → (i : ℕ) (l : LinkState)
+pub holds_there : (Holds : LinkState → WorldState → Type 0) (old : WorldState) → IsCabling (world_setup old).cables → (i : ℕ) (l : LinkState)
     → (h : IsHealthyAt i l old) → EndsHealthyCable Holds One (ends_at i l old h One).1.number old → Holds l old
 holds_there Holds old cabling i l h it =
     let e = ends_at i l old h One in
@@ -128,7 +128,7 @@ pub apart_ends : (old : WorldState) → IsSteady old → SystemsDiffer old → (
 apart_ends old hyp1 hyp2 i l h s = grind (arith, nat_tests, ends_at, own_system)
 
 -- ends that are up agree, where the cables stand where they stood and the ports have a history as before
-agree_still : (i : ℕ) (l : LinkState) (old new : WorldState) → IsWorldSound old → map link_ends new.links ≡ map link_ends old.links
+pub agree_still : (i : ℕ) (l : LinkState) (old new : WorldState) → IsWorldSound old → map link_ends new.links ≡ map link_ends old.links
     → ((s : Side) → is_some (history_at (half s new).histories (port_at s l)) ≡ is_some (history_at (half s old).histories (port_at s l)))
     → (h : IsHealthyAt i l old) → AreSynced (λ s. port_at s l) (said old i l h) new → agreement_at new (suc i) ≡ Some Same
 agree_still i l old new sound joins kept h up = agrees_now (λ s. port_at s l) (said old i l h) new up i

@@ -384,7 +384,7 @@ module _ (at : Side → ℕ) (w : Side → Lacpdu) (counts : Side → ℕ) (kept
           awake = wakes_now at w d g.known One Nothing s (mode at w s) old
               (subst (CanSound (w s) (w (peer s)) (mode at w s)) (no_less (g.known s)) (can s 0 (omega arith))) g.link
 
-      goes_in : (spare d most n : ℕ) (old new : WorldState) (g : GoingIn ticks slack spare d most n old) → 1 ≤ d → Fits d w g.known
+      pub goes_in : (spare d most n : ℕ) (old new : WorldState) (g : GoingIn ticks slack spare d most n old) → 1 ≤ d → Fits d w g.known
           → Fits d w (ticked_by k g.known) → AbleIn at w k g.known → TicksBeside k at OldArrive gives old new
           → GoingIn ticks slack spare d most (n + 1) new
       goes_in spare d most n old new g there fit then can h =

@@ -19,13 +19,13 @@ abbrev pub Lapsing : ℕ → Machines → Type 0
 Lapsing i p = Lapsed (i + 1) p × Sounds true i p
 
 -- settling keeps it, and the partner is active
-record Kept (T : Machines → Type 0) : Type 0 where
-  mux : (ready : Bool) (p q : Machines) → RunsToRest (mux_rows ready) p q → T p → T q
-  periodic : (p q : Machines) → RunsPeriodic p q → p.enabled ≡ true → T p → T q
-  select : (choice : Choice) (p : Machines) → is_selected p.choice ≡ false → T p → T (record p { choice = choice })
-  active : (p : Machines) → T p → (bits_of p.partner.state).activity ≡ true
+pub record Kept (T : Machines → Type 0) : Type 0 where
+  pub mux : (ready : Bool) (p q : Machines) → RunsToRest (mux_rows ready) p q → T p → T q
+  pub periodic : (p q : Machines) → RunsPeriodic p q → p.enabled ≡ true → T p → T q
+  pub select : (choice : Choice) (p : Machines) → is_selected p.choice ≡ false → T p → T (record p { choice = choice })
+  pub active : (p : Machines) → T p → (bits_of p.partner.state).activity ≡ true
 
-lapsed_kept : (e : ℕ) → Kept (Lapsed e)
+pub lapsed_kept : (e : ℕ) → Kept (Lapsed e)
 lapsed_kept e = record {
   mux = mux_leaves (Lapsed e);
   periodic = λ p q h up y. periodic_leaves (Lapsed e) p q h y;
@@ -33,7 +33,7 @@ lapsed_kept e = record {
   active = λ p y. y.1;
 }
 
-lapsed_calm : (e : ℕ) (p : Machines) → p.enabled ≡ true → Lapsed e p → Calm true p
+pub lapsed_calm : (e : ℕ) (p : Machines) → p.enabled ≡ true → Lapsed e p → Calm true p
 lapsed_calm e p up y = (not_silent p.enabled p.active (bits_of p.partner.state).activity up (inr y.1), λ f. y.2)
 
 lapsing_kept : (i : ℕ) → Kept (Lapsing i)
@@ -52,7 +52,7 @@ later_kept i = record {
   active = λ p y. y.1.0.1;
 }
 
-some_kept : (T : ℕ → Machines → Type 0) → ((i : ℕ) → Kept (T i)) → Kept (λ p. (i : ℕ) × T i p)
+pub some_kept : (T : ℕ → Machines → Type 0) → ((i : ℕ) → Kept (T i)) → Kept (λ p. (i : ℕ) × T i p)
 some_kept T k = record {
   mux = λ ready p q h y. (y.0, (k y.0).mux ready p q h y.1);
   periodic = λ p q h up y. (y.0, (k y.0).periodic p q h up y.1);
@@ -60,7 +60,7 @@ some_kept T k = record {
   active = λ p y. (k y.0).active p y.1;
 }
 
-either_kept : (S T : Machines → Type 0) → Kept S → Kept T → Kept (λ p. S p ⊎ T p)
+pub either_kept : (S T : Machines → Type 0) → Kept S → Kept T → Kept (λ p. S p ⊎ T p)
 either_kept S T k l = record {
   mux = λ ready p q h y. elim y [ inl a ↦ inl (k.mux ready p q h a) | inr a ↦ inr (l.mux ready p q h a) ];
   periodic = λ p q h up y. elim y [ inl a ↦ inl (k.periodic p q h up a) | inr a ↦ inr (l.periodic p q h up a) ];
@@ -68,7 +68,7 @@ either_kept S T k l = record {
   active = λ p y. elim y [ inl a ↦ k.active p a | inr a ↦ l.active p a ];
 }
 
-recorded_kept : (u : Lacpdu) → activity u ≡ true → Kept (Recorded u 1)
+pub recorded_kept : (u : Lacpdu) → activity u ≡ true → Kept (Recorded u 1)
 recorded_kept u on = record {
   mux = mux_leaves (Recorded u 1);
   periodic = λ p q h up y. periodic_leaves (Recorded u 1) p q h y;
@@ -83,10 +83,10 @@ Phase u T k p = Sounds false k p × (Recorded u 1 p ⊎ T p)
 pub some_wait : (b : Bool) → 1 ≤ timeout_time b
 some_wait b = grind (arith, nat_tests)
 
-slow_calm : (T : Machines → Type 0) (p : Machines) → Kept T → p.enabled ≡ true → T p → Calm false p
+pub slow_calm : (T : Machines → Type 0) (p : Machines) → Kept T → p.enabled ≡ true → T p → Calm false p
 slow_calm T p k up y = grind (arith, nat_tests, not_silent, no)
 
-phase_along : (v u : Lacpdu) (T : Machines → Type 0) (d k : ℕ) → activity u ≡ true → 1 ≤ d → Kept T → Along (Phase u T k) v u 0 d
+pub phase_along : (v u : Lacpdu) (T : Machines → Type 0) (d k : ℕ) → activity u ≡ true → 1 ≤ d → Kept T → Along (Phase u T k) v u 0 d
 phase_along v u T d k on there kept =
     let both = either_kept (Recorded u 1) T (recorded_kept u on) kept in
     record {
@@ -110,17 +110,17 @@ phase_along v u T d k on there kept =
 
 -- a tick
 
-not_in : (from : ReceiveState → Bool) (r to : ReceiveState) (b : Bool) → r ≡ to → from to ≡ false → (from r && b) ≡ true → ⊥
+pub not_in : (from : ReceiveState → Bool) (r to : ReceiveState) (b : Bool) → r ≡ to → from to ≡ false → (from r && b) ≡ true → ⊥
 not_in from r to b e f h = no (sym (ap (λ c. c && b) f) ∙ subst (λ x. (from x && b) ≡ true) e h)
 
-some_left : (b : Bool) (n e : ℕ) → (b && (n == 0)) ≡ true → 1 ≤ e → e ≤ n → ⊥
+pub some_left : (b : Bool) (n e : ℕ) → (b && (n == 0)) ≡ true → 1 ≤ e → e ≤ n → ⊥
 some_left b n e h l m = grind (arith, nat_tests)
 
 -- the link is up, and so it is
-abbrev UpAnd : (Machines → Type 0) → Machines → Type 0
+abbrev pub UpAnd : (Machines → Type 0) → Machines → Type 0
 UpAnd T p = (p.enabled ≡ true) × T p
 
-lapsed_rows : (e : ℕ) → 1 ≤ e → EnabledKeep (UpAnd (Lapsed e)) receive_rows
+pub lapsed_rows : (e : ℕ) → 1 ≤ e → EnabledKeep (UpAnd (Lapsed e)) receive_rows
 lapsed_rows e l = grind (arith, nat_tests, not_in, not_down, some_left)
 
 -- what the partner's state becomes in EXPIRED
@@ -129,14 +129,14 @@ expired_active st =
     ap (λ (b : StateBits). b.activity) (encode_then_decode (record (bits_of (with_synchronization false st)) { timeout = true }))
     ∙ ap (λ (b : StateBits). b.activity) (encode_then_decode (record (bits_of st) { synchronization = false }))
 
-expired_short : (st : State) → (bits_of (with_timeout true (with_synchronization false st))).timeout ≡ true
+pub expired_short : (st : State) → (bits_of (with_timeout true (with_synchronization false st))).timeout ≡ true
 expired_short st =
     ap (λ (b : StateBits). b.timeout) (encode_then_decode (record (bits_of (with_synchronization false st)) { timeout = true }))
 
-abbrev Told : Lacpdu → Machines → Type 0
+abbrev pub Told : Lacpdu → Machines → Type 0
 Told u p = HasRecorded u p ⊎ Lapsed 30 p
 
-told_rows : (u : Lacpdu) → activity u ≡ true → EnabledKeep (UpAnd (Told u)) receive_rows
+pub told_rows : (u : Lacpdu) → activity u ≡ true → EnabledKeep (UpAnd (Told u)) receive_rows
 told_rows u on = each_row
     (λ p h a. absurd (elim a.1 [
       | inl r ↦ not_in (same_receive_state Initialize) p.receive Current true r.current refl h
@@ -156,7 +156,7 @@ told_rows u on = each_row
       | inr y ↦ absurd (not_in (same_receive_state Current) p.receive Expired (p.current_while == 0) y.0 refl h)
     ])
 
-running : (r : ReceiveState) (n : ℕ) → r ≡ Current → (same_receive_state Current r && (n == 0)) ≡ false → 1 ≤ n
+pub running : (r : ReceiveState) (n : ℕ) → r ≡ Current → (same_receive_state Current r && (n == 0)) ≡ false → 1 ≤ n
 running r n e h = not_gone n (subst (λ x. (same_receive_state Current x && (n == 0)) ≡ false) e h)
 
 abbrev pub Tails : Machines → Type 0
@@ -169,7 +169,7 @@ LaterTails p = (i : ℕ) × ((1 ≤ i) × Lapsing i p)
 abbrev pub Lasting : Lacpdu → ℕ → Machines → Type 0
 Lasting u k p = (1 ≤ k) × Phase u LaterTails k p
 
-tick_slow : (k : ℕ) (T : Machines → Type 0) (p q : Machines) → Kept T → p.enabled ≡ true → RunsToRest receive_rows (count_down p) q
+pub tick_slow : (k : ℕ) (T : Machines → Type 0) (p q : Machines) → Kept T → p.enabled ≡ true → RunsToRest receive_rows (count_down p) q
     → AtRest periodic_rows p → Sounds false k p → T p → Sounds false (k - 1) q
 tick_slow k T p q kept up h rest y t =
     runs_keep (Sounds false (k - 1)) receive_rows (λ p a. a, (λ p a. a, (λ p a. a, (λ p a. a, (λ p a. a, tt))))) (count_down p) q h

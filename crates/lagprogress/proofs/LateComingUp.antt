@@ -23,7 +23,7 @@ use Rattle.lagprogress.proofs.Telling.{Bears, SaysIt, Tells, tells_map}
 
 -- a synchronized end stays so
 
-synced_along : (v u : Lacpdu) (c d : ℕ) → 1 ≤ d → 1 ≤ c → Along Synced v u c d
+pub synced_along : (v u : Lacpdu) (c d : ℕ) → 1 ≤ d → 1 ≤ c → Along Synced v u c d
 synced_along v u c d there known = record {
   mux = λ ready p q h y. times_keep Synced (mux_rows ready) (synced_mux ready) h.0 p q h.1 y;
   periodic = λ p q h a y. periodic_leaves Synced p q h y;
@@ -32,12 +32,12 @@ synced_along v u c d there known = record {
       (ap is_selected k.0 ∙ y.0, ap is_synchronized k.1 ∙ y.1));
 }
 
-ticks_synced : (d : ℕ) (v u : Lacpdu) (c : ℕ) (p q : Machines) → 1 ≤ c - 1 → RunsToRest receive_rows (count_down p) q → IsEnd d v u c p
+pub ticks_synced : (d : ℕ) (v u : Lacpdu) (c : ℕ) (p q : Machines) → 1 ≤ c - 1 → RunsToRest receive_rows (count_down p) q → IsEnd d v u c p
     → Synced p → Synced q
 ticks_synced d v u c p q l h a y = subst Synced (sym (ticks_still d v u c p q l a h)) (y.0, y.1)
 
 -- the last LACPDU on the way says so, or there is none
-tells_which : (u v : Lacpdu) (xs : List ItemValue) (H : Type 0) → Tells u v xs H → Flying xs ⊎ H
+pub tells_which : (u v : Lacpdu) (xs : List ItemValue) (H : Type 0) → Tells u v xs H → Flying xs ⊎ H
 tells_which u v [] H h = inr h
 tells_which u v (x ∷ xs) H h = elim (tells_which u v xs (SaysIt u v x × (H ⊎ Bears x)) h) [
   | inl f ↦ inl (inr f)

@@ -19,6 +19,10 @@ mod Quieting
 mod HostSteady
 mod HostRound
 mod SeveralTicks
+mod SeveralLapsing
+mod SeveralMeeting
+mod SeveralStart
+mod SeveralUp
 mod HostStamps
 mod HostTelling
 mod LateFlow

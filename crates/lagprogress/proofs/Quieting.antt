@@ -83,7 +83,7 @@ IsCalm e = IsQuiet e
 pub calm_quiet : (e : HostEvent) → IsQuiet e → IsCalm e
 calm_quiet e q = grind (arith, nat_tests)
 
-calm_between : (e : HostEvent) → IsBetweenTicks e → IsCalm e
+pub calm_between : (e : HostEvent) → IsBetweenTicks e → IsCalm e
 calm_between e b = grind (arith, nat_tests)
 
 pub calm_tick : (s : Side) (e : HostEvent) → IsTickOf s e → IsCalm e

@@ -55,7 +55,7 @@ once {at} {E} {gives} {old} {new} h = record {
 
 -- the events of a round, in the eyes of either system
 
-turned : (May : HostEvent → Type 0) (n : ℕ) (es : List HostEvent) (a b : ℕ) → TicksAmong May n One a b es → TicksAmong May n Two b a es
+pub turned : (May : HostEvent → Type 0) (n : ℕ) (es : List HostEvent) (a b : ℕ) → TicksAmong May n One a b es → TicksAmong May n Two b a es
 turned May n [] a b h = (h.1, h.0)
 turned May n (e ∷ es) a b (inl h) = inr (inl (h.0, turned May n es (suc a) b h.1))
 turned May n (e ∷ es) a b (inr (inl h)) = inl (h.0, turned May n es a (suc b) h.1)

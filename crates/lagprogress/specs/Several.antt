@@ -13,7 +13,7 @@ use Rattle.lagsystem.specs.Sound.{IsSound}
 use Rattle.lagbeside.specs.Timers.{PortsAreTimed}
 use Rattle.lagprogress.specs.Beside.{LeavesPorts}
 use Rattle.lagprogress.specs.Bundle.{IsBundle}
-use Rattle.lagprogress.specs.HostRounds.{AsksIn, AtSomeWorld, Clearing, IsTickOf, RunReplies}
+use Rattle.lagprogress.specs.HostRounds.{AsksIn, AtSomeWorld, Clearing, IsBetweenTicks, IsTickOf, RunReplies}
 use Rattle.lagprogress.specs.LateRounds.{LateRounds, OldArrive}
 use Rattle.lagprogress.specs.Progress.{Distributes}
 use Rattle.lagprogress.specs.Rounds.{AtEnd, IsHealthyAt}
@@ -57,6 +57,26 @@ SeveralBeside l gives zero old new = new ≡ old
 SeveralBeside l gives (suc n) old new = (mid : WorldState) × SeveralBeside l gives n old mid × (ticks : ℕ) × (1 ≤ ticks) × (ticks ≤ most_ticks)
     × IsPlayedTicks (LeavesPorts (λ s. port_at s l)) OldArrive ticks gives mid new
 
+-- so many late rounds, in each of which each system ticks once at the least, and as often as the other
+abbrev pub SeveralRounds : Algorithms → ℕ → WorldState → WorldState → Type 0
+SeveralRounds gives zero old new = new ≡ old
+SeveralRounds gives (suc n) old new = (mid : WorldState) × SeveralRounds gives n old mid × (ticks : ℕ) × (1 ≤ ticks) × (ticks ≤ most_ticks)
+    × IsPlayedTicks IsBetweenTicks OldArrive ticks gives mid new
+
+-- After so many of these rounds the ends of healthy cables know each other, if both are active, and if one is.
+abbrev pub known_in_several_if_both_active : ℕ
+known_in_several_if_both_active = 365
+
+abbrev pub known_in_several_if_one_is : ℕ
+known_in_several_if_one_is = 671
+
+-- And they distribute and agree.
+abbrev pub up_in_several_if_both_active : ℕ
+up_in_several_if_both_active = 408
+
+abbrev pub up_in_several_if_one_is : ℕ
+up_in_several_if_one_is = 714
+
 -- one of the events after so many ticks of system s asks this port
 abbrev pub AsksAfterTicks : Side → ℕ → (ticks : ℕ) → List HostEvent → Type 0
 AsksAfterTicks s p zero es = AsksIn s p es
@@ -82,3 +102,12 @@ EachLinkStaysUpInSeveral Holds least gives = (n m i : ℕ) (l : LinkState) (old 
 abbrev pub EachLinkStaysAgreedInSeveral : (LinkState → WorldState → Type 0) → ℕ → Algorithms → Type 0
 EachLinkStaysAgreedInSeveral Holds least gives = (n m i : ℕ) (l : LinkState) (old mid new : WorldState) → IsSoundWorld old → IsBundle Holds old
     → IsHealthyAt i l old → least ≤ n → LateRounds gives n old mid → SeveralBeside l gives m mid new → agreement_at new (suc i) ≡ Some Same
+
+-- So it is behind so many rounds of several ticks or more.
+abbrev pub EachLinkStaysUpThroughout : (LinkState → WorldState → Type 0) → ℕ → Algorithms → Type 0
+EachLinkStaysUpThroughout Holds least gives = (n m i : ℕ) (l : LinkState) (old mid new : WorldState) → IsBundle Holds old → IsHealthyAt i l old
+    → least ≤ n → SeveralRounds gives n old mid → SeveralBeside l gives m mid new → (s : Side) → AtEnd Distributes s l new
+
+abbrev pub EachLinkStaysAgreedThroughout : (LinkState → WorldState → Type 0) → ℕ → Algorithms → Type 0
+EachLinkStaysAgreedThroughout Holds least gives = (n m i : ℕ) (l : LinkState) (old mid new : WorldState) → IsSoundWorld old → IsBundle Holds old
+    → IsHealthyAt i l old → least ≤ n → SeveralRounds gives n old mid → SeveralBeside l gives m mid new → agreement_at new (suc i) ≡ Some Same
