@@ -6,24 +6,24 @@ use Rattle.lagprogress.proofs.Common.{ports_that_chose, has_chosen, SystemPort, 
 use Rattle.lagprogress.proofs.Common.{found_place, Same, agreement_at, Algorithms, link_ends, world_setup, IsWorldSound, LinkState, WorldState, half}
 use Rattle.lagprogress.proofs.Common.{history_at, port_at, towards, end_is, HostEvent, ports_with, IsTimed, count, count_more_of, counted, OfEach}
 use Rattle.lagprogress.proofs.Common.{AtPort, waits_for_room, EachLinkStaysAgreed, EachLinkStaysUp, RoundsBeside, AllHeard, BothAreActive}
-use Rattle.lagprogress.proofs.Common.{EachLinkAgrees, EachLinkComesUp, EndsHealthyCable, EnoughLinks, IsBundle, OneIsActive, SystemsDiffer, Clearing}
-use Rattle.lagprogress.proofs.Common.{PlayedRounds, LateRounds, OldArrive, Distributes, AtEnd, IsHealthyAt, EachLinkStaysAgreedInSeveral}
-use Rattle.lagprogress.proofs.Common.{EachLinkStaysUpInSeveral, SeveralBeside, IsSteady}
-use Rattle.lagprogress.proofs.LateStart.{counts_of, kept_of}
+use Rattle.lagprogress.proofs.Common.{EachLinkAgrees, EachLinkComesUp, EndsHealthyCable, EndsOfEachKnow, EnoughLinks, IsBundle, OneIsActive}
+use Rattle.lagprogress.proofs.Common.{SystemsDiffer, Clearing, PlayedRounds, LateRounds, OldArrive, Distributes, AtEnd, IsHealthyAt}
+use Rattle.lagprogress.proofs.Common.{EachLinkStaysAgreedInSeveral, EachLinkStaysUpInSeveral, SeveralBeside, IsSteady}
+use Rattle.lagprogress.proofs.LateHearing.{counts_of, kept_of}
 use Rattle.lagprogress.proofs.SeveralTicks.{once}
-use Rattle.lagprogress.proofs.LateComingUp.{Up, comes_to_be_up, several_join, several_stamped, several_synced, up_synced}
+use Rattle.lagprogress.proofs.ComingUp.{Up, comes_to_be_up, several_join, several_stamped, several_synced, up_synced, AreSynced, agrees_now}
+use Rattle.lagprogress.proofs.ComingUp.{distributes, stamps_stay, climbed_end, climbs}
 use Rattle.lagprogress.proofs.EachRound.{clears_less, EachAt, RoundKeeps, same_index, joins_beside, host_each, played_on, played_split, played_steady}
-use Rattle.lagprogress.proofs.ComingUp.{AreSynced, Climbs, agrees_now, climbs_first, climbs_on, distributes, hosts_kept, stamps_stay}
-use Rattle.lagprogress.proofs.Knowing.{Fresh, knows_late, late_active_meet, late_fresh_knows, late_one_meets, AtIt}
-use Rattle.lagprogress.proofs.Climbing.{Down, Ripe, Rising, climbed, down_settles, down_takes, down_ticks, rising_first}
-use Rattle.lagprogress.proofs.Starting.{active_at, awake_at, named_at, healthy_cable, said_by, starts}
+use Rattle.lagprogress.proofs.Knowing.{Fresh, knows_late, late_active_meet, late_fresh_knows, late_one_meets, AtIt, Met}
+use Rattle.lagprogress.proofs.Climbing.{Down, Ripe, Rising, down_settles, down_takes, down_ticks, rising_first}
+use Rattle.lagprogress.proofs.Lasting.{active_at, awake_at, named_at, healthy_cable, said_by, starts, IsAsBefore, all_by_place, ends_at, old_port}
+use Rattle.lagprogress.proofs.Lasting.{own_system, still_links, played_before}
 use Rattle.lagprogress.proofs.Halves.{timely}
-use Rattle.lagprogress.proofs.Quieting.{AllBeside, all_beside, as_beside}
+use Rattle.lagprogress.proofs.Quieting.{AllBeside, all_beside}
 use Rattle.lagprogress.proofs.EndFacts.{Synced, activity}
-use Rattle.lagprogress.proofs.Linked.{many, at_end, end_here, end_with, EndPort}
+use Rattle.lagprogress.proofs.Linked.{at_end, end_here, EndPort}
 use Rattle.lagprogress.proofs.OneRound.{Nothing}
 use Rattle.lagprogress.proofs.SharedLemmas.{Finds, shared_finds, played_lasted}
-use Rattle.lagprogress.proofs.Lasting.{IsAsBefore, all_by_place, ends_at, old_port, own_system, still_links, played_before}
 use Rattle.lagprogress.proofs.Claims.{IsNamed}
 
 -- no port stands by
@@ -122,6 +122,31 @@ Named old i l h = (t : Side) → IsNamed (said old i l h t)
 pub names : (old : WorldState) → IsSteady old → (i : ℕ) (l : LinkState) (h : IsHealthyAt i l old) → Named old i l h
 names old steady i l h = named_at l old (ends_at i l old h) steady
 
+-- the ends of each healthy cable, of which this holds, know each other after so many late rounds, and one of them is active
+pub record LinksMeet (Holds : LinkState → WorldState → Type 0) (first : ℕ) (gives : Algorithms) : Type 0 where
+  pub meet : (n : ℕ) (old mid : WorldState) → IsCabling (world_setup old).cables → IsSteady old → (i : ℕ) (l : LinkState) (h : IsHealthyAt i l old)
+      → Holds l old → first ≤ n → LateRounds gives n old mid → Fresh (λ s. port_at s l) (said old i l h) old mid
+  pub wake : (old : WorldState) (i : ℕ) (l : LinkState) (h : IsHealthyAt i l old) → Holds l old → Awake old i l h
+
+pub one_meets : (gives : Algorithms) → LinksMeet OneIsActive 624 gives
+one_meets gives = record {
+  meet = λ n old mid cabling steady i l h a enough r. late_one_meets gives (λ s. port_at s l) (said old i l h) (names old steady i l h) n old mid
+      (starts i l old (ends_at i l old h) steady cabling h) r a.0 (active_at l old (ends_at i l old h) a.0 a.1) enough;
+  wake = λ old i l h a. awake_at (said old i l h) a.0 (active_at l old (ends_at i l old h) a.0 a.1);
+}
+
+pub both_meet : (gives : Algorithms) → LinksMeet BothAreActive 323 gives
+both_meet gives = record {
+  meet = λ n old mid cabling steady i l h a enough r. late_active_meet gives (λ s. port_at s l) (said old i l h) (names old steady i l h) n old mid
+      (starts i l old (ends_at i l old h) steady cabling h) r (λ s. active_at l old (ends_at i l old h) s (a s)) enough;
+  wake = λ old i l h a s. inl (active_at l old (ends_at i l old h) s (a s));
+}
+
+pub ends_know : (Holds : LinkState → WorldState → Type 0) (first : ℕ) (gives : Algorithms) → LinksMeet Holds first gives
+    → EndsOfEachKnow LateRounds Holds first gives
+ends_know Holds first gives k n i l old new cabling steady healthy holds enough h =
+    late_fresh_knows l (said old i l healthy) old new (k.meet n old new cabling steady i l healthy holds enough h)
+
 -- the ends of a healthy cable are of different systems
 pub apart_ends : (old : WorldState) → IsSteady old → SystemsDiffer old → (i : ℕ) (l : LinkState) (h : IsHealthyAt i l old) → (s : Side)
     → (said old i l h (peer s)).actor.system ≢ (said old i l h s).actor.system
@@ -143,7 +168,7 @@ pub agree_up : (E : Clearing) (gives : Algorithms) (n i : ℕ) (l : LinkState) (
     → AllBeside (λ s. port_at s l) E gives n old new → (h : IsHealthyAt i l old) → AreSynced (λ s. port_at s l) (said old i l h) new
     → agreement_at new (suc i) ≡ Some Same
 agree_up E gives n i l old new sound rounds h up = agree_still i l old new sound (joins_beside E gives (λ s. port_at s l) n old new rounds)
-    (hosts_kept E gives n i (λ t. port_at t l) (λ t. towards t l) old new (healthy_cable i l old sound.cabling h) rounds) h up
+    (stamps_stay E gives n i (λ t. port_at t l) (λ t. towards t l) old new (healthy_cable i l old sound.cabling h) rounds).there h up
 
 -- A bundle, by late rounds of a kind, but that a port whose link is up may be another in place of an end of a healthy cable. In so many
 -- rounds the ends of each healthy cable know each other, and one of them is active; the others end none, and have risen in 20 rounds more if
@@ -199,9 +224,6 @@ module _ (E : Clearing) (Holds : LinkState → WorldState → Type 0) (Other : S
     middle : IsSteady mid
     middle = played_steady E gives first old mid m.steady h
 
-    above : IsSteady top
-    above = played_steady E gives 20 mid top middle more
-
     -- both ends of each healthy cable are SELECTED
     chosen : (i : ℕ) (l : LinkState) (y : IsHealthyAt i l old) → (s : Side)
         → AtIt (λ t. port_at t l) (said old i l y) s (λ p. is_selected p.choice ≡ true) mid
@@ -216,16 +238,12 @@ module _ (E : Clearing) (Holds : LinkState → WorldState → Type 0) (Other : S
         (is_chosen at w g.known s mid middle (m.finds mid late s) (still_links s old mid k (m.links s))
         (systems i l y s) (let known = knows_late at w (counts_of at old) (kept_of at old) 1 mid g s in omega (arith, known)) e)
 
-    climb : (i : ℕ) (l : LinkState) (y : IsHealthyAt i l old)
-        → Climbs (λ t. port_at t l) (said old i l y) (counts_of (λ t. port_at t l) old) (kept_of (λ t. port_at t l) old) 20 top
-    climb i l y =
-        let at : Side → ℕ = λ t. port_at t l in
-        let w = said old i l y in
-        let counts = counts_of at old in
-        let kept = kept_of at old in
-        played_on OldArrive gives (Climbs at w counts kept) mid (climbs_first at w counts kept mid (met i l y mid (are_late first old mid h)) (chosen i l y))
-        (λ n a b r. climbs_on at w counts kept gives (named_of i l y) (awake_of i l y) n a b
-        (as_beside at OldArrive gives a b r)) 20 top (are_late 20 mid top more)
+    climb : (i : ℕ) (l : LinkState) (y : IsHealthyAt i l old) → (s : Side)
+        → Met (λ t. port_at t l) (said old i l y) (counts_of (λ t. port_at t l) old) (kept_of (λ t. port_at t l) old) 1 top
+        × AtIt (λ t. port_at t l) (said old i l y) s (Rising 0) top
+    climb i l y s = let at : Side → ℕ = λ t. port_at t l in
+        climbs at (said old i l y) (counts_of at old) (kept_of at old) gives (named_of i l y) (awake_of i l y) s mid top
+        (met i l y mid (are_late first old mid h)) (chosen i l y s) (all_beside at OldArrive gives 20 mid top (are_late 20 mid top more))
 
     -- and have risen, as the SELECTED ports have whose links are down
     ripe : (s : Side) → AllByRecursion (λ (y : SystemPort). Ripe 0 y.port) (half s top).state.system_ports
@@ -248,26 +266,18 @@ module _ (E : Clearing) (Holds : LinkState → WorldState → Type 0) (Other : S
             let enabled : y.port.enabled ≡ z.0.port.enabled = (both.alike k x.0 y x.1 there).1 ∙ (start.alike k z.0 x.0 z.1 x.1).1 in
             elim (cases_Bool z.0.port.enabled) [
               | inl up ↦ elim (m.heard s k z.0 z.1 up) [
-                | inl it ↦ (let c = climb it.index it.link it.healthy in
-                    let number : y.number ≡ port_at s it.link = x.2 ∙ (z.2 ∙ sym it.joins) in
+                | inl it ↦ (let number : y.number ≡ port_at s it.link = x.2 ∙ (z.2 ∙ sym it.joins) in
                     λ _. (all-get (λ (q : SystemPort). AtPort (port_at s it.link) (Rising 0) q.number q.port) (half s top).state.system_ports k y
-                    there (subst (λ t. EachAt (AtPort (port_at s it.link) (Rising t)) s top) (omega arith) (c.rising s)) number).1)
+                    there (climb it.index it.link it.healthy s).1 number).1)
                 | inr o ↦ m.idle mid top h more s k z.0 y z.1 up o there
               ]
               | inr gone ↦ (all-get (λ (q : SystemPort). Down 0 q.number q.port) (half s top).state.system_ports k y there down
                   (enabled ∙ gone)).1
             ]
 
-    ready : (i : ℕ) (l : LinkState) (y : IsHealthyAt i l old) → (s : Side)
-        → AtIt (λ t. port_at t l) (said old i l y) s (Rising 0) top
-        → AtIt (λ t. port_at t l) (said old i l y) s Synced top
-    ready i l y s a =
-        let at : Side → ℕ = λ t. port_at t l in
-        let w = said old i l y in
-        let g = (climb i l y).fresh in
-        let e = end_here at w 1 g.known One Nothing top g.link s in
-        at_end at w 1 g.known s top e (timely top above) Synced
-        (climbed (half s top).state e.index e.port (above s).0 e.there (ripe s) (end_with at w 1 g.known s top e (Rising 0) a))
+    synced : (i : ℕ) (l : LinkState) (y : IsHealthyAt i l old) → (s : Side) → AtIt (λ t. port_at t l) (said old i l y) s Synced top
+    synced i l y s = let at : Side → ℕ = λ t. port_at t l in
+        climbed_end at (said old i l y) (counts_of at old) (kept_of at old) s top (ripe s) (climb i l y s)
 
   -- so in so many rounds more both ends come to agree
 
@@ -276,9 +286,8 @@ module _ (E : Clearing) (Holds : LinkState → WorldState → Type 0) (Other : S
   ups_of i l y n new enough h =
       let cut = played_split E gives (n - first) first n old new (omega (arith, enough)) h in
       let up = played_split E gives (n - first - 20) 20 (n - first) cut.0 new (omega (arith, enough)) cut.2 in
-      comes_to_be_up gives (λ s. port_at s l) (said old i l y) (named_of i l y) (awake_of i l y) (n - first - 20) old cut.0 up.0 new
-      (omega (arith, enough)) (are_late 20 cut.0 up.0 up.1) (are_late (n - first - 20) up.0 new up.2) (met i l y cut.0 (are_late first old cut.0 cut.1))
-      (chosen cut.0 up.0 cut.1 up.1 i l y) (ready cut.0 up.0 cut.1 up.1 i l y)
+      comes_to_be_up gives (λ s. port_at s l) (said old i l y) (named_of i l y) (awake_of i l y) (n - first - 20) old up.0 new (omega (arith, enough))
+      (are_late (n - first - 20) up.0 new up.2) (climb cut.0 up.0 cut.1 up.1 i l y One).0 (synced cut.0 up.0 cut.1 up.1 i l y)
 
   are_synced : (i : ℕ) (l : LinkState) (y : IsHealthyAt i l old) (n : ℕ) (new : WorldState) → first + 33 ≤ n → PlayedRounds E gives n old new
       → AreSynced (λ s. port_at s l) (said old i l y) new
@@ -301,54 +310,29 @@ Nowhere s n = ⊥
 abbrev pub Meets : (LinkState → WorldState → Type 0) → ℕ → Algorithms → WorldState → Type 0
 Meets Holds first gives old = MeetsBy OldArrive Holds Nowhere first gives old
 
-alone : (Holds : LinkState → WorldState → Type 0) (first : ℕ) (gives : Algorithms) (old : WorldState) → IsBundle Holds old
-    → ((i : ℕ) (l : LinkState) (h : IsHealthyAt i l old) → Holds l old → (mid : WorldState) → LateRounds gives first old mid
-    → Fresh (λ s. port_at s l) (said old i l h) old mid)
-    → ((i : ℕ) (l : LinkState) (h : IsHealthyAt i l old) → Holds l old → Awake old i l h) → Meets Holds first gives old
-alone Holds first gives old b meets wakes = record {
+pub alone : (Holds : LinkState → WorldState → Type 0) (first : ℕ) (gives : Algorithms) → LinksMeet Holds first gives → (old : WorldState)
+    → IsBundle Holds old → Meets Holds first gives old
+alone Holds first gives k old b = record {
   steady = b.steady;
   cabling = b.cabling;
   differ = b.differ;
-  heard = λ s k x e up. inl (b.heard s k x e up);
+  heard = λ s m x e up. inl (b.heard s m x e up);
   late = λ events i j clears. clears;
   finds = λ mid h. shared_finds old mid b.steady (played_lasted OldArrive gives first old mid b.steady h) Holds b.heard
-      (λ i l y s. late_fresh_knows l (said old i l y) old mid (meets i l y (heard_holds Holds old b.cabling b.heard i l y) mid h) s) b.aggregators;
+      (λ i l y. ends_know Holds first gives k first i l old mid b.cabling b.steady y (heard_holds Holds old b.cabling b.heard i l y) (omega arith) h)
+      b.aggregators;
   links = b.links;
   never = λ s i l h o. o;
-  idle = λ mid top h more s k z y there up o now. absurd o;
-  meets = meets;
-  wakes = wakes;
+  idle = λ mid top h more s m z y there up o now. absurd o;
+  meets = λ i l h y mid r. k.meet first old mid b.cabling b.steady i l h y (omega arith) r;
+  wakes = k.wake old;
 }
 
--- where one end of each healthy cable is active, and where both are
-
-pub one_wakes : (old : WorldState) (i : ℕ) (l : LinkState) (h : IsHealthyAt i l old) → OneIsActive l old → Awake old i l h
-one_wakes old i l h a = awake_at (said old i l h) a.0 (active_at l old (ends_at i l old h) a.0 a.1)
-
-pub both_wake : (old : WorldState) (i : ℕ) (l : LinkState) (h : IsHealthyAt i l old) → BothAreActive l old → Awake old i l h
-both_wake old i l h a s = inl (active_at l old (ends_at i l old h) s (a s))
-
-pub one_meet : (gives : Algorithms) (first : ℕ) (old : WorldState) → IsCabling (world_setup old).cables → IsSteady old → 624 ≤ first
-    → (i : ℕ) (l : LinkState) (h : IsHealthyAt i l old) → OneIsActive l old → (mid : WorldState) → LateRounds gives first old mid
-    → Fresh (λ s. port_at s l) (said old i l h) old mid
-one_meet gives first old cabling steady many i l h a mid r =
-    let e = ends_at i l old h in
-    late_one_meets gives (λ s. port_at s l) (said old i l h) (named_at l old e steady) first old mid (starts i l old e steady cabling h) r
-    a.0 (active_at l old e a.0 a.1) many
-
-pub both_meet : (gives : Algorithms) (old : WorldState) → IsCabling (world_setup old).cables → IsSteady old
-    → (i : ℕ) (l : LinkState) (h : IsHealthyAt i l old) → BothAreActive l old → (mid : WorldState) → LateRounds gives 323 old mid
-    → Fresh (λ s. port_at s l) (said old i l h) old mid
-both_meet gives old cabling steady i l h a mid r =
-    let e = ends_at i l old h in
-    late_active_meet gives (λ s. port_at s l) (said old i l h) (named_at l old e steady) 323 old mid (starts i l old e steady cabling h) r
-    (λ s. active_at l old e s (a s)) (omega arith)
-
 pub one_active : (gives : Algorithms) (old : WorldState) → IsBundle OneIsActive old → Meets OneIsActive 624 gives old
-one_active gives old b = alone OneIsActive 624 gives old b (one_meet gives 624 old b.cabling b.steady (omega arith)) (one_wakes old)
+one_active gives = alone OneIsActive 624 gives (one_meets gives)
 
 pub both_active : (gives : Algorithms) (old : WorldState) → IsBundle BothAreActive old → Meets BothAreActive 323 gives old
-both_active gives old b = alone BothAreActive 323 gives old b (both_meet gives old b.cabling b.steady) (both_wake old)
+both_active gives = alone BothAreActive 323 gives (both_meet gives)
 
 -- so many rounds beside its ends on, of several ticks or of one
 module _ (Holds : LinkState → WorldState → Type 0) (first : ℕ) (gives : Algorithms) (old : WorldState) (b : Meets Holds first gives old) (i : ℕ)

@@ -2,19 +2,18 @@
 use Rattle.lagprogress.proofs.Common.{Bool, Err, List, None, Ok, Option, Result, Some, [], ap, arith, false, if◌then◌else◌, inl, inr, length, not}
 use Rattle.lagprogress.proofs.Common.{refl, subst, sym, true, ℕ, ◌&&◌, ◌==◌, ◌||◌, ◌∙◌, ◌∷◌, ◌≡◌, ◌⊎◌, and_parts, nat_tests, none-some}
 use Rattle.lagprogress.proofs.Common.{slice_get_cases, slice_get_within, AggId, Choice, State, StateBits, bits_of, with_synchronization}
-use Rattle.lagprogress.proofs.Common.{encode_then_decode, Side, peer, CollectingDistributing, Setup, ReceiveState, PortDisabled, Machines}
-use Rattle.lagprogress.proofs.Common.{partner_synchronized, same_mux_state, selected, lacpdu_rows, receive_rows, same_receive_state, start_receive}
-use Rattle.lagprogress.proofs.Common.{Starts, before_start, count_down, has_chosen, Assignment, Free, On, DistFault, is_among, leave_result, Table}
-use Rattle.lagprogress.proofs.Common.{assignment_of, next_identifier, Config, HostCall, HostReply, Answer, SystemFault, SystemPort, OffersIf, Call}
-use Rattle.lagprogress.proofs.Common.{Configure, Force, Move_conversation, Offer, Receive, Restart, Set_link, Step, Tick, Transmit, changed_party}
-use Rattle.lagprogress.proofs.Common.{choice_with_link, call_of, IsFirst, configured_numbers, HostPromise, none_enabled, GivesOrRefuses, in_system}
-use Rattle.lagprogress.proofs.Common.{ProbesAt, aggregator_numbered, distributing, SetsPort, Setting, SettingPromise, SettingStep, Settling, IsSound}
-use Rattle.lagprogress.proofs.Common.{SystemState, port_index, port_numbers, TableAlone, host_alone, Step-frame, rests, all-get, ports_rise}
-use Rattle.lagprogress.proofs.Common.{setting_sound, Step-sound, first_sound, Algorithms, AreFirst, IsStart, WorldState, half, HostEvent, HostRuns}
-use Rattle.lagprogress.proofs.Common.{HostSteps, Plays, Sets, KeptByCall, KeptBySettling, OfEach, Step-each, first_each, no, forces_port, AtPort}
-use Rattle.lagprogress.proofs.Common.{at_number, calls_each, same_place, settling_leaves, Turns, asks_turn, comes_turn, gives_turn, same_turns}
-use Rattle.lagprogress.proofs.Common.{settles_turn, turns_through, RowsKeep, fires_keep, runs_keep, setting_each, EachHostReachedHasUnsynchronized}
-use Rattle.lagprogress.proofs.Common.{EachHostReachedHasCarriersUp, HasPortUp, carrier_of, held_on}
+use Rattle.lagprogress.proofs.Common.{encode_then_decode, Side, peer, Setup, ReceiveState, PortDisabled, Machines, partner_synchronized, receive_rows}
+use Rattle.lagprogress.proofs.Common.{same_receive_state, start_receive, Starts, before_start, count_down, Assignment, Free, On, DistFault, is_among}
+use Rattle.lagprogress.proofs.Common.{leave_result, Table, assignment_of, next_identifier, Config, HostCall, HostReply, Answer, SystemFault}
+use Rattle.lagprogress.proofs.Common.{SystemPort, OffersIf, Call, Configure, Force, Move_conversation, Offer, Receive, Restart, Set_link, Step, Tick}
+use Rattle.lagprogress.proofs.Common.{Transmit, changed_party, choice_with_link, call_of, IsFirst, configured_numbers, HostPromise, none_enabled}
+use Rattle.lagprogress.proofs.Common.{GivesOrRefuses, in_system, ProbesAt, aggregator_numbered, distributing, SetsPort, Setting, SettingPromise}
+use Rattle.lagprogress.proofs.Common.{SettingStep, Settling, IsSound, SystemState, port_index, port_numbers, TableAlone, host_alone, Step-frame}
+use Rattle.lagprogress.proofs.Common.{rests, all-get, ports_rise, setting_sound, Step-sound, first_sound, Algorithms, AreFirst, IsStart, WorldState}
+use Rattle.lagprogress.proofs.Common.{half, HostEvent, HostRuns, HostSteps, Plays, Sets, KeptByCall, KeptBySettling, OfEach, Step-each, first_each}
+use Rattle.lagprogress.proofs.Common.{no, forces_port, AtPort, at_number, calls_each, same_place, settling_leaves, Turns, asks_turn, comes_turn}
+use Rattle.lagprogress.proofs.Common.{gives_turn, same_turns, settles_turn, turns_through, RowsKeep, fires_keep, runs_keep, setting_each}
+use Rattle.lagprogress.proofs.Common.{EachHostReachedHasUnsynchronized, EachHostReachedHasCarriersUp, HasPortUp, carrier_of, held_on}
 use Rattle.distributor.proofs.TableLemmas.{first_free}
 use Rattle.lagbeside.specs.Heartbeat.{takes_down}
 use Rattle.lagsystem.specs.declared.drive.HostCall.TheVariants as host
@@ -120,12 +119,6 @@ up_from p old new was now ports stay (k, x, there, number, up) =
       | inr c ↦ (let past = c.0 in absurd (omega (arith, within, one, two, both, past)))
     ]
 
-still_up : (gives : ℕ → ℕ → ℕ → Type 0) (p : ℕ) (old new : SystemState) (call : Call) (answer : Answer) → IsSound old → IsSound new
-    → Step gives old call answer new → takes_down p call ≡ false → HasPortUp p old → HasPortUp p new
-still_up gives p old new call answer was now h t = up_from p old new was now
-    (ap (λ (s : SystemState). s.ports) (Step-frame gives old call answer new h))
-    (Step-each (AtPort p Up) (up_settles p) gives old call answer new (up_kept p call answer t) h)
-
 -- what is held was carried before, on a port that is not taken down
 
 abbrev HeldBefore : Call → Table → Table → Type 0
@@ -182,7 +175,8 @@ call_keeps gives old new call answer h k = (
   elim (held_before gives old new call answer h) [
     | inl e ↦ subst Carries (sym e) k.2
     | inr hb ↦ carries_on new sound lapses
-        (λ g c p f. let was = hb g c p f in still_up gives p old new call answer k.0 sound h was.1 (k.2 g c p was.0))
+        (λ g c p f. let was = hb g c p f in (up_from p old new k.0 sound (ap (λ (s : SystemState). s.ports) (Step-frame gives old call answer new h))
+        (Step-each (AtPort p Up) (up_settles p) gives old call answer new (up_kept p call answer was.1) h)) (k.2 g c p was.0))
   ],
 )
   where

@@ -7,8 +7,8 @@ use Rattle.lagprogress.proofs.Common.{default_partner, is_maintained, lacpdu_row
 use Rattle.lagprogress.proofs.Common.{pdu_of, ProcessesLacpdu, can_receive, can_receive_in, named, KeptBySettling, no, decoded, AtPort, mux_leaves}
 use Rattle.lagprogress.proofs.Common.{periodic_leaves, not_silent, unclear, RowsKeep, fires_keep, runs_keep}
 use Rattle.lagbeside.proofs.Sounding.{rests}
-use Rattle.lagprogress.proofs.EndFacts.{said_bits, Along, CanSound, IsEnd, SameActor, Says, Synced, activity, all_true, awake_fires, end_settles}
-use Rattle.lagprogress.proofs.EndFacts.{first_true, maintained, each_row}
+use Rattle.lagprogress.proofs.EndFacts.{all_true, first_true, said_bits, Along, CanSound, IsEnd, SameActor, Says, Synced, activity, awake_fires}
+use Rattle.lagprogress.proofs.EndFacts.{end_settles, maintained, each_row}
 use Rattle.lagprogress.proofs.Lapsing.{expired_active}
 
 -- SELECTED, in ATTACHED or COLLECTING_DISTRIBUTING, and the actor of the LACPDU is recorded as the partner

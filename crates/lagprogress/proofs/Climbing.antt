@@ -1,7 +1,7 @@
 -- How the mux machine of a SELECTED port climbs, and what a round keeps of what holds of one end.
 use Rattle.lagprogress.proofs.Common.{Bool, List, Some, [], ap, arith, false, if◌then◌else◌, inl, inr, not, refl, slice_get, subst, sym, true, ℕ}
-use Rattle.lagprogress.proofs.Common.{◌&&◌, ◌-◌, ◌==◌, ◌∙◌, ◌∷◌, ◌≡◌, ◌≤◌, ◌⊎◌, and_parts, nat_tests, AllByRecursion, AggId, Choice, Standby}
-use Rattle.lagprogress.proofs.Common.{Unselected, is_selected, is_unselected, same_party, party_itself, Lacpdu, party_of, MuxState, Attached}
+use Rattle.lagprogress.proofs.Common.{◌&&◌, ◌-◌, ◌∙◌, ◌∷◌, ◌≡◌, ◌≤◌, ◌⊎◌, and_parts, nat_tests, AllByRecursion, AggId, Choice, Standby, Unselected}
+use Rattle.lagprogress.proofs.Common.{is_selected, is_unselected, same_party, party_itself, Lacpdu, party_of, MuxState, Attached}
 use Rattle.lagprogress.proofs.Common.{CollectingDistributing, Detached, Waiting, ReceiveState, Machines, is_synchronized, mux_rows}
 use Rattle.lagprogress.proofs.Common.{partner_synchronized, same_mux_state, default_partner, lacpdu_rows, receive_rows, same_receive_state, AtRest}
 use Rattle.lagprogress.proofs.Common.{RunsToRest, count_down, has_chosen, has_waited, is_detached_or_waiting, SystemPort, ProcessesLacpdu, IsSound}
@@ -185,10 +185,6 @@ choice_along v u c d choice chosen there known = record {
   select = λ other p none y. absurd (no (sym none ∙ (ap is_selected y ∙ chosen)));
   takes = λ x p q e awake h a y. (keeps_selected u x p q (e.0 there) (a.1.1 known).0 h).0 ∙ y;
 }
-
-pub ticks_choice : (d : ℕ) (v u : Lacpdu) (c : ℕ) (p q : Machines) (choice : Choice) → 1 ≤ c - 1 → RunsToRest receive_rows (count_down p) q
-    → IsEnd d v u c p → p.choice ≡ choice → q.choice ≡ choice
-ticks_choice d v u c p q choice l h a y = subst (λ (r : Machines). r.choice ≡ choice) (sym (ticks_still d v u c p q l a h)) y
 
 distributing_now : (m : MuxState) (sel sync : Bool) → is_synchronized m ≡ true → sel ≡ true → sync ≡ true
     → (same_mux_state Attached m && (sel && sync)) ≡ false → m ≡ CollectingDistributing

@@ -1,34 +1,34 @@
 -- How both ends of a cable come to distribute, round by round.
-use Rattle.lagprogress.proofs.Common.{Bool, List, Some, ap, arith, false, inl, inr, is_some, not, option_map, refl, slice_get, subst, suc, sym, true}
-use Rattle.lagprogress.proofs.Common.{ℕ, ◌&&◌, ◌+◌, ◌-◌, ◌||◌, ◌∙◌, ◌≡◌, ◌≤◌, ◌⊎◌, unwrap_or, Party, is_selected, group_end, group_of, individual}
-use Rattle.lagprogress.proofs.Common.{pair_of, same_group, group-itself, Lacpdu, party_of, One, Side, Two, peer, CollectingDistributing, Machines}
-use Rattle.lagprogress.proofs.Common.{same_mux_state, SystemPort, MuxIsSettled, group_at, machines_of, all-get, Same, agreement_at, agreement_of}
-use Rattle.lagprogress.proofs.Common.{end_facts, first_agreement, is_stamp, same_groups, Algorithms, ItemValue, LinkState, WorldState, half}
-use Rattle.lagprogress.proofs.Common.{history_at, IsTimed, AtPort, Sounds, all_leave, LeavesPorts, Clearing, OldArrive, Distributes, OfPort}
-use Rattle.lagprogress.proofs.Stamps.{Took, Present, Stamped}
-use Rattle.lagprogress.proofs.LateHearing.{Ahead, ticks_near, ticks_stamp}
-use Rattle.lagprogress.proofs.LateStart.{counts_of, kept_of}
-use Rattle.lagprogress.proofs.SeveralTicks.{TicksBeside, once, ticked_by, ticks_hold}
-use Rattle.lagprogress.proofs.Knowing.{AtIt, Early, GoingIn, Met, able_in, awake_peer, beside, fits_before, fits_fresh, goes_met, knows_late, mode}
-use Rattle.lagprogress.proofs.Knowing.{Leaves, MetIn, fits_in_round, fits_met, for_several, knows_in, settled, stays_met, stays_met_in, wait}
-use Rattle.lagprogress.proofs.Knowing.{wakes_met}
-use Rattle.lagprogress.proofs.OneCable.{OnCable, cable}
+use Rattle.lagprogress.proofs.Common.{Bool, List, Some, [], ap, arith, false, inl, inr, is_some, map, not, option_map, refl, slice_get, subst, suc}
+use Rattle.lagprogress.proofs.Common.{sym, true, zero, ℕ, ◌+◌, ◌-◌, ◌∙◌, ◌∷◌, ◌≡◌, ◌≤◌, ◌⊎◌, AllByRecursion, unwrap_or, Party, is_selected, group_end}
+use Rattle.lagprogress.proofs.Common.{group_of, individual, pair_of, same_group, group-itself, Lacpdu, party_of, One, Side, Two, peer}
+use Rattle.lagprogress.proofs.Common.{CollectingDistributing, Machines, is_synchronized, mux_rows, same_mux_state, SystemPort, MuxIsSettled, group_at}
+use Rattle.lagprogress.proofs.Common.{machines_of, all-get, Same, agreement_at, agreement_of, end_facts, is_stamp, same_groups, Algorithms, link_ends}
+use Rattle.lagprogress.proofs.Common.{ItemValue, LinkState, WorldState, half, history_at, port_at, IsTimed, no, times_keep, AtPort, periodic_leaves}
+use Rattle.lagprogress.proofs.Common.{Sounds, all_leave, LeavesPorts, Clearing, IsLateRound, LateRounds, OldArrive, Distributes, OfPort}
+use Rattle.lagprogress.proofs.Common.{SeveralBeside, most_ticks}
+use Rattle.lagprogress.proofs.EachRound.{joins_kept, joins_tick, played_split, among_on}
+use Rattle.lagprogress.proofs.Quieting.{all_beside, PlayedBeside, as_beside, AllBeside}
+use Rattle.lagprogress.proofs.Stamps.{Took-it, Present, Stamped, Took}
+use Rattle.lagprogress.proofs.Climbing.{Rising, PartnerInSync, keeps_selected, ticks_still, distributes_now, partner_along, rising_along}
+use Rattle.lagprogress.proofs.Climbing.{rising_first, ticks_partner, ticks_rising, Ripe, climbed}
+use Rattle.lagprogress.proofs.Knowing.{Leaves, Met, fits_fresh, fits_before, knows_late, stays_met, AtIt, beside, Early, able_in, awake_peer}
+use Rattle.lagprogress.proofs.Knowing.{goes_met, mode, MetIn, fits_in_round, fits_met, for_several, knows_in, settled, stays_met_in, wait, wakes_met}
 use Rattle.lagprogress.proofs.Claims.{IsNamed, Owes}
-use Rattle.lagprogress.proofs.Climbing.{PartnerInSync, Rising, distributes_now, partner_along, rising_along, rising_first, ticks_partner}
-use Rattle.lagprogress.proofs.Climbing.{ticks_rising}
-use Rattle.lagprogress.proofs.EndFacts.{Learnt, Synced, activity}
-use Rattle.lagprogress.proofs.EachRound.{among_on}
-use Rattle.lagprogress.proofs.Quieting.{AllBeside, PlayedBeside}
-use Rattle.lagprogress.proofs.Linked.{EndPort, Fits, Link, at_end, each_map, end_here, end_with, peer_twice}
+use Rattle.lagprogress.proofs.EndFacts.{Along, IsEnd, Synced, activity, synced_mux, Learnt}
+use Rattle.lagprogress.proofs.LateHearing.{Whoever, ticks_stamp, Ahead, ticks_near, counts_of, flush, kept_of}
+use Rattle.lagprogress.proofs.LateFlow.{Past}
+use Rattle.lagprogress.proofs.Linked.{Flying, IsGood, Link, each_map, peer_twice, same_items, EndPort, Fits, at_end, end_here, end_with, both_at}
+use Rattle.lagprogress.proofs.Linked.{of_end}
 use Rattle.lagprogress.proofs.OneRound.{Nothing, join, ticked}
+use Rattle.lagprogress.proofs.SeveralTicks.{keeps_ticks, once, TicksBeside, ticked_by, ticks_hold}
+use Rattle.lagprogress.proofs.Lasting.{raised}
+use Rattle.lagprogress.proofs.Telling.{Bears, SaysIt, Tells, tells_map}
+use Rattle.lagprogress.proofs.OneCable.{OnCable, cable}
 use Rattle.lagtypes.proofs.GroupLemmas.{groups_from_pairs}
 use Rattle.std.proofs.Math.Bool.{and_comm}
 
 -- the ends agree
-
-all_same : (d1 d2 f1 f2 s1 s2 g : Bool) → d1 ≡ true → d2 ≡ true → f1 ≡ false → f2 ≡ false → s1 ≡ true → s2 ≡ true → g ≡ true
-    → first_agreement (not (d1 && d2)) (f1 || f2) (not (s1 && s2)) g ≡ Same
-all_same d1 d2 f1 f2 s1 s2 g a b c d e f h = rw (a, b, c, d, e, f, h) refl
 
 turned : (p q : Party) → same_group (group_of p q) (group_of q p) ≡ true
 turned p q =
@@ -98,57 +98,28 @@ module _ (at : Side → ℕ) (w : Side → Lacpdu) (j : WorldState) (g : AreSync
       (subst (λ x. same_group (group_of a.own a.others) (group_of x a.own) ≡ true) (a.knows ∙ sym b.says) (turned a.own a.others))) in
       ap (option_map (λ (l : LinkState). agreement_of (end_facts j.one l.one) (end_facts j.two l.two)))
       (subst (λ x. slice_get j.links x ≡ Some (cable at links.flying)) (only links.index links.flying links.links) links.links.there)
-      ∙ ap Some (all_same (end_facts j.one (at One)).distributes (end_facts j.two (at Two)).distributes
-      (end_facts j.one (at One)).defaulted (end_facts j.two (at Two)).defaulted
-      (is_stamp (end_facts j.one (at One)).count (end_facts j.two (at Two)).taken)
-      (is_stamp (end_facts j.two (at Two)).count (end_facts j.one (at One)).taken)
-      (same_groups (end_facts j.one (at One)).group (end_facts j.two (at Two)).group)
-      a.distributes b.distributes a.present b.present b.taken a.taken groups)
-
--- a SELECTED end climbs
-module _ (at : Side → ℕ) (w : Side → Lacpdu) (c : Side → ℕ) where
-  pub rises_first : (j : WorldState) (l : Link 1 at w c One Nothing j) (s : Side) → AtIt at w s (λ p. is_selected p.choice ≡ true) j
-      → AtIt at w s (Rising (20 - 0)) j
-  rises_first j l s chosen =
-      let e = end_here at w 1 c One Nothing j l s in
-      let st = (half s j).state in
-      let mux = (all-get (MuxIsSettled st.keys st.system_ports) st.system_ports e.index e.port e.there (l.steady s).0.quiet.0).mux in
-      let timed = all-get (λ (y : SystemPort). IsTimed y.port) st.system_ports e.index e.port e.there (l.steady s).1 in
-      at_end at w 1 c s j e l.steady (Rising 20) (rising_first e.port.port mux timed
-      (end_with at w 1 c s j e (λ p. is_selected p.choice ≡ true) chosen))
-
-  pub rises_on : (s : Side) (gives : Algorithms) (n : ℕ) (old new : WorldState) → Fits 1 w c → Fits 1 w (ticked c) → 2 ≤ c s
-      → Link 1 at w c One Nothing old → PlayedBeside at OldArrive gives old new → AtIt at w s (Rising (20 - n)) old → AtIt at w s (Rising (20 - (n + 1))) new
-  rises_on s gives n old new fits then l link h rising = subst (λ t. AtIt at w s (Rising t) new) (omega arith)
-      (beside at w 1 (ticked c) s (Rising (20 - n - 1)) new
-      (ticks_hold gives 1 s 1 at w c (λ a. Rising (20 - n - a)) old new fits then
-      (λ a k. rising_along (w s) (w (peer s)) (c s - a) 1 (20 - n - a) (omega arith) (omega (arith, l, k)))
-      (λ a k p q r rest e y. subst (λ t. Rising t q) (omega arith)
-      (ticks_rising 1 (w s) (w (peer s)) (c s - a) (20 - n - a) p q (omega (arith, l, k)) r e y))
-      (λ a p y. y) (join 1 at w c One s (Rising (20 - n - 0)) old link (subst (λ t. AtIt at w s (Rising t) old) (omega arith) rising)) (once h)))
+      ∙ ap Some (rw (a.distributes, b.distributes, a.present, b.present, b.taken, a.taken, groups) refl)
 
 -- an end that owes an LACPDU sounds as soon as its transmit window lets it
 pub owed : (at : Side → ℕ) (w : Side → Lacpdu) (c : Side → ℕ) (j : WorldState) (l : Link 2 at w c One Nothing j) (s : Side) → 1 ≤ c s
     → AtIt at w s (Owes (w (peer s))) j → AtIt at w s (Sounds (mode at w s) 11) j
-owed at w c j l s heard owes =
-    let e = end_here at w 2 c One Nothing j l s in
-    let known = (e.is.1.1 heard).0 in
-    let timed = all-get (λ (y : SystemPort). IsTimed y.port) (half s j).state.system_ports e.index e.port e.there (l.steady s).1 in
-    at_end at w 2 c s j e l.steady (Sounds (mode at w s) 11) (
-      inl (end_with at w 2 c s j e (Owes (w (peer s))) owes (e.is.2 (omega arith), known.party)),
-      all_leave true e.port.port.ages timed.3,
-    )
+owed at w c j l s heard owes = both_at (at s) (λ p. IsTimed p × IsEnd 2 (w s) (w (peer s)) (c s) p) (Owes (w (peer s))) (Sounds (mode at w s) 11)
+    (λ p a o. (inl (o (a.1.2 (omega arith), (a.1.1.1 heard).0.party)), all_leave true p.ages a.0.3)) (half s j).state.system_ports
+    (of_end l s (λ p. IsTimed p × IsEnd 2 (w s) (w (peer s)) (c s) p) (λ p rest timed a. (timed, a.0))) owes
+
+-- a SELECTED end begins to climb
+pub rises_first : (at : Side → ℕ) (w : Side → Lacpdu) (c : Side → ℕ) (j : WorldState) → Link 1 at w c One Nothing j → (s : Side)
+    → AtIt at w s (λ p. is_selected p.choice ≡ true) j → AtIt at w s (Rising 20) j
+rises_first at w c j l s chosen =
+    let e = end_here at w 1 c One Nothing j l s in
+    let st = (half s j).state in
+    at_end at w 1 c s j e l.steady (Rising 20) (rising_first e.port.port
+    (all-get (MuxIsSettled st.keys st.system_ports) st.system_ports e.index e.port e.there (l.steady s).0.quiet.0).mux
+    (all-get (λ (y : SystemPort). IsTimed y.port) st.system_ports e.index e.port e.there (l.steady s).1)
+    (end_with at w 1 c s j e (λ p. is_selected p.choice ≡ true) chosen))
 
 module _ (at : Side → ℕ) (w : Side → Lacpdu) (counts : Side → ℕ) (kept : Side → Bool) where
-  -- both climb
-  pub record Climbs (n : ℕ) (j : WorldState) : Type 0 where
-    pub fresh : Early at w counts kept n j
-    pub rising : (s : Side) → AtIt at w s (Rising (20 - n)) j
-
-  pub climbs_first : (j : WorldState) → Early at w counts kept 0 j → ((s : Side) → AtIt at w s (λ p. is_selected p.choice ≡ true) j) → Climbs 0 j
-  climbs_first j g chosen = record { fresh = g; rising = λ s. rises_first at w g.known j g.link s (chosen s) }
-
-  -- Then each end hears that the other is in sync, since it is told, or an LACPDU that says so is on its way, or is owed.
+  -- Each end hears that the other is in sync, since it is told, or an LACPDU that says so is on its way, or is owed.
 
   abbrev pub Tellings : Side → ℕ → WorldState → Type 0
   Tellings s n j = ((m : ℕ) × (1 ≤ m) × (n + m ≤ 12) × Ahead at w s (mode at w s) m j) ⊎ AtIt at w (peer s) PartnerInSync j
@@ -164,18 +135,11 @@ module _ (at : Side → ℕ) (w : Side → Lacpdu) (counts : Side → ℕ) (kept
   ])
 
   -- both are synchronized, and know that of each other
-  pub synced_of : (n : ℕ) (j : WorldState) → 12 ≤ n → Agrees n j
+  pub synced_at : (ticks slack : ℕ) → 1 ≤ slack → (j : WorldState) → MetIn at w counts kept ticks slack 2 j → ((s : Side) → AtIt at w s PartnerInSync j)
       → ((s : Side) → Stamped 1 at counts kept j → Took at counts kept s j → Present at s j) → AreSynced at w j
-  synced_of n j l c present =
-      let g = c.fresh in
-      let knows : (s : Side) → 1 ≤ g.known s = λ s. (let m = knows_late at w counts kept 2 j g s in omega (arith, m)) in
-      record {
-        known = g.known;
-        link = g.link;
-        knows = knows;
-        heard = told_now n j l c;
-        present = λ s. present s g.rest (g.took s (knows s));
-      }
+  synced_at ticks slack more j g heard present =
+      let knows : (s : Side) → 1 ≤ g.known s = λ s. (let m = knows_in at w counts kept ticks slack 2 j g more s in omega (arith, m)) in
+      record { known = g.known; link = g.link; knows = knows; heard = heard; present = λ s. present s g.rest (g.took s (knows s)) }
 
   module _ (gives : Algorithms) (named : (t : Side) → IsNamed (w t))
       (awake : (s : Side) → (activity (w s) ≡ true) ⊎ (activity (w (peer s)) ≡ true)) where
@@ -191,17 +155,32 @@ module _ (at : Side → ℕ) (w : Side → Lacpdu) (counts : Side → ℕ) (kept
         (λ a q p r run rest e x. ticks_partner 2 (w t) (w (peer t)) (g.known t - a) p r (omega (arith, l, q, less)) run e x)
         (λ a p x. x) (join 2 at w g.known One t PartnerInSync old g.link y) h)
 
-    pub climb_on : {m : ℕ} (s : Side) (n : ℕ) (old new : WorldState) (g : GoingIn at w counts kept 1 11 0 1 12 m old)
-        → PlayedBeside at OldArrive gives old new
-        → AtIt at w s (Rising (20 - n)) old → AtIt at w s (Rising (20 - (n + 1))) new
-    climb_on s n old new g h rising = rises_on at w g.known s gives n old new (fits_before at w counts kept named awake 1 old g (omega arith))
-        (fits_fresh at w counts kept named awake 1 old g (omega arith)) (knows_late at w counts kept 1 old g s) g.link h rising
+    -- and climbs in 20 rounds
+    module _ (s : Side) where
+      abbrev Climbs : ℕ → WorldState → Type 0
+      Climbs n j = Early at w counts kept n j × AtIt at w s (Rising (20 - n)) j
 
-    pub climbs_on : (n : ℕ) (old new : WorldState) → PlayedBeside at OldArrive gives old new → Climbs n old → Climbs (n + 1) new
-    climbs_on n old new h c = record {
-      fresh = goes_met at w counts kept gives named awake 1 12 n old new (omega arith) h c.fresh;
-      rising = λ s. climb_on s n old new c.fresh h (c.rising s);
-    }
+      climbs_on : (n : ℕ) (old new : WorldState) → PlayedBeside at OldArrive gives old new → Climbs n old → Climbs (n + 1) new
+      climbs_on n old new h (g, rising) =
+          let c = g.known in
+          let l = knows_late at w counts kept 1 old g s in (
+            goes_met at w counts kept gives named awake 1 12 n old new (omega arith) h g,
+            subst (λ t. AtIt at w s (Rising t) new) (omega arith) (beside at w 1 (ticked c) s (Rising (20 - n - 1)) new
+                (ticks_hold gives 1 s 1 at w c (λ a. Rising (20 - n - a)) old new (fits_before at w counts kept named awake 1 old g (omega arith))
+                (fits_fresh at w counts kept named awake 1 old g (omega arith))
+                (λ a k. rising_along (w s) (w (peer s)) (c s - a) 1 (20 - n - a) (omega arith) (omega (arith, l, k)))
+                (λ a k p q r rest e y. subst (λ t. Rising t q) (omega arith)
+                (ticks_rising 1 (w s) (w (peer s)) (c s - a) (20 - n - a) p q (omega (arith, l, k)) r e y))
+                (λ a p y. y) (join 1 at w c One s (Rising (20 - n - 0)) old g.link (subst (λ t. AtIt at w s (Rising t) old) (omega arith) rising))
+                (once h))),
+          )
+
+      pub climbs : (mid top : WorldState) → Early at w counts kept 0 mid → AtIt at w s (λ p. is_selected p.choice ≡ true) mid
+          → AllBeside at OldArrive gives 20 mid top → Met at w counts kept 1 top × AtIt at w s (Rising 0) top
+      climbs mid top g chosen h =
+          let c = among_on (LeavesPorts at) OldArrive gives Climbs mid (g, subst (λ t. AtIt at w s (Rising t) mid) (omega arith) (rises_first at w g.known mid g.link s chosen))
+          climbs_on 20 top h in
+          (settled at w counts kept 1 11 0 1 12 20 0 0 top (omega arith) (omega arith) c.0, subst (λ t. AtIt at w s (Rising t) top) (omega arith) c.1)
 
     pub agrees_on : (n : ℕ) (old new : WorldState) → PlayedBeside at OldArrive gives old new → Agrees n old → Agrees (n + 1) new
     agrees_on n old new h c =
@@ -226,16 +205,14 @@ module _ (at : Side → ℕ) (w : Side → Lacpdu) (counts : Side → ℕ) (kept
         tells g fits then s (inr y) =
             inr (hears_on 1 11 1 (omega arith) (omega arith) old new g (once h) (peer s) y)
 
-    -- from a round in which both ends are SELECTED, in 20 rounds to one in which both are synchronized, and on from one in which all that is
-    -- on the cable says so
-    pub comes_up : (n : ℕ) (start mid next new : WorldState) → Early at w counts kept 0 start
-        → ((s : Side) → AtIt at w s (λ p. is_selected p.choice ≡ true) start) → ((s : Side) → AtIt at w s (Rising 0) mid → AtIt at w s Synced mid)
-        → AllBeside at OldArrive gives 20 start mid → (Met at w counts kept 1 mid → ((s : Side) → AtIt at w s Synced mid) → Agrees 0 next)
-        → AllBeside at OldArrive gives n next new → Agrees n new
-    comes_up n start mid next new g chosen ready h turn more =
-        let climbed = among_on (LeavesPorts at) OldArrive gives Climbs start (climbs_first start g chosen) climbs_on 20 mid h in
-        among_on (LeavesPorts at) OldArrive gives Agrees next
-        (turn (settled at w counts kept 1 11 0 1 12 20 0 0 mid (omega arith) (omega arith) climbed.fresh) (λ s. ready s (subst (λ t. AtIt at w s (Rising t) mid) (omega arith) (climbed.rising s)))) agrees_on n new more
+-- so an end is synchronized that has risen, where the SELECTED ports of its system have
+pub climbed_end : (at : Side → ℕ) (w : Side → Lacpdu) (counts : Side → ℕ) (kept : Side → Bool) (s : Side) (j : WorldState)
+    → AllByRecursion (λ (y : SystemPort). Ripe 0 y.port) (half s j).state.system_ports → Met at w counts kept 1 j × AtIt at w s (Rising 0) j
+    → AtIt at w s Synced j
+climbed_end at w counts kept s j ripe (g, rising) =
+    let e = end_here at w 1 g.known One Nothing j g.link s in
+    at_end at w 1 g.known s j e g.link.steady Synced (climbed (half s j).state e.index e.port (g.link.steady s).0 e.there ripe
+    (end_with at w 1 g.known s j e (Rising 0) rising))
 
 -- a port at an end of a cable has a history as before
 
@@ -249,11 +226,6 @@ stamps_stay E gives n i at fl old new c h = among_on (LeavesPorts at) E gives (�
   there = λ t. refl;
   items = λ l. absurd (omega (arith, l));
 }) (λ m i j q a. ticks_stamp 0 gives at (counts_of at old) (kept_of at old) 1 i j (once q) a) n new h
-
-pub hosts_kept : (E : Clearing) (gives : Algorithms) (n i : ℕ) (at : Side → ℕ) (fl : Side → List ItemValue) (old new : WorldState)
-    → OnCable i at fl old.links → AllBeside at E gives n old new → (s : Side)
-    → is_some (history_at (half s new).histories (at s)) ≡ is_some (history_at (half s old).histories (at s))
-hosts_kept E gives n i at fl old new c h s = (stamps_stay E gives n i at fl old new c h).there s
 
 -- Both ends are synchronized, and know that of each other, so that it lasts in rounds of several ticks.
 pub record AgreesIn (at : Side → ℕ) (w : Side → Lacpdu) (counts : Side → ℕ) (kept : Side → Bool) (ticks : ℕ) (j : WorldState) : Type 0 where
@@ -274,15 +246,180 @@ module _ (at : Side → ℕ) (w : Side → Lacpdu) (counts : Side → ℕ) (kept
     heard = λ t. hears_on at w counts kept gives named awake ticks 1 k (omega arith) less old new c.fresh h t (c.heard t);
   }
 
-  pub synced_in : (j : WorldState) → ((s : Side) → Stamped 1 at counts kept j → Took at counts kept s j → Present at s j)
-      → AgreesIn at w counts kept ticks j → AreSynced at w j
-  synced_in j present c =
-      let g = c.fresh in
-      let knows : (s : Side) → 1 ≤ g.known s = λ s. (let m = knows_in at w counts kept ticks 1 2 j g (omega arith) s in omega (arith, m)) in
+-- How both ends of a cable come to distribute in late rounds.
+
+-- a synchronized end stays so
+
+pub synced_along : (v u : Lacpdu) (c d : ℕ) → 1 ≤ d → 1 ≤ c → Along Synced v u c d
+synced_along v u c d there known = record {
+  mux = λ ready p q h y. times_keep Synced (mux_rows ready) (synced_mux ready) h.0 p q h.1 y;
+  periodic = λ p q h a y. periodic_leaves Synced p q h y;
+  select = λ choice p none y. absurd (no (sym none ∙ y.0));
+  takes = λ x p q e awake h a y. (let k = keeps_selected u x p q (e.0 there) (a.1.1 known).0 h in
+      (ap is_selected k.0 ∙ y.0, ap is_synchronized k.1 ∙ y.1));
+}
+
+-- the last LACPDU on the way says so, or there is none
+pub tells_which : (u v : Lacpdu) (xs : List ItemValue) (H : Type 0) → Tells u v xs H → Flying xs ⊎ H
+tells_which u v [] H h = inr h
+tells_which u v (x ∷ xs) H h = elim (tells_which u v xs (SaysIt u v x × (H ⊎ Bears x)) h) [
+  | inl f ↦ inl (inr f)
+  | inr (says, inl y) ↦ inr y
+  | inr (says, inr b) ↦ inl (inl b)
+]
+
+pub present_of : (gives : Algorithms) (at : Side → ℕ) (old new : WorldState) (t : Side) → Took-it gives 1 at (counts_of at old) (kept_of at old) t new
+    → Present at t new
+present_of gives at old new t m there = grind arith
+
+module _ (at : Side → ℕ) (w : Side → Lacpdu) (k : Side → ℕ) (kept : Side → Bool) (named : (t : Side) → IsNamed (w t))
+    (awake : (s : Side) → (activity (w s) ≡ true) ⊎ (activity (w (peer s)) ≡ true)) where
+  -- a round after both are synchronized: all that is on the cable says so
+
+  synced_round : (gives : Algorithms) (old new : WorldState) (g : Met at w k kept 1 old) → ((s : Side) → AtIt at w s Synced old)
+      → PlayedBeside at OldArrive gives old new → (t : Side)
+      → Link 1 at w (ticked g.known) (peer t) Synced new × (x : ℕ) × Past t x at (IsGood 2 w t) 0 new
+  synced_round gives old new g synced h t =
+      let x = peer t in
+      let l = knows_late at w k kept 1 old g x in
+      flush gives 1 2 at w g.known t Synced (fits_before at w k kept named awake 1 old g (omega arith))
+      (fits_fresh at w k kept named awake 1 old g (omega arith))
+      (synced_along (w x) (w (peer x)) (g.known x) 1 (omega arith) (omega (arith, l)))
+      (synced_along (w x) (w (peer x)) (ticked g.known x) 1 (omega arith) (omega (arith, l)))
+      (λ p q r rest a y. (subst Synced (sym (ticks_still 1 (w x) (w (peer x)) (g.known x) p q (omega (arith, l)) a r)) (y.0, y.1)))
+      (λ p y. y) (λ p y f. y) (λ f. omega (arith, l)) old new (join 1 at w g.known One x Synced old g.link (synced x)) (once h)
+
+  raises : (gives : Algorithms) (old new : WorldState) (g : Met at w k kept 1 old) → ((s : Side) → AtIt at w s Synced old)
+      → PlayedBeside at OldArrive gives old new → Met at w k kept 2 new
+  raises gives old new g synced h =
+      let f = stays_met at w k kept gives named awake 1 old new (omega arith) h g in
+      let r = synced_round gives old new g synced h in
+      let now : (s : Side) → AtIt at w s Synced new = λ s. subst (λ u. AtIt at w u Synced new) (peer_twice s)
+      (beside at w 1 (ticked g.known) (peer (peer s)) Synced new (r (peer s)).0) in
       record {
-        known = g.known;
-        link = g.link;
-        knows = knows;
-        heard = c.heard;
-        present = λ s. present s g.rest (g.took s (knows s));
+        known = f.known;
+        next = f.next;
+        link = raised at w 1 2 f.known One Nothing new
+            (λ s. each_map (AtPort (at s) Synced) (AtPort (at s) (λ p. 2 ≤ 2 → Synced p)) (λ m p a e l. a e) (half s new).state.system_ports (now s))
+            f.link (λ t. let p = (r t).2 in
+            subst (AllByRecursion (IsGood 2 w t)) (sym (same_items (r t).1 f.link.index at p.flying f.link.flying new p.on f.link.links t)) p.items);
+        rest = f.rest;
+        fits = f.fits;
+        later = f.later;
+        longer = f.longer;
+        ahead = f.ahead;
+        told = f.told;
+        took = f.took;
       }
+
+  agrees_first : (j : WorldState) → Met at w k kept 2 j → Agrees at w k kept 0 j
+  agrees_first j g = record {
+    fresh = g;
+    tells = λ s. elim (g.told s (let l = knows_late at w k kept 2 j g (peer s) in omega (arith, l))) [
+      | inl owes ↦ inl (
+        12,
+        omega arith,
+        omega arith,
+        inl (
+          omega arith,
+          owed at w g.known j g.link s (let l = knows_late at w k kept 2 j g s in
+              omega (arith, l)) owes,
+        ),
+      )
+      | inr (x, fl, on, tells) ↦ elim (tells_which (w (peer s)) (w s) (fl (peer s)) (AtIt at w (peer s) PartnerInSync j) tells) [
+        | inl f ↦ inl (
+          1,
+          omega arith,
+          omega arith,
+          inr (
+            omega arith,
+            inr (
+              x,
+              fl,
+              on,
+              tells_map (w (peer s)) (w s) (fl (peer s)) (AtIt at w (peer s) PartnerInSync j) (AtIt at w (peer s) Whoever j)
+                  (λ y. each_map (AtPort (at (peer s)) PartnerInSync) (AtPort (at (peer s)) Whoever) (λ m p a e. tt)
+                  (half (peer s) j).state.system_ports y) tells,
+            ),
+            (x, fl, on, f),
+          ),
+        )
+        | inr y ↦ inr y
+      ]
+    ];
+  }
+
+  -- in one round more all that is on the cable says so
+  pub late_turn : (gives : Algorithms) (mid next : WorldState) → LateRounds gives 1 mid next → Met at w k kept 1 mid
+      → ((s : Side) → AtIt at w s Synced mid) → Agrees at w k kept 0 next
+  late_turn gives mid next r met synced = agrees_first next (raises gives mid next met synced
+      (as_beside at OldArrive gives mid next (subst (λ j. IsLateRound gives j next) r.1 r.2)))
+
+-- both ends are synchronized, and know that of each other
+
+abbrev pub Up : (Side → ℕ) → (Side → Lacpdu) → WorldState → WorldState → Type 0
+Up at w old j = (n : ℕ) × (12 ≤ n) × Agrees at w (counts_of at old) (kept_of at old) n j
+
+pub up_synced : (gives : Algorithms) (at : Side → ℕ) (w : Side → Lacpdu) (old j : WorldState) → Up at w old j → AreSynced at w j
+up_synced gives at w old j up =
+    synced_at at w (counts_of at old) (kept_of at old) 1 11 (omega arith) j up.2.fresh
+    (told_now at w (counts_of at old) (kept_of at old) up.0 j up.1 up.2) (λ s stamped took. present_of gives at old j s (stamped, took))
+
+-- from a round in which both are synchronized, and 13 more
+pub comes_to_be_up : (gives : Algorithms) (at : Side → ℕ) (w : Side → Lacpdu) → ((t : Side) → IsNamed (w t))
+    → ((s : Side) → (activity (w s) ≡ true) ⊎ (activity (w (peer s)) ≡ true)) → (n : ℕ) (old top new : WorldState) → 13 ≤ n
+    → LateRounds gives n top new → Met at w (counts_of at old) (kept_of at old) 1 top → ((s : Side) → AtIt at w s Synced top) → Up at w old new
+comes_to_be_up gives at w named awake n old top new enough more met synced =
+    let k = counts_of at old in
+    let kept = kept_of at old in
+    let next = played_split OldArrive gives (n - 1) 1 n top new (omega (arith, enough)) more in (
+      n - 1,
+      omega (arith, enough),
+      among_on (LeavesPorts at) OldArrive gives (Agrees at w k kept) next.0 (late_turn at w k kept named awake gives top next.0 next.1 met synced)
+          (agrees_on at w k kept gives named awake) (n - 1) new (all_beside at OldArrive gives (n - 1) next.0 new next.2),
+    )
+
+-- so it is through rounds of several ticks
+
+pub agreed_synced : (gives : Algorithms) (at : Side → ℕ) (w : Side → Lacpdu) (old new : WorldState)
+    → AgreesIn at w (counts_of at old) (kept_of at old) most_ticks new → AreSynced at w new
+agreed_synced gives at w old new c = synced_at at w (counts_of at old) (kept_of at old) most_ticks 1 (omega arith) new c.fresh c.heard
+    (λ s stamped took. present_of gives at old new s (stamped, took))
+
+pub several_agree : (gives : Algorithms) (l : LinkState) (w : Side → Lacpdu) (counts : Side → ℕ) (kept : Side → Bool) → ((t : Side) → IsNamed (w t))
+    → ((s : Side) → (activity (w s) ≡ true) ⊎ (activity (w (peer s)) ≡ true)) → (n : ℕ) (old new : WorldState) → SeveralBeside l gives n old new
+    → AgreesIn (λ s. port_at s l) w counts kept most_ticks old → AgreesIn (λ s. port_at s l) w counts kept most_ticks new
+several_agree gives l w counts kept named awake zero old new h c = subst (AgreesIn (λ s. port_at s l) w counts kept most_ticks) (sym h) c
+several_agree gives l w counts kept named awake (suc n) old new h c =
+    let few = h.4 in
+    agreed_on (λ s. port_at s l) w counts kept named awake most_ticks (omega arith) gives h.2 h.0 new leaves_several h.3 few (omega (arith, few)) h.5
+    (several_agree gives l w counts kept named awake n old h.0 h.1 c)
+  where
+    leaves_several : Leaves (λ s. port_at s l) w counts kept gives most_ticks 1
+    leaves_several true = omega arith
+    leaves_several false = omega arith
+
+pub several_synced : (gives : Algorithms) (l : LinkState) (w : Side → Lacpdu) → ((t : Side) → IsNamed (w t))
+    → ((s : Side) → (activity (w s) ≡ true) ⊎ (activity (w (peer s)) ≡ true)) → (n : ℕ) (old mid new : WorldState)
+    → Up (λ s. port_at s l) w old mid → SeveralBeside l gives n mid new → AreSynced (λ s. port_at s l) w new
+several_synced gives l w named awake n old mid new up h =
+    let at : Side → ℕ = λ s. port_at s l in
+    let counts = counts_of at old in
+    let kept = kept_of at old in
+    agreed_synced gives at w old new (several_agree gives l w counts kept named awake n mid new h
+    (agrees_in at w counts kept named awake most_ticks (omega arith) up.0 mid (omega arith) up.1 up.2))
+
+-- and a port at an end of the cable has a history, and the cables stand where they stood
+
+pub several_stamped : (gives : Algorithms) (l : LinkState) (k : Side → ℕ) (kept : Side → Bool) (n : ℕ) (old new : WorldState)
+    → SeveralBeside l gives n old new → Stamped 0 (λ s. port_at s l) k kept old → Stamped 0 (λ s. port_at s l) k kept new
+several_stamped gives l k kept zero old new h c = subst (Stamped 0 (λ s. port_at s l) k kept) (sym h) c
+several_stamped gives l k kept (suc n) old new h c =
+    ticks_stamp 0 gives (λ s. port_at s l) k kept h.2 h.0 new h.5 (several_stamped gives l k kept n old h.0 h.1 c)
+
+pub several_join : (gives : Algorithms) (l : LinkState) (n : ℕ) (old new : WorldState) → SeveralBeside l gives n old new
+    → map link_ends new.links ≡ map link_ends old.links
+several_join gives l zero old new h = ap (λ (j : WorldState). map link_ends j.links) h
+several_join gives l (suc n) old new h =
+    keeps_ticks OldArrive (λ s. port_at s l) gives h.2 (λ j. map link_ends j.links ≡ map link_ends old.links) (joins_kept (λ s. port_at s l) gives old.links)
+    (λ s. joins_tick gives old.links s) h.0 new h.5 (several_join gives l n old h.0 h.1)

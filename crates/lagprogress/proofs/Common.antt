@@ -29,7 +29,6 @@ pub use Rattle.slowpdu.specs.declared.pdu.Lacpdu.{Lacpdu}
 pub use Rattle.slowpdu.specs.declared.pdu.Marker.{Marker}
 pub use Rattle.slowpdu.specs.declared.pdu.MarkerKind.TheVariants.{Information, Response}
 pub use Rattle.slowpdu.specs.declared.pdu.Pdu.{Pdu}
-pub use Rattle.slowpdu.specs.Frames.{frame_octets}
 pub use Rattle.slowpdu.specs.Parties.{party_of}
 pub use Rattle.slowpdu.specs.Readings.{pdu_in}
 pub use Rattle.slowpdu.proofs.LayoutLemmas.{all-append}
@@ -37,7 +36,6 @@ pub use Rattle.slowpdu.proofs.PduLemmas.{no_fault, one_pdu, written_pdu}
 pub use Rattle.lagmodel.specs.World.{Ends, IsCabling, IsWorldSetup, Message, One, Side, TakenLacpdu, Two, World, WorldSetup, at_cable, end_at}
 pub use Rattle.lagmodel.specs.World.{first_world, peer, with_messages}
 pub use Rattle.lagmodel.proofs.Base.{cond_false, cond_true, value_of}
-pub use Rattle.lagmodel.proofs.Uses.{find_at}
 pub use Rattle.cables.specs.declared.item.Stamp.{Stamp}
 pub use Rattle.portmachines.specs.declared.mux.MuxState.{MuxState}
 pub use Rattle.portmachines.specs.declared.mux.MuxState.TheVariants.{Attached, CollectingDistributing, Detached, Waiting}
@@ -57,7 +55,6 @@ pub use Rattle.selection.specs.Choice.{aggregator_of_entry, chosen_if_eligible, 
 pub use Rattle.selection.specs.Choice.{occupants, occupants_share_group, or_else, ports_that_chose}
 pub use Rattle.selection.specs.Limits.{AggregatorsValue, has_room, is_below}
 pub use Rattle.selection.specs.Views.{has_chosen, has_waited, is_detached_or_waiting, is_eligible, occupies, stands_by}
-pub use Rattle.selection.proofs.Equal.{group-test}
 pub use Rattle.distributor.specs.declared.assignment.Assignment.{Assignment}
 pub use Rattle.distributor.specs.declared.assignment.Assignment.TheVariants.{Flushing, Free, On, Wanted}
 pub use Rattle.distributor.specs.declared.fault.DistFault.{DistFault}
@@ -85,8 +82,7 @@ pub use Rattle.lagsystem.specs.ModelView.{IsSent, can_receive, can_receive_in, k
 pub use Rattle.lagsystem.specs.ModelView.{number_of_port}
 pub use Rattle.lagsystem.specs.NothingToSettle.{MuxIsSettled, PeriodicIsSettled}
 pub use Rattle.lagsystem.specs.Occupants.{OccupantsAgree, occupied}
-pub use Rattle.lagsystem.specs.Offers.{GivesOrRefuses, MayBeOffered, RefusesOffer, assignment_of_frame, in_system, system_force_result}
-pub use Rattle.lagsystem.specs.Offers.{system_move_result}
+pub use Rattle.lagsystem.specs.Offers.{GivesOrRefuses, MayBeOffered, RefusesOffer, assignment_of_frame, in_system, system_move_result}
 pub use Rattle.lagsystem.specs.Probing.{ProbesAt, ProbesIf}
 pub use Rattle.lagsystem.specs.Readers.{aggregator_numbered, collecting, distributes_in, distributing, group_at, number_of_conversation}
 pub use Rattle.lagsystem.specs.Readers.{selected_aggregator}
@@ -99,7 +95,6 @@ pub use Rattle.lagsystem.specs.Sound.{CallPromise, HasPorts, IsSound, NoneHeld, 
 pub use Rattle.lagsystem.specs.State.{SystemState, aggregators_value, machines_of, port_index, port_numbers, with_system_ports, with_table}
 pub use Rattle.lagsystem.specs.Views.{may_choose, selection_view, stage_of, views}
 pub use Rattle.lagsystem.proofs.Effects.{named}
-pub use Rattle.lagsystem.proofs.FirstView.{first_unselected}
 pub use Rattle.lagsystem.proofs.HostCallLemmas.{IsOther, TableAlone, agrees_beside, host_alone}
 pub use Rattle.lagsystem.proofs.Keeps.{Keeps, Step-frame, given_number, keeps_link, keeps_place, keeps_tick, numbers_set, ports_table}
 pub use Rattle.lagsystem.proofs.Keeps.{promoted_numbers, settling_in, settling_keeps, settling_parts, zip_numbers}
@@ -118,7 +113,7 @@ pub use Rattle.lagworld.specs.declared.agreement.Agreement.TheVariants.{Same}
 pub use Rattle.lagworld.specs.declared.fault.WorldFault.{WorldFault}
 pub use Rattle.lagworld.specs.declared.histories.PortHistory.{PortHistory}
 pub use Rattle.lagworld.specs.declared.reply.Reply.{Reply}
-pub use Rattle.lagworld.specs.Agreement.{agreement_at, agreement_of, end_facts, first_agreement, is_stamp, same_groups}
+pub use Rattle.lagworld.specs.Agreement.{agreement_at, agreement_of, end_facts, is_stamp, same_groups}
 pub use Rattle.lagworld.specs.Events.{AfterOffer, AfterReceive, AfterTransmit, Algorithms, DeliversFrom, InHalf, WorldEmits, WorldReceives, WorldRuns}
 pub use Rattle.lagworld.specs.Events.{WorldSteps, cause, cause_or_no_memory, first_event_cause, has_cable, has_system, may_take_memory, most_events}
 pub use Rattle.lagworld.specs.Events.{offered_item, sent_reply, set_last_lacpdu, side_of, stamp_for, stamped_in, transmitted_item, with_frame_counted}
@@ -165,10 +160,8 @@ pub use Rattle.lagprogress.specs.Beside.{EachLinkStaysAgreed, EachLinkStaysUp, L
 pub use Rattle.lagprogress.specs.Bundle.{AllHeard, BothAreActive, EachLinkAgrees, EachLinkComesUp, EndsHealthyCable, EndsOfEachKnow}
 pub use Rattle.lagprogress.specs.Bundle.{EnoughAggregators, EnoughLinks, HostReachedIsBundle, IsBundle, OneIsActive, ReachedIsApart, ReachedIsBundle}
 pub use Rattle.lagprogress.specs.Bundle.{SelectedPairsAgree, SelectedPairsComeUp, SystemsDiffer}
-pub use Rattle.lagprogress.specs.CutOff.{CutOffIsDefaulted, EachLinkAgreesBesideCutOffs, EachLinkComesUpBesideCutOffs, IsBundleBesideCutOffs}
-pub use Rattle.lagprogress.specs.CutOff.{IsCutOff}
-pub use Rattle.lagprogress.specs.Freed.{CarriersAreUp, EachHostReachedHasCarriersUp, HasIdentifierLeft, HasPortUp, IsNotHeldOn, NoneIsHeldOn}
-pub use Rattle.lagprogress.specs.Freed.{NothingIsHeld, carrier_of, held_on}
+pub use Rattle.lagprogress.specs.Freed.{CarriersAreUp, EachHostReachedHasCarriersUp, HasIdentifierLeft, HasPortUp, IsNotHeldOn, NothingIsHeld}
+pub use Rattle.lagprogress.specs.Freed.{carrier_of, held_on}
 pub use Rattle.lagprogress.specs.HostFreed.{AskingInVainIsDraining, AsksInVain, AsksInVainAfterTick, DrainingRounds, IsDrainingRound, IsNoMoveOf}
 pub use Rattle.lagprogress.specs.HostFreed.{NoneIsHeldBesideCutOffsByHosts, NoneIsHeldOnEndsByHosts, NothingIsDue, NothingIsHeldByHosts}
 pub use Rattle.lagprogress.specs.HostFreed.{RoundIsDraining, sent_nothing}
@@ -184,13 +177,10 @@ pub use Rattle.lagprogress.specs.PlayedByHosts.{AsksEnds, AsksOrDelivers, AsksPo
 pub use Rattle.lagprogress.specs.PlayedByHosts.{PlaysHostRound, PlaysHostRounds, StopsBetween}
 pub use Rattle.lagprogress.specs.Progress.{Distributes, EndKnows, Knows}
 pub use Rattle.lagprogress.specs.Rounds.{AtEnd, IsDeliver, IsHealthyAt, IsRound, NothingInFlight, OfPort, Rounds, asks_all, asks_ends}
-pub use Rattle.lagprogress.specs.Rounds.{freed_if_both_active, freed_if_one_is, known_if_both_active, known_if_one_is, ticks_of_both}
-pub use Rattle.lagprogress.specs.Rounds.{up_if_both_active, up_if_one_is}
+pub use Rattle.lagprogress.specs.Rounds.{freed_if_both_active, freed_if_one_is, ticks_of_both, up_if_both_active, up_if_one_is}
 pub use Rattle.lagprogress.specs.Several.{AfterTicks, AskingIsSeveral, AsksAfterTicks, EachLinkStaysAgreedInSeveral, EachLinkStaysAgreedThroughout}
 pub use Rattle.lagprogress.specs.Several.{EachLinkStaysUpInSeveral, EachLinkStaysUpThroughout, IsPlayedTicks, SeveralBeside, SeveralRounds}
 pub use Rattle.lagprogress.specs.Several.{TicksAmong, known_in_several_if_both_active, known_in_several_if_one_is, most_ticks}
 pub use Rattle.lagprogress.specs.Several.{up_in_several_if_both_active, up_in_several_if_one_is}
 pub use Rattle.lagprogress.specs.Shared.{AreOneGroup, DownWereLinkedTo, HasAggregators, LeadToKey}
 pub use Rattle.lagprogress.specs.Steady.{EachHostReachedIsSteady, EachHostRunKeepsSteady, GoesByCalls, IsSteady, IsSteadySystem}
-pub use Rattle.lagprogress.specs.Together.{AreInOneAggregator, CallsKeepGroupsWhole, EachKeyIsInOneAggregator, FirstGroupsAreWhole, GroupsAreWhole}
-pub use Rattle.lagprogress.specs.Together.{ReachedGroupsAreWhole}

@@ -1,17 +1,18 @@
 -- What healthy rounds keep of each port of a system, and of the cables.
-use Rattle.lagprogress.proofs.Common.{Bool, List, Some, ap, arith, false, inl, inr, map, refl, slice_get, subst, suc, sym, true, zero, ℕ, ◌+◌, ◌∙◌}
-use Rattle.lagprogress.proofs.Common.{◌≡◌, nat_tests, Party, Lacpdu, One, Side, Two, end_at, peer, Machines, receive_rows, RunsToRest, after_sending}
-use Rattle.lagprogress.proofs.Common.{count_down, Table, SystemPort, ProcessesLacpdu, Receive, SystemState, with_system_ports, with_table, Reply}
-use Rattle.lagprogress.proofs.Common.{Algorithms, WorldSteps, link_ends, ItemValue, LinkState, WorldState, half, port_at, end_is, HostEvent, Plays}
-use Rattle.lagprogress.proofs.Common.{KeptBySettling, OfEach, Step-each, Tick-each, asked_each, AtPort, settling_leaves, runs_keep, takes_keep}
-use Rattle.lagprogress.proofs.Common.{LeavesPorts, Clearing, IsBetweenTicks, IsPlayed, IsPlayedAmong, PlayedAmong, PlayedRounds, IsRound, Rounds}
-use Rattle.lagprogress.proofs.Common.{IsSteady}
+use Rattle.lagprogress.proofs.Common.{Bool, List, Some, [], ap, arith, false, inl, inr, map, refl, slice_get, subst, suc, sym, true, zero, ℕ, ◌+◌}
+use Rattle.lagprogress.proofs.Common.{◌∙◌, ◌∷◌, ◌≡◌, ◌≤◌, nat_tests, Party, Lacpdu, One, Side, end_at, peer, Machines, receive_rows, RunsToRest}
+use Rattle.lagprogress.proofs.Common.{after_sending, count_down, Table, SystemPort, ProcessesLacpdu, Receive, SystemState, with_system_ports}
+use Rattle.lagprogress.proofs.Common.{with_table, Reply, Algorithms, WorldSteps, link_ends, ItemValue, LinkState, WorldState, half, port_at, end_is}
+use Rattle.lagprogress.proofs.Common.{HostEvent, Plays, KeptBySettling, OfEach, Step-each, Tick-each, asked_each, no, AtPort, settling_leaves}
+use Rattle.lagprogress.proofs.Common.{runs_keep, takes_keep, LeavesPorts, Clearing, IsBetweenTicks, IsPlayed, IsPlayedAmong, PlayedAmong}
+use Rattle.lagprogress.proofs.Common.{PlayedRounds, TickOnce, TicksAmong, IsSteady}
 use Rattle.lagprogress.proofs.Linked.{each_side, peer_twice}
-use Rattle.lagprogress.proofs.Quieting.{AllBeside, all_beside, calm_steady, calm_keeps, leaves_ends, runs_calm, quiet_ports, replayed}
+use Rattle.lagprogress.proofs.Quieting.{AllBeside, all_beside, calm_steady, calm_keeps, leaves_ends, runs_calm, quiet_ports, replayed, asked_half}
+use Rattle.lagprogress.proofs.Quieting.{came_half}
 use Rattle.lagprogress.proofs.OneCable.{OnCable, cable, deliver_ends, emits, ticks}
 use Rattle.lagprogress.proofs.OneRound.{ticked}
-use Rattle.lagprogress.proofs.RoundEvents.{asked_half, came_half}
-use Rattle.lagprogress.proofs.HostRound.{KeptBeside, KeptBetween, MadeByTick, holds_beside, holds_on, of_side}
+use Rattle.lagprogress.proofs.HostRound.{KeptBeside, KeptBetween, MadeByTick, of_side}
+use Rattle.lagprogress.proofs.SeveralTicks.{Within, holds_turns, keeps_ticks, once}
 use Rattle.lagsystem.specs.declared.drive.Reply.TheVariants as answer
 use Rattle.lagscript.specs.declared.event.Event.TheVariants as event
 
@@ -64,9 +65,9 @@ same_index i x l fl old new h e c =
     let same : suc x ≡ suc i = c.cabling One (suc x) (suc i) l.one here there in omega (arith, same)
 
 -- P before the tick of the system, Q after it
-abbrev pub Pick : (ℕ → Machines → Type 0) → (ℕ → Machines → Type 0) → Bool → ℕ → Machines → Type 0
-Pick P Q true = P
-Pick P Q false = Q
+abbrev pub Pick : (ℕ → Machines → Type 0) → (ℕ → Machines → Type 0) → ℕ → ℕ → Machines → Type 0
+Pick P Q zero = P
+Pick P Q (suc a) = Q
 
 pub each_between : (P : ℕ → Machines → Type 0) → RoundKeeps P → (s : Side) (gives : Algorithms) → KeptBetween gives (EachAt P s)
 each_between P k s gives l r i j b h a = grind (arith, nat_tests, asks_each, delivers_each, quiet_ports)
@@ -81,31 +82,62 @@ tick_makes P Q k ticked t gives n r i j named step a =
 pub tick_leaves : (P : ℕ → Machines → Type 0) (t : Side) (gives : Algorithms) → MadeByTick gives t (EachAt P (peer t)) (EachAt P (peer t))
 tick_leaves P t gives n r i j named step a = grind (arith, nat_tests)
 
+-- so the tick of its peer leaves those of system s
+pub tick_beside : (P : ℕ → Machines → Type 0) (s : Side) (gives : Algorithms) → MadeByTick gives (peer s) (EachAt P s) (EachAt P s)
+tick_beside P s gives = subst (λ u. MadeByTick gives (peer s) (EachAt P u) (EachAt P u)) (peer_twice s) (tick_leaves P (peer s) gives)
+
 pub tick_keeps : (P : ℕ → Machines → Type 0) → KeptBySettling P
     → ((n : ℕ) (p q : Machines) → RunsToRest receive_rows (count_down p) q → P n p → P n q)
     → (s t : Side) (gives : Algorithms) → MadeByTick gives t (EachAt P s) (EachAt P s)
 tick_keeps P k ticked s t gives n r i j named step a = grind (arith, nat_tests, ticked, each_side, EachAt, tick_makes, tick_leaves)
 
+-- a round of one tick is one of several
+
+-- the ticks that were
+abbrev pub done : Bool → ℕ
+done true = 0
+done false = 1
+
+pub few_done : (b : Bool) → done b ≤ 1
+few_done true = omega arith
+few_done false = omega arith
+
+pub once_turns : (s : Side) (es : List HostEvent) (a b : Bool) → TickOnce s a b es → TicksAmong IsBetweenTicks 1 s (done a) (done b) es
+once_turns s [] false false h = (refl, refl)
+once_turns s [] true b h = absurd (no (sym h.0))
+once_turns s [] false true h = absurd (no (sym h.1))
+once_turns s (e ∷ es) true b (inl h) = inl (h.0, once_turns s es false b h.2)
+once_turns s (e ∷ es) false b (inl h) = absurd (no h.1)
+once_turns s (e ∷ es) a true (inr (inl h)) = inr (inl (h.0, once_turns s es a false h.2))
+once_turns s (e ∷ es) a false (inr (inl h)) = absurd (no h.1)
+once_turns s (e ∷ es) a b (inr (inr h)) = inr (inr (h.0, once_turns s es a b h.1))
+
+-- what holds through a round, by the ticks that were
+pub holds_once : {E : Clearing} (gives : Algorithms) (s : Side) (A : ℕ → ℕ → WorldState → Type 0)
+    → ((a b : ℕ) → Within 1 a b → KeptBetween gives (A a b)) → ((b : ℕ) → b ≤ 1 → MadeByTick gives s (A 0 b) (A 1 b))
+    → ((a : ℕ) → a ≤ 1 → MadeByTick gives (peer s) (A a 0) (A a 1)) → (old new : WorldState) → IsPlayed E gives old new → A 0 0 old → A 1 1 new
+holds_once gives s A kept own other old new h m = holds_turns IsBetweenTicks gives 1 s A kept first second h.events h.replies old new 0 0
+    (once_turns s h.events true true (of_side s h.events h.ticks)) h.acts m
+  where
+    first : (a b : ℕ) → Within 1 (suc a) b → MadeByTick gives s (A a b) (A (suc a) b)
+    first zero b l = own b l.1
+    first (suc a) b l = absurd (let k = l.0 in omega (arith, k))
+
+    second : (a b : ℕ) → Within 1 a (suc b) → MadeByTick gives (peer s) (A a b) (A a (suc b))
+    second a zero l = other a l.0
+    second a (suc b) l = absurd (let k = l.1 in omega (arith, k))
+
 -- a round makes Q of P, if the tick does, and the rest keeps both
 pub host_each : {E : Clearing} (P Q : ℕ → Machines → Type 0) → RoundKeeps P → RoundKeeps Q
     → ((n : ℕ) (p q : Machines) → RunsToRest receive_rows (count_down p) q → P n p → Q n q)
     → (s : Side) (gives : Algorithms) (old new : WorldState) → IsPlayed E gives old new → EachAt P s old → EachAt Q s new
-host_each P Q kp kq ticked s gives old new h a = holds_on gives s (λ x y j. EachAt (Pick P Q x) s j) kept own other
-    h.events h.replies old new true true (of_side s h.events h.ticks) h.acts a
+host_each P Q kp kq ticked s gives old new h a = holds_once gives s (λ x y. EachAt (Pick P Q x) s) kept
+    (λ y l. tick_makes P Q kq.settles ticked s gives)
+    (λ x l. tick_beside (Pick P Q x) s gives) old new h a
   where
-    kept : (x y : Bool) → KeptBetween gives (EachAt (Pick P Q x) s)
-    kept true y = each_between P kp s gives
-    kept false y = each_between Q kq s gives
-
-    own : (y : Bool) → MadeByTick gives s (EachAt P s) (EachAt Q s)
-    own y = tick_makes P Q kq.settles ticked s gives
-
-    same : (M : ℕ → Machines → Type 0) → MadeByTick gives (peer s) (EachAt M s) (EachAt M s)
-    same M = subst (λ x. MadeByTick gives (peer s) (EachAt M x) (EachAt M x)) (peer_twice s) (tick_leaves M (peer s) gives)
-
-    other : (x : Bool) → MadeByTick gives (peer s) (EachAt (Pick P Q x) s) (EachAt (Pick P Q x) s)
-    other true = same P
-    other false = same Q
+    kept : (x y : ℕ) → Within 1 x y → KeptBetween gives (EachAt (Pick P Q x) s)
+    kept zero y l = each_between P kp s gives
+    kept (suc x) y l = each_between Q kq s gives
 
 -- the ports that the cables join
 
@@ -171,21 +203,8 @@ module _ (E : Clearing) (gives : Algorithms) where
   pub joins_beside : (at : Side → ℕ) (n : ℕ) (old new : WorldState) → AllBeside at E gives n old new
       → map link_ends new.links ≡ map link_ends old.links
   joins_beside at n old new h = among_on (LeavesPorts at) E gives (λ m j. map link_ends j.links ≡ map link_ends old.links) old refl
-      (λ m i j q k. holds_beside E at gives One (λ a b j. map link_ends j.links ≡ map link_ends old.links) (λ a b. joins_kept at gives old.links)
-      (λ b. joins_tick gives old.links One) (λ a. joins_tick gives old.links Two) i j q k) n new h
+      (λ m i j q k. keeps_ticks E at gives 1 (λ j. map link_ends j.links ≡ map link_ends old.links) (joins_kept at gives old.links)
+      (λ s. joins_tick gives old.links s) i j (once q) k) n new h
 
   pub played_join : (n : ℕ) (old new : WorldState) → PlayedRounds E gives n old new → map link_ends new.links ≡ map link_ends old.links
   played_join n old new h = joins_beside (λ s. 0) n old new (all_beside (λ s. 0) E gives n old new h)
-
-pub zero_on : (gives : Algorithms) (S : ℕ → WorldState → Type 0) (start : WorldState) → S 0 start
-    → ((n : ℕ) (old new : WorldState) → IsRound gives old new → S n old → S (n + 1) new)
-    → (n : ℕ) (new : WorldState) → Rounds gives n start new → S n new
-zero_on gives S start first next zero new h = subst (S 0) (sym h) first
-zero_on gives S start first next (suc n) new h =
-    subst (λ m. S m new) (omega arith) (next n h.0 new h.2 (zero_on gives S start first next n h.0 h.1))
-
-pub splits : (gives : Algorithms) (k m n : ℕ) (old new : WorldState) → n ≡ k + m → Rounds gives n old new
-    → (mid : WorldState) × Rounds gives m old mid × Rounds gives k mid new
-splits gives zero m n old new e h = (new, subst (λ i. Rounds gives i old new) (omega (arith, e)) h, refl)
-splits gives (suc k) m zero old new e h = absurd (omega (arith, e))
-splits gives (suc k) m (suc n) old new e h = grind (arith, nat_tests, splits gives k m n old h.0 (omega (arith, e)) h.1)

@@ -1,39 +1,36 @@
 -- A port of a healthy cable is drained of a conversation that is held on it.
 use Rattle.lagprogress.proofs.Common.{Bool, Err, IsSome, List, None, Ok, Option, Result, Some, [], ap, arith, cond, eqb, false, inl, inr, length, ltb}
-use Rattle.lagprogress.proofs.Common.{refl, subst, suc, sym, true, zero, ℕ, ◌&&◌, ◌+◌, ◌<◌, ◌==◌, ◌^◌, ◌∙◌, ◌∷◌, ◌≡◌, ◌≤◌, ◌⊎◌, cases_Bool, nat_tests}
-use Rattle.lagprogress.proofs.Common.{none-some, AggId, Choice, is_selected, Lacpdu, IsCabling, One, Side, peer, Machines, is_due, Assignment}
-use Rattle.lagprogress.proofs.Common.{after_tick, marker_due, IsConversation, Table, assignment_of, next_identifier, HostReply, SystemFault, OffersIf}
-use Rattle.lagprogress.proofs.Common.{Offer, Receive, Step, Tick, Transmit, HostPromise, GivesOrRefuses, system_force_result, system_move_result}
-use Rattle.lagprogress.proofs.Common.{number_of_conversation, TransmitsAt, Set_max_delay, CallPromise, SystemState, machines_of, port_index}
-use Rattle.lagprogress.proofs.Common.{found_place, Event, Reply, Algorithms, WorldSteps, side_of, world_setup, ItemValue, WorldState, half, port_at}
-use Rattle.lagprogress.proofs.Common.{ForcesPort, HostEvent, HostSteps, Leaves, Offers, Plays, Probes, Sets, DrainingRounds, IsDrainingRound}
-use Rattle.lagprogress.proofs.Common.{IsNoMoveOf, AfterTick, AtSomeWorld, IsBetweenTicks, IsHostRound, IsQuiet, NoneIsLeft, RunReplies, StepReplies}
-use Rattle.lagprogress.proofs.Common.{TickOnce, OldArrive, NothingInFlight, OfPort}
+use Rattle.lagprogress.proofs.Common.{refl, subst, suc, sym, true, zero, ℕ, ◌&&◌, ◌+◌, ◌-◌, ◌<◌, ◌==◌, ◌^◌, ◌∙◌, ◌∷◌, ◌≡◌, ◌≤◌, ◌⊎◌, cases_Bool}
+use Rattle.lagprogress.proofs.Common.{nat_tests, none-some, AllByRecursion, AggId, Choice, is_selected, Lacpdu, IsCabling, One, Side, peer, Machines}
+use Rattle.lagprogress.proofs.Common.{is_due, Assignment, after_tick, marker_due, IsConversation, Table, assignment_of, next_identifier, HostReply}
+use Rattle.lagprogress.proofs.Common.{SystemFault, OffersIf, Offer, Receive, Step, Transmit, HostPromise, GivesOrRefuses, number_of_conversation}
+use Rattle.lagprogress.proofs.Common.{TransmitsAt, Set_max_delay, CallPromise, SystemState, machines_of, port_index, found_place, Event, Reply}
+use Rattle.lagprogress.proofs.Common.{Algorithms, WorldSteps, side_of, world_setup, ItemValue, WorldState, half, port_at, ForcesPort, HostEvent}
+use Rattle.lagprogress.proofs.Common.{HostSteps, Leaves, Offers, Plays, Probes, Sets, DrainingRounds, IsDrainingRound, IsNoMoveOf, AfterTick}
+use Rattle.lagprogress.proofs.Common.{AtSomeWorld, IsBetweenTicks, IsHostRound, IsQuiet, NoneIsLeft, RunReplies, StepReplies, TickOnce, OldArrive}
+use Rattle.lagprogress.proofs.Common.{NothingInFlight, OfPort, AfterTicks, TicksAmong}
 use Rattle.lagprogress.proofs.Quieting.{as_beside, IsCalm, calm_quiet, calm_timely, calm_keeps, leaves_link, leaves_quiet, quiet_cable, offered_half}
-use Rattle.lagprogress.proofs.Quieting.{moved_half, forced_half, Grown}
-use Rattle.lagprogress.proofs.Linked.{each_side, Fits, Link, asked_which, emit_any, peer_twice, EndPort, end_here, other_side}
+use Rattle.lagprogress.proofs.Quieting.{moved_half, forced_half, Grown, asked_half, came_half, leaves}
+use Rattle.lagprogress.proofs.Linked.{each_side, Fits, Link, asked_which, peer_twice, EndPort, end_here, other_side}
 use Rattle.lagprogress.proofs.Holding.{has_on, Has, Fine, Flights, ticked_fine, IsMarker, asking, answering, offered_fine, forced_fine}
 use Rattle.lagprogress.proofs.Halves.{AreTimely}
 use Rattle.lagprogress.proofs.HostSteady.{IsAside, aside, asked_by, beside_next, caller, delay_keeps, gives_next, probes_half, Probed}
-use Rattle.lagprogress.proofs.RoundEvents.{asked_half, came_half}
 use Rattle.lagsystem.specs.declared.drive.HostCall.TheVariants as host
 use Rattle.lagsystem.specs.declared.drive.HostReply.TheVariants as told
 use Rattle.lagprogress.proofs.Answering.{IsFine, Steady, fine_in_map, turned_by, sends_fine, settles_all, stays_on, went_flights, none_wanted}
-use Rattle.lagprogress.proofs.Answering.{probes_fine, probes_beside, not_wanted, none_due}
-use Rattle.lagprogress.proofs.Climbing.{PartnerInSync, choice_along, partner_along, ticks_choice, ticks_partner}
-use Rattle.lagprogress.proofs.Delivering.{deliver_link}
-use Rattle.lagprogress.proofs.Draining.{after_tick_on, comes_fine, elsewhere_fine, peer_answers}
+use Rattle.lagprogress.proofs.Answering.{probes_fine, probes_beside, not_wanted, none_due, after_tick_on, comes_fine, elsewhere_fine, peer_answers}
+use Rattle.lagprogress.proofs.Climbing.{PartnerInSync, choice_along, partner_along, ticks_partner, ticks_still}
 use Rattle.lagprogress.proofs.EndFacts.{Along, activity, both_along}
 use Rattle.lagprogress.proofs.OneCable.{Arrives, Asks, OnCable, Went, asks, cable, delivers, ticks, towards_there, Beside, push, puts, port_there}
 use Rattle.lagprogress.proofs.OneRound.{join, one_of_both, ticked, Nothing}
 use Rattle.lagprogress.proofs.Knowing.{Met, AtIt, beside, awake_peer, fits_fresh, knows_late, stays_met, fits_before}
 use Rattle.lagprogress.proofs.LateLoops.{host_round_is_late_round}
-use Rattle.lagprogress.proofs.EachRound.{played_join}
+use Rattle.lagprogress.proofs.EachRound.{played_join, once_turns}
 use Rattle.lagprogress.proofs.Claims.{IsNamed}
-use Rattle.lagprogress.proofs.HostRound.{left, fits_in, known_in, peer_holds, own_holds, none_ticked, Stages, of_side, MadeByTick, first_on}
-use Rattle.lagprogress.proofs.HostRound.{healthy_link, KeptWhere}
+use Rattle.lagprogress.proofs.HostRound.{of_side, MadeByTick, healthy_link, KeptAmong, between}
 use Rattle.lagsystem.specs.declared.drive.Reply.TheVariants as answer
 use Rattle.lagscript.specs.declared.event.Event.TheVariants as event
+use Rattle.lagprogress.proofs.SeveralTicks.{TickStages, Within, fits_at, known_at, none_counted, own_at, peer_at, ticks_on}
 
 -- identifiers
 
@@ -119,14 +116,23 @@ some_left s t P gives a b (e ∷ es) (r ∷ rs) old new h run left (inr y) =
     let o = rest_ticks t a b e es h in inr (some_left s t P gives o.0 o.1 es rs run.0 new o.2 run.2 left y)
 some_left s t P gives a b es rs old new h run left y = absurd run
 
+-- a round of one tick is one of several
 after_left : (s t : Side) (P : WorldState → Type 0) (gives : Algorithms) (a b : Bool) (es : List HostEvent) (rs : List Reply) (old new : WorldState)
     → TickOnce t a b es → (run : RunReplies gives old es rs new) → HasLeft s new → AfterTick s P gives es rs old new run
-    → AfterTick s (λ j. P j × HasLeft s j) gives es rs old new run
+    → AfterTicks s (λ j. P j × HasLeft s j) 1 gives es rs old new run
 after_left s t P gives a b [] rs old new h run left y = y
 after_left s t P gives a b (e ∷ es) [] old new h run left y = y
-after_left s t P gives a b (e ∷ es) (r ∷ rs) old new h run left (inl y) = grind (arith, nat_tests, rest_ticks, some_left, left)
+after_left s t P gives a b (e ∷ es) (r ∷ rs) old new h run left (inl y) =
+    let o = rest_ticks t a b e es h in inl (y.0, some_left s t P gives o.0 o.1 es rs run.0 new o.2 run.2 left y.1)
 after_left s t P gives a b (e ∷ es) (r ∷ rs) old new h run left (inr y) =
     let o = rest_ticks t a b e es h in inr (after_left s t P gives o.0 o.1 es rs run.0 new o.2 run.2 left y)
+
+still_turns : (s : Side) (Is : HostEvent → Type 0) (es : List HostEvent) (a b : ℕ) → AllByRecursion Is es → TicksAmong IsBetweenTicks 1 s a b es
+    → TicksAmong (λ e. IsBetweenTicks e × Is e) 1 s a b es
+still_turns s Is [] a b all h = h
+still_turns s Is (e ∷ es) a b all (inl h) = inl (h.0, still_turns s Is es (suc a) b all.1 h.1)
+still_turns s Is (e ∷ es) a b all (inr (inl h)) = inr (inl (h.0, still_turns s Is es a (suc b) all.1 h.1))
+still_turns s Is (e ∷ es) a b all (inr (inr h)) = inr (inr ((h.0, all.0), still_turns s Is es a b all.1 h.1))
 
 -- the event probes another port than this one of system s, or none
 abbrev IsNoProbe : Side → ℕ → HostEvent → Type 0
@@ -220,12 +226,8 @@ module _ (at : Side → ℕ) (w : Side → Lacpdu) (named : (t : Side) → IsNam
       (went_flights at w s mac agg conv (peer s) k.a fl k.now k.went) fine)
 
   module _ (kn : Side → ℕ) (fits : Fits 2 w kn) where
-    some_known : 1 ≤ kn s
-    some_known = (fits s).2 (omega arith)
-
-    asked_link : (n p : ℕ) (r : Reply) (old new : WorldState) → WorldSteps gives old (event.Emit n p) r new → Link 2 at w kn s Y old
-        → Link 2 at w kn s Y new
-    asked_link n p r old new h l = (emit_any gives n p 2 at w kn s Y r old new fits (along kn some_known) (λ q y. y) l h).link
+    linked : (e : HostEvent) (r : Reply) (i j : WorldState) → IsBetweenTicks e → StepReplies gives i e r j → Link 2 at w kn s Y i → Link 2 at w kn s Y j
+    linked e r i j b = between gives 2 at w kn s Y fits (along kn ((fits s).2 (omega arith))) (λ q y. y) e r i j (leaves at e b)
 
     mid_beside : (m : ℕ) (W : Type 0) (e : Event) (r : Reply) (old new : WorldState) → WorldSteps gives old e r new → (d : Mid m W kn old)
         → Link 2 at w kn s Y new → Beside gives at d.flying old new → Mid m W kn new
@@ -242,7 +244,7 @@ module _ (at : Side → ℕ) (w : Side → Lacpdu) (named : (t : Side) → IsNam
     ]
       where
         link : Link 2 at w kn s Y new
-        link = asked_link n p r old new h d.link
+        link = linked (Plays (event.Emit n p)) r old new tt h d.link
 
         asked : (t : Side) (k : Asks gives t at d.flying old new) → Mid m W kn new
         asked t k = elim (one_of_both s t) [
@@ -261,7 +263,7 @@ module _ (at : Side → ℕ) (w : Side → Lacpdu) (named : (t : Side) → IsNam
     ]
       where
         link : Link 2 at w kn s Y new
-        link = (deliver_link gives cn n 2 at w kn s Y r old new fits (along kn some_known) d.link h).link
+        link = linked (Plays (event.Deliver cn n)) r old new tt h d.link
 
         came : (t : Side) (k : Arrives gives t at d.flying old new) → Mid m W kn new
         came t k = elim (one_of_both s t) [
@@ -381,7 +383,7 @@ module _ (at : Side → ℕ) (w : Side → Lacpdu) (named : (t : Side) → IsNam
     mid_probed m W r old new h d =
         let o = probes_half gives s (at s) old new h in
         let c = probed_cable o.0 d.index d.flying old new d.links o.2 in
-        made W (Probes s (at s)) r tt h d (leaves_link gives (Probes s (at s)) 2 at w kn s Y r old new tt h (along kn some_known) d.link).link c.0 d.index c.1
+        made W (Probes s (at s)) r tt h d (linked (Probes s (at s)) r old new tt h d.link) c.0 d.index c.1
         (by_answer o.0 o.1 c.0 c.2)
       where
         st : SystemState
@@ -399,8 +401,8 @@ module _ (at : Side → ℕ) (w : Side → Lacpdu) (named : (t : Side) → IsNam
         → StepReplies gives i e r j → Mid m W kn i → Mid m W kn j
     mid_quiet m W e r i j b still far h d =
         let g = quiet_cable gives e d.index at d.flying r i j b h d.links in
-        made W e r (calm_quiet e b) h d (leaves_link gives e 2 at w kn s Y r i j (leaves_quiet at e b) h (along kn some_known) d.link).link g.flying d.index
-        g.on
+        made W e r (calm_quiet e b) h d (leaves_link gives e 2 at w kn s Y r i j (leaves_quiet at e b) h (along kn ((fits s).2 (omega arith))) d.link).link
+        g.flying d.index g.on
         (quiet_fine m W (Flights s (at s) mac g.flying) e r i j b still far d.same.there h (grown m W i j d g))
 
     mid_one_probed : (m : ℕ) (W : Type 0) (t : Side) (port : ℕ) (r : Reply) (i j : WorldState) → HostSteps gives i (Probes t port) j → Mid m W kn i
@@ -414,11 +416,11 @@ module _ (at : Side → ℕ) (w : Side → Lacpdu) (named : (t : Side) → IsNam
       | inr e ↦ mid_quiet m W (Probes t port) r i j tt tt (λ f. absurd (other_side s (sym e ∙ f))) h d
     ]
 
-    mid_between : (m : ℕ) (W : Type 0) → KeptWhere IsBetweenTicks gives (IsNoMoveOf s agg conv) (Mid m W kn)
-    mid_between m W (Plays (event.Emit n p)) r i j still b h d = mid_asked m W n p r i j h d
-    mid_between m W (Plays (event.Deliver cn n)) r i j still b h d = mid_delivers m W cn n r i j h d
-    mid_between m W (Probes t port) r i j still b h d = mid_one_probed m W t port r i j h d
-    mid_between m W e r i j still b h d = mid_quiet m W e r i j b still tt h d
+    mid_between : (m : ℕ) (W : Type 0) → KeptAmong (λ e. IsBetweenTicks e × IsNoMoveOf s agg conv e) gives (Mid m W kn)
+    mid_between m W (Plays (event.Emit n p)) r i j b h d = mid_asked m W n p r i j h d
+    mid_between m W (Plays (event.Deliver cn n)) r i j b h d = mid_delivers m W cn n r i j h d
+    mid_between m W (Probes t port) r i j b h d = mid_one_probed m W t port r i j h d
+    mid_between m W e r i j b h d = mid_quiet m W e r i j b.0 b.1 tt h d
 
     -- where no marker is due and an identifier is left, it is not Wanted
     mid_drained : (m : ℕ) (W : Type 0) (j : WorldState) → marker_due (half s j).state.table (at s) ≡ None → HasLeft s j → Mid m W kn j → Mid m ⊥ kn j
@@ -490,7 +492,7 @@ module _ (at : Side → ℕ) (w : Side → Lacpdu) (named : (t : Side) → IsNam
     cabling = subst IsCabling (sym (played_join NoneIsLeft gives 1 old new (old, refl, h))) rests.cabling;
     fresh = stays_met at w counts kept gives named awake 2 old new (omega arith)
         (as_beside at OldArrive gives old new (host_round_is_late_round gives old new rests.cabling h)) g;
-    steady = beside at w 2 (kn false false) s Y new end.link;
+    steady = beside at w 2 (kn 1 1) s Y new end.link;
     same = end.same;
     fine = fine_in_map at w s mac agg conv (m + 1) ⊥ ⊥ (Flights s (at s) mac end.flying) (λ id. ⊥) (half s new).state.table (λ x. x)
         (none_flies new end.index end.flying h.empties end.links) end.fine;
@@ -502,56 +504,65 @@ module _ (at : Side → ℕ) (w : Side → Lacpdu) (named : (t : Side) → IsNam
       g : Met at w counts kept 2 old
       g = rests.fresh
 
-      kn : Bool → Bool → Side → ℕ
-      kn = known_in g.known s
-
-      long : (t : Side) → 2 ≤ g.known t
-      long t = knows_late at w counts kept 2 old g t
-
-      fits : (a b : Bool) → Fits 2 w (kn a b)
-      fits = fits_in 2 w g.known s (fits_before at w counts kept named awake 2 old g (omega arith))
-          (fits_fresh at w counts kept named awake 2 old g (omega arith))
+      kn : ℕ → ℕ → Side → ℕ
+      kn = known_at g.known s
 
       then : Fits 2 w (ticked g.known)
       then = fits_fresh at w counts kept named awake 2 old g (omega arith)
 
-      some : (a : Bool) (n : ℕ) → 2 ≤ n → 1 ≤ left a n
-      some true n l = omega (arith, l)
-      some false n l = omega (arith, l)
+      fits : (a b : ℕ) → Within 1 a b → Fits 2 w (kn a b)
+      fits = fits_at 2 w g.known s 1 (fits_before at w counts kept named awake 2 old g (omega arith)) then
 
-      along_left : (a : Bool) → Along Y (w s) (w (peer s)) (left a (g.known s)) 2
-      along_left a = along (λ t. left a (g.known t)) (some a (g.known s) (long s))
+      some : 1 ≤ g.known s - 0 - 1
+      some = let l = knows_late at w counts kept 2 old g s in omega (arith, l)
 
-      own : (b : Bool) → MadeByTick gives s (Mid m W (kn true b)) (Mid (m + 1) (Unit {0}) (kn false b))
-      own b n r i j told step d = own_ticked (kn true b) (kn false b) m W n r i j told step d
-          (own_holds gives s 2 at w g.known Y Y then (along_left false) (λ p q run rest a y. (
-            ticks_partner 2 (w s) (w (peer s)) (g.known s) p q (some false (g.known s) (long s)) run a y.0,
-            ticks_choice 2 (w s) (w (peer s)) (g.known s) p q c (some false (g.known s) (long s)) run a y.1,
-          )) b n r i j told step d.link)
+      along_at : (a : ℕ) → a ≤ 1 → Along Y (w s) (w (peer s)) (g.known s - a) 2
+      along_at a few = along (λ t. g.known t - a) (let l = knows_late at w counts kept 2 old g s in omega (arith, l, few))
 
-      other : (a : Bool) (k : ℕ) (V : Type 0) → MadeByTick gives (peer s) (Mid k V (kn a true)) (Mid k V (kn a false))
-      other a k V n r i j told step d = peer_ticked (kn a true) (kn a false) k V n r i j told step d
-          (peer_holds gives s 2 at w g.known Y then a (along_left a) n r i j told step d.link)
+      May : HostEvent → Type 0
+      May e = IsBetweenTicks e × IsNoMoveOf s agg conv e
 
-      stages : Stages IsBetweenTicks gives (IsNoMoveOf s agg conv) s (λ b. Mid m W (kn true b)) (λ b. Mid (m + 1) (Unit {0}) (kn false b)) (λ b. Mid (m + 1) ⊥ (kn false b)) Drained
+      A : ℕ → ℕ → WorldState → Type 0
+      A zero b = Mid m W (kn 0 b)
+      A (suc a) b = Mid (m + 1) (Unit {0}) (kn (suc a) b)
+
+      first : (a b : ℕ) → Within 1 a b → KeptAmong May gives (A a b)
+      first zero b l = mid_between (kn 0 b) (fits 0 b l) m W
+      first (suc a) b l = mid_between (kn (suc a) b) (fits (suc a) b l) (m + 1) (Unit {0})
+
+      own : (a b : ℕ) → Within 1 (suc a) b → MadeByTick gives s (A a b) (A (suc a) b)
+      own zero b l n r i j told step d = own_ticked (kn 0 b) (kn 1 b) m W n r i j told step d
+          (own_at gives s 2 at w g.known 1 Y Y then 0 b l (along_at 1 (omega arith)) (λ p q run rest a y. (
+            ticks_partner 2 (w s) (w (peer s)) (g.known s - 0) p q some run a y.0,
+            (subst (λ (r : Machines). r.choice ≡ c) (sym (ticks_still 2 (w s) (w (peer s)) (g.known s - 0) p q some a run)) y.1),
+          )) n r i j told step d.link)
+      own (suc a) b l n r i j told step d = absurd (let k = l.0 in omega (arith, k))
+
+      other : (a b k : ℕ) (V : Type 0) → Within 1 a (suc b) → MadeByTick gives (peer s) (Mid k V (kn a b)) (Mid k V (kn a (suc b)))
+      other a b k V l n r i j told step d = peer_ticked (kn a b) (kn a (suc b)) k V n r i j told step d
+          (peer_at gives s 2 at w g.known 1 Y then a b l (along_at a l.0) n r i j told step d.link)
+
+      other_first : (a b : ℕ) → Within 1 a (suc b) → MadeByTick gives (peer s) (A a b) (A a (suc b))
+      other_first zero b l = other 0 b m W l
+      other_first (suc a) b l = other (suc a) b (m + 1) (Unit {0}) l
+
+      stages : TickStages May gives 1 s A (λ b. Mid (m + 1) ⊥ (kn 1 b)) Drained
       stages = record {
-        none = λ n b. b;
-        first = λ b. mid_between (kn true b) (fits true b) m W;
-        second = λ b. mid_between (kn false b) (fits false b) (m + 1) (Unit {0});
-        third = λ b. mid_between (kn false b) (fits false b) (m + 1) ⊥;
+        none = λ n b. b.0;
+        first = first;
+        third = λ b l. mid_between (kn 1 b) (fits 1 b (omega arith, l)) (m + 1) ⊥;
         own = own;
-        other_first = other true m W;
-        other_second = other false (m + 1) (Unit {0});
-        other_third = other false (m + 1) ⊥;
-        rests = λ b j p d. mid_drained (kn false b) (fits false b) (m + 1) (Unit {0}) j p.0.1 p.1 d;
+        other_first = other_first;
+        other_third = λ b l. other 1 b (m + 1) ⊥ (omega arith, l);
+        rests = λ b l j p d. mid_drained (kn 1 b) (fits 1 b (omega arith, l)) (m + 1) (Unit {0}) j p.0.1 p.1 d;
       }
 
       link : Link 2 at w g.known s Y old
       link = join 2 at w g.known One s Y old g.link rests.steady
 
-      start : Mid m W (kn true true) old
+      start : Mid m W (kn 0 0) old
       start = record {
-        link = none_ticked 2 at w g.known s s Y old link;
+        link = none_counted 2 at w g.known s s Y old link;
         flying = g.link.flying;
         index = g.link.index;
         links = g.link.links;
@@ -565,9 +576,9 @@ module _ (at : Side → ℕ) (w : Side → Lacpdu) (named : (t : Side) → IsNam
           × (marker_due (half s j).state.table n ≡ None)) gives h.events h.replies old new h.acts) (port_there s at g.link.flying)
           (q.drained s g.link.index (cable at g.link.flying) (healthy_link 2 at w g.known One Nothing old g.link))
 
-      end : Mid (m + 1) ⊥ (kn false false) new
-      end = first_on IsBetweenTicks gives (IsNoMoveOf s agg conv) s (λ b. Mid m W (kn true b)) (λ b. Mid (m + 1) (Unit {0}) (kn false b)) (λ b. Mid (m + 1) ⊥ (kn false b)) Drained
-          stages h.events h.replies old new true q.still (of_side s h.events h.ticks) h.acts
+      end : Mid (m + 1) ⊥ (kn 1 1) new
+      end = ticks_on May gives 1 s A (λ b. Mid (m + 1) ⊥ (kn 1 b)) Drained stages h.events h.replies old new 0 0 1 refl
+          (still_turns s (IsNoMoveOf s agg conv) h.events 0 0 q.still (once_turns s h.events true true (of_side s h.events h.ticks))) h.acts
           (after_left s One NoneDue gives true true h.events h.replies old new h.ticks h.acts one_left drains) start
 
   -- so many rounds on

@@ -1,12 +1,12 @@
 -- What ticks, receipts and settlings leave of a port at an end of a cable whose other end sends LACPDUs of one kind.
-use Rattle.lagprogress.proofs.Common.{Bool, ap, arith, false, if◌then◌else◌, inl, inr, refl, subst, sym, true, ℕ, ◌&&◌, ◌-◌, ◌==◌, ◌||◌, ◌∙◌, ◌≡◌}
-use Rattle.lagprogress.proofs.Common.{◌≤◌, ◌⊎◌, nat_tests, Choice, Unselected, StateBits, is_selected, same_party, bits_of, party_itself}
-use Rattle.lagprogress.proofs.Common.{encode_then_decode, Lacpdu, party_of, MuxState, CollectingDistributing, Machines, is_synchronized, mux_rows}
-use Rattle.lagprogress.proofs.Common.{partner_synchronized, same_mux_state, RunsPeriodic, periodic_rows, lacpdu_rows, receive_rows}
-use Rattle.lagprogress.proofs.Common.{recorded_synchronization, AtRest, RunsToRest, count_down, pdu_of, ProcessesLacpdu, can_receive, can_receive_in}
-use Rattle.lagprogress.proofs.Common.{HasRecorded, timeout_time, KeptBySettling, EnabledKeep, no, not_down, times_keep, Known, counts, decoded}
-use Rattle.lagprogress.proofs.Common.{receive_known, recorded, AtPort, mux_leaves, periodic_leaves, Calm, Sounds, counts_sounds, mux_sounds}
-use Rattle.lagprogress.proofs.Common.{not_silent, periodic_runs, RowsKeep, runs_keep, takes_keep}
+use Rattle.lagprogress.proofs.Common.{Bool, ap, arith, false, if◌then◌else◌, inl, inr, refl, subst, sym, true, ℕ, ◌&&◌, ◌-◌, ◌||◌, ◌∙◌, ◌≡◌, ◌≤◌, ◌⊎◌}
+use Rattle.lagprogress.proofs.Common.{nat_tests, Choice, Unselected, StateBits, is_selected, same_party, bits_of, party_itself, encode_then_decode}
+use Rattle.lagprogress.proofs.Common.{Lacpdu, party_of, MuxState, CollectingDistributing, Machines, is_synchronized, mux_rows, partner_synchronized}
+use Rattle.lagprogress.proofs.Common.{same_mux_state, RunsPeriodic, periodic_rows, lacpdu_rows, receive_rows, recorded_synchronization, AtRest}
+use Rattle.lagprogress.proofs.Common.{RunsToRest, count_down, pdu_of, ProcessesLacpdu, can_receive, can_receive_in, HasRecorded, timeout_time}
+use Rattle.lagprogress.proofs.Common.{KeptBySettling, EnabledKeep, no, not_down, times_keep, Known, counts, decoded, receive_known, recorded, AtPort}
+use Rattle.lagprogress.proofs.Common.{mux_leaves, periodic_leaves, Calm, Sounds, counts_sounds, mux_sounds, not_silent, periodic_runs, RowsKeep}
+use Rattle.lagprogress.proofs.Common.{runs_keep, takes_keep}
 use Rattle.lagbeside.proofs.Knowing.{receives}
 use Rattle.lagbeside.proofs.Heartbeat.{raised}
 

@@ -1,26 +1,25 @@
 -- No conversation that is not moved stays held on a port of a healthy cable of a bundle.
-use Rattle.lagprogress.proofs.Common.{List, None, Option, Some, [], ap, arith, inl, inr, length, refl, subst, sym, ℕ, ◌++◌, ◌+◌, ◌-◌, ◌<◌, ◌∙◌, ◌∷◌}
+use Rattle.lagprogress.proofs.Common.{List, None, Option, Some, [], ap, arith, inl, inr, length, refl, subst, suc, sym, zero, ℕ, ◌++◌, ◌+◌, ◌-◌, ◌∷◌}
 use Rattle.lagprogress.proofs.Common.{◌≡◌, ◌≤◌, ◌⊎◌, nat_tests, AllByRecursion, all-append, IsCabling, One, Side, peer, value_of, Assignment}
 use Rattle.lagprogress.proofs.Common.{after_mark, after_release, after_tick, IsConversation, assignment_of, held_unless_on, SystemState, Event, Reply}
 use Rattle.lagprogress.proofs.Common.{Algorithms, WorldSteps, side_of, LinkState, WorldState, half, port_at, AtPort, Turning, Turns, asks_turn}
 use Rattle.lagprogress.proofs.Common.{comes_turn, same_turns, ticks_turn, turns_through, EndsHealthyCable, IsBundle, HasIdentifierLeft, IsNotHeldOn}
-use Rattle.lagprogress.proofs.Common.{NoneIsHeldOn, NothingIsHeld, carrier_of, held_on, DrainingRounds, NoneIsHeldOnEndsByHosts, NothingIsHeldByHosts}
-use Rattle.lagprogress.proofs.Common.{Clearing, HostRounds, IsBetweenTicks, NoneIsLeft, PlayedRounds, LateRounds, OldArrive, IsDeliver, IsHealthyAt}
-use Rattle.lagprogress.proofs.Common.{IsRound, Rounds, asks_all, ticks_of_both, IsSteady}
+use Rattle.lagprogress.proofs.Common.{NothingIsHeld, carrier_of, held_on, DrainingRounds, NoneIsHeldOnEndsByHosts, NothingIsHeldByHosts, Clearing}
+use Rattle.lagprogress.proofs.Common.{HostRounds, IsBetweenTicks, NoneIsLeft, PlayedRounds, LateRounds, OldArrive, IsDeliver, IsHealthyAt, IsRound}
+use Rattle.lagprogress.proofs.Common.{Rounds, asks_all, ticks_of_both, IsSteady}
 use Rattle.lagprogress.proofs.Lasting.{played_before, still_heard}
 use Rattle.lagprogress.proofs.LateLoops.{host_rounds_are_late_rounds}
-use Rattle.lagprogress.proofs.LateStart.{counts_of, kept_of}
-use Rattle.lagprogress.proofs.EachRound.{among_then, played_join, played_steady, splits, zero_on, played_keep}
+use Rattle.lagprogress.proofs.LateHearing.{counts_of, kept_of}
+use Rattle.lagprogress.proofs.EachRound.{among_then, played_join, played_steady, played_keep}
 use Rattle.lagprogress.proofs.Bundling.{MeetsBy, Nowhere, awake_of, said, ups_of, named_of, Meets}
 use Rattle.lagprogress.proofs.Linked.{each_side, each_both, each_map, at_end, end_here, runs_all}
 use Rattle.lagprogress.proofs.OneCable.{ticks}
-use Rattle.lagprogress.proofs.RoundEvents.{asked_half, came_half}
+use Rattle.lagprogress.proofs.Quieting.{asked_half, came_half}
 use Rattle.lagprogress.proofs.Climbing.{PartnerInSync}
 use Rattle.lagprogress.proofs.ComingUp.{told_now}
 use Rattle.lagprogress.proofs.Emptying.{rounds_rest}
 use Rattle.lagprogress.proofs.Holding.{Fine}
 use Rattle.lagprogress.proofs.OneRound.{Nothing}
-use Rattle.lagprogress.proofs.HostRound.{left}
 use Rattle.lagprogress.proofs.HostLoops.{draining_are_host, rounds_are_host_rounds, rounds_are_draining}
 use Rattle.lagscript.specs.declared.event.Event.TheVariants as event
 
@@ -70,6 +69,15 @@ module _ (E : Clearing) (Holds : LinkState → WorldState → Type 0) (Other : S
         fine = fine_first (at s) (assignment_of st.table q r);
       }) rounds in
       fine_last (at s) m late (assignment_of (half s new).state.table q r) rests.fine held
+
+-- the last of draining rounds are such rounds
+
+pub draining_splits : (gives : Algorithms) (s : Side) (g k i m n : ℕ) (old new : WorldState) → n ≡ i + m → DrainingRounds s g k gives n old new
+    → (mid : WorldState) × DrainingRounds s g k gives m old mid × DrainingRounds s g k gives i mid new
+draining_splits gives s g k zero m n old new e h = (new, subst (λ j. DrainingRounds s g k gives j old new) (omega (arith, e)) h, refl)
+draining_splits gives s g k (suc i) m zero old new e h = absurd (omega (arith, e))
+draining_splits gives s g k (suc i) m (suc n) old new e h =
+    let r = draining_splits gives s g k i m n old h.0 (omega (arith, e)) h.1 in (r.0, r.1, (h.0, r.2, h.2))
 
 -- what carries a conversation in a round
 
@@ -152,8 +160,8 @@ round_stays s gives old new h = runs_all gives IsOfRound (WorldStays s old) one 
     one e r i j is h m = absurd is
 
 rounds_stay : (s : Side) (gives : Algorithms) (n : ℕ) (old new : WorldState) → Rounds gives n old new → WorldStays s old new
-rounds_stay s gives n old new h = zero_on gives (λ m j. WorldStays s old j) old (world_same s old old refl)
-    (λ m i j q k. world_through s old i j k (round_stays s gives i j q)) n new h
+rounds_stay s gives zero old new h = world_same s old new (ap (λ (j : WorldState). (half s j).state) h)
+rounds_stay s gives (suc n) old new h = world_through s old h.0 new (rounds_stay s gives n old h.0 h.1) (round_stays s gives h.0 new h.2)
 
 pub carried_before : (a b : Assignment) (p : ℕ) → Stays a b → carrier_of b ≡ Some p → carrier_of a ≡ Some p
 carried_before a b p k h = grind (arith, nat_tests)
@@ -178,19 +186,12 @@ module _ (Holds : LinkState → WorldState → Type 0) (first : ℕ) (gives : Al
       freed_by OldArrive Holds Nowhere first gives old (meets old b) i l y n m mid new s g k enough h late more left
 
   -- and in healthy rounds, which are such rounds
-  none_held : (n i : ℕ) (l : LinkState) (old new : WorldState) (s : Side) → IsBundle Holds old → IsHealthyAt i l old → first + 63 ≤ n
-      → Rounds gives n old new → HasIdentifierLeft (half s new).state → NoneIsHeldOn (port_at s l) (half s new).state
-  none_held n i l old new s b y enough h left q r =
-      let least = first + 33 in
-      let cut = splits gives (n - least) least n old new (omega (arith, enough)) h in
-      let hosts = rounds_are_host_rounds gives least old cut.0 b.steady cut.1 in
-      none_is_held_on_ends least (n - least) i l old cut.0 new s q r b y (omega arith)
-      (host_rounds_are_late_rounds gives least old cut.0 b.cabling hosts) (omega (arith, enough))
-      (rounds_are_draining gives s q r (n - least) cut.0 new (played_steady NoneIsLeft gives least old cut.0 b.steady hosts) cut.2) left
-
   pub nothing_is_held : NothingIsHeld Holds (first + 63) gives
   nothing_is_held n old new s b carriers enough h left g k is =
-      unheld Holds s old (held_on (assignment_of (half s new).state.table g k)) ends (λ i l y e. none_held n i l old new s b y enough h left g k is e)
+      let cut = draining_splits gives s g k 30 (n - 30) n old new (omega (arith, enough)) (rounds_are_draining gives s g k n old new b.steady h) in
+      unheld Holds s old (held_on (assignment_of (half s new).state.table g k)) ends (λ i l y e.
+      none_is_held_on_ends (n - 30) 30 i l old cut.0 new s g k b y (omega (arith, enough)) (host_rounds_are_late_rounds gives (n - 30) old cut.0 b.cabling
+      (draining_are_host gives s g k (n - 30) old cut.0 cut.1)) (omega arith) cut.2 left is e)
     where
       ends : (p : ℕ) → held_on (assignment_of (half s new).state.table g k) ≡ Some p → EndsHealthyCable Holds s p old
       ends p e =

@@ -1,13 +1,10 @@
 -- What a healthy round leaves of conversations that are held on a port whose cable is healthy: their markers are answered.
-use Rattle.lagprogress.proofs.Common.{Bool, List, Some, ap, arith, cond, drop, eqb, false, length, sym, true, ℕ, ◌+◌, ◌<◌, ◌∙◌, ◌≡◌, ◌≤◌, ◌⊎◌}
-use Rattle.lagprogress.proofs.Common.{nat_tests, none-some, Marker, Information, Response, Pdu, no_fault, one_pdu, Side, peer, Assignment, Flushing}
-use Rattle.lagprogress.proofs.Common.{Free, On, Wanted, is_among, after_mark, after_release, after_tick, Carries, Data_frame, Faulty, IsFrame}
-use Rattle.lagprogress.proofs.Common.{ReceivedFrame, Runt, held_unless_on, ItemValue}
+use Rattle.lagprogress.proofs.Common.{Bool, List, ap, arith, cond, drop, eqb, false, sym, true, ℕ, ◌+◌, ◌<◌, ◌∙◌, ◌≡◌, ◌≤◌, ◌⊎◌, nat_tests, none-some}
+use Rattle.lagprogress.proofs.Common.{Marker, Information, Response, Pdu, no_fault, one_pdu, Side, peer, Assignment, Flushing, Free, On, Wanted}
+use Rattle.lagprogress.proofs.Common.{is_among, after_mark, after_release, after_tick, Carries, Data_frame, Faulty, IsFrame, ReceivedFrame, Runt}
+use Rattle.lagprogress.proofs.Common.{held_unless_on, ItemValue}
 use Rattle.lagsystem.specs.Forcing.{after_forcing}
 use Rattle.slowpdu.specs.declared.pdu.Pdu.TheVariants as pdu
-use Rattle.slowpdu.specs.declared.fault.WireFault.{WireFault}
-use Rattle.slowpdu.specs.Faults.{fault_of}
-use Rattle.slowpdu.specs.Pdus.{ReadsPdu}
 pub use Rattle.lagprogress.proofs.Linked.{Has, has_last, has_on}
 
 -- the marker that port p of the system with this address sends, and its response
@@ -80,15 +77,9 @@ forced_fine p m q W F a h = grind (arith, nat_tests)
 
 -- frames
 
-read_faulty : (b : List ℕ) (v : Pdu) (e : WireFault) → ReadsPdu b v → fault_of b ≡ Some e → ⊥
-read_faulty b v e h k = none-some e (sym (no_fault b v h) ∙ k)
-
-long_runt : (n : ℕ) → n < 14 → 14 ≤ n → ⊥
-long_runt n h k = omega (arith, h, k)
-
 -- octets that carry a PDU are no other kind of frame
 pub frame_is : (octets : List ℕ) (v : Pdu) (f : ReceivedFrame) → IsFrame octets (Carries v) → IsFrame octets f → f ≡ Carries v
-frame_is octets v Runt h k = absurd (long_runt (length octets) k h.0.0)
+frame_is octets v Runt h k = absurd (omega (arith, k, h.0.0))
 frame_is octets v Data_frame h k = absurd (k.1 h.0.1)
-frame_is octets v (Faulty e) h k = absurd (read_faulty (drop 14 octets) v e h.1 k.1)
+frame_is octets v (Faulty e) h k = absurd (none-some e (sym (no_fault (drop 14 octets) v h.1) ∙ k.1))
 frame_is octets v (Carries w) h k = ap Carries (one_pdu (drop 14 octets) v w h.1 k.1)

@@ -1,6 +1,6 @@
 -- Which runs are healthy rounds of hosts.
 use Rattle.lagprogress.proofs.Common.{Bool, Err, List, None, Ok, Option, Result, Some, [], ap, arith, cond, false, inl, inr, ltb, refl, slice_get}
-use Rattle.lagprogress.proofs.Common.{subst, suc, sym, true, zero, ℕ, ◌++◌, ◌+◌, ◌∙◌, ◌∷◌, ◌≡◌, ◌⊎◌, cases_Bool, false≢true, nat_tests, none-some}
+use Rattle.lagprogress.proofs.Common.{subst, suc, sym, true, zero, ℕ, ◌++◌, ◌∙◌, ◌∷◌, ◌≡◌, ◌⊎◌, cases_Bool, false≢true, nat_tests, none-some}
 use Rattle.lagprogress.proofs.Common.{same_Some, AllByRecursion, Pdu, pdu_in, One, Side, Two, peer, value_of, Machines, after_sending, is_due}
 use Rattle.lagprogress.proofs.Common.{Assignment, after_mark, marker_due, wants_marker, Table, assignment_of, SystemFault, SystemPort, Step, Transmit}
 use Rattle.lagprogress.proofs.Common.{SendsMarkerOf, TransmitsAt, TransmitsIf, SystemState, machines_of, port_index, all-get, found_place, ports_rise}

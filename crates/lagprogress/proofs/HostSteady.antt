@@ -1,11 +1,11 @@
 -- What calls and settings of hosts leave of both systems.
 use Rattle.lagprogress.proofs.Common.{Bool, Err, List, None, Ok, Option, Result, Some, [], ap, arith, false, inl, inr, refl, subst, sym, true, ℕ, ◌∙◌}
 use Rattle.lagprogress.proofs.Common.{◌∷◌, ◌≡◌, ◌≤◌, ◌⊎◌, nat_tests, none-some, same_Some, AggId, Choice, Lacpdu, One, Side, peer, Machines}
-use Rattle.lagprogress.proofs.Common.{Assignment, Table, next_identifier, HostCall, HostReply, SystemFault, SystemPort, OffersIf, Call, Carries}
-use Rattle.lagprogress.proofs.Common.{IsFrame, choice_with_link, call_of, configured_numbers, HostPromise, GivesOrRefuses, ProbesAt, ProbesIf}
-use Rattle.lagprogress.proofs.Common.{SendsMarkerOf, Hold_port, Set_max_delay, Set_max_links, Set_mode, SetsPort, Setting, SettingPromise}
-use Rattle.lagprogress.proofs.Common.{SettingStep, in_mode, is_held_so, is_in_mode, with_held, IsSound, SystemState, port_index, with_table, IsOther}
-use Rattle.lagprogress.proofs.Common.{TableAlone, host_alone, all-get, all-set, found_place, setting_sound, Step-sound, Algorithms, transmitted_item}
+use Rattle.lagprogress.proofs.Common.{Assignment, Table, next_identifier, HostCall, HostReply, SystemFault, SystemPort, OffersIf, Carries, IsFrame}
+use Rattle.lagprogress.proofs.Common.{choice_with_link, call_of, configured_numbers, HostPromise, GivesOrRefuses, ProbesAt, ProbesIf, SendsMarkerOf}
+use Rattle.lagprogress.proofs.Common.{Hold_port, Set_max_delay, Set_max_links, Set_mode, SetsPort, Setting, SettingPromise, SettingStep, in_mode}
+use Rattle.lagprogress.proofs.Common.{is_held_so, is_in_mode, with_held, IsSound, SystemState, port_index, with_table, IsOther, TableAlone}
+use Rattle.lagprogress.proofs.Common.{host_alone, all-get, all-set, found_place, setting_sound, Step-sound, Algorithms, transmitted_item}
 use Rattle.lagprogress.proofs.Common.{with_item_sent, forced_if_accepted, HalfState, ItemValue, LinkState, WorldState, half, put_on_port, with_half}
 use Rattle.lagprogress.proofs.Common.{start_sound, AfterNumberedOffer, AfterProbe, CountsHeldIfOk, ForcesPort, HalfTells, HostEvent, HostRuns}
 use Rattle.lagprogress.proofs.Common.{HostSteps, Leaves, Offers, Plays, Probes, Rests, Sets, numbered_item, hosts_keep_headline, PortsAreTimed}
@@ -73,6 +73,16 @@ pub record Quietly (s : Side) (old new : WorldState) : Type 0 where
   pub links : (new.links ≡ old.links) ⊎ SendsPlain s old new
   pub logs : (t : Side) → (half t new).histories ≡ (half t old).histories
 
+-- what a probe with this answer makes of the cables
+abbrev pub Probed : Side → ℕ → Result (Option (List ℕ)) SystemFault → List LinkState → List LinkState → Type 0
+Probed s port (Ok (Some frame)) old new = (item : ItemValue) × (item.octets ≡ frame) × (new ≡ put_on_port s port item old)
+Probed s port a old new = new ≡ old
+
+-- if the call is one
+abbrev pub ProbedBy : Side → HostCall → HostReply → List LinkState → List LinkState → Type 0
+ProbedBy s (host.Probe port) (told.Probe a) old new = Probed s port a old new
+ProbedBy s call answer old new = Unit {0}
+
 -- System s has answered this call, which leaves its ports and histories, and the peer, and sends nothing that bears an LACPDU.
 pub record IsBeside (gives : ℕ → ℕ → ℕ → Type 0) (s : Side) (call : HostCall) (old new : WorldState) : Type 0 where
   pub answer : HostReply
@@ -81,6 +91,7 @@ pub record IsBeside (gives : ℕ → ℕ → ℕ → Type 0) (s : Side) (call : 
   pub peers : (half (peer s) new).state ≡ (half (peer s) old).state
   pub links : (new.links ≡ old.links) ⊎ SendsPlain s old new
   pub logs : (t : Side) → (half t new).histories ≡ (half t old).histories
+  pub probed : ProbedBy s call answer old.links new.links
 
 -- it keeps the system sound, and changes its table alone
 module _ {gives : ℕ → ℕ → ℕ → Type 0} {s : Side} {call : HostCall} {old new : WorldState} (b : IsBeside gives s call old new) where
@@ -115,8 +126,9 @@ sent_joint s port item h j = grind (arith, nat_tests)
 
 built : (gives : ℕ → ℕ → ℕ → Type 0) (s : Side) (call : HostCall) (a : HostReply) (mid h : HalfState) (ls : List LinkState)
     (old new : WorldState) → HalfTells gives call a (half s old) mid → IsOther call → h.state ≡ mid.state → h.histories ≡ mid.histories
-    → Puts s ls old → new ≡ after_call s h ls old → IsBeside gives s call old new
-built gives s call a mid h ls old new x is state logs puts y =
+    → Puts s ls old → ProbedBy s call a old.links ls → new ≡ after_call s h ls old → IsBeside gives s call old new
+built gives s call a mid h ls old new x is state logs puts probed y =
+    let sent = subst (ProbedBy s call a old.links) (sym (ap (λ (j : WorldState). j.links) y)) probed in
     let own : (half s new).state ≡ mid.state = ap (λ (j : WorldState). (half s j).state) y ∙ (state_there s h ls old ∙ state) in
     grind (arith, nat_tests, peer_there, logs_there)
 
@@ -127,9 +139,9 @@ offer_beside : (gives : ℕ → ℕ → ℕ → Type 0) (s : Side) (agg : AggId)
 offer_beside gives s agg conv octets (Ok port) mid old new plain x y =
     built gives s (host.OfferConversation agg conv) (told.OfferConversation (Ok port)) mid (with_sent_in agg.0 conv mid)
     (put_on_port s port (numbered_item s agg conv octets mid) old.links) old new x tt refl refl
-    (inr (port, numbered_item s agg conv octets mid, plain, refl)) (y ∙ offered_joint s agg conv octets port mid old)
+    (inr (port, numbered_item s agg conv octets mid, plain, refl)) tt (y ∙ offered_joint s agg conv octets port mid old)
 offer_beside gives s agg conv octets (Err fault) mid old new plain x y =
-    built gives s (host.OfferConversation agg conv) (told.OfferConversation (Err fault)) mid mid old.links old new x tt refl refl (inl refl)
+    built gives s (host.OfferConversation agg conv) (told.OfferConversation (Err fault)) mid mid old.links old new x tt refl refl (inl refl) tt
     (y ∙ same_links s mid old)
 
 -- what is probed for is a marker
@@ -153,30 +165,30 @@ probe_beside gives s port (Ok (Some frame)) mid old new x y =
     let item = transmitted_item s port frame (half s (with_half s mid old)) in
     built gives s (host.Probe port) (told.Probe (Ok (Some frame))) mid mid (put_on_port s port item old.links) old new x tt refl refl
     (inr (port, item, probed_plain (port_index port (half s old).state.system_ports) (half s old).state frame mid.state x.answers.0, refl))
-    (y ∙ sent_joint s port item mid old)
+    (item, refl, refl) (y ∙ sent_joint s port item mid old)
 probe_beside gives s port (Ok None) mid old new x y =
-    built gives s (host.Probe port) (told.Probe (Ok None)) mid mid old.links old new x tt refl refl (inl refl) (y ∙ same_links s mid old)
+    built gives s (host.Probe port) (told.Probe (Ok None)) mid mid old.links old new x tt refl refl (inl refl) refl (y ∙ same_links s mid old)
 probe_beside gives s port (Err fault) mid old new x y =
-    built gives s (host.Probe port) (told.Probe (Err fault)) mid mid old.links old new x tt refl refl (inl refl) (y ∙ same_links s mid old)
+    built gives s (host.Probe port) (told.Probe (Err fault)) mid mid old.links old new x tt refl refl (inl refl) refl (y ∙ same_links s mid old)
 
 rest_beside : (gives : ℕ → ℕ → ℕ → Type 0) (s : Side) (agg : AggId) (conv : ℕ) (a : Result Unit SystemFault) (mid : HalfState)
     (old new : WorldState) → HalfTells gives (host.Rest agg conv) (told.Rest a) (half s old) mid
     → new ≡ with_half s (forced_if_accepted a agg conv mid) old → IsBeside gives s (host.Rest agg conv) old new
 rest_beside gives s agg conv (Ok done) mid old new x y =
     let h = forced_if_accepted (Ok done) agg conv mid in
-    built gives s (host.Rest agg conv) (told.Rest (Ok done)) mid h old.links old new x tt refl refl (inl refl) (y ∙ same_links s h old)
+    built gives s (host.Rest agg conv) (told.Rest (Ok done)) mid h old.links old new x tt refl refl (inl refl) tt (y ∙ same_links s h old)
 rest_beside gives s agg conv (Err fault) mid old new x y =
-    built gives s (host.Rest agg conv) (told.Rest (Err fault)) mid mid old.links old new x tt refl refl (inl refl) (y ∙ same_links s mid old)
+    built gives s (host.Rest agg conv) (told.Rest (Err fault)) mid mid old.links old new x tt refl refl (inl refl) tt (y ∙ same_links s mid old)
 
 force_beside : (gives : ℕ → ℕ → ℕ → Type 0) (s : Side) (port : ℕ) (a : Result ℕ SystemFault) (mid last : HalfState) (old new : WorldState)
     → HalfTells gives (host.ForcePort port) (told.ForcePort a) (half s old) mid → CountsHeldIfOk a port (half s old).state mid last
     → new ≡ with_half s last old → IsBeside gives s (host.ForcePort port) old new
 force_beside gives s port (Ok count) mid last old new x c y =
-    built gives s (host.ForcePort port) (told.ForcePort (Ok count)) mid last old.links old new x tt c.state c.histories (inl refl)
+    built gives s (host.ForcePort port) (told.ForcePort (Ok count)) mid last old.links old new x tt c.state c.histories (inl refl) tt
     (y ∙ same_links s last old)
 force_beside gives s port (Err fault) mid last old new x c y =
     built gives s (host.ForcePort port) (told.ForcePort (Err fault)) mid last old.links old new x tt
-    (ap (λ (h : HalfState). h.state) c) (ap (λ (h : HalfState). h.histories) c) (inl refl) (y ∙ same_links s last old)
+    (ap (λ (h : HalfState). h.state) c) (ap (λ (h : HalfState). h.histories) c) (inl refl) tt (y ∙ same_links s last old)
 
 -- the event is one of the five calls that hosts with a data plane make
 abbrev pub IsAside : HostEvent → Type 0
@@ -209,45 +221,22 @@ pub aside : (gives : Algorithms) (e : HostEvent) (old new : WorldState) → IsAs
     → IsBeside (gives (caller e)) (caller e) (asked_by e) old new
 aside gives (Offers s agg conv octets) old new is x = offer_beside (gives s) s agg conv octets x.0 x.1 old new (λ v c. x.2 c.0.1) x.3 x.4
 aside gives (Leaves s agg conv) old new is x = built (gives s) s (host.LeaveConversation agg conv) (told.LeaveConversation x.0) x.1 x.1
-    old.links old new x.2 tt refl refl (inl refl) (x.3 ∙ same_links s x.1 old)
+    old.links old new x.2 tt refl refl (inl refl) tt (x.3 ∙ same_links s x.1 old)
 aside gives (Probes s port) old new is x = probe_beside (gives s) s port x.0 x.1 old new x.2 x.3
 aside gives (Rests s agg conv) old new is x = rest_beside (gives s) s agg conv x.0 x.1 old new x.2 x.3
 aside gives (ForcesPort s port) old new is x = force_beside (gives s) s port x.0 x.1 x.2 old new x.3 x.4 x.5
 aside gives e old new is x = absurd is
 
--- what a probe with this answer makes of the cables
-abbrev pub Probed : Side → ℕ → Result (Option (List ℕ)) SystemFault → List LinkState → List LinkState → Type 0
-Probed s port (Ok (Some frame)) old new = (item : ItemValue) × (item.octets ≡ frame) × (new ≡ put_on_port s port item old)
-Probed s port a old new = new ≡ old
-
 pub probes_half : (gives : Algorithms) (s : Side) (port : ℕ) (old new : WorldState) → HostSteps gives old (Probes s port) new
     → (a : Result (Option (List ℕ)) SystemFault) × HostPromise (gives s) (half s old).state (host.Probe port) (told.Probe a) (half s new).state
     × Probed s port a old.links new.links
-probes_half gives s port old new (a, mid, x, y) = by_answer a x y
+probes_half gives s port old new h = let b = aside gives (Probes s port) old new tt h in by_answer b.answer b.promise b.probed
   where
-    unsent : (a : Result (Option (List ℕ)) SystemFault) → HalfTells (gives s) (host.Probe port) (told.Probe a) (half s old) mid
-        → new ≡ with_half s mid old
-        → HostPromise (gives s) (half s old).state (host.Probe port) (told.Probe a) (half s new).state × (new.links ≡ old.links)
-    unsent a x y =
-        let e = y ∙ same_links s mid old in (
-          subst (HostPromise (gives s) (half s old).state (host.Probe port) (told.Probe a))
-              (sym (ap (λ (j : WorldState). (half s j).state) e ∙ state_there s mid old.links old)) x.answers,
-          ap (λ (j : WorldState). j.links) e,
-        )
-
-    by_answer : (a : Result (Option (List ℕ)) SystemFault) → HalfTells (gives s) (host.Probe port) (told.Probe a) (half s old) mid
-        → AfterProbe s port a (with_half s mid old) new → (a : Result (Option (List ℕ)) SystemFault)
+    by_answer : (a : HostReply) → HostPromise (gives s) (half s old).state (host.Probe port) a (half s new).state
+        → ProbedBy s (host.Probe port) a old.links new.links → (a : Result (Option (List ℕ)) SystemFault)
         × HostPromise (gives s) (half s old).state (host.Probe port) (told.Probe a) (half s new).state × Probed s port a old.links new.links
-    by_answer (Ok (Some frame)) x y =
-        let item = transmitted_item s port frame (half s (with_half s mid old)) in
-        let e = y ∙ sent_joint s port item mid old in (
-          Ok (Some frame),
-          subst (HostPromise (gives s) (half s old).state (host.Probe port) (told.Probe (Ok (Some frame))))
-              (sym (ap (λ (j : WorldState). (half s j).state) e ∙ state_there s mid (put_on_port s port item old.links) old)) x.answers,
-          (item, refl, ap (λ (j : WorldState). j.links) e),
-        )
-    by_answer (Ok None) x y = let r = unsent (Ok None) x y in (Ok None, r.0, r.1)
-    by_answer (Err fault) x y = let r = unsent (Err fault) x y in (Err fault, r.0, r.1)
+    by_answer (told.Probe a) p k = (a, p, k)
+    by_answer a p k = absurd p
 
 -- it leaves the cables quietly
 pub beside_quietly : (gives : ℕ → ℕ → ℕ → Type 0) (s : Side) (call : HostCall) (old new : WorldState) → IsBeside gives s call old new
@@ -351,14 +340,11 @@ module _ (gives : Algorithms) (s : Side) (setting : Setting) (old new : WorldSta
   pub sets_up : (t : Side) (p : ℕ) → OfEach (AtPort p IsUp) (half t old).state.system_ports → OfEach (AtPort p IsUp) (half t new).state.system_ports
   sets_up t p up = set_each t p IsUp (settling_leaves (AtPort p IsUp)) (λ e. up_withstands p setting) up up
 
-  sets_ports : (t : Side) → (half t new).state.ports ≡ (half t old).state.ports
-  sets_ports = each_side (λ t. (half t new).state.ports ≡ (half t old).state.ports) s
-      (ap (λ (z : SystemState). z.ports) own_set ∙ x.2.answers.ports) (ap (λ (z : SystemState). z.ports) peer_set)
-
   pub sets_place : AreTimely old → AreTimely new → (t : Side) (n : ℕ)
       → port_index n (half t new).state.system_ports ≡ port_index n (half t old).state.system_ports
   sets_place a b t n = same_index n (half t old).state.system_ports (half t new).state.system_ports
-      ((b t).0.ports.same ∙ (ap configured_numbers (sets_ports t) ∙ sym (a t).0.ports.same))
+      ((b t).0.ports.same ∙ (ap configured_numbers ((each_side (λ t. (half t new).state.ports ≡ (half t old).state.ports) s
+      (ap (λ (z : SystemState). z.ports) own_set ∙ x.2.answers.ports) (ap (λ (z : SystemState). z.ports) peer_set)) t) ∙ sym (a t).0.ports.same))
 
 -- what they change of neither system
 module _ (X : Type 0) (g : SystemState → X) where

@@ -1,10 +1,10 @@
 -- In a healthy round of hosts, an end that hears the other is told when the other is synchronized, or the other owes it an LACPDU.
-use Rattle.lagprogress.proofs.Common.{Bool, List, Some, [], arith, false, inl, inr, refl, subst, suc, sym, true, ℕ, ◌+◌, ◌-◌, ◌∷◌, ◌≡◌, ◌≤◌, ◌⊎◌}
+use Rattle.lagprogress.proofs.Common.{Bool, List, Some, [], arith, false, inl, inr, refl, subst, suc, sym, true, ℕ, ◌+◌, ◌-◌, ◌∙◌, ◌∷◌, ◌≡◌, ◌≤◌, ◌⊎◌}
 use Rattle.lagprogress.proofs.Common.{cases_Bool, AllByRecursion, Lacpdu, Side, peer, Machines, partner_synchronized, periodic_rows, receive_rows}
 use Rattle.lagprogress.proofs.Common.{AtRest, RunsToRest, after_sending, count_down, is_due, SystemPort, Carries, IsFrame, OnlyPortChangesBy}
 use Rattle.lagprogress.proofs.Common.{ProcessesLacpdu, ThenSettles, SystemState, machines_of, Reply, Algorithms, WorldSteps, side_of, ItemValue}
 use Rattle.lagprogress.proofs.Common.{WorldState, half, HostEvent, Plays, timeout_time, KeptBySettling, OfEach, Tick-each, counts, AtPort}
-use Rattle.lagprogress.proofs.Common.{LeavesPorts, Clearing, StepReplies, OfPort, AfterTicks}
+use Rattle.lagprogress.proofs.Common.{LeavesPorts, Clearing, StepReplies, IsArrivalAt, OfPort, AfterTicks}
 use Rattle.lagprogress.proofs.SeveralTicks.{TickPasses, TickStages, TicksBeside, Within, fits_at, holds_ticks, known_at, none_counted, own_counted}
 use Rattle.lagprogress.proofs.SeveralTicks.{peer_counted, side_turns, ticked_by, ticks_on}
 use Rattle.slowpdu.specs.declared.pdu.Pdu.TheVariants as pdu
@@ -12,17 +12,18 @@ use Rattle.lagsystem.specs.declared.drive.Reply.TheVariants as answer
 use Rattle.lagscript.specs.declared.event.Event.TheVariants as event
 use Rattle.lagprogress.proofs.Claims.{IsNamed, Owes, Owing, Wakeful, owes_ticks, owing_settles, wakeful_along, wakeful_ticks}
 use Rattle.lagprogress.proofs.Climbing.{PartnerInSync, known_still, ticks_partner}
-use Rattle.lagprogress.proofs.Delivering.{Heard, arrived_ports, deliver_link, deliver_moves, came_to}
-use Rattle.lagprogress.proofs.EndFacts.{Along, IsEnd, Learnt, activity, nothing_along, short_timeout, ticks_end, wait_of, learnt_along}
-use Rattle.lagprogress.proofs.HostRound.{between, KeptBeside, MadeByTick, healthy_link, learn_less, tick_one, ticks_learnt, two_other, two_there}
-use Rattle.lagprogress.proofs.HostRound.{both_kept, both_made, Counts}
-use Rattle.lagprogress.proofs.Linked.{asked_which, at_end, beside_link, emit_any, found, end_with, of_end, with_ports, EndIs, Fits, Flying, IsGood}
-use Rattle.lagprogress.proofs.Linked.{Link, each_both, each_map, each_side, end_here, gains_has, HasLacpdu, other_side, peer_twice, put_other}
-use Rattle.lagprogress.proofs.Linked.{put_there, same_flying}
-use Rattle.lagprogress.proofs.OneCable.{Arrives, cable, port_there, put, response, ticks}
+use Rattle.lagprogress.proofs.Delivering.{Heard, arrived_ports, deliver_link, came_to, arrives_moves}
+use Rattle.lagprogress.proofs.EndFacts.{Along, IsEnd, Learnt, activity, nothing_along, short_timeout, ticks_end, wait_of, learnt_along, both_along}
+use Rattle.lagprogress.proofs.HostRound.{between, KeptBeside, MadeByTick, healthy_link, learn_less, tick_one, two_other, two_there, both_kept}
+use Rattle.lagprogress.proofs.HostRound.{both_made, Counts}
+use Rattle.lagprogress.proofs.Linked.{asked_which, at_end, beside_link, end_with, of_end, with_ports, EndIs, Fits, Flying, IsGood, Link, each_both}
+use Rattle.lagprogress.proofs.Linked.{each_map, each_side, end_here, gains_has, HasLacpdu, other_side, peer_twice, put_there, same_flying, both_at}
+use Rattle.lagprogress.proofs.Linked.{has_on, other_ports, same_items}
+use Rattle.lagprogress.proofs.OneCable.{Arrives, cable, port_there, put, ticks, sent_frame}
 use Rattle.lagprogress.proofs.OneRound.{Nothing, ask_idle, ask_peer, one_of_both, at_rest, forget, join}
 use Rattle.lagprogress.proofs.Quieting.{LeavesEnds, ends_up, leaves_each, leaves_link}
-use Rattle.lagprogress.proofs.Telling.{Bears, SaysIt, Tells, arrive_peer, ask_on, deliver_on, due_on, left_by, sync_settles, tells_map}
+use Rattle.lagprogress.proofs.Telling.{Bears, SaysIt, Tells, arrive_peer, ask_on, deliver_on, due_on, left_by, sync_settles, tells_map, back_other}
+use Rattle.lagprogress.proofs.LateFlow.{IsPlain, comes_in, flows}
 
 module _ (gives : Algorithms) (d : ℕ) (at : Side → ℕ) (w : Side → Lacpdu) (s : Side) (there : 1 ≤ d)
     (named : (activity (w s) ≡ true) ⊎ IsNamed (w (peer s))) where
@@ -53,18 +54,12 @@ module _ (gives : Algorithms) (d : ℕ) (at : Side → ℕ) (w : Side → Lacpdu
   abbrev pub Woken : (Side → ℕ) → WorldState → Type 0
   Woken c j = Link d at w c s (Wakeful (w s) (w (peer s))) j
 
-  woken_between : (c : Side → ℕ) → Fits d w c → KeptBeside at gives (Woken c)
-  woken_between c fits = between gives d at w c s Wakes fits (along_wakes (c s)) (λ p y. y)
+  -- and something more holds of it
+  abbrev And : (Machines → Type 0) → Machines → Type 0
+  And Z p = Z p × Wakeful (w s) (w (peer s)) p
 
-  woken_own : (c b : Side → ℕ) → Counts d s c b → MadeByTick gives s (Woken c) (Woken b)
-  woken_own c b known n r i j numbered h l = (tick_one gives n s d at w c b s Wakes Wakes r i j numbered known
-      (along_wakes (b s)) (λ p q run rest a f y. wakeful_ticks v u p q named run y) (λ p f y. absurd (other_side s f)) h l).link
-
-  woken_other : (c b : Side → ℕ) → Counts d (peer s) c b
-      → MadeByTick gives (peer s) (Woken c) (Woken b)
-  woken_other c b known n r i j numbered h l = (tick_one gives n (peer s) d at w c b s Wakes Wakes r i j numbered known
-      (along_wakes (b s)) (λ p q run rest a f y. absurd (other_side s f))
-      (λ p f y. y) h l).link
+  along_both : (Z : Machines → Type 0) (n : ℕ) → Along Z v u n d → Along (And Z) v u n d
+  along_both Z n k = both_along Z Wakes v u n d k (along_wakes n)
 
   module _ (X : Machines → Type 0) (keeps : KeptBySettling (AtPort (at (peer s)) X)) (sends : (p : Machines) → X p → X (after_sending p))
       (takes : (p : Machines) → partner_synchronized p ≡ true → X p) where
@@ -136,25 +131,28 @@ module _ (gives : Algorithms) (d : ℕ) (at : Side → ℕ) (w : Side → Lacpdu
 
   -- an Emit event: the end of s sends an LACPDU that is due, or Z still holds of it
   ask_sends : (c : Side → ℕ) (Z : Machines → Type 0) → Fits d w c → Along Z (w s) (w (peer s)) (c s) d → (n p : ℕ) (r : Reply) (i j : WorldState)
-      → Link d at w c s Z i → Woken c i → WorldSteps gives i (event.Emit n p) r j
-      → Link d at w c s Z j ⊎ ((o : OnWay c Any j) × Flying (o.0.flying (peer s)))
-  ask_sends c Z fits along n p r i j l k h = elim (asked_which gives n p l.index at l.flying r i j l.links h) [
+      → Link d at w c s (And Z) i → WorldSteps gives i (event.Emit n p) r j
+      → Link d at w c s (And Z) j ⊎ ((o : OnWay c Any j) × Flying (o.0.flying (peer s)))
+  ask_sends c Z fits along n p r i j l h = elim (asked_which gives n p l.index at l.flying r i j l.links h) [
     | inl (t, numbered, is) ↦ asked t numbered (subst (λ q. WorldSteps gives i (event.Emit n q) r j) is h)
-    | inr b ↦ inl (beside_link gives (event.Emit n p) d at w c s Z r i j along l h b).link
+    | inr b ↦ inl (beside_link gives (event.Emit n p) d at w c s (And Z) r i j (along_both Z (c s) along) l h b).link
   ]
     where
+      woken : Woken c i
+      woken = other_ports l (λ t p rest timed a. (a.0, λ f. (a.1 f).1))
+
       asked : (t : Side) → side_of n ≡ Some t → WorldSteps gives i (event.Emit n (at t)) r j
-          → Link d at w c s Z j ⊎ ((o : OnWay c Any j) × Flying (o.0.flying (peer s)))
+          → Link d at w c s (And Z) j ⊎ ((o : OnWay c Any j) × Flying (o.0.flying (peer s)))
       asked t numbered h = elim (one_of_both s t) [
         | inl e ↦ (let own = subst (λ q. side_of n ≡ Some q) e numbered in
             let step = subst (λ q. WorldSteps gives i (event.Emit n (at q)) r j) e h in
-            let z = end_here at w d c s Z i l s in
+            let z = end_here at w d c s (And Z) i l s in
             elim (cases_Bool (is_due z.port.port)) [
-              | inl due ↦ inr (due_on gives d at w c s Any there fits any_settles (λ p y. y) (λ p y. tt) n r i j own k
+              | inl due ↦ inr (due_on gives d at w c s Any there fits any_settles (λ p y. y) (λ p y. tt) n r i j own woken
                   (at_end at w d c s i z l.steady (λ p. is_due p ≡ true) due) step)
-              | inr not ↦ inl (ask_idle gives n s d at w c Z Z r i j fits own (λ q rest timed a y f. y) l not step)
+              | inr not ↦ inl (ask_idle gives n s d at w c (And Z) (And Z) r i j fits own (λ q rest timed a y f. y) l not step)
             ])
-        | inr e ↦ inl (ask_peer gives n s d at w c Z r i j fits (subst (λ q. side_of n ≡ Some q) e numbered) along l
+        | inr e ↦ inl (ask_peer gives n s d at w c (And Z) r i j fits (subst (λ q. side_of n ≡ Some q) e numbered) (along_both Z (c s) along) l
             (subst (λ q. WorldSteps gives i (event.Emit n (at q)) r j) e h))
       ]
 
@@ -200,40 +198,71 @@ module _ (gives : Algorithms) (d : ℕ) (at : Side → ℕ) (w : Side → Lacpdu
               x.hears c i j l k v1 carries (x.first (Plays (event.Deliver cn n)) r i j tt h da) da,
             )
 
-    -- A Deliver event: an LACPDU still flies, or the peer has heard one, and is told.
-    abbrev HasHeard : (Side → ℕ) → WorldState → Type 0
-    HasHeard c j = (((o : OnWay c Any j) × Flying (o.0.flying (peer s))) × D j) ⊎ ((Heard d at w (peer s) j × OnWay c PartnerInSync j) × E j)
+    -- an LACPDU of the end is on the cable
+    abbrev pub Sent : (Side → ℕ) → WorldState → Type 0
+    Sent c j = ((o : OnWay c Any j) × Flying (o.0.flying (peer s))) × D j
 
-    hears_on : (c : Side → ℕ) → Fits d w c → (cn n : ℕ) (r : Reply) (i j : WorldState) → WorldSteps gives i (event.Deliver cn n) r j
-        → (o : OnWay c Any i) → Flying (o.0.flying (peer s)) → D i → HasHeard c j
-    hears_on c fits cn n r i j h (l, m) f da =
-        let e = deliver_moves gives cn n d at w c s Wakes r i j fits (along_wakes (c s)) l h in
-        let after : OnWay c Any j = deliver_on gives d at w c s Any there fits any_settles (λ p y. y) (λ p y. tt) cn n r i j h (l, m) in
-        let flies : Flying (e.0.link.flying (peer s)) → HasHeard c j =
-        λ g. inl ((after, subst Flying (sym (same_flying e.0.link after.0 (peer s))) g), db) in
-        elim e.1 [
-          | inl (q, k, same) ↦ each_side (λ t. (k : Arrives gives t at l.flying i j) → e.0.link.flying ≡ k.now → HasHeard c j) s
-              (λ k same. flies (subst (λ (g : Side → List ItemValue). Flying (g (peer s))) (sym same)
-              (gains_has s HasLacpdu (response k.a) (put s k.rest l.flying) k.now k.back (peer s)
-              (subst Flying (sym (put_other s k.rest l.flying)) f))))
-              (λ k same. came e.0.link flies k same) q k same
-          | inr b ↦ flies (subst (λ (g : Side → List ItemValue). Flying (g (peer s))) (sym b.1) f)
+    any_between : (c : Side → ℕ) → Fits d w c → KeptBeside at gives (OnWay c Any)
+    any_between c fits = on_between Any any_settles (λ p y. y) (λ p y. tt) c fits
+
+    -- the first item came: it is no LACPDU, or was heard
+    pub first_came : (c : Side → ℕ) → Fits d w c → (e : HostEvent) (r : Reply) (i j : WorldState) (o : OnWay c Any i) → IsArrivalAt (peer s) o.0.index e
+        → StepReplies gives i e r j → D i → (o.0.flying (peer s) ≡ [])
+        ⊎ (((item : ItemValue) × (rest : List ItemValue) × IsPlain item × (o.0.flying (peer s) ≡ item ∷ rest)
+        × ((after : OnWay c Any j) × (after.0.flying (peer s) ≡ rest)))
+        ⊎ ((Heard d at w (peer s) j × OnWay c PartnerInSync j) × E j))
+    first_came c fits e r i j o (number, numbered, is) h da =
+        elim (comes_in gives number o.0.index (peer s) at o.0.flying r i j numbered o.0.links step) [ inl y ↦ inl y.0 | inr k ↦ inr (came k) ]
+      where
+        step : WorldSteps gives i (event.Deliver (suc o.0.index) number) r j
+        step = subst (λ y. StepReplies gives i y r j) is h
+
+        came : (k : Arrives gives (peer s) at o.0.flying i j)
+            → ((item : ItemValue) × (rest : List ItemValue) × IsPlain item × (o.0.flying (peer s) ≡ item ∷ rest)
+            × ((after : OnWay c Any j) × (after.0.flying (peer s) ≡ rest))) ⊎ ((Heard d at w (peer s) j × OnWay c PartnerInSync j) × E j)
+        came k =
+            let m = arrives_moves gives (suc o.0.index) number (peer s) d at w c s Wakes r i j fits (along_wakes (c s)) o.0 step k in
+            elim (peer_hears c fits (suc o.0.index) number r i j step o da m.0 k m.1) [
+              | inl none ↦ (let after = any_between c fits (Plays (event.Deliver (suc o.0.index) number)) r i j tt step o in
+                  inl (
+                    k.item,
+                    k.rest,
+                    none,
+                    k.first,
+                    (
+                      after,
+                      same_items k.index after.0.index at k.now after.0.flying j k.links after.0.links (peer s)
+                          ∙ (back_other (peer s) k.a (put (peer s) k.rest o.0.flying) k.now k.back ∙ put_there (peer s) k.rest o.0.flying),
+                    ),
+                  ))
+              | inr y ↦ inr y
+            ]
+
+    -- an LACPDU still flies, or the peer has heard one, and is told
+    sent_between : (c : Side → ℕ) → Fits d w c → (e : HostEvent) (r : Reply) (i j : WorldState) → LeavesPorts at e → StepReplies gives i e r j → Sent c i
+        → Sent c j ⊎ ((Heard d at w (peer s) j × OnWay c PartnerInSync j) × E j)
+    sent_between c fits e r i j b h ((o, f), da) =
+        let g = flows gives (peer s) o.0.index at o.0.flying r i j o.0.links e b h in
+        let after = any_between c fits e r i j b h o in
+        let flies : Flying (g.now (peer s)) → Sent c j =
+        λ y. ((after, subst Flying (sym (same_items g.index after.0.index at g.now after.0.flying j g.on after.0.links (peer s))) y), db) in
+        elim g.moves [
+          | inl same ↦ inl (flies (subst Flying (sym same) f))
+          | inr (inl (item, none, y)) ↦ inl (flies (subst Flying (sym y) (has_on HasLacpdu (o.0.flying (peer s)) (item ∷ []) f)))
+          | inr (inr (inl (item, come, y))) ↦ elim (first_came c fits e r i j o come h da) [
+            | inl none ↦ absurd (subst Flying none f)
+            | inr (inl (it, rest, plain, z, (now, same))) ↦ elim (subst Flying z f) [
+              | inl q ↦ absurd (plain q)
+              | inr q ↦ inl ((now, subst Flying (sym same) q), db)
+            ]
+            | inr (inr heard) ↦ inr heard
+          ]
+          | inr (inr (inr (k, is))) ↦ inl (flies (subst (λ (y : Side → List ItemValue). Flying (y (peer s))) (sym is)
+              (gains_has (peer (peer s)) HasLacpdu (sent_frame k.a) o.0.flying k.now k.went (peer s) f)))
         ]
       where
         db : D j
-        db = x.first (Plays (event.Deliver cn n)) r i j tt h da
-
-        came : (now : Link d at w c s Wakes j) → (Flying (now.flying (peer s)) → HasHeard c j) → (k : Arrives gives (peer s) at l.flying i j)
-            → now.flying ≡ k.now → HasHeard c j
-        came now flies k same = elim (peer_hears c fits cn n r i j h (l, m) da now k same) [
-          | inl none ↦ elim (subst Flying k.first f) [
-            | inl q ↦ absurd (none q)
-            | inr g ↦ flies (subst (λ (y : Side → List ItemValue). Flying (y (peer s))) (sym same)
-                (gains_has (peer s) HasLacpdu (response k.a) (put (peer s) k.rest l.flying) k.now k.back (peer s)
-                (subst Flying (sym (put_there (peer s) k.rest l.flying)) g)))
-          ]
-          | inr heard ↦ inr heard
-        ]
+        db = x.first e r i j b h da
 
     -- the stages of a round
 
@@ -243,10 +272,7 @@ module _ (gives : Algorithms) (d : ℕ) (at : Side → ℕ) (w : Side → Lacpdu
 
     -- Z holds of the end of s; or an LACPDU of it is on the cable; or that holds
     abbrev pub Turn : (Side → ℕ) → ℕ → (Machines → Type 0) → WorldState → Type 0
-    Turn c most Z j = ((Link d at w c s Z j × Woken c j) × D j) ⊎ ((((o : OnWay c Any j) × Flying (o.0.flying (peer s))) × D j) ⊎ HasTold c most j)
-
-    any_between : (c : Side → ℕ) → Fits d w c → KeptBeside at gives (OnWay c Any)
-    any_between c fits = on_between Any any_settles (λ p y. y) (λ p y. tt) c fits
+    Turn c most Z j = (Link d at w c s (And Z) j × D j) ⊎ (Sent c j ⊎ HasTold c most j)
 
     sync_between : (c : Side → ℕ) → Fits d w c → KeptBeside at gives (OnWay c PartnerInSync)
     sync_between c fits = on_between PartnerInSync (sync_settles (at (peer s))) (λ p y. y) (λ p y. y) c fits
@@ -257,58 +283,27 @@ module _ (gives : Algorithms) (d : ℕ) (at : Side → ℕ) (w : Side → Lacpdu
 
     turn_between : (c : Side → ℕ) (most : ℕ) (Z : Machines → Type 0) → most ≤ wait_of (w (peer s)) → Fits d w c
         → Along Z (w s) (w (peer s)) (c s) d → KeptBeside at gives (Turn c most Z)
-    turn_between c most Z less fits along = each
-      where
-        asked : (n p : ℕ) (r : Reply) (i j : WorldState) → WorldSteps gives i (event.Emit n p) r j → Turn c most Z i → Turn c most Z j
-        asked n p r i j h (inl ((l, o), da)) =
-            let db = x.first (Plays (event.Emit n p)) r i j tt h da in
-            elim (ask_sends c Z fits along n p r i j l o h) [
-              | inl k ↦ inl ((k, woken_between c fits (Plays (event.Emit n p)) r i j tt h o), db)
-              | inr k ↦ inr (inl (k, db))
-            ]
-        asked n p r i j h (inr (inl ((o, f), da))) =
-            let db = x.first (Plays (event.Emit n p)) r i j tt h da in
-            let after = any_between c fits (Plays (event.Emit n p)) r i j tt h o in
-            let e = emit_any gives n p d at w c s Wakes r i j fits (along_wakes (c s)) (λ q y. y) o.0 h in
-            inr (inl ((after, subst Flying (sym (same_flying e.link after.0 (peer s))) (e.flying (peer s) f)), db))
-        asked n p r i j h (inr (inr m)) = inr (inr (told_between c most less fits (Plays (event.Emit n p)) r i j tt h m))
-
-        came : (cn n : ℕ) (r : Reply) (i j : WorldState) → WorldSteps gives i (event.Deliver cn n) r j → Turn c most Z i → Turn c most Z j
-        came cn n r i j h (inl ((l, o), da)) =
-            inl (
-              ((deliver_link gives cn n d at w c s Z r i j fits along l h).link, woken_between c fits (Plays (event.Deliver cn n)) r i j tt h o),
-              x.first (Plays (event.Deliver cn n)) r i j tt h da,
-            )
-        came cn n r i j h (inr (inl ((o, f), da))) = elim (hears_on c fits cn n r i j h o f da) [
-          | inl k ↦ inr (inl k)
-          | inr k ↦ inr (inr (
-            (
-              learn_less gives s d at w c (wait_of (w (peer s))) most j less
-                  (join d at w c s (peer s) (Learnt d (w (peer (peer s))) (wait_of (w (peer s)))) j
-                  (forget d at w c s s Wakes j k.0.1.0) k.0.0),
-              k.0.1,
-            ),
-            k.1,
-          ))
-        ]
-        came cn n r i j h (inr (inr m)) = inr (inr (told_between c most less fits (Plays (event.Deliver cn n)) r i j tt h m))
-
-        quiet : (e : HostEvent) (r : Reply) (i j : WorldState) → LeavesEnds at e → LeavesPorts at e → StepReplies gives i e r j → Turn c most Z i → Turn c most Z j
-        quiet e r i j b t h (inl ((l, o), da)) =
-            inl (((leaves_link gives e d at w c s Z r i j b h along l).link, woken_between c fits e r i j t h o), x.first e r i j t h da)
-        quiet e r i j b t h (inr (inl ((o, f), da))) =
-            let after = any_between c fits e r i j t h o in
-            let k = leaves_link gives e d at w c s Wakes r i j b h (along_wakes (c s)) o.0 in
-            inr (inl (
-              (after, subst Flying (sym (same_flying k.link after.0 (peer s))) (k.flying (peer s) f)),
-              x.first e r i j t h da,
-            ))
-        quiet e r i j b t h (inr (inr m)) = inr (inr (told_between c most less fits e r i j t h m))
-
-        each : KeptBeside at gives (Turn c most Z)
-        each (Plays (event.Emit n p)) r i j b h m = asked n p r i j h m
-        each (Plays (event.Deliver cn n)) r i j b h m = came cn n r i j h m
-        each e r i j b h m = quiet e r i j b b h m
+    turn_between c most Z less fits along (Plays (event.Emit n p)) r i j b h (inl (l, da)) =
+        let db = x.first (Plays (event.Emit n p)) r i j b h da in
+        elim (ask_sends c Z fits along n p r i j l h) [ inl k ↦ inl (k, db) | inr k ↦ inr (inl (k, db)) ]
+    turn_between c most Z less fits along (Plays (event.Deliver cn n)) r i j b h (inl (l, da)) = inl (
+      (deliver_link gives cn n d at w c s (And Z) r i j fits (along_both Z (c s) along) l h).link,
+      x.first (Plays (event.Deliver cn n)) r i j b h da,
+    )
+    turn_between c most Z less fits along e r i j b h (inl (l, da)) =
+        inl ((leaves_link gives e d at w c s (And Z) r i j b h (along_both Z (c s) along) l).link, x.first e r i j b h da)
+    turn_between c most Z less fits along e r i j b h (inr (inl y)) = elim (sent_between c fits e r i j b h y) [
+      | inl k ↦ inr (inl k)
+      | inr k ↦ inr (inr (
+        (
+          learn_less gives s d at w c (wait_of (w (peer s))) most j less
+              (join d at w c s (peer s) (Learnt d (w (peer (peer s))) (wait_of (w (peer s)))) j (forget d at w c s s Wakes j k.0.1.0) k.0.0),
+          k.0.1,
+        ),
+        k.1,
+      ))
+    ]
+    turn_between c most Z less fits along e r i j b h (inr (inr m)) = inr (inr (told_between c most less fits e r i j b h m))
 
     bare : (c : Side → ℕ) (i : WorldState) (o : OnWay c Any i) → Flying (o.0.flying (peer s)) → Flying ((forget d at w c s s Wakes i o.0).flying (peer s))
     bare c i o f =
@@ -332,7 +327,8 @@ module _ (gives : Algorithms) (d : ℕ) (at : Side → ℕ) (w : Side → Lacpdu
           (
             (tick_one gives n (peer s) d at w c b (peer s) (Learnt d q most) (Learnt d q (most - 1)) r i j numbered known
                 (learnt_along (w (peer s)) q (b (peer s)) d (most - 1) (omega (arith, less)) there (fits (peer s)).3)
-                (λ p z run rest a f y. ticks_learnt d q most p z some run y) (λ p f y. absurd (other_side (peer s) f)) h l).link,
+                (λ p z run rest a f y. (subst (Learnt d q (most - 1)) (sym (known_still q (most - 1) (count_down p) z (omega (arith, some))
+                (counts q most 0 p y.0) run)) (counts q most 0 p y.0, y.1))) (λ p f y. absurd (other_side (peer s) f)) h l).link,
             on_other PartnerInSync (sync_settles (at (peer s))) (λ p y. y) (λ p y. y) c b known n r i j numbered h
                 (λ y. Tick-each (λ m p. AtPort (at (peer s)) (Learnt d q most) m p × AtPort (at (peer s)) PartnerInSync m p)
                 (AtPort (at (peer s)) PartnerInSync) (sync_settles (at (peer s)))
@@ -349,12 +345,9 @@ module _ (gives : Algorithms) (d : ℕ) (at : Side → ℕ) (w : Side → Lacpdu
         → most ≤ wait_of (w (peer s)) → Fits d w b → Along V (w s) (w (peer s)) (b s) d
         → ((p q : Machines) → RunsToRest receive_rows (count_down p) q → AtRest periodic_rows p → IsEnd d (w s) (w (peer s)) (c s) p → X p → V q)
         → MadeByTick gives s (Turn c most X) (Turn b most V)
-    turn_own c b most X V known less fits along moves n r i j numbered h (inl ((l, o), da)) = inl (
-      (
-        (tick_one gives n s d at w c b s X V r i j numbered known along (λ p q run rest a f y. moves p q run rest a y)
-            (λ p f y. absurd (other_side s f)) h l).link,
-        woken_own c b known n r i j numbered h o,
-      ),
+    turn_own c b most X V known less fits along moves n r i j numbered h (inl (l, da)) = inl (
+      (tick_one gives n s d at w c b s (And X) (And V) r i j numbered known (along_both V (b s) along)
+          (λ p q run rest a f y. (moves p q run rest a y.0, wakeful_ticks v u p q named run y.1)) (λ p f y. absurd (other_side s f)) h l).link,
       x.ticks_first s n r i j numbered h da,
     )
     turn_own c b most X V known less fits along moves n r i j numbered h (inr (inl ((o, f), da))) =
@@ -383,12 +376,9 @@ module _ (gives : Algorithms) (d : ℕ) (at : Side → ℕ) (w : Side → Lacpdu
             (λ y. all_any (at (peer s)) (half (peer s) j).state.system_ports) o
 
         by_case : Turn c most Y i → Turn b (most - 1) Y j
-        by_case (inl ((l, o), da)) = inl (
-          (
-            (tick_one gives n (peer s) d at w c b s Y Y r i j numbered known along
-                (λ p q run rest a f y. absurd (other_side s f)) (λ p f y. y) h l).link,
-            woken_other c b known n r i j numbered h o,
-          ),
+        by_case (inl (l, da)) = inl (
+          (tick_one gives n (peer s) d at w c b s (And Y) (And Y) r i j numbered known (along_both Y (b s) along)
+              (λ p q run rest a f y. absurd (other_side s f)) (λ p f y. y) h l).link,
           x.ticks_first (peer s) n r i j numbered h da,
         )
         by_case (inr (inl ((o, f), da))) =
@@ -449,11 +439,8 @@ module _ (gives : Algorithms) (d : ℕ) (at : Side → ℕ) (w : Side → Lacpdu
             (omega arith) (fit_at (suc a) b l) (along_at (V (suc a)) (suc a) b (k.ticked (suc a) l.0))
             (λ p q run rest e z. k.ticks a l.0 p q run rest (end_at a b p e) z) m r i j numbered h y) [
               | inl z ↦ inl (
-                (
-                  at_rest d at w (kn (suc a) b) s (V (suc a)) (X (suc a)) j
-                      (λ p rest timed e x. k.rests (suc a) l.0 p rest timed (end_at (suc a) b p e) x) z.0.0,
-                  z.0.1,
-                ),
+                at_rest d at w (kn (suc a) b) s (And (V (suc a))) (And (X (suc a))) j
+                    (λ p rest timed e y. (k.rests (suc a) l.0 p rest timed (end_at (suc a) b p e) y.0, y.1)) z.0,
                 z.1,
               )
               | inr z ↦ inr z
@@ -467,22 +454,19 @@ module _ (gives : Algorithms) (d : ℕ) (at : Side → ℕ) (w : Side → Lacpdu
 
         rests : (b : ℕ) → b ≤ n → (j : WorldState) → NoneDue j → A n b j → C b j
         rests b few j none (inr z) = inr z
-        rests b few j none (inl ((l, o), da)) =
+        rests b few j none (inl (l, da)) =
             let cc : Side → ℕ = kn n b in
-            let e = end_here at w d cc s (X n) j l s in
+            let e = end_here at w d cc s (And (X n)) j l s in
             let not : is_due e.port.port ≡ false = subst (OfPort (λ p. is_due p ≡ false)) e.found none in
-            let now = of_end l s (λ p. is_due p ≡ false → EndIs d w cc s Z s p) (λ p rest timed a free. (
+            let now = of_end l s (λ p. is_due p ≡ false → EndIs d w cc s (And Z) s p) (λ p rest timed a free. (
               a.0,
-              λ f. k.asks p rest timed (end_at n b p a.0) (a.1 refl) free,
+              λ f. (k.asks p rest timed (end_at n b p a.0) (a.1 refl).0 free, (a.1 refl).1),
             )) in
             inl (
-              (
-                with_ports l (each_side (λ t. OfEach (AtPort (at t) (EndIs d w cc s Z t)) (half t j).state.system_ports) s
-                    (at_end at w d cc s j e l.steady (EndIs d w cc s Z s)
-                    (end_with at w d cc s j e (λ p. is_due p ≡ false → EndIs d w cc s Z s p) now not))
-                    (of_end l (peer s) (EndIs d w cc s Z (peer s)) (λ p rest timed a. (a.0, λ g. absurd (other_side s g))))),
-                o,
-              ),
+              with_ports l (each_side (λ t. OfEach (AtPort (at t) (EndIs d w cc s (And Z) t)) (half t j).state.system_ports) s
+                  (at_end at w d cc s j e l.steady (EndIs d w cc s (And Z) s)
+                  (end_with at w d cc s j e (λ p. is_due p ≡ false → EndIs d w cc s (And Z) s p) now not))
+                  (of_end l (peer s) (EndIs d w cc s (And Z) (peer s)) (λ p rest timed a. (a.0, λ g. absurd (other_side s g))))),
               da,
             )
 
@@ -503,13 +487,10 @@ module _ (gives : Algorithms) (d : ℕ) (at : Side → ℕ) (w : Side → Lacpdu
         turns old new l wakes h da =
             let asked = subst (λ q. AfterTicks s (λ j. OfPort (λ p. is_due p ≡ false) (machines_of q (half s j).state)) n gives h.events h.replies old new
             h.acts) (port_there s at l.flying) (h.asked s l.index (cable at l.flying) (healthy_link d at w c s (X 0) old l)) in
-            let start : A 0 0 old = inl (
-              (
-                none_counted d at w c s s (X 0) old l,
-                none_counted d at w c s s Wakes old (join d at w c s s Wakes old (forget d at w c s s (X 0) old l) wakes),
-              ),
-              da,
-            ) in
+            let both = both_at (at s) (X 0) Wakes (And (X 0)) (λ p a b. (a, b)) (half s old).state.system_ports
+            (of_end l s (X 0) (λ p rest timed a. a.1 refl)) wakes in
+            let start : A 0 0 old =
+            inl (none_counted d at w c s s (And (X 0)) old (join d at w c s s (And (X 0)) old (forget d at w c s s (X 0) old l) both), da) in
             ticks_on (LeavesPorts at) gives n s A C NoneDue stages h.events h.replies old new 0 0 n (omega arith) (side_turns at n s h.events h.turns) h.acts
             asked start
 

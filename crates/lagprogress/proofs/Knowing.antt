@@ -1,8 +1,8 @@
 -- How the ends of a cable come to know each other.
 use Rattle.lagprogress.proofs.Common.{Bool, arith, false, inl, inr, refl, subst, suc, sym, true, zero, ℕ, ◌+◌, ◌-◌, ◌∙◌, ◌≡◌, ◌≤◌, ◌⊎◌, cases_Bool}
 use Rattle.lagprogress.proofs.Common.{nat_tests, Lacpdu, One, Side, Two, peer, Machines, periodic_rows, AtRest, Algorithms, LinkState, WorldState}
-use Rattle.lagprogress.proofs.Common.{half, port_at, IsTimed, timeout_time, OfEach, no, AtPort, Sounds, silence_of, sounds_first, BothAreActive}
-use Rattle.lagprogress.proofs.Common.{EndsOfEachKnow, OneIsActive, LateRounds, OldArrive, EndKnows, Knows, known_if_both_active, known_if_one_is}
+use Rattle.lagprogress.proofs.Common.{half, port_at, IsTimed, timeout_time, OfEach, no, AtPort, Sounds, silence_of, sounds_first, LateRounds}
+use Rattle.lagprogress.proofs.Common.{OldArrive, EndKnows, Knows}
 use Rattle.lagprogress.proofs.Claims.{IsNamed, Wakeful, can_wake}
 use Rattle.lagprogress.proofs.EndFacts.{CanSound, IsEnd, Learnt, activity, calm, less_known, short_timeout, wait_of, Along}
 use Rattle.lagprogress.proofs.HostRound.{two, two_other, two_there}
@@ -13,11 +13,9 @@ use Rattle.lagprogress.proofs.Quieting.{AllBeside, PlayedBeside, all_beside}
 use Rattle.lagprogress.proofs.Telling.{Wakes}
 use Rattle.lagprogress.proofs.Climbing.{PartnerInSync}
 use Rattle.lagprogress.proofs.LateHearing.{Ahead, AheadIn, Flies, Hears, Said, Whoever, ticks_bring, ticks_near, ticks_pass, ticks_stamp, ticks_take}
-use Rattle.lagprogress.proofs.LateHearing.{ticks_tell}
+use Rattle.lagprogress.proofs.LateHearing.{ticks_tell, counts_of, first_late, kept_of}
 use Rattle.lagprogress.proofs.SeveralTicks.{TicksBeside, Turned, no_less, once, once_passes, ticked_by, ticks_keep}
-use Rattle.lagprogress.proofs.LateStart.{counts_of, first_late, kept_of}
 use Rattle.lagprogress.proofs.Stamps.{Stamped, Took}
-use Rattle.lagprogress.proofs.Starting.{Ends, active_at, end_of, named_at, said_by, starts}
 
 pub two_less : (s : Side) (c : Side → ℕ) (a b : ℕ) → a ≤ c s → b ≤ c (peer s) → (u : Side) → two s a b u ≤ c u
 two_less s c a b l m u = grind (arith, nat_tests)
@@ -429,12 +427,6 @@ module _ (at : Side → ℕ) (w : Side → Lacpdu) (counts : Side → ℕ) (kept
     abbrev Lasts : ℕ → WorldState → Type 0
     Lasts n j = GoingIn 1 11 311 1 311 n j
 
-    lasts : ((t : Side) → IsNamed (w t)) → (n : ℕ) (old new : WorldState) → ((s : Side) → activity (w s) ≡ true)
-        → ((s : Side) → mode at w s ≡ false) → Round old new → Lasts n old → Lasts (n + 1) new
-    lasts named n old new active long h g = goes_in named 1 11 1 leaves_once (omega arith) (omega arith) (omega arith) 311 1 311 n old new g
-        (omega arith) (fits_first at w g.known g.fits) (fits_ticked at w g.known g.fits) (λ s a l. (inl (active s), λ i. absurd (no (sym (long s) ∙ i))))
-        (once h)
-
     lasts_first : (j : WorldState) → ((s : Side) → activity (w s) ≡ true) → ((s : Side) → mode at w s ≡ false)
         → Link 1 at w (λ _. 0) One Nothing j → Rest j → Lasts 1 j
     lasts_first j active long l rest = record {
@@ -723,7 +715,9 @@ module _ (at : Side → ℕ) (w : Side → Lacpdu) (counts : Side → ℕ) (kept
 
       meets_long : ((s : Side) → activity (w s) ≡ true) → ((s : Side) → mode at w s ≡ false) → 323 ≤ n → Early 0 new
       meets_long active long enough = settled 1 11 311 1 311 n 12 0 new (omega arith) (omega (arith, enough)) (along (λ m j. Lasts m j) old
-          (λ j r. let f = first j r in lasts_first j active long f.0 f.1) (λ m i j r c. lasts named m i j active long r c) n new
+          (λ j r. let f = first j r in lasts_first j active long f.0 f.1) (λ m i j r c.
+          (goes_in named 1 11 1 leaves_once (omega arith) (omega arith) (omega arith) 311 1 311 m i j c (omega arith) (fits_first at w c.known c.fits)
+          (fits_ticked at w c.known c.fits) (λ s a l. (inl (active s), λ i1. absurd (no (sym (long s) ∙ i1)))) (once r))) n new
           (omega (arith, enough)) h)
 
       pub both_meet : ((s : Side) → activity (w s) ≡ true) → 323 ≤ n → Early 0 new
@@ -773,17 +767,3 @@ module _ (gives : Algorithms) (at : Side → ℕ) (w : Side → Lacpdu) (named :
   pub late_one_meets : (s : Side) → activity (w s) ≡ true → 624 ≤ n → Fresh at w old new
   late_one_meets = one_meets at w (counts_of at old) (kept_of at old) gives named n old new (λ j r. first_late gives at w old j l r)
       (all_beside at OldArrive gives n old new h)
-
-pub active_ends_know : (gives : Algorithms) → EndsOfEachKnow LateRounds BothAreActive known_if_both_active gives
-active_ends_know gives n i l old new cabling steady healthy active enough rounds =
-    let e : Ends l old = λ s. end_of (λ p. p.enabled ≡ true) (port_at s l) (half s old).state (healthy.up s) in
-    let w = said_by l old e in
-    late_fresh_knows l w old new (late_active_meet gives (λ s. port_at s l) w (named_at l old e steady) n old new
-    (starts i l old e steady cabling healthy) rounds (λ s. active_at l old e s (active s)) enough)
-
-pub ends_know : (gives : Algorithms) → EndsOfEachKnow LateRounds OneIsActive known_if_one_is gives
-ends_know gives n i l old new cabling steady healthy (a, active) enough rounds =
-    let e : Ends l old = λ s. end_of (λ p. p.enabled ≡ true) (port_at s l) (half s old).state (healthy.up s) in
-    let w = said_by l old e in
-    late_fresh_knows l w old new (late_one_meets gives (λ s. port_at s l) w (named_at l old e steady) n old new
-    (starts i l old e steady cabling healthy) rounds a (active_at l old e a active) enough)

@@ -1,19 +1,317 @@
 -- What a late round leaves of a cable: an LACPDU of an end is nearer, on the cable in the end, or was heard.
-use Rattle.lagprogress.proofs.Common.{Bool, List, arith, inl, inr, refl, subst, sym, true, ℕ, ◌+◌, ◌-◌, ◌≡◌, ◌≤◌, ◌⊎◌, Lacpdu, One, Side, peer}
-use Rattle.lagprogress.proofs.Common.{Machines, Algorithms, ItemValue, WorldState, half, OfEach, AtPort, Sounds, Clearing, OldArrive}
-use Rattle.lagprogress.proofs.Claims.{IsNamed, Owes, Wakeful}
-use Rattle.lagprogress.proofs.Climbing.{PartnerInSync}
-use Rattle.lagprogress.proofs.EndFacts.{CanSound, Learnt, activity, wait_of}
-use Rattle.lagprogress.proofs.SeveralTicks.{TickPasses, TicksBeside, all_counted, keeps_ticks, known_at, no_less, none_counted, sounds_by_ticks}
-use Rattle.lagprogress.proofs.SeveralTicks.{ticked_by}
-use Rattle.lagprogress.proofs.HostStamps.{Took-it, stamped_between, stamped_tick, took_between, took_now, took_tick}
-use Rattle.lagprogress.proofs.HostTelling.{Extra, HasTold, OnWay, stays_on, turns}
-use Rattle.lagprogress.proofs.LateArriving.{late_heard}
-use Rattle.lagprogress.proofs.Linked.{Fits, Flying, Link, of_end, same_items}
-use Rattle.lagprogress.proofs.OneCable.{OnCable}
-use Rattle.lagprogress.proofs.OneRound.{Later, Nothing, beside_here, join}
-use Rattle.lagprogress.proofs.Stamps.{Stamped, Took}
+use Rattle.lagprogress.proofs.Common.{Bool, List, Some, [], ap, arith, inl, inr, is_some, length, map, refl, subst, suc, sym, true, zero, ℕ, ◌++◌}
+use Rattle.lagprogress.proofs.Common.{◌+◌, ◌-◌, ◌∙◌, ◌∷◌, ◌≡◌, ◌≤◌, ◌⊎◌, AllByRecursion, Lacpdu, One, Side, peer, Machines, periodic_rows}
+use Rattle.lagprogress.proofs.Common.{receive_rows, AtRest, RunsToRest, after_sending, count_down, Reply, Algorithms, WorldSteps, side_of, link_ends}
+use Rattle.lagprogress.proofs.Common.{ItemValue, WorldState, change_count_in, half, history_at, HostEvent, KeptBySettling, OfEach, AtPort, Sounds}
+use Rattle.lagprogress.proofs.Common.{Clearing, StepReplies, ArriveIn, IsArrivalAt, OldArrive, IsHealthyAt}
+use Rattle.lagprogress.proofs.EndFacts.{Along, IsEnd, Suits, Synced, nothing_along, activity, wait_of, CanSound, Learnt}
+use Rattle.lagprogress.proofs.HostRound.{KeptBeside, MadeByTick, between, healthy_link, two_there, learn_less}
+use Rattle.lagprogress.proofs.SeveralTicks.{TicksBeside, Within, all_counted, fits_at, known_at, no_less, none_counted, once, own_at, peer_at}
+use Rattle.lagprogress.proofs.SeveralTicks.{side_turns, ticks_keep, own_counted, peer_counted, ticked_by, TickPasses, keeps_ticks, sounds_by_ticks}
+use Rattle.lagprogress.proofs.Stamps.{stamped_between, stamped_tick, Stamped, Took-it, took_between, took_now, took_tick, Took}
+use Rattle.lagprogress.proofs.LateFlow.{Adds, Past, cleared_on, gain_at, FlyingIn, IsPlain, between_at, counted_on, flows, flying_first, flying_flows}
+use Rattle.lagprogress.proofs.LateFlow.{flying_pop, stays_there}
+use Rattle.lagprogress.proofs.Linked.{Fits, IsGood, Link, of_end, other_ports, peer_twice, push_there, told_good, same_items, Flying}
+use Rattle.lagprogress.proofs.OneCable.{Asks, IsStamped, OnCable, cable, sent_frame, towards_there, ticks}
+use Rattle.lagprogress.proofs.OneRound.{Nothing, ticked, forget, join, Later, beside_here}
+use Rattle.lagprogress.proofs.Quieting.{PlayedBeside}
+use Rattle.lagprogress.proofs.Lasting.{raised}
+use Rattle.lagprogress.proofs.Claims.{IsNamed, Wakeful, Owes}
+use Rattle.lagprogress.proofs.EachRound.{joins_kept, joins_tick}
+use Rattle.lagprogress.proofs.HostTelling.{Any, Extra, HasTold, OnWay, all_any, any_settles, on_between, on_other, on_own, told_between, told_next}
+use Rattle.lagprogress.proofs.HostTelling.{told_own, stays_on, turns, first_came}
 use Rattle.lagprogress.proofs.Telling.{Tells, Wakes}
+use Rattle.lagprogress.proofs.Climbing.{PartnerInSync}
+use Rattle.lagscript.specs.declared.event.Event.TheVariants as event
+
+-- What is known of the items on a cable after a late round: all of them were sent in it.
+
+-- as many arrive as were on the cable
+arriving : (gives : Algorithms) (at : Side → ℕ) (x : ℕ) (fl : Side → List ItemValue) (old new : WorldState) → IsHealthyAt x (cable at fl) old
+    → (h : TicksBeside 1 at OldArrive gives old new) → (t : Side) → ArriveIn (length (fl t)) t x h.events
+arriving gives at x fl old new healthy h t =
+    subst (λ xs. ArriveIn (length xs) t x h.events) (towards_there t at fl) (h.empties t x (cable at fl) healthy)
+
+-- what is on the cable towards the end of t in the end is good, since its peer sent it
+module _ (gives : Algorithms) (d e : ℕ) (at : Side → ℕ) (w : Side → Lacpdu) (c : Side → ℕ) (t : Side) (Y : Machines → Type 0) (fits : Fits d w c)
+    (then : Fits d w (ticked c)) (first : Along Y (w (peer t)) (w (peer (peer t))) (c (peer t)) d)
+    (last : Along Y (w (peer t)) (w (peer (peer t))) (ticked c (peer t)) d)
+    (moves : (p q : Machines) → RunsToRest receive_rows (count_down p) q → AtRest periodic_rows p
+    → IsEnd d (w (peer t)) (w (peer (peer t))) (c (peer t)) p → Y p → Y q)
+    (sends : (p : Machines) → Y p → Y (after_sending p)) (synced : (p : Machines) → Y p → 2 ≤ e → Synced p) (some : 2 ≤ e → 1 ≤ c (peer t) - 1) where
+  abbrev M : ℕ → ℕ → WorldState → Type 0
+  M a b j = Link d at w (known_at c (peer t) a b) (peer t) Y j
+
+  along : (a : ℕ) → a ≤ 1 → Along Y (w (peer t)) (w (peer (peer t))) (c (peer t) - a) d
+  along zero l = subst (λ n. Along Y (w (peer t)) (w (peer (peer t))) n d) (sym (no_less (c (peer t)))) first
+  along (suc zero) l = last
+  along (suc (suc a)) l = absurd (omega (arith, l))
+
+  here : (a b : ℕ) → known_at c (peer t) a b (peer t) ≡ c (peer t) - a
+  here a b = two_there (peer t) (c (peer t) - a) (c (peer (peer t)) - b)
+
+  known : (a b : ℕ) → Within 1 a b → 2 ≤ e → 1 ≤ known_at c (peer t) a b (peer t)
+  known a b l f = subst (λ n. 1 ≤ n) (sym (here a b)) (let k = some f in let m = l.0 in omega (arith, k, m))
+
+  sent : (a b : ℕ) → Within 1 a b → (fl : Side → List ItemValue) (i j : WorldState) (x : ℕ) → M a b i → OnCable x at fl i.links
+      → (k : Asks gives (peer t) at fl i j) → (k.now t ≡ fl t) ⊎ Adds (IsGood e w t) (fl t) (k.now t)
+  sent a b l fl i j x m on k = elim (gain_at t (sent_frame k.a) fl k.now k.went) [
+    | inl y ↦ inl y
+    | inr (item, is, y) ↦ inr (item, good item is, y)
+  ]
+    where
+      cc : ℕ
+      cc = known_at c (peer t) a b (peer t)
+
+      ends : OfEach (AtPort (at (peer t)) (IsEnd e (w (peer t)) (w (peer (peer t))) cc)) (half (peer t) i).state.system_ports
+      ends = of_end m (peer t) (IsEnd e (w (peer t)) (w (peer (peer t))) cc) (λ p rest timed y. (y.0.0, y.0.1, λ f. synced p (y.1 refl) f))
+
+      good : (item : ItemValue) → sent_frame k.a ≡ Some item.octets → IsGood e w t item
+      good item is v carries = subst (λ u. Suits e (w u) (w (peer t)) v) (peer_twice t)
+          (told_good e (w (peer t)) (w (peer (peer t))) cc (gives (peer t)) (at (peer t)) k.a (half (peer t) i).state (half (peer t) j).state
+          (known a b l) k.promise ends item.octets is v carries)
+
+  kept : (a b : ℕ) → Within 1 a b → KeptBeside at gives (M a b)
+  kept a b l = between gives d at w (known_at c (peer t) a b) (peer t) Y (fits_at d w c (peer t) 1 fits then a b l)
+      (subst (λ n. Along Y (w (peer t)) (w (peer (peer t))) n d) (sym (here a b)) (along a l.0)) sends
+
+  made : (a b : ℕ) → Within 1 (suc a) b → MadeByTick gives (peer t) (M a b) (M (suc a) b)
+  made zero b l = own_at gives (peer t) d at w c 1 Y Y then 0 b l last
+      (λ p q run rest y. moves p q run rest (subst (λ n. IsEnd d (w (peer t)) (w (peer (peer t))) n p) (no_less (c (peer t))) y))
+  made (suc a) b l = absurd (let k = l.0 in omega (arith, k))
+
+  -- so it is after a late round
+  pub flush : (old new : WorldState) (l : Link d at w c (peer t) Y old) → TicksBeside 1 at OldArrive gives old new
+      → Link d at w (ticked c) (peer t) Y new × (x : ℕ) × Past t x at (IsGood e w t) 0 new
+  flush old new l h =
+      let come = arriving gives at l.index l.flying old new (healthy_link d at w c (peer t) Y old l) h t in
+      let r = cleared_on gives 1 (peer t) t l.index at (IsGood e w t) M (λ item plain v carries. absurd (plain (v, carries)))
+      (λ a b k fl i j m on q. sent a b k fl i j l.index m on q) kept made
+      (λ a b k. peer_at gives (peer t) d at w c 1 Y then a b k (along a k.0))
+      h.events h.replies l.flying old new l.links (side_turns at 1 (peer t) h.events h.turns) come h.acts
+      (none_counted d at w c (peer t) (peer t) Y old l) in
+      (all_counted d at w c (peer t) (peer t) 1 Y new r.0, l.index, r.1)
+
+-- and bears the present change count
+stamps_flush : (gives : Algorithms) (at k : Side → ℕ) (kept : Side → Bool) (t : Side) (old new : WorldState) (l : Stamped 0 at k kept old)
+    → IsHealthyAt l.index (cable at l.flying) old → TicksBeside 1 at OldArrive gives old new
+    → Stamped 0 at k kept new × Past t l.index at (IsStamped (k (peer t))) 0 new
+stamps_flush gives at k kept t old new l healthy h = cleared_on gives 1 One t l.index at (IsStamped (k (peer t))) (λ a b j. Stamped 0 at k kept j)
+    (λ item plain v carries. absurd (plain (v, carries))) sent (λ a b m. stamped_between gives 0 at k kept)
+    (λ a b m. stamped_tick gives 0 at k kept One) (λ a b m. stamped_tick gives 0 at k kept (peer One))
+    h.events h.replies l.flying old new l.links (side_turns at 1 One h.events h.turns) (arriving gives at l.index l.flying old new healthy h t) h.acts l
+  where
+    sent : (a b : ℕ) → Within 1 a b → (fl : Side → List ItemValue) (i j : WorldState) → Stamped 0 at k kept i → OnCable l.index at fl i.links
+        → (y : Asks gives (peer t) at fl i j) → (y.now t ≡ fl t) ⊎ Adds (IsStamped (k (peer t))) (fl t) (y.now t)
+    sent a b few fl i j m on y = elim y.stamps [
+      | inl same ↦ inl (ap (λ (f : Side → List ItemValue). f t) same)
+      | inr (item, is, more) ↦ inr (
+        item,
+        λ v carries. is v carries ∙ m.counts (peer t),
+        subst (λ u. y.now u ≡ fl u ++ item ∷ []) (peer_twice t)
+            (ap (λ (f : Side → List ItemValue). f (peer (peer t))) more ∙ push_there (peer (peer t)) item fl),
+      )
+    ]
+
+abbrev pub counts_of : (Side → ℕ) → WorldState → Side → ℕ
+counts_of at j s = change_count_in (history_at (half s j).histories (at s))
+
+abbrev pub kept_of : (Side → ℕ) → WorldState → Side → Bool
+kept_of at j s = is_some (history_at (half s j).histories (at s))
+
+-- after the first round all that is on the cable names the ends as they are, and bears the present counts
+pub first_late : (gives : Algorithms) (at : Side → ℕ) (w : Side → Lacpdu) (old new : WorldState) → Link 0 at w (λ _. 0) One Nothing old
+    → PlayedBeside at OldArrive gives old new → Link 1 at w (λ _. 0) One Nothing new × Stamped 1 at (counts_of at old) (kept_of at old) new
+first_late gives at w old new l h =
+    let base : Link 0 at w (λ _. 0) One Nothing new = other_ports (ticks_keep gives 1 One 0 at w (λ _. 0) old new fit then l (once h))
+    (λ s p rest timed a. (a.0, a.1)) in (
+      raised at w 0 1 (λ _. 0) One Nothing new (λ s. of_end base s (λ p. 2 ≤ 1 → Synced p) (λ p rest timed a f. absurd (omega (arith, f)))) base
+          (λ t. let p = (good t).2 in
+          subst (AllByRecursion (IsGood 1 w t)) (sym (same_items (good t).1 base.index at p.flying base.flying new p.on base.links t)) p.items),
+      record {
+        flying = base.flying;
+        index = base.index;
+        links = base.links;
+        counts = (stamps One).0.counts;
+        there = (stamps One).0.there;
+        items = λ one t. (let p = (stamps t).1 in subst (AllByRecursion (IsStamped (counts_of at old (peer t))))
+            (sym (same_items l.index base.index at p.flying base.flying new p.on base.links t)) p.items);
+      },
+    )
+  where
+    fit : Fits 0 w (λ _. 0)
+    fit = λ t. (omega arith, λ m. omega (arith, m), λ m. absurd (omega (arith, m)), λ m. absurd (omega (arith, m)))
+
+    then : Fits 0 w (ticked (λ _. 0))
+    then = λ t. (omega arith, λ m. omega (arith, m), λ m. absurd (omega (arith, m)), λ m. absurd (omega (arith, m)))
+
+    good : (t : Side) → Link 0 at w (ticked (λ _. 0)) (peer t) Nothing new × (x : ℕ) × Past t x at (IsGood 1 w t) 0 new
+    good t = flush gives 0 1 at w (λ _. 0) t Nothing fit then (nothing_along (w (peer t)) (w (peer (peer t))) 0 0)
+        (nothing_along (w (peer t)) (w (peer (peer t))) 0 0) (λ p q run rest a y. y) (λ p y. y) (λ p y f. absurd (omega (arith, f)))
+        (λ f. absurd (omega (arith, f))) old new (other_ports l (λ s p rest timed a. (a.0, λ f. tt))) (once h)
+
+    stamps : (t : Side) → Stamped 0 at (counts_of at old) (kept_of at old) new × Past t l.index at (IsStamped (counts_of at old (peer t))) 0 new
+    stamps t = stamps_flush gives at (counts_of at old) (kept_of at old) t old new (record {
+      flying = l.flying;
+      index = l.index;
+      links = l.links;
+      counts = λ s. refl;
+      there = λ s. refl;
+      items = λ one. absurd (omega (arith, one));
+    }) (healthy_link 0 at w (λ _. 0) One Nothing old l) (once h)
+
+-- An LACPDU that was on the cable when a late round began is heard in it.
+
+module _ (gives : Algorithms) (d : ℕ) (at : Side → ℕ) (w : Side → Lacpdu) (s : Side) (there : 1 ≤ d)
+    (named : (activity (w s) ≡ true) ⊎ IsNamed (w (peer s))) (D E : WorldState → Type 0) (extra : Extra gives d at w s there named D E)
+    (n : ℕ) (few : n + 1 ≤ 30) (c : Side → ℕ) (fits : Fits d w c) (then : Fits d w (ticked_by n c)) (x : ℕ)
+    (old : WorldState) (was : Side → List ItemValue)
+    (stood : OnCable x at was old.links) where
+  abbrev W : ℕ
+  W = wait_of (w (peer s))
+
+  abbrev kn : ℕ → ℕ → Side → ℕ
+  kn = known_at c s
+
+  abbrev OnItsWay : ℕ → ℕ → WorldState → Type 0
+  OnItsWay a b j = OnWay gives d at w s there named (kn a b) (Any gives d at w s there named) j
+
+  abbrev Told : ℕ → ℕ → WorldState → Type 0
+  Told a b j = HasTold gives d at w s there named D E extra (kn a b) (W - b) j
+
+  -- one of the first k items that are on the cable is an LACPDU, or the peer has heard one
+  abbrev Heard : ℕ → ℕ → ℕ → WorldState → Type 0
+  Heard k a b j = (((o : OnItsWay a b j) × FlyingIn k (o.0.flying (peer s))) × D j) ⊎ Told a b j
+
+  abbrev State : ℕ → ℕ → ℕ → WorldState → Type 0
+  State k a b j = (map link_ends j.links ≡ map link_ends old.links) × Heard k a b j
+
+  fit : (a b : ℕ) → Within n a b → Fits d w (kn a b)
+  fit a b l = fits_at d w c s n fits then a b l
+
+  less : (b : ℕ) → W - b ≤ W
+  less b = omega arith
+
+  settles : KeptBySettling (AtPort (at (peer s)) (Any gives d at w s there named))
+  settles = any_settles gives d at w s there named
+
+  way_between : (a b : ℕ) → Within n a b → KeptBeside at gives (OnItsWay a b)
+  way_between a b l = on_between gives d at w s there named (Any gives d at w s there named) settles (λ p y. y) (λ p y. tt) (kn a b) (fit a b l)
+
+  -- the first item came: it is no LACPDU, or was heard
+  arrival_on : (a b : ℕ) → Within n a b → (e : HostEvent) (r : Reply) (i j : WorldState) → map link_ends i.links ≡ map link_ends old.links → IsArrivalAt (peer s) x e
+      → StepReplies gives i e r j → (o : OnItsWay a b i) → D i
+      → (o.0.flying (peer s) ≡ [])
+      ⊎ (((item : ItemValue) × (rest : List ItemValue) × IsPlain item × (o.0.flying (peer s) ≡ item ∷ rest)
+      × ((after : OnItsWay a b j) × (after.0.flying (peer s) ≡ rest)))
+      ⊎ Told a b j)
+  arrival_on a b l e r i j joins come h o da = elim (first_came gives d at w s there named D E extra (kn a b) (fit a b l) e r i j o
+      (subst (λ y. IsArrivalAt (peer s) y e) (sym (stays_there x o.0.index at was o.0.flying old i stood o.0.links joins)) come) h da) [
+        | inl none ↦ inl none
+        | inr (inl y) ↦ inr (inl y)
+        | inr (inr y) ↦ inr (inr (
+          (
+            learn_less gives s d at w (kn a b) W (W - b) j (less b)
+                (join d at w (kn a b) s (peer s) _ j (forget d at w (kn a b) s s (Wakeful (w s) (w (peer s))) j y.0.1.0) y.0.0),
+            y.0.1,
+          ),
+          y.1,
+        ))
+      ]
+
+  way_kept : (k a b : ℕ) → Within n a b → KeptBeside at gives (State k a b)
+  way_kept k a b l e r i j q h (joins, inr m) = (
+    joins_kept at gives old.links e r i j q h joins,
+    inr (told_between gives d at w s there named D E extra (kn a b) (W - b) (less b) (fit a b l) e r i j q h m),
+  )
+  way_kept k a b l e r i j q h (joins, inl ((o, f), da)) =
+      let g = flows gives (peer s) o.0.index at o.0.flying r i j o.0.links e q h in
+      let after = way_between a b l e r i j q h o in (
+        joins_kept at gives old.links e r i j q h joins,
+        elim (flying_flows k g f) [
+          | inl y ↦ inl (
+            (after, subst (FlyingIn k) (sym (same_items g.index after.0.index at g.now after.0.flying j g.on after.0.links (peer s))) y),
+            extra.first e r i j q h da,
+          )
+          | inr (item, come, first) ↦ elim (arrival_on a b l e r i j joins (at_x o come) h o da) [
+            | inl none ↦ absurd (let y = sym none ∙ first in cc)
+            | inr (inl (it, rest, plain, y, (now, same))) ↦ inl (
+              (now, subst (FlyingIn k) (sym same) (flying_pop k it rest plain (subst (FlyingIn k) y f))),
+              extra.first e r i j q h da,
+            )
+            | inr (inr m) ↦ inr m
+          ]
+        ],
+      )
+    where
+      at_x : (o : OnItsWay a b i) → IsArrivalAt (peer s) o.0.index e → IsArrivalAt (peer s) x e
+      at_x o come = subst (λ y. IsArrivalAt (peer s) y e) (stays_there x o.0.index at was o.0.flying old i stood o.0.links joins) come
+
+  comes : (k a b : ℕ) → Within n a b → (e : HostEvent) (r : Reply) (i j : WorldState) → IsArrivalAt (peer s) x e → StepReplies gives i e r j
+      → State (suc k) a b i → State k a b j
+  comes k a b l e r i j come h (joins, m) = (
+    joins_kept at gives old.links e r i j (between_at at come) h joins,
+    by_state m,
+  )
+    where
+      by_state : Heard (suc k) a b i → Heard k a b j
+      by_state (inr m) = inr (told_between gives d at w s there named D E extra (kn a b) (W - b) (less b) (fit a b l) e r i j (between_at at come) h m)
+      by_state (inl ((o, f), da)) = elim (arrival_on a b l e r i j joins come h o da) [
+        | inl none ↦ absurd (subst (FlyingIn (suc k)) none f)
+        | inr (inl (it, rest, plain, y, (now, same))) ↦ inl (
+          (now, subst (FlyingIn k) (sym same) (elim (subst (FlyingIn (suc k)) y f) [ inl v ↦ absurd (plain v) | inr v ↦ v ])),
+          extra.first e r i j (between_at at come) h da,
+        )
+        | inr (inr m) ↦ inr m
+      ]
+
+  -- the ticks
+  same_tick : (u : Side) (a b m : ℕ) (r : Reply) (i j : WorldState) → side_of m ≡ Some u → WorldSteps gives i (event.Tick m 1) r j → (k : ℕ)
+      (fl : Side → List ItemValue) (y : ℕ) → OnCable y at fl i.links → (o : OnItsWay a b j) → FlyingIn k (fl (peer s)) → FlyingIn k (o.0.flying (peer s))
+  same_tick u a b m r i j numbered h k fl y on o f = subst (FlyingIn k) (sym (same_items y o.0.index at fl o.0.flying j
+      (subst (OnCable y at fl) (sym (ticks gives m u r i j numbered h).links) on) o.0.links (peer s))) f
+
+  own : (k a b : ℕ) → Within n (suc a) b → MadeByTick gives s (State k a b) (State k (suc a) b)
+  own k a b l number r i j numbered h (joins, m) = (joins_tick gives old.links s number r i j numbered h joins, by_state m)
+    where
+      by_state : Heard k a b i → Heard k (suc a) b j
+      by_state (inr m) = inr (told_own gives d at w s there named D E extra (kn a b) (kn (suc a) b) (W - b) (own_counted d w c s n then a b l) (less b)
+          (fit (suc a) b l) number r i j numbered h m)
+      by_state (inl ((o, f), da)) =
+          let after = on_own gives d at w s there named (Any gives d at w s there named) settles (λ p y. y) (λ p y. tt) (kn a b) (kn (suc a) b)
+          (own_counted d w c s n then a b l) number r i j numbered h o in
+          inl ((after, same_tick s (suc a) b number r i j numbered h k o.0.flying o.0.index o.0.links after f), extra.ticks_first s number r i j numbered h da)
+
+  other : (k a b : ℕ) → Within n a (suc b) → MadeByTick gives (peer s) (State k a b) (State k a (suc b))
+  other k a b l number r i j numbered h (joins, m) = (joins_tick gives old.links (peer s) number r i j numbered h joins, by_state m)
+    where
+      by_state : Heard k a b i → Heard k a (suc b) j
+      by_state (inr m) = inr (told_next gives d at w s there named D E extra n few c fits then a b l number r i j numbered h m)
+      by_state (inl ((o, f), da)) =
+          let after = on_other gives d at w s there named (Any gives d at w s there named) settles (λ p y. y) (λ p y. tt) (kn a b) (kn a (suc b))
+          (peer_counted d w c s n then a b l) number r i j numbered h
+          (λ y. all_any gives d at w s there named (at (peer s)) (half (peer s) j).state.system_ports) o in
+          inl (
+            (after, same_tick (peer s) a (suc b) number r i j numbered h k o.0.flying o.0.index o.0.links after f),
+            extra.ticks_first (peer s) number r i j numbered h da,
+          )
+
+  -- so the peer has heard it after the round
+  pub late_heard : (new : WorldState) → (o : OnItsWay 0 0 old) → Flying (o.0.flying (peer s)) → D old → TicksBeside n at OldArrive gives old new
+      → HasTold gives d at w s there named D E extra (kn n n) (W - n) new
+  late_heard new o f da h = elim last.1 [ inl y ↦ absurd y.0.1 | inr m ↦ m ]
+    where
+      index : o.0.index ≡ x
+      index = stays_there x o.0.index at was o.0.flying old old stood o.0.links refl
+
+      last : State 0 n n new
+      last = counted_on gives n s (peer s) x at State way_kept comes own other h.events h.replies old new (length (o.0.flying (peer s))) 0 0
+          (side_turns at n s h.events h.turns)
+          (subst (λ y. ArriveIn (length (o.0.flying (peer s))) (peer s) y h.events) index
+          (subst (λ xs. ArriveIn (length xs) (peer s) o.0.index h.events) (towards_there (peer s) at o.0.flying)
+          (h.empties (peer s) o.0.index (cable at o.0.flying)
+          (healthy_link d at w (kn 0 0) s (Wakeful (w s) (w (peer s))) old o.0))))
+          h.acts (refl, inl ((o, flying_first (o.0.flying (peer s)) f), da))
 
 -- what is so of a world
 
@@ -105,7 +403,7 @@ module _ (gives : Algorithms) (d : ℕ) (at : Side → ℕ) (w : Side → Lacpdu
         ⊎ ((Wakes at w s new × Said at w s Whoever new × Flies at s new) ⊎ HearsIn n d at w k kept c s new)
     ticks_pass X V Z p old new l wakes stamped h = elim (turns gives d at w s there named Counted (Took-it gives 1 at k kept (peer s)) extra
         n few c fits then X V Z p old new l wakes h stamped) [
-          | inl y ↦ inl (all_counted d at w c s s n Z new y.0.0)
+          | inl y ↦ inl (all_counted d at w c s s n Z new (other_ports y.0 (λ t p rest timed a. (a.0, λ f. (a.1 f).0))))
           | inr (inl ((o, f), y)) ↦ inr (inl (
             of_end o.0 s (Wakeful (w s) (w (peer s))) (λ p rest timed a. a.1 refl),
             said_of (known_at c s n n) Whoever new o,

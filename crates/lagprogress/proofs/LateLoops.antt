@@ -8,7 +8,7 @@ use Rattle.lagprogress.proofs.EachRound.{clears_less, joins_kept, played_join}
 use Rattle.lagprogress.proofs.LateFlow.{flows, gain_at, stays_there}
 use Rattle.lagprogress.proofs.OneCable.{OnCable, cable, sent_frame, ticks, towards_there}
 use Rattle.lagprogress.proofs.Quieting.{leaves, replayed}
-use Rattle.lagprogress.proofs.Starting.{healthy_cable}
+use Rattle.lagprogress.proofs.Lasting.{healthy_cable}
 
 -- a run in the end of which nothing is on the cable: what was on it has arrived
 

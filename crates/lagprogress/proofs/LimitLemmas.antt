@@ -1,24 +1,24 @@
 -- How the links of a bundle agree where one system has a limit of links.
 use Rattle.lagprogress.proofs.Common.{Bool, Err, IsSome, None, Ok, Option, Some, ap, arith, false, if◌then◌else◌, inl, inr, refl, slice_get, subst}
-use Rattle.lagprogress.proofs.Common.{suc, sym, true, ℕ, ◌∙◌, ◌≡◌, ◌≤◌, ◌⊎◌, cases_Bool, AggId, SystemId, Choice, Selected, Standby, Unselected}
+use Rattle.lagprogress.proofs.Common.{suc, sym, true, ℕ, ◌+◌, ◌∙◌, ◌≡◌, ◌⊎◌, cases_Bool, AggId, SystemId, Choice, Selected, Standby, Unselected}
 use Rattle.lagprogress.proofs.Common.{Party, is_selected, same_party, Lacpdu, party_of, One, Side, Two, end_at, peer, Setup, Machines, selected}
 use Rattle.lagprogress.proofs.Common.{receive_rows, start_receive, RunsToRest, Starts, before_start, count_down, has_chosen, Answer, SystemPort, Call}
 use Rattle.lagprogress.proofs.Common.{Configure, ProcessesLacpdu, Receive, Restart, Set_link, SetsPortEnabled, Step, Tick, Transmit, changed_party}
 use Rattle.lagprogress.proofs.Common.{choice_with_link, SystemState, port_index, all-get, found_place, ports_rise, Same, agreement_at, Algorithms}
 use Rattle.lagprogress.proofs.Common.{IsWorldSound, LinkState, WorldState, half, port_at, end_is, StandsByFull, WantsAggregator, KeptByCall}
 use Rattle.lagprogress.proofs.Common.{KeptBySettling, OfEach, Step-each, first_each, place_each, settling_each, no, AtPort, at_number, mux_leaves}
-use Rattle.lagprogress.proofs.Common.{periodic_leaves, RowsKeep, runs_keep, takes_keep, EndsOfEachKnow, SelectedPairsAgree, LateRounds, OldArrive}
-use Rattle.lagprogress.proofs.Common.{EndKnows, Knows, AtEnd, IsHealthyAt, OfPort}
+use Rattle.lagprogress.proofs.Common.{periodic_leaves, RowsKeep, runs_keep, takes_keep, LateRounds, OldArrive, EndKnows, Knows, AtEnd, IsHealthyAt}
+use Rattle.lagprogress.proofs.Common.{OfPort}
 use Rattle.lagprogress.proofs.SharedLemmas.{played_lasted, shared_finds}
 use Rattle.lagprogress.proofs.EachRound.{played_join, played_on, played_steady, EachAt, RoundKeeps, host_each, played_keep}
-use Rattle.lagprogress.proofs.Lasting.{played_alike, played_before, all_by_place, ends_at, own_system, still_heard, still_links, Alike}
+use Rattle.lagprogress.proofs.Lasting.{played_alike, played_before, all_by_place, ends_at, own_system, still_heard, still_links, Alike, end_of}
 use Rattle.lagprogress.proofs.Linked.{each_side, events_each, machines_there}
 use Rattle.lagprogress.specs.Limited.{CarriesOnAll, DownAreUnselected, EachLimitedLinkAgrees, EachReachedHasDownUnselected, EndsAgreed}
 use Rattle.lagprogress.specs.Limited.{IsLimitedBundle, StandsByOthers}
-use Rattle.lagprogress.proofs.Bundling.{never_stands, heard_holds}
+use Rattle.lagprogress.proofs.Bundling.{never_stands, heard_holds, LinksMeet, ends_know}
 use Rattle.lagprogress.proofs.Halves.{both_first}
-use Rattle.lagprogress.proofs.Starting.{end_of}
 use Rattle.lagsystem.specs.declared.drive.Reply.TheVariants as reply
+use Rattle.lagprogress.proofs.Pairing.{selected_pairs_agree}
 
 -- a port whose link is down stays UNSELECTED
 
@@ -224,9 +224,9 @@ module _ (Holds : LinkState → WorldState → Type 0) (t : Side) (gives : Algor
         (e.4.0, e.4.1, record { full = e.4.2; members = λ k x there chose. member e.4.0 k x there chose })))
   ]
 
-pub each_limited_link_agrees : (Holds : LinkState → WorldState → Type 0) (knowing least : ℕ) (gives : Algorithms)
-    → EndsOfEachKnow LateRounds Holds knowing gives → SelectedPairsAgree LateRounds Holds least gives → knowing ≤ least
-    → EachLimitedLinkAgrees LateRounds Holds least gives
-each_limited_link_agrees Holds knowing least gives know pairs sooner n i l t old new sound b y enough h = limited Holds t gives n old new sound b h
-    (λ k m z s. know n k m old new sound.cabling b.steady z (heard_holds Holds old sound.cabling b.heard k m z) (omega (arith, sooner, enough)) h s)
-    (λ k m z both. pairs n k m old new sound b.steady b.heard z enough h both) i l y
+pub each_limited_link_agrees : (Holds : LinkState → WorldState → Type 0) (first : ℕ) (gives : Algorithms) → LinksMeet Holds first gives
+    → EachLimitedLinkAgrees LateRounds Holds (first + 33) gives
+each_limited_link_agrees Holds first gives meet n i l t old new sound b y enough h = limited Holds t gives n old new sound b h
+    (λ k m z s. ends_know Holds first gives meet n k m old new sound.cabling b.steady z (heard_holds Holds old sound.cabling b.heard k m z)
+    (omega (arith, enough)) h s)
+    (λ k m z both. selected_pairs_agree Holds first gives meet n k m old new sound b.steady b.heard z enough h both) i l y

@@ -148,12 +148,6 @@ sent_is true false i z old frame new h x k = by_marker (marker_due old.table z.n
     by_marker None m = absurd (none-some frame (sym m.0))
     by_marker (Some id) m = absurd (marker_carries_none frame x _ k (z.mac, m.0, m.1, m.2, same_Some frame _ m.3))
 
-sent_good : (d : ℕ) (v u : Lacpdu) (c : ℕ) (up due : Bool) (i : ℕ) (z : SystemPort) (old : SystemState) (frame : List ℕ)
-    (new : SystemState) → (2 ≤ d → 1 ≤ c) → IsEnd d v u c z.port → TransmitsIf up due i z old (Some frame) new
-    → (x : Lacpdu) → IsFrame frame (Carries (pdu.Lacpdu x)) → Suits d u v x
-sent_good d v u c up due i z old frame new known a h x k =
-    subst (Suits d u v) (sent_is up due i z old frame new h x k) (own_suits z.port old.max_delay d v u c known a)
-
 -- an arrival
 
 pub is_took : (o : Received) → (o ≡ received.TookLacpdu) ⊎ (o ≡ received.TookLacpdu → ⊥)
@@ -348,11 +342,11 @@ transmits_good : (d : ℕ) (v u : Lacpdu) (c n : ℕ) (o : Option ℕ) (old : Sy
     → (2 ≤ d → 1 ≤ c) → port_index n old.system_ports ≡ o → TransmitsAt o old (Some frame) new
     → OfEach (AtPort n (IsEnd d v u c)) old.system_ports
     → (x : Lacpdu) → IsFrame frame (Carries (pdu.Lacpdu x)) → Suits d u v x
-transmits_good d v u c n None old frame new known e h a = absurd h
-transmits_good d v u c n (Some i) old frame new known e h a =
-    sent_good d v u c h.0.port.enabled (is_due h.0.port) i h.0 old frame new known
+transmits_good d v u c n None old frame new known e h a x k = absurd h
+transmits_good d v u c n (Some i) old frame new known e h a x k =
+    subst (Suits d u v) (sent_is h.0.port.enabled (is_due h.0.port) i h.0 old frame new h.2 x k) (own_suits h.0.port old.max_delay d v u c known
     (all-get (λ (y : SystemPort). AtPort n (IsEnd d v u c) y.number y.port) old.system_ports i h.0 h.1 a
-    (found_place n old.system_ports i h.0 e h.1)) h.2
+    (found_place n old.system_ports i h.0 e h.1)))
 
 pub told_good : (d : ℕ) (v u : Lacpdu) (c : ℕ) (gives : ℕ → ℕ → ℕ → Type 0) (n : ℕ) (a : Result (Option (List ℕ)) SystemFault)
     (old new : SystemState) → (2 ≤ d → 1 ≤ c) → CallPromise gives old (Transmit n) (answer.Transmit a) new

@@ -1,22 +1,46 @@
 -- A world that events lead to from one that was made is a bundle, if its links are up as it wants them.
-use Rattle.lagprogress.proofs.Common.{Bool, List, None, Option, Some, ap, arith, false, if◌then◌else◌, map, refl, subst, suc, sym, zero, ℕ, ◌++◌, ◌+◌}
-use Rattle.lagprogress.proofs.Common.{◌-◌, ◌∙◌, ◌∷◌, ◌≡◌, nat_tests, SystemId, system-itself, One, Side, Two, WorldSetup, Config, config_value}
-use Rattle.lagprogress.proofs.Common.{or_first, Event, Reply, Algorithms, WorldRuns, AreFirst, IsStart, LinkState, WorldState, half, start_sound}
-use Rattle.lagprogress.proofs.Common.{hosts_keep_headline, no, EachLinkAgrees, EachLinkComesUp, HostReachedIsBundle, IsBundle, ReachedIsApart}
-use Rattle.lagprogress.proofs.Common.{ReachedIsBundle, SystemsDiffer, CarriersAreUp, NothingIsHeld, DrainingRounds, NothingIsHeldByHosts, HostRounds}
-use Rattle.lagprogress.proofs.Common.{LateRounds, EachAgrees, EachDistributes, IsReached, IsReady, LeadsTo, NothingStaysHeld, Rounds, IsSteady}
+use Rattle.lagprogress.proofs.Common.{Bool, List, None, Option, Some, [], ap, arith, false, if◌then◌else◌, map, refl, subst, sym, ℕ, ◌++◌, ◌+◌, ◌-◌}
+use Rattle.lagprogress.proofs.Common.{◌∙◌, ◌∷◌, ◌≡◌, ◌≤◌, nat_tests, SystemId, system-itself, One, Side, Two, WorldSetup, Config, config_value}
+use Rattle.lagprogress.proofs.Common.{or_first, Event, Reply, Algorithms, WorldRuns, most_events, AreFirst, IsStart, LinkState, WorldState, half}
+use Rattle.lagprogress.proofs.Common.{start_sound, hosts_keep_headline, no, EachLinkAgrees, EachLinkComesUp, HostReachedIsBundle, IsBundle}
+use Rattle.lagprogress.proofs.Common.{ReachedIsApart, ReachedIsBundle, SystemsDiffer, CarriersAreUp, NothingIsHeld, DrainingRounds}
+use Rattle.lagprogress.proofs.Common.{NothingIsHeldByHosts, HostRounds, LateRounds, EachAgrees, EachDistributes, IsReached, IsReady, LeadsTo}
+use Rattle.lagprogress.proofs.Common.{NothingStaysHeld, Rounds, IsSteady, IsSteadySystem}
 use Rattle.lagworld.specs.Sound.{IsSound}
+use Rattle.lagprogress.proofs.Linked.{events_each}
+use Rattle.lagworld.proofs.Headline.{accepted, rises}
+use Rattle.lagworld.proofs.Keeping.{steps_sound}
+use Rattle.lagprogress.proofs.Halves.{call_steady, start_steady}
 use Rattle.lagprogress.proofs.Looping.{RunsEvents}
 use Rattle.cables.specs.declared.item.Item.{Item}
 use Rattle.lagscript.specs.Configs.{refusal_of_all}
 use Rattle.lagprogress.proofs.LateLoops.{host_rounds_are_late_rounds}
+use Rattle.lagprogress.proofs.Freeing.{draining_splits}
 use Rattle.lagprogress.proofs.Carrying.{host_reached_has_carriers_up}
-use Rattle.lagprogress.proofs.Unchanged.{events_keep}
-use Rattle.lagprogress.proofs.Reaching.{reached_steady}
+use Rattle.lagprogress.proofs.Quieting.{events_keep}
 use Rattle.lagprogress.proofs.HostSteady.{host_reached_steady}
-use Rattle.lagprogress.proofs.HostRound.{left}
 use Rattle.lagprogress.proofs.HostLoops.{draining_are_host, events_are_of_hosts}
 use Rattle.lagprogress.proofs.Played.{runs_append}
+
+-- What holds of each world that events lead to.
+
+pub runs_steady : (gives : Algorithms) (es : List Event) (rs : List Reply) (old new : WorldState) → WorldRuns gives old es rs new
+    → IsSteady old → IsSteady new
+runs_steady gives es rs old new h k s = events_each gives s IsSteadySystem (call_steady (gives s)) es rs old new h (k s)
+
+runs_sound : (gives : Algorithms) (es : List Event) (rs : List Reply) (old new : WorldState) → WorldRuns gives old es rs new
+    → new.acted ≤ most_events → IsSound old → IsSound new
+runs_sound gives [] [] old new h few i = subst IsSound (sym h) i
+runs_sound gives (e ∷ es) (r ∷ rs) old new h few i =
+    let above = rises gives es rs h.0 new h.2 in
+    runs_sound gives es rs h.0 new h.2 few
+    (steps_sound gives e r old h.0 i (accepted gives e r old h.0 h.1 (omega (arith, above, few))) h.1)
+runs_sound gives es rs old new h few i = absurd h
+
+pub reached_steady : (gives : Algorithms) (configs : List Config) (es : List Event) (rs : List Reply) (start new : WorldState)
+    → IsStart start → AreFirst configs start → WorldRuns gives start es rs new → new.acted ≤ most_events → IsSound new × IsSteady new
+reached_steady gives configs es rs start new i first h few =
+    (runs_sound gives es rs start new h few (start_sound start i), runs_steady gives es rs start new h (start_steady configs start i first))
 
 first_none : {X : Type 0} (a b : Option X) → or_first a b ≡ None → (a ≡ None) × (b ≡ None)
 first_none a b e = grind (arith, nat_tests)
@@ -53,15 +77,6 @@ host_reached_is_bundle Holds gives config es start new accepted i first runs few
         links = links;
       },
     )
-
--- the last of draining rounds are such rounds
-
-draining_splits : (gives : Algorithms) (s : Side) (g k i m n : ℕ) (old new : WorldState) → n ≡ i + m → DrainingRounds s g k gives n old new
-    → (mid : WorldState) × DrainingRounds s g k gives m old mid × DrainingRounds s g k gives i mid new
-draining_splits gives s g k zero m n old new e h = (new, subst (λ j. DrainingRounds s g k gives j old new) (omega (arith, e)) h, refl)
-draining_splits gives s g k (suc i) m zero old new e h = absurd (omega (arith, e))
-draining_splits gives s g k (suc i) m (suc n) old new e h =
-    let r = draining_splits gives s g k i m n old h.0 (omega (arith, e)) h.1 in (r.0, r.1, (h.0, r.2, h.2))
 
 reached_carriers : (gives : Algorithms) (configs : List Config) (es : List Event) (rs : List Reply) (start new : WorldState) → IsStart start
     → AreFirst configs start → WorldRuns gives start es rs new → (s : Side) → CarriersAreUp (half s new).state

@@ -1,12 +1,12 @@
 -- Healthy rounds that are played.
 use Rattle.lagprogress.proofs.Common.{Bool, IfErr, IfOk, List, None, Option, Result, Some, [], ap, append_assoc, arith, drop, get_or, inl, inr}
 use Rattle.lagprogress.proofs.Common.{is_some, length, map, nat_le, option_map, refl, slice_get, subst, suc, sym, take, true, zero, ℕ, ◌&&◌, ◌++◌}
-use Rattle.lagprogress.proofs.Common.{◌+◌, ◌<◌, ◌∙◌, ◌∷◌, ◌≡◌, ◌≤◌, ◌⊎◌, cases_Bool, false≢true, nat_tests, none-some, same_Some, slice_get-get_or}
-use Rattle.lagprogress.proofs.Common.{slice_get-map, slice_get_within, AllByRecursion, IsErrAnd, all-append, Ends, Side, WorldSetup, Event}
-use Rattle.lagprogress.proofs.Common.{WorldFault, Reply, Algorithms, WorldRuns, WorldSteps, cause, cause_or_no_memory, first_event_cause, has_cable}
-use Rattle.lagprogress.proofs.Common.{may_take_memory, most_events, side_of, link_ends, world_setup, ends_of_cable, RefusesNext, next_of, LinkState}
-use Rattle.lagprogress.proofs.Common.{WorldState, towards, Delivers, HasTooManyCables, IsOutOfMemoryOrSpent, NamesNoCable, PlaysPart, RefusesDelivery}
-use Rattle.lagprogress.proofs.Common.{RunsAll, RunsPart, found_nothing, IsRound, NothingInFlight, Rounds, asks_all, asks_ends, ticks_of_both}
+use Rattle.lagprogress.proofs.Common.{◌+◌, ◌<◌, ◌∙◌, ◌∷◌, ◌≡◌, ◌≤◌, ◌⊎◌, cases_Bool, nat_tests, none-some, same_Some, slice_get-get_or, slice_get-map}
+use Rattle.lagprogress.proofs.Common.{slice_get_within, AllByRecursion, IsErrAnd, all-append, Ends, Side, WorldSetup, Event, WorldFault, Reply}
+use Rattle.lagprogress.proofs.Common.{Algorithms, WorldRuns, WorldSteps, cause, cause_or_no_memory, first_event_cause, has_cable, may_take_memory}
+use Rattle.lagprogress.proofs.Common.{most_events, side_of, link_ends, world_setup, ends_of_cable, RefusesNext, next_of, LinkState, WorldState}
+use Rattle.lagprogress.proofs.Common.{towards, Delivers, HasTooManyCables, IsOutOfMemoryOrSpent, NamesNoCable, PlaysPart, RefusesDelivery, RunsAll}
+use Rattle.lagprogress.proofs.Common.{RunsPart, found_nothing, IsRound, NothingInFlight, Rounds, asks_all, asks_ends, ticks_of_both}
 use Rattle.lagprogress.specs.Played.{most_cables}
 use Rattle.std.proofs.lemmas.List.{length-map, take_more}
 use Rattle.lagscript.specs.declared.event.Event.TheVariants as event

@@ -1,24 +1,43 @@
 -- What moves no port (`IsQuiet`) leaves the ports, and what their LACPDUs say.
-use Rattle.lagprogress.proofs.Common.{Bool, Err, List, Ok, Result, Some, [], ap, arith, false, inl, inr, map, refl, subst, suc, sym, true, zero, ℕ}
-use Rattle.lagprogress.proofs.Common.{◌++◌, ◌==◌, ◌∙◌, ◌∷◌, ◌≡◌, ◌⊎◌, cases_Bool, nat_tests, Vec, AllByRecursion, AggId, Lacpdu, all-append, One}
-use Rattle.lagprogress.proofs.Common.{Side, Two, peer, value_of, Machines, Table, SystemFault, SystemPort, Carries, Force, IsFrame, Move_conversation}
-use Rattle.lagprogress.proofs.Common.{Offer, Step, system_move_result, Set_max_delay, SystemState, port_index, with_system_ports, with_table}
-use Rattle.lagprogress.proofs.Common.{becomes_slots, offers_slots, Reply, AfterOffer, Algorithms, InHalf, WorldSteps, offered_item, side_of}
-use Rattle.lagprogress.proofs.Common.{with_frame_counted, HalfForces, HalfMoves, link_ends, HalfState, ItemValue, WorldState, half, put_on_port}
-use Rattle.lagprogress.proofs.Common.{with_half, put_ends, half_there, HostEvent, HostSteps, Plays, Sets, KeptBySettling, OfEach, AtPort, LeavesPorts}
+use Rattle.lagprogress.proofs.Common.{Bool, Err, List, Ok, Option, Result, Some, [], ap, arith, false, inl, inr, map, refl, slice_get, subst, suc}
+use Rattle.lagprogress.proofs.Common.{sym, true, zero, ℕ, ◌++◌, ◌==◌, ◌∙◌, ◌∷◌, ◌≡◌, ◌⊎◌, cases_Bool, nat_tests, Vec, AllByRecursion, AggId, Lacpdu}
+use Rattle.lagprogress.proofs.Common.{all-append, One, Side, Two, peer, value_of, Machines, Table, Answer, SystemFault, SystemPort, Call, Carries}
+use Rattle.lagprogress.proofs.Common.{Force, IsFrame, Move_conversation, Offer, Step, TableRun, Transmit, system_move_result, Set_max_delay}
+use Rattle.lagprogress.proofs.Common.{SystemState, port_index, with_system_ports, with_table, Step-frame, becomes_slots, offers_slots, Event, Reply}
+use Rattle.lagprogress.proofs.Common.{AfterOffer, Algorithms, InHalf, WorldRuns, WorldSteps, offered_item, side_of, with_frame_counted, HalfForces}
+use Rattle.lagprogress.proofs.Common.{HalfMoves, link_ends, HalfState, ItemValue, LinkState, WorldState, half, put_on_port, with_half, put_ends}
+use Rattle.lagprogress.proofs.Common.{half_there, HostEvent, HostSteps, Plays, Sets, KeptBySettling, OfEach, AtPort, calls_each, LeavesPorts}
 use Rattle.lagprogress.proofs.Common.{Clearing, IsBetweenTicks, IsPlayed, IsPlayedAmong, IsQuiet, IsTickOf, PlayedAmong, PlayedRounds, RunReplies}
 use Rattle.lagprogress.proofs.Common.{StepReplies, TickOnce, TickOnceAmong, IsSteady}
+use Rattle.lagprogress.proofs.Linked.{events_each, each_side, EndIs, Flying, HasLacpdu, IsGood, Link, end_kept, has_on, of_end, place_kept}
+use Rattle.lagprogress.proofs.Linked.{push_other, push_there}
+use native.Mathlib.Omega.{arith}
+use Rattle.lagprogress.proofs.OneCable.{Comes, came_off, OnCable, half_logs, push, put_beside, puts}
 use Rattle.lagprogress.proofs.HostSteady.{IsUp, Quietly, SendsPlain, aside, caller, beside_quietly, delay_quietly, delay_keeps, aside_keeps}
 use Rattle.lagprogress.proofs.HostSteady.{sets_each, sets_links, sets_logs, sets_place, step_timely, asked_by}
 use Rattle.lagprogress.proofs.EndFacts.{Along}
 use Rattle.lagprogress.proofs.Halves.{AreTimely, each_is_calls, keeps_steady, timely, forced_state}
-use Rattle.lagprogress.proofs.Unchanged.{calls_keep}
 use Rattle.lagprogress.proofs.ArrivingLemmas.{is_data, same_ports}
-use Rattle.lagprogress.proofs.Linked.{EndIs, Flying, HasLacpdu, IsGood, Link, end_kept, has_on, each_side, of_end, place_kept, push_other, push_there}
-use Rattle.lagprogress.proofs.OneCable.{OnCable, half_logs, push, put_beside, puts}
-use Rattle.slowpdu.specs.declared.pdu.Pdu.TheVariants as pdu
 use Rattle.lagsystem.specs.declared.drive.Reply.TheVariants as answer
 use Rattle.lagscript.specs.declared.event.Event.TheVariants as event
+use Rattle.slowpdu.specs.declared.pdu.Pdu.TheVariants as pdu
+
+-- What no event of a world changes.
+
+module _ (X : Type 0) (g : SystemState → X)
+    (kept : (s : SystemState) (ports : List SystemPort) (t : Table) → g (with_table (with_system_ports s ports) t) ≡ g s) where
+  one_kept : (gives : ℕ → ℕ → ℕ → Type 0) (was : X) (old new : SystemState) (call : Call) (answer : Answer) → Step gives old call answer new
+      → g old ≡ was → g new ≡ was
+  one_kept gives was old new call answer step e = ap g (Step-frame gives old call answer new step) ∙ (kept old new.system_ports new.table ∙ e)
+
+  pub calls_keep : (gives : ℕ → ℕ → ℕ → Type 0) (old new : SystemState) (calls : List Call) (replies : List Answer)
+      → TableRun gives old calls replies new → g new ≡ g old
+  calls_keep gives old new calls replies h = calls_each gives (λ s. g s ≡ g old) (one_kept gives (g old)) old new calls replies h refl
+
+  pub events_keep : (gives : Algorithms) (es : List Event) (rs : List Reply) (old new : WorldState) → WorldRuns gives old es rs new
+      → (s : Side) → g (half s new).state ≡ g (half s old).state
+  events_keep gives es rs old new h s = let was = g (half s old).state in
+      events_each gives s (λ t. g t ≡ was) (one_kept (gives s) was) es rs old new h refl
 
 one_half : (s t : Side) (h : HalfState) (j : WorldState) → h.state.system_ports ≡ (half s j).state.system_ports
     → (half t (with_half s h j)).state.system_ports ≡ (half t j).state.system_ports
@@ -287,42 +306,53 @@ pub offered_half : (gives : Algorithms) (n : ℕ) (agg : AggId) (octets : Vec �
     × Step (gives t) (half t old).state (Offer agg octets.items) (answer.Offer a) (half t new).state)
 offered_half gives n agg octets r old new h = grind (arith, nat_tests)
 
+-- what one system does, in the eyes of either
+half_of : (R : Side → HalfState → HalfState → Type 0) (s t : Side) (old new : WorldState)
+    → InHalf s (R s) old (record new { acted = old.acted }) → ((half t new).state ≡ (half t old).state) ⊎ ((s ≡ t) × R t (half t old) (half t new))
+half_of R One One old new m = inr (refl, m.0)
+half_of R One Two old new m = inl (ap (λ (w : WorldState). w.two.state) m.1)
+half_of R Two One old new m = inl (ap (λ (w : WorldState). w.one.state) m.1)
+half_of R Two Two old new m = inr (refl, m.0)
+
 -- a Move event leaves a system to itself, or asks it to move the conversation
 pub moved_half : (gives : Algorithms) (n : ℕ) (agg : AggId) (conv p : ℕ) (r : Reply) (old new : WorldState)
     → WorldSteps gives old (event.Move n agg conv p) r new → (t : Side)
     → ((half t new).state ≡ (half t old).state) ⊎ ((side_of n ≡ Some t) × (a : Result Unit SystemFault)
     × Step (gives t) (half t old).state (Move_conversation agg conv p) (answer.MoveConversation a) (half t new).state)
-moved_half gives n agg conv p r old new h t = let v = value_of (side_of n) _ h.0 in by_side v.0 v.1 v.2 t
-  where
-    by_side : (s : Side) → side_of n ≡ Some s → InHalf s (λ h k. HalfMoves (gives s) agg conv p h r k) old (record new { acted = old.acted })
-        → (t : Side) → ((half t new).state ≡ (half t old).state) ⊎ ((side_of n ≡ Some t) × (a : Result Unit SystemFault)
-        × Step (gives t) (half t old).state (Move_conversation agg conv p) (answer.MoveConversation a) (half t new).state)
-    by_side One named m One = inr (named, m.0.0, m.0.1.answers.step)
-    by_side One named m Two = inl (ap (λ (w : WorldState). w.two.state) m.1)
-    by_side Two named m One = inl (ap (λ (w : WorldState). w.one.state) m.1)
-    by_side Two named m Two = inr (named, m.0.0, m.0.1.answers.step)
+moved_half gives n agg conv p r old new h t =
+    let v = value_of (side_of n) _ h.0 in
+    elim (half_of (λ s x y. HalfMoves (gives s) agg conv p x r y) v.0 t old new v.2) [
+      | inl same ↦ inl same
+      | inr (is, m) ↦ inr (v.1 ∙ ap (λ (s : Side). Some s) is, m.0, m.1.answers.step)
+    ]
 
 -- a Force event leaves a system to itself, or asks it to force the conversation
 pub forced_half : (gives : Algorithms) (n : ℕ) (agg : AggId) (conv : ℕ) (r : Reply) (old new : WorldState)
     → WorldSteps gives old (event.Force n agg conv) r new → (t : Side)
     → ((half t new).state ≡ (half t old).state) ⊎ ((side_of n ≡ Some t) × (a : Result Unit SystemFault)
     × Step (gives t) (half t old).state (Force agg conv) (answer.Force a) (half t new).state)
-forced_half gives n agg conv r old new h t = let v = value_of (side_of n) _ h.0 in by_side v.0 v.1 v.2 t
-  where
-    by_side : (s : Side) → side_of n ≡ Some s → InHalf s (λ h k. HalfForces (gives s) agg conv h r k) old (record new { acted = old.acted })
-        → (t : Side) → ((half t new).state ≡ (half t old).state) ⊎ ((side_of n ≡ Some t) × (a : Result Unit SystemFault)
-        × Step (gives t) (half t old).state (Force agg conv) (answer.Force a) (half t new).state)
-    by_side One named m One = inr (
-      named,
-      m.0.0,
-      subst (λ (y : SystemState). Step (gives One) old.one.state (Force agg conv) (answer.Force m.0.0) y)
-          (sym (ap (λ (k : HalfState). k.state) m.0.4 ∙ forced_state m.0.0 agg conv m.0.1)) m.0.2.answers.step,
-    )
-    by_side One named m Two = inl (ap (λ (w : WorldState). w.two.state) m.1)
-    by_side Two named m One = inl (ap (λ (w : WorldState). w.one.state) m.1)
-    by_side Two named m Two = inr (
-      named,
-      m.0.0,
-      subst (λ (y : SystemState). Step (gives Two) old.two.state (Force agg conv) (answer.Force m.0.0) y)
-          (sym (ap (λ (k : HalfState). k.state) m.0.4 ∙ forced_state m.0.0 agg conv m.0.1)) m.0.2.answers.step,
-    )
+forced_half gives n agg conv r old new h t =
+    let v = value_of (side_of n) _ h.0 in
+    elim (half_of (λ s x y. HalfForces (gives s) agg conv x r y) v.0 t old new v.2) [
+      | inl same ↦ inl same
+      | inr (is, m) ↦ inr (
+        v.1 ∙ ap (λ (s : Side). Some s) is,
+        m.0,
+        subst (λ (y : SystemState). Step (gives t) (half t old).state (Force agg conv) (answer.Force m.0) y)
+            (sym (ap (λ (x : HalfState). x.state) m.4 ∙ forced_state m.0 agg conv m.1)) m.2.answers.step,
+      )
+    ]
+
+-- What the events of a round are to one of the systems.
+
+-- an Emit event leaves a system to itself, or asks a port of it
+pub asked_half : (gives : Algorithms) (n p : ℕ) (r : Reply) (old new : WorldState) → WorldSteps gives old (event.Emit n p) r new → (t : Side)
+    → ((half t new).state ≡ (half t old).state) ⊎ ((a : Result (Option (List ℕ)) SystemFault)
+    × Step (gives t) (half t old).state (Transmit p) (answer.Transmit a) (half t new).state)
+asked_half gives n p r old new h = grind arith
+
+-- a Deliver event leaves a system to itself, or brings the first item of a cable to a port of it
+pub came_half : (gives : Algorithms) (c n : ℕ) (r : Reply) (old new : WorldState) → WorldSteps gives old (event.Deliver c n) r new → (t : Side)
+    → ((half t new).state ≡ (half t old).state)
+    ⊎ ((k : ℕ) × (l : LinkState) × (slice_get old.links k ≡ Some l) × Comes gives t k l old new)
+came_half gives c n r old new h t = grind (arith, came_off, each_side, half, slice_get)

@@ -5,9 +5,10 @@ use Rattle.lagprogress.proofs.Common.{HostEvent, timeout_time, OfEach, no, AtPor
 use Rattle.lagprogress.proofs.Common.{EndsOfEachKnow, OneIsActive, Clearing, IsBetweenTicks, OldArrive, EndKnows, Knows, IsPlayedTicks, SeveralRounds}
 use Rattle.lagprogress.proofs.Common.{TicksAmong, known_in_several_if_both_active, known_in_several_if_one_is, most_ticks}
 use Rattle.lagprogress.proofs.SeveralStart.{first_several}
-use Rattle.lagprogress.proofs.LateStart.{counts_of, kept_of}
+use Rattle.lagprogress.proofs.LateHearing.{counts_of, kept_of, AheadIn, Flies, HearsIn, Said, Whoever, ticks_bring, ticks_near, ticks_pass}
+use Rattle.lagprogress.proofs.LateHearing.{ticks_stamp, ticks_take, ticks_tell}
 use Rattle.lagprogress.proofs.Quieting.{leaves as leaves_ports}
-use Rattle.lagprogress.proofs.Starting.{Ends, active_at, end_of, awake_at, named_at, said_by, starts}
+use Rattle.lagprogress.proofs.Lasting.{Ends, active_at, end_of, awake_at, named_at, said_by, starts}
 use Rattle.lagprogress.proofs.Claims.{IsNamed, Wakeful}
 use Rattle.lagprogress.proofs.EndFacts.{CanSound, IsEnd, Learnt, activity, less_known, short_timeout, wait_of}
 use Rattle.lagprogress.proofs.HostRound.{two, two_other, two_there}
@@ -18,8 +19,6 @@ use Rattle.lagprogress.proofs.Linked.{EndIs, Fits, Link, both_at, each_map, each
 use Rattle.lagprogress.proofs.OneRound.{Nothing, at_rest, beside_here, forget, join}
 use Rattle.lagprogress.proofs.Knowing.{AtIt, GoingIn, MetIn, beside, can_known, ends_of, fits_first, goes_in, knows_in, learns_for, lower, mode}
 use Rattle.lagprogress.proofs.Knowing.{settled, stays_met_in, some_silence, sounds_now, two_less, wait, wakes_now}
-use Rattle.lagprogress.proofs.LateHearing.{AheadIn, Flies, HearsIn, Said, Whoever, ticks_bring, ticks_near, ticks_pass, ticks_stamp, ticks_take}
-use Rattle.lagprogress.proofs.LateHearing.{ticks_tell}
 use Rattle.lagprogress.proofs.SeveralTicks.{TicksBeside, no_less, ticked_by, ticks_hold, ticks_keep}
 use Rattle.lagprogress.proofs.Stamps.{Stamped, Took}
 use Rattle.lagprogress.proofs.Climbing.{PartnerInSync}

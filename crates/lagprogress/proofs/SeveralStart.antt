@@ -7,14 +7,13 @@ use Rattle.lagprogress.proofs.EndFacts.{Along, IsEnd, Suits, Synced, nothing_alo
 use Rattle.lagprogress.proofs.HostRound.{KeptBeside, MadeByTick, between, healthy_link, two_there}
 use Rattle.lagprogress.proofs.SeveralTicks.{TicksBeside, Within, all_counted, fits_at, known_at, none_counted, own_at, peer_at, side_turns, ticked_by}
 use Rattle.lagprogress.proofs.SeveralTicks.{ticks_keep}
-use Rattle.lagprogress.proofs.LateStart.{counts_of, kept_of}
-use Rattle.lagprogress.proofs.HostStamps.{stamped_between, stamped_tick}
+use Rattle.lagprogress.proofs.LateHearing.{counts_of, kept_of}
+use Rattle.lagprogress.proofs.Stamps.{stamped_between, stamped_tick, Stamped}
 use Rattle.lagprogress.proofs.LateFlow.{Adds, Past, cleared_on, gain_at}
 use Rattle.lagprogress.proofs.Linked.{Fits, IsGood, Link, of_end, other_ports, peer_twice, push_there, told_good, same_items}
 use Rattle.lagprogress.proofs.OneCable.{Asks, IsStamped, OnCable, cable, sent_frame, towards_there}
 use Rattle.lagprogress.proofs.OneRound.{Nothing}
-use Rattle.lagprogress.proofs.Stamps.{Stamped}
-use Rattle.lagprogress.proofs.Starting.{raised}
+use Rattle.lagprogress.proofs.Lasting.{raised}
 
 -- as many arrive as were on the cable
 arriving : (n : ℕ) (gives : Algorithms) (at : Side → ℕ) (x : ℕ) (fl : Side → List ItemValue) (old new : WorldState) → IsHealthyAt x (cable at fl) old

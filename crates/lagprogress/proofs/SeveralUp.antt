@@ -1,18 +1,19 @@
 -- How the links of a bundle come up and agree in rounds of several ticks.
-use Rattle.lagprogress.proofs.Common.{Bool, List, Option, Some, ap, arith, false, inl, inr, is_some, map, refl, slice_get, subst, suc, sym, true}
-use Rattle.lagprogress.proofs.Common.{zero, ℕ, ◌+◌, ◌-◌, ◌∙◌, ◌≡◌, ◌≤◌, ◌⊎◌, cases_Bool, AllByRecursion, Key, SystemId, is_selected, Lacpdu, One}
-use Rattle.lagprogress.proofs.Common.{Side, Two, peer, Machines, receive_rows, RunsToRest, count_down, Table, PortConfig, SystemPort}
-use Rattle.lagprogress.proofs.Common.{configured_numbers, none_enabled, SystemState, port_numbers, with_system_ports, with_table, rests, all-get}
-use Rattle.lagprogress.proofs.Common.{ports_rise, Same, Reply, agreement_at, Algorithms, link_ends, IsWorldSound, ItemValue, LinkState, WorldState}
-use Rattle.lagprogress.proofs.Common.{half, history_at, port_at, towards, HostEvent, Plays, AtPort, at_number, same_place, BothAreActive}
-use Rattle.lagprogress.proofs.Common.{EachLinkAgrees, EachLinkComesUp, IsBundle, OneIsActive, IsBetweenTicks, StepReplies, OldArrive, Distributes}
-use Rattle.lagprogress.proofs.Common.{AtEnd, IsHealthyAt, EachLinkStaysAgreedThroughout, EachLinkStaysUpThroughout, IsPlayedTicks, SeveralBeside}
-use Rattle.lagprogress.proofs.Common.{SeveralRounds, TicksAmong, most_ticks, up_in_several_if_both_active, up_in_several_if_one_is, IsSteady}
-use Rattle.lagprogress.proofs.Bundling.{Awake, Named, agree_still, apart_ends, both_wake, down_first, down_keeps, heard_holds, is_chosen, names}
-use Rattle.lagprogress.proofs.Bundling.{one_wakes, said}
+use Rattle.lagprogress.proofs.Common.{Bool, List, Option, Some, ap, arith, false, inl, inr, map, refl, slice_get, subst, suc, sym, true, zero, ℕ, ◌+◌}
+use Rattle.lagprogress.proofs.Common.{◌-◌, ◌∙◌, ◌≡◌, ◌≤◌, ◌⊎◌, cases_Bool, AllByRecursion, Key, SystemId, is_selected, Lacpdu, One, Side, Two, peer}
+use Rattle.lagprogress.proofs.Common.{Machines, receive_rows, RunsToRest, count_down, Table, PortConfig, SystemPort, configured_numbers, none_enabled}
+use Rattle.lagprogress.proofs.Common.{SystemState, port_numbers, with_system_ports, with_table, rests, all-get, ports_rise, Same, Reply, agreement_at}
+use Rattle.lagprogress.proofs.Common.{Algorithms, link_ends, IsWorldSound, ItemValue, LinkState, WorldState, half, port_at, towards, HostEvent, Plays}
+use Rattle.lagprogress.proofs.Common.{AtPort, at_number, same_place, BothAreActive, EachLinkAgrees, EachLinkComesUp, IsBundle, OneIsActive}
+use Rattle.lagprogress.proofs.Common.{IsBetweenTicks, StepReplies, OldArrive, Distributes, AtEnd, IsHealthyAt, EachLinkStaysAgreedThroughout}
+use Rattle.lagprogress.proofs.Common.{EachLinkStaysUpThroughout, IsPlayedTicks, SeveralBeside, SeveralRounds, TicksAmong, most_ticks}
+use Rattle.lagprogress.proofs.Common.{up_in_several_if_both_active, up_in_several_if_one_is, IsSteady}
+use Rattle.lagprogress.proofs.Bundling.{Awake, Named, agree_still, apart_ends, both_meet as late_both, down_first, down_keeps, heard_holds, is_chosen}
+use Rattle.lagprogress.proofs.Bundling.{names, one_meets as late_one, said}
 use Rattle.lagprogress.proofs.Claims.{IsNamed}
-use Rattle.lagprogress.proofs.Climbing.{Down, PartnerInSync, Ripe, Rising, climbed, down_ticks, rising_along, ticks_rising}
-use Rattle.lagprogress.proofs.ComingUp.{AgreesIn, AreSynced, distributes, hears_on, owed, rises_first, synced_in}
+use Rattle.lagprogress.proofs.Climbing.{Down, PartnerInSync, Ripe, Rising, climbed, down_ticks, rising_along, ticks_rising, ticks_still}
+use Rattle.lagprogress.proofs.ComingUp.{AgreesIn, AreSynced, distributes, hears_on, owed, rises_first, agreed_synced, several_agree, several_join}
+use Rattle.lagprogress.proofs.ComingUp.{several_stamped, synced_along, tells_which}
 use Rattle.lagprogress.proofs.EachRound.{EachAt, RoundKeeps, each_between, joins_kept, joins_tick, tick_keeps, tick_leaves, tick_makes}
 use Rattle.lagprogress.proofs.EndFacts.{Learnt, Synced, activity, wait_of}
 use Rattle.lagprogress.proofs.HostRound.{KeptBetween, MadeByTick}
@@ -20,11 +21,10 @@ use Rattle.lagprogress.proofs.Knowing.{AtIt, Leaves, MetIn, able_in, beside, fit
 use Rattle.lagprogress.proofs.Knowing.{wakes_met}
 use Rattle.lagprogress.proofs.Halves.{timely}
 use Rattle.lagprogress.proofs.OneCable.{OnCable}
-use Rattle.lagprogress.proofs.Lasting.{Alike, IsAsBefore, alike_keeps, alike_ticks, all_by_place, ends_at, old_port, still_links}
-use Rattle.lagprogress.proofs.LateComingUp.{present_of, several_agree, several_join, several_stamped, synced_along, tells_which, ticks_synced}
+use Rattle.lagprogress.proofs.Lasting.{Alike, IsAsBefore, alike_keeps, alike_ticks, all_by_place, ends_at, old_port, still_links, active_at}
+use Rattle.lagprogress.proofs.Lasting.{healthy_cable, named_at, raised, starts}
 use Rattle.lagprogress.proofs.LateFlow.{Past}
-use Rattle.lagprogress.proofs.LateHearing.{AheadIn, Whoever, ticks_near, ticks_stamp}
-use Rattle.lagprogress.proofs.LateStart.{counts_of, kept_of}
+use Rattle.lagprogress.proofs.LateHearing.{AheadIn, Whoever, ticks_near, ticks_stamp, counts_of, kept_of}
 use Rattle.lagprogress.proofs.Linked.{IsGood, Link, at_end, each_map, end_here, end_with, peer_twice, same_items}
 use Rattle.lagprogress.proofs.OneRound.{Nothing, join}
 use Rattle.lagprogress.proofs.Quieting.{IsCalm, calm_between, calm_keeps, calm_steady, leaves}
@@ -33,7 +33,6 @@ use Rattle.lagprogress.proofs.SeveralStart.{flush}
 use Rattle.lagprogress.proofs.SeveralTicks.{TicksBeside, holds_turns, no_less, ticked_by, ticks_hold, turned}
 use Rattle.lagprogress.proofs.SharedLemmas.{Finds, Lasted, Sleeps, is_disabled, shared_finds, sleeping_round, sleeping_ticks}
 use Rattle.lagprogress.proofs.Stamps.{Stamped}
-use Rattle.lagprogress.proofs.Starting.{active_at, healthy_cable, named_at, raised, starts}
 use Rattle.lagprogress.proofs.Telling.{tells_map}
 use Rattle.lagscript.specs.declared.event.Event.TheVariants as event
 
@@ -100,7 +99,7 @@ module _ (gives : Algorithms) where
       (all-get (λ (y : SystemPort). none_enabled receive_rows y.port ≡ true) st.system_ports k x there (steady s).0.rested.0) in
       several_each (AtPort x.number (Sleeps x.port)) (sleeping_round x.number x.port) (sleeping_ticks x.number x.port) s n old new h
       (at_number (Sleeps x.port) 0 st.system_ports k x (ports_rise st (steady s).0.ports) there
-      (record { down = down; disabled = is_disabled x.port.receive x.port.enabled down rest.1.0; partner = refl; idle = λ e. e }))
+      (down, is_disabled x.port.receive x.port.enabled down rest.1.0, refl, λ e. e))
 
   several_lasted : (n : ℕ) (old new : WorldState) → IsSteady old → SeveralRounds gives n old new → Lasted old new
   several_lasted n old new steady h = record {
@@ -230,7 +229,7 @@ module _ (at : Side → ℕ) (w : Side → Lacpdu) (counts : Side → ℕ) (kept
       flush gives k 1 2 at w g.known t Synced (fits_met at w counts kept named awake most_ticks 1 1 old g (omega arith) (omega arith))
       (fits_in_round at w counts kept named awake most_ticks 1 1 old g (omega arith) (omega arith) k less)
       (λ a q. synced_along (w x) (w (peer x)) (g.known x - a) 1 (omega arith) (omega (arith, l, q, less)))
-      (λ a q p r run rest e y. ticks_synced 1 (w x) (w (peer x)) (g.known x - a) p r (omega (arith, l, q, less)) run e y)
+      (λ a q p r run rest e y. subst Synced (sym (ticks_still 1 (w x) (w (peer x)) (g.known x - a) p r (omega (arith, l, q, less)) e run)) (y.0, y.1))
       (λ p y. y) (λ p y f. y) (λ f. omega (arith, l, less)) old new (join 1 at w g.known One x Synced old g.link (synced x)) h
 
   raises_in : (k : ℕ) (old new : WorldState) → 1 ≤ k → k ≤ most_ticks → TicksBeside k at OldArrive gives old new → Met 1 old
@@ -453,9 +452,7 @@ module _ (Holds : LinkState → WorldState → Type 0) (first : ℕ) (gives : Al
   are_synced : (i : ℕ) (l : LinkState) (y : IsHealthyAt i l old) (n : ℕ) (new : WorldState) → first + 43 ≤ n → SeveralRounds gives n old new
       → AreSynced (λ s. port_at s l) (said old i l y) new
   are_synced i l y n new enough h =
-      let at : Side → ℕ = λ t. port_at t l in
-      synced_in at (said old i l y) (counts_of at old) (kept_of at old) (named_of i l y) (awake_of i l y) most_ticks (omega arith) new
-      (λ s stamped took. present_of gives at old new s (stamped, took)) (agree_in i l y n new enough h)
+      agreed_synced gives (λ s. port_at s l) (said old i l y) old new (agree_in i l y n new enough h)
 
   comes_up_of : (i : ℕ) (l : LinkState) (y : IsHealthyAt i l old) (n : ℕ) (new : WorldState) → first + 43 ≤ n → SeveralRounds gives n old new
       → (s : Side) → AtEnd Distributes s l new
@@ -474,8 +471,7 @@ module _ (Holds : LinkState → WorldState → Type 0) (first : ℕ) (gives : Al
       → SeveralBeside l gives m mid new → AreSynced (λ s. port_at s l) (said old i l y) new
   stays_of i l y n m mid new enough h more =
       let at : Side → ℕ = λ t. port_at t l in
-      synced_in at (said old i l y) (counts_of at old) (kept_of at old) (named_of i l y) (awake_of i l y) most_ticks (omega arith) new
-      (λ s stamped took. present_of gives at old new s (stamped, took)) (several_agree gives l (said old i l y) (counts_of at old) (kept_of at old)
+      agreed_synced gives at (said old i l y) old new (several_agree gives l (said old i l y) (counts_of at old) (kept_of at old)
       (named_of i l y) (awake_of i l y) m mid new more (agree_in i l y n mid enough h))
 
   stays_agreed_of : IsWorldSound old → (i : ℕ) (l : LinkState) (y : IsHealthyAt i l old) (n m : ℕ) (mid new : WorldState) → first + 43 ≤ n
@@ -505,32 +501,32 @@ one_meets gives old b i l h a mid r =
 
 pub both_come_up : (gives : Algorithms) → EachLinkComesUp SeveralRounds BothAreActive up_in_several_if_both_active gives
 both_come_up gives n i l old new b y enough h =
-    comes_up_of BothAreActive 365 gives old b (both_meets gives old b) (both_wake old) i l y n new enough h
+    comes_up_of BothAreActive 365 gives old b (both_meets gives old b) ((late_both gives).wake old) i l y n new enough h
 
 pub one_comes_up : (gives : Algorithms) → EachLinkComesUp SeveralRounds OneIsActive up_in_several_if_one_is gives
 one_comes_up gives n i l old new b y enough h =
-    comes_up_of OneIsActive 671 gives old b (one_meets gives old b) (one_wakes old) i l y n new enough h
+    comes_up_of OneIsActive 671 gives old b (one_meets gives old b) ((late_one gives).wake old) i l y n new enough h
 
 pub both_agree_in_several : (gives : Algorithms) → EachLinkAgrees SeveralRounds BothAreActive up_in_several_if_both_active gives
 both_agree_in_several gives n i l old new sound b y enough h =
-    agrees_of BothAreActive 365 gives old b (both_meets gives old b) (both_wake old) sound i l y n new enough h
+    agrees_of BothAreActive 365 gives old b (both_meets gives old b) ((late_both gives).wake old) sound i l y n new enough h
 
 pub one_agrees_in_several : (gives : Algorithms) → EachLinkAgrees SeveralRounds OneIsActive up_in_several_if_one_is gives
 one_agrees_in_several gives n i l old new sound b y enough h =
-    agrees_of OneIsActive 671 gives old b (one_meets gives old b) (one_wakes old) sound i l y n new enough h
+    agrees_of OneIsActive 671 gives old b (one_meets gives old b) ((late_one gives).wake old) sound i l y n new enough h
 
 pub both_stay_up : (gives : Algorithms) → EachLinkStaysUpThroughout BothAreActive up_in_several_if_both_active gives
 both_stay_up gives n m i l old mid new b y enough h more = distributes (λ s. port_at s l) (said old i l y) new
-    (stays_of BothAreActive 365 gives old b (both_meets gives old b) (both_wake old) i l y n m mid new enough h more)
+    (stays_of BothAreActive 365 gives old b (both_meets gives old b) ((late_both gives).wake old) i l y n m mid new enough h more)
 
 pub one_stays_up : (gives : Algorithms) → EachLinkStaysUpThroughout OneIsActive up_in_several_if_one_is gives
 one_stays_up gives n m i l old mid new b y enough h more = distributes (λ s. port_at s l) (said old i l y) new
-    (stays_of OneIsActive 671 gives old b (one_meets gives old b) (one_wakes old) i l y n m mid new enough h more)
+    (stays_of OneIsActive 671 gives old b (one_meets gives old b) ((late_one gives).wake old) i l y n m mid new enough h more)
 
 pub both_stay_agreed : (gives : Algorithms) → EachLinkStaysAgreedThroughout BothAreActive up_in_several_if_both_active gives
 both_stay_agreed gives n m i l old mid new sound b y enough h more =
-    stays_agreed_of BothAreActive 365 gives old b (both_meets gives old b) (both_wake old) sound i l y n m mid new enough h more
+    stays_agreed_of BothAreActive 365 gives old b (both_meets gives old b) ((late_both gives).wake old) sound i l y n m mid new enough h more
 
 pub one_stays_agreed : (gives : Algorithms) → EachLinkStaysAgreedThroughout OneIsActive up_in_several_if_one_is gives
 one_stays_agreed gives n m i l old mid new sound b y enough h more =
-    stays_agreed_of OneIsActive 671 gives old b (one_meets gives old b) (one_wakes old) sound i l y n m mid new enough h more
+    stays_agreed_of OneIsActive 671 gives old b (one_meets gives old b) ((late_one gives).wake old) sound i l y n m mid new enough h more

@@ -1,17 +1,16 @@
 -- Ports that know their partners find aggregators, also where there are fewer of them than ports of one group.
-use Rattle.lagprogress.proofs.Common.{Bool, Some, ap, arith, false, inl, inr, not, refl, slice_get, subst, sym, true, ℕ, ◌&&◌, ◌==◌, ◌∙◌, ◌≡◌, ◌≢◌}
-use Rattle.lagprogress.proofs.Common.{◌⊎◌, cases_Bool, nat_tests, AggId, Key, SystemId, Standby, Unselected, Party, group_of, individual, same_group}
-use Rattle.lagprogress.proofs.Common.{group-itself, party_of, Side, peer, ReceiveState, PortDisabled, Machines, mux_rows, selected, RunsPeriodic}
-use Rattle.lagprogress.proofs.Common.{receive_rows, same_receive_state, RunsToRest, count_down, SystemPort, none_enabled, NoneHeld, SystemState}
-use Rattle.lagprogress.proofs.Common.{rests, all-get, found_place, ports_rise, Algorithms, LinkState, WorldState, half, port_at, SharesGroup}
-use Rattle.lagprogress.proofs.Common.{StandsByFull, WantsAggregator, EnabledKeep, no, times_keep, AtPort, at_number, mux_leaves, periodic_leaves}
-use Rattle.lagprogress.proofs.Common.{finds_aggregator, shares_aggregator, AllHeard, EnoughAggregators, Clearing, PlayedRounds, EndKnows, Knows}
-use Rattle.lagprogress.proofs.Common.{AtEnd, IsHealthyAt, OfPort, AreOneGroup, DownWereLinkedTo, HasAggregators, LeadToKey, IsSteady}
+use Rattle.lagprogress.proofs.Common.{Bool, Some, ap, arith, false, inl, inr, not, refl, slice_get, subst, sym, true, ℕ, ◌&&◌, ◌∙◌, ◌≡◌, ◌≢◌, ◌⊎◌}
+use Rattle.lagprogress.proofs.Common.{cases_Bool, nat_tests, AggId, Key, SystemId, Standby, Unselected, Party, group_of, individual, same_group}
+use Rattle.lagprogress.proofs.Common.{group-itself, party_of, Side, peer, ReceiveState, PortDisabled, Machines, selected, receive_rows}
+use Rattle.lagprogress.proofs.Common.{same_receive_state, RunsToRest, count_down, SystemPort, none_enabled, NoneHeld, SystemState, rests, all-get}
+use Rattle.lagprogress.proofs.Common.{found_place, ports_rise, Algorithms, LinkState, WorldState, half, port_at, SharesGroup, StandsByFull}
+use Rattle.lagprogress.proofs.Common.{WantsAggregator, EnabledKeep, no, times_keep, AtPort, at_number, mux_leaves, periodic_leaves, finds_aggregator}
+use Rattle.lagprogress.proofs.Common.{shares_aggregator, AllHeard, EnoughAggregators, Clearing, PlayedRounds, EndKnows, Knows, AtEnd, IsHealthyAt}
+use Rattle.lagprogress.proofs.Common.{OfPort, AreOneGroup, DownWereLinkedTo, HasAggregators, LeadToKey, IsSteady}
 use Rattle.lagprogress.proofs.Choosing.{down_as_read}
 use Rattle.lagprogress.proofs.EachRound.{EachAt, RoundKeeps, host_each, played_keep, played_on, played_steady}
 use Rattle.lagprogress.proofs.Lasting.{IsAsBefore, ends_at, old_port, own_system, still_enough, still_heard, still_one, played_before, played_alike}
-use Rattle.lagprogress.proofs.Lasting.{Alike}
-use Rattle.lagprogress.proofs.Starting.{end_of}
+use Rattle.lagprogress.proofs.Lasting.{Alike, end_of}
 use Rattle.lagprogress.proofs.Linked.{machines_there}
 
 -- where no port is held, this one is not
@@ -28,21 +27,14 @@ enough_finds s j steady enough k x there wants = grind (arith, nat_tests, finds_
 
 -- one group
 
--- two ports of one system and key, linked to ports of one system and key
-same_link : (a b c d : Party) → a.system ≡ c.system → a.key ≡ c.key → b.system ≡ d.system → b.key ≡ d.key → individual a b ≡ false
-    → individual c d ≡ false → group_of a b ≡ group_of c d
-same_link a b c d e f g h i j = rw (i, j, e, f, g, h) refl
-
 same_is : (a b c d : Party) → group_of a b ≡ group_of c d → same_group (group_of a b) (group_of c d) ≡ true
 same_is a b c d e = subst (λ x. same_group x (group_of c d) ≡ true) (sym e) (group-itself (group_of c d))
 
 -- a port whose link is down keeps its partner, and stays UNSELECTED
 
-pub record Sleeps (x p : Machines) : Type 0 where
-  pub down : p.enabled ≡ false
-  pub disabled : p.receive ≡ PortDisabled
-  pub partner : party_of p.partner ≡ party_of x.partner
-  pub idle : x.choice ≡ Unselected → p.choice ≡ Unselected
+abbrev pub Sleeps : Machines → Machines → Type 0
+Sleeps x p = (p.enabled ≡ false) × (p.receive ≡ PortDisabled) × (party_of p.partner ≡ party_of x.partner)
+    × (x.choice ≡ Unselected → p.choice ≡ Unselected)
 
 not_from : (s r : ReceiveState) (b : Bool) → r ≡ PortDisabled → same_receive_state s PortDisabled ≡ false
     → (same_receive_state s r && b) ≡ true → ⊥
@@ -63,42 +55,25 @@ standing agg e = cc
 pub sleeping_round : (n : ℕ) (x : Machines) → RoundKeeps (AtPort n (Sleeps x))
 sleeping_round n x = record {
   settles = record {
-    mux = λ m ready p q h a e. mux_keeps ready p q h (a e);
-    periodic = λ m p q h a e. periodic_keeps p q h (a e);
-    select = λ m choice p none may a e. (let y = a e in record {
-      down = y.down;
-      disabled = y.disabled;
-      partner = y.partner;
-      idle = λ u. absurd (elim may.0 [
-        | inl up ↦ no (sym y.down ∙ up.0)
-        | inr s ↦ standing s.0 (sym s.1 ∙ y.idle u)
-      ]);
-    });
+    mux = λ m ready p q h a e. mux_leaves (Sleeps x) ready p q h (a e);
+    periodic = λ m p q h a e. periodic_leaves (Sleeps x) p q h (a e);
+    select = λ m choice p none may a e. (let y = a e in (
+      y.0,
+      y.1,
+      y.2,
+      λ u. absurd (elim may.0 [
+        | inl up ↦ no (sym y.0 ∙ up.0)
+        | inr s ↦ standing s.0 (sym s.1 ∙ y.3 u)
+      ]),
+    ));
   };
-  sends = λ m p a e. (let y = a e in record { down = y.down; disabled = y.disabled; partner = y.partner; idle = y.idle });
-  takes = λ m v p q h a e. (let y = a e in
-      let r = down_as_read v p q y.down h in
-      record { down = r.3 ∙ y.down; disabled = r.4 ∙ y.disabled; partner = r.1 ∙ y.partner; idle = λ u. r.2 ∙ y.idle u });
+  sends = λ m p a e. a e;
+  takes = λ m v p q h a e. (let y = a e in let r = down_as_read v p q y.0 h in (r.3 ∙ y.0, r.4 ∙ y.1, r.1 ∙ y.2, λ u. r.2 ∙ y.3 u));
 }
-  where
-    mux_keeps : (ready : Bool) (p q : Machines) → RunsToRest (mux_rows ready) p q → Sleeps x p → Sleeps x q
-    mux_keeps ready p q h y =
-        let z = mux_leaves (λ r. (r.enabled ≡ false) × (r.receive ≡ PortDisabled) × (party_of r.partner ≡ party_of x.partner)
-        × (x.choice ≡ Unselected → r.choice ≡ Unselected)) ready p q h (y.down, y.disabled, y.partner, y.idle) in
-        record { down = z.0; disabled = z.1; partner = z.2; idle = z.3 }
-
-    periodic_keeps : (p q : Machines) → RunsPeriodic p q → Sleeps x p → Sleeps x q
-    periodic_keeps p q h y =
-        let z = periodic_leaves (λ r. (r.enabled ≡ false) × (r.receive ≡ PortDisabled) × (party_of r.partner ≡ party_of x.partner)
-        × (x.choice ≡ Unselected → r.choice ≡ Unselected)) p q h (y.down, y.disabled, y.partner, y.idle) in
-        record { down = z.0; disabled = z.1; partner = z.2; idle = z.3 }
 
 pub sleeping_ticks : (n : ℕ) (x : Machines) (m : ℕ) (p q : Machines) → RunsToRest receive_rows (count_down p) q → AtPort n (Sleeps x) m p
     → AtPort n (Sleeps x) m q
-sleeping_ticks n x m p q h a e =
-    let y = a e in
-    times_keep (Sleeps x) receive_rows (sleeping_rows x) h.0 (count_down p) q h.1
-    (record { down = y.down; disabled = y.disabled; partner = y.partner; idle = y.idle })
+sleeping_ticks n x m p q h a e = times_keep (Sleeps x) receive_rows (sleeping_rows x) h.0 (count_down p) q h.1 (a e)
 
 pub is_disabled : (r : ReceiveState) (up : Bool) → up ≡ false → (not (same_receive_state PortDisabled r) && not up) ≡ false → r ≡ PortDisabled
 is_disabled r up e h = grind (arith, nat_tests)
@@ -111,7 +86,7 @@ still_sleeps E gives n old new steady h s k x there down =
     (all-get (λ (y : SystemPort). none_enabled receive_rows y.port ≡ true) st.system_ports k x there (steady s).0.rested.0) in
     played_on E gives (λ m j. EachAt (AtPort x.number (Sleeps x.port)) s j) old
     (at_number (Sleeps x.port) 0 st.system_ports k x (ports_rise st (steady s).0.ports) there
-    (record { down = down; disabled = is_disabled x.port.receive x.port.enabled down rest.1.0; partner = refl; idle = λ e. e }))
+    (down, is_disabled x.port.receive x.port.enabled down rest.1.0, refl, λ e. e))
     (λ m i j q a. host_each (AtPort x.number (Sleeps x.port)) (AtPort x.number (Sleeps x.port)) (sleeping_round x.number x.port)
     (sleeping_round x.number x.port) (sleeping_ticks x.number x.port) s gives i j q a) n new h
 
@@ -210,10 +185,15 @@ module _ (old new : WorldState) (steady : IsSteady old) (last : Lasted old new) 
     together = together x.port.party (party_of x.port.partner) mine.own mine.partner;
     group = λ m y at same chosen. (let its = each m y at (same ∙ is) chosen in
         same_is y.port.party (party_of y.port.partner) x.port.party (party_of x.port.partner)
-        (same_link y.port.party (party_of y.port.partner) x.port.party (party_of x.port.partner)
-        (own_system (half s new).state m y (now s).0 at ∙ sym (own_system (half s new).state k x (now s).0 there)) same
-        (its.system ∙ sym mine.system) (its.far_key ∙ sym mine.far_key) (together y.port.party (party_of y.port.partner) its.own its.partner)
-        (together x.port.party (party_of x.port.partner) mine.own mine.partner)));
+        (rw (
+          (together y.port.party (party_of y.port.partner) its.own its.partner),
+          (together x.port.party (party_of x.port.partner) mine.own mine.partner),
+          (own_system (half s new).state m y (now s).0 at ∙ sym
+              (own_system (half s new).state k x (now s).0 there)),
+          same,
+          (its.system ∙ sym mine.system),
+          (its.far_key ∙ sym mine.far_key),
+        ) refl));
   }
     where
       together : (a b : Party) → a.aggregatable ≡ true → b.aggregatable ≡ true → individual a b ≡ false

@@ -1,6 +1,6 @@
 use Rattle.lagprogress.proofs.Halves.{keeps_steady, start_steady}
 use Rattle.lagprogress.proofs.HostSteady.{host_reached_steady, hosts_keep_steady}
-use Rattle.lagprogress.proofs.Reaching.{reached_steady, runs_steady}
+use Rattle.lagprogress.proofs.MadeWorlds.{reached_steady, runs_steady}
 use Rattle.lagprogress.proofs.each_world_is_steady.Goals as goal
 
 pub returns-clause-start : goal.returns-clause-start

@@ -1,12 +1,13 @@
-use Rattle.lagprogress.proofs.Knowing.{active_ends_know, ends_know}
 use Rattle.lagprogress.proofs.SeveralMeeting.{both_know_in_several, one_knows_in_several}
+use Rattle.lagprogress.proofs.Common.{BothAreActive, OneIsActive}
 use Rattle.lagprogress.proofs.clocks.ends_come_to_know_by_clocks.Goals as goal
+use Rattle.lagprogress.proofs.Bundling.{both_meet, ends_know, one_meets}
 
 pub returns-clause-both : goal.returns-clause-both
-returns-clause-both g c = λ one two. active_ends_know _
+returns-clause-both g c = λ one two. ends_know BothAreActive 323 _ (both_meet _)
 
 pub returns-clause-one : goal.returns-clause-one
-returns-clause-one g c = λ one two. ends_know _
+returns-clause-one g c = λ one two. ends_know OneIsActive 624 _ (one_meets _)
 
 pub returns-clause-several_both : goal.returns-clause-several_both
 returns-clause-several_both g c = λ one two. both_know_in_several _

@@ -1,5 +1,5 @@
 use Rattle.lagprogress.proofs.Common.{arith, refl, subst, ℕ, ◌∙◌, ◌≡◌, ◌≤◌, One, Side, Algorithms, WorldState, BothAreActive, OneIsActive}
-use Rattle.lagprogress.proofs.Common.{DrainingRounds, HostRounds, PlaysHostRounds, up_if_both_active, up_if_one_is, IsSteady}
+use Rattle.lagprogress.proofs.Common.{DrainingRounds, PlaysHostRounds, up_if_both_active, up_if_one_is, IsSteady}
 use Rattle.lagprogress.proofs.Bundling.{each_link_agrees, each_link_comes_up, one_active, both_active}
 use Rattle.lagprogress.proofs.Freeing.{nothing_is_held_by_hosts}
 use Rattle.lagprogress.proofs.HostLoops.{draining_are_host}
@@ -50,11 +50,6 @@ all_drain : (gives : Algorithms) (count done : ℕ) (old new : WorldState) → c
 all_drain gives count done old new l m h = let all : done ≡ count = omega (arith, l, m) in
     subst (λ n. IsSteady old → (s : Side) (g k : ℕ) → DrainingRounds s g k gives n old new) all h
 
-all_played : (gives : Algorithms) (count done : ℕ) (old new : WorldState) → count ≤ done → done ≤ count
-    → (IsSteady old → (s : Side) (g k : ℕ) → DrainingRounds s g k gives done old new) → IsSteady old → HostRounds gives count old new
-all_played gives count done old new l m h =
-    λ steady. draining_are_host gives One 0 0 count old new (all_drain gives count done old new l m h steady One 0 0)
-
 all_rounds : (gives : Algorithms) (count done : ℕ) (old new : WorldState) → count ≤ done → done ≤ count → PlaysHostRounds gives done old new
     → PlaysHostRounds gives count old new
 all_rounds gives count done old new l m h =
@@ -69,36 +64,28 @@ returns-clause-drains g c =
     all_drain _ c.args.count c.loop-done.done _ _ c.loop-done-test.false c.loop-done.invariant.within c.loop-done.invariant.played
 
 pub returns-clause-rounds : goal.returns-clause-rounds
-returns-clause-rounds g c =
-    all_played _ c.args.count c.loop-done.done _ _ c.loop-done-test.false c.loop-done.invariant.within c.loop-done.invariant.played
+returns-clause-rounds g c = λ steady. draining_are_host _ One 0 0 c.args.count _ _ (returns-clause-drains g c steady One 0 0)
 
 pub returns-clause-distributes_both : goal.returns-clause-distributes_both
 returns-clause-distributes_both g c = distribute g.C.Cable.items g.C.Cable.limit BothAreActive up_if_both_active _
-    (each_link_comes_up BothAreActive 323 _ (both_active _))
-    c.args.count _ _
-    (all_played _ c.args.count c.loop-done.done _ _ c.loop-done-test.false c.loop-done.invariant.within c.loop-done.invariant.played)
+    (each_link_comes_up BothAreActive 323 _ (both_active _)) c.args.count _ _ (returns-clause-rounds g c)
 
 pub returns-clause-agrees_both : goal.returns-clause-agrees_both
 returns-clause-agrees_both g c = agree g.C.Cable.items g.C.Cable.limit BothAreActive up_if_both_active _
-    (each_link_agrees BothAreActive 323 _ (both_active _)) c.args.count _ _
-    (all_played _ c.args.count c.loop-done.done _ _ c.loop-done-test.false c.loop-done.invariant.within c.loop-done.invariant.played)
+    (each_link_agrees BothAreActive 323 _ (both_active _)) c.args.count _ _ (returns-clause-rounds g c)
 
 pub returns-clause-distributes_one : goal.returns-clause-distributes_one
 returns-clause-distributes_one g c = distribute g.C.Cable.items g.C.Cable.limit OneIsActive up_if_one_is _
-    (each_link_comes_up OneIsActive 624 _ (one_active _)) c.args.count _ _
-    (all_played _ c.args.count c.loop-done.done _ _ c.loop-done-test.false c.loop-done.invariant.within c.loop-done.invariant.played)
+    (each_link_comes_up OneIsActive 624 _ (one_active _)) c.args.count _ _ (returns-clause-rounds g c)
 
 pub returns-clause-agrees_one : goal.returns-clause-agrees_one
 returns-clause-agrees_one g c = agree g.C.Cable.items g.C.Cable.limit OneIsActive up_if_one_is _
-    (each_link_agrees OneIsActive 624 _ (one_active _)) c.args.count _ _
-    (all_played _ c.args.count c.loop-done.done _ _ c.loop-done-test.false c.loop-done.invariant.within c.loop-done.invariant.played)
+    (each_link_agrees OneIsActive 624 _ (one_active _)) c.args.count _ _ (returns-clause-rounds g c)
 
 pub returns-clause-frees_both : goal.returns-clause-frees_both
 returns-clause-frees_both g c = free_by_hosts g.C.Cable.items g.C.Cable.limit BothAreActive up_if_both_active _
-    (nothing_is_held_by_hosts BothAreActive 323 _ (both_active _)) c.args.count _ _ c.loop-done.invariant.events
-    (all_drain _ c.args.count c.loop-done.done _ _ c.loop-done-test.false c.loop-done.invariant.within c.loop-done.invariant.played)
+    (nothing_is_held_by_hosts BothAreActive 323 _ (both_active _)) c.args.count _ _ c.loop-done.invariant.events (returns-clause-drains g c)
 
 pub returns-clause-frees_one : goal.returns-clause-frees_one
 returns-clause-frees_one g c = free_by_hosts g.C.Cable.items g.C.Cable.limit OneIsActive up_if_one_is _
-    (nothing_is_held_by_hosts OneIsActive 624 _ (one_active _)) c.args.count _ _ c.loop-done.invariant.events
-    (all_drain _ c.args.count c.loop-done.done _ _ c.loop-done-test.false c.loop-done.invariant.within c.loop-done.invariant.played)
+    (nothing_is_held_by_hosts OneIsActive 624 _ (one_active _)) c.args.count _ _ c.loop-done.invariant.events (returns-clause-drains g c)

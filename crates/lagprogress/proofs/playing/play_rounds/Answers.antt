@@ -39,37 +39,34 @@ all_played : (gives : Algorithms) (count done : ℕ) (old new : WorldState) → 
     → Rounds gives count old new
 all_played gives count done old new l m h = let all : done ≡ count = omega (arith, l, m) in subst (λ n. Rounds gives n old new) all h
 
+pub returns-clause-rounds : goal.returns-clause-rounds
+returns-clause-rounds g c =
+    all_played _ c.args.count c.loop-done.done _ _ c.loop-done-test.false c.loop-done.invariant.within c.loop-done.invariant.played
+
 pub returns-clause-distributes_both : goal.returns-clause-distributes_both
 returns-clause-distributes_both g c = distribute g.C.Cable.items g.C.Cable.limit BothAreActive up_if_both_active _
-    (each_link_comes_up BothAreActive 323 _ (both_active _))
-    c.args.count _ _
-    (λ steady. rounds_are_host_rounds _ c.args.count _ _ steady
-    (all_played _ c.args.count c.loop-done.done _ _ c.loop-done-test.false c.loop-done.invariant.within c.loop-done.invariant.played))
+    (each_link_comes_up BothAreActive 323 _ (both_active _)) c.args.count _ _
+    (λ steady. rounds_are_host_rounds _ c.args.count _ _ steady (returns-clause-rounds g c))
 
 pub returns-clause-agrees_both : goal.returns-clause-agrees_both
 returns-clause-agrees_both g c = agree g.C.Cable.items g.C.Cable.limit BothAreActive up_if_both_active _
     (each_link_agrees BothAreActive 323 _ (both_active _)) c.args.count _ _
-    (λ steady. rounds_are_host_rounds _ c.args.count _ _ steady
-    (all_played _ c.args.count c.loop-done.done _ _ c.loop-done-test.false c.loop-done.invariant.within c.loop-done.invariant.played))
+    (λ steady. rounds_are_host_rounds _ c.args.count _ _ steady (returns-clause-rounds g c))
 
 pub returns-clause-frees_both : goal.returns-clause-frees_both
 returns-clause-frees_both g c = free g.C.Cable.items g.C.Cable.limit BothAreActive freed_if_both_active _
-    (nothing_is_held BothAreActive 323 _ (both_active _)) c.args.count _ _
-    (all_played _ c.args.count c.loop-done.done _ _ c.loop-done-test.false c.loop-done.invariant.within c.loop-done.invariant.played)
+    (nothing_is_held BothAreActive 323 _ (both_active _)) c.args.count _ _ (returns-clause-rounds g c)
 
 pub returns-clause-distributes_one : goal.returns-clause-distributes_one
 returns-clause-distributes_one g c = distribute g.C.Cable.items g.C.Cable.limit OneIsActive up_if_one_is _
     (each_link_comes_up OneIsActive 624 _ (one_active _)) c.args.count _ _
-    (λ steady. rounds_are_host_rounds _ c.args.count _ _ steady
-    (all_played _ c.args.count c.loop-done.done _ _ c.loop-done-test.false c.loop-done.invariant.within c.loop-done.invariant.played))
+    (λ steady. rounds_are_host_rounds _ c.args.count _ _ steady (returns-clause-rounds g c))
 
 pub returns-clause-agrees_one : goal.returns-clause-agrees_one
 returns-clause-agrees_one g c = agree g.C.Cable.items g.C.Cable.limit OneIsActive up_if_one_is _
     (each_link_agrees OneIsActive 624 _ (one_active _)) c.args.count _ _
-    (λ steady. rounds_are_host_rounds _ c.args.count _ _ steady
-    (all_played _ c.args.count c.loop-done.done _ _ c.loop-done-test.false c.loop-done.invariant.within c.loop-done.invariant.played))
+    (λ steady. rounds_are_host_rounds _ c.args.count _ _ steady (returns-clause-rounds g c))
 
 pub returns-clause-frees_one : goal.returns-clause-frees_one
 returns-clause-frees_one g c = free g.C.Cable.items g.C.Cable.limit OneIsActive freed_if_one_is _
-    (nothing_is_held OneIsActive 624 _ (one_active _)) c.args.count _ _
-    (all_played _ c.args.count c.loop-done.done _ _ c.loop-done-test.false c.loop-done.invariant.within c.loop-done.invariant.played)
+    (nothing_is_held OneIsActive 624 _ (one_active _)) c.args.count _ _ (returns-clause-rounds g c)
