@@ -7,8 +7,8 @@ use Rattle.lagprogress.proofs.Common.{found_place, Same, agreement_at, Algorithm
 use Rattle.lagprogress.proofs.Common.{history_at, port_at, towards, end_is, HostEvent, ports_with, IsTimed, count, count_more_of, counted, OfEach}
 use Rattle.lagprogress.proofs.Common.{AtPort, waits_for_room, EachLinkStaysAgreed, EachLinkStaysUp, RoundsBeside, AllHeard, BothAreActive}
 use Rattle.lagprogress.proofs.Common.{EachLinkAgrees, EachLinkComesUp, EndsHealthyCable, EndsOfEachKnow, EnoughLinks, IsBundle, OneIsActive}
-use Rattle.lagprogress.proofs.Common.{SystemsDiffer, Clearing, PlayedRounds, LateRounds, OldArrive, Distributes, AtEnd, IsHealthyAt}
-use Rattle.lagprogress.proofs.Common.{EachLinkStaysAgreedInSeveral, EachLinkStaysUpInSeveral, SeveralBeside, IsSteady}
+use Rattle.lagprogress.proofs.Common.{SystemsDiffer, Clearing, PlayedRounds, LateRounds, OldArrive, Distributes, EndKnows, AtEnd, IsHealthyAt}
+use Rattle.lagprogress.proofs.Common.{Playing, EachLinkStaysAgreedInSeveral, EachLinkStaysUpInSeveral, SeveralBeside, IsSteady}
 use Rattle.lagprogress.proofs.LateHearing.{counts_of, kept_of}
 use Rattle.lagprogress.proofs.SeveralTicks.{once}
 use Rattle.lagprogress.proofs.ComingUp.{Up, comes_to_be_up, several_join, several_stamped, several_synced, up_synced, AreSynced, agrees_now}
@@ -122,11 +122,16 @@ Named old i l h = (t : Side) → IsNamed (said old i l h t)
 pub names : (old : WorldState) → IsSteady old → (i : ℕ) (l : LinkState) (h : IsHealthyAt i l old) → Named old i l h
 names old steady i l h = named_at l old (ends_at i l old h) steady
 
--- the ends of each healthy cable, of which this holds, know each other after so many late rounds, and one of them is active
-pub record LinksMeet (Holds : LinkState → WorldState → Type 0) (first : ℕ) (gives : Algorithms) : Type 0 where
+-- the ends of each healthy cable, of which this holds, know each other after so many rounds of a kind, and one of them is active
+pub record LinksMeetBy (Plays : Playing) (Know : (Side → ℕ) → (Side → Lacpdu) → WorldState → WorldState → Type 0)
+    (Holds : LinkState → WorldState → Type 0) (first : ℕ) (gives : Algorithms) : Type 0 where
   pub meet : (n : ℕ) (old mid : WorldState) → IsCabling (world_setup old).cables → IsSteady old → (i : ℕ) (l : LinkState) (h : IsHealthyAt i l old)
-      → Holds l old → first ≤ n → LateRounds gives n old mid → Fresh (λ s. port_at s l) (said old i l h) old mid
+      → Holds l old → first ≤ n → Plays gives n old mid → Know (λ s. port_at s l) (said old i l h) old mid
   pub wake : (old : WorldState) (i : ℕ) (l : LinkState) (h : IsHealthyAt i l old) → Holds l old → Awake old i l h
+
+-- so in late rounds
+abbrev pub LinksMeet : (LinkState → WorldState → Type 0) → ℕ → Algorithms → Type 0
+LinksMeet Holds first gives = LinksMeetBy LateRounds Fresh Holds first gives
 
 pub one_meets : (gives : Algorithms) → LinksMeet OneIsActive 624 gives
 one_meets gives = record {
@@ -142,10 +147,16 @@ both_meet gives = record {
   wake = λ old i l h a s. inl (active_at l old (ends_at i l old h) s (a s));
 }
 
+pub ends_know_by : (Plays : Playing) (Know : (Side → ℕ) → (Side → Lacpdu) → WorldState → WorldState → Type 0)
+    → ((l : LinkState) (w : Side → Lacpdu) (old j : WorldState) → Know (λ s. port_at s l) w old j → (s : Side) → EndKnows s l j)
+    → (Holds : LinkState → WorldState → Type 0) (first : ℕ) (gives : Algorithms) → LinksMeetBy Plays Know Holds first gives
+    → EndsOfEachKnow Plays Holds first gives
+ends_know_by Plays Know knows Holds first gives k n i l old new cabling steady healthy holds enough h =
+    knows l (said old i l healthy) old new (k.meet n old new cabling steady i l healthy holds enough h)
+
 pub ends_know : (Holds : LinkState → WorldState → Type 0) (first : ℕ) (gives : Algorithms) → LinksMeet Holds first gives
     → EndsOfEachKnow LateRounds Holds first gives
-ends_know Holds first gives k n i l old new cabling steady healthy holds enough h =
-    late_fresh_knows l (said old i l healthy) old new (k.meet n old new cabling steady i l healthy holds enough h)
+ends_know = ends_know_by LateRounds Fresh late_fresh_knows
 
 -- the ends of a healthy cable are of different systems
 pub apart_ends : (old : WorldState) → IsSteady old → SystemsDiffer old → (i : ℕ) (l : LinkState) (h : IsHealthyAt i l old) → (s : Side)

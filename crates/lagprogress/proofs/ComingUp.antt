@@ -12,16 +12,15 @@ use Rattle.lagprogress.proofs.Quieting.{all_beside, PlayedBeside, as_beside, All
 use Rattle.lagprogress.proofs.Stamps.{Took-it, Present, Stamped, Took}
 use Rattle.lagprogress.proofs.Climbing.{Rising, PartnerInSync, keeps_selected, ticks_still, distributes_now, partner_along, rising_along}
 use Rattle.lagprogress.proofs.Climbing.{rising_first, ticks_partner, ticks_rising, Ripe, climbed}
-use Rattle.lagprogress.proofs.Knowing.{Leaves, Met, fits_fresh, fits_before, knows_late, stays_met, AtIt, beside, Early, able_in, awake_peer}
-use Rattle.lagprogress.proofs.Knowing.{goes_met, mode, MetIn, fits_in_round, fits_met, for_several, knows_in, settled, stays_met_in, wait, wakes_met}
+use Rattle.lagprogress.proofs.Knowing.{Leaves, Met, GoingIn, stays_met, AtIt, beside, Early, able_in, awake_peer, goes_met, mode, MetIn}
+use Rattle.lagprogress.proofs.Knowing.{fits_in_round, fits_met, for_several, knows_in, settled, stays_met_in, wakes_met}
 use Rattle.lagprogress.proofs.Claims.{IsNamed, Owes}
-use Rattle.lagprogress.proofs.EndFacts.{Along, IsEnd, Synced, activity, synced_mux, Learnt}
-use Rattle.lagprogress.proofs.LateHearing.{Whoever, ticks_stamp, Ahead, ticks_near, counts_of, flush, kept_of}
+use Rattle.lagprogress.proofs.EndFacts.{Along, IsEnd, Synced, activity, synced_mux, Learnt, wait_of}
+use Rattle.lagprogress.proofs.LateHearing.{Whoever, ticks_stamp, AheadIn, ticks_near, counts_of, flush, kept_of}
 use Rattle.lagprogress.proofs.LateFlow.{Past}
-use Rattle.lagprogress.proofs.Linked.{Flying, IsGood, Link, each_map, peer_twice, same_items, EndPort, Fits, at_end, end_here, end_with, both_at}
-use Rattle.lagprogress.proofs.Linked.{of_end}
-use Rattle.lagprogress.proofs.OneRound.{Nothing, join, ticked}
-use Rattle.lagprogress.proofs.SeveralTicks.{keeps_ticks, once, TicksBeside, ticked_by, ticks_hold}
+use Rattle.lagprogress.proofs.Linked.{Flying, IsGood, Link, each_map, peer_twice, same_items, EndPort, at_end, end_here, end_with, both_at, of_end}
+use Rattle.lagprogress.proofs.OneRound.{Nothing, join}
+use Rattle.lagprogress.proofs.SeveralTicks.{keeps_ticks, no_less, once, TicksBeside, ticked_by, ticks_hold}
 use Rattle.lagprogress.proofs.Lasting.{raised}
 use Rattle.lagprogress.proofs.Telling.{Bears, SaysIt, Tells, tells_map}
 use Rattle.lagprogress.proofs.OneCable.{OnCable, cable}
@@ -121,16 +120,18 @@ rises_first at w c j l s chosen =
 module _ (at : Side → ℕ) (w : Side → Lacpdu) (counts : Side → ℕ) (kept : Side → Bool) where
   -- Each end hears that the other is in sync, since it is told, or an LACPDU that says so is on its way, or is owed.
 
-  abbrev pub Tellings : Side → ℕ → WorldState → Type 0
-  Tellings s n j = ((m : ℕ) × (1 ≤ m) × (n + m ≤ 12) × Ahead at w s (mode at w s) m j) ⊎ AtIt at w (peer s) PartnerInSync j
+  abbrev pub Tellings : ℕ → Side → ℕ → WorldState → Type 0
+  Tellings ticks s n j = ((m : ℕ) × (ticks ≤ m) × (n + m ≤ 10 + ticks + ticks) × AheadIn ticks at w s (mode at w s) m j)
+      ⊎ AtIt at w (peer s) PartnerInSync j
 
-  pub record Agrees (n : ℕ) (j : WorldState) : Type 0 where
-    pub fresh : Met at w counts kept 2 j
-    pub tells : (s : Side) → Tellings s n j
+  pub record Agrees (ticks slack n : ℕ) (j : WorldState) : Type 0 where
+    pub fresh : MetIn at w counts kept ticks slack 2 j
+    pub tells : (s : Side) → Tellings ticks s n j
 
-  pub told_now : (n : ℕ) (j : WorldState) → 12 ≤ n → Agrees n j → (t : Side) → AtIt at w t PartnerInSync j
-  told_now n j l c t = subst (λ u. AtIt at w u PartnerInSync j) (peer_twice t) (elim (c.tells (peer t)) [
-    | inl (m, some, soon, y) ↦ absurd (omega (arith, l, some, soon))
+  pub told_now : (ticks slack n : ℕ) (j : WorldState) → 1 ≤ ticks → 10 + ticks + ticks ≤ n → Agrees ticks slack n j → (t : Side)
+      → AtIt at w t PartnerInSync j
+  told_now ticks slack n j one l c t = subst (λ u. AtIt at w u PartnerInSync j) (peer_twice t) (elim (c.tells (peer t)) [
+    | inl (m, some, soon, y) ↦ absurd (omega (arith, l, one, some, soon))
     | inr y ↦ y
   ])
 
@@ -156,54 +157,59 @@ module _ (at : Side → ℕ) (w : Side → Lacpdu) (counts : Side → ℕ) (kept
         (λ a p x. x) (join 2 at w g.known One t PartnerInSync old g.link y) h)
 
     -- and climbs in 20 rounds
+    pub rises_in : {most n : ℕ} (ticks slack t k : ℕ) → 1 ≤ slack → k ≤ ticks → (old new : WorldState)
+        → (g : GoingIn at w counts kept ticks slack 0 1 most n old) → TicksBeside k at OldArrive gives old new → (s : Side)
+        → AtIt at w s (Rising t) old → AtIt at w s (Rising (t - k)) new
+    rises_in ticks slack t k more less old new g h s rising =
+        let l = knows_in at w counts kept ticks slack 1 old g more s in
+        beside at w 1 (ticked_by k g.known) s (Rising (t - k)) new (ticks_hold gives k s 1 at w g.known (λ a. Rising (t - a)) old new
+        (fits_met at w counts kept named awake ticks slack 1 old g more (omega arith))
+        (fits_in_round at w counts kept named awake ticks slack 1 old g more (omega arith) k less)
+        (λ a q. rising_along (w s) (w (peer s)) (g.known s - a) 1 (t - a) (omega arith) (omega (arith, l, q, less)))
+        (λ a q p r run rest e y. subst (λ i. Rising i r) (omega arith)
+        (ticks_rising 1 (w s) (w (peer s)) (g.known s - a) (t - a) p r (omega (arith, l, q, less)) run e y))
+        (λ a p y. y) (join 1 at w g.known One s (Rising (t - 0)) old g.link (subst (λ i. AtIt at w s (Rising i) old) (sym (no_less t)) rising)) h)
+
     module _ (s : Side) where
       abbrev Climbs : ℕ → WorldState → Type 0
       Climbs n j = Early at w counts kept n j × AtIt at w s (Rising (20 - n)) j
 
       climbs_on : (n : ℕ) (old new : WorldState) → PlayedBeside at OldArrive gives old new → Climbs n old → Climbs (n + 1) new
-      climbs_on n old new h (g, rising) =
-          let c = g.known in
-          let l = knows_late at w counts kept 1 old g s in (
-            goes_met at w counts kept gives named awake 1 12 n old new (omega arith) h g,
-            subst (λ t. AtIt at w s (Rising t) new) (omega arith) (beside at w 1 (ticked c) s (Rising (20 - n - 1)) new
-                (ticks_hold gives 1 s 1 at w c (λ a. Rising (20 - n - a)) old new (fits_before at w counts kept named awake 1 old g (omega arith))
-                (fits_fresh at w counts kept named awake 1 old g (omega arith))
-                (λ a k. rising_along (w s) (w (peer s)) (c s - a) 1 (20 - n - a) (omega arith) (omega (arith, l, k)))
-                (λ a k p q r rest e y. subst (λ t. Rising t q) (omega arith)
-                (ticks_rising 1 (w s) (w (peer s)) (c s - a) (20 - n - a) p q (omega (arith, l, k)) r e y))
-                (λ a p y. y) (join 1 at w c One s (Rising (20 - n - 0)) old g.link (subst (λ t. AtIt at w s (Rising t) old) (omega arith) rising))
-                (once h))),
-          )
+      climbs_on n old new h (g, rising) = (
+        goes_met at w counts kept gives named awake 1 12 n old new (omega arith) h g,
+        subst (λ t. AtIt at w s (Rising t) new) (omega arith)
+            (rises_in 1 11 (20 - n) 1 (omega arith) (omega arith) old new g (once h) s rising),
+      )
 
       pub climbs : (mid top : WorldState) → Early at w counts kept 0 mid → AtIt at w s (λ p. is_selected p.choice ≡ true) mid
           → AllBeside at OldArrive gives 20 mid top → Met at w counts kept 1 top × AtIt at w s (Rising 0) top
       climbs mid top g chosen h =
-          let c = among_on (LeavesPorts at) OldArrive gives Climbs mid (g, subst (λ t. AtIt at w s (Rising t) mid) (omega arith) (rises_first at w g.known mid g.link s chosen))
-          climbs_on 20 top h in
+          let c = among_on (LeavesPorts at) OldArrive gives Climbs mid (
+            g,
+            subst (λ t. AtIt at w s (Rising t) mid) (omega arith)
+                (rises_first at w g.known mid g.link s chosen),
+          ) climbs_on 20 top h in
           (settled at w counts kept 1 11 0 1 12 20 0 0 top (omega arith) (omega arith) c.0, subst (λ t. AtIt at w s (Rising t) top) (omega arith) c.1)
 
-    pub agrees_on : (n : ℕ) (old new : WorldState) → PlayedBeside at OldArrive gives old new → Agrees n old → Agrees (n + 1) new
-    agrees_on n old new h c =
-        let g = c.fresh in
-        record {
-          fresh = stays_met at w counts kept gives named awake 2 old new (omega arith) h g;
-          tells = λ s. tells g (fits_before at w counts kept named awake 2 old g (omega arith))
-              (fits_fresh at w counts kept named awake 2 old g (omega arith)) s
-              (c.tells s);
-        }
+    -- what was told is told, and an LACPDU that says so is nearer, in a round of k ticks
+    pub agrees_on : (ticks slack n k : ℕ) → 1 ≤ slack → 1 ≤ k → k ≤ ticks → k + 1 ≤ 30 → (old new : WorldState) → TicksBeside k at OldArrive gives old new
+        → MetIn at w counts kept ticks slack 2 new → Agrees ticks slack n old → Agrees ticks slack (n + 1) new
+    agrees_on ticks slack n k more one less few old new h fresh c = record { fresh = fresh; tells = λ s. tells s (c.tells s) }
       where
-        tells : (g : Met at w counts kept 2 old) → Fits 2 w g.known → Fits 2 w (ticked g.known) → (s : Side) → Tellings s n old → Tellings s (n + 1) new
-        tells g fits then s (inl (m, some, soon, y)) =
-            elim (ticks_near gives 2 at w counts kept s (omega arith) (inr (named (peer s))) 1 (omega arith) g.known fits then 1 (mode at w s) m old new
-            (omega arith) (able_in at w counts kept named awake 1 11 2 old g (omega arith) 1 (omega arith) s) g.link
-            (wakes_met at w counts kept named awake 1 11 2 old g (omega arith) s) g.rest y (once h)) [
-              | inl q ↦ (let l = q.0 in inl (m - 1, l, omega (arith, soon, l), q.1))
-              | inr q ↦ inr (each_map (AtPort (at (peer s)) (Learnt 2 (w (peer (peer s))) (wait at w (peer s))))
+        tells : (s : Side) → Tellings ticks s n old → Tellings ticks s (n + 1) new
+        tells s (inl (m, some, soon, y)) =
+            let g = c.fresh in
+            elim (ticks_near gives 2 at w counts kept s (omega arith) (inr (named (peer s))) k few g.known
+            (fits_met at w counts kept named awake ticks slack 2 old g more (omega arith))
+            (fits_in_round at w counts kept named awake ticks slack 2 old g more (omega arith) k less) ticks (mode at w s) m old new less
+            (able_in at w counts kept named awake ticks slack 2 old g more k less s) g.link
+            (wakes_met at w counts kept named awake ticks slack 2 old g more s) g.rest y h) [
+              | inl q ↦ (let l = q.0 in inl (m - k, l, omega (arith, soon, l, one), q.1))
+              | inr q ↦ inr (each_map (AtPort (at (peer s)) (Learnt 2 (w (peer (peer s))) (wait_of (w (peer s)) - k)))
                   (AtPort (at (peer s)) PartnerInSync) (λ i p a f. (a f).1 (omega arith)) (half (peer s) new).state.system_ports
-                  (beside at w 2 (ticked g.known) (peer s) (Learnt 2 (w (peer (peer s))) (wait at w (peer s))) new q.link))
+                  (beside at w 2 (ticked_by k g.known) (peer s) (Learnt 2 (w (peer (peer s))) (wait_of (w (peer s)) - k)) new q.link))
             ]
-        tells g fits then s (inr y) =
-            inr (hears_on 1 11 1 (omega arith) (omega arith) old new g (once h) (peer s) y)
+        tells s (inr y) = inr (hears_on ticks slack k more less old new c.fresh h (peer s) y)
 
 -- so an end is synchronized that has risen, where the SELECTED ports of its system have
 pub climbed_end : (at : Side → ℕ) (w : Side → Lacpdu) (counts : Side → ℕ) (kept : Side → Bool) (s : Side) (j : WorldState)
@@ -234,8 +240,9 @@ pub record AgreesIn (at : Side → ℕ) (w : Side → Lacpdu) (counts : Side →
 
 module _ (at : Side → ℕ) (w : Side → Lacpdu) (counts : Side → ℕ) (kept : Side → Bool) (named : (t : Side) → IsNamed (w t))
     (awake : (s : Side) → (activity (w s) ≡ true) ⊎ (activity (w (peer s)) ≡ true)) (ticks : ℕ) (one : 1 ≤ ticks) where
-  pub agrees_in : (n : ℕ) (j : WorldState) → ticks + ticks ≤ 12 → 12 ≤ n → Agrees at w counts kept n j → AgreesIn at w counts kept ticks j
-  agrees_in n j few l c = record { fresh = for_several at w counts kept ticks 2 j one few c.fresh; heard = told_now at w counts kept n j l c }
+  pub agrees_in : (n : ℕ) (j : WorldState) → ticks + ticks ≤ 12 → 12 ≤ n → Agrees at w counts kept 1 11 n j → AgreesIn at w counts kept ticks j
+  agrees_in n j few l c =
+      record { fresh = for_several at w counts kept ticks 2 j one few c.fresh; heard = told_now at w counts kept 1 11 n j (omega arith) l c }
 
   -- a round of k ticks
   pub agreed_on : (gives : Algorithms) (k : ℕ) (old new : WorldState) → Leaves at w counts kept gives ticks 1 → 1 ≤ k → k ≤ ticks → k + 1 ≤ 30
@@ -272,30 +279,29 @@ pub present_of : (gives : Algorithms) (at : Side → ℕ) (old new : WorldState)
     → Present at t new
 present_of gives at old new t m there = grind arith
 
-module _ (at : Side → ℕ) (w : Side → Lacpdu) (k : Side → ℕ) (kept : Side → Bool) (named : (t : Side) → IsNamed (w t))
+module _ (at : Side → ℕ) (w : Side → Lacpdu) (counts : Side → ℕ) (kept : Side → Bool) (named : (t : Side) → IsNamed (w t))
     (awake : (s : Side) → (activity (w s) ≡ true) ⊎ (activity (w (peer s)) ≡ true)) where
   -- a round after both are synchronized: all that is on the cable says so
 
-  synced_round : (gives : Algorithms) (old new : WorldState) (g : Met at w k kept 1 old) → ((s : Side) → AtIt at w s Synced old)
-      → PlayedBeside at OldArrive gives old new → (t : Side)
-      → Link 1 at w (ticked g.known) (peer t) Synced new × (x : ℕ) × Past t x at (IsGood 2 w t) 0 new
-  synced_round gives old new g synced h t =
+  synced_round : {most n : ℕ} (gives : Algorithms) (ticks slack k : ℕ) → 1 ≤ slack → k ≤ ticks → (old new : WorldState)
+      (g : GoingIn at w counts kept ticks slack 0 1 most n old) → ((s : Side) → AtIt at w s Synced old) → TicksBeside k at OldArrive gives old new
+      → (t : Side) → Link 1 at w (ticked_by k g.known) (peer t) Synced new × (x : ℕ) × Past t x at (IsGood 2 w t) 0 new
+  synced_round gives ticks slack k more less old new g synced h t =
       let x = peer t in
-      let l = knows_late at w k kept 1 old g x in
-      flush gives 1 2 at w g.known t Synced (fits_before at w k kept named awake 1 old g (omega arith))
-      (fits_fresh at w k kept named awake 1 old g (omega arith))
-      (synced_along (w x) (w (peer x)) (g.known x) 1 (omega arith) (omega (arith, l)))
-      (synced_along (w x) (w (peer x)) (ticked g.known x) 1 (omega arith) (omega (arith, l)))
-      (λ p q r rest a y. (subst Synced (sym (ticks_still 1 (w x) (w (peer x)) (g.known x) p q (omega (arith, l)) a r)) (y.0, y.1)))
-      (λ p y. y) (λ p y f. y) (λ f. omega (arith, l)) old new (join 1 at w g.known One x Synced old g.link (synced x)) (once h)
+      let l = knows_in at w counts kept ticks slack 1 old g more x in
+      flush gives k 1 2 at w g.known t Synced (fits_met at w counts kept named awake ticks slack 1 old g more (omega arith))
+      (fits_in_round at w counts kept named awake ticks slack 1 old g more (omega arith) k less)
+      (λ a q. synced_along (w x) (w (peer x)) (g.known x - a) 1 (omega arith) (omega (arith, l, q, less)))
+      (λ a q p r run rest e y. subst Synced (sym (ticks_still 1 (w x) (w (peer x)) (g.known x - a) p r (omega (arith, l, q, less)) e run)) (y.0, y.1))
+      (λ p y. y) (λ p y f. y) (λ f. omega (arith, l, less)) old new (join 1 at w g.known One x Synced old g.link (synced x)) h
 
-  raises : (gives : Algorithms) (old new : WorldState) (g : Met at w k kept 1 old) → ((s : Side) → AtIt at w s Synced old)
-      → PlayedBeside at OldArrive gives old new → Met at w k kept 2 new
-  raises gives old new g synced h =
-      let f = stays_met at w k kept gives named awake 1 old new (omega arith) h g in
-      let r = synced_round gives old new g synced h in
+  pub raises : (gives : Algorithms) (ticks slack k : ℕ) → 1 ≤ slack → k ≤ ticks → (old new : WorldState)
+      → MetIn at w counts kept ticks slack 1 old → MetIn at w counts kept ticks slack 1 new → ((s : Side) → AtIt at w s Synced old)
+      → TicksBeside k at OldArrive gives old new → MetIn at w counts kept ticks slack 2 new
+  raises gives ticks slack k more less old new g f synced h =
+      let r = synced_round gives ticks slack k more less old new g synced h in
       let now : (s : Side) → AtIt at w s Synced new = λ s. subst (λ u. AtIt at w u Synced new) (peer_twice s)
-      (beside at w 1 (ticked g.known) (peer (peer s)) Synced new (r (peer s)).0) in
+      (beside at w 1 (ticked_by k g.known) (peer (peer s)) Synced new (r (peer s)).0) in
       record {
         known = f.known;
         next = f.next;
@@ -312,27 +318,28 @@ module _ (at : Side → ℕ) (w : Side → Lacpdu) (k : Side → ℕ) (kept : Si
         took = f.took;
       }
 
-  agrees_first : (j : WorldState) → Met at w k kept 2 j → Agrees at w k kept 0 j
-  agrees_first j g = record {
+  pub agrees_first : (ticks slack : ℕ) → 1 ≤ ticks → 1 ≤ slack → (j : WorldState) → MetIn at w counts kept ticks slack 2 j
+      → Agrees at w counts kept ticks slack 0 j
+  agrees_first ticks slack some more j g = record {
     fresh = g;
-    tells = λ s. elim (g.told s (let l = knows_late at w k kept 2 j g (peer s) in omega (arith, l))) [
+    tells = λ s. elim (g.told s (let l = knows_in at w counts kept ticks slack 2 j g more (peer s) in omega (arith, l))) [
       | inl owes ↦ inl (
-        12,
+        10 + ticks + ticks,
         omega arith,
         omega arith,
         inl (
           omega arith,
-          owed at w g.known j g.link s (let l = knows_late at w k kept 2 j g s in
-              omega (arith, l)) owes,
+          subst (λ m. AtIt at w s (Sounds (mode at w s) m) j) (omega arith)
+              (owed at w g.known j g.link s (let l = knows_in at w counts kept ticks slack 2 j g more s in omega (arith, l)) owes),
         ),
       )
       | inr (x, fl, on, tells) ↦ elim (tells_which (w (peer s)) (w s) (fl (peer s)) (AtIt at w (peer s) PartnerInSync j) tells) [
         | inl f ↦ inl (
-          1,
+          ticks,
           omega arith,
           omega arith,
           inr (
-            omega arith,
+            omega (arith, some),
             inr (
               x,
               fl,
@@ -350,20 +357,22 @@ module _ (at : Side → ℕ) (w : Side → Lacpdu) (k : Side → ℕ) (kept : Si
   }
 
   -- in one round more all that is on the cable says so
-  pub late_turn : (gives : Algorithms) (mid next : WorldState) → LateRounds gives 1 mid next → Met at w k kept 1 mid
-      → ((s : Side) → AtIt at w s Synced mid) → Agrees at w k kept 0 next
-  late_turn gives mid next r met synced = agrees_first next (raises gives mid next met synced
-      (as_beside at OldArrive gives mid next (subst (λ j. IsLateRound gives j next) r.1 r.2)))
+  pub late_turn : (gives : Algorithms) (mid next : WorldState) → LateRounds gives 1 mid next → Met at w counts kept 1 mid
+      → ((s : Side) → AtIt at w s Synced mid) → Agrees at w counts kept 1 11 0 next
+  late_turn gives mid next r met synced =
+      let h = as_beside at OldArrive gives mid next (subst (λ j. IsLateRound gives j next) r.1 r.2) in
+      agrees_first 1 11 (omega arith) (omega arith) next (raises gives 1 11 1 (omega arith) (omega arith) mid next met
+      (stays_met at w counts kept gives named awake 1 mid next (omega arith) h met) synced (once h))
 
 -- both ends are synchronized, and know that of each other
 
 abbrev pub Up : (Side → ℕ) → (Side → Lacpdu) → WorldState → WorldState → Type 0
-Up at w old j = (n : ℕ) × (12 ≤ n) × Agrees at w (counts_of at old) (kept_of at old) n j
+Up at w old j = (n : ℕ) × (12 ≤ n) × Agrees at w (counts_of at old) (kept_of at old) 1 11 n j
 
 pub up_synced : (gives : Algorithms) (at : Side → ℕ) (w : Side → Lacpdu) (old j : WorldState) → Up at w old j → AreSynced at w j
 up_synced gives at w old j up =
     synced_at at w (counts_of at old) (kept_of at old) 1 11 (omega arith) j up.2.fresh
-    (told_now at w (counts_of at old) (kept_of at old) up.0 j up.1 up.2) (λ s stamped took. present_of gives at old j s (stamped, took))
+    (told_now at w (counts_of at old) (kept_of at old) 1 11 up.0 j (omega arith) up.1 up.2) (λ s stamped took. present_of gives at old j s (stamped, took))
 
 -- from a round in which both are synchronized, and 13 more
 pub comes_to_be_up : (gives : Algorithms) (at : Side → ℕ) (w : Side → Lacpdu) → ((t : Side) → IsNamed (w t))
@@ -375,8 +384,9 @@ comes_to_be_up gives at w named awake n old top new enough more met synced =
     let next = played_split OldArrive gives (n - 1) 1 n top new (omega (arith, enough)) more in (
       n - 1,
       omega (arith, enough),
-      among_on (LeavesPorts at) OldArrive gives (Agrees at w k kept) next.0 (late_turn at w k kept named awake gives top next.0 next.1 met synced)
-          (agrees_on at w k kept gives named awake) (n - 1) new (all_beside at OldArrive gives (n - 1) next.0 new next.2),
+      among_on (LeavesPorts at) OldArrive gives (Agrees at w k kept 1 11) next.0 (late_turn at w k kept named awake gives top next.0 next.1 met synced)
+          (λ m i j h c. agrees_on at w k kept gives named awake 1 11 m 1 (omega arith) (omega arith) (omega arith) (omega arith) i j (once h)
+          (stays_met at w k kept gives named awake 2 i j (omega arith) h c.fresh) c) (n - 1) new (all_beside at OldArrive gives (n - 1) next.0 new next.2),
     )
 
 -- so it is through rounds of several ticks

@@ -1,18 +1,18 @@
 -- What healthy rounds keep of each port of a system, and of the cables.
-use Rattle.lagprogress.proofs.Common.{Bool, List, Some, [], ap, arith, false, inl, inr, map, refl, slice_get, subst, suc, sym, true, zero, ℕ, ◌+◌}
-use Rattle.lagprogress.proofs.Common.{◌∙◌, ◌∷◌, ◌≡◌, ◌≤◌, nat_tests, Party, Lacpdu, One, Side, end_at, peer, Machines, receive_rows, RunsToRest}
+use Rattle.lagprogress.proofs.Common.{Bool, List, Some, ap, arith, false, inl, inr, map, refl, slice_get, subst, suc, sym, true, zero, ℕ, ◌+◌, ◌∙◌}
+use Rattle.lagprogress.proofs.Common.{◌≡◌, ◌≤◌, nat_tests, Party, Lacpdu, One, Side, Two, end_at, peer, Machines, receive_rows, RunsToRest}
 use Rattle.lagprogress.proofs.Common.{after_sending, count_down, Table, SystemPort, ProcessesLacpdu, Receive, SystemState, with_system_ports}
 use Rattle.lagprogress.proofs.Common.{with_table, Reply, Algorithms, WorldSteps, link_ends, ItemValue, LinkState, WorldState, half, port_at, end_is}
-use Rattle.lagprogress.proofs.Common.{HostEvent, Plays, KeptBySettling, OfEach, Step-each, Tick-each, asked_each, no, AtPort, settling_leaves}
-use Rattle.lagprogress.proofs.Common.{runs_keep, takes_keep, LeavesPorts, Clearing, IsBetweenTicks, IsPlayed, IsPlayedAmong, PlayedAmong}
-use Rattle.lagprogress.proofs.Common.{PlayedRounds, TickOnce, TicksAmong, IsSteady}
+use Rattle.lagprogress.proofs.Common.{HostEvent, Plays, KeptBySettling, OfEach, Step-each, Tick-each, asked_each, AtPort, settling_leaves, runs_keep}
+use Rattle.lagprogress.proofs.Common.{takes_keep, LeavesPorts, Clearing, IsBetweenTicks, IsPlayed, IsPlayedAmong, PlayedAmong, PlayedRounds}
+use Rattle.lagprogress.proofs.Common.{StepReplies, IsSteady}
 use Rattle.lagprogress.proofs.Linked.{each_side, peer_twice}
-use Rattle.lagprogress.proofs.Quieting.{AllBeside, all_beside, calm_steady, calm_keeps, leaves_ends, runs_calm, quiet_ports, replayed, asked_half}
-use Rattle.lagprogress.proofs.Quieting.{came_half}
+use Rattle.lagprogress.proofs.Quieting.{AllBeside, calm_steady, calm_keeps, leaves_ends, IsCalm, calm_between, leaves, quiet_ports, replayed}
+use Rattle.lagprogress.proofs.Quieting.{asked_half, came_half}
 use Rattle.lagprogress.proofs.OneCable.{OnCable, cable, deliver_ends, emits, ticks}
 use Rattle.lagprogress.proofs.OneRound.{ticked}
 use Rattle.lagprogress.proofs.HostRound.{KeptBeside, KeptBetween, MadeByTick, of_side}
-use Rattle.lagprogress.proofs.SeveralTicks.{Within, holds_turns, keeps_ticks, once}
+use Rattle.lagprogress.proofs.SeveralTicks.{Within, done, once_turns, holds_turns, keeps_ticks, once}
 use Rattle.lagsystem.specs.declared.drive.Reply.TheVariants as answer
 use Rattle.lagscript.specs.declared.event.Event.TheVariants as event
 
@@ -93,31 +93,16 @@ tick_keeps P k ticked s t gives n r i j named step a = grind (arith, nat_tests, 
 
 -- a round of one tick is one of several
 
--- the ticks that were
-abbrev pub done : Bool → ℕ
-done true = 0
-done false = 1
-
 pub few_done : (b : Bool) → done b ≤ 1
 few_done true = omega arith
 few_done false = omega arith
-
-pub once_turns : (s : Side) (es : List HostEvent) (a b : Bool) → TickOnce s a b es → TicksAmong IsBetweenTicks 1 s (done a) (done b) es
-once_turns s [] false false h = (refl, refl)
-once_turns s [] true b h = absurd (no (sym h.0))
-once_turns s [] false true h = absurd (no (sym h.1))
-once_turns s (e ∷ es) true b (inl h) = inl (h.0, once_turns s es false b h.2)
-once_turns s (e ∷ es) false b (inl h) = absurd (no h.1)
-once_turns s (e ∷ es) a true (inr (inl h)) = inr (inl (h.0, once_turns s es a false h.2))
-once_turns s (e ∷ es) a false (inr (inl h)) = absurd (no h.1)
-once_turns s (e ∷ es) a b (inr (inr h)) = inr (inr (h.0, once_turns s es a b h.1))
 
 -- what holds through a round, by the ticks that were
 pub holds_once : {E : Clearing} (gives : Algorithms) (s : Side) (A : ℕ → ℕ → WorldState → Type 0)
     → ((a b : ℕ) → Within 1 a b → KeptBetween gives (A a b)) → ((b : ℕ) → b ≤ 1 → MadeByTick gives s (A 0 b) (A 1 b))
     → ((a : ℕ) → a ≤ 1 → MadeByTick gives (peer s) (A a 0) (A a 1)) → (old new : WorldState) → IsPlayed E gives old new → A 0 0 old → A 1 1 new
 holds_once gives s A kept own other old new h m = holds_turns IsBetweenTicks gives 1 s A kept first second h.events h.replies old new 0 0
-    (once_turns s h.events true true (of_side s h.events h.ticks)) h.acts m
+    (once_turns IsBetweenTicks s h.events true true (of_side s h.events h.ticks)) h.acts m
   where
     first : (a b : ℕ) → Within 1 (suc a) b → MadeByTick gives s (A a b) (A (suc a) b)
     first zero b l = own b l.1
@@ -149,6 +134,33 @@ joins_kept at gives links e r i j b h m = leaves_ends gives e at r i j b h ∙ m
 pub joins_tick : (gives : Algorithms) (links : List LinkState) (s : Side) → MadeByTick gives s (λ j. map link_ends j.links ≡ map link_ends links)
     (λ j. map link_ends j.links ≡ map link_ends links)
 joins_tick gives links s n r i j named step m = ap (map link_ends) (ticks gives n s r i j named step).links ∙ m
+
+-- what each event between ticks and each tick keeps, this run keeps
+abbrev pub Passes : Algorithms → WorldState → WorldState → Type 1
+Passes gives old new = (M : WorldState → Type 0) → KeptBetween gives M → ((s : Side) → MadeByTick gives s M M) → M old → M new
+
+module _ (gives : Algorithms) (old new : WorldState) (h : Passes gives old new) where
+  pub calm_on : (M : WorldState → Type 0) → ((e : HostEvent) (r : Reply) (i j : WorldState) → IsCalm e → StepReplies gives i e r j → M i → M j)
+      → M old → M new
+  calm_on M k = h M (λ e r i j b step. k e r i j (calm_between e b) step) (λ s n r i j named step. k (Plays (event.Tick n 1)) r i j tt step)
+
+  pub steady_on : IsSteady old → IsSteady new
+  steady_on k = calm_on IsSteady (calm_steady gives) k
+
+  pub same_on : (X : Type 0) (g : SystemState → X)
+      → ((s : SystemState) (ports : List SystemPort) (t : Table) → g (with_table (with_system_ports s ports) t) ≡ g s)
+      → ((s : SystemState) (t : Table) → g (with_table s t) ≡ g s) → ((s : SystemState) (d : ℕ) → g (record s { max_delay = d }) ≡ g s)
+      → (s : Side) → g (half s new).state ≡ g (half s old).state
+  same_on X g kept tables delays = calm_on (λ k. (s : Side) → g (half s k).state ≡ g (half s old).state)
+      (λ e r i j c step b s. calm_keeps X g kept tables delays gives e r i j c step s ∙ b s) (λ s. refl)
+
+  pub each_on : (P : ℕ → Machines → Type 0) → RoundKeeps P
+      → ((n : ℕ) (p q : Machines) → RunsToRest receive_rows (count_down p) q → P n p → P n q) → (s : Side) → EachAt P s old → EachAt P s new
+  each_on P k ticked s = h (EachAt P s) (each_between P k s gives) (λ t. tick_keeps P k.settles ticked s t gives)
+
+  pub joins_on : map link_ends new.links ≡ map link_ends old.links
+  joins_on = h (λ j. map link_ends j.links ≡ map link_ends old.links)
+      (λ e r i j b step. joins_kept (λ s. 0) gives old.links e r i j (leaves (λ s. 0) e b) step) (λ s. joins_tick gives old.links s) refl
 
 -- so many rounds
 
@@ -188,23 +200,18 @@ module _ (E : Clearing) (gives : Algorithms) where
   played_split (suc k) m (suc n) old new e h =
       let r = played_split k m n old h.0 (omega (arith, e)) h.1 in (r.0, r.1, (h.0, r.2, h.2))
 
-  pub played_steady : (n : ℕ) (old new : WorldState) → IsSteady old → PlayedRounds E gives n old new → IsSteady new
-  played_steady n old new k h = played_on (λ m j. IsSteady j) old k (λ m i j q a. runs_calm gives IsSteady (calm_steady gives) One true true q.events q.replies i j q.ticks q.acts a) n new h
-
-  pub played_keep : (X : Type 0) (g : SystemState → X)
-      → ((s : SystemState) (ports : List SystemPort) (t : Table) → g (with_table (with_system_ports s ports) t) ≡ g s)
-      → ((s : SystemState) (t : Table) → g (with_table s t) ≡ g s) → ((s : SystemState) (d : ℕ) → g (record s { max_delay = d }) ≡ g s)
-      → (n : ℕ) (old new : WorldState) → PlayedRounds E gives n old new → (s : Side) → g (half s new).state ≡ g (half s old).state
-  played_keep X g kept tables delays n old new h = played_on (λ m j. (s : Side) → g (half s j).state ≡ g (half s old).state) old (λ s. refl)
-      (λ m i j q a. runs_calm gives (λ k. (s : Side) → g (half s k).state ≡ g (half s old).state)
-      (λ e r i j c step b s. calm_keeps X g kept tables delays gives e r i j c step s ∙ b s) One true true q.events q.replies i j q.ticks q.acts a)
-      n new h
-
   pub joins_beside : (at : Side → ℕ) (n : ℕ) (old new : WorldState) → AllBeside at E gives n old new
       → map link_ends new.links ≡ map link_ends old.links
   joins_beside at n old new h = among_on (LeavesPorts at) E gives (λ m j. map link_ends j.links ≡ map link_ends old.links) old refl
       (λ m i j q k. keeps_ticks E at gives 1 (λ j. map link_ends j.links ≡ map link_ends old.links) (joins_kept at gives old.links)
       (λ s. joins_tick gives old.links s) i j (once q) k) n new h
 
+  pub played_pass : (n : ℕ) (old new : WorldState) → PlayedRounds E gives n old new → Passes gives old new
+  played_pass n old new h M kept ticks m = played_on (λ i j. M j) old m
+      (λ i a b q y. holds_once gives One (λ x z j. M j) (λ x z l. kept) (λ z l. ticks One) (λ x l. ticks Two) a b q y) n new h
+
+  pub played_steady : (n : ℕ) (old new : WorldState) → IsSteady old → PlayedRounds E gives n old new → IsSteady new
+  played_steady n old new k h = steady_on gives old new (played_pass n old new h) k
+
   pub played_join : (n : ℕ) (old new : WorldState) → PlayedRounds E gives n old new → map link_ends new.links ≡ map link_ends old.links
-  played_join n old new h = joins_beside (λ s. 0) n old new (all_beside (λ s. 0) E gives n old new h)
+  played_join n old new h = joins_on gives old new (played_pass n old new h)

@@ -25,12 +25,12 @@ use Rattle.lagprogress.proofs.OneCable.{Arrives, Asks, OnCable, Went, asks, cabl
 use Rattle.lagprogress.proofs.OneRound.{join, one_of_both, ticked, Nothing}
 use Rattle.lagprogress.proofs.Knowing.{Met, AtIt, beside, awake_peer, fits_fresh, knows_late, stays_met, fits_before}
 use Rattle.lagprogress.proofs.LateLoops.{host_round_is_late_round}
-use Rattle.lagprogress.proofs.EachRound.{played_join, once_turns}
+use Rattle.lagprogress.proofs.EachRound.{played_join}
+use Rattle.lagprogress.proofs.SeveralTicks.{once_turns, TickStages, Within, fits_at, known_at, none_counted, own_at, peer_at, ticks_on}
 use Rattle.lagprogress.proofs.Claims.{IsNamed}
 use Rattle.lagprogress.proofs.HostRound.{of_side, MadeByTick, healthy_link, KeptAmong, between}
 use Rattle.lagsystem.specs.declared.drive.Reply.TheVariants as answer
 use Rattle.lagscript.specs.declared.event.Event.TheVariants as event
-use Rattle.lagprogress.proofs.SeveralTicks.{TickStages, Within, fits_at, known_at, none_counted, own_at, peer_at, ticks_on}
 
 -- identifiers
 
@@ -578,7 +578,7 @@ module _ (at : Side → ℕ) (w : Side → Lacpdu) (named : (t : Side) → IsNam
 
       end : Mid (m + 1) ⊥ (kn 1 1) new
       end = ticks_on May gives 1 s A (λ b. Mid (m + 1) ⊥ (kn 1 b)) Drained stages h.events h.replies old new 0 0 1 refl
-          (still_turns s (IsNoMoveOf s agg conv) h.events 0 0 q.still (once_turns s h.events true true (of_side s h.events h.ticks))) h.acts
+          (still_turns s (IsNoMoveOf s agg conv) h.events 0 0 q.still (once_turns IsBetweenTicks s h.events true true (of_side s h.events h.ticks))) h.acts
           (after_left s One NoneDue gives true true h.events h.replies old new h.ticks h.acts one_left drains) start
 
   -- so many rounds on

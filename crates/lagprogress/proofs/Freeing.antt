@@ -10,7 +10,7 @@ use Rattle.lagprogress.proofs.Common.{Rounds, asks_all, ticks_of_both, IsSteady}
 use Rattle.lagprogress.proofs.Lasting.{played_before, still_heard}
 use Rattle.lagprogress.proofs.LateLoops.{host_rounds_are_late_rounds}
 use Rattle.lagprogress.proofs.LateHearing.{counts_of, kept_of}
-use Rattle.lagprogress.proofs.EachRound.{among_then, played_join, played_steady, played_keep}
+use Rattle.lagprogress.proofs.EachRound.{among_then, played_join, played_steady, played_pass, same_on}
 use Rattle.lagprogress.proofs.Bundling.{MeetsBy, Nowhere, awake_of, said, ups_of, named_of, Meets}
 use Rattle.lagprogress.proofs.Linked.{each_side, each_both, each_map, at_end, end_here, runs_all}
 use Rattle.lagprogress.proofs.OneCable.{ticks}
@@ -35,8 +35,8 @@ fine_last p m l a h e = grind (arith, nat_tests)
 was_there : (gives : Algorithms) (n : ℕ) (old new : WorldState) (s : Side) (g k : ℕ) → IsSteady old → HostRounds gives n old new
     → IsConversation (half s new).state.table g k → IsConversation (half s old).state.table g k
 was_there gives n old new s g k steady h is =
-    let keys = played_keep NoneIsLeft gives ℕ (λ t. length t.keys) (λ t a b. refl) (λ t a. refl) (λ t d. refl) n old new h s in
-    let cols = played_keep NoneIsLeft gives ℕ (λ t. t.conversations) (λ t a b. refl) (λ t a. refl) (λ t d. refl) n old new h s in
+    let keys = same_on gives old new (played_pass NoneIsLeft gives n old new h) ℕ (λ t. length t.keys) (λ t a b. refl) (λ t a. refl) (λ t d. refl) s in
+    let cols = same_on gives old new (played_pass NoneIsLeft gives n old new h) ℕ (λ t. t.conversations) (λ t a b. refl) (λ t a. refl) (λ t d. refl) s in
     let later = played_steady NoneIsLeft gives n old new steady h in
     grind (arith, nat_tests, half)
 
@@ -55,7 +55,7 @@ module _ (E : Clearing) (Holds : LinkState → WorldState → Type 0) (Other : S
       let chosen = (e.is.2 (omega arith)).0 in
       let st = (half s mid).state in
       let choice = at_end at w 2 g.known s mid e g.link.steady (λ p. p.choice ≡ c) refl in
-      let heard = told_now at w (counts_of at old) (kept_of at old) up.0 mid up.1 up.2 s in
+      let heard = told_now at w (counts_of at old) (kept_of at old) 1 11 up.0 mid (omega arith) up.1 up.2 s in
       let steady = each_map (λ q p. AtPort (at s) PartnerInSync q p × AtPort (at s) (λ p. p.choice ≡ c) q p)
       (AtPort (at s) (λ p. PartnerInSync p × (p.choice ≡ c))) (λ q p a f. (a.0 f, a.1 f)) st.system_ports
       (each_both (AtPort (at s) PartnerInSync) (AtPort (at s) (λ p. p.choice ≡ c)) st.system_ports heard choice) in

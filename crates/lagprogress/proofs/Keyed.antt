@@ -2,8 +2,8 @@
 use Rattle.lagprogress.proofs.Common.{Bool, List, None, Option, Some, [], ap, arith, cond, false, find, if◌then◌else◌, inl, inr, length, not}
 use Rattle.lagprogress.proofs.Common.{option_map, refl, slice_get, slice_set, subst, suc, sym, true, zero, ℕ, ◌&&◌, ◌+◌, ◌==◌, ◌∙◌, ◌∷◌, ◌≡◌, ◌≢◌}
 use Rattle.lagprogress.proofs.Common.{◌≤◌, ◌⊎◌, cases_eq, nat_tests, none-some, same_Some, AllByRecursion, enumerate_from, list_all, AggId, Key}
-use Rattle.lagprogress.proofs.Common.{Choice, Selected, Standby, Unselected, is_selected, Pair, SamePair, individual, pair_of, itself, party_of, One}
-use Rattle.lagprogress.proofs.Common.{Side, Machines, mux_rows, RunsPeriodic, receive_rows, RunsToRest, after_sending, count_down, PortView}
+use Rattle.lagprogress.proofs.Common.{Choice, Selected, Standby, Unselected, is_selected, Pair, SamePair, individual, pair_of, itself, party_of, Side}
+use Rattle.lagprogress.proofs.Common.{Machines, mux_rows, RunsPeriodic, receive_rows, RunsToRest, after_sending, count_down, PortView}
 use Rattle.lagprogress.proofs.Common.{aggregator_of_entry, chosen_if_eligible, has_group_of, has_no_occupant, has_occupant, lowest, occupants}
 use Rattle.lagprogress.proofs.Common.{occupants_share_group, or_else, AggregatorsValue, has_room, is_eligible, occupies, HostCall, HostReply, Answer}
 use Rattle.lagprogress.proofs.Common.{SystemPort, Call, ChangesParty, OnlyPortChangesBy, ProcessesLacpdu, SetsLink, SetsPortEnabled, Step}
@@ -30,9 +30,9 @@ use Rattle.lagsystem.proofs.Occupying.{promotion_agrees, set_cases, set_stays, s
 use Rattle.lagsystem.proofs.Occupying.{sending_stays, taking_stays, tick_stays}
 use Rattle.lagtypes.specs.declared.group.End.{End}
 use Rattle.lagprogress.proofs.Lasting.{own_named, still_heard, end_of}
-use Rattle.lagprogress.proofs.EachRound.{played_on}
+use Rattle.lagprogress.proofs.EachRound.{calm_on, played_pass}
 use Rattle.lagprogress.proofs.SharedLemmas.{played_lasted, Lasted, one_group}
-use Rattle.lagprogress.proofs.Quieting.{IsCalm, calm_steady, runs_calm, quiet_ports}
+use Rattle.lagprogress.proofs.Quieting.{IsCalm, calm_steady, quiet_ports}
 use Rattle.lagprogress.proofs.Halves.{each_is_calls, both_first, start_steady}
 use Rattle.lagsystem.proofs.OccupantSteps.{Step-placed}
 use Rattle.lagprogress.proofs.Bundling.{each_link_comes_up, heard_holds, LinksMeet, alone, ends_know}
@@ -440,10 +440,9 @@ one_whole gives s e r i j c h k w = subst InOne (sym (quiet_ports gives e r i j 
 
 rounds_whole : (gives : Algorithms) (n : ℕ) (old new : WorldState) → LateRounds gives n old new → IsSteady old → (s : Side)
     → InOne (half s old).state.system_ports → InOne (half s new).state.system_ports
-rounds_whole gives n old new h steady s w = (played_on OldArrive gives (λ m j. IsSteady j × InOne (half s j).state.system_ports) old (steady, w)
-    (λ m i j q. runs_calm gives (λ k. IsSteady k × InOne (half s k).state.system_ports)
-    (λ e r i j c step a. (calm_steady gives e r i j c step a.0, one_whole gives s e r i j c step a.0 a.1)) One true true q.events q.replies i j q.ticks
-    q.acts) n new h).1
+rounds_whole gives n old new h steady s w =
+    (calm_on gives old new (played_pass OldArrive gives n old new h) (λ k. IsSteady k × InOne (half s k).state.system_ports)
+    (λ e r i j c step a. (calm_steady gives e r i j c step a.0, one_whole gives s e r i j c step a.0 a.1)) (steady, w)).1
 
 -- a bundle
 

@@ -237,11 +237,12 @@ module _ (at : Side → ℕ) (w : Side → Lacpdu) (counts : Side → ℕ) (kept
         (let m = knows_in ticks slack d j g more s in omega (arith, m)) (awake s)) g.link
 
   -- both ends know each other: as a contract has it
-  pub met_knows : (l : LinkState) → ((s : Side) → port_at s l ≡ at s) → (j : WorldState) → Early 0 j → (s : Side) → EndKnows s l j
-  met_knows l joins j g s =
+  pub met_knows : {most n : ℕ} (ticks slack : ℕ) → 1 ≤ slack → (l : LinkState) → ((s : Side) → port_at s l ≡ at s) → (j : WorldState)
+      → GoingIn ticks slack 0 1 most n j → (s : Side) → EndKnows s l j
+  met_knows ticks slack more l joins j g s =
       let one = end_here at w 1 g.known One Nothing j g.link s in
       let other = end_here at w 1 g.known One Nothing j g.link (peer s) in
-      let r = (one.is.1.1 (let m = knows_late 1 j g s in omega (arith, m))).0 in
+      let r = (one.is.1.1 (let m = knows_in ticks slack 1 j g more s in omega (arith, m))).0 in
       let knows : Knows one.port.port other.port.port = record {
         current = r.current;
         party = r.party ∙ sym other.is.0.0;
@@ -756,14 +757,14 @@ Fresh at w old j = Early at w (counts_of at old) (kept_of at old) 0 j
 
 pub late_fresh_knows : (l : LinkState) (w : Side → Lacpdu) (old j : WorldState) → Fresh (λ s. port_at s l) w old j → (s : Side) → EndKnows s l j
 late_fresh_knows l w old j g s = let at : Side → ℕ = λ t. port_at t l in
-    met_knows at w (counts_of at old) (kept_of at old) l (λ t. refl) j g s
+    met_knows at w (counts_of at old) (kept_of at old) 1 11 (omega arith) l (λ t. refl) j g s
 
 module _ (gives : Algorithms) (at : Side → ℕ) (w : Side → Lacpdu) (named : (t : Side) → IsNamed (w t)) (n : ℕ) (old new : WorldState)
     (l : Link 0 at w (λ _. 0) One Nothing old) (h : LateRounds gives n old new) where
   pub late_active_meet : ((s : Side) → activity (w s) ≡ true) → 323 ≤ n → Fresh at w old new
-  late_active_meet = both_meet at w (counts_of at old) (kept_of at old) gives named n old new (λ j r. first_late gives at w old j l r)
+  late_active_meet = both_meet at w (counts_of at old) (kept_of at old) gives named n old new (λ j r. first_late 1 gives at w old j l (once r))
       (all_beside at OldArrive gives n old new h)
 
   pub late_one_meets : (s : Side) → activity (w s) ≡ true → 624 ≤ n → Fresh at w old new
-  late_one_meets = one_meets at w (counts_of at old) (kept_of at old) gives named n old new (λ j r. first_late gives at w old j l r)
+  late_one_meets = one_meets at w (counts_of at old) (kept_of at old) gives named n old new (λ j r. first_late 1 gives at w old j l (once r))
       (all_beside at OldArrive gives n old new h)

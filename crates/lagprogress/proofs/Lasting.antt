@@ -15,7 +15,7 @@ use Rattle.lagprogress.proofs.OneCable.{OnCable, as_cable}
 use Rattle.lagprogress.proofs.OneRound.{Nothing}
 use Rattle.lagprogress.proofs.Claims.{IsNamed}
 use Rattle.lagmodel.specs.Law.{Members}
-use Rattle.lagprogress.proofs.EachRound.{EachAt, RoundKeeps, own_keeps, own_ticks, host_each, played_keep, played_on, played_steady}
+use Rattle.lagprogress.proofs.EachRound.{EachAt, Passes, RoundKeeps, each_on, own_keeps, own_ticks, played_pass, same_on, steady_on}
 
 -- The ends of a cable in the world before the rounds.
 
@@ -114,14 +114,16 @@ pub alike_ticks : (n : ℕ) (x : Machines) (m : ℕ) (p q : Machines) → RunsTo
     → AtPort n (Alike x) m q
 alike_ticks n x = own_ticks (λ party up. (party ≡ x.party) × (up ≡ x.enabled)) n
 
+pub alike_on : (gives : Algorithms) (old new : WorldState) → IsSteady old → Passes gives old new → (s : Side) (k : ℕ) (x : SystemPort)
+    → slice_get (half s old).state.system_ports k ≡ Some x → EachAt (AtPort x.number (Alike x.port)) s new
+alike_on gives old new steady h s k x there =
+    let st = (half s old).state in
+    each_on gives old new h (AtPort x.number (Alike x.port)) (alike_keeps x.number x.port) (alike_ticks x.number x.port) s
+    (at_number (Alike x.port) 0 st.system_ports k x (ports_rise st (steady s).0.ports) there (refl, refl))
+
 pub played_alike : (E : Clearing) (gives : Algorithms) (n : ℕ) (old new : WorldState) → IsSteady old → PlayedRounds E gives n old new
     → (s : Side) (k : ℕ) (x : SystemPort) → slice_get (half s old).state.system_ports k ≡ Some x → EachAt (AtPort x.number (Alike x.port)) s new
-played_alike E gives n old new steady h s k x there =
-    let st = (half s old).state in
-    played_on E gives (λ m j. EachAt (AtPort x.number (Alike x.port)) s j) old
-    (at_number (Alike x.port) 0 st.system_ports k x (ports_rise st (steady s).0.ports) there (refl, refl))
-    (λ m i j q a. host_each (AtPort x.number (Alike x.port)) (AtPort x.number (Alike x.port)) (alike_keeps x.number x.port)
-    (alike_keeps x.number x.port) (alike_ticks x.number x.port) s gives i j q a) n new h
+played_alike E gives n old new steady h = alike_on gives old new steady (played_pass E gives n old new h)
 
 -- the system is as it was, but for its machines and its table
 pub record IsAsBefore (s : Side) (old new : WorldState) : Type 0 where
@@ -131,21 +133,24 @@ pub record IsAsBefore (s : Side) (old new : WorldState) : Type 0 where
   pub alike : (k : ℕ) (x y : SystemPort) → slice_get (half s old).state.system_ports k ≡ Some x
       → slice_get (half s new).state.system_ports k ≡ Some y → Alike x.port y.port
 
-pub played_before : (E : Clearing) (gives : Algorithms) (n : ℕ) (old new : WorldState) → IsSteady old → PlayedRounds E gives n old new → (s : Side)
-    → IsAsBefore s old new
-played_before E gives n old new steady h s =
-    let now = played_steady E gives n old new steady h in
-    let ports = played_keep E gives (List PortConfig) (λ t. t.ports) (λ t a b. refl) (λ t a. refl) (λ t d. refl) n old new h s in
+pub before_on : (gives : Algorithms) (old new : WorldState) → IsSteady old → Passes gives old new → (s : Side) → IsAsBefore s old new
+before_on gives old new steady h s =
+    let now = steady_on gives old new h steady in
+    let ports = same_on gives old new h (List PortConfig) (λ t. t.ports) (λ t a b. refl) (λ t a. refl) (λ t d. refl) s in
     let numbers : port_numbers (half s new).state.system_ports ≡ port_numbers (half s old).state.system_ports =
     (now s).0.ports.same ∙ (ap configured_numbers ports ∙ sym (steady s).0.ports.same) in
     record {
-      keys = played_keep E gives (List Key) (λ t. t.keys) (λ t a b. refl) (λ t a. refl) (λ t d. refl) n old new h s;
-      limit = played_keep E gives (Option ℕ) (λ t. t.max_links) (λ t a b. refl) (λ t a. refl) (λ t d. refl) n old new h s;
+      keys = same_on gives old new h (List Key) (λ t. t.keys) (λ t a b. refl) (λ t a. refl) (λ t d. refl) s;
+      limit = same_on gives old new h (Option ℕ) (λ t. t.max_links) (λ t a b. refl) (λ t a. refl) (λ t d. refl) s;
       numbers = numbers;
       alike = λ k x y e f. all-get (λ (z : SystemPort). AtPort x.number (Alike x.port) z.number z.port) (half s new).state.system_ports k y f
-          (played_alike E gives n old new steady h s k x e)
+          (alike_on gives old new steady h s k x e)
           (same_place (half s old).state.system_ports (half s new).state.system_ports k x y numbers e f);
     }
+
+pub played_before : (E : Clearing) (gives : Algorithms) (n : ℕ) (old new : WorldState) → IsSteady old → PlayedRounds E gives n old new → (s : Side)
+    → IsAsBefore s old new
+played_before E gives n old new steady h = before_on gives old new steady (played_pass E gives n old new h)
 
 -- the port that stood at the place
 pub old_port : (xs ys : List SystemPort) (k : ℕ) (y : SystemPort) → port_numbers ys ≡ port_numbers xs → slice_get ys k ≡ Some y

@@ -1,20 +1,19 @@
 -- What a late round leaves of a cable: an LACPDU of an end is nearer, on the cable in the end, or was heard.
-use Rattle.lagprogress.proofs.Common.{Bool, List, Some, [], ap, arith, inl, inr, is_some, length, map, refl, subst, suc, sym, true, zero, ℕ, ◌++◌}
-use Rattle.lagprogress.proofs.Common.{◌+◌, ◌-◌, ◌∙◌, ◌∷◌, ◌≡◌, ◌≤◌, ◌⊎◌, AllByRecursion, Lacpdu, One, Side, peer, Machines, periodic_rows}
-use Rattle.lagprogress.proofs.Common.{receive_rows, AtRest, RunsToRest, after_sending, count_down, Reply, Algorithms, WorldSteps, side_of, link_ends}
-use Rattle.lagprogress.proofs.Common.{ItemValue, WorldState, change_count_in, half, history_at, HostEvent, KeptBySettling, OfEach, AtPort, Sounds}
-use Rattle.lagprogress.proofs.Common.{Clearing, StepReplies, ArriveIn, IsArrivalAt, OldArrive, IsHealthyAt}
+use Rattle.lagprogress.proofs.Common.{Bool, List, Some, [], ap, arith, inl, inr, is_some, length, map, refl, subst, suc, sym, true, ℕ, ◌++◌, ◌+◌, ◌-◌}
+use Rattle.lagprogress.proofs.Common.{◌∙◌, ◌∷◌, ◌≡◌, ◌≤◌, ◌⊎◌, AllByRecursion, Lacpdu, One, Side, peer, Machines, periodic_rows, receive_rows, AtRest}
+use Rattle.lagprogress.proofs.Common.{RunsToRest, after_sending, count_down, Reply, Algorithms, WorldSteps, side_of, link_ends, ItemValue, WorldState}
+use Rattle.lagprogress.proofs.Common.{change_count_in, half, history_at, HostEvent, KeptBySettling, OfEach, AtPort, Sounds, Clearing, StepReplies}
+use Rattle.lagprogress.proofs.Common.{ArriveIn, IsArrivalAt, OldArrive, IsHealthyAt}
 use Rattle.lagprogress.proofs.EndFacts.{Along, IsEnd, Suits, Synced, nothing_along, activity, wait_of, CanSound, Learnt}
 use Rattle.lagprogress.proofs.HostRound.{KeptBeside, MadeByTick, between, healthy_link, two_there, learn_less}
-use Rattle.lagprogress.proofs.SeveralTicks.{TicksBeside, Within, all_counted, fits_at, known_at, no_less, none_counted, once, own_at, peer_at}
-use Rattle.lagprogress.proofs.SeveralTicks.{side_turns, ticks_keep, own_counted, peer_counted, ticked_by, TickPasses, keeps_ticks, sounds_by_ticks}
+use Rattle.lagprogress.proofs.SeveralTicks.{TicksBeside, Within, all_counted, fits_at, known_at, no_less, none_counted, own_at, peer_at, side_turns}
+use Rattle.lagprogress.proofs.SeveralTicks.{ticks_keep, own_counted, peer_counted, ticked_by, TickPasses, keeps_ticks, sounds_by_ticks}
 use Rattle.lagprogress.proofs.Stamps.{stamped_between, stamped_tick, Stamped, Took-it, took_between, took_now, took_tick, Took}
 use Rattle.lagprogress.proofs.LateFlow.{Adds, Past, cleared_on, gain_at, FlyingIn, IsPlain, between_at, counted_on, flows, flying_first, flying_flows}
 use Rattle.lagprogress.proofs.LateFlow.{flying_pop, stays_there}
 use Rattle.lagprogress.proofs.Linked.{Fits, IsGood, Link, of_end, other_ports, peer_twice, push_there, told_good, same_items, Flying}
 use Rattle.lagprogress.proofs.OneCable.{Asks, IsStamped, OnCable, cable, sent_frame, towards_there, ticks}
-use Rattle.lagprogress.proofs.OneRound.{Nothing, ticked, forget, join, Later, beside_here}
-use Rattle.lagprogress.proofs.Quieting.{PlayedBeside}
+use Rattle.lagprogress.proofs.OneRound.{Nothing, forget, join, Later, beside_here}
 use Rattle.lagprogress.proofs.Lasting.{raised}
 use Rattle.lagprogress.proofs.Claims.{IsNamed, Wakeful, Owes}
 use Rattle.lagprogress.proofs.EachRound.{joins_kept, joins_tick}
@@ -27,33 +26,27 @@ use Rattle.lagscript.specs.declared.event.Event.TheVariants as event
 -- What is known of the items on a cable after a late round: all of them were sent in it.
 
 -- as many arrive as were on the cable
-arriving : (gives : Algorithms) (at : Side → ℕ) (x : ℕ) (fl : Side → List ItemValue) (old new : WorldState) → IsHealthyAt x (cable at fl) old
-    → (h : TicksBeside 1 at OldArrive gives old new) → (t : Side) → ArriveIn (length (fl t)) t x h.events
-arriving gives at x fl old new healthy h t =
+arriving : (n : ℕ) (gives : Algorithms) (at : Side → ℕ) (x : ℕ) (fl : Side → List ItemValue) (old new : WorldState) → IsHealthyAt x (cable at fl) old
+    → (h : TicksBeside n at OldArrive gives old new) → (t : Side) → ArriveIn (length (fl t)) t x h.events
+arriving n gives at x fl old new healthy h t =
     subst (λ xs. ArriveIn (length xs) t x h.events) (towards_there t at fl) (h.empties t x (cable at fl) healthy)
 
 -- what is on the cable towards the end of t in the end is good, since its peer sent it
-module _ (gives : Algorithms) (d e : ℕ) (at : Side → ℕ) (w : Side → Lacpdu) (c : Side → ℕ) (t : Side) (Y : Machines → Type 0) (fits : Fits d w c)
-    (then : Fits d w (ticked c)) (first : Along Y (w (peer t)) (w (peer (peer t))) (c (peer t)) d)
-    (last : Along Y (w (peer t)) (w (peer (peer t))) (ticked c (peer t)) d)
-    (moves : (p q : Machines) → RunsToRest receive_rows (count_down p) q → AtRest periodic_rows p
-    → IsEnd d (w (peer t)) (w (peer (peer t))) (c (peer t)) p → Y p → Y q)
-    (sends : (p : Machines) → Y p → Y (after_sending p)) (synced : (p : Machines) → Y p → 2 ≤ e → Synced p) (some : 2 ≤ e → 1 ≤ c (peer t) - 1) where
+module _ (gives : Algorithms) (n d e : ℕ) (at : Side → ℕ) (w : Side → Lacpdu) (c : Side → ℕ) (t : Side) (Y : Machines → Type 0) (fits : Fits d w c)
+    (then : Fits d w (ticked_by n c)) (along : (a : ℕ) → a ≤ n → Along Y (w (peer t)) (w (peer (peer t))) (c (peer t) - a) d)
+    (moves : (a : ℕ) → suc a ≤ n → (p q : Machines) → RunsToRest receive_rows (count_down p) q → AtRest periodic_rows p
+    → IsEnd d (w (peer t)) (w (peer (peer t))) (c (peer t) - a) p → Y p → Y q)
+    (sends : (p : Machines) → Y p → Y (after_sending p)) (synced : (p : Machines) → Y p → 2 ≤ e → Synced p) (some : 2 ≤ e → 1 ≤ c (peer t) - n) where
   abbrev M : ℕ → ℕ → WorldState → Type 0
   M a b j = Link d at w (known_at c (peer t) a b) (peer t) Y j
-
-  along : (a : ℕ) → a ≤ 1 → Along Y (w (peer t)) (w (peer (peer t))) (c (peer t) - a) d
-  along zero l = subst (λ n. Along Y (w (peer t)) (w (peer (peer t))) n d) (sym (no_less (c (peer t)))) first
-  along (suc zero) l = last
-  along (suc (suc a)) l = absurd (omega (arith, l))
 
   here : (a b : ℕ) → known_at c (peer t) a b (peer t) ≡ c (peer t) - a
   here a b = two_there (peer t) (c (peer t) - a) (c (peer (peer t)) - b)
 
-  known : (a b : ℕ) → Within 1 a b → 2 ≤ e → 1 ≤ known_at c (peer t) a b (peer t)
-  known a b l f = subst (λ n. 1 ≤ n) (sym (here a b)) (let k = some f in let m = l.0 in omega (arith, k, m))
+  known : (a b : ℕ) → Within n a b → 2 ≤ e → 1 ≤ known_at c (peer t) a b (peer t)
+  known a b l f = subst (λ m. 1 ≤ m) (sym (here a b)) (let k = some f in let m = l.0 in omega (arith, k, m))
 
-  sent : (a b : ℕ) → Within 1 a b → (fl : Side → List ItemValue) (i j : WorldState) (x : ℕ) → M a b i → OnCable x at fl i.links
+  sent : (a b : ℕ) → Within n a b → (fl : Side → List ItemValue) (i j : WorldState) (x : ℕ) → M a b i → OnCable x at fl i.links
       → (k : Asks gives (peer t) at fl i j) → (k.now t ≡ fl t) ⊎ Adds (IsGood e w t) (fl t) (k.now t)
   sent a b l fl i j x m on k = elim (gain_at t (sent_frame k.a) fl k.now k.went) [
     | inl y ↦ inl y
@@ -71,37 +64,35 @@ module _ (gives : Algorithms) (d e : ℕ) (at : Side → ℕ) (w : Side → Lacp
           (told_good e (w (peer t)) (w (peer (peer t))) cc (gives (peer t)) (at (peer t)) k.a (half (peer t) i).state (half (peer t) j).state
           (known a b l) k.promise ends item.octets is v carries)
 
-  kept : (a b : ℕ) → Within 1 a b → KeptBeside at gives (M a b)
-  kept a b l = between gives d at w (known_at c (peer t) a b) (peer t) Y (fits_at d w c (peer t) 1 fits then a b l)
-      (subst (λ n. Along Y (w (peer t)) (w (peer (peer t))) n d) (sym (here a b)) (along a l.0)) sends
+  kept : (a b : ℕ) → Within n a b → KeptBeside at gives (M a b)
+  kept a b l = between gives d at w (known_at c (peer t) a b) (peer t) Y (fits_at d w c (peer t) n fits then a b l)
+      (subst (λ m. Along Y (w (peer t)) (w (peer (peer t))) m d) (sym (here a b)) (along a l.0)) sends
 
-  made : (a b : ℕ) → Within 1 (suc a) b → MadeByTick gives (peer t) (M a b) (M (suc a) b)
-  made zero b l = own_at gives (peer t) d at w c 1 Y Y then 0 b l last
-      (λ p q run rest y. moves p q run rest (subst (λ n. IsEnd d (w (peer t)) (w (peer (peer t))) n p) (no_less (c (peer t))) y))
-  made (suc a) b l = absurd (let k = l.0 in omega (arith, k))
+  made : (a b : ℕ) → Within n (suc a) b → MadeByTick gives (peer t) (M a b) (M (suc a) b)
+  made a b l = own_at gives (peer t) d at w c n Y Y then a b l (along (suc a) l.0) (λ p q run rest y. moves a l.0 p q run rest y)
 
   -- so it is after a late round
-  pub flush : (old new : WorldState) (l : Link d at w c (peer t) Y old) → TicksBeside 1 at OldArrive gives old new
-      → Link d at w (ticked c) (peer t) Y new × (x : ℕ) × Past t x at (IsGood e w t) 0 new
+  pub flush : (old new : WorldState) (l : Link d at w c (peer t) Y old) → TicksBeside n at OldArrive gives old new
+      → Link d at w (ticked_by n c) (peer t) Y new × (x : ℕ) × Past t x at (IsGood e w t) 0 new
   flush old new l h =
-      let come = arriving gives at l.index l.flying old new (healthy_link d at w c (peer t) Y old l) h t in
-      let r = cleared_on gives 1 (peer t) t l.index at (IsGood e w t) M (λ item plain v carries. absurd (plain (v, carries)))
+      let come = arriving n gives at l.index l.flying old new (healthy_link d at w c (peer t) Y old l) h t in
+      let r = cleared_on gives n (peer t) t l.index at (IsGood e w t) M (λ item plain v carries. absurd (plain (v, carries)))
       (λ a b k fl i j m on q. sent a b k fl i j l.index m on q) kept made
-      (λ a b k. peer_at gives (peer t) d at w c 1 Y then a b k (along a k.0))
-      h.events h.replies l.flying old new l.links (side_turns at 1 (peer t) h.events h.turns) come h.acts
+      (λ a b k. peer_at gives (peer t) d at w c n Y then a b k (along a k.0))
+      h.events h.replies l.flying old new l.links (side_turns at n (peer t) h.events h.turns) come h.acts
       (none_counted d at w c (peer t) (peer t) Y old l) in
-      (all_counted d at w c (peer t) (peer t) 1 Y new r.0, l.index, r.1)
+      (all_counted d at w c (peer t) (peer t) n Y new r.0, l.index, r.1)
 
 -- and bears the present change count
-stamps_flush : (gives : Algorithms) (at k : Side → ℕ) (kept : Side → Bool) (t : Side) (old new : WorldState) (l : Stamped 0 at k kept old)
-    → IsHealthyAt l.index (cable at l.flying) old → TicksBeside 1 at OldArrive gives old new
+stamps_flush : (n : ℕ) (gives : Algorithms) (at k : Side → ℕ) (kept : Side → Bool) (t : Side) (old new : WorldState) (l : Stamped 0 at k kept old)
+    → IsHealthyAt l.index (cable at l.flying) old → TicksBeside n at OldArrive gives old new
     → Stamped 0 at k kept new × Past t l.index at (IsStamped (k (peer t))) 0 new
-stamps_flush gives at k kept t old new l healthy h = cleared_on gives 1 One t l.index at (IsStamped (k (peer t))) (λ a b j. Stamped 0 at k kept j)
+stamps_flush n gives at k kept t old new l healthy h = cleared_on gives n One t l.index at (IsStamped (k (peer t))) (λ a b j. Stamped 0 at k kept j)
     (λ item plain v carries. absurd (plain (v, carries))) sent (λ a b m. stamped_between gives 0 at k kept)
     (λ a b m. stamped_tick gives 0 at k kept One) (λ a b m. stamped_tick gives 0 at k kept (peer One))
-    h.events h.replies l.flying old new l.links (side_turns at 1 One h.events h.turns) (arriving gives at l.index l.flying old new healthy h t) h.acts l
+    h.events h.replies l.flying old new l.links (side_turns at n One h.events h.turns) (arriving n gives at l.index l.flying old new healthy h t) h.acts l
   where
-    sent : (a b : ℕ) → Within 1 a b → (fl : Side → List ItemValue) (i j : WorldState) → Stamped 0 at k kept i → OnCable l.index at fl i.links
+    sent : (a b : ℕ) → Within n a b → (fl : Side → List ItemValue) (i j : WorldState) → Stamped 0 at k kept i → OnCable l.index at fl i.links
         → (y : Asks gives (peer t) at fl i j) → (y.now t ≡ fl t) ⊎ Adds (IsStamped (k (peer t))) (fl t) (y.now t)
     sent a b few fl i j m on y = elim y.stamps [
       | inl same ↦ inl (ap (λ (f : Side → List ItemValue). f t) same)
@@ -113,6 +104,9 @@ stamps_flush gives at k kept t old new l healthy h = cleared_on gives 1 One t l.
       )
     ]
 
+none_left : (n : ℕ) → 0 - n ≡ 0
+none_left n = omega arith
+
 abbrev pub counts_of : (Side → ℕ) → WorldState → Side → ℕ
 counts_of at j s = change_count_in (history_at (half s j).histories (at s))
 
@@ -120,11 +114,11 @@ abbrev pub kept_of : (Side → ℕ) → WorldState → Side → Bool
 kept_of at j s = is_some (history_at (half s j).histories (at s))
 
 -- after the first round all that is on the cable names the ends as they are, and bears the present counts
-pub first_late : (gives : Algorithms) (at : Side → ℕ) (w : Side → Lacpdu) (old new : WorldState) → Link 0 at w (λ _. 0) One Nothing old
-    → PlayedBeside at OldArrive gives old new → Link 1 at w (λ _. 0) One Nothing new × Stamped 1 at (counts_of at old) (kept_of at old) new
-first_late gives at w old new l h =
-    let base : Link 0 at w (λ _. 0) One Nothing new = other_ports (ticks_keep gives 1 One 0 at w (λ _. 0) old new fit then l (once h))
-    (λ s p rest timed a. (a.0, a.1)) in (
+pub first_late : (n : ℕ) (gives : Algorithms) (at : Side → ℕ) (w : Side → Lacpdu) (old new : WorldState) → Link 0 at w (λ _. 0) One Nothing old
+    → TicksBeside n at OldArrive gives old new → Link 1 at w (λ _. 0) One Nothing new × Stamped 1 at (counts_of at old) (kept_of at old) new
+first_late n gives at w old new l h =
+    let base : Link 0 at w (λ _. 0) One Nothing new = other_ports (ticks_keep gives n One 0 at w (λ _. 0) old new fit then l h)
+    (λ s p rest timed a. (subst (λ m. IsEnd 0 (w s) (w (peer s)) m p) (none_left n) a.0, a.1)) in (
       raised at w 0 1 (λ _. 0) One Nothing new (λ s. of_end base s (λ p. 2 ≤ 1 → Synced p) (λ p rest timed a f. absurd (omega (arith, f)))) base
           (λ t. let p = (good t).2 in
           subst (AllByRecursion (IsGood 1 w t)) (sym (same_items (good t).1 base.index at p.flying base.flying new p.on base.links t)) p.items),
@@ -142,23 +136,23 @@ first_late gives at w old new l h =
     fit : Fits 0 w (λ _. 0)
     fit = λ t. (omega arith, λ m. omega (arith, m), λ m. absurd (omega (arith, m)), λ m. absurd (omega (arith, m)))
 
-    then : Fits 0 w (ticked (λ _. 0))
+    then : Fits 0 w (ticked_by n (λ _. 0))
     then = λ t. (omega arith, λ m. omega (arith, m), λ m. absurd (omega (arith, m)), λ m. absurd (omega (arith, m)))
 
-    good : (t : Side) → Link 0 at w (ticked (λ _. 0)) (peer t) Nothing new × (x : ℕ) × Past t x at (IsGood 1 w t) 0 new
-    good t = flush gives 0 1 at w (λ _. 0) t Nothing fit then (nothing_along (w (peer t)) (w (peer (peer t))) 0 0)
-        (nothing_along (w (peer t)) (w (peer (peer t))) 0 0) (λ p q run rest a y. y) (λ p y. y) (λ p y f. absurd (omega (arith, f)))
-        (λ f. absurd (omega (arith, f))) old new (other_ports l (λ s p rest timed a. (a.0, λ f. tt))) (once h)
+    good : (t : Side) → Link 0 at w (ticked_by n (λ _. 0)) (peer t) Nothing new × (x : ℕ) × Past t x at (IsGood 1 w t) 0 new
+    good t = flush gives n 0 1 at w (λ _. 0) t Nothing fit then (λ a l. nothing_along (w (peer t)) (w (peer (peer t))) (0 - a) 0)
+        (λ a l p q run rest k y. y) (λ p y. y) (λ p y f. absurd (omega (arith, f))) (λ f. absurd (omega (arith, f))) old new
+        (other_ports l (λ s p rest timed a. (a.0, λ f. tt))) h
 
     stamps : (t : Side) → Stamped 0 at (counts_of at old) (kept_of at old) new × Past t l.index at (IsStamped (counts_of at old (peer t))) 0 new
-    stamps t = stamps_flush gives at (counts_of at old) (kept_of at old) t old new (record {
+    stamps t = stamps_flush n gives at (counts_of at old) (kept_of at old) t old new (record {
       flying = l.flying;
       index = l.index;
       links = l.links;
       counts = λ s. refl;
       there = λ s. refl;
       items = λ one. absurd (omega (arith, one));
-    }) (healthy_link 0 at w (λ _. 0) One Nothing old l) (once h)
+    }) (healthy_link 0 at w (λ _. 0) One Nothing old l) h
 
 -- An LACPDU that was on the cable when a late round began is heard in it.
 

@@ -18,7 +18,6 @@ mod HostRound
 mod SeveralTicks
 mod SeveralLapsing
 mod SeveralMeeting
-mod SeveralStart
 mod SeveralUp
 mod HostTelling
 mod LateFlow

@@ -10,7 +10,7 @@ use Rattle.lagprogress.proofs.Common.{KeptBySettling, OfEach, Step-each, first_e
 use Rattle.lagprogress.proofs.Common.{periodic_leaves, RowsKeep, runs_keep, takes_keep, LateRounds, OldArrive, EndKnows, Knows, AtEnd, IsHealthyAt}
 use Rattle.lagprogress.proofs.Common.{OfPort}
 use Rattle.lagprogress.proofs.SharedLemmas.{played_lasted, shared_finds}
-use Rattle.lagprogress.proofs.EachRound.{played_join, played_on, played_steady, EachAt, RoundKeeps, host_each, played_keep}
+use Rattle.lagprogress.proofs.EachRound.{played_join, played_on, played_steady, EachAt, RoundKeeps, host_each, played_pass, same_on}
 use Rattle.lagprogress.proofs.Lasting.{played_alike, played_before, all_by_place, ends_at, own_system, still_heard, still_links, Alike, end_of}
 use Rattle.lagprogress.proofs.Linked.{each_side, events_each, machines_there}
 use Rattle.lagprogress.specs.Limited.{CarriesOnAll, DownAreUnselected, EachLimitedLinkAgrees, EachReachedHasDownUnselected, EndsAgreed}
@@ -139,7 +139,7 @@ module _ (Holds : LinkState → WorldState → Type 0) (t : Side) (gives : Algor
       (played_alike OldArrive gives n old new b.steady h s was.0 was.1 was.3) (number ∙ sym before) in
       let own : e.1.port.party.system ≡ st.system = own_system st e.0 e.1 (now s).0 e.3 in
       let other : f.1.port.party.system ≡ (half (peer s) new).state.system = own_system (half (peer s) new).state f.0 f.1 (now (peer s)).0 f.3 in
-      let kept = played_keep OldArrive gives SystemId (λ z. z.system) (λ z ports table. refl) (λ z table. refl) (λ z d. refl) n old new h in
+      let kept = same_on gives old new (played_pass OldArrive gives n old new h) SystemId (λ z. z.system) (λ z ports table. refl) (λ z table. refl) (λ z d. refl) in
       record {
         place = e.0;
         port = e.1;

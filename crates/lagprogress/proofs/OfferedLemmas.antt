@@ -10,7 +10,7 @@ use Rattle.lagprogress.proofs.Common.{SometimePlayed, TakesFrame, EndsHealthyCab
 use Rattle.lagprogress.proofs.Common.{TickOnce, LateRounds, OldArrive, NothingInFlight, OfPort}
 use Rattle.lagprogress.proofs.ArrivingLemmas.{deliver_hands_up, is_data, offer_gets_port}
 use Rattle.lagprogress.proofs.Climbing.{PartnerInSync, distributes_now, partner_along, ticks_partner}
-use Rattle.lagprogress.proofs.EachRound.{same_index, joins_kept, played_join, played_on, played_steady, EachAt, RoundKeeps, host_each, done, few_done}
+use Rattle.lagprogress.proofs.EachRound.{same_index, joins_kept, played_join, played_on, played_steady, EachAt, RoundKeeps, host_each, few_done}
 use Rattle.lagprogress.proofs.EndFacts.{activity, Along}
 use Rattle.lagprogress.proofs.Linked.{Fits, Link, end_here, EndIs, IsGood, place_kept, push_there}
 use Rattle.lagprogress.proofs.Quieting.{leaves}
@@ -27,7 +27,7 @@ use Rattle.lagprogress.proofs.Halves.{keeps_timely}
 use Rattle.lagprogress.proofs.ComingUp.{told_now}
 use Rattle.lagscript.specs.declared.event.Event.TheVariants as event
 use Rattle.lagworld.specs.declared.reply.Reply.TheVariants as reply
-use Rattle.lagprogress.proofs.SeveralTicks.{fits_at, known_at, none_counted, own_at, peer_at}
+use Rattle.lagprogress.proofs.SeveralTicks.{done, fits_at, known_at, none_counted, own_at, peer_at}
 
 -- How a frame that was sent on a healthy cable stays first on it through a round, until it is handed up.
 
@@ -265,7 +265,7 @@ module _ (Holds : LinkState → WorldState → Type 0) (first : ℕ) (gives : Al
       let awake = awake_of OldArrive Holds Nowhere first gives old m i l y in
       let top = ups_of OldArrive Holds Nowhere first gives old m i l y n mid enough h in
       let fresh = top.2.fresh in
-      let heard = told_now at w (counts_of at old) (kept_of at old) top.0 mid top.1 top.2 (peer s) in
+      let heard = told_now at w (counts_of at old) (kept_of at old) 1 11 top.0 mid (omega arith) top.1 top.2 (peer s) in
       let start = join 2 at w fresh.known One (peer s) PartnerInSync mid fresh.link heard in
       let plain = subst (λ o. IsFrame o Data_frame) (sym g.frame) (is_data octets.items takes.may.1) in
       let o = offer_link gives number s 2 at w fresh.known (peer s) PartnerInSync agg octets r mid sent g (sym it.joins) plain step start in

@@ -8,8 +8,8 @@ use Rattle.lagprogress.proofs.Common.{port_numbers, processes_or_stays, rests, a
 use Rattle.lagprogress.proofs.Common.{LinkState, WorldState, half, port_at, towards, HostEvent, Plays, IsTimed, OfEach, asked_each, no, AtPort}
 use Rattle.lagprogress.proofs.Common.{at_number, AllHeard, EndsHealthyCable, SelectedPairsAgree, SelectedPairsComeUp, IsBetweenTicks, StepReplies}
 use Rattle.lagprogress.proofs.Common.{IsLateRound, LateRounds, OldArrive, AtEnd, IsHealthyAt, OfPort, IsSteady}
-use Rattle.lagprogress.proofs.EachRound.{played_on, EachAt, tick_keeps, played_split, played_steady, RoundKeeps, host_each, played_keep, each_between}
-use Rattle.lagprogress.proofs.EachRound.{holds_once}
+use Rattle.lagprogress.proofs.EachRound.{played_on, EachAt, tick_keeps, played_split, played_steady, RoundKeeps, host_each, played_pass, same_on}
+use Rattle.lagprogress.proofs.EachRound.{each_between, holds_once}
 use Rattle.lagprogress.proofs.LateHearing.{counts_of, kept_of}
 use Rattle.lagprogress.proofs.Quieting.{as_beside, IsCalm, calm_steady, calm_keeps, quiet_ports, asked_half, came_half, all_beside, calm_between}
 use Rattle.lagprogress.proofs.Quieting.{leaves}
@@ -314,7 +314,8 @@ module _ (Holds : LinkState → WorldState → Type 0) (first : ℕ) (gives : Al
     stands : Stands Holds gives old heard wake mid
     stands = record {
       steady = played_steady OldArrive gives first old mid steady h;
-      config = played_keep OldArrive gives (List PortConfig) (λ t. t.ports) (λ t a b. refl) (λ t a. refl) (λ t d. refl) first old mid h;
+      config = same_on gives old mid (played_pass OldArrive gives first old mid h) (List PortConfig) (λ t. t.ports) (λ t a b. refl) (λ t a. refl)
+          (λ t d. refl);
       alike = λ t k x e. played_alike OldArrive gives first old mid steady h t k x e;
     }
 

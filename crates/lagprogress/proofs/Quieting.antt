@@ -7,8 +7,8 @@ use Rattle.lagprogress.proofs.Common.{SystemState, port_index, with_system_ports
 use Rattle.lagprogress.proofs.Common.{AfterOffer, Algorithms, InHalf, WorldRuns, WorldSteps, offered_item, side_of, with_frame_counted, HalfForces}
 use Rattle.lagprogress.proofs.Common.{HalfMoves, link_ends, HalfState, ItemValue, LinkState, WorldState, half, put_on_port, with_half, put_ends}
 use Rattle.lagprogress.proofs.Common.{half_there, HostEvent, HostSteps, Plays, Sets, KeptBySettling, OfEach, AtPort, calls_each, LeavesPorts}
-use Rattle.lagprogress.proofs.Common.{Clearing, IsBetweenTicks, IsPlayed, IsPlayedAmong, IsQuiet, IsTickOf, PlayedAmong, PlayedRounds, RunReplies}
-use Rattle.lagprogress.proofs.Common.{StepReplies, TickOnce, TickOnceAmong, IsSteady}
+use Rattle.lagprogress.proofs.Common.{Clearing, IsBetweenTicks, IsPlayed, IsPlayedAmong, IsQuiet, PlayedAmong, PlayedRounds, StepReplies, TickOnce}
+use Rattle.lagprogress.proofs.Common.{TickOnceAmong, IsSteady}
 use Rattle.lagprogress.proofs.Linked.{events_each, each_side, EndIs, Flying, HasLacpdu, IsGood, Link, end_kept, has_on, of_end, place_kept}
 use Rattle.lagprogress.proofs.Linked.{push_other, push_there}
 use native.Mathlib.Omega.{arith}
@@ -105,9 +105,6 @@ calm_quiet e q = grind (arith, nat_tests)
 pub calm_between : (e : HostEvent) → IsBetweenTicks e → IsCalm e
 calm_between e b = grind (arith, nat_tests)
 
-pub calm_tick : (s : Side) (e : HostEvent) → IsTickOf s e → IsCalm e
-calm_tick s e m = subst IsCalm (sym m.2) tt
-
 as_step : (gives : Algorithms) (e : HostEvent) (r : Reply) (old new : WorldState) → StepReplies gives old e r new → HostSteps gives old e new
 as_step gives e r old new h = grind (arith, nat_tests)
 
@@ -142,19 +139,6 @@ module _ (X : Type 0) (g : SystemState → X)
   calm_keeps gives (Sets s (Set_max_delay delay)) r old new c h t = delay_keeps X g delays gives s delay old new h t
   calm_keeps gives (Sets s setting) r old new c h t = absurd c
   calm_keeps gives e r old new c h t = aside_keeps X g tables gives e old new tt h t
-
--- a run of a round keeps what each of its events does
-pub runs_calm : (gives : Algorithms) (M : WorldState → Type 0)
-    → ((e : HostEvent) (r : Reply) (i j : WorldState) → IsCalm e → StepReplies gives i e r j → M i → M j) → (s : Side) (a b : Bool)
-    (es : List HostEvent) (rs : List Reply) (old new : WorldState) → TickOnce s a b es → RunReplies gives old es rs new → M old → M new
-runs_calm gives M k s a b [] [] old new h run m = subst M (sym run) m
-runs_calm gives M k s a b (e ∷ es) (r ∷ rs) old new (inl h) run m =
-    runs_calm gives M k s false b es rs run.0 new h.2 run.2 (k e r old run.0 (calm_tick s e h.0) run.1 m)
-runs_calm gives M k s a b (e ∷ es) (r ∷ rs) old new (inr (inl h)) run m =
-    runs_calm gives M k s a false es rs run.0 new h.2 run.2 (k e r old run.0 (calm_tick (peer s) e h.0) run.1 m)
-runs_calm gives M k s a b (e ∷ es) (r ∷ rs) old new (inr (inr h)) run m =
-    runs_calm gives M k s a b es rs run.0 new h.1 run.2 (k e r old run.0 (calm_between e h.0) run.1 m)
-runs_calm gives M k s a b es rs old new h run m = absurd run
 
 -- what it leaves of a cable
 

@@ -1,23 +1,21 @@
 -- How the ends of a cable come to know each other in rounds of several ticks.
 use Rattle.lagprogress.proofs.Common.{Bool, List, [], arith, false, inl, inr, refl, subst, suc, sym, true, zero, ℕ, ◌+◌, ◌-◌, ◌∙◌, ◌∷◌, ◌≡◌, ◌≤◌, ◌⊎◌}
-use Rattle.lagprogress.proofs.Common.{cases_Bool, nat_tests, Lacpdu, One, Side, Two, peer, Machines, Algorithms, LinkState, WorldState, half, port_at}
-use Rattle.lagprogress.proofs.Common.{HostEvent, timeout_time, OfEach, no, AtPort, Sounds, silence_of, sounds_first, LeavesPorts, BothAreActive}
-use Rattle.lagprogress.proofs.Common.{EndsOfEachKnow, OneIsActive, Clearing, IsBetweenTicks, OldArrive, EndKnows, Knows, IsPlayedTicks, SeveralRounds}
-use Rattle.lagprogress.proofs.Common.{TicksAmong, known_in_several_if_both_active, known_in_several_if_one_is, most_ticks}
-use Rattle.lagprogress.proofs.SeveralStart.{first_several}
-use Rattle.lagprogress.proofs.LateHearing.{counts_of, kept_of, AheadIn, Flies, HearsIn, Said, Whoever, ticks_bring, ticks_near, ticks_pass}
-use Rattle.lagprogress.proofs.LateHearing.{ticks_stamp, ticks_take, ticks_tell}
+use Rattle.lagprogress.proofs.Common.{cases_Bool, Lacpdu, One, Side, Two, peer, Machines, Algorithms, LinkState, WorldState, half, port_at, HostEvent}
+use Rattle.lagprogress.proofs.Common.{timeout_time, OfEach, no, AtPort, Sounds, silence_of, sounds_first, LeavesPorts, Clearing, IsBetweenTicks}
+use Rattle.lagprogress.proofs.Common.{OldArrive, EndKnows, IsPlayedTicks, SeveralRounds, TicksAmong, most_ticks}
+use Rattle.lagprogress.proofs.LateHearing.{counts_of, first_late, kept_of, AheadIn, Flies, HearsIn, Said, Whoever, ticks_bring, ticks_near}
+use Rattle.lagprogress.proofs.LateHearing.{ticks_pass, ticks_stamp, ticks_take, ticks_tell}
 use Rattle.lagprogress.proofs.Quieting.{leaves as leaves_ports}
-use Rattle.lagprogress.proofs.Lasting.{Ends, active_at, end_of, awake_at, named_at, said_by, starts}
+use Rattle.lagprogress.proofs.Lasting.{awake_at}
 use Rattle.lagprogress.proofs.Claims.{IsNamed, Wakeful}
 use Rattle.lagprogress.proofs.EndFacts.{CanSound, IsEnd, Learnt, activity, less_known, short_timeout, wait_of}
 use Rattle.lagprogress.proofs.HostRound.{two, two_other, two_there}
 use Rattle.lagprogress.proofs.SeveralLapsing.{Brisk, IsQuick, Keen, LastingIn, NewTail, Tail, begins_lasting_in, brisk_passes, keen_active}
 use Rattle.lagprogress.proofs.SeveralLapsing.{keen_along, keen_calm, keen_ticks, lasting_in_now, lasting_ticks}
 use Rattle.lagprogress.proofs.Lapsing.{Phase}
-use Rattle.lagprogress.proofs.Linked.{EndIs, Fits, Link, both_at, each_map, each_side, end_here, of_end, peer_twice, with_ports}
+use Rattle.lagprogress.proofs.Linked.{EndIs, Fits, Link, both_at, each_map, each_side, of_end, peer_twice, with_ports}
 use Rattle.lagprogress.proofs.OneRound.{Nothing, at_rest, beside_here, forget, join}
-use Rattle.lagprogress.proofs.Knowing.{AtIt, GoingIn, MetIn, beside, can_known, ends_of, fits_first, goes_in, knows_in, learns_for, lower, mode}
+use Rattle.lagprogress.proofs.Knowing.{AtIt, GoingIn, MetIn, beside, can_known, ends_of, fits_first, goes_in, learns_for, lower, mode, met_knows}
 use Rattle.lagprogress.proofs.Knowing.{settled, stays_met_in, some_silence, sounds_now, two_less, wait, wakes_now}
 use Rattle.lagprogress.proofs.SeveralTicks.{TicksBeside, no_less, ticked_by, ticks_hold, ticks_keep}
 use Rattle.lagprogress.proofs.Stamps.{Stamped, Took}
@@ -737,19 +735,7 @@ MetSince at w old j = MetIn at w (counts_of at old) (kept_of at old) most_ticks 
 -- as a contract has it
 pub met_knows_in : (l : LinkState) (w : Side → Lacpdu) (old j : WorldState) → MetSince (λ s. port_at s l) w old j → (s : Side) → EndKnows s l j
 met_knows_in l w old j g s =
-    let at : Side → ℕ = λ t. port_at t l in
-    let one = end_here at w 1 g.known One Nothing j g.link s in
-    let other = end_here at w 1 g.known One Nothing j g.link (peer s) in
-    let r = (one.is.1.1 (let m = knows_in at w (counts_of at old) (kept_of at old) most_ticks 1 1 j g (omega arith) s in omega (arith, m))).0 in
-    let knows : Knows one.port.port other.port.port = record {
-      current = r.current;
-      party = r.party ∙ sym other.is.0.0;
-      active = r.active ∙ sym other.is.0.1;
-      short = r.short ∙ sym other.is.0.2;
-      present = r.present;
-      heard = r.heard;
-    } in
-    grind (arith, nat_tests, other)
+    met_knows (λ t. port_at t l) w (counts_of (λ t. port_at t l) old) (kept_of (λ t. port_at t l) old) most_ticks 1 (omega arith) l (λ t. refl) j g s
 
 module _ (gives : Algorithms) (at : Side → ℕ) (w : Side → Lacpdu) (named : (t : Side) → IsNamed (w t)) (n : ℕ) (old new : WorldState)
     (l : Link 0 at w (λ _. 0) One Nothing old) (h : SeveralRounds gives n old new) where
@@ -770,7 +756,7 @@ module _ (gives : Algorithms) (at : Side → ℕ) (w : Side → Lacpdu) (named :
   hop b = silence_of b + (most_ticks + most_ticks) - 1
 
   start : (j : WorldState) → SomeRound gives at old j → Link 1 at w (λ _. 0) One Nothing j × Stamped 1 at counts kept j
-  start j r = first_several r.0 gives at w old j l r.3
+  start j r = first_late r.0 gives at w old j l r.3
 
   from_one : (s : Side) (awake : (u : Side) → (activity (w u) ≡ true) ⊎ (activity (w (peer u)) ≡ true))
       → Room at w counts kept gives most_ticks one few named s awake → activity (w s) ≡ true
@@ -830,17 +816,3 @@ module _ (gives : Algorithms) (at : Side → ℕ) (w : Side → Lacpdu) (named :
           (subst (λ b. 1 + hop false + hop b + hop true ≤ n) (sym slow) (omega (arith, enough))))
     ]
   ]
-
-pub both_know_in_several : (gives : Algorithms) → EndsOfEachKnow SeveralRounds BothAreActive known_in_several_if_both_active gives
-both_know_in_several gives n i l old new cabling steady healthy active enough rounds =
-    let e : Ends l old = λ s. end_of (λ p. p.enabled ≡ true) (port_at s l) (half s old).state (healthy.up s) in
-    let w = said_by l old e in
-    met_knows_in l w old new (both_meet_in gives (λ s. port_at s l) w (named_at l old e steady) n old new
-    (starts i l old e steady cabling healthy) rounds (λ s. active_at l old e s (active s)) enough)
-
-pub one_knows_in_several : (gives : Algorithms) → EndsOfEachKnow SeveralRounds OneIsActive known_in_several_if_one_is gives
-one_knows_in_several gives n i l old new cabling steady healthy (a, active) enough rounds =
-    let e : Ends l old = λ s. end_of (λ p. p.enabled ≡ true) (port_at s l) (half s old).state (healthy.up s) in
-    let w = said_by l old e in
-    met_knows_in l w old new (one_meets_in gives (λ s. port_at s l) w (named_at l old e steady) n old new
-    (starts i l old e steady cabling healthy) rounds a (active_at l old e a active) enough)

@@ -21,11 +21,11 @@ Within n a b = (a ≤ n) × (b ≤ n)
 -- a round of one tick is one
 
 -- the ticks that were
-abbrev done : Bool → ℕ
+abbrev pub done : Bool → ℕ
 done true = 0
 done false = 1
 
-once_turns : (May : HostEvent → Type 0) (s : Side) (es : List HostEvent) (a b : Bool) → TickOnceAmong May s a b es
+pub once_turns : (May : HostEvent → Type 0) (s : Side) (es : List HostEvent) (a b : Bool) → TickOnceAmong May s a b es
     → TicksAmong May 1 s (done a) (done b) es
 once_turns May s [] false false h = (refl, refl)
 once_turns May s [] true b h = absurd (no (sym h.0))

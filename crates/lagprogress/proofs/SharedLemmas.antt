@@ -8,9 +8,9 @@ use Rattle.lagprogress.proofs.Common.{WantsAggregator, EnabledKeep, no, times_ke
 use Rattle.lagprogress.proofs.Common.{shares_aggregator, AllHeard, EnoughAggregators, Clearing, PlayedRounds, EndKnows, Knows, AtEnd, IsHealthyAt}
 use Rattle.lagprogress.proofs.Common.{OfPort, AreOneGroup, DownWereLinkedTo, HasAggregators, LeadToKey, IsSteady}
 use Rattle.lagprogress.proofs.Choosing.{down_as_read}
-use Rattle.lagprogress.proofs.EachRound.{EachAt, RoundKeeps, host_each, played_keep, played_on, played_steady}
-use Rattle.lagprogress.proofs.Lasting.{IsAsBefore, ends_at, old_port, own_system, still_enough, still_heard, still_one, played_before, played_alike}
-use Rattle.lagprogress.proofs.Lasting.{Alike, end_of}
+use Rattle.lagprogress.proofs.EachRound.{EachAt, Passes, RoundKeeps, each_on, played_pass, same_on, steady_on}
+use Rattle.lagprogress.proofs.Lasting.{IsAsBefore, ends_at, old_port, own_system, still_enough, still_heard, still_one, before_on, alike_on, Alike}
+use Rattle.lagprogress.proofs.Lasting.{end_of}
 use Rattle.lagprogress.proofs.Linked.{machines_there}
 
 -- where no port is held, this one is not
@@ -78,17 +78,15 @@ sleeping_ticks n x m p q h a e = times_keep (Sleeps x) receive_rows (sleeping_ro
 pub is_disabled : (r : ReceiveState) (up : Bool) → up ≡ false → (not (same_receive_state PortDisabled r) && not up) ≡ false → r ≡ PortDisabled
 is_disabled r up e h = grind (arith, nat_tests)
 
-still_sleeps : (E : Clearing) (gives : Algorithms) (n : ℕ) (old new : WorldState) → IsSteady old → PlayedRounds E gives n old new
-    → (s : Side) (k : ℕ) (x : SystemPort) → slice_get (half s old).state.system_ports k ≡ Some x → x.port.enabled ≡ false → EachAt (AtPort x.number (Sleeps x.port)) s new
-still_sleeps E gives n old new steady h s k x there down =
+sleeps_on : (gives : Algorithms) (old new : WorldState) → IsSteady old → Passes gives old new → (s : Side) (k : ℕ) (x : SystemPort)
+    → slice_get (half s old).state.system_ports k ≡ Some x → x.port.enabled ≡ false → EachAt (AtPort x.number (Sleeps x.port)) s new
+sleeps_on gives old new steady h s k x there down =
     let st = (half s old).state in
     let rest = rests receive_rows x.port
     (all-get (λ (y : SystemPort). none_enabled receive_rows y.port ≡ true) st.system_ports k x there (steady s).0.rested.0) in
-    played_on E gives (λ m j. EachAt (AtPort x.number (Sleeps x.port)) s j) old
+    each_on gives old new h (AtPort x.number (Sleeps x.port)) (sleeping_round x.number x.port) (sleeping_ticks x.number x.port) s
     (at_number (Sleeps x.port) 0 st.system_ports k x (ports_rise st (steady s).0.ports) there
     (down, is_disabled x.port.receive x.port.enabled down rest.1.0, refl, λ e. e))
-    (λ m i j q a. host_each (AtPort x.number (Sleeps x.port)) (AtPort x.number (Sleeps x.port)) (sleeping_round x.number x.port)
-    (sleeping_round x.number x.port) (sleeping_ticks x.number x.port) s gives i j q a) n new h
 
 -- after the rounds
 
@@ -102,15 +100,18 @@ pub record Lasted (old new : WorldState) : Type 0 where
   pub sleeps : (s : Side) (k : ℕ) (x : SystemPort) → slice_get (half s old).state.system_ports k ≡ Some x → x.port.enabled ≡ false
       → EachAt (AtPort x.number (Sleeps x.port)) s new
 
+pub lasts_on : (gives : Algorithms) (old new : WorldState) → IsSteady old → Passes gives old new → Lasted old new
+lasts_on gives old new steady h = record {
+  now = steady_on gives old new h steady;
+  before = before_on gives old new steady h;
+  alike = alike_on gives old new steady h;
+  system = same_on gives old new h SystemId (λ z. z.system) (λ z ports table. refl) (λ z table. refl) (λ z d. refl);
+  sleeps = sleeps_on gives old new steady h;
+}
+
 pub played_lasted : (E : Clearing) (gives : Algorithms) (n : ℕ) (old new : WorldState) → IsSteady old → PlayedRounds E gives n old new
     → Lasted old new
-played_lasted E gives n old new steady h = record {
-  now = played_steady E gives n old new steady h;
-  before = played_before E gives n old new steady h;
-  alike = played_alike E gives n old new steady h;
-  system = played_keep E gives SystemId (λ z. z.system) (λ z ports table. refl) (λ z table. refl) (λ z d. refl) n old new h;
-  sleeps = still_sleeps E gives n old new steady h;
-}
+played_lasted E gives n old new steady h = lasts_on gives old new steady (played_pass E gives n old new h)
 
 module _ (old new : WorldState) (steady : IsSteady old) (last : Lasted old new) (Holds : LinkState → WorldState → Type 0) (heard : AllHeard Holds old)
     (knows : (i : ℕ) (l : LinkState) → IsHealthyAt i l old → (s : Side) → EndKnows s l new) where

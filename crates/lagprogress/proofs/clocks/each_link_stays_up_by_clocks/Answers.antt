@@ -1,7 +1,7 @@
 use Rattle.lagprogress.proofs.Common.{BothAreActive, OneIsActive}
 use Rattle.lagprogress.proofs.Bundling.{each_link_stays_agreed, each_link_stays_up, each_stays_agreed_in_several, each_stays_up_in_several}
 use Rattle.lagprogress.proofs.Bundling.{one_active, both_active}
-use Rattle.lagprogress.proofs.SeveralUp.{both_stay_agreed, both_stay_up, one_stays_agreed, one_stays_up}
+use Rattle.lagprogress.proofs.SeveralUp.{both_meet_several, one_meets_several, several_keep_agreed, several_keep_up}
 use Rattle.lagprogress.proofs.clocks.each_link_stays_up_by_clocks.Goals as goal
 
 pub returns-clause-up_both : goal.returns-clause-up_both
@@ -29,13 +29,13 @@ pub returns-clause-several_agrees_one : goal.returns-clause-several_agrees_one
 returns-clause-several_agrees_one g c = λ one two. each_stays_agreed_in_several OneIsActive 624 _ (one_active _)
 
 pub returns-clause-throughout_up_both : goal.returns-clause-throughout_up_both
-returns-clause-throughout_up_both g c = λ one two. both_stay_up _
+returns-clause-throughout_up_both g c = λ one two. several_keep_up BothAreActive 365 _ (both_meet_several _)
 
 pub returns-clause-throughout_up_one : goal.returns-clause-throughout_up_one
-returns-clause-throughout_up_one g c = λ one two. one_stays_up _
+returns-clause-throughout_up_one g c = λ one two. several_keep_up OneIsActive 671 _ (one_meets_several _)
 
 pub returns-clause-throughout_agrees_both : goal.returns-clause-throughout_agrees_both
-returns-clause-throughout_agrees_both g c = λ one two. both_stay_agreed _
+returns-clause-throughout_agrees_both g c = λ one two. several_keep_agreed BothAreActive 365 _ (both_meet_several _)
 
 pub returns-clause-throughout_agrees_one : goal.returns-clause-throughout_agrees_one
-returns-clause-throughout_agrees_one g c = λ one two. one_stays_agreed _
+returns-clause-throughout_agrees_one g c = λ one two. several_keep_agreed OneIsActive 671 _ (one_meets_several _)

@@ -1,4 +1,4 @@
-use Rattle.lagprogress.proofs.SeveralMeeting.{both_know_in_several, one_knows_in_several}
+use Rattle.lagprogress.proofs.SeveralUp.{both_meet_several, one_meets_several, several_know}
 use Rattle.lagprogress.proofs.Common.{BothAreActive, OneIsActive}
 use Rattle.lagprogress.proofs.clocks.ends_come_to_know_by_clocks.Goals as goal
 use Rattle.lagprogress.proofs.Bundling.{both_meet, ends_know, one_meets}
@@ -10,7 +10,7 @@ pub returns-clause-one : goal.returns-clause-one
 returns-clause-one g c = λ one two. ends_know OneIsActive 624 _ (one_meets _)
 
 pub returns-clause-several_both : goal.returns-clause-several_both
-returns-clause-several_both g c = λ one two. both_know_in_several _
+returns-clause-several_both g c = λ one two. several_know BothAreActive 365 _ (both_meet_several _)
 
 pub returns-clause-several_one : goal.returns-clause-several_one
-returns-clause-several_one g c = λ one two. one_knows_in_several _
+returns-clause-several_one g c = λ one two. several_know OneIsActive 671 _ (one_meets_several _)
