@@ -211,7 +211,7 @@ module _ (gives : ℕ → ℕ → ℕ → Type 0) (config : Config) (saved : Lis
   framed_by : Frames r.first s
   framed_by = drives_frame gives r.first s (calls_of config saved) r.warmed.run.0 r.warmed.run.1
 
-  sound : IsSound s
+  pub sound : IsSound s
   sound = sound_through gives r.first s (calls_of config saved) r.warmed.run.0 r.made r.warmed.run.1
       (some_calls config.aggregators.items config.ports.items saved)
 
