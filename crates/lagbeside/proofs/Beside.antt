@@ -6,7 +6,7 @@ use Rattle.lagbeside.proofs.Common.{AtRest, Reply, SystemPort, Call, configured_
 use Rattle.lagbeside.proofs.Common.{Step-frame, all-get, ports_rise, EachCall, tick_count, LeavesPort, Runs, ComesUp, Fed, IsServed, LeavesServed}
 use Rattle.lagbeside.proofs.Common.{Service, StaysUp}
 use Rattle.lagbeside.proofs.EachPort.{OfEach}
-use Rattle.lagbeside.proofs.EachSetting.{asides_stand}
+use Rattle.lagbeside.proofs.EachSetting.{runs_ports}
 use Rattle.lagbeside.proofs.Hearing.{no}
 use Rattle.lagbeside.proofs.OnePort.{AtPort, at_number, same_place}
 use Rattle.lagbeside.proofs.Serving.{Climbs, Comes, run_served}
@@ -25,14 +25,6 @@ distributing_now m sel sync h e f g = grind (arith, nat_tests)
 pub same_number : (old new : SystemState) (i : ℕ) (x y : SystemPort) → IsSound old → IsSound new → new.ports ≡ old.ports
     → slice_get old.system_ports i ≡ Some x → slice_get new.system_ports i ≡ Some y → y.number ≡ x.number
 same_number old new i x y s t e at there = grind (arith, nat_tests, port_numbers, configured_numbers, same_place)
-
-pub runs_ports : (Sets : Setting → Type 0) (gives : ℕ → ℕ → ℕ → Type 0) (old new : SystemState) (calls : List Call) (replies : List Reply)
-    (states : List SystemState) → Runs Sets gives old calls replies states new → new.ports ≡ old.ports
-runs_ports Sets gives old new [] [] [] h = (asides_stand Sets old new h).1
-runs_ports Sets gives old new (call ∷ calls) (answer ∷ answers) (before ∷ states) h =
-    runs_ports Sets gives h.0 new calls answers states h.3 ∙ (ap (λ (s : SystemState). s.ports) (Step-frame gives before call answer h.0 h.2)
-    ∙ (asides_stand Sets old before h.1).1)
-runs_ports Sets gives old new calls replies states h = absurd h
 
 -- the port after the calls
 after : (gives : ℕ → ℕ → ℕ → Type 0) (u : Service) (left : ℕ) (agg : AggId) (old new : SystemState) (calls : List Call) (replies : List Reply)

@@ -129,3 +129,12 @@ module _ (Sets : Setting → Type 0) where
 
     pub asides_each : (old new : SystemState) → Asides Sets old new → OfEach P old.system_ports → OfEach P new.system_ports
     asides_each old new h a = times_each h.0 old new h.1 a
+
+-- so calls with what stands between them leave the configured ports
+pub runs_ports : (Sets : Setting → Type 0) (gives : ℕ → ℕ → ℕ → Type 0) (old new : SystemState) (calls : List Call) (replies : List Reply)
+    (states : List SystemState) → Runs Sets gives old calls replies states new → new.ports ≡ old.ports
+runs_ports Sets gives old new [] [] [] h = (asides_stand Sets old new h).1
+runs_ports Sets gives old new (call ∷ calls) (answer ∷ answers) (before ∷ states) h =
+    runs_ports Sets gives h.0 new calls answers states h.3 ∙ (ap (λ (s : SystemState). s.ports) (Step-frame gives before call answer h.0 h.2)
+    ∙ (asides_stand Sets old before h.1).1)
+runs_ports Sets gives old new calls replies states h = absurd h

@@ -108,7 +108,7 @@ calls_unheard n most k (Transmit m) answer u t = λ p told a e. a e
 calls_unheard n most k call answer u t = tt
 
 unheard_goes_on : (n : ℕ) → GoesOn (LeavesUnheard n) UnheardFor n
-unheard_goes_on n = record { settles = unheard_settles n; ticks = tick_unheard; calls = calls_unheard n }
+unheard_goes_on n = record { settles = unheard_settles n; ticks = tick_unheard; calls = calls_unheard n; choice = λ most k p a. a }
 
 -- where it begins and ends
 
@@ -126,7 +126,7 @@ pub is_defaulted : (most n : ℕ) (r : ReceiveState) → most ≡ 0 → Within 1
 is_defaulted most n r l w = grind (arith, nat_tests)
 
 pub is_noticed : (gives : ℕ → ℕ → ℕ → Type 0) → IsNoticed gives
-is_noticed gives old new calls replies i x y s t at within up h u there =
+is_noticed gives old new calls replies states i x y s t at within up h u there =
     let awake = can_receive_at_rest x.port
     (all-get (λ (z : SystemPort). none_enabled receive_rows z.port ≡ true) old.system_ports i x at s.rested.0) in
     let timed = all-get (λ (z : SystemPort). IsTimed z.port) old.system_ports i x at t in
@@ -136,6 +136,6 @@ is_noticed gives old new calls replies i x y s t at within up h u there =
       begins x.port.receive x.port.short x.port.current_while
           (when_up x.port.enabled (can_receive_in x.port.receive) up awake) timed.0 within,
     ) in
-    let end = goes_on (LeavesUnheard x.number) UnheardFor gives most old new calls replies i x y (unheard_goes_on x.number) s at
+    let end = goes_on (LeavesUnheard x.number) UnheardFor gives most old new calls replies states i x y (unheard_goes_on x.number) s at
     first h u there in
     grind (arith, nat_tests, tick_count, not_current, is_defaulted)

@@ -63,16 +63,20 @@ tick_silent most k p q h rest s = runs_keep (Silent (most - 1) (k + 1)) receive_
     (s.0, counts_sounds false most p rest (loud p s.0).0 s.1)
 
 silent_goes_on : (n : ℕ) → GoesOn (LeavesUpAndSilent n) Silent n
-silent_goes_on n = record { settles = silent_settles n; ticks = tick_silent; calls = calls_silent n }
+silent_goes_on n = record { settles = silent_settles n; ticks = tick_silent; calls = calls_silent n; choice = λ most k p a. a }
 
 pub is_heard : (gives : ℕ → ℕ → ℕ → Type 0) → IsHeard gives
-is_heard gives old new calls replies i x y s t at l h u many there =
+is_heard gives old new calls replies states i x y s t at l h u many there =
     let settled = all-get PeriodicIsSettled old.system_ports i x at s.quiet.1 in
     let timed = all-get (λ (z : SystemPort). IsTimed z.port) old.system_ports i x at t in
-    let end = goes_on (LeavesUpAndSilent x.number) Silent gives 309 old new calls replies i x y (silent_goes_on x.number) s at
+    let end = goes_on (LeavesUpAndSilent x.number) Silent gives 309 old new calls replies states i x y (silent_goes_on x.number) s at
     (l, sounds_first false x.port settled.rows timed (loud x.port l)) h u there in
     let rest = all-get PeriodicIsSettled new.system_ports i y there end.0.quiet.1 in
     now_due false y.port rest.rows (loud y.port end.1.0).0 (subst (λ m. Sounds false m y.port) (omega (arith, many)) end.1.1)
 
 pub is_silent_shortly : (gives : ℕ → ℕ → ℕ → Type 0) → IsSilentShortly gives
-is_silent_shortly gives old new calls replies i x y s t at l h u there none = grind (arith, tick_count, no, is_heard)
+is_silent_shortly gives old new calls replies states i x y s t at l h u there none =
+    few (tick_count calls) (λ many. no (sym none ∙ is_heard gives old new calls replies states i x y s t at l h u many there))
+  where
+    few : (n : ℕ) → (309 ≤ n → ⊥) → n ≤ 308
+    few n k = grind arith

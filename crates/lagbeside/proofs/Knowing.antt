@@ -68,7 +68,7 @@ calls_known v n most k (Transmit m) answer u t = λ p told a e. a e
 calls_known v n most k call answer u t = tt
 
 known_goes_on : (v : Lacpdu) (n : ℕ) → GoesOn (LeavesUnheard n) (Known v) n
-known_goes_on v n = record { settles = known_settles v n; ticks = tick_known v; calls = calls_known v n }
+known_goes_on v n = record { settles = known_settles v n; ticks = tick_known v; calls = calls_known v n; choice = λ most k p a. a }
 
 -- what the LACPDU leaves
 
@@ -146,9 +146,9 @@ begins old mid v i w x s at up h there =
     subst (λ b. Known v (timeout_time b) 0 x.port) (sym known.1) known.0
 
 pub is_known : (gives : ℕ → ℕ → ℕ → Type 0) → IsKnown gives
-is_known gives old mid new v calls replies i w x y s t at up h there run u few last =
+is_known gives old mid new v calls replies states i w x y s t at up h there run u few last =
     let most = timeout_time x.port.short in
-    let end = goes_on (LeavesUnheard x.number) (Known v) gives most mid new calls replies i x y (known_goes_on v x.number) t there
+    let end = goes_on (LeavesUnheard x.number) (Known v) gives most mid new calls replies states i x y (known_goes_on v x.number) t there
     (begins old mid v i w x s at up h there) run u last in
     (end.1.1 (omega (arith, few))).0
 

@@ -6,8 +6,8 @@ use Rattle.lagbeside.proofs.Common.{same_mux_state, receive_rows, recorded_synch
 use Rattle.lagbeside.proofs.Common.{Receive, Restart, Set_link, Tick, Transmit, choice_with_link, Setting, IsSound, SystemState, all-get, ports_rise}
 use Rattle.lagbeside.proofs.Common.{EachCall, ActiveOnlyIf, Asides, Runs, Brings, IsUnanswered, LeavesUnanswered, NeverAlone, in_sync}
 use Rattle.lagbeside.proofs.EachPort.{KeptByCall, KeptBySettling, OfEach, Step-each, Tick-each}
-use Rattle.lagbeside.proofs.EachSetting.{KeptBySetting, asides_each, asides_sound}
-use Rattle.lagbeside.proofs.Beside.{runs_ports, same_number}
+use Rattle.lagbeside.proofs.EachSetting.{KeptBySetting, asides_each, asides_sound, runs_ports}
+use Rattle.lagbeside.proofs.Beside.{same_number}
 use Rattle.lagbeside.proofs.Hearing.{no}
 use Rattle.lagbeside.proofs.Knowing.{decoded}
 use Rattle.lagbeside.proofs.OnePort.{AtPort, at_number, settling_leaves}

@@ -3,8 +3,9 @@ use Rattle.lagbeside.proofs.Common.{Bool, List, Some, [], ap, arith, false, opti
 use Rattle.lagbeside.proofs.Common.{◌∷◌, ◌≡◌, ◌≤◌, nat_tests, none-some, same_Some, slice_get-map, AllByRecursion, Unselected, Detached, NoPeriodic}
 use Rattle.lagbeside.proofs.Common.{Machines, mux_rows, RunsPeriodic, periodic_rows, receive_rows, AtRest, RunsToRest, count_down, Reply, SystemPort}
 use Rattle.lagbeside.proofs.Common.{Call, Step, TableRun, Tick, configured_numbers, PeriodicIsSettled, IsSound, SystemState, port_numbers, Step-frame}
-use Rattle.lagbeside.proofs.Common.{Rises, all-get, ports_rise, Step-sound, EachCall, tick_count}
+use Rattle.lagbeside.proofs.Common.{Rises, all-get, ports_rise, EachCall, tick_count, Asides, LeavesPort, Runs, Setting}
 use Rattle.lagbeside.proofs.EachPort.{KeptByCall, KeptBySettling, OfEach, Step-each, Tick-each}
+use Rattle.lagbeside.proofs.EachSetting.{KeptBySetting, asides_each, asides_sound, runs_ports}
 use Rattle.lagbeside.proofs.Timers.{runs_keep}
 
 -- the port with number n is so
@@ -47,6 +48,7 @@ pub record GoesOn (Is : Call → Reply → Type 0) (P : ℕ → ℕ → Machines
       → P (most - 1) (k + 1) q
   pub calls : (most k : ℕ) (call : Call) (answer : Reply) → Is call answer → (call ≡ Tick → ⊥)
       → KeptByCall (AtPort n (P most k)) call answer
+  pub choice : (most k : ℕ) (p : Machines) → P most k p → P most k (record p { choice = Unselected })
 
 pub with_rest : (P : ℕ → Machines → Type 0) (ports : List SystemPort) → OfEach P ports → AllByRecursion PeriodicIsSettled ports
     → OfEach (λ m p. P m p × AtRest periodic_rows p) ports
@@ -65,25 +67,35 @@ one_more : (P : ℕ → ℕ → Machines → Type 0) (n most k ticks : ℕ) (por
     1)))) ports
 one_more P n most k ticks ports a = grind (arith, nat_tests)
 
+-- what other ports are set to, and what leaves all ports, leaves it, too
+setting_leaves : (P : Machines → Type 0) (n : ℕ) → ((p : Machines) → P p → P (record p { choice = Unselected })) → (setting : Setting)
+    → LeavesPort n setting → KeptBySetting (AtPort n P) setting
+setting_leaves P n c (Setting.Hold_port m held) other = λ p a e. absurd (other e)
+setting_leaves P n c (Setting.Set_mode m active short) other = λ p a e. absurd (other e)
+setting_leaves P n c (Setting.Set_max_links max_links) other = λ m p down a e. c p (a e)
+setting_leaves P n c (Setting.Set_max_delay max_delay) other = tt
+
 module _ (Is : Call → Reply → Type 0) (P : ℕ → ℕ → Machines → Type 0) (n : ℕ) (g : GoesOn Is P n) (gives : ℕ → ℕ → ℕ → Type 0) where
-  ends : (most k : ℕ) (old new : SystemState) (calls : List Call) (replies : List Reply) → IsSound old
-      → OfEach (AtPort n (P most k)) old.system_ports → TableRun gives old calls replies new → EachCall Is calls replies
+  beside : (most k : ℕ) (old new : SystemState) → Asides (LeavesPort n) old new → OfEach (AtPort n (P most k)) old.system_ports
+      → OfEach (AtPort n (P most k)) new.system_ports
+  beside most k = asides_each (LeavesPort n) (AtPort n (P most k)) (g.settles most k) (setting_leaves (P most k) n (g.choice most k))
+
+  ends : (most k : ℕ) (old new : SystemState) (calls : List Call) (replies : List Reply) (states : List SystemState)
+      → OfEach (AtPort n (P most k)) old.system_ports → Runs (LeavesPort n) gives old calls replies states new → EachCall Is calls replies
       → Ends P n most k (tick_count calls) new
-  ends most k old new [] [] s a h u = (
-    subst IsSound (sym h) s,
-    subst (λ (t : SystemState). OfEach (AtPort n (P (most - 0) (k + 0))) t.system_ports) (sym h) (none_passed P n most k
-        old.system_ports a),
-  )
-  ends most k old new (Tick ∷ calls) (answer ∷ answers) s a h u =
-      let rest = with_rest (AtPort n (P most k)) old.system_ports a s.quiet.1 in
+  ends most k old new [] [] [] a h u =
+      (asides_sound (LeavesPort n) old new h, none_passed P n most k new.system_ports (beside most k old new h a))
+  ends most k old new (Tick ∷ calls) (answer ∷ answers) (before ∷ states) a h u =
+      let s = asides_sound (LeavesPort n) old before h.1 in
+      let rest = with_rest (AtPort n (P most k)) before.system_ports (beside most k old before h.1 a) s.quiet.1 in
       let mid = Tick-each (λ m p. AtPort n (P most k) m p × AtRest periodic_rows p) (AtPort n (P (most - 1) (k + 1)))
-      (g.settles (most - 1) (k + 1)) (λ m p q r b e. g.ticks most k p q r b.1 (b.0 e)) gives old answer h.0 h.1 rest in
-      let end = ends (most - 1) (k + 1) h.0 new calls answers (Step-sound gives old Tick answer h.0 h.1 s) mid h.2 u.1 in
+      (g.settles (most - 1) (k + 1)) (λ m p q r b e. g.ticks most k p q r b.1 (b.0 e)) gives before answer h.0 h.2 rest in
+      let end = ends (most - 1) (k + 1) h.0 new calls answers states mid h.3 u.1 in
       (end.0, one_more P n most k (tick_count calls) new.system_ports end.1)
-  ends most k old new (call ∷ calls) (answer ∷ answers) s a h u =
-      ends most k h.0 new calls answers (Step-sound gives old call answer h.0 h.1 s)
-      (Step-each (AtPort n (P most k)) (g.settles most k) gives old call answer h.0 (g.calls most k call answer u.0 (λ e. cc)) h.1 a) h.2 u.1
-  ends most k old new calls replies s a h u = absurd h
+  ends most k old new (call ∷ calls) (answer ∷ answers) (before ∷ states) a h u =
+      ends most k h.0 new calls answers states (Step-each (AtPort n (P most k)) (g.settles most k) gives before call answer h.0
+      (g.calls most k call answer u.0 (λ e. cc)) h.2 (beside most k old before h.1 a)) h.3 u.1
+  ends most k old new calls replies states a h u = absurd h
 
 -- the port at a place, by its number
 
@@ -135,12 +147,12 @@ same_ports gives old new calls replies h = calls_each gives (λ s. s.ports ≡ o
     (λ s t call answer step e. ap (λ (u : SystemState). u.ports) (Step-frame gives s call answer t step) ∙ e) old new calls replies h refl
 
 -- the port at a place, after the calls
-pub goes_on : (Is : Call → Reply → Type 0) (P : ℕ → ℕ → Machines → Type 0) (gives : ℕ → ℕ → ℕ
-    → Type 0) (most : ℕ) (old new : SystemState)
-    (calls : List Call) (replies : List Reply) (i : ℕ) (x y : SystemPort) → GoesOn Is P x.number → IsSound old
-    → slice_get old.system_ports i ≡ Some x → P most 0 x.port → TableRun gives old calls replies new → EachCall Is calls replies
-    → slice_get new.system_ports i ≡ Some y → IsSound new × P (most - tick_count calls) (0 + tick_count calls) y.port
-goes_on Is P gives most old new calls replies i x y g s at p h u there =
+pub goes_on : (Is : Call → Reply → Type 0) (P : ℕ → ℕ → Machines → Type 0) (gives : ℕ → ℕ → ℕ → Type 0) (most : ℕ) (old new : SystemState)
+    (calls : List Call) (replies : List Reply) (states : List SystemState) (i : ℕ) (x y : SystemPort) → GoesOn Is P x.number → IsSound old
+    → slice_get old.system_ports i ≡ Some x → P most 0 x.port → Runs (LeavesPort x.number) gives old calls replies states new
+    → EachCall Is calls replies → slice_get new.system_ports i ≡ Some y → IsSound new × P (most - tick_count calls) (0 + tick_count calls) y.port
+goes_on Is P gives most old new calls replies states i x y g s at p h u there =
     let first = at_number (P most 0) 0 old.system_ports i x (ports_rise old s.ports) at p in
-    let end = ends Is P x.number g gives most 0 old new calls replies s first h u in
-    grind (arith, nat_tests, port_numbers, configured_numbers, same_ports, same_place, tick_count, all-get, AtPort)
+    let end = ends Is P x.number g gives most 0 old new calls replies states first h u in
+    let kept = runs_ports (LeavesPort x.number) gives old new calls replies states h in
+    grind (arith, nat_tests, port_numbers, configured_numbers, same_place, tick_count, all-get, AtPort)

@@ -94,11 +94,12 @@ ghost use Rattle.lagbeside.specs.Heartbeat.{IsHeard, IsSilentShortly};
 
 // promise: an LACPDU of a port is due after calls with 309 ticks or more, if it sent none in them; if none is due, they have at most 308
 // contract: `active_ports_are_heard` (`heard`, `silent`)
-// premises: sound, timers within bounds; active; the link stays up
+// premises: sound, timers within bounds; active; the link stays up. Settings of other ports and host calls may stand between (`Runs`)
 /// An active port whose link stays up is heard: after any calls that leave its link up, 309 ticks or more among them, an
 /// LACPDU is due on it, if it sent none in them. So it sends one in any 309 ticks (31 s) after each of which it is asked
 /// (6.4.13, 6.4.16), and where none is due after such calls, at most 308 ticks are among them. The system is sound, its timers
-/// are within their bounds, and its distribution algorithm may return anything.
+/// are within their bounds, and its distribution algorithm may return anything. Between the calls may stand those of a host with a data plane,
+/// and settings that neither hold the port, let it go nor change its mode.
 pub fn active_ports_are_heard<F: Fn(u16, usize) -> usize>()
     ensures heard { (algorithm : F) → IsHeard (F.post algorithm) }
     ensures silent { (algorithm : F) → IsSilentShortly (F.post algorithm) }
@@ -109,11 +110,11 @@ ghost use Rattle.lagbeside.specs.Hearing.{IsNoticed};
 // promise: a port is not CURRENT after calls with 900 ticks (30 with Short Timeout) in which it processed no LACPDU, and DEFAULTED after 30
 //    more
 // contract: `silence_is_noticed` (`Hearing`)
-// premises: sound, timers within bounds, and current_while within the port's time-out; the link stays up; no `configure` names it
+// premises: sound, timers within bounds, and current_while within the port's time-out; the link stays up; no `configure` names it; `Runs` as above
 /// Silence is noticed: a port whose link stays up, that no `configure` names, and that processes no LACPDU is not
 /// CURRENT after 900 ticks (90 s), or 30 (3 s) if it has Short Timeout, and it is DEFAULTED after 30 more (6.4.12). The
 /// system is sound, its timers are within their bounds, current_while of the port is within its time-out, and its distribution
-/// algorithm may return anything.
+/// algorithm may return anything. What stands between calls is as `active_ports_are_heard` has it.
 pub fn silence_is_noticed<F: Fn(u16, usize) -> usize>()
     ensures { (algorithm : F) → IsNoticed (F.post algorithm) }
 {}
@@ -122,11 +123,11 @@ ghost use Rattle.lagbeside.specs.Knowing.{IsKnown};
 
 // promise: a port that processed an LACPDU knows its actor after calls with fewer ticks than these
 // contract: `what_was_heard_is_known` (`Knowing`)
-// premises: sound before and after; the link stays up; no `configure` names it; it processes no other LACPDU
+// premises: sound before and after; the link stays up; no `configure` names it; it processes no other LACPDU; `Runs` as above
 /// What a port heard it knows: a port that processed an LACPDU is CURRENT and has recorded its actor, with its Activity
 /// and its Timeout, for 900 ticks (90 s), or 30 (3 s) if it has Short Timeout, while its link stays up, no `configure`
 /// names it, and it processes no other LACPDU (6.4.12). The system is sound, and its distribution algorithm may
-/// return anything.
+/// return anything. What stands between calls is as `active_ports_are_heard` has it.
 pub fn what_was_heard_is_known<F: Fn(u16, usize) -> usize>()
     ensures { (algorithm : F) → IsKnown (F.post algorithm) }
 {}

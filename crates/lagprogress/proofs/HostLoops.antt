@@ -322,14 +322,14 @@ asking_is_played May wide E gives events replies old new timely turns acts asks 
   refl,
 )
 
-pub asking_is_several : (gives : Algorithms) → AskingIsSeveral gives
-asking_is_several gives l n events replies old new timely turns acts asks clears = record {
+pub asking_is_several : (May : HostEvent → Type 0) → ((e : HostEvent) → May e → MayCome e) → (gives : Algorithms) → AskingIsSeveral May gives
+asking_is_several May wide gives n events replies old new timely turns acts asks clears = record {
   events = events;
   replies = replies;
   turns = turns;
   acts = acts;
-  asked = λ s i k y. several_on gives s (port_at s k) (LeavesPorts (λ t. port_at t l)) (come_beside (λ t. port_at t l)) n events replies old new
-      (several_move (LeavesPorts (λ t. port_at t l)) n One events 0 0 turns) acts (asks s i k y) (stays_first gives s i k old timely y);
+  asked = λ s i l y. several_on gives s (port_at s l) May wide n events replies old new (several_move May n One events 0 0 turns) acts (asks s i l y)
+      (stays_first gives s i l old timely y);
   empties = clears;
 }
 

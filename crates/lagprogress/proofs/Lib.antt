@@ -1,5 +1,6 @@
 mod Common
 mod Halves
+mod WarmStarts
 mod OvertakingLacpdus
 mod Passing
 mod OneCable

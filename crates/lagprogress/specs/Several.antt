@@ -83,15 +83,23 @@ AsksAfterTicks s p zero es = AsksIn s p es
 AsksAfterTicks s p (suc n) [] = ⊥
 AsksAfterTicks s p (suc n) (e ∷ es) = (IsTickOf s e × AsksAfterTicks s p n es) ⊎ AsksAfterTicks s p (suc n) es
 
--- Events, which may come beside the ends of this cable, are such a round if each system ticks so many times in them, at once or not, each end
--- of a healthy cable is asked after the last tick of its system, once at least, and what was on it arrives: in whatever order. Both systems are
--- sound, their timers within their bounds.
-abbrev pub AskingIsSeveral : Algorithms → Type 0
-AskingIsSeveral gives = (l : LinkState) (ticks : ℕ) (events : List HostEvent) (replies : List Reply) (old new : WorldState)
-    → ((s : Side) → IsSound (half s old).state × PortsAreTimed (half s old).state) → TicksAmong (LeavesPorts (λ s. port_at s l)) ticks One 0 0 events
+-- Events, which may come so, are such a round if each system ticks so many times in them, at once or not, each end of a healthy cable is asked
+-- after the last tick of its system, once at least, and what was on it arrives: in whatever order. Both systems are sound, their timers within
+-- their bounds.
+abbrev pub AskingIsSeveral : (HostEvent → Type 0) → Algorithms → Type 0
+AskingIsSeveral May gives = (ticks : ℕ) (events : List HostEvent) (replies : List Reply) (old new : WorldState)
+    → ((s : Side) → IsSound (half s old).state × PortsAreTimed (half s old).state) → TicksAmong May ticks One 0 0 events
     → RunReplies gives old events replies new
-    → ((s : Side) (i : ℕ) (k : LinkState) → IsHealthyAt i k old → AsksAfterTicks s (port_at s k) ticks events) → OldArrive events old new
-    → IsPlayedTicks (LeavesPorts (λ s. port_at s l)) OldArrive ticks gives old new
+    → ((s : Side) (i : ℕ) (l : LinkState) → IsHealthyAt i l old → AsksAfterTicks s (port_at s l) ticks events) → OldArrive events old new
+    → IsPlayedTicks May OldArrive ticks gives old new
+
+-- So they are beside the ends of any cable.
+abbrev pub AskingIsSeveralBeside : Algorithms → Type 0
+AskingIsSeveralBeside gives = (l : LinkState) → AskingIsSeveral (LeavesPorts (λ s. port_at s l)) gives
+
+-- So many late rounds, in which each system ticks once, are as many of these.
+abbrev pub LateRoundsAreSeveral : Algorithms → Type 0
+LateRoundsAreSeveral gives = (n : ℕ) (old new : WorldState) → LateRounds gives n old new → SeveralRounds gives n old new
 
 -- A healthy link of a bundle distributes at both ends behind so many late rounds or more, and then after any number of these rounds.
 abbrev pub EachLinkStaysUpInSeveral : (LinkState → WorldState → Type 0) → ℕ → Algorithms → Type 0

@@ -4,7 +4,7 @@ ghost use Rattle.lagworld.specs.Sound.{both_algorithms};
 ghost use Rattle.lagprogress.specs.Beside.{AskingIsRoundBeside};
 ghost use Rattle.lagprogress.specs.HostRounds.{AskingIsPlayed, IsBetweenTicks};
 ghost use Rattle.lagprogress.specs.LateRounds.{HostRoundIsLateRound, HostRoundsAreLateRounds, OldArrive};
-ghost use Rattle.lagprogress.specs.Several.{AskingIsSeveral};
+ghost use Rattle.lagprogress.specs.Several.{AskingIsSeveral, AskingIsSeveralBeside, LateRoundsAreSeveral};
 
 // promise: events and calls as in the first row are a late round (`IsLateRound`) if what was on each healthy cable before has arrived,
 //    whatever is on it in the end; each healthy round of hosts is one, and so many are as many
@@ -16,9 +16,9 @@ ghost use Rattle.lagprogress.specs.Several.{AskingIsSeveral};
 //    asked after its system's tick, and what was on each healthy cable before has arrived; ports may be held
 // contract: `clocks_play_rounds` (`beside`: `RoundsBeside`)
 // premises: both systems are sound, with timers within bounds; the events acted, the calls and settings kept their contracts
-// promise: events, calls and settings as in the row above, but for their ticks, are a late round of several ticks (`IsPlayedTicks`) if each system ticks
-//    so many times, at once or not, and each end of a healthy cable is asked after the last tick of its system
-// contract: `clocks_play_rounds` (`several`)
+// promise: events and calls as in the first row, and with settings as in the row above, are a late round of several ticks (`IsPlayedTicks`) if each
+//    system ticks so many times, at once or not, and each end of a healthy cable is asked after the last tick of its system; late rounds are rounds of one tick
+// contract: `clocks_play_rounds` (`several`, `several_beside`, `several_late`: `SeveralRounds`)
 // premises: as in the row above
 /// Which events are a late round: each system ticks once, and every other event or call is as `hosts_play_rounds` has it, in any order; each
 /// end of a healthy cable is asked at least once after the tick of its system; and what was on each healthy cable before has arrived,
@@ -30,7 +30,9 @@ ghost use Rattle.lagprogress.specs.Several.{AskingIsSeveral};
 pub fn clocks_play_rounds<F: Fn(u16, usize) -> usize>()
     ensures asking { (one two : F) → AskingIsPlayed IsBetweenTicks OldArrive (both_algorithms (F.post one) (F.post two)) }
     ensures beside { (one two : F) → AskingIsRoundBeside (both_algorithms (F.post one) (F.post two)) }
-    ensures several { (one two : F) → AskingIsSeveral (both_algorithms (F.post one) (F.post two)) }
+    ensures several { (one two : F) → AskingIsSeveral IsBetweenTicks (both_algorithms (F.post one) (F.post two)) }
+    ensures several_beside { (one two : F) → AskingIsSeveralBeside (both_algorithms (F.post one) (F.post two)) }
+    ensures several_late { (one two : F) → LateRoundsAreSeveral (both_algorithms (F.post one) (F.post two)) }
     ensures host { (one two : F) → HostRoundIsLateRound (both_algorithms (F.post one) (F.post two)) }
     ensures hosts { (one two : F) → HostRoundsAreLateRounds (both_algorithms (F.post one) (F.post two)) }
 {}

@@ -17,7 +17,7 @@ mod sharing;
 
 ghost use Rattle.lagworld.specs.Sound.{both_algorithms};
 ghost use Rattle.lagprogress.specs.Steady.{EachEventIsCalls, EachEventKeepsSteady, StartIsSteady};
-ghost use Rattle.lagprogress.specs.Steady.{EachHostReachedIsSteady, EachHostRunKeepsSteady, EachReachedIsSteady, EachRunKeepsSteady};
+ghost use Rattle.lagprogress.specs.Steady.{EachHostReachedIsSteady, EachHostRunKeepsSteady, EachReachedIsSteady, EachRunKeepsSteady, WarmStartIsSteady};
 
 pub use arriving::{
     disabled_ports_have_unsynchronized_partners, each_frame_arrives_by_hosts, frames_pass_cables,
@@ -46,11 +46,16 @@ pub fn each_event_is_calls<F: Fn(u16, usize) -> usize>()
 // promise: a world is steady at first, and after any events, and then it is sound, too; and after any events, calls and settings of hosts
 // contract: `each_world_is_steady` (`start`, `kept`, `run`, `reached`, `hosts`, `hosts_reached`)
 // premises: `World::new` made the first; for `reached` at most 2^63 events; after settings no port is held in the end
+// promise: so is a system that a warm start made (`IsSteadySystem`), whatever it adopted: what the laws of lagbeside ask of a system, and those of rounds of
+//    both (`IsSteady`)
+// contract: `each_world_is_steady` (`warm`: `WarmStartIsSteady`)
+// not said: that a world with it is sound, as agreement after rounds wants it
 /// Both systems of a world are sound, their timers within their bounds, and no port held: at the start, after each event and
 /// after any events, whatever the distribution algorithms return. So each world that at most 2^63 events lead to from a start
 /// is sound, and both its systems are sound, with their timers within their bounds and no port held, as the laws of
 /// rounds want it (6.4.4; profile). So it is after any list of events, of calls of hosts and of settings, as `HostEvent` of
-/// `laghosts` has them, `set_mode` to Short Timeout among them, if the hosts hold no port in the end.
+/// `laghosts` has them, `set_mode` to Short Timeout among them, if the hosts hold no port in the end. And so is a system that `resume` of
+/// `dataplane` made, and that adopted any conversations.
 pub fn each_world_is_steady<F: Fn(u16, usize) -> usize>()
     ensures start { StartIsSteady }
     ensures kept { (one two : F) → EachEventKeepsSteady (both_algorithms (F.post one) (F.post two)) }
@@ -58,6 +63,7 @@ pub fn each_world_is_steady<F: Fn(u16, usize) -> usize>()
     ensures reached { (one two : F) → EachReachedIsSteady (both_algorithms (F.post one) (F.post two)) }
     ensures hosts { (one two : F) → EachHostRunKeepsSteady (both_algorithms (F.post one) (F.post two)) }
     ensures hosts_reached { (one two : F) → EachHostReachedIsSteady (both_algorithms (F.post one) (F.post two)) }
+    ensures warm { (algorithm : F) → WarmStartIsSteady (F.post algorithm) }
 {}
 
 ghost use Rattle.lagprogress.specs.Passing.{DeliverProcessesLacpdu, EmitSendsLacpdu};

@@ -1,6 +1,7 @@
 use Rattle.lagprogress.proofs.Halves.{keeps_steady, start_steady}
 use Rattle.lagprogress.proofs.HostSteady.{host_reached_steady, hosts_keep_steady}
 use Rattle.lagprogress.proofs.MadeWorlds.{reached_steady, runs_steady}
+use Rattle.lagprogress.proofs.WarmStarts.{warm_start_is_steady}
 use Rattle.lagprogress.proofs.each_world_is_steady.Goals as goal
 
 pub returns-clause-start : goal.returns-clause-start
@@ -20,3 +21,6 @@ returns-clause-hosts g c = λ one two. hosts_keep_steady _
 
 pub returns-clause-hosts_reached : goal.returns-clause-hosts_reached
 returns-clause-hosts_reached g c = λ one two. host_reached_steady _
+
+pub returns-clause-warm : goal.returns-clause-warm
+returns-clause-warm g c = λ algorithm. warm_start_is_steady _
