@@ -10,7 +10,7 @@ import shutil
 import subprocess
 from typing import Any, NamedTuple, Sequence
 
-from repository import CC, CRATES, RT, TOP, Missing, kit, want
+from repository import CC, CRATES, RT, TOP, Missing, has_passed, kit, want, write_text
 
 
 class Processor(NamedTuple):
@@ -110,6 +110,16 @@ def rtlib() -> Any:
     module = importlib.util.module_from_spec(spec)
     loader.exec_module(module)
     return module
+
+
+def take_libraries() -> None:
+    """Has every command of rt take the libraries that the test command made of these sources, where that passed: it leaves them without the stamp by
+    which they are known to be of these sources."""
+    if not has_passed():
+        return
+    for crate in rtlib().crates_below(CRATES):
+        if os.path.isdir(crate.rlib) and crate.folder.startswith(CRATES):
+            write_text(os.path.join(os.path.dirname(crate.rlib), "stamp"), crate.stamp())
 
 
 def compile_crate(name: str, made: str, words: Sequence[str], toolchain: str | None = None) -> None:

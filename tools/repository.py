@@ -148,10 +148,14 @@ def verdict() -> str | None:
     return line if tested == commit() else None
 
 
+def has_passed() -> bool:
+    """Whether the test command passed here on these sources."""
+    return bool(re.match(r"[1-9]\d* passed, 0 failed", verdict() or ""))
+
+
 def is_made_by_gate(path: str) -> bool:
     """Whether this file is one that the test command made of these sources, and passed."""
-    line = verdict()
-    return bool(line and re.match(r"[1-9]\d* passed, 0 failed", line)) and os.path.isfile(path)
+    return has_passed() and os.path.isfile(path)
 
 
 def make_program() -> None:

@@ -5,6 +5,7 @@ from __future__ import annotations
 import os
 import subprocess
 from pathlib import Path
+from threading import Event
 from typing import Callable
 
 import pytest
@@ -52,11 +53,36 @@ def test_no_check_and_an_unknown_one_are_refused(words: list[str]) -> None:
 
 
 def test_no_two_checks_that_prove_in_one_folder_nor_two_that_measure_but_carry_run_at_a_time() -> None:
-    proofs, carry, toolchain, root, others = ([name for name, _ in it] for it in check.lanes(check.asked(["--all"])))
-    assert sorted([*proofs, *carry, *toolchain, *root, *others]) == sorted(check.CHECKS)
-    assert all("toolchain" in check.CHECKS[it].wants for it in toolchain) and "machines" in toolchain
-    assert (proofs, carry, {*root}) == (["proofs"], ["carry"], {"live", "peers", "hosts"})
-    assert not any(word in check.CHECKS[it].wants for it in others for word in ("toolchain", "root"))
+    carry, root, toolchain, packages, others = ([name for name, _ in it] for it in check.lanes(check.asked(["--all"])))
+    assert sorted([*carry, *root, *toolchain, *packages, *others]) == sorted(check.CHECKS)
+    assert all(check.CHECKS[it].wants == "toolchain" for it in toolchain)
+    assert (carry, {*root}, {*packages}) == (["carry"], {"live", "peers", "hosts"}, {"machines", "dist"})
+    assert root[0] == "hosts" and [check.stands_on_proofs(it) for it in others] == sorted(map(check.stands_on_proofs, others))
+
+
+@pytest.mark.parametrize(("names", "ran"), [(["live", "pages", "proofs"], ["pages", "proofs", "made", "live"]), (["pages"], ["pages"]), (["live"], ["made", "live"])])
+def test_what_stands_on_proofs_waits_until_that_is_made(names: list[str], ran: list[str], monkeypatch: pytest.MonkeyPatch) -> None:
+    told: list[str] = []
+    wants = {"live": "library, root", "pages": "", "proofs": "toolchain"}
+    pages = Event()
+
+    def ends(name: str, more: list[str], gives_way: bool) -> str:
+        told.append(name)
+        if name == "pages":
+            pages.set()
+        return name
+
+    def made() -> None:
+        assert "pages" not in names or pages.wait(10)
+        told.append("made")
+
+    monkeypatch.setattr(check, "CHECKS", {name: check.Check("tool", wants[name], "") for name in names})
+    monkeypatch.setattr(check, "ends", ends)
+    monkeypatch.setattr(check, "make_all", made)
+    assert sorted(check.side_by_side([(name, []) for name in names])) == sorted(names)
+    # Those beside proofs come in any order.
+    before = ran.index("made") if "made" in ran else len(ran)
+    assert (sorted(told[:before]), told[before:]) == (ran[:before], ran[before:])
 
 
 def test_the_end_has_the_longest_first_and_tells_what_did_not_run() -> None:
