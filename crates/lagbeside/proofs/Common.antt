@@ -69,7 +69,6 @@ pub use Rattle.lagsystem.proofs.Effects.{named}
 pub use Rattle.lagsystem.proofs.Keeps.{Step-frame, keeps_place, keeps_settled, ports_table, settling_parts}
 pub use Rattle.lagsystem.proofs.Rest.{can_receive_at_rest, last_slots, same_slots, zip_all}
 pub use Rattle.lagsystem.proofs.Rising.{Rises, all-get, all-set, found_place, ports_rise}
-pub use Rattle.lagsystem.proofs.Sound.{Step-sound}
 pub use Rattle.lagbeside.specs.Hearing.{IsNoticed, LeavesUnheard, processed_on}
 pub use Rattle.lagbeside.specs.Heartbeat.{EachCall, IsHeard, IsSilentShortly, LeavesUpAndSilent, tick_count}
 pub use Rattle.lagbeside.specs.Runs.{ActiveOnlyIf, AsideTimes, Asides, IsAside, LeavesPort, OnceTicked, Runs}

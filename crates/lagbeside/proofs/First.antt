@@ -1,8 +1,9 @@
 -- From the first LACPDU on.
 use Rattle.lagbeside.proofs.Common.{Bool, Ok, ap, arith, false, inl, inr, refl, subst, sym, true, ℕ, ◌∙◌, ◌≡◌, ◌≤◌, ◌⊎◌, AggId, Choice, Selected}
 use Rattle.lagbeside.proofs.Common.{Party, is_selected, Machines, TookLacpdu, SystemPort, Receive, SystemState, port_index, Step-frame, all-get}
-use Rattle.lagbeside.proofs.Common.{ports_rise, Step-sound, EachCall, LeavesPort, OnceTicked, Runs, StandsByFull, WantsAggregator, CarriesBeside, Fed}
-use Rattle.lagbeside.proofs.Common.{IsServed, LeavesServed, NoneBegins, Service, WaitsAreBounded, timeout_time}
+use Rattle.lagbeside.proofs.Common.{ports_rise, EachCall, LeavesPort, OnceTicked, Runs, StandsByFull, WantsAggregator, CarriesBeside, Fed, IsServed}
+use Rattle.lagbeside.proofs.Common.{LeavesServed, NoneBegins, Service, WaitsAreBounded, timeout_time}
+use Rattle.lagsystem.proofs.Sound.{Step-sound}
 use Rattle.lagsystem.specs.declared.drive.Reply.TheVariants as reply
 use Rattle.lagbeside.proofs.Beside.{comes_up, same_number}
 use Rattle.lagbeside.proofs.EachPort.{Step-each, took}

@@ -2,8 +2,8 @@
 use Rattle.lagbeside.proofs.Common.{Bool, List, Some, [], ap, arith, false, option_map, refl, slice_get, subst, suc, sym, zero, ℕ, ◌+◌, ◌-◌, ◌<◌, ◌∙◌}
 use Rattle.lagbeside.proofs.Common.{◌∷◌, ◌≡◌, ◌≤◌, nat_tests, none-some, same_Some, slice_get-map, AllByRecursion, Unselected, Detached, NoPeriodic}
 use Rattle.lagbeside.proofs.Common.{Machines, mux_rows, RunsPeriodic, periodic_rows, receive_rows, AtRest, RunsToRest, count_down, Reply, SystemPort}
-use Rattle.lagbeside.proofs.Common.{Call, Step, TableRun, Tick, configured_numbers, PeriodicIsSettled, IsSound, SystemState, port_numbers, Step-frame}
-use Rattle.lagbeside.proofs.Common.{Rises, all-get, ports_rise, EachCall, tick_count, Asides, LeavesPort, Runs, Setting}
+use Rattle.lagbeside.proofs.Common.{Call, Step, TableRun, Tick, configured_numbers, PeriodicIsSettled, Setting, IsSound, SystemState, port_numbers}
+use Rattle.lagbeside.proofs.Common.{Step-frame, Rises, all-get, ports_rise, EachCall, tick_count, Asides, LeavesPort, Runs}
 use Rattle.lagbeside.proofs.EachPort.{KeptByCall, KeptBySettling, OfEach, Step-each, Tick-each}
 use Rattle.lagbeside.proofs.EachSetting.{KeptBySetting, asides_each, asides_sound, runs_ports}
 use Rattle.lagbeside.proofs.Timers.{runs_keep}

@@ -75,7 +75,7 @@ pub use Rattle.lagsystem.specs.Calls.{Call, Carries, ChangesParty, Configure, Da
 pub use Rattle.lagsystem.specs.Calls.{Offer, OnlyPortChangesBy, ParsesWhere, Performs, ProcessesLacpdu, Receive, ReceivedFrame, ReceivesAt, Releases}
 pub use Rattle.lagsystem.specs.Calls.{Restart, Runt, Set_link, SetsLink, SetsPortEnabled, Step, TableRun, ThenSettles, Tick, Ticks, Transmit}
 pub use Rattle.lagsystem.specs.Calls.{changed_party, choice_with_link, is_own_response}
-pub use Rattle.lagsystem.specs.Drives.{call_of}
+pub use Rattle.lagsystem.specs.Drives.{Drives, call_of}
 pub use Rattle.lagsystem.specs.First.{IsFirst, config_value, configured_numbers, or_first}
 pub use Rattle.lagsystem.specs.HostCalls.{HostPromise, HostRun}
 pub use Rattle.lagsystem.specs.ModelView.{IsSent, can_receive, can_receive_in, key_of, model_port_of, model_setup, model_view, none_enabled}
@@ -95,6 +95,7 @@ pub use Rattle.lagsystem.specs.Sound.{CallPromise, HasPorts, IsSound, NoneHeld, 
 pub use Rattle.lagsystem.specs.State.{SystemState, aggregators_value, machines_of, port_index, port_numbers, with_system_ports, with_table}
 pub use Rattle.lagsystem.specs.Views.{may_choose, selection_view, stage_of, views}
 pub use Rattle.lagsystem.proofs.Effects.{named}
+pub use Rattle.lagsystem.proofs.HeldPorts.{Step-free, first_free}
 pub use Rattle.lagsystem.proofs.HostCallLemmas.{IsOther, TableAlone, agrees_beside, host_alone}
 pub use Rattle.lagsystem.proofs.Keeps.{Keeps, Step-frame, given_number, keeps_link, keeps_place, keeps_tick, numbers_set, ports_table}
 pub use Rattle.lagsystem.proofs.Keeps.{promoted_numbers, settling_in, settling_keeps, settling_parts, zip_numbers}
@@ -178,9 +179,8 @@ pub use Rattle.lagprogress.specs.PlayedByHosts.{PlaysHostRound, PlaysHostRounds,
 pub use Rattle.lagprogress.specs.Progress.{Distributes, EndKnows, Knows}
 pub use Rattle.lagprogress.specs.Rounds.{AtEnd, IsDeliver, IsHealthyAt, IsRound, NothingInFlight, OfPort, Playing, Rounds, asks_all, asks_ends}
 pub use Rattle.lagprogress.specs.Rounds.{freed_if_both_active, freed_if_one_is, ticks_of_both, up_if_both_active, up_if_one_is}
-pub use Rattle.lagprogress.specs.Several.{AfterTicks, AskingIsSeveral, AskingIsSeveralBeside, AsksAfterTicks, LateRoundsAreSeveral}
-pub use Rattle.lagprogress.specs.Several.{EachLinkStaysAgreedInSeveral, EachLinkStaysAgreedThroughout}
-pub use Rattle.lagprogress.specs.Several.{EachLinkStaysUpInSeveral, EachLinkStaysUpThroughout, IsPlayedTicks, SeveralBeside, SeveralRounds}
-pub use Rattle.lagprogress.specs.Several.{TicksAmong, most_ticks}
+pub use Rattle.lagprogress.specs.Several.{AfterTicks, AskingIsSeveral, AsksAfterTicks, EachLinkStaysAgreedInSeveral, EachLinkStaysAgreedThroughout}
+pub use Rattle.lagprogress.specs.Several.{EachLinkStaysUpInSeveral, EachLinkStaysUpThroughout, IsPlayedTicks, LateRoundsAreSeveral, SeveralBeside}
+pub use Rattle.lagprogress.specs.Several.{SeveralRounds, TicksAmong, most_ticks}
 pub use Rattle.lagprogress.specs.Shared.{AreOneGroup, DownWereLinkedTo, HasAggregators, LeadToKey}
-pub use Rattle.lagprogress.specs.Steady.{EachHostReachedIsSteady, EachHostRunKeepsSteady, GoesByCalls, IsSteady, IsSteadySystem}
+pub use Rattle.lagprogress.specs.Steady.{EachHostReachedIsSteady, EachHostRunKeepsSteady, GoesByCalls, IsSteady, IsSteadySystem, WarmStartIsSteady}

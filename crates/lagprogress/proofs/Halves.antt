@@ -1,15 +1,15 @@
 -- What an event does to the two systems of a world is what some calls of theirs do.
 use Rattle.lagprogress.proofs.Common.{Bool, Err, List, Ok, Option, Result, Some, [], map, refl, slice_set, subst, suc, sym, true, zero, ℕ, ◌++◌, ◌∷◌}
 use Rattle.lagprogress.proofs.Common.{◌≡◌, AggId, One, Side, Two, Stamp, Config, Answer, SystemFault, Received, Call, Offer, Receive, Restart, Step}
-use Rattle.lagprogress.proofs.Common.{TableRun, Tick, Transmit, IsFirst, IsSound, SystemState, Step-sound, first_sound, Event, Reply, AfterOffer}
-use Rattle.lagprogress.proofs.Common.{AfterReceive, AfterTransmit, Algorithms, InHalf, WorldReceives, WorldSteps, with_frame_counted, with_link_at}
-use Rattle.lagprogress.proofs.Common.{with_stamp_collected, HalfAnswers, HalfTicks, forced_if_accepted, AreFirst, IsStart, HalfState, ItemValue}
-use Rattle.lagprogress.proofs.Common.{LinkState, WorldState, emptied, half, port_at, with_half, with_links, PortsAreTimed, Step-each, first_each}
-use Rattle.lagprogress.proofs.Common.{calls_each, TimedAt, timed_kept, timed_settles, timed_starts, GoesByCalls, IsSteady, IsSteadySystem}
+use Rattle.lagprogress.proofs.Common.{TableRun, Tick, Transmit, IsFirst, IsSound, SystemState, Step-free, first_free, Step-sound, first_sound, Event}
+use Rattle.lagprogress.proofs.Common.{Reply, AfterOffer, AfterReceive, AfterTransmit, Algorithms, InHalf, WorldReceives, WorldSteps}
+use Rattle.lagprogress.proofs.Common.{with_frame_counted, with_link_at, with_stamp_collected, HalfAnswers, HalfTicks, forced_if_accepted, AreFirst}
+use Rattle.lagprogress.proofs.Common.{IsStart, HalfState, ItemValue, LinkState, WorldState, emptied, half, port_at, with_half, with_links}
+use Rattle.lagprogress.proofs.Common.{PortsAreTimed, Step-each, first_each, calls_each, TimedAt, timed_kept, timed_settles, timed_starts, GoesByCalls}
+use Rattle.lagprogress.proofs.Common.{IsSteady, IsSteadySystem}
 use native.Mathlib.Omega.{arith}
 use Rattle.cables.specs.declared.item.Stamp.TheVariants as stamp
 use Rattle.lagsystem.specs.declared.drive.Reply.TheVariants as answer
-use Rattle.lagsystem.proofs.HeldPorts.{Step-free, first_free}
 use Rattle.lagsystem.specs.declared.received.Received.TheVariants as received
 use Rattle.lagworld.proofs.Effects.{DoesEffect, Effect, HalfAsked, Recording, asks, changes_counted, delivers, does_effect, emits, offers, receives}
 use Rattle.lagworld.proofs.Effects.{recorded, restarts, nothing, shrinks, ticks}

@@ -1,9 +1,9 @@
 -- Which events are a late round.
-use native.Mathlib.Omega.{arith}
 use Rattle.lagprogress.proofs.Common.{Bool, List, [], ap, false, inl, inr, length, refl, subst, suc, sym, true, zero, ℕ, ◌++◌, ◌∙◌, ◌∷◌, ◌≡◌}
 use Rattle.lagprogress.proofs.Common.{IsCabling, One, Side, Two, Reply, Algorithms, world_setup, ItemValue, WorldState, port_at, towards, HostEvent}
 use Rattle.lagprogress.proofs.Common.{Clearing, HostRounds, IsHostRound, IsTickOf, NoneIsLeft, PlayedRounds, RunReplies, StepReplies, TickOnce}
-use Rattle.lagprogress.proofs.Common.{ArriveIn, HostRoundIsLateRound, HostRoundsAreLateRounds, LateRoundsAreSeveral, OldArrive, NothingInFlight}
+use Rattle.lagprogress.proofs.Common.{ArriveIn, HostRoundIsLateRound, HostRoundsAreLateRounds, OldArrive, NothingInFlight, LateRoundsAreSeveral}
+use native.Mathlib.Omega.{arith}
 use Rattle.lagprogress.proofs.EachRound.{clears_less, joins_kept, played_join}
 use Rattle.lagprogress.proofs.LateFlow.{flows, gain_at, stays_there}
 use Rattle.lagprogress.proofs.OneCable.{OnCable, cable, sent_frame, ticks, towards_there}

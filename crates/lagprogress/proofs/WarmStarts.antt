@@ -1,18 +1,12 @@
 -- A system that a warm start made is steady.
-use Rattle.lagprogress.proofs.Common.{Err, List, Ok, Result, [], absurd, refl, subst, sym, tt, ℕ, ◌∙◌, ◌∷◌, ◌≡◌, nat_tests, arith, AggId, Answer, Call}
-use Rattle.lagprogress.proofs.Common.{Assignment, SystemFault, GivesOrRefuses, IsSound, NoneHeld, SystemState, IsSteadySystem, PortsAreTimed, Step-each}
-use Rattle.lagprogress.proofs.Common.{first_each, TimedAt, timed_kept, timed_settles, timed_starts}
-use Rattle.distributor.specs.declared.assignment.Assignment.TheVariants.{On}
-use Rattle.distributor.specs.Conversations.{assignment_of}
-use Rattle.distributor.specs.Calls.{MaySend}
-use Rattle.lagsystem.specs.Drives.{Drives}
-use Rattle.lagsystem.specs.Readers.{distributing}
-use Rattle.lagsystem.proofs.HeldPorts.{first_free}
+use Rattle.lagprogress.proofs.Common.{Err, List, Ok, Result, [], arith, refl, subst, sym, ℕ, ◌∙◌, ◌∷◌, ◌≡◌, nat_tests, AggId, Assignment, On, MaySend}
+use Rattle.lagprogress.proofs.Common.{assignment_of, Answer, SystemFault, Call, Drives, GivesOrRefuses, distributing, IsSound, NoneHeld, SystemState}
+use Rattle.lagprogress.proofs.Common.{first_free, PortsAreTimed, Step-each, first_each, TimedAt, timed_kept, timed_settles, timed_starts}
+use Rattle.lagprogress.proofs.Common.{IsSteadySystem, WarmStartIsSteady}
 use Rattle.lagsystem.proofs.OnPorts.{may_carry, sets_carried}
 use Rattle.lagsystem.proofs.PromiseLemmas.{table_sound}
 use Rattle.dataplane.specs.Adopting.{Adoption, Adopts, adopt_result}
 use Rattle.dataplane.proofs.WarmSuccessors.{sound}
-use Rattle.lagprogress.specs.Steady.{WarmStartIsSteady}
 
 driven : (gives : ℕ → ℕ → ℕ → Type 0) (old new : SystemState) (calls : List Call) (answers : List Answer) → Drives gives old calls answers new
     → PortsAreTimed old × NoneHeld old → PortsAreTimed new × NoneHeld new
@@ -29,7 +23,9 @@ may_send s agg conv port a e = grind (arith, nat_tests)
 adopted : (s t : SystemState) (agg : AggId) (conv port : ℕ) (r : Result Assignment SystemFault) → adopt_result s agg conv port ≡ r
     → GivesOrRefuses agg conv r s (Ok tt) t → IsSteadySystem s → IsSteadySystem t
 adopted s t agg conv port (Err fault) e h k = absurd cc
-adopted s t agg conv port (Ok a) e (accepted, set, same) k =
+adopted s t agg conv port (Ok a) e (accepted, is) k =
+    let set = is.0 in
+    let same = is.1 in
     let may = may_send s agg conv port a e in (
       table_sound s t same set.aggs set.conversations (sets_carried agg conv a s t set same k.0.carried
           (λ p i. may_carry s agg.0 p port (assignment_of s.table agg.0 conv) may.1 (sym may.0 ∙ i))) k.0,
@@ -45,4 +41,4 @@ pub warm_start_is_steady : (gives : ℕ → ℕ → ℕ → Type 0) → WarmStar
 warm_start_is_steady gives config saved adoptions s t r h =
     let made = r.made in
     let d = driven gives r.first s _ r.warmed.run.0 r.warmed.run.1 (first_each TimedAt timed_settles timed_starts r.first made, first_free r.first made) in
-    adopts s t adoptions h (sound gives config saved s r, d)
+    adopts s t adoptions h (sound gives config saved s r, d.0, d.1)
