@@ -462,7 +462,8 @@ module _ (Holds : LinkState → WorldState → Type 0) (first : ℕ) (gives : Al
         → (agg : AggId) × (x.port.choice ≡ Selected agg)
     up_selected k x there on =
         let it = still_heard Holds s old new (last.before s) b.heard k x there on in
-        let e = end_of Distributes (port_at s it.link) (half s new).state (each_link_comes_up Holds first gives (alone Holds first gives meet) n it.index it.link old new b it.healthy many h s) in
+        let e = end_of Distributes (port_at s it.link) (half s new).state (each_link_comes_up LateRounds 1 Holds first gives
+        (alone LateRounds 1 Holds first gives meet) n it.index it.link old new b it.healthy many h s) in
         let number : e.1.number ≡ x.number = found_place (port_at s it.link) (half s new).state.system_ports e.0 e.1 e.2 e.3 ∙ it.joins in
         let same : e.1.port ≡ x.port = all-get (λ (z : SystemPort). AtPort x.number (λ p. p ≡ x.port) z.number z.port)
         (half s new).state.system_ports e.0 e.1 e.3
@@ -474,8 +475,8 @@ module _ (Holds : LinkState → WorldState → Type 0) (first : ℕ) (gives : Al
         let w = rounds_whole gives n old new h b.steady s (in_one_of (half s old).state whole) in
         let a = up_selected i x at on in
         let c = up_selected k y bt up in
-        let knows = λ (m : ℕ) (l : LinkState) (z : IsHealthyAt m l old) (t : Side). ends_know Holds first gives meet n m l old new b.cabling b.steady z
-        (heard_holds Holds old b.cabling b.heard m l z) (omega (arith, many)) h t in
+        let knows = λ (m : ℕ) (l : LinkState) (z : IsHealthyAt m l old) (t : Side). ends_know LateRounds 1 Holds first gives meet n m l old new
+        b.cabling b.steady z (heard_holds Holds old b.cabling b.heard m l z) (omega (arith, many)) h t in
         let group = one_group old new b.steady last Holds b.heard knows s key g k y bt up its in
         let pair = (group-test (selection_view y) (selection_view x)).0 (group.group i x at (is ∙ sym its) (selected_chosen a.0 x.port.choice a.1)) in
         let same : a.0.0 ≡ c.0.0 = w a.0.0 c.0.0 i k x y at bt (ap occupied a.1) (ap occupied c.1) (is ∙ sym its) pair

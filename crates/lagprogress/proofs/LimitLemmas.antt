@@ -227,6 +227,6 @@ module _ (Holds : LinkState → WorldState → Type 0) (t : Side) (gives : Algor
 pub each_limited_link_agrees : (Holds : LinkState → WorldState → Type 0) (first : ℕ) (gives : Algorithms) → LinksMeet Holds first gives
     → EachLimitedLinkAgrees LateRounds Holds (first + 33) gives
 each_limited_link_agrees Holds first gives meet n i l t old new sound b y enough h = limited Holds t gives n old new sound b h
-    (λ k m z s. ends_know Holds first gives meet n k m old new sound.cabling b.steady z (heard_holds Holds old sound.cabling b.heard k m z)
-    (omega (arith, enough)) h s)
+    (λ k m z s. ends_know LateRounds 1 Holds first gives meet n k m old new sound.cabling b.steady z
+    (heard_holds Holds old sound.cabling b.heard k m z) (omega (arith, enough)) h s)
     (λ k m z both. selected_pairs_agree Holds first gives meet n k m old new sound b.steady b.heard z enough h both) i l y

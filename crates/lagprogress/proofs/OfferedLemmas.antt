@@ -24,7 +24,6 @@ use Rattle.lagprogress.proofs.LateHearing.{counts_of, kept_of}
 use Rattle.lagprogress.proofs.Bundling.{Meets, Nowhere, awake_of, said, ups_of, named_of}
 use Rattle.lagprogress.proofs.Carrying.{Lapses, LapsesAt, distributes_up, lapse_settles, receive_lapses}
 use Rattle.lagprogress.proofs.Halves.{keeps_timely}
-use Rattle.lagprogress.proofs.ComingUp.{told_now}
 use Rattle.lagscript.specs.declared.event.Event.TheVariants as event
 use Rattle.lagworld.specs.declared.reply.Reply.TheVariants as reply
 use Rattle.lagprogress.proofs.SeveralTicks.{done, fits_at, known_at, none_counted, own_at, peer_at}
@@ -261,12 +260,11 @@ module _ (Holds : LinkState → WorldState → Type 0) (first : ℕ) (gives : Al
       let y = it.healthy in
       let at : Side → ℕ = λ t. port_at t l in
       let w = said old i l y in
-      let named = named_of OldArrive Holds Nowhere first gives old m i l y in
-      let awake = awake_of OldArrive Holds Nowhere first gives old m i l y in
-      let top = ups_of OldArrive Holds Nowhere first gives old m i l y n mid enough h in
-      let fresh = top.2.fresh in
-      let heard = told_now at w (counts_of at old) (kept_of at old) 1 11 top.0 mid (omega arith) top.1 top.2 (peer s) in
-      let start = join 2 at w fresh.known One (peer s) PartnerInSync mid fresh.link heard in
+      let named = named_of (LateRounds gives) 1 Holds Nowhere first gives old m i l y in
+      let awake = awake_of (LateRounds gives) 1 Holds Nowhere first gives old m i l y in
+      let top = ups_of (LateRounds gives) 1 Holds Nowhere first gives old m i l y n mid enough h in
+      let fresh = top.fresh in
+      let start = join 2 at w fresh.known One (peer s) PartnerInSync mid fresh.link (top.heard (peer s)) in
       let plain = subst (λ o. IsFrame o Data_frame) (sym g.frame) (is_data octets.items takes.may.1) in
       let o = offer_link gives number s 2 at w fresh.known (peer s) PartnerInSync agg octets r mid sent g (sym it.joins) plain step start in
       let fl : Side → List ItemValue = push (peer s) g.item start.flying in

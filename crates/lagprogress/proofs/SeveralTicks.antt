@@ -2,13 +2,12 @@
 use Rattle.lagprogress.proofs.Common.{Bool, List, [], ap, arith, false, inl, inr, refl, subst, suc, sym, true, zero, ℕ, ◌+◌, ◌-◌, ◌∙◌, ◌∷◌, ◌≡◌, ◌≤◌}
 use Rattle.lagprogress.proofs.Common.{◌⊎◌, Lacpdu, One, Side, Two, peer, Machines, periodic_rows, receive_rows, AtRest, RunsToRest, after_sending}
 use Rattle.lagprogress.proofs.Common.{count_down, Reply, Algorithms, WorldState, HostEvent, IsTimed, no, Sounds, LeavesPorts, AfterTick, AtSomeWorld}
-use Rattle.lagprogress.proofs.Common.{Clearing, IsTickOf, RunReplies, StepReplies, TickOnceAmong, AfterTicks, IsPlayedTicks, TicksAmong}
+use Rattle.lagprogress.proofs.Common.{Clearing, IsPlayedAmong, IsTickOf, RunReplies, StepReplies, TickOnceAmong, AfterTicks, IsPlayedTicks, TicksAmong}
 use Rattle.lagprogress.proofs.EndFacts.{Along, CanSound, IsEnd, activity, calm, nothing_along, sounds_along, ticks_sounds, wait_of}
 use Rattle.lagprogress.proofs.HostRound.{Counts, IsTickless, KeptAmong, KeptBeside, MadeByTick, between, not_tick, one_of, tick_one, two, two_other}
 use Rattle.lagprogress.proofs.HostRound.{two_there}
 use Rattle.lagprogress.proofs.Linked.{Fits, Link, each_side, other_ports, other_side, peer_twice}
 use Rattle.lagprogress.proofs.OneRound.{Asks, Later, Nothing, Passes, later_along, still_sounds}
-use Rattle.lagprogress.proofs.Quieting.{PlayedBeside}
 
 -- a round of several ticks beside these ports
 abbrev pub TicksBeside : ℕ → (Side → ℕ) → Clearing → Algorithms → WorldState → WorldState → Type 0
@@ -43,11 +42,12 @@ once_asked s P gives (e ∷ es) [] old new run y = absurd y
 once_asked s P gives (e ∷ es) (r ∷ rs) old new run (inl y) = inl y
 once_asked s P gives (e ∷ es) (r ∷ rs) old new run (inr y) = inr (once_asked s P gives es rs run.0 new run.2 y)
 
-pub once : {at : Side → ℕ} {E : Clearing} {gives : Algorithms} {old new : WorldState} → PlayedBeside at E gives old new → TicksBeside 1 at E gives old new
-once {at} {E} {gives} {old} {new} h = record {
+pub once : {May : HostEvent → Type 0} {E : Clearing} {gives : Algorithms} {old new : WorldState} → IsPlayedAmong May E gives old new
+    → IsPlayedTicks May E 1 gives old new
+once {May} {E} {gives} {old} {new} h = record {
   events = h.events;
   replies = h.replies;
-  turns = once_turns (LeavesPorts at) One h.events true true h.ticks;
+  turns = once_turns May One h.events true true h.ticks;
   acts = h.acts;
   asked = λ s i l y. once_asked s _ gives h.events h.replies old new h.acts (h.asked s i l y);
   empties = h.empties;

@@ -1,4 +1,4 @@
-use Rattle.lagprogress.proofs.Common.{arith, subst, ℕ, ◌∙◌, ◌≡◌, ◌≤◌, Algorithms, WorldState, BothAreActive, OneIsActive, Rounds}
+use Rattle.lagprogress.proofs.Common.{arith, subst, ℕ, ◌∙◌, ◌≡◌, ◌≤◌, Algorithms, WorldState, BothAreActive, OneIsActive, LateRounds, Rounds}
 use Rattle.lagprogress.proofs.Common.{freed_if_both_active, freed_if_one_is, up_if_both_active, up_if_one_is}
 use Rattle.lagprogress.proofs.Bundling.{each_link_agrees, each_link_comes_up, one_active, both_active}
 use Rattle.lagprogress.proofs.Freeing.{nothing_is_held}
@@ -45,12 +45,12 @@ returns-clause-rounds g c =
 
 pub returns-clause-distributes_both : goal.returns-clause-distributes_both
 returns-clause-distributes_both g c = distribute g.C.Cable.items g.C.Cable.limit BothAreActive up_if_both_active _
-    (each_link_comes_up BothAreActive 323 _ (both_active _)) c.args.count _ _
+    (each_link_comes_up LateRounds 1 BothAreActive 323 _ (both_active _)) c.args.count _ _
     (λ steady. rounds_are_host_rounds _ c.args.count _ _ steady (returns-clause-rounds g c))
 
 pub returns-clause-agrees_both : goal.returns-clause-agrees_both
 returns-clause-agrees_both g c = agree g.C.Cable.items g.C.Cable.limit BothAreActive up_if_both_active _
-    (each_link_agrees BothAreActive 323 _ (both_active _)) c.args.count _ _
+    (each_link_agrees LateRounds 1 BothAreActive 323 _ (both_active _)) c.args.count _ _
     (λ steady. rounds_are_host_rounds _ c.args.count _ _ steady (returns-clause-rounds g c))
 
 pub returns-clause-frees_both : goal.returns-clause-frees_both
@@ -59,12 +59,12 @@ returns-clause-frees_both g c = free g.C.Cable.items g.C.Cable.limit BothAreActi
 
 pub returns-clause-distributes_one : goal.returns-clause-distributes_one
 returns-clause-distributes_one g c = distribute g.C.Cable.items g.C.Cable.limit OneIsActive up_if_one_is _
-    (each_link_comes_up OneIsActive 624 _ (one_active _)) c.args.count _ _
+    (each_link_comes_up LateRounds 1 OneIsActive 624 _ (one_active _)) c.args.count _ _
     (λ steady. rounds_are_host_rounds _ c.args.count _ _ steady (returns-clause-rounds g c))
 
 pub returns-clause-agrees_one : goal.returns-clause-agrees_one
 returns-clause-agrees_one g c = agree g.C.Cable.items g.C.Cable.limit OneIsActive up_if_one_is _
-    (each_link_agrees OneIsActive 624 _ (one_active _)) c.args.count _ _
+    (each_link_agrees LateRounds 1 OneIsActive 624 _ (one_active _)) c.args.count _ _
     (λ steady. rounds_are_host_rounds _ c.args.count _ _ steady (returns-clause-rounds g c))
 
 pub returns-clause-frees_one : goal.returns-clause-frees_one
