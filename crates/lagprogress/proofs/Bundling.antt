@@ -1,18 +1,20 @@
 -- How the links of a bundle come up and agree.
 use Rattle.lagprogress.proofs.Common.{Bool, IsSome, List, None, Option, Some, [], ap, arith, inl, inr, is_some, length, map, refl, slice_get, subst}
 use Rattle.lagprogress.proofs.Common.{suc, sym, true, zero, ℕ, ◌+◌, ◌-◌, ◌==◌, ◌∙◌, ◌∷◌, ◌≡◌, ◌≢◌, ◌≤◌, ◌⊎◌, cases_Bool, nat_tests, same_Some}
-use Rattle.lagprogress.proofs.Common.{AllByRecursion, AggId, Key, Choice, Standby, is_selected, itself, Lacpdu, IsCabling, One, Side, end_at, peer}
-use Rattle.lagprogress.proofs.Common.{ports_that_chose, has_chosen, SystemPort, MuxIsSettled, occupied, IsSound, SystemState, views, all-get}
+use Rattle.lagprogress.proofs.Common.{AllByRecursion, AggId, Key, Choice, Standby, is_selected, itself, Lacpdu, IsCabling, One, Side, Two, end_at}
+use Rattle.lagprogress.proofs.Common.{peer, ports_that_chose, has_chosen, SystemPort, MuxIsSettled, occupied, IsSound, SystemState, views, all-get}
 use Rattle.lagprogress.proofs.Common.{found_place, Same, agreement_at, Algorithms, link_ends, world_setup, IsWorldSound, LinkState, WorldState, half}
 use Rattle.lagprogress.proofs.Common.{history_at, port_at, towards, end_is, HostEvent, ports_with, IsTimed, count, count_more_of, counted, OfEach}
-use Rattle.lagprogress.proofs.Common.{AtPort, waits_for_room, RoundsBeside, AllHeard, BothAreActive}
-use Rattle.lagprogress.proofs.Common.{EachLinkAgrees, EachLinkComesUp, EndsHealthyCable, EndsOfEachKnow, EnoughLinks, IsBundle, OneIsActive}
-use Rattle.lagprogress.proofs.Common.{SystemsDiffer, Clearing, PlayedRounds, LateRounds, OldArrive, Distributes, AtEnd, IsHealthyAt}
-use Rattle.lagprogress.proofs.Common.{Playing, SeveralBeside, IsSteady, IsBetweenTicks, TicksAmong, LeavesPorts, most_ticks, Two}
+use Rattle.lagprogress.proofs.Common.{AtPort, waits_for_room, LeavesPorts, RoundsBeside, AllHeard, BothAreActive, EachLinkAgrees, EachLinkComesUp}
+use Rattle.lagprogress.proofs.Common.{EndsHealthyCable, EndsOfEachKnow, EnoughLinks, IsBundle, OneIsActive, SystemsDiffer, Clearing, IsBetweenTicks}
+use Rattle.lagprogress.proofs.Common.{PlayedRounds, LateRounds, OldArrive, Distributes, AtEnd, IsHealthyAt, Playing, SeveralBeside, TicksAmong}
+use Rattle.lagprogress.proofs.Common.{most_ticks, IsSteady}
 use Rattle.lagprogress.proofs.LateHearing.{counts_of, kept_of}
-use Rattle.lagprogress.proofs.ComingUp.{AreSynced, agrees_now}
-use Rattle.lagprogress.proofs.ComingUp.{distributes, climbed_end, climbs, RoundsUpTo, BesideUpTo, rounds_once, stands_on, keeps_agreeing, TickedRound, CableStands, Going, agreed_synced, slack_of, rounds_beside, AgreesIn, comes_to_agree, rounds_pass, rounds_on}
-use Rattle.lagprogress.proofs.EachRound.{clears_less, EachAt, RoundKeeps, same_index, played_split, each_between, tick_makes, tick_beside, steady_on, Passes}
+use Rattle.lagprogress.proofs.ComingUp.{AreSynced, agrees_now, distributes, climbed_end, climbs, RoundsUpTo, BesideUpTo, rounds_once, stands_on}
+use Rattle.lagprogress.proofs.ComingUp.{keeps_agreeing, TickedRound, CableStands, Going, agreed_synced, slack_of, rounds_beside, AgreesIn}
+use Rattle.lagprogress.proofs.ComingUp.{comes_to_agree, rounds_pass, rounds_on}
+use Rattle.lagprogress.proofs.EachRound.{clears_less, EachAt, RoundKeeps, same_index, played_split, each_between, tick_makes, tick_beside, steady_on}
+use Rattle.lagprogress.proofs.EachRound.{Passes}
 use Rattle.lagprogress.proofs.Knowing.{late_active_meet, late_one_meets, AtIt, knows_in, met_knows, for_several}
 use Rattle.lagprogress.proofs.Climbing.{Down, Ripe, Rising, down_settles, down_takes, down_ticks, rising_first}
 use Rattle.lagprogress.proofs.Lasting.{active_at, awake_at, named_at, healthy_cable, said_by, starts, IsAsBefore, all_by_place, ends_at, old_port}

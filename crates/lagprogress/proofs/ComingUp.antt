@@ -4,15 +4,15 @@ use Rattle.lagprogress.proofs.Common.{sym, true, zero, ℕ, ◌+◌, ◌-◌, �
 use Rattle.lagprogress.proofs.Common.{group_of, individual, pair_of, same_group, group-itself, Lacpdu, party_of, One, Side, Two, peer}
 use Rattle.lagprogress.proofs.Common.{CollectingDistributing, Machines, is_synchronized, mux_rows, same_mux_state, SystemPort, MuxIsSettled, group_at}
 use Rattle.lagprogress.proofs.Common.{machines_of, all-get, Same, agreement_at, agreement_of, end_facts, is_stamp, same_groups, Algorithms, link_ends}
-use Rattle.lagprogress.proofs.Common.{ItemValue, LinkState, WorldState, half, history_at, IsTimed, no, times_keep, AtPort, periodic_leaves}
-use Rattle.lagprogress.proofs.Common.{Sounds, all_leave, LeavesPorts, OldArrive, Distributes, OfPort}
-use Rattle.lagprogress.proofs.Common.{most_ticks, IsBetweenTicks, IsPlayedTicks, PlayedAmong, HostEvent}
+use Rattle.lagprogress.proofs.Common.{ItemValue, LinkState, WorldState, half, history_at, HostEvent, IsTimed, no, times_keep, AtPort, periodic_leaves}
+use Rattle.lagprogress.proofs.Common.{Sounds, all_leave, LeavesPorts, IsBetweenTicks, PlayedAmong, OldArrive, Distributes, OfPort, IsPlayedTicks}
+use Rattle.lagprogress.proofs.Common.{most_ticks}
 use Rattle.lagprogress.proofs.EachRound.{joins_kept, joins_tick, Passes}
 use Rattle.lagprogress.proofs.Stamps.{Took-it, Present, Stamped}
 use Rattle.lagprogress.proofs.Climbing.{Rising, PartnerInSync, keeps_selected, ticks_still, distributes_now, partner_along, rising_along}
 use Rattle.lagprogress.proofs.Climbing.{rising_first, ticks_partner, ticks_rising, Ripe, climbed}
-use Rattle.lagprogress.proofs.Knowing.{Leaves, GoingIn, AtIt, beside, able_in, awake_peer, mode}
-use Rattle.lagprogress.proofs.Knowing.{fits_in_round, fits_met, knows_in, settled, stays_met_in, wakes_met}
+use Rattle.lagprogress.proofs.Knowing.{Leaves, GoingIn, AtIt, beside, able_in, awake_peer, mode, fits_in_round, fits_met, knows_in, settled}
+use Rattle.lagprogress.proofs.Knowing.{stays_met_in, wakes_met}
 use Rattle.lagprogress.proofs.Claims.{IsNamed, Owes}
 use Rattle.lagprogress.proofs.EndFacts.{Along, IsEnd, Synced, activity, synced_mux, Learnt, wait_of}
 use Rattle.lagprogress.proofs.LateHearing.{Whoever, ticks_stamp, AheadIn, ticks_near, counts_of, flush, kept_of}

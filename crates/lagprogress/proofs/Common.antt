@@ -156,7 +156,7 @@ pub use Rattle.lagbeside.proofs.Timers.{timed_starts}
 pub use Rattle.lagprogress.specs.Arriving.{Arrives, DeliverHandsUp, DisabledAreUnsynchronized, EachFrameArrivesByHosts}
 pub use Rattle.lagprogress.specs.Arriving.{EachHostReachedHasUnsynchronized, GetsPort, HandsUp, IsEventWhere, IsHandedUp, OfferGetsPort}
 pub use Rattle.lagprogress.specs.Arriving.{SometimePlayed, TakesFrame}
-pub use Rattle.lagprogress.specs.Beside.{EachLinkStaysAgreed, EachLinkStaysUp, LeavesPorts, RoundsBeside}
+pub use Rattle.lagprogress.specs.Beside.{LeavesPorts, RoundsBeside}
 pub use Rattle.lagprogress.specs.Bundle.{AllHeard, BothAreActive, EachLinkAgrees, EachLinkComesUp, EndsHealthyCable, EndsOfEachKnow}
 pub use Rattle.lagprogress.specs.Bundle.{EnoughAggregators, EnoughLinks, HostReachedIsBundle, IsBundle, OneIsActive, ReachedIsApart, ReachedIsBundle}
 pub use Rattle.lagprogress.specs.Bundle.{SelectedPairsAgree, SelectedPairsComeUp, SystemsDiffer}
@@ -178,8 +178,7 @@ pub use Rattle.lagprogress.specs.PlayedByHosts.{PlaysHostRound, PlaysHostRounds,
 pub use Rattle.lagprogress.specs.Progress.{Distributes, EndKnows, Knows}
 pub use Rattle.lagprogress.specs.Rounds.{AtEnd, IsDeliver, IsHealthyAt, IsRound, NothingInFlight, OfPort, Playing, Rounds, asks_all, asks_ends}
 pub use Rattle.lagprogress.specs.Rounds.{freed_if_both_active, freed_if_one_is, ticks_of_both, up_if_both_active, up_if_one_is}
-pub use Rattle.lagprogress.specs.Several.{AfterTicks, AskingIsSeveral, AsksAfterTicks, EachLinkStaysAgreedInSeveral, EachLinkStaysAgreedThroughout}
-pub use Rattle.lagprogress.specs.Several.{EachLinkStaysUpInSeveral, EachLinkStaysUpThroughout, IsPlayedTicks, SeveralBeside, SeveralRounds}
-pub use Rattle.lagprogress.specs.Several.{TicksAmong, most_ticks}
+pub use Rattle.lagprogress.specs.Several.{AfterTicks, AskingIsSeveral, AsksAfterTicks, IsPlayedTicks, SeveralBeside, SeveralRounds, TicksAmong}
+pub use Rattle.lagprogress.specs.Several.{most_ticks}
 pub use Rattle.lagprogress.specs.Shared.{AreOneGroup, DownWereLinkedTo, HasAggregators, LeadToKey}
 pub use Rattle.lagprogress.specs.Steady.{EachHostReachedIsSteady, EachHostRunKeepsSteady, GoesByCalls, IsSteady, IsSteadySystem}

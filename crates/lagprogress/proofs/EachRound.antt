@@ -4,11 +4,10 @@ use Rattle.lagprogress.proofs.Common.{◌≡◌, ◌≤◌, nat_tests, Party, La
 use Rattle.lagprogress.proofs.Common.{after_sending, count_down, Table, SystemPort, ProcessesLacpdu, Receive, SystemState, with_system_ports}
 use Rattle.lagprogress.proofs.Common.{with_table, Reply, Algorithms, WorldSteps, link_ends, ItemValue, LinkState, WorldState, half, port_at, end_is}
 use Rattle.lagprogress.proofs.Common.{HostEvent, Plays, KeptBySettling, OfEach, Step-each, Tick-each, asked_each, AtPort, settling_leaves, runs_keep}
-use Rattle.lagprogress.proofs.Common.{takes_keep, Clearing, IsBetweenTicks, IsPlayed, IsPlayedAmong, PlayedAmong, PlayedRounds}
-use Rattle.lagprogress.proofs.Common.{StepReplies, IsSteady}
+use Rattle.lagprogress.proofs.Common.{takes_keep, Clearing, IsBetweenTicks, IsPlayed, IsPlayedAmong, PlayedAmong, PlayedRounds, StepReplies, IsSteady}
 use Rattle.lagprogress.proofs.Linked.{each_side, peer_twice}
-use Rattle.lagprogress.proofs.Quieting.{calm_steady, calm_keeps, leaves_ends, IsCalm, calm_between, leaves, quiet_ports, replayed}
-use Rattle.lagprogress.proofs.Quieting.{asked_half, came_half}
+use Rattle.lagprogress.proofs.Quieting.{calm_steady, calm_keeps, leaves_ends, IsCalm, calm_between, leaves, quiet_ports, replayed, asked_half}
+use Rattle.lagprogress.proofs.Quieting.{came_half}
 use Rattle.lagprogress.proofs.OneCable.{OnCable, cable, deliver_ends, emits, ticks}
 use Rattle.lagprogress.proofs.OneRound.{ticked}
 use Rattle.lagprogress.proofs.HostRound.{KeptBeside, KeptBetween, MadeByTick, of_side}

@@ -11,8 +11,7 @@ use Rattle.lagprogress.proofs.Common.{IsLateRound, LateRounds, OldArrive, AtEnd,
 use Rattle.lagprogress.proofs.EachRound.{played_on, EachAt, tick_keeps, played_split, played_steady, RoundKeeps, host_each, played_pass, same_on}
 use Rattle.lagprogress.proofs.EachRound.{each_between, holds_once}
 use Rattle.lagprogress.proofs.LateHearing.{counts_of, kept_of}
-use Rattle.lagprogress.proofs.Quieting.{as_beside, IsCalm, calm_steady, calm_keeps, quiet_ports, asked_half, came_half, calm_between}
-use Rattle.lagprogress.proofs.Quieting.{leaves}
+use Rattle.lagprogress.proofs.Quieting.{as_beside, IsCalm, calm_steady, calm_keeps, quiet_ports, asked_half, came_half, calm_between, leaves}
 use Rattle.lagprogress.proofs.Knowing.{Fresh, fits_fresh, fits_before, knows_late, stays_met, AtIt, Met}
 use Rattle.lagprogress.proofs.Linked.{each_side, EndIs, Fits, IsGood, Link, arrival, at_end, end_here}
 use Rattle.lagprogress.proofs.Bundling.{Awake, said, Named, names, agree_still, heard_holds, LinksMeet, stands_in}

@@ -1,6 +1,5 @@
-use Rattle.lagprogress.proofs.Common.{BothAreActive, OneIsActive, LateRounds, RoundsBeside, SeveralBeside, SeveralRounds, most_ticks}
-use Rattle.lagprogress.proofs.Bundling.{each_link_stays_agreed, each_link_stays_up, beside_once, beside_several}
-use Rattle.lagprogress.proofs.Bundling.{one_active, both_active}
+use Rattle.lagprogress.proofs.Common.{RoundsBeside, BothAreActive, OneIsActive, LateRounds, SeveralBeside, SeveralRounds, most_ticks}
+use Rattle.lagprogress.proofs.Bundling.{each_link_stays_agreed, each_link_stays_up, beside_once, beside_several, one_active, both_active}
 use Rattle.lagprogress.proofs.SeveralUp.{both_in_several, one_in_several}
 use Rattle.lagprogress.proofs.clocks.each_link_stays_up_by_clocks.Goals as goal
 
