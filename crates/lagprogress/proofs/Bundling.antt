@@ -200,14 +200,6 @@ both_meet gives = record {
   wake = λ old i l h a s. inl (active_at l old (ends_at i l old h) s (a s));
 }
 
-pub ends_know : (Plays : Playing) (ticks : ℕ) (Holds : LinkState → WorldState → Type 0) (first : ℕ) (gives : Algorithms)
-    → LinksMeetBy Plays ticks Holds first gives → EndsOfEachKnow Plays Holds first gives
-ends_know Plays ticks Holds first gives k n i l old new cabling steady healthy holds enough h =
-    let at : Side → ℕ = λ t. port_at t l in
-    let small = k.kind.small in
-    met_knows at (said old i l healthy) (counts_of at old) (kept_of at old) ticks (slack_of ticks) (omega (arith, small)) l (λ t. refl) new
-    (k.meet n old new cabling steady i l healthy holds enough h)
-
 -- the ends of a healthy cable are of different systems
 pub apart_ends : (old : WorldState) → IsSteady old → SystemsDiffer old → (i : ℕ) (l : LinkState) (h : IsHealthyAt i l old) → (s : Side)
     → (said old i l h (peer s)).actor.system ≢ (said old i l h s).actor.system
@@ -387,44 +379,40 @@ module _ (R : ℕ → WorldState → WorldState → Type 0) (ticks : ℕ) (Holds
 abbrev pub Nowhere : Side → ℕ → Type 0
 Nowhere s n = ⊥
 
-pub alone : (Plays : Playing) (ticks : ℕ) (Holds : LinkState → WorldState → Type 0) (first : ℕ) (gives : Algorithms)
-    → LinksMeetBy Plays ticks Holds first gives → (old : WorldState) → IsBundle Holds old → MeetsBy (Plays gives) ticks Holds Nowhere first gives old
-alone Plays ticks Holds first gives k old b = record {
-  steady = b.steady;
-  cabling = b.cabling;
-  differ = b.differ;
-  heard = λ s m x e up. inl (b.heard s m x e up);
-  kind = k.kind;
-  finds = λ mid h. shared_finds old mid b.steady (lasts_on gives old mid b.steady (passed k.kind first old mid h)) Holds b.heard
-      (λ i l y. ends_know Plays ticks Holds first gives k first i l old mid b.cabling b.steady y (heard_holds Holds old b.cabling b.heard i l y)
-      (omega arith) h) b.aggregators;
-  links = b.links;
-  never = λ s i l h o. o;
-  idle = λ mid top h more s m z y there up o now. absurd o;
-  meets = λ i l h y mid r. k.meet first old mid b.cabling b.steady i l h y (omega arith) r;
-  wakes = k.wake old;
-}
-
-abbrev pub Meets : (LinkState → WorldState → Type 0) → ℕ → Algorithms → WorldState → Type 0
-Meets Holds first gives old = MeetsBy (LateRounds gives) 1 Holds Nowhere first gives old
-
-pub one_active : (gives : Algorithms) (old : WorldState) → IsBundle OneIsActive old → Meets OneIsActive 624 gives old
-one_active gives = alone LateRounds 1 OneIsActive 624 gives (one_meets gives)
-
-pub both_active : (gives : Algorithms) (old : WorldState) → IsBundle BothAreActive old → Meets BothAreActive 323 gives old
-both_active gives = alone LateRounds 1 BothAreActive 323 gives (both_meet gives)
-
 -- the laws of a bundle
 
 module _ (Plays : Playing) (ticks : ℕ) (Holds : LinkState → WorldState → Type 0) (first : ℕ) (gives : Algorithms)
-    (meets : (old : WorldState) → IsBundle Holds old → MeetsBy (Plays gives) ticks Holds Nowhere first gives old) where
+    (k : LinksMeetBy Plays ticks Holds first gives) where
+  pub ends_know : EndsOfEachKnow Plays Holds first gives
+  ends_know n i l old new cabling steady healthy holds enough h =
+      let at : Side → ℕ = λ t. port_at t l in
+      let small = k.kind.small in
+      met_knows at (said old i l healthy) (counts_of at old) (kept_of at old) ticks (slack_of ticks) (omega (arith, small)) l (λ t. refl) new
+      (k.meet n old new cabling steady i l healthy holds enough h)
+
+  pub alone : (old : WorldState) → IsBundle Holds old → MeetsBy (Plays gives) ticks Holds Nowhere first gives old
+  alone old b = record {
+    steady = b.steady;
+    cabling = b.cabling;
+    differ = b.differ;
+    heard = λ s m x e up. inl (b.heard s m x e up);
+    kind = k.kind;
+    finds = λ mid h. shared_finds old mid b.steady (lasts_on gives old mid b.steady (passed k.kind first old mid h)) Holds b.heard
+        (λ i l y. ends_know first i l old mid b.cabling b.steady y (heard_holds Holds old b.cabling b.heard i l y) (omega arith) h) b.aggregators;
+    links = b.links;
+    never = λ s i l h o. o;
+    idle = λ mid top h more s m z y there up o now. absurd o;
+    meets = λ i l h y mid r. k.meet first old mid b.cabling b.steady i l h y (omega arith) r;
+    wakes = k.wake old;
+  }
+
   pub each_link_comes_up : EachLinkComesUp Plays Holds (first + (31 + ticks + ticks)) gives
   each_link_comes_up n i l old new b y enough h =
-      distribute_of (Plays gives) ticks Holds Nowhere first gives old (meets old b) i l y n 0 new new enough h refl
+      distribute_of (Plays gives) ticks Holds Nowhere first gives old (alone old b) i l y n 0 new new enough h refl
 
   pub each_link_agrees : EachLinkAgrees Plays Holds (first + (31 + ticks + ticks)) gives
   each_link_agrees n i l old new sound b y enough h =
-      agree_of (Plays gives) ticks Holds Nowhere first gives old (meets old b) i l y n 0 new new enough h refl sound
+      agree_of (Plays gives) ticks Holds Nowhere first gives old (alone old b) i l y n 0 new new enough h refl sound
 
   -- and then after any number of rounds of this kind
   module _ (More : LinkState → Algorithms → ℕ → WorldState → WorldState → Type 0)
@@ -432,12 +420,12 @@ module _ (Plays : Playing) (ticks : ℕ) (Holds : LinkState → WorldState → T
     pub each_link_stays_up : (n m i : ℕ) (l : LinkState) (old mid new : WorldState) → IsBundle Holds old → IsHealthyAt i l old
         → first + (31 + ticks + ticks) ≤ n → Plays gives n old mid → More l gives m mid new → (s : Side) → AtEnd Distributes s l new
     each_link_stays_up n m i l old mid new b y enough h more =
-        distribute_of (Plays gives) ticks Holds Nowhere first gives old (meets old b) i l y n m mid new enough h (are l m mid new more)
+        distribute_of (Plays gives) ticks Holds Nowhere first gives old (alone old b) i l y n m mid new enough h (are l m mid new more)
 
     pub each_link_stays_agreed : (n m i : ℕ) (l : LinkState) (old mid new : WorldState) → IsWorldSound old → IsBundle Holds old → IsHealthyAt i l old
         → first + (31 + ticks + ticks) ≤ n → Plays gives n old mid → More l gives m mid new → agreement_at new (suc i) ≡ Some Same
     each_link_stays_agreed n m i l old mid new sound b y enough h more =
-        agree_of (Plays gives) ticks Holds Nowhere first gives old (meets old b) i l y n m mid new enough h (are l m mid new more) sound
+        agree_of (Plays gives) ticks Holds Nowhere first gives old (alone old b) i l y n m mid new enough h (are l m mid new more) sound
 
 -- beside the ends of a cable, of one tick or of several
 

@@ -38,7 +38,7 @@ pub use Rattle.lagmodel.specs.World.{first_world, peer, with_messages}
 pub use Rattle.lagmodel.proofs.Base.{cond_false, cond_true, value_of}
 pub use Rattle.cables.specs.declared.item.Stamp.{Stamp}
 pub use Rattle.portmachines.specs.declared.mux.MuxState.{MuxState}
-pub use Rattle.portmachines.specs.declared.mux.MuxState.TheVariants.{Attached, CollectingDistributing, Detached, Waiting}
+pub use Rattle.portmachines.specs.declared.mux.MuxState.TheVariants.{Attached, CollectingDistributing, Waiting}
 pub use Rattle.portmachines.specs.declared.port.Setup.{Setup}
 pub use Rattle.portmachines.specs.declared.receive.ReceiveState.{ReceiveState}
 pub use Rattle.portmachines.specs.declared.receive.ReceiveState.TheVariants.{Current, Defaulted, Expired, Initialize, PortDisabled}
@@ -57,8 +57,7 @@ pub use Rattle.selection.specs.Limits.{AggregatorsValue, has_room, is_below}
 pub use Rattle.selection.specs.Views.{has_chosen, has_waited, is_detached_or_waiting, is_eligible, occupies, stands_by}
 pub use Rattle.distributor.specs.declared.assignment.Assignment.{Assignment}
 pub use Rattle.distributor.specs.declared.assignment.Assignment.TheVariants.{Flushing, Free, On, Wanted}
-pub use Rattle.distributor.specs.declared.fault.DistFault.{DistFault}
-pub use Rattle.distributor.specs.Calls.{Assigns, MaySend, is_among, leave_result}
+pub use Rattle.distributor.specs.Calls.{MaySend, is_among, leave_result}
 pub use Rattle.distributor.specs.Changes.{after_mark, after_release, after_tick, marker_due, wants_marker}
 pub use Rattle.distributor.specs.Conversations.{IsConversation, Table, assignment_of, count_conversations, next_identifier}
 pub use Rattle.lagsystem.specs.declared.config.Config.{Config}
@@ -82,7 +81,7 @@ pub use Rattle.lagsystem.specs.ModelView.{IsSent, can_receive, can_receive_in, k
 pub use Rattle.lagsystem.specs.ModelView.{number_of_port}
 pub use Rattle.lagsystem.specs.NothingToSettle.{MuxIsSettled, PeriodicIsSettled}
 pub use Rattle.lagsystem.specs.Occupants.{OccupantsAgree, occupied}
-pub use Rattle.lagsystem.specs.Offers.{GivesOrRefuses, MayBeOffered, RefusesOffer, assignment_of_frame, in_system, system_move_result}
+pub use Rattle.lagsystem.specs.Offers.{GivesOrRefuses, MayBeOffered, assignment_of_frame, in_system, system_move_result}
 pub use Rattle.lagsystem.specs.Probing.{ProbesAt, ProbesIf}
 pub use Rattle.lagsystem.specs.Readers.{aggregator_numbered, collecting, distributes_in, distributing, group_at, number_of_conversation}
 pub use Rattle.lagsystem.specs.Readers.{selected_aggregator}

@@ -3,7 +3,7 @@ use Rattle.lagprogress.proofs.Common.{List, None, Option, Some, [], ap, arith, i
 use Rattle.lagprogress.proofs.Common.{◌≡◌, ◌≤◌, ◌⊎◌, nat_tests, AllByRecursion, all-append, IsCabling, One, Side, peer, value_of, Assignment}
 use Rattle.lagprogress.proofs.Common.{after_mark, after_release, after_tick, IsConversation, assignment_of, held_unless_on, SystemState, Event, Reply}
 use Rattle.lagprogress.proofs.Common.{Algorithms, WorldSteps, side_of, LinkState, WorldState, half, port_at, AtPort, Turning, Turns, asks_turn}
-use Rattle.lagprogress.proofs.Common.{comes_turn, same_turns, ticks_turn, turns_through, EndsHealthyCable, IsBundle, HasIdentifierLeft, IsNotHeldOn}
+use Rattle.lagprogress.proofs.Common.{comes_turn, same_turns, ticks_turn, turns_through, EndsHealthyCable, HasIdentifierLeft, IsNotHeldOn}
 use Rattle.lagprogress.proofs.Common.{NothingIsHeld, carrier_of, held_on, DrainingRounds, NoneIsHeldOnEndsByHosts, NothingIsHeldByHosts, Clearing}
 use Rattle.lagprogress.proofs.Common.{HostRounds, IsBetweenTicks, NoneIsLeft, PlayedRounds, LateRounds, OldArrive, IsDeliver, IsHealthyAt, IsRound}
 use Rattle.lagprogress.proofs.Common.{Rounds, asks_all, ticks_of_both, IsSteady}
@@ -11,7 +11,7 @@ use Rattle.lagprogress.proofs.Lasting.{played_before, still_heard}
 use Rattle.lagprogress.proofs.LateLoops.{host_rounds_are_late_rounds}
 use Rattle.lagprogress.proofs.LateHearing.{counts_of, kept_of}
 use Rattle.lagprogress.proofs.EachRound.{among_then, played_join, played_steady, played_pass, same_on}
-use Rattle.lagprogress.proofs.Bundling.{MeetsBy, Nowhere, awake_of, said, ups_of, named_of, Meets}
+use Rattle.lagprogress.proofs.Bundling.{LinksMeet, MeetsBy, Nowhere, alone, awake_of, said, ups_of, named_of}
 use Rattle.lagprogress.proofs.Linked.{each_side, each_both, each_map, at_end, end_here, runs_all}
 use Rattle.lagprogress.proofs.OneCable.{ticks}
 use Rattle.lagprogress.proofs.Quieting.{asked_half, came_half}
@@ -178,11 +178,10 @@ unheld Holds s old None ends none = refl
 unheld Holds s old (Some p) ends none =
     let it = ends p refl in absurd (none it.index it.link it.healthy (ap (λ (q : ℕ). Some q) (sym it.joins)))
 
-module _ (Holds : LinkState → WorldState → Type 0) (first : ℕ) (gives : Algorithms)
-    (meets : (old : WorldState) → IsBundle Holds old → Meets Holds first gives old) where
+module _ (Holds : LinkState → WorldState → Type 0) (first : ℕ) (gives : Algorithms) (meet : LinksMeet Holds first gives) where
   pub none_is_held_on_ends : NoneIsHeldOnEndsByHosts Holds (first + 33) gives
   none_is_held_on_ends n m i l old mid new s g k b y enough h late more left =
-      freed_by OldArrive Holds Nowhere first gives old (meets old b) i l y n m mid new s g k enough h late more left
+      freed_by OldArrive Holds Nowhere first gives old (alone LateRounds 1 Holds first gives meet old b) i l y n m mid new s g k enough h late more left
 
   -- and in healthy rounds, which are such rounds
   pub nothing_is_held : NothingIsHeld Holds (first + 63) gives

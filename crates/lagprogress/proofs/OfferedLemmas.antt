@@ -21,7 +21,7 @@ use Rattle.lagprogress.proofs.LateFlow.{Flows, flows, gain_at}
 use Rattle.lagprogress.proofs.Knowing.{awake_peer, fits_fresh, fits_before}
 use Rattle.lagprogress.proofs.Lasting.{played_before, all_by_place, still_heard}
 use Rattle.lagprogress.proofs.LateHearing.{counts_of, kept_of}
-use Rattle.lagprogress.proofs.Bundling.{Meets, Nowhere, awake_of, said, ups_of, named_of}
+use Rattle.lagprogress.proofs.Bundling.{LinksMeet, MeetsBy, Nowhere, alone, awake_of, said, ups_of, named_of}
 use Rattle.lagprogress.proofs.Carrying.{Lapses, LapsesAt, distributes_up, lapse_settles, receive_lapses}
 use Rattle.lagprogress.proofs.Halves.{keeps_timely}
 use Rattle.lagscript.specs.declared.event.Event.TheVariants as event
@@ -233,7 +233,7 @@ accepted : (s : Side) (p i : ℕ) (at : Side → ℕ) (fl : Side → List ItemVa
 accepted s p i at fl links c e = grind (arith, is_accepted, accepts_at, link_at, placed, takes_all)
 
 module _ (Holds : LinkState → WorldState → Type 0) (first : ℕ) (gives : Algorithms) (old : WorldState) (b : IsBundle Holds old)
-    (m : Meets Holds first gives old) where
+    (m : MeetsBy (LateRounds gives) 1 Holds Nowhere first gives old) where
   -- the healthy cable of a port that is up
   carrier : (n : ℕ) (s : Side) (agg : AggId) (octets : List ℕ) (r : Reply) (mid sent : WorldState) → DisabledAreUnsynchronized (half s old).state
       → LateRounds gives n old mid → (g : GetsPort s agg octets mid r sent) → EndsHealthyCable Holds s g.port old
@@ -294,6 +294,7 @@ module _ (Holds : LinkState → WorldState → Type 0) (first : ℕ) (gives : Al
       }
 
 pub each_frame_arrives_by_hosts : (Holds : LinkState → WorldState → Type 0) (first : ℕ) (gives : Algorithms)
-    → ((old : WorldState) → IsBundle Holds old → Meets Holds first gives old) → EachFrameArrivesByHosts Holds (first + 33) gives
-each_frame_arrives_by_hosts Holds first gives meets n number s agg octets r old mid sent new b quiet enough h none named takes step q =
-    arrives Holds first gives old b (meets old b) n number s agg octets r mid sent new quiet enough h none named takes step q
+    → LinksMeet Holds first gives → EachFrameArrivesByHosts Holds (first + 33) gives
+each_frame_arrives_by_hosts Holds first gives meet n number s agg octets r old mid sent new b quiet enough h none named takes step q =
+    arrives Holds first gives old b (alone LateRounds 1 Holds first gives meet old b) n number s agg octets r mid sent new quiet enough h none named
+    takes step q

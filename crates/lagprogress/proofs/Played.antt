@@ -212,9 +212,6 @@ one_more gives c n r old mid new h x = delivers_both gives old mid new h (record
   acts = record { replies = r ∷ []; acts = (new, x, refl) };
 })
 
-is_nothing : (r : Reply) → found_nothing r ≡ true → r ≡ reply.Empty
-is_nothing r h = grind (arith, nat_tests)
-
 -- no cable changed, and nothing is on those before this index
 pub record IsQuiet (n : ℕ) (old new : WorldState) : Type 0 where
   pub same : new.links ≡ old.links

@@ -1,7 +1,7 @@
 -- How the links of a bundle come up and agree in rounds of several ticks.
 use Rattle.lagprogress.proofs.Common.{arith, refl, subst, suc, zero, ℕ, ◌+◌, ◌≡◌, Lacpdu, Side, Algorithms, WorldState, port_at, BothAreActive}
-use Rattle.lagprogress.proofs.Common.{IsBundle, OneIsActive, IsBetweenTicks, SeveralRounds, most_ticks}
-use Rattle.lagprogress.proofs.Bundling.{IsLateKind, KnowsSince, LinksMeetBy, MeetsBy, Nowhere, alone, both_meet, names, one_meets, said}
+use Rattle.lagprogress.proofs.Common.{OneIsActive, IsBetweenTicks, SeveralRounds, most_ticks}
+use Rattle.lagprogress.proofs.Bundling.{IsLateKind, KnowsSince, LinksMeetBy, both_meet, names, one_meets, said}
 use Rattle.lagprogress.proofs.ComingUp.{RoundsUpTo}
 use Rattle.lagprogress.proofs.Knowing.{settled}
 use Rattle.lagprogress.proofs.Lasting.{active_at, ends_at, starts}
@@ -49,11 +49,3 @@ one_meets_several gives = record {
       (active_at l old (ends_at i l old h) a.0 a.1) enough);
   wake = (one_meets gives).wake;
 }
-
-pub both_in_several : (gives : Algorithms) (old : WorldState) → IsBundle BothAreActive old
-    → MeetsBy (SeveralRounds gives) most_ticks BothAreActive Nowhere 365 gives old
-both_in_several gives = alone SeveralRounds most_ticks BothAreActive 365 gives (both_meet_several gives)
-
-pub one_in_several : (gives : Algorithms) (old : WorldState) → IsBundle OneIsActive old
-    → MeetsBy (SeveralRounds gives) most_ticks OneIsActive Nowhere 671 gives old
-one_in_several gives = alone SeveralRounds most_ticks OneIsActive 671 gives (one_meets_several gives)
