@@ -8,7 +8,7 @@ use Rattle.lagprogress.proofs.Common.{history_at, port_at, towards, end_is, Host
 use Rattle.lagprogress.proofs.Common.{AtPort, waits_for_room, LeavesPorts, RoundsBeside, AllHeard, BothAreActive, EachLinkAgrees, EachLinkComesUp}
 use Rattle.lagprogress.proofs.Common.{EndsHealthyCable, EndsOfEachKnow, EnoughLinks, IsBundle, OneIsActive, SystemsDiffer, Clearing, IsBetweenTicks}
 use Rattle.lagprogress.proofs.Common.{PlayedRounds, LateRounds, OldArrive, Distributes, AtEnd, IsHealthyAt, Playing, SeveralBeside, TicksAmong}
-use Rattle.lagprogress.proofs.Common.{most_ticks, IsSteady}
+use Rattle.lagprogress.proofs.Common.{most_ticks, IsSteady, Machines, receive_rows, RunsToRest, count_down}
 use Rattle.lagprogress.proofs.LateHearing.{counts_of, kept_of}
 use Rattle.lagprogress.proofs.ComingUp.{AreSynced, agrees_now, distributes, climbed_end, climbs, RoundsUpTo, BesideUpTo, rounds_once, stands_on}
 use Rattle.lagprogress.proofs.ComingUp.{keeps_agreeing, TickedRound, CableStands, Going, agreed_synced, slack_of, rounds_beside, AgreesIn}
@@ -66,14 +66,14 @@ is_chosen at w c s j hyp1 hyp2 hyp3 hyp4 hyp5 e = grind (arith, nat_tests, never
 
 -- ports whose links are down
 
-pub down_keeps : (t : ℕ) → RoundKeeps (Down t)
+down_keeps : (t : ℕ) → RoundKeeps (Down t)
 down_keeps t = record {
   settles = down_settles t;
   sends = λ n p a e. a e;
   takes = λ n v p q h a. down_takes t n v p q h a;
 }
 
-pub down_first : (s : SystemState) → IsSound s → AllByRecursion (λ (x : SystemPort). IsTimed x.port) s.system_ports → EnoughLinks s
+down_first : (s : SystemState) → IsSound s → AllByRecursion (λ (x : SystemPort). IsTimed x.port) s.system_ports → EnoughLinks s
     → OfEach (Down 20) s.system_ports
 down_first s h timed enough = all_by_place (λ x. Down 20 x.number x.port) s.system_ports
     (λ k x there e. (
@@ -82,18 +82,21 @@ down_first s h timed enough = all_by_place (λ x. Down 20 x.number x.port) s.sys
           (all-get (λ (y : SystemPort). IsTimed y.port) s.system_ports k x there timed) chosen).1,
     ))
 
--- what events and ticks keep of them, rounds do, by the ticks that were
+-- What events and ticks keep of ports, rounds do, by the ticks that were.
 
 turns_of : (s : Side) (n : ℕ) (es : List HostEvent) → TicksAmong IsBetweenTicks n One 0 0 es → TicksAmong IsBetweenTicks n s 0 0 es
 turns_of One n es h = h
 turns_of Two n es h = turned IsBetweenTicks n es 0 0 h
 
-abbrev Sinks : Side → ℕ → WorldState → Type 0
-Sinks s n j = (ticks : ℕ) × (n ≤ ticks) × EachAt (Down (20 - ticks)) s j
+abbrev Sinks : (ℕ → ℕ → Machines → Type 0) → Side → ℕ → WorldState → Type 0
+Sinks D s n j = (ticks : ℕ) × (n ≤ ticks) × EachAt (D (20 - ticks)) s j
 
-pub down_rounds : (most : ℕ) (gives : Algorithms) (n : ℕ) (old new : WorldState) (s : Side) → RoundsUpTo IsBetweenTicks most gives n old new
-    → EachAt (Down 20) s old → Sinks s n new
-down_rounds most gives n old new s h a = rounds_on IsBetweenTicks most gives (Sinks s) old (0, omega arith, a) sinks n new h
+pub sinks_in : (D : ℕ → ℕ → Machines → Type 0) → ((t : ℕ) → RoundKeeps (D t))
+    → ((t n : ℕ) (p q : Machines) → RunsToRest receive_rows (count_down p) q → D t n p → D (t - 1) n q) → (most : ℕ) (gives : Algorithms)
+    (s : Side) (old new : WorldState) → RoundsUpTo IsBetweenTicks most gives 20 old new → EachAt (D 20) s old → EachAt (D 0) s new
+sinks_in D keeps ticked most gives s old new h a =
+    let r = rounds_on IsBetweenTicks most gives (Sinks D s) old (0, omega arith, a) sinks 20 new h in
+    let l = r.1 in subst (λ t. EachAt (D t) s new) (omega (arith, l)) r.2
   where
     later : (a b : ℕ) → 20 - a - b ≡ 20 - (a + b)
     later a b = omega arith
@@ -101,16 +104,15 @@ down_rounds most gives n old new s h a = rounds_on IsBetweenTicks most gives (Si
     next : (a b : ℕ) → a - b - 1 ≡ a - suc b
     next a b = omega arith
 
-    sinks : (m : ℕ) (i j : WorldState) → TickedRound IsBetweenTicks most gives i j → Sinks s m i → Sinks s (m + 1) j
+    sinks : (m : ℕ) (i j : WorldState) → TickedRound IsBetweenTicks most gives i j → Sinks D s m i → Sinks D s (m + 1) j
     sinks m i j (k, some, less, q) (ticks, few, b) = let t : ℕ = 20 - ticks in (
       ticks + k,
       omega (arith, few, some),
-      subst (λ x. EachAt (Down x) s j) (later ticks k) (holds_turns IsBetweenTicks gives k s (λ x y z. EachAt (Down (t - x)) s z)
-          (λ x y l. each_between (Down (t - x)) (down_keeps (t - x)) s gives)
-          (λ x y l. tick_makes (Down (t - x)) (Down (t - suc x)) (down_keeps (t - suc x)).settles
-          (λ c p q run d. subst (λ z. Down z c q) (next t x) (down_ticks (t - x) c p q run d)) s gives)
-          (λ x y l. tick_beside (Down (t - x)) s gives) q.events q.replies i j 0 0 (turns_of s k q.events q.turns) q.acts
-          (subst (λ z. EachAt (Down z) s i) (sym (no_less t)) b)),
+      subst (λ x. EachAt (D x) s j) (later ticks k) (holds_turns IsBetweenTicks gives k s (λ x y z. EachAt (D (t - x)) s z)
+          (λ x y l. each_between (D (t - x)) (keeps (t - x)) s gives)
+          (λ x y l. tick_makes (D (t - x)) (D (t - suc x)) (keeps (t - suc x)).settles
+          (λ n p r run d. subst (λ z. D z n r) (next t x) (ticked (t - x) n p r run d)) s gives) (λ x y l. tick_beside (D (t - x)) s gives)
+          q.events q.replies i j 0 0 (turns_of s k q.events q.turns) q.acts (subst (λ z. EachAt (D z) s i) (sym (no_less t)) b)),
     )
 
 -- a bundle
@@ -317,10 +319,8 @@ module _ (R : ℕ → WorldState → WorldState → Type 0) (ticks : ℕ) (Holds
         both = before_on gives mid top middle (passed m.kind 20 mid top more) s
 
         down : EachAt (Down 0) s top
-        down = let r = down_rounds ticks gives 20 mid top s (m.kind.are 20 mid top more)
-            (down_first (half s mid).state (middle s).0 (middle s).1 (links_of s)) in
-            let l = r.1 in
-            subst (λ t. EachAt (Down t) s top) (omega (arith, l)) r.2
+        down = sinks_in Down down_keeps down_ticks ticks gives s mid top (m.kind.are 20 mid top more)
+            (down_first (half s mid).state (middle s).0 (middle s).1 (links_of s))
 
         each : (k : ℕ) (y : SystemPort) → slice_get (half s top).state.system_ports k ≡ Some y → Ripe 0 y.port
         each k y there =
