@@ -2,13 +2,13 @@
 use Rattle.lagprogress.proofs.Common.{Bool, IsSome, List, None, Option, Some, [], ap, arith, inl, inr, is_some, length, map, refl, slice_get, subst}
 use Rattle.lagprogress.proofs.Common.{suc, sym, true, zero, ℕ, ◌+◌, ◌-◌, ◌==◌, ◌∙◌, ◌∷◌, ◌≡◌, ◌≢◌, ◌≤◌, ◌⊎◌, cases_Bool, nat_tests, same_Some}
 use Rattle.lagprogress.proofs.Common.{AllByRecursion, AggId, Key, Choice, Standby, is_selected, itself, Lacpdu, IsCabling, One, Side, Two, end_at}
-use Rattle.lagprogress.proofs.Common.{peer, ports_that_chose, has_chosen, SystemPort, MuxIsSettled, occupied, IsSound, SystemState, views, all-get}
-use Rattle.lagprogress.proofs.Common.{found_place, Same, agreement_at, Algorithms, link_ends, world_setup, IsWorldSound, LinkState, WorldState, half}
-use Rattle.lagprogress.proofs.Common.{history_at, port_at, towards, end_is, HostEvent, ports_with, IsTimed, count, count_more_of, counted, OfEach}
-use Rattle.lagprogress.proofs.Common.{AtPort, waits_for_room, LeavesPorts, RoundsBeside, AllHeard, BothAreActive, EachLinkAgrees, EachLinkComesUp}
-use Rattle.lagprogress.proofs.Common.{EndsHealthyCable, EndsOfEachKnow, EnoughLinks, IsBundle, OneIsActive, SystemsDiffer, Clearing, IsBetweenTicks}
-use Rattle.lagprogress.proofs.Common.{PlayedRounds, LateRounds, OldArrive, Distributes, AtEnd, IsHealthyAt, Playing, SeveralBeside, TicksAmong}
-use Rattle.lagprogress.proofs.Common.{most_ticks, IsSteady, Machines, receive_rows, RunsToRest, count_down}
+use Rattle.lagprogress.proofs.Common.{peer, Machines, receive_rows, RunsToRest, count_down, ports_that_chose, has_chosen, SystemPort, MuxIsSettled}
+use Rattle.lagprogress.proofs.Common.{occupied, IsSound, SystemState, views, all-get, found_place, Same, agreement_at, Algorithms, link_ends}
+use Rattle.lagprogress.proofs.Common.{world_setup, IsWorldSound, LinkState, WorldState, half, history_at, port_at, towards, end_is, HostEvent}
+use Rattle.lagprogress.proofs.Common.{ports_with, IsTimed, count, count_more_of, counted, OfEach, AtPort, waits_for_room, LeavesPorts, RoundsBeside}
+use Rattle.lagprogress.proofs.Common.{AllHeard, BothAreActive, EachLinkAgrees, EachLinkComesUp, EndsHealthyCable, EndsOfEachKnow, EnoughLinks}
+use Rattle.lagprogress.proofs.Common.{IsBundle, OneIsActive, SystemsDiffer, Clearing, IsBetweenTicks, PlayedRounds, LateRounds, OldArrive}
+use Rattle.lagprogress.proofs.Common.{Distributes, AtEnd, IsHealthyAt, Playing, SeveralBeside, TicksAmong, most_ticks, IsSteady}
 use Rattle.lagprogress.proofs.LateHearing.{counts_of, kept_of}
 use Rattle.lagprogress.proofs.ComingUp.{AreSynced, agrees_now, distributes, climbed_end, climbs, RoundsUpTo, BesideUpTo, rounds_once, stands_on}
 use Rattle.lagprogress.proofs.ComingUp.{keeps_agreeing, TickedRound, CableStands, Going, agreed_synced, slack_of, rounds_beside, AgreesIn}

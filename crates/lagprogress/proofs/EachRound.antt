@@ -111,18 +111,6 @@ holds_once gives s A kept own other old new h m = holds_turns IsBetweenTicks giv
     second a zero l = other a l.0
     second a (suc b) l = absurd (let k = l.1 in omega (arith, k))
 
--- a round makes Q of P, if the tick does, and the rest keeps both
-pub host_each : {E : Clearing} (P Q : ℕ → Machines → Type 0) → RoundKeeps P → RoundKeeps Q
-    → ((n : ℕ) (p q : Machines) → RunsToRest receive_rows (count_down p) q → P n p → Q n q)
-    → (s : Side) (gives : Algorithms) (old new : WorldState) → IsPlayed E gives old new → EachAt P s old → EachAt Q s new
-host_each P Q kp kq ticked s gives old new h a = holds_once gives s (λ x y. EachAt (Pick P Q x) s) kept
-    (λ y l. tick_makes P Q kq.settles ticked s gives)
-    (λ x l. tick_beside (Pick P Q x) s gives) old new h a
-  where
-    kept : (x y : ℕ) → Within 1 x y → KeptBetween gives (EachAt (Pick P Q x) s)
-    kept zero y l = each_between P kp s gives
-    kept (suc x) y l = each_between Q kq s gives
-
 -- the ports that the cables join
 
 pub joins_kept : (at : Side → ℕ) (gives : Algorithms) (links : List LinkState) → KeptBeside at gives (λ j. map link_ends j.links ≡ map link_ends links)

@@ -10,7 +10,7 @@ use Rattle.lagprogress.proofs.Common.{SometimePlayed, TakesFrame, EndsHealthyCab
 use Rattle.lagprogress.proofs.Common.{TickOnce, LateRounds, OldArrive, NothingInFlight, OfPort}
 use Rattle.lagprogress.proofs.ArrivingLemmas.{deliver_hands_up, is_data, offer_gets_port}
 use Rattle.lagprogress.proofs.Climbing.{PartnerInSync, distributes_now, partner_along, ticks_partner}
-use Rattle.lagprogress.proofs.EachRound.{same_index, joins_kept, played_join, played_on, played_steady, EachAt, RoundKeeps, host_each, few_done}
+use Rattle.lagprogress.proofs.EachRound.{same_index, joins_kept, played_join, played_steady, RoundKeeps, few_done, each_on, played_pass}
 use Rattle.lagprogress.proofs.EndFacts.{activity, Along}
 use Rattle.lagprogress.proofs.Linked.{Fits, Link, end_here, EndIs, IsGood, place_kept, push_there}
 use Rattle.lagprogress.proofs.Quieting.{leaves}
@@ -240,9 +240,9 @@ module _ (Holds : LinkState → WorldState → Type 0) (first : ℕ) (gives : Al
   carrier n s agg octets r mid sent quiet h g =
       let st = (half s mid).state in
       let now = played_steady OldArrive gives n old mid b.steady h in
-      let up = distributes_up st agg g.port (now s).0 (played_on OldArrive gives (λ m j. EachAt LapsesAt s j) old
-      (all_by_place (λ x. Lapses x.port) (half s old).state.system_ports quiet) (λ m i j q b. host_each LapsesAt LapsesAt lapse_round lapse_round
-      (λ k p r run c. runs_keep Lapses receive_rows receive_lapses (count_down p) r run c) s gives i j q b) n mid h) g.distributes in
+      let up = distributes_up st agg g.port (now s).0 (each_on gives old mid (played_pass OldArrive gives n old mid h) LapsesAt lapse_round
+      (λ k p r run c. runs_keep Lapses receive_rows receive_lapses (count_down p) r run c) s
+      (all_by_place (λ x. Lapses x.port) (half s old).state.system_ports quiet)) g.distributes in
       subst (λ p. EndsHealthyCable Holds s p old) up.3
       (still_heard Holds s old mid (played_before OldArrive gives n old mid b.steady h s) b.heard up.0 up.1 up.2 up.4)
 

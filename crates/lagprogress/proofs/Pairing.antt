@@ -8,8 +8,8 @@ use Rattle.lagprogress.proofs.Common.{port_numbers, processes_or_stays, rests, a
 use Rattle.lagprogress.proofs.Common.{LinkState, WorldState, half, port_at, towards, HostEvent, Plays, IsTimed, OfEach, asked_each, no, AtPort}
 use Rattle.lagprogress.proofs.Common.{at_number, AllHeard, EndsHealthyCable, SelectedPairsAgree, SelectedPairsComeUp, IsBetweenTicks, StepReplies}
 use Rattle.lagprogress.proofs.Common.{IsLateRound, LateRounds, OldArrive, AtEnd, IsHealthyAt, OfPort, IsSteady}
-use Rattle.lagprogress.proofs.EachRound.{played_on, EachAt, tick_keeps, played_split, played_steady, RoundKeeps, played_pass, same_on}
-use Rattle.lagprogress.proofs.EachRound.{each_between, holds_once}
+use Rattle.lagprogress.proofs.EachRound.{played_on, EachAt, tick_keeps, played_split, played_steady, RoundKeeps, played_pass, same_on, each_between}
+use Rattle.lagprogress.proofs.EachRound.{holds_once}
 use Rattle.lagprogress.proofs.LateHearing.{counts_of, kept_of}
 use Rattle.lagprogress.proofs.Quieting.{as_beside, IsCalm, calm_steady, calm_keeps, quiet_ports, asked_half, came_half, calm_between, leaves}
 use Rattle.lagprogress.proofs.Knowing.{Fresh, fits_fresh, fits_before, knows_late, stays_met, AtIt, Met}
