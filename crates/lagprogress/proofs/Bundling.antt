@@ -98,21 +98,16 @@ sinks_in D keeps ticked most gives s old new h a =
     let r = rounds_on IsBetweenTicks most gives (Sinks D s) old (0, omega arith, a) sinks 20 new h in
     let l = r.1 in subst (λ t. EachAt (D t) s new) (omega (arith, l)) r.2
   where
-    later : (a b : ℕ) → 20 - a - b ≡ 20 - (a + b)
-    later a b = omega arith
-
-    next : (a b : ℕ) → a - b - 1 ≡ a - suc b
-    next a b = omega arith
-
     sinks : (m : ℕ) (i j : WorldState) → TickedRound IsBetweenTicks most gives i j → Sinks D s m i → Sinks D s (m + 1) j
-    sinks m i j (k, some, less, q) (ticks, few, b) = let t : ℕ = 20 - ticks in (
-      ticks + k,
+    sinks m i j (k, some, less, q) (t, few, b) = (
+      t + k,
       omega (arith, few, some),
-      subst (λ x. EachAt (D x) s j) (later ticks k) (holds_turns IsBetweenTicks gives k s (λ x y z. EachAt (D (t - x)) s z)
-          (λ x y l. each_between (D (t - x)) (keeps (t - x)) s gives)
-          (λ x y l. tick_makes (D (t - x)) (D (t - suc x)) (keeps (t - suc x)).settles
-          (λ n p r run d. subst (λ z. D z n r) (next t x) (ticked (t - x) n p r run d)) s gives) (λ x y l. tick_beside (D (t - x)) s gives)
-          q.events q.replies i j 0 0 (turns_of s k q.events q.turns) q.acts (subst (λ z. EachAt (D z) s i) (sym (no_less t)) b)),
+      subst (λ x. EachAt (D x) s j) (omega arith) (holds_turns IsBetweenTicks gives k s (λ x y z. EachAt (D (20 - t - x)) s z)
+          (λ x y l. each_between (D (20 - t - x)) (keeps (20 - t - x)) s gives)
+          (λ x y l. tick_makes (D (20 - t - x)) (D (20 - t - suc x)) (keeps (20 - t - suc x)).settles
+          (λ n p r run d. subst (λ z. D z n r) (omega arith) (ticked (20 - t - x) n p r run d)) s gives)
+          (λ x y l. tick_beside (D (20 - t - x)) s gives) q.events q.replies i j 0 0 (turns_of s k q.events q.turns) q.acts
+          (subst (λ z. EachAt (D z) s i) (sym (no_less (20 - t))) b)),
     )
 
 -- a bundle

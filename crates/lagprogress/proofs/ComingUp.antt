@@ -270,15 +270,12 @@ module _ (at : Side → ℕ) (w : Side → Lacpdu) (counts : Side → ℕ) (kept
       Climbs n j = (t : ℕ) × (n ≤ t) × Going 1 12 n j × AtIt at w s (Rising (20 - t)) j
 
       climbs_on : (n : ℕ) (old new : WorldState) → Round old new → Climbs n old → Climbs (n + 1) new
-      climbs_on n old new r (t, l, g, rising) = let some = r.1 in (
-        t + r.0,
+      climbs_on n old new (k, some, less, h) (t, l, g, rising) = (
+        t + k,
         omega (arith, l, some),
-        goes_on 1 old new (omega arith) r g,
-        subst (λ i. AtIt at w s (Rising i) new) (later t r.0) (rises_in (20 - t) old new g r rising),
+        goes_on 1 old new (omega arith) (k, some, less, h) g,
+        subst (λ i. AtIt at w s (Rising i) new) (omega arith) (rises_in (20 - t) old new g (k, some, less, h) rising),
       )
-        where
-          later : (a b : ℕ) → 20 - a - b ≡ 20 - (a + b)
-          later a b = omega arith
 
       pub climbs : (mid top : WorldState) → Going 1 12 0 mid → AtIt at w s (λ p. is_selected p.choice ≡ true) mid
           → BesideUpTo at ticks gives 20 mid top → Going 1 0 0 top × AtIt at w s (Rising 0) top
