@@ -11,7 +11,6 @@ use Rattle.lagprogress.specs.Played.{most_cables}
 use Rattle.std.proofs.lemmas.List.{length-map, take_more}
 use Rattle.lagscript.specs.declared.event.Event.TheVariants as event
 use Rattle.lagworld.specs.declared.fault.WorldFault.TheVariants.{NoCable}
-use Rattle.lagworld.specs.declared.reply.Reply.TheVariants as reply
 
 -- of an answer
 pub if_err : {T E : Type 0} (P Q : E → Type 0) (r : Result T E) → ((x : E) → P x → Q x) → IfErr r P → IfErr r Q
