@@ -1,30 +1,20 @@
 -- How a data frame gets a port, and how it is handed up at the other end of its cable.
-use Rattle.lagprogress.proofs.Common.{Err, List, None, Ok, Result, Some, ap, arith, refl, slice_get, subst, true, ℕ, ◌∙◌, ◌≡◌, and_parts, nat_tests}
-use Rattle.lagprogress.proofs.Common.{same_Some, AggId, One, Side, Two, value_of, Assignment, On, DistFault, Assigns, MaySend, is_among, SystemFault}
-use Rattle.lagprogress.proofs.Common.{Received, Up, SystemPort, Data_frame, IsFrame, Offer, ReceivesAt, Step, MayBeOffered, RefusesOffer}
-use Rattle.lagprogress.proofs.Common.{assignment_of_frame, collecting, distributing, number_of_conversation, IsSound, SystemState, port_index}
-use Rattle.lagprogress.proofs.Common.{effect_one, Reply, AfterOffer, AfterReceive, Algorithms, WorldReceives, offered_item, with_frame_counted}
-use Rattle.lagprogress.proofs.Common.{with_link_at, HalfState, ItemValue, LinkState, WorldState, half, port_at, with_half, with_towards, half_there}
-use Rattle.lagprogress.proofs.Common.{DeliverHandsUp, GetsPort, IsHandedUp, OfferGetsPort, TakesFrame, held_on, EndIsUp}
+use Rattle.lagprogress.proofs.Common.{Err, List, Ok, Result, Some, ap, arith, refl, slice_get, subst, true, ℕ, ◌∙◌, ◌≡◌, and_parts, nat_tests}
+use Rattle.lagprogress.proofs.Common.{same_Some, AggId, One, Side, Two, value_of, Assignment, On, MaySend, is_among, SystemFault, Received, Up}
+use Rattle.lagprogress.proofs.Common.{SystemPort, Data_frame, IsFrame, Offer, ReceivesAt, Step, MayBeOffered, assignment_of_frame, collecting}
+use Rattle.lagprogress.proofs.Common.{distributing, number_of_conversation, IsSound, SystemState, port_index, effect_one, Reply, AfterOffer}
+use Rattle.lagprogress.proofs.Common.{AfterReceive, Algorithms, WorldReceives, offered_item, with_frame_counted, with_link_at, HalfState, ItemValue}
+use Rattle.lagprogress.proofs.Common.{LinkState, WorldState, half, port_at, with_half, with_towards, half_there, DeliverHandsUp, GetsPort, IsHandedUp}
+use Rattle.lagprogress.proofs.Common.{OfferGetsPort, TakesFrame, EndIsUp}
 use Rattle.lagprogress.proofs.Passing.{first_delivered}
 use Rattle.lagsystem.specs.declared.drive.Reply.TheVariants as answer
 use Rattle.lagsystem.proofs.Conversing.{assigned_may}
-use Rattle.lagsystem.proofs.OfferLemmas.{refused_by}
 use Rattle.lagprogress.proofs.OneCable.{collected_links, collected_states, with_half_states}
 
 -- the answer to an offer
 
 pub is_data : (octets : List ℕ) → MayBeOffered octets → IsFrame octets Data_frame
 is_data octets h = grind (arith, nat_tests, and_parts)
-
--- the distributor has a port for a conversation that is not held
-assigns : (gives : ℕ → ℕ → ℕ → Type 0) (conv p : ℕ) (ports : List ℕ) (a : Assignment) (cause : DistFault) → is_among ports p ≡ true
-    → held_on a ≡ None → Assigns gives conv ports a (Err cause) → ⊥
-assigns gives conv p ports a cause e free h = grind (arith, nat_tests)
-
-not_refused : (gives : ℕ → ℕ → ℕ → Type 0) (agg : AggId) (octets : List ℕ) (s : SystemState) (fault : SystemFault) → TakesFrame agg octets s
-    → RefusesOffer gives s agg octets fault → ⊥
-not_refused gives agg octets s fault t h = grind (arith, nat_tests, refused_by, assigns)
 
 -- the port that it gives distributes
 given : (ports : List ℕ) (a : Assignment) (port : ℕ) → ((p : ℕ) → a ≡ On p → is_among ports p ≡ true) → MaySend ports a port

@@ -24,7 +24,7 @@ use Rattle.lagprogress.proofs.EachRound.{clears_less, Pick, each_between, holds_
 use Rattle.lagprogress.proofs.OneCable.{Comes, Sends, came_off, ticks}
 use Rattle.lagprogress.proofs.HostRound.{KeptBetween, MadeByTick, both_made}
 use Rattle.lagprogress.proofs.Lasting.{Alike, all_by_place, played_alike, played_before, ends_at, old_port, still_aggregators, still_links}
-use Rattle.lagprogress.proofs.Bundling.{MeetsBy, agree_of, distribute_of, never_stands, one_meets}
+use Rattle.lagprogress.proofs.Bundling.{MeetsBy, agree_of, distribute_of, never_stands, once_kind, one_meets}
 use Rattle.lagprogress.proofs.Climbing.{Ripe, Rising, rising_first, rising_rows, state_not}
 use Rattle.lagprogress.proofs.LateLoops.{Emptied, rounds_emptied}
 use Rattle.lagprogress.proofs.Freeing.{freed_by}
@@ -482,29 +482,30 @@ module _ (gives : Algorithms) (old : WorldState) (b : IsBundleBesideCutOffs old)
       (cut_off_is_defaulted_by_hosts gives 931 k s z x.0 old mid b.steady there up cut (omega arith) h x.1)
       (WereDown (peer s) old) (subst (λ n. Severed 1 s n (WereDown (peer s) old) mid) (sym number) (deaf_since gives 931 k s z old mid b.steady there up cut (omega arith) h).1) more y now x.2
 
-  beside : MeetsBy Emptied OneIsActive (λ s n. IsCutOff s n old) 931 gives old
+  beside : MeetsBy (PlayedRounds Emptied gives) 1 OneIsActive (λ s n. IsCutOff s n old) 931 gives old
   beside = record {
     steady = b.steady;
     cabling = b.cabling;
     differ = b.differ;
     heard = b.heard;
-    late = λ events i j clears. clears.0;
-    finds = λ mid h s. enough_finds s mid (played_steady OldArrive gives 931 old mid b.steady h)
-        (still_aggregators s old mid (played_before OldArrive gives 931 old mid b.steady h s) (b.aggregators s));
+    kind = once_kind Emptied (λ events i j clears. clears.0) gives;
+    finds = λ mid h s. enough_finds s mid (played_steady Emptied gives 931 old mid b.steady h)
+        (still_aggregators s old mid (played_before Emptied gives 931 old mid b.steady h s) (b.aggregators s));
     links = b.links;
     never = never;
     idle = λ mid top h more s k z y there up cut now. idle mid top (are_hosts 931 old mid h) (are_hosts 20 mid top more) s k z y there up cut now;
-    meets = λ i l h a mid r. (one_meets gives).meet 931 old mid b.cabling b.steady i l h a (omega arith) r;
+    meets = λ i l h a mid r. (one_meets gives).meet 931 old mid b.cabling b.steady i l h a (omega arith)
+        (clears_less Emptied OldArrive (λ events i j clears. clears.0) gives 931 old mid r);
     wakes = (one_meets gives).wake old;
   }
 
 pub each_link_comes_up_beside_by_hosts : (gives : Algorithms) → EachLinkComesUpBesideCutOffs HostRounds gives
-each_link_comes_up_beside_by_hosts gives n i l old new b y enough h = distribute_of Emptied OneIsActive (λ s n. IsCutOff s n old) 931 gives old
-    (beside gives old b) i l y n new (omega (arith, enough)) (rounds_emptied gives n old new b.cabling h)
+each_link_comes_up_beside_by_hosts gives n i l old new b y enough h = distribute_of (PlayedRounds Emptied gives) 1 OneIsActive
+    (λ s n. IsCutOff s n old) 931 gives old (beside gives old b) i l y n 0 new new enough (rounds_emptied gives n old new b.cabling h) refl
 
 pub each_link_agrees_beside_by_hosts : (gives : Algorithms) → EachLinkAgreesBesideCutOffs HostRounds gives
-each_link_agrees_beside_by_hosts gives n i l old new sound b y enough h = agree_of Emptied OneIsActive (λ s n. IsCutOff s n old) 931 gives old
-    (beside gives old b) sound i l y n new (omega (arith, enough)) (rounds_emptied gives n old new b.cabling h)
+each_link_agrees_beside_by_hosts gives n i l old new sound b y enough h = agree_of (PlayedRounds Emptied gives) 1 OneIsActive
+    (λ s n. IsCutOff s n old) 931 gives old (beside gives old b) i l y n 0 new new enough (rounds_emptied gives n old new b.cabling h) refl sound
 
 pub none_is_held_beside_by_hosts : (gives : Algorithms) → NoneIsHeldBesideCutOffsByHosts gives
 none_is_held_beside_by_hosts gives n m i l old mid new s g k b y enough h late more left =

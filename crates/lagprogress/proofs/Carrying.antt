@@ -3,7 +3,7 @@ use Rattle.lagprogress.proofs.Common.{Bool, Err, List, None, Ok, Option, Result,
 use Rattle.lagprogress.proofs.Common.{refl, subst, sym, true, ℕ, ◌&&◌, ◌==◌, ◌||◌, ◌∙◌, ◌∷◌, ◌≡◌, ◌⊎◌, and_parts, nat_tests, none-some}
 use Rattle.lagprogress.proofs.Common.{slice_get_cases, slice_get_within, AggId, Choice, State, StateBits, bits_of, with_synchronization}
 use Rattle.lagprogress.proofs.Common.{encode_then_decode, Side, peer, Setup, ReceiveState, PortDisabled, Machines, partner_synchronized, receive_rows}
-use Rattle.lagprogress.proofs.Common.{same_receive_state, start_receive, Starts, before_start, count_down, Assignment, Free, On, DistFault, is_among}
+use Rattle.lagprogress.proofs.Common.{same_receive_state, start_receive, Starts, before_start, count_down, Assignment, Free, On, is_among}
 use Rattle.lagprogress.proofs.Common.{leave_result, Table, assignment_of, next_identifier, Config, HostCall, HostReply, Answer, SystemFault}
 use Rattle.lagprogress.proofs.Common.{SystemPort, OffersIf, Call, Configure, Force, Move_conversation, Offer, Receive, Restart, Set_link, Step, Tick}
 use Rattle.lagprogress.proofs.Common.{Transmit, changed_party, choice_with_link, call_of, IsFirst, configured_numbers, HostPromise, none_enabled}
@@ -14,6 +14,7 @@ use Rattle.lagprogress.proofs.Common.{half, HostEvent, HostRuns, HostSteps, Play
 use Rattle.lagprogress.proofs.Common.{no, forces_port, AtPort, at_number, calls_each, same_place, settling_leaves, Turns, asks_turn, comes_turn}
 use Rattle.lagprogress.proofs.Common.{gives_turn, same_turns, settles_turn, turns_through, RowsKeep, fires_keep, runs_keep, setting_each}
 use Rattle.lagprogress.proofs.Common.{EachHostReachedHasUnsynchronized, EachHostReachedHasCarriersUp, HasPortUp, carrier_of, held_on}
+use Rattle.distributor.specs.declared.fault.DistFault.{DistFault}
 use Rattle.distributor.proofs.TableLemmas.{first_free}
 use Rattle.lagbeside.specs.Heartbeat.{takes_down}
 use Rattle.lagsystem.specs.declared.drive.HostCall.TheVariants as host

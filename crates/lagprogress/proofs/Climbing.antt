@@ -1,12 +1,12 @@
 -- How the mux machine of a SELECTED port climbs, and what a round keeps of what holds of one end.
-use Rattle.lagprogress.proofs.Common.{Bool, List, Some, [], ap, arith, false, if◌then◌else◌, inl, inr, not, refl, slice_get, subst, sym, true, ℕ}
-use Rattle.lagprogress.proofs.Common.{◌&&◌, ◌-◌, ◌∙◌, ◌∷◌, ◌≡◌, ◌≤◌, ◌⊎◌, and_parts, nat_tests, AllByRecursion, AggId, Choice, Standby, Unselected}
+use Rattle.lagprogress.proofs.Common.{Bool, List, Some, [], ap, arith, false, if◌then◌else◌, inl, inr, refl, slice_get, subst, sym, true, ℕ, ◌&&◌}
+use Rattle.lagprogress.proofs.Common.{◌-◌, ◌∙◌, ◌∷◌, ◌≡◌, ◌≤◌, ◌⊎◌, and_parts, nat_tests, AllByRecursion, AggId, Choice, Standby, Unselected}
 use Rattle.lagprogress.proofs.Common.{is_selected, is_unselected, same_party, party_itself, Lacpdu, party_of, MuxState, Attached}
-use Rattle.lagprogress.proofs.Common.{CollectingDistributing, Detached, Waiting, ReceiveState, Machines, is_synchronized, mux_rows}
-use Rattle.lagprogress.proofs.Common.{partner_synchronized, same_mux_state, default_partner, lacpdu_rows, receive_rows, same_receive_state, AtRest}
-use Rattle.lagprogress.proofs.Common.{RunsToRest, count_down, has_chosen, has_waited, is_detached_or_waiting, SystemPort, ProcessesLacpdu, IsSound}
-use Rattle.lagprogress.proofs.Common.{SystemState, stage_of, HasRecorded, IsTimed, KeptBySettling, EnabledKeep, no, not_down, times_keep, Known}
-use Rattle.lagprogress.proofs.Common.{counts, rests_still, mux_leaves, periodic_leaves, fires_keep, runs_keep}
+use Rattle.lagprogress.proofs.Common.{CollectingDistributing, Waiting, ReceiveState, Machines, is_synchronized, mux_rows, partner_synchronized}
+use Rattle.lagprogress.proofs.Common.{same_mux_state, default_partner, lacpdu_rows, receive_rows, same_receive_state, AtRest, RunsToRest, count_down}
+use Rattle.lagprogress.proofs.Common.{has_chosen, has_waited, is_detached_or_waiting, SystemPort, ProcessesLacpdu, IsSound, SystemState, stage_of}
+use Rattle.lagprogress.proofs.Common.{HasRecorded, IsTimed, KeptBySettling, EnabledKeep, no, not_down, times_keep, Known, counts, rests_still}
+use Rattle.lagprogress.proofs.Common.{mux_leaves, periodic_leaves, fires_keep, runs_keep}
 use Rattle.lagprogress.proofs.EndFacts.{Along, IsEnd, SameActor, Synced, activity, not_attached, takes_sync, each_row}
 use Rattle.lagbeside.proofs.ReadyMembers.{Fine, no_member_waits}
 
@@ -72,13 +72,6 @@ rising_along v u c d t there known = record {
 pub ticks_rising : (d : ℕ) (v u : Lacpdu) (c t : ℕ) (p q : Machines) → 1 ≤ c - 1 → RunsToRest receive_rows (count_down p) q
     → IsEnd d v u c p → Rising t p → Rising (t - 1) q
 ticks_rising d v u c t p q l h a y = grind (arith, nat_tests, ticks_still d v u c p q l a h)
-
-climbs : (m : MuxState) (sel unsel ready : Bool) (n : ℕ) → unsel ≡ false → (same_mux_state Detached m && not unsel) ≡ false → n ≤ 20
-    → (is_synchronized m ≡ true) ⊎ ((m ≡ Waiting) × (n ≤ 20))
-climbs m sel unsel ready n e h l = grind (arith, nat_tests)
-
-not_unselected : (c : Choice) → is_selected c ≡ true → is_unselected c ≡ false
-not_unselected c h = grind (arith, nat_tests)
 
 -- a SELECTED port at rest
 pub rising_first : (p : Machines) → AtRest (mux_rows false) p → IsTimed p → is_selected p.choice ≡ true → Rising 20 p

@@ -4,28 +4,28 @@ use Rattle.lagprogress.proofs.Common.{sym, true, zero, ℕ, ◌+◌, ◌-◌, �
 use Rattle.lagprogress.proofs.Common.{group_of, individual, pair_of, same_group, group-itself, Lacpdu, party_of, One, Side, Two, peer}
 use Rattle.lagprogress.proofs.Common.{CollectingDistributing, Machines, is_synchronized, mux_rows, same_mux_state, SystemPort, MuxIsSettled, group_at}
 use Rattle.lagprogress.proofs.Common.{machines_of, all-get, Same, agreement_at, agreement_of, end_facts, is_stamp, same_groups, Algorithms, link_ends}
-use Rattle.lagprogress.proofs.Common.{ItemValue, LinkState, WorldState, half, history_at, port_at, IsTimed, no, times_keep, AtPort, periodic_leaves}
-use Rattle.lagprogress.proofs.Common.{Sounds, all_leave, LeavesPorts, Clearing, IsLateRound, LateRounds, OldArrive, Distributes, OfPort}
-use Rattle.lagprogress.proofs.Common.{SeveralBeside, most_ticks}
-use Rattle.lagprogress.proofs.EachRound.{joins_kept, joins_tick, played_split, among_on}
-use Rattle.lagprogress.proofs.Quieting.{all_beside, PlayedBeside, as_beside, AllBeside}
-use Rattle.lagprogress.proofs.Stamps.{Took-it, Present, Stamped, Took}
+use Rattle.lagprogress.proofs.Common.{ItemValue, LinkState, WorldState, half, history_at, HostEvent, IsTimed, no, times_keep, AtPort, periodic_leaves}
+use Rattle.lagprogress.proofs.Common.{Sounds, all_leave, LeavesPorts, IsBetweenTicks, PlayedAmong, OldArrive, Distributes, OfPort, IsPlayedTicks}
+use Rattle.lagprogress.proofs.Common.{most_ticks}
+use Rattle.lagprogress.proofs.EachRound.{joins_kept, joins_tick, Passes}
+use Rattle.lagprogress.proofs.Stamps.{Took-it, Present, Stamped}
 use Rattle.lagprogress.proofs.Climbing.{Rising, PartnerInSync, keeps_selected, ticks_still, distributes_now, partner_along, rising_along}
 use Rattle.lagprogress.proofs.Climbing.{rising_first, ticks_partner, ticks_rising, Ripe, climbed}
-use Rattle.lagprogress.proofs.Knowing.{Leaves, Met, GoingIn, stays_met, AtIt, beside, Early, able_in, awake_peer, goes_met, mode, MetIn}
-use Rattle.lagprogress.proofs.Knowing.{fits_in_round, fits_met, for_several, knows_in, settled, stays_met_in, wakes_met}
+use Rattle.lagprogress.proofs.Knowing.{Leaves, GoingIn, AtIt, beside, able_in, awake_peer, mode, fits_in_round, fits_met, knows_in, settled}
+use Rattle.lagprogress.proofs.Knowing.{stays_met_in, wakes_met}
 use Rattle.lagprogress.proofs.Claims.{IsNamed, Owes}
 use Rattle.lagprogress.proofs.EndFacts.{Along, IsEnd, Synced, activity, synced_mux, Learnt, wait_of}
 use Rattle.lagprogress.proofs.LateHearing.{Whoever, ticks_stamp, AheadIn, ticks_near, counts_of, flush, kept_of}
 use Rattle.lagprogress.proofs.LateFlow.{Past}
 use Rattle.lagprogress.proofs.Linked.{Flying, IsGood, Link, each_map, peer_twice, same_items, EndPort, at_end, end_here, end_with, both_at, of_end}
 use Rattle.lagprogress.proofs.OneRound.{Nothing, join}
-use Rattle.lagprogress.proofs.SeveralTicks.{keeps_ticks, no_less, once, TicksBeside, ticked_by, ticks_hold}
+use Rattle.lagprogress.proofs.SeveralTicks.{keeps_ticks, no_less, once, ticked_by, ticks_hold, holds_turns}
 use Rattle.lagprogress.proofs.Lasting.{raised}
 use Rattle.lagprogress.proofs.Telling.{Bears, SaysIt, Tells, tells_map}
 use Rattle.lagprogress.proofs.OneCable.{OnCable, cable}
 use Rattle.lagtypes.proofs.GroupLemmas.{groups_from_pairs}
 use Rattle.std.proofs.Math.Bool.{and_comm}
+use Rattle.lagprogress.proofs.SeveralMeeting.{several_beside}
 
 -- the ends agree
 
@@ -99,6 +99,57 @@ module _ (at : Side → ℕ) (w : Side → Lacpdu) (j : WorldState) (g : AreSync
       (subst (λ x. slice_get j.links x ≡ Some (cable at links.flying)) (only links.index links.flying links.links) links.links.there)
       ∙ ap Some (rw (a.distributes, b.distributes, a.present, b.present, b.taken, a.taken, groups) refl)
 
+-- late rounds in which each system ticks once at the least, as often as the other, and so often at the most
+
+abbrev pub TickedRound : (HostEvent → Type 0) → ℕ → Algorithms → WorldState → WorldState → Type 0
+TickedRound May most gives old new = (k : ℕ) × (1 ≤ k) × (k ≤ most) × IsPlayedTicks May OldArrive k gives old new
+
+abbrev pub RoundsUpTo : (HostEvent → Type 0) → ℕ → Algorithms → ℕ → WorldState → WorldState → Type 0
+RoundsUpTo May most gives zero old new = new ≡ old
+RoundsUpTo May most gives (suc n) old new = (mid : WorldState) × RoundsUpTo May most gives n old mid × TickedRound May most gives mid new
+
+-- so it is beside the ends of a cable
+abbrev pub BesideUpTo : (Side → ℕ) → ℕ → Algorithms → ℕ → WorldState → WorldState → Type 0
+BesideUpTo at most gives n old new = RoundsUpTo (LeavesPorts at) most gives n old new
+
+pub rounds_on : (May : HostEvent → Type 0) (most : ℕ) (gives : Algorithms) (S : ℕ → WorldState → Type 0) (start : WorldState) → S 0 start
+    → ((n : ℕ) (old new : WorldState) → TickedRound May most gives old new → S n old → S (n + 1) new)
+    → (n : ℕ) (new : WorldState) → RoundsUpTo May most gives n start new → S n new
+rounds_on May most gives S start first next zero new h = subst (S 0) (sym h) first
+rounds_on May most gives S start first next (suc n) new h =
+    subst (λ m. S m new) (omega arith) (next n h.0 new h.2 (rounds_on May most gives S start first next n h.0 h.1))
+
+-- rounds of one tick are such rounds
+pub rounds_once : (May : HostEvent → Type 0) (most : ℕ) (gives : Algorithms) → 1 ≤ most → (n : ℕ) (old new : WorldState)
+    → PlayedAmong May OldArrive gives n old new → RoundsUpTo May most gives n old new
+rounds_once May most gives some zero old new h = h
+rounds_once May most gives some (suc n) old new h = (h.0, rounds_once May most gives some n old h.0 h.1, (1, omega arith, some, once h.2))
+
+-- what hosts do between ticks leaves the ends of a cable
+pub rounds_beside : (at : Side → ℕ) (most : ℕ) (gives : Algorithms) (n : ℕ) (old new : WorldState) → RoundsUpTo IsBetweenTicks most gives n old new
+    → BesideUpTo at most gives n old new
+rounds_beside at most gives zero old new h = h
+rounds_beside at most gives (suc n) old new h =
+    let r = h.2 in (h.0, rounds_beside at most gives n old h.0 h.1, (r.0, r.1, r.2, several_beside at OldArrive gives r.0 h.0 new r.3))
+
+-- what each event and each tick keeps, rounds do
+pub rounds_pass : (most : ℕ) (gives : Algorithms) (n : ℕ) (old new : WorldState) → RoundsUpTo IsBetweenTicks most gives n old new → Passes gives old new
+rounds_pass most gives n old new h M kept ticks m = rounds_on IsBetweenTicks most gives (λ i j. M j) old m
+    (λ i a b r y. holds_turns IsBetweenTicks gives r.0 One (λ x z. M) (λ x z k. kept) (λ x z k. ticks One) (λ x z k. ticks Two) r.3.events r.3.replies
+    a b 0 0 r.3.turns r.3.acts y) n new h
+
+-- the cables stand where they stood, and a port at an end of this one has a history as before
+abbrev pub CableStands : (Side → ℕ) → WorldState → WorldState → Type 0
+CableStands at old j = (map link_ends j.links ≡ map link_ends old.links) × Stamped 0 at (counts_of at old) (kept_of at old) j
+
+pub stands_on : (at : Side → ℕ) (most : ℕ) (gives : Algorithms) (n : ℕ) (old mid new : WorldState) → CableStands at old mid
+    → BesideUpTo at most gives n mid new → CableStands at old new
+stands_on at most gives n old mid new first h = rounds_on (LeavesPorts at) most gives (λ m j. CableStands at old j) mid first (λ m i j r k. (
+  keeps_ticks OldArrive at gives r.0 (λ z. map link_ends z.links ≡ map link_ends old.links) (joins_kept at gives old.links)
+      (λ t. joins_tick gives old.links t) i j r.3 k.0,
+  ticks_stamp 0 gives at (counts_of at old) (kept_of at old) r.0 i j r.3 k.1,
+)) n new h
+
 -- an end that owes an LACPDU sounds as soon as its transmit window lets it
 pub owed : (at : Side → ℕ) (w : Side → Lacpdu) (c : Side → ℕ) (j : WorldState) (l : Link 2 at w c One Nothing j) (s : Side) → 1 ≤ c s
     → AtIt at w s (Owes (w (peer s))) j → AtIt at w s (Sounds (mode at w s) 11) j
@@ -117,143 +168,14 @@ rises_first at w c j l s chosen =
     (all-get (λ (y : SystemPort). IsTimed y.port) st.system_ports e.index e.port e.there (l.steady s).1)
     (end_with at w 1 c s j e (λ p. is_selected p.choice ≡ true) chosen))
 
-module _ (at : Side → ℕ) (w : Side → Lacpdu) (counts : Side → ℕ) (kept : Side → Bool) where
-  -- Each end hears that the other is in sync, since it is told, or an LACPDU that says so is on its way, or is owed.
-
-  abbrev pub Tellings : ℕ → Side → ℕ → WorldState → Type 0
-  Tellings ticks s n j = ((m : ℕ) × (ticks ≤ m) × (n + m ≤ 10 + ticks + ticks) × AheadIn ticks at w s (mode at w s) m j)
-      ⊎ AtIt at w (peer s) PartnerInSync j
-
-  pub record Agrees (ticks slack n : ℕ) (j : WorldState) : Type 0 where
-    pub fresh : MetIn at w counts kept ticks slack 2 j
-    pub tells : (s : Side) → Tellings ticks s n j
-
-  pub told_now : (ticks slack n : ℕ) (j : WorldState) → 1 ≤ ticks → 10 + ticks + ticks ≤ n → Agrees ticks slack n j → (t : Side)
-      → AtIt at w t PartnerInSync j
-  told_now ticks slack n j one l c t = subst (λ u. AtIt at w u PartnerInSync j) (peer_twice t) (elim (c.tells (peer t)) [
-    | inl (m, some, soon, y) ↦ absurd (omega (arith, l, one, some, soon))
-    | inr y ↦ y
-  ])
-
-  -- both are synchronized, and know that of each other
-  pub synced_at : (ticks slack : ℕ) → 1 ≤ slack → (j : WorldState) → MetIn at w counts kept ticks slack 2 j → ((s : Side) → AtIt at w s PartnerInSync j)
-      → ((s : Side) → Stamped 1 at counts kept j → Took at counts kept s j → Present at s j) → AreSynced at w j
-  synced_at ticks slack more j g heard present =
-      let knows : (s : Side) → 1 ≤ g.known s = λ s. (let m = knows_in at w counts kept ticks slack 2 j g more s in omega (arith, m)) in
-      record { known = g.known; link = g.link; knows = knows; heard = heard; present = λ s. present s g.rest (g.took s (knows s)) }
-
-  module _ (gives : Algorithms) (named : (t : Side) → IsNamed (w t))
-      (awake : (s : Side) → (activity (w s) ≡ true) ⊎ (activity (w (peer s)) ≡ true)) where
-    -- an end that knows that the other is in sync goes on so in a round of k ticks
-    pub hears_on : (ticks slack k : ℕ) → 1 ≤ slack → k ≤ ticks → (old new : WorldState) → MetIn at w counts kept ticks slack 2 old
-        → TicksBeside k at OldArrive gives old new → (t : Side) → AtIt at w t PartnerInSync old → AtIt at w t PartnerInSync new
-    hears_on ticks slack k more less old new g h t y =
-        let l = knows_in at w counts kept ticks slack 2 old g more t in
-        beside at w 2 (ticked_by k g.known) t PartnerInSync new
-        (ticks_hold gives k t 2 at w g.known (λ a. PartnerInSync) old new (fits_met at w counts kept named awake ticks slack 2 old g more (omega arith))
-        (fits_in_round at w counts kept named awake ticks slack 2 old g more (omega arith) k less)
-        (λ a q. partner_along (w t) (w (peer t)) (g.known t - a) 2 (omega arith) (awake_peer w awake t))
-        (λ a q p r run rest e x. ticks_partner 2 (w t) (w (peer t)) (g.known t - a) p r (omega (arith, l, q, less)) run e x)
-        (λ a p x. x) (join 2 at w g.known One t PartnerInSync old g.link y) h)
-
-    -- and climbs in 20 rounds
-    pub rises_in : {most n : ℕ} (ticks slack t k : ℕ) → 1 ≤ slack → k ≤ ticks → (old new : WorldState)
-        → (g : GoingIn at w counts kept ticks slack 0 1 most n old) → TicksBeside k at OldArrive gives old new → (s : Side)
-        → AtIt at w s (Rising t) old → AtIt at w s (Rising (t - k)) new
-    rises_in ticks slack t k more less old new g h s rising =
-        let l = knows_in at w counts kept ticks slack 1 old g more s in
-        beside at w 1 (ticked_by k g.known) s (Rising (t - k)) new (ticks_hold gives k s 1 at w g.known (λ a. Rising (t - a)) old new
-        (fits_met at w counts kept named awake ticks slack 1 old g more (omega arith))
-        (fits_in_round at w counts kept named awake ticks slack 1 old g more (omega arith) k less)
-        (λ a q. rising_along (w s) (w (peer s)) (g.known s - a) 1 (t - a) (omega arith) (omega (arith, l, q, less)))
-        (λ a q p r run rest e y. subst (λ i. Rising i r) (omega arith)
-        (ticks_rising 1 (w s) (w (peer s)) (g.known s - a) (t - a) p r (omega (arith, l, q, less)) run e y))
-        (λ a p y. y) (join 1 at w g.known One s (Rising (t - 0)) old g.link (subst (λ i. AtIt at w s (Rising i) old) (sym (no_less t)) rising)) h)
-
-    module _ (s : Side) where
-      abbrev Climbs : ℕ → WorldState → Type 0
-      Climbs n j = Early at w counts kept n j × AtIt at w s (Rising (20 - n)) j
-
-      climbs_on : (n : ℕ) (old new : WorldState) → PlayedBeside at OldArrive gives old new → Climbs n old → Climbs (n + 1) new
-      climbs_on n old new h (g, rising) = (
-        goes_met at w counts kept gives named awake 1 12 n old new (omega arith) h g,
-        subst (λ t. AtIt at w s (Rising t) new) (omega arith)
-            (rises_in 1 11 (20 - n) 1 (omega arith) (omega arith) old new g (once h) s rising),
-      )
-
-      pub climbs : (mid top : WorldState) → Early at w counts kept 0 mid → AtIt at w s (λ p. is_selected p.choice ≡ true) mid
-          → AllBeside at OldArrive gives 20 mid top → Met at w counts kept 1 top × AtIt at w s (Rising 0) top
-      climbs mid top g chosen h =
-          let c = among_on (LeavesPorts at) OldArrive gives Climbs mid (
-            g,
-            subst (λ t. AtIt at w s (Rising t) mid) (omega arith)
-                (rises_first at w g.known mid g.link s chosen),
-          ) climbs_on 20 top h in
-          (settled at w counts kept 1 11 0 1 12 20 0 0 top (omega arith) (omega arith) c.0, subst (λ t. AtIt at w s (Rising t) top) (omega arith) c.1)
-
-    -- what was told is told, and an LACPDU that says so is nearer, in a round of k ticks
-    pub agrees_on : (ticks slack n k : ℕ) → 1 ≤ slack → 1 ≤ k → k ≤ ticks → k + 1 ≤ 30 → (old new : WorldState) → TicksBeside k at OldArrive gives old new
-        → MetIn at w counts kept ticks slack 2 new → Agrees ticks slack n old → Agrees ticks slack (n + 1) new
-    agrees_on ticks slack n k more one less few old new h fresh c = record { fresh = fresh; tells = λ s. tells s (c.tells s) }
-      where
-        tells : (s : Side) → Tellings ticks s n old → Tellings ticks s (n + 1) new
-        tells s (inl (m, some, soon, y)) =
-            let g = c.fresh in
-            elim (ticks_near gives 2 at w counts kept s (omega arith) (inr (named (peer s))) k few g.known
-            (fits_met at w counts kept named awake ticks slack 2 old g more (omega arith))
-            (fits_in_round at w counts kept named awake ticks slack 2 old g more (omega arith) k less) ticks (mode at w s) m old new less
-            (able_in at w counts kept named awake ticks slack 2 old g more k less s) g.link
-            (wakes_met at w counts kept named awake ticks slack 2 old g more s) g.rest y h) [
-              | inl q ↦ (let l = q.0 in inl (m - k, l, omega (arith, soon, l, one), q.1))
-              | inr q ↦ inr (each_map (AtPort (at (peer s)) (Learnt 2 (w (peer (peer s))) (wait_of (w (peer s)) - k)))
-                  (AtPort (at (peer s)) PartnerInSync) (λ i p a f. (a f).1 (omega arith)) (half (peer s) new).state.system_ports
-                  (beside at w 2 (ticked_by k g.known) (peer s) (Learnt 2 (w (peer (peer s))) (wait_of (w (peer s)) - k)) new q.link))
-            ]
-        tells s (inr y) = inr (hears_on ticks slack k more less old new c.fresh h (peer s) y)
-
 -- so an end is synchronized that has risen, where the SELECTED ports of its system have
-pub climbed_end : (at : Side → ℕ) (w : Side → Lacpdu) (counts : Side → ℕ) (kept : Side → Bool) (s : Side) (j : WorldState)
-    → AllByRecursion (λ (y : SystemPort). Ripe 0 y.port) (half s j).state.system_ports → Met at w counts kept 1 j × AtIt at w s (Rising 0) j
+pub climbed_end : (at : Side → ℕ) (w : Side → Lacpdu) (c : Side → ℕ) (s : Side) (j : WorldState)
+    → AllByRecursion (λ (y : SystemPort). Ripe 0 y.port) (half s j).state.system_ports → Link 1 at w c One Nothing j → AtIt at w s (Rising 0) j
     → AtIt at w s Synced j
-climbed_end at w counts kept s j ripe (g, rising) =
-    let e = end_here at w 1 g.known One Nothing j g.link s in
-    at_end at w 1 g.known s j e g.link.steady Synced (climbed (half s j).state e.index e.port (g.link.steady s).0 e.there ripe
-    (end_with at w 1 g.known s j e (Rising 0) rising))
-
--- a port at an end of a cable has a history as before
-
-pub stamps_stay : (E : Clearing) (gives : Algorithms) (n i : ℕ) (at : Side → ℕ) (fl : Side → List ItemValue) (old new : WorldState)
-    → OnCable i at fl old.links → AllBeside at E gives n old new → Stamped 0 at (counts_of at old) (kept_of at old) new
-stamps_stay E gives n i at fl old new c h = among_on (LeavesPorts at) E gives (λ m j. Stamped 0 at (counts_of at old) (kept_of at old) j) old (record {
-  flying = fl;
-  index = i;
-  links = c;
-  counts = λ t. refl;
-  there = λ t. refl;
-  items = λ l. absurd (omega (arith, l));
-}) (λ m i j q a. ticks_stamp 0 gives at (counts_of at old) (kept_of at old) 1 i j (once q) a) n new h
-
--- Both ends are synchronized, and know that of each other, so that it lasts in rounds of several ticks.
-pub record AgreesIn (at : Side → ℕ) (w : Side → Lacpdu) (counts : Side → ℕ) (kept : Side → Bool) (ticks : ℕ) (j : WorldState) : Type 0 where
-  pub fresh : MetIn at w counts kept ticks 1 2 j
-  pub heard : (t : Side) → AtIt at w t PartnerInSync j
-
-module _ (at : Side → ℕ) (w : Side → Lacpdu) (counts : Side → ℕ) (kept : Side → Bool) (named : (t : Side) → IsNamed (w t))
-    (awake : (s : Side) → (activity (w s) ≡ true) ⊎ (activity (w (peer s)) ≡ true)) (ticks : ℕ) (one : 1 ≤ ticks) where
-  pub agrees_in : (n : ℕ) (j : WorldState) → ticks + ticks ≤ 12 → 12 ≤ n → Agrees at w counts kept 1 11 n j → AgreesIn at w counts kept ticks j
-  agrees_in n j few l c =
-      record { fresh = for_several at w counts kept ticks 2 j one few c.fresh; heard = told_now at w counts kept 1 11 n j (omega arith) l c }
-
-  -- a round of k ticks
-  pub agreed_on : (gives : Algorithms) (k : ℕ) (old new : WorldState) → Leaves at w counts kept gives ticks 1 → 1 ≤ k → k ≤ ticks → k + 1 ≤ 30
-      → TicksBeside k at OldArrive gives old new → AgreesIn at w counts kept ticks old → AgreesIn at w counts kept ticks new
-  agreed_on gives k old new leaves some less few h c = record {
-    fresh = settled at w counts kept ticks 1 0 2 0 1 0 0 new one (omega arith)
-        (stays_met_in at w counts kept gives named ticks 1 k leaves some less few awake 2 0 0 old new (omega arith) (omega arith) h c.fresh);
-    heard = λ t. hears_on at w counts kept gives named awake ticks 1 k (omega arith) less old new c.fresh h t (c.heard t);
-  }
-
--- How both ends of a cable come to distribute in late rounds.
+climbed_end at w c s j ripe l rising =
+    let e = end_here at w 1 c One Nothing j l s in
+    at_end at w 1 c s j e l.steady Synced (climbed (half s j).state e.index e.port (l.steady s).0 e.there ripe
+    (end_with at w 1 c s j e (Rising 0) rising))
 
 -- a synchronized end stays so
 
@@ -275,161 +197,225 @@ tells_which u v (x ∷ xs) H h = elim (tells_which u v xs (SaysIt u v x × (H �
   | inr (says, inr b) ↦ inl (inl b)
 ]
 
-pub present_of : (gives : Algorithms) (at : Side → ℕ) (old new : WorldState) (t : Side) → Took-it gives 1 at (counts_of at old) (kept_of at old) t new
+-- What the other end knows outlasts the next LACPDU by so many ticks, where a round has so many at the most.
+abbrev pub slack_of : ℕ → ℕ
+slack_of ticks = 13 - (ticks + ticks)
+
+module _ (at : Side → ℕ) (w : Side → Lacpdu) (counts : Side → ℕ) (kept : Side → Bool) (ticks : ℕ) where
+  -- both ends know each other, and so they go on, in rounds of so many ticks at the most
+  abbrev pub Going : (d most n : ℕ) → WorldState → Type 0
+  Going d most n j = GoingIn at w counts kept ticks (slack_of ticks) 0 d most n j
+
+  -- Each end hears that the other is in sync, since it is told, or an LACPDU that says so is on its way, or is owed.
+
+  abbrev Tellings : Side → ℕ → WorldState → Type 0
+  Tellings s n j = ((m : ℕ) × (ticks ≤ m) × (n + m ≤ 10 + ticks + ticks) × AheadIn ticks at w s (mode at w s) m j)
+      ⊎ AtIt at w (peer s) PartnerInSync j
+
+  record Agrees (n : ℕ) (j : WorldState) : Type 0 where
+    fresh : Going 2 0 0 j
+    tells : (s : Side) → Tellings s n j
+
+  -- both are synchronized, and know that of each other
+  pub record AgreesIn (j : WorldState) : Type 0 where
+    pub fresh : Going 2 0 0 j
+    pub heard : (t : Side) → AtIt at w t PartnerInSync j
+
+  module _ (gives : Algorithms) (named : (t : Side) → IsNamed (w t)) (awake : (s : Side) → (activity (w s) ≡ true) ⊎ (activity (w (peer s)) ≡ true))
+      (one : 1 ≤ ticks) (small : ticks ≤ most_ticks) where
+    abbrev Round : WorldState → WorldState → Type 0
+    Round old new = TickedRound (LeavesPorts at) ticks gives old new
+
+    more : 1 ≤ slack_of ticks
+    more = omega (arith, small)
+
+    room : Leaves at w counts kept gives ticks (slack_of ticks)
+    room true = omega (arith, small)
+    room false = omega (arith, small)
+
+    goes_on : {most n : ℕ} (d : ℕ) (old new : WorldState) → 1 ≤ d → Round old new → Going d most n old → Going d most (n + 1) new
+    goes_on {most} {n} d old new there (k, some, less, h) g = stays_met_in at w counts kept gives named ticks (slack_of ticks) k room some less
+        (omega (arith, less, small)) awake d most n old new there more h g
+
+    met_on : (d : ℕ) (old new : WorldState) → 1 ≤ d → Round old new → Going d 0 0 old → Going d 0 0 new
+    met_on d old new there r g =
+        settled at w counts kept ticks (slack_of ticks) 0 d 0 1 0 0 new one (omega arith) (goes_on d old new there r g)
+
+    -- an end that knows that the other is in sync goes on so
+    hears_on : (old new : WorldState) → Going 2 0 0 old → Round old new → (t : Side) → AtIt at w t PartnerInSync old → AtIt at w t PartnerInSync new
+    hears_on old new g (k, some, less, h) t y =
+        let l = knows_in at w counts kept ticks (slack_of ticks) 2 old g more t in
+        beside at w 2 (ticked_by k g.known) t PartnerInSync new (ticks_hold gives k t 2 at w g.known (λ a. PartnerInSync) old new
+        (fits_met at w counts kept named awake ticks (slack_of ticks) 2 old g more (omega arith))
+        (fits_in_round at w counts kept named awake ticks (slack_of ticks) 2 old g more (omega arith) k less)
+        (λ a q. partner_along (w t) (w (peer t)) (g.known t - a) 2 (omega arith) (awake_peer w awake t))
+        (λ a q p r run rest e x. ticks_partner 2 (w t) (w (peer t)) (g.known t - a) p r (omega (arith, l, q, less)) run e x)
+        (λ a p x. x) (join 2 at w g.known One t PartnerInSync old g.link y) h)
+
+    -- a SELECTED end climbs in 20 rounds, by the ticks that were
+    module _ (s : Side) where
+      rises_in : {most n : ℕ} (t : ℕ) (old new : WorldState) → Going 1 most n old → (r : Round old new) → AtIt at w s (Rising t) old
+          → AtIt at w s (Rising (t - r.0)) new
+      rises_in t old new g (k, some, less, h) rising =
+          let l = knows_in at w counts kept ticks (slack_of ticks) 1 old g more s in
+          beside at w 1 (ticked_by k g.known) s (Rising (t - k)) new (ticks_hold gives k s 1 at w g.known (λ a. Rising (t - a)) old new
+          (fits_met at w counts kept named awake ticks (slack_of ticks) 1 old g more (omega arith))
+          (fits_in_round at w counts kept named awake ticks (slack_of ticks) 1 old g more (omega arith) k less)
+          (λ a q. rising_along (w s) (w (peer s)) (g.known s - a) 1 (t - a) (omega arith) (omega (arith, l, q, less)))
+          (λ a q p r run rest e y. subst (λ i. Rising i r) (omega arith)
+          (ticks_rising 1 (w s) (w (peer s)) (g.known s - a) (t - a) p r (omega (arith, l, q, less)) run e y))
+          (λ a p y. y) (join 1 at w g.known One s (Rising (t - 0)) old g.link (subst (λ i. AtIt at w s (Rising i) old) (sym (no_less t)) rising)) h)
+
+      abbrev Climbs : ℕ → WorldState → Type 0
+      Climbs n j = (t : ℕ) × (n ≤ t) × Going 1 12 n j × AtIt at w s (Rising (20 - t)) j
+
+      climbs_on : (n : ℕ) (old new : WorldState) → Round old new → Climbs n old → Climbs (n + 1) new
+      climbs_on n old new (k, some, less, h) (t, l, g, rising) = (
+        t + k,
+        omega (arith, l, some),
+        goes_on 1 old new (omega arith) (k, some, less, h) g,
+        subst (λ i. AtIt at w s (Rising i) new) (omega arith) (rises_in (20 - t) old new g (k, some, less, h) rising),
+      )
+
+      pub climbs : (mid top : WorldState) → Going 1 12 0 mid → AtIt at w s (λ p. is_selected p.choice ≡ true) mid
+          → BesideUpTo at ticks gives 20 mid top → Going 1 0 0 top × AtIt at w s (Rising 0) top
+      climbs mid top g chosen h =
+          let c = rounds_on (LeavesPorts at) ticks gives Climbs mid (0, omega arith, g, rises_first at w g.known mid g.link s chosen) climbs_on 20 top h in
+          let l = c.1 in (
+            settled at w counts kept ticks (slack_of ticks) 0 1 12 20 0 0 top one (omega arith) c.2,
+            subst (λ t. AtIt at w s (Rising t) top) (omega (arith, l)) c.3,
+          )
+
+    -- what was told is told, and an LACPDU that says so is nearer
+    agrees_on : (n : ℕ) (old new : WorldState) → Round old new → Agrees n old → Agrees (n + 1) new
+    agrees_on n old new (k, some, less, h) c =
+        record { fresh = met_on 2 old new (omega arith) (k, some, less, h) c.fresh; tells = λ s. tells s (c.tells s) }
+      where
+        tells : (s : Side) → Tellings s n old → Tellings s (n + 1) new
+        tells s (inl (m, far, soon, y)) =
+            let g = c.fresh in
+            elim (ticks_near gives 2 at w counts kept s (omega arith) (inr (named (peer s))) k (omega (arith, less, small)) g.known
+            (fits_met at w counts kept named awake ticks (slack_of ticks) 2 old g more (omega arith))
+            (fits_in_round at w counts kept named awake ticks (slack_of ticks) 2 old g more (omega arith) k less) ticks (mode at w s) m old new less
+            (able_in at w counts kept named awake ticks (slack_of ticks) 2 old g more k less s) g.link
+            (wakes_met at w counts kept named awake ticks (slack_of ticks) 2 old g more s) g.rest y h) [
+              | inl q ↦ (let l = q.0 in inl (m - k, l, omega (arith, soon, l, some), q.1))
+              | inr q ↦ inr (each_map (AtPort (at (peer s)) (Learnt 2 (w (peer (peer s))) (wait_of (w (peer s)) - k)))
+                  (AtPort (at (peer s)) PartnerInSync) (λ i p a f. (a f).1 (omega arith)) (half (peer s) new).state.system_ports
+                  (beside at w 2 (ticked_by k g.known) (peer s) (Learnt 2 (w (peer (peer s))) (wait_of (w (peer s)) - k)) new q.link))
+            ]
+        tells s (inr y) = inr (hears_on old new c.fresh (k, some, less, h) (peer s) y)
+
+    -- a round after both are synchronized: all that is on the cable says so
+
+    synced_round : (old new : WorldState) (g : Going 1 0 0 old) → ((s : Side) → AtIt at w s Synced old) → (r : Round old new)
+        → (t : Side) → Link 1 at w (ticked_by r.0 g.known) (peer t) Synced new × (x : ℕ) × Past t x at (IsGood 2 w t) 0 new
+    synced_round old new g synced (k, some, less, h) t =
+        let x = peer t in
+        let l = knows_in at w counts kept ticks (slack_of ticks) 1 old g more x in
+        flush gives k 1 2 at w g.known t Synced (fits_met at w counts kept named awake ticks (slack_of ticks) 1 old g more (omega arith))
+        (fits_in_round at w counts kept named awake ticks (slack_of ticks) 1 old g more (omega arith) k less)
+        (λ a q. synced_along (w x) (w (peer x)) (g.known x - a) 1 (omega arith) (omega (arith, l, q, less)))
+        (λ a q p r run rest e y. subst Synced (sym (ticks_still 1 (w x) (w (peer x)) (g.known x - a) p r (omega (arith, l, q, less)) e run)) (y.0, y.1))
+        (λ p y. y) (λ p y f. y) (λ f. omega (arith, l, less)) old new (join 1 at w g.known One x Synced old g.link (synced x)) h
+
+    raises : (old new : WorldState) → Going 1 0 0 old → ((s : Side) → AtIt at w s Synced old) → Round old new → Going 2 0 0 new
+    raises old new g synced h =
+        let r = synced_round old new g synced h in
+        let f = met_on 1 old new (omega arith) h g in
+        let now : (s : Side) → AtIt at w s Synced new = λ s. subst (λ u. AtIt at w u Synced new) (peer_twice s)
+        (beside at w 1 (ticked_by h.0 g.known) (peer (peer s)) Synced new (r (peer s)).0) in
+        record {
+          known = f.known;
+          next = f.next;
+          link = raised at w 1 2 f.known One Nothing new
+              (λ s. each_map (AtPort (at s) Synced) (AtPort (at s) (λ p. 2 ≤ 2 → Synced p)) (λ m p a e l. a e) (half s new).state.system_ports (now s))
+              f.link (λ t. let p = (r t).2 in
+              subst (AllByRecursion (IsGood 2 w t)) (sym (same_items (r t).1 f.link.index at p.flying f.link.flying new p.on f.link.links t)) p.items);
+          rest = f.rest;
+          fits = f.fits;
+          later = f.later;
+          longer = f.longer;
+          ahead = f.ahead;
+          told = f.told;
+          took = f.took;
+        }
+
+    agrees_first : (j : WorldState) → Going 2 0 0 j → Agrees 0 j
+    agrees_first j g = record {
+      fresh = g;
+      tells = λ s. elim (g.told s (let l = knows_in at w counts kept ticks (slack_of ticks) 2 j g more (peer s) in omega (arith, l))) [
+        | inl owes ↦ inl (
+          10 + ticks + ticks,
+          omega arith,
+          omega arith,
+          inl (
+            omega arith,
+            subst (λ m. AtIt at w s (Sounds (mode at w s) m) j) (omega arith)
+                (owed at w g.known j g.link s (let l = knows_in at w counts kept ticks (slack_of ticks) 2 j g more s in omega (arith, l)) owes),
+          ),
+        )
+        | inr (x, fl, on, tells) ↦ elim (tells_which (w (peer s)) (w s) (fl (peer s)) (AtIt at w (peer s) PartnerInSync j) tells) [
+          | inl f ↦ inl (
+            ticks,
+            omega arith,
+            omega arith,
+            inr (
+              omega (arith, one),
+              inr (
+                x,
+                fl,
+                on,
+                tells_map (w (peer s)) (w s) (fl (peer s)) (AtIt at w (peer s) PartnerInSync j) (AtIt at w (peer s) Whoever j)
+                    (λ y. each_map (AtPort (at (peer s)) PartnerInSync) (AtPort (at (peer s)) Whoever) (λ m p a e. tt)
+                    (half (peer s) j).state.system_ports y) tells,
+              ),
+              (x, fl, on, f),
+            ),
+          )
+          | inr y ↦ inr y
+        ]
+      ];
+    }
+
+    -- So both come to agree from a world in which both are synchronized: the round after it is the first.
+
+    abbrev ComesToAgree : ℕ → WorldState → Type 0
+    ComesToAgree n j = ((n ≡ 0) × Going 1 0 0 j × ((s : Side) → AtIt at w s Synced j)) ⊎ ((k : ℕ) × (n ≤ k + 1) × Agrees k j)
+
+    comes_nearer : (n : ℕ) (old new : WorldState) → Round old new → ComesToAgree n old → ComesToAgree (n + 1) new
+    comes_nearer n old new r (inl (e, g, synced)) = inr (0, omega (arith, e), agrees_first new (raises old new g synced r))
+    comes_nearer n old new r (inr (k, l, c)) = inr (k + 1, omega (arith, l), agrees_on k old new r c)
+
+    pub comes_to_agree : (n : ℕ) (top new : WorldState) → 11 + ticks + ticks ≤ n → Going 1 0 0 top → ((s : Side) → AtIt at w s Synced top)
+        → BesideUpTo at ticks gives n top new → AgreesIn new
+    comes_to_agree n top new enough g synced h =
+        elim (rounds_on (LeavesPorts at) ticks gives ComesToAgree top (inl (refl, g, synced)) comes_nearer n new h) [
+          | inl (e, g, synced) ↦ absurd (omega (arith, e, enough))
+          | inr (k, l, c) ↦ record {
+            fresh = c.fresh;
+            heard = λ t. subst (λ u. AtIt at w u PartnerInSync new) (peer_twice t) (elim (c.tells (peer t)) [
+              | inl (m, far, soon, y) ↦ absurd (omega (arith, l, enough, far, soon, one))
+              | inr y ↦ y
+            ]);
+          }
+        ]
+
+    -- and so it stays
+    pub keeps_agreeing : (n : ℕ) (old new : WorldState) → AgreesIn old → BesideUpTo at ticks gives n old new → AgreesIn new
+    keeps_agreeing n old new c h = rounds_on (LeavesPorts at) ticks gives (λ m j. AgreesIn j) old c (λ m i j r a.
+        record { fresh = met_on 2 i j (omega arith) r a.fresh; heard = λ t. hears_on i j a.fresh r t (a.heard t) }) n new h
+
+-- as what is compared has it
+
+present_of : (gives : Algorithms) (at : Side → ℕ) (old new : WorldState) (t : Side) → Took-it gives 1 at (counts_of at old) (kept_of at old) t new
     → Present at t new
 present_of gives at old new t m there = grind arith
 
-module _ (at : Side → ℕ) (w : Side → Lacpdu) (counts : Side → ℕ) (kept : Side → Bool) (named : (t : Side) → IsNamed (w t))
-    (awake : (s : Side) → (activity (w s) ≡ true) ⊎ (activity (w (peer s)) ≡ true)) where
-  -- a round after both are synchronized: all that is on the cable says so
-
-  synced_round : {most n : ℕ} (gives : Algorithms) (ticks slack k : ℕ) → 1 ≤ slack → k ≤ ticks → (old new : WorldState)
-      (g : GoingIn at w counts kept ticks slack 0 1 most n old) → ((s : Side) → AtIt at w s Synced old) → TicksBeside k at OldArrive gives old new
-      → (t : Side) → Link 1 at w (ticked_by k g.known) (peer t) Synced new × (x : ℕ) × Past t x at (IsGood 2 w t) 0 new
-  synced_round gives ticks slack k more less old new g synced h t =
-      let x = peer t in
-      let l = knows_in at w counts kept ticks slack 1 old g more x in
-      flush gives k 1 2 at w g.known t Synced (fits_met at w counts kept named awake ticks slack 1 old g more (omega arith))
-      (fits_in_round at w counts kept named awake ticks slack 1 old g more (omega arith) k less)
-      (λ a q. synced_along (w x) (w (peer x)) (g.known x - a) 1 (omega arith) (omega (arith, l, q, less)))
-      (λ a q p r run rest e y. subst Synced (sym (ticks_still 1 (w x) (w (peer x)) (g.known x - a) p r (omega (arith, l, q, less)) e run)) (y.0, y.1))
-      (λ p y. y) (λ p y f. y) (λ f. omega (arith, l, less)) old new (join 1 at w g.known One x Synced old g.link (synced x)) h
-
-  pub raises : (gives : Algorithms) (ticks slack k : ℕ) → 1 ≤ slack → k ≤ ticks → (old new : WorldState)
-      → MetIn at w counts kept ticks slack 1 old → MetIn at w counts kept ticks slack 1 new → ((s : Side) → AtIt at w s Synced old)
-      → TicksBeside k at OldArrive gives old new → MetIn at w counts kept ticks slack 2 new
-  raises gives ticks slack k more less old new g f synced h =
-      let r = synced_round gives ticks slack k more less old new g synced h in
-      let now : (s : Side) → AtIt at w s Synced new = λ s. subst (λ u. AtIt at w u Synced new) (peer_twice s)
-      (beside at w 1 (ticked_by k g.known) (peer (peer s)) Synced new (r (peer s)).0) in
-      record {
-        known = f.known;
-        next = f.next;
-        link = raised at w 1 2 f.known One Nothing new
-            (λ s. each_map (AtPort (at s) Synced) (AtPort (at s) (λ p. 2 ≤ 2 → Synced p)) (λ m p a e l. a e) (half s new).state.system_ports (now s))
-            f.link (λ t. let p = (r t).2 in
-            subst (AllByRecursion (IsGood 2 w t)) (sym (same_items (r t).1 f.link.index at p.flying f.link.flying new p.on f.link.links t)) p.items);
-        rest = f.rest;
-        fits = f.fits;
-        later = f.later;
-        longer = f.longer;
-        ahead = f.ahead;
-        told = f.told;
-        took = f.took;
-      }
-
-  pub agrees_first : (ticks slack : ℕ) → 1 ≤ ticks → 1 ≤ slack → (j : WorldState) → MetIn at w counts kept ticks slack 2 j
-      → Agrees at w counts kept ticks slack 0 j
-  agrees_first ticks slack some more j g = record {
-    fresh = g;
-    tells = λ s. elim (g.told s (let l = knows_in at w counts kept ticks slack 2 j g more (peer s) in omega (arith, l))) [
-      | inl owes ↦ inl (
-        10 + ticks + ticks,
-        omega arith,
-        omega arith,
-        inl (
-          omega arith,
-          subst (λ m. AtIt at w s (Sounds (mode at w s) m) j) (omega arith)
-              (owed at w g.known j g.link s (let l = knows_in at w counts kept ticks slack 2 j g more s in omega (arith, l)) owes),
-        ),
-      )
-      | inr (x, fl, on, tells) ↦ elim (tells_which (w (peer s)) (w s) (fl (peer s)) (AtIt at w (peer s) PartnerInSync j) tells) [
-        | inl f ↦ inl (
-          ticks,
-          omega arith,
-          omega arith,
-          inr (
-            omega (arith, some),
-            inr (
-              x,
-              fl,
-              on,
-              tells_map (w (peer s)) (w s) (fl (peer s)) (AtIt at w (peer s) PartnerInSync j) (AtIt at w (peer s) Whoever j)
-                  (λ y. each_map (AtPort (at (peer s)) PartnerInSync) (AtPort (at (peer s)) Whoever) (λ m p a e. tt)
-                  (half (peer s) j).state.system_ports y) tells,
-            ),
-            (x, fl, on, f),
-          ),
-        )
-        | inr y ↦ inr y
-      ]
-    ];
-  }
-
-  -- in one round more all that is on the cable says so
-  pub late_turn : (gives : Algorithms) (mid next : WorldState) → LateRounds gives 1 mid next → Met at w counts kept 1 mid
-      → ((s : Side) → AtIt at w s Synced mid) → Agrees at w counts kept 1 11 0 next
-  late_turn gives mid next r met synced =
-      let h = as_beside at OldArrive gives mid next (subst (λ j. IsLateRound gives j next) r.1 r.2) in
-      agrees_first 1 11 (omega arith) (omega arith) next (raises gives 1 11 1 (omega arith) (omega arith) mid next met
-      (stays_met at w counts kept gives named awake 1 mid next (omega arith) h met) synced (once h))
-
--- both ends are synchronized, and know that of each other
-
-abbrev pub Up : (Side → ℕ) → (Side → Lacpdu) → WorldState → WorldState → Type 0
-Up at w old j = (n : ℕ) × (12 ≤ n) × Agrees at w (counts_of at old) (kept_of at old) 1 11 n j
-
-pub up_synced : (gives : Algorithms) (at : Side → ℕ) (w : Side → Lacpdu) (old j : WorldState) → Up at w old j → AreSynced at w j
-up_synced gives at w old j up =
-    synced_at at w (counts_of at old) (kept_of at old) 1 11 (omega arith) j up.2.fresh
-    (told_now at w (counts_of at old) (kept_of at old) 1 11 up.0 j (omega arith) up.1 up.2) (λ s stamped took. present_of gives at old j s (stamped, took))
-
--- from a round in which both are synchronized, and 13 more
-pub comes_to_be_up : (gives : Algorithms) (at : Side → ℕ) (w : Side → Lacpdu) → ((t : Side) → IsNamed (w t))
-    → ((s : Side) → (activity (w s) ≡ true) ⊎ (activity (w (peer s)) ≡ true)) → (n : ℕ) (old top new : WorldState) → 13 ≤ n
-    → LateRounds gives n top new → Met at w (counts_of at old) (kept_of at old) 1 top → ((s : Side) → AtIt at w s Synced top) → Up at w old new
-comes_to_be_up gives at w named awake n old top new enough more met synced =
-    let k = counts_of at old in
-    let kept = kept_of at old in
-    let next = played_split OldArrive gives (n - 1) 1 n top new (omega (arith, enough)) more in (
-      n - 1,
-      omega (arith, enough),
-      among_on (LeavesPorts at) OldArrive gives (Agrees at w k kept 1 11) next.0 (late_turn at w k kept named awake gives top next.0 next.1 met synced)
-          (λ m i j h c. agrees_on at w k kept gives named awake 1 11 m 1 (omega arith) (omega arith) (omega arith) (omega arith) i j (once h)
-          (stays_met at w k kept gives named awake 2 i j (omega arith) h c.fresh) c) (n - 1) new (all_beside at OldArrive gives (n - 1) next.0 new next.2),
-    )
-
--- so it is through rounds of several ticks
-
-pub agreed_synced : (gives : Algorithms) (at : Side → ℕ) (w : Side → Lacpdu) (old new : WorldState)
-    → AgreesIn at w (counts_of at old) (kept_of at old) most_ticks new → AreSynced at w new
-agreed_synced gives at w old new c = synced_at at w (counts_of at old) (kept_of at old) most_ticks 1 (omega arith) new c.fresh c.heard
-    (λ s stamped took. present_of gives at old new s (stamped, took))
-
-pub several_agree : (gives : Algorithms) (l : LinkState) (w : Side → Lacpdu) (counts : Side → ℕ) (kept : Side → Bool) → ((t : Side) → IsNamed (w t))
-    → ((s : Side) → (activity (w s) ≡ true) ⊎ (activity (w (peer s)) ≡ true)) → (n : ℕ) (old new : WorldState) → SeveralBeside l gives n old new
-    → AgreesIn (λ s. port_at s l) w counts kept most_ticks old → AgreesIn (λ s. port_at s l) w counts kept most_ticks new
-several_agree gives l w counts kept named awake zero old new h c = subst (AgreesIn (λ s. port_at s l) w counts kept most_ticks) (sym h) c
-several_agree gives l w counts kept named awake (suc n) old new h c =
-    let few = h.4 in
-    agreed_on (λ s. port_at s l) w counts kept named awake most_ticks (omega arith) gives h.2 h.0 new leaves_several h.3 few (omega (arith, few)) h.5
-    (several_agree gives l w counts kept named awake n old h.0 h.1 c)
-  where
-    leaves_several : Leaves (λ s. port_at s l) w counts kept gives most_ticks 1
-    leaves_several true = omega arith
-    leaves_several false = omega arith
-
-pub several_synced : (gives : Algorithms) (l : LinkState) (w : Side → Lacpdu) → ((t : Side) → IsNamed (w t))
-    → ((s : Side) → (activity (w s) ≡ true) ⊎ (activity (w (peer s)) ≡ true)) → (n : ℕ) (old mid new : WorldState)
-    → Up (λ s. port_at s l) w old mid → SeveralBeside l gives n mid new → AreSynced (λ s. port_at s l) w new
-several_synced gives l w named awake n old mid new up h =
-    let at : Side → ℕ = λ s. port_at s l in
-    let counts = counts_of at old in
-    let kept = kept_of at old in
-    agreed_synced gives at w old new (several_agree gives l w counts kept named awake n mid new h
-    (agrees_in at w counts kept named awake most_ticks (omega arith) up.0 mid (omega arith) up.1 up.2))
-
--- and a port at an end of the cable has a history, and the cables stand where they stood
-
-pub several_stamped : (gives : Algorithms) (l : LinkState) (k : Side → ℕ) (kept : Side → Bool) (n : ℕ) (old new : WorldState)
-    → SeveralBeside l gives n old new → Stamped 0 (λ s. port_at s l) k kept old → Stamped 0 (λ s. port_at s l) k kept new
-several_stamped gives l k kept zero old new h c = subst (Stamped 0 (λ s. port_at s l) k kept) (sym h) c
-several_stamped gives l k kept (suc n) old new h c =
-    ticks_stamp 0 gives (λ s. port_at s l) k kept h.2 h.0 new h.5 (several_stamped gives l k kept n old h.0 h.1 c)
-
-pub several_join : (gives : Algorithms) (l : LinkState) (n : ℕ) (old new : WorldState) → SeveralBeside l gives n old new
-    → map link_ends new.links ≡ map link_ends old.links
-several_join gives l zero old new h = ap (λ (j : WorldState). map link_ends j.links) h
-several_join gives l (suc n) old new h =
-    keeps_ticks OldArrive (λ s. port_at s l) gives h.2 (λ j. map link_ends j.links ≡ map link_ends old.links) (joins_kept (λ s. port_at s l) gives old.links)
-    (λ s. joins_tick gives old.links s) h.0 new h.5 (several_join gives l n old h.0 h.1)
+pub agreed_synced : (gives : Algorithms) (at : Side → ℕ) (w : Side → Lacpdu) (old j : WorldState) (ticks : ℕ) → ticks ≤ most_ticks
+    → AgreesIn at w (counts_of at old) (kept_of at old) ticks j → AreSynced at w j
+agreed_synced gives at w old j ticks small c =
+    let g = c.fresh in
+    let knows : (s : Side) → 1 ≤ g.known s = λ s. (let m = knows_in at w (counts_of at old) (kept_of at old) ticks (slack_of ticks) 2 j g
+    (omega (arith, small)) s in omega (arith, m)) in
+    record { known = g.known; link = g.link; knows = knows; heard = c.heard; present = λ s. present_of gives at old j s (g.rest, g.took s (knows s)) }

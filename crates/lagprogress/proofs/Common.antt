@@ -38,7 +38,7 @@ pub use Rattle.lagmodel.specs.World.{first_world, peer, with_messages}
 pub use Rattle.lagmodel.proofs.Base.{cond_false, cond_true, value_of}
 pub use Rattle.cables.specs.declared.item.Stamp.{Stamp}
 pub use Rattle.portmachines.specs.declared.mux.MuxState.{MuxState}
-pub use Rattle.portmachines.specs.declared.mux.MuxState.TheVariants.{Attached, CollectingDistributing, Detached, Waiting}
+pub use Rattle.portmachines.specs.declared.mux.MuxState.TheVariants.{Attached, CollectingDistributing, Waiting}
 pub use Rattle.portmachines.specs.declared.port.Setup.{Setup}
 pub use Rattle.portmachines.specs.declared.receive.ReceiveState.{ReceiveState}
 pub use Rattle.portmachines.specs.declared.receive.ReceiveState.TheVariants.{Current, Defaulted, Expired, Initialize, PortDisabled}
@@ -57,8 +57,7 @@ pub use Rattle.selection.specs.Limits.{AggregatorsValue, has_room, is_below}
 pub use Rattle.selection.specs.Views.{has_chosen, has_waited, is_detached_or_waiting, is_eligible, occupies, stands_by}
 pub use Rattle.distributor.specs.declared.assignment.Assignment.{Assignment}
 pub use Rattle.distributor.specs.declared.assignment.Assignment.TheVariants.{Flushing, Free, On, Wanted}
-pub use Rattle.distributor.specs.declared.fault.DistFault.{DistFault}
-pub use Rattle.distributor.specs.Calls.{Assigns, MaySend, is_among, leave_result}
+pub use Rattle.distributor.specs.Calls.{MaySend, is_among, leave_result}
 pub use Rattle.distributor.specs.Changes.{after_mark, after_release, after_tick, marker_due, wants_marker}
 pub use Rattle.distributor.specs.Conversations.{IsConversation, Table, assignment_of, count_conversations, next_identifier}
 pub use Rattle.lagsystem.specs.declared.config.Config.{Config}
@@ -82,7 +81,7 @@ pub use Rattle.lagsystem.specs.ModelView.{IsSent, can_receive, can_receive_in, k
 pub use Rattle.lagsystem.specs.ModelView.{number_of_port}
 pub use Rattle.lagsystem.specs.NothingToSettle.{MuxIsSettled, PeriodicIsSettled}
 pub use Rattle.lagsystem.specs.Occupants.{OccupantsAgree, occupied}
-pub use Rattle.lagsystem.specs.Offers.{GivesOrRefuses, MayBeOffered, RefusesOffer, assignment_of_frame, in_system, system_move_result}
+pub use Rattle.lagsystem.specs.Offers.{GivesOrRefuses, MayBeOffered, assignment_of_frame, in_system, system_move_result}
 pub use Rattle.lagsystem.specs.Probing.{ProbesAt, ProbesIf}
 pub use Rattle.lagsystem.specs.Readers.{aggregator_numbered, collecting, distributes_in, distributing, group_at, number_of_conversation}
 pub use Rattle.lagsystem.specs.Readers.{selected_aggregator}
@@ -157,7 +156,7 @@ pub use Rattle.lagbeside.proofs.Timers.{timed_starts}
 pub use Rattle.lagprogress.specs.Arriving.{Arrives, DeliverHandsUp, DisabledAreUnsynchronized, EachFrameArrivesByHosts}
 pub use Rattle.lagprogress.specs.Arriving.{EachHostReachedHasUnsynchronized, GetsPort, HandsUp, IsEventWhere, IsHandedUp, OfferGetsPort}
 pub use Rattle.lagprogress.specs.Arriving.{SometimePlayed, TakesFrame}
-pub use Rattle.lagprogress.specs.Beside.{EachLinkStaysAgreed, EachLinkStaysUp, LeavesPorts, RoundsBeside}
+pub use Rattle.lagprogress.specs.Beside.{LeavesPorts, RoundsBeside}
 pub use Rattle.lagprogress.specs.Bundle.{AllHeard, BothAreActive, EachLinkAgrees, EachLinkComesUp, EndsHealthyCable, EndsOfEachKnow}
 pub use Rattle.lagprogress.specs.Bundle.{EnoughAggregators, EnoughLinks, HostReachedIsBundle, IsBundle, OneIsActive, ReachedIsApart, ReachedIsBundle}
 pub use Rattle.lagprogress.specs.Bundle.{SelectedPairsAgree, SelectedPairsComeUp, SystemsDiffer}
@@ -179,8 +178,7 @@ pub use Rattle.lagprogress.specs.PlayedByHosts.{PlaysHostRound, PlaysHostRounds,
 pub use Rattle.lagprogress.specs.Progress.{Distributes, EndKnows, Knows}
 pub use Rattle.lagprogress.specs.Rounds.{AtEnd, IsDeliver, IsHealthyAt, IsRound, NothingInFlight, OfPort, Playing, Rounds, asks_all, asks_ends}
 pub use Rattle.lagprogress.specs.Rounds.{freed_if_both_active, freed_if_one_is, ticks_of_both, up_if_both_active, up_if_one_is}
-pub use Rattle.lagprogress.specs.Several.{AfterTicks, AskingIsSeveral, AsksAfterTicks, EachLinkStaysAgreedInSeveral, EachLinkStaysAgreedThroughout}
-pub use Rattle.lagprogress.specs.Several.{EachLinkStaysUpInSeveral, EachLinkStaysUpThroughout, IsPlayedTicks, LateRoundsAreSeveral, SeveralBeside}
+pub use Rattle.lagprogress.specs.Several.{AfterTicks, AskingIsSeveral, AsksAfterTicks, IsPlayedTicks, LateRoundsAreSeveral, SeveralBeside}
 pub use Rattle.lagprogress.specs.Several.{SeveralRounds, TicksAmong, most_ticks}
 pub use Rattle.lagprogress.specs.Shared.{AreOneGroup, DownWereLinkedTo, HasAggregators, LeadToKey}
 pub use Rattle.lagprogress.specs.Steady.{EachHostReachedIsSteady, EachHostRunKeepsSteady, GoesByCalls, IsSteady, IsSteadySystem, WarmStartIsSteady}

@@ -4,15 +4,14 @@ use Rattle.lagprogress.proofs.Common.{◌≡◌, ◌≤◌, nat_tests, Party, La
 use Rattle.lagprogress.proofs.Common.{after_sending, count_down, Table, SystemPort, ProcessesLacpdu, Receive, SystemState, with_system_ports}
 use Rattle.lagprogress.proofs.Common.{with_table, Reply, Algorithms, WorldSteps, link_ends, ItemValue, LinkState, WorldState, half, port_at, end_is}
 use Rattle.lagprogress.proofs.Common.{HostEvent, Plays, KeptBySettling, OfEach, Step-each, Tick-each, asked_each, AtPort, settling_leaves, runs_keep}
-use Rattle.lagprogress.proofs.Common.{takes_keep, LeavesPorts, Clearing, IsBetweenTicks, IsPlayed, IsPlayedAmong, PlayedAmong, PlayedRounds}
-use Rattle.lagprogress.proofs.Common.{StepReplies, IsSteady}
+use Rattle.lagprogress.proofs.Common.{takes_keep, Clearing, IsBetweenTicks, IsPlayed, IsPlayedAmong, PlayedAmong, PlayedRounds, StepReplies, IsSteady}
 use Rattle.lagprogress.proofs.Linked.{each_side, peer_twice}
-use Rattle.lagprogress.proofs.Quieting.{AllBeside, calm_steady, calm_keeps, leaves_ends, IsCalm, calm_between, leaves, quiet_ports, replayed}
-use Rattle.lagprogress.proofs.Quieting.{asked_half, came_half}
+use Rattle.lagprogress.proofs.Quieting.{calm_steady, calm_keeps, leaves_ends, IsCalm, calm_between, leaves, quiet_ports, replayed, asked_half}
+use Rattle.lagprogress.proofs.Quieting.{came_half}
 use Rattle.lagprogress.proofs.OneCable.{OnCable, cable, deliver_ends, emits, ticks}
 use Rattle.lagprogress.proofs.OneRound.{ticked}
 use Rattle.lagprogress.proofs.HostRound.{KeptBeside, KeptBetween, MadeByTick, of_side}
-use Rattle.lagprogress.proofs.SeveralTicks.{Within, done, once_turns, holds_turns, keeps_ticks, once}
+use Rattle.lagprogress.proofs.SeveralTicks.{Within, done, once_turns, holds_turns}
 use Rattle.lagsystem.specs.declared.drive.Reply.TheVariants as answer
 use Rattle.lagscript.specs.declared.event.Event.TheVariants as event
 
@@ -112,18 +111,6 @@ holds_once gives s A kept own other old new h m = holds_turns IsBetweenTicks giv
     second a zero l = other a l.0
     second a (suc b) l = absurd (let k = l.1 in omega (arith, k))
 
--- a round makes Q of P, if the tick does, and the rest keeps both
-pub host_each : {E : Clearing} (P Q : ℕ → Machines → Type 0) → RoundKeeps P → RoundKeeps Q
-    → ((n : ℕ) (p q : Machines) → RunsToRest receive_rows (count_down p) q → P n p → Q n q)
-    → (s : Side) (gives : Algorithms) (old new : WorldState) → IsPlayed E gives old new → EachAt P s old → EachAt Q s new
-host_each P Q kp kq ticked s gives old new h a = holds_once gives s (λ x y. EachAt (Pick P Q x) s) kept
-    (λ y l. tick_makes P Q kq.settles ticked s gives)
-    (λ x l. tick_beside (Pick P Q x) s gives) old new h a
-  where
-    kept : (x y : ℕ) → Within 1 x y → KeptBetween gives (EachAt (Pick P Q x) s)
-    kept zero y l = each_between P kp s gives
-    kept (suc x) y l = each_between Q kq s gives
-
 -- the ports that the cables join
 
 pub joins_kept : (at : Side → ℕ) (gives : Algorithms) (links : List LinkState) → KeptBeside at gives (λ j. map link_ends j.links ≡ map link_ends links)
@@ -199,12 +186,6 @@ module _ (E : Clearing) (gives : Algorithms) where
   played_split (suc k) m zero old new e h = absurd (omega (arith, e))
   played_split (suc k) m (suc n) old new e h =
       let r = played_split k m n old h.0 (omega (arith, e)) h.1 in (r.0, r.1, (h.0, r.2, h.2))
-
-  pub joins_beside : (at : Side → ℕ) (n : ℕ) (old new : WorldState) → AllBeside at E gives n old new
-      → map link_ends new.links ≡ map link_ends old.links
-  joins_beside at n old new h = among_on (LeavesPorts at) E gives (λ m j. map link_ends j.links ≡ map link_ends old.links) old refl
-      (λ m i j q k. keeps_ticks E at gives 1 (λ j. map link_ends j.links ≡ map link_ends old.links) (joins_kept at gives old.links)
-      (λ s. joins_tick gives old.links s) i j (once q) k) n new h
 
   pub played_pass : (n : ℕ) (old new : WorldState) → PlayedRounds E gives n old new → Passes gives old new
   played_pass n old new h M kept ticks m = played_on (λ i j. M j) old m

@@ -3,7 +3,7 @@ use Rattle.lagprogress.proofs.Common.{List, None, Option, Some, [], ap, arith, i
 use Rattle.lagprogress.proofs.Common.{◌≡◌, ◌≤◌, ◌⊎◌, nat_tests, AllByRecursion, all-append, IsCabling, One, Side, peer, value_of, Assignment}
 use Rattle.lagprogress.proofs.Common.{after_mark, after_release, after_tick, IsConversation, assignment_of, held_unless_on, SystemState, Event, Reply}
 use Rattle.lagprogress.proofs.Common.{Algorithms, WorldSteps, side_of, LinkState, WorldState, half, port_at, AtPort, Turning, Turns, asks_turn}
-use Rattle.lagprogress.proofs.Common.{comes_turn, same_turns, ticks_turn, turns_through, EndsHealthyCable, IsBundle, HasIdentifierLeft, IsNotHeldOn}
+use Rattle.lagprogress.proofs.Common.{comes_turn, same_turns, ticks_turn, turns_through, EndsHealthyCable, HasIdentifierLeft, IsNotHeldOn}
 use Rattle.lagprogress.proofs.Common.{NothingIsHeld, carrier_of, held_on, DrainingRounds, NoneIsHeldOnEndsByHosts, NothingIsHeldByHosts, Clearing}
 use Rattle.lagprogress.proofs.Common.{HostRounds, IsBetweenTicks, NoneIsLeft, PlayedRounds, LateRounds, OldArrive, IsDeliver, IsHealthyAt, IsRound}
 use Rattle.lagprogress.proofs.Common.{Rounds, asks_all, ticks_of_both, IsSteady}
@@ -11,12 +11,11 @@ use Rattle.lagprogress.proofs.Lasting.{played_before, still_heard}
 use Rattle.lagprogress.proofs.LateLoops.{host_rounds_are_late_rounds}
 use Rattle.lagprogress.proofs.LateHearing.{counts_of, kept_of}
 use Rattle.lagprogress.proofs.EachRound.{among_then, played_join, played_steady, played_pass, same_on}
-use Rattle.lagprogress.proofs.Bundling.{MeetsBy, Nowhere, awake_of, said, ups_of, named_of, Meets}
+use Rattle.lagprogress.proofs.Bundling.{LinksMeet, MeetsBy, Nowhere, alone, awake_of, said, ups_of, named_of}
 use Rattle.lagprogress.proofs.Linked.{each_side, each_both, each_map, at_end, end_here, runs_all}
 use Rattle.lagprogress.proofs.OneCable.{ticks}
 use Rattle.lagprogress.proofs.Quieting.{asked_half, came_half}
 use Rattle.lagprogress.proofs.Climbing.{PartnerInSync}
-use Rattle.lagprogress.proofs.ComingUp.{told_now}
 use Rattle.lagprogress.proofs.Emptying.{rounds_rest}
 use Rattle.lagprogress.proofs.Holding.{Fine}
 use Rattle.lagprogress.proofs.OneRound.{Nothing}
@@ -41,27 +40,27 @@ was_there gives n old new s g k steady h is =
     grind (arith, nat_tests, half)
 
 module _ (E : Clearing) (Holds : LinkState → WorldState → Type 0) (Other : Side → ℕ → Type 0) (first : ℕ) (gives : Algorithms) (old : WorldState)
-    (b : MeetsBy E Holds Other first gives old) where
+    (b : MeetsBy (PlayedRounds E gives) 1 Holds Other first gives old) where
   pub freed_by : (i : ℕ) (l : LinkState) (y : IsHealthyAt i l old) (n m : ℕ) (mid new : WorldState) (s : Side) (g k : ℕ) → first + 33 ≤ n
       → PlayedRounds E gives n old mid → 30 ≤ m → DrainingRounds s g k gives m mid new → HasIdentifierLeft (half s new).state
       → IsNotHeldOn (port_at s l) g k (half s new).state
   freed_by i l y n m mid new s q r enough h late rounds left is held =
       let at : Side → ℕ = λ t. port_at t l in
       let w = said old i l y in
-      let up = ups_of E Holds Other first gives old b i l y n mid enough h in
-      let g = up.2.fresh in
+      let up = ups_of (PlayedRounds E gives) 1 Holds Other first gives old b i l y n mid enough h in
+      let g = up.fresh in
       let e = end_here at w 2 g.known One Nothing mid g.link s in
       let c = e.port.port.choice in
       let chosen = (e.is.2 (omega arith)).0 in
       let st = (half s mid).state in
       let choice = at_end at w 2 g.known s mid e g.link.steady (λ p. p.choice ≡ c) refl in
-      let heard = told_now at w (counts_of at old) (kept_of at old) 1 11 up.0 mid (omega arith) up.1 up.2 s in
       let steady = each_map (λ q p. AtPort (at s) PartnerInSync q p × AtPort (at s) (λ p. p.choice ≡ c) q p)
       (AtPort (at s) (λ p. PartnerInSync p × (p.choice ≡ c))) (λ q p a f. (a.0 f, a.1 f)) st.system_ports
-      (each_both (AtPort (at s) PartnerInSync) (AtPort (at s) (λ p. p.choice ≡ c)) st.system_ports heard choice) in
+      (each_both (AtPort (at s) PartnerInSync) (AtPort (at s) (λ p. p.choice ≡ c)) st.system_ports (up.heard s) choice) in
       let was = was_there gives m mid new s q r (played_steady E gives n old mid b.steady h) (draining_are_host gives s q r m mid new rounds) is in
-      let rests = rounds_rest at w (named_of E Holds Other first gives old b i l y) (awake_of E Holds Other first gives old b i l y) s st.system.mac q r
-      c chosen gives (counts_of at old) (kept_of at old) m mid new (omega (arith, late)) left (record {
+      let rests = rounds_rest at w (named_of (PlayedRounds E gives) 1 Holds Other first gives old b i l y)
+      (awake_of (PlayedRounds E gives) 1 Holds Other first gives old b i l y) s st.system.mac q r c chosen gives (counts_of at old) (kept_of at old)
+      m mid new (omega (arith, late)) left (record {
         cabling = subst IsCabling (sym (played_join E gives n old mid h)) b.cabling;
         fresh = g;
         steady = steady;
@@ -179,11 +178,10 @@ unheld Holds s old None ends none = refl
 unheld Holds s old (Some p) ends none =
     let it = ends p refl in absurd (none it.index it.link it.healthy (ap (λ (q : ℕ). Some q) (sym it.joins)))
 
-module _ (Holds : LinkState → WorldState → Type 0) (first : ℕ) (gives : Algorithms)
-    (meets : (old : WorldState) → IsBundle Holds old → Meets Holds first gives old) where
+module _ (Holds : LinkState → WorldState → Type 0) (first : ℕ) (gives : Algorithms) (meet : LinksMeet Holds first gives) where
   pub none_is_held_on_ends : NoneIsHeldOnEndsByHosts Holds (first + 33) gives
   none_is_held_on_ends n m i l old mid new s g k b y enough h late more left =
-      freed_by OldArrive Holds Nowhere first gives old (meets old b) i l y n m mid new s g k enough h late more left
+      freed_by OldArrive Holds Nowhere first gives old (alone LateRounds 1 Holds first gives meet old b) i l y n m mid new s g k enough h late more left
 
   -- and in healthy rounds, which are such rounds
   pub nothing_is_held : NothingIsHeld Holds (first + 63) gives

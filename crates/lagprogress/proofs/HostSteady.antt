@@ -39,9 +39,6 @@ host_sound gives old call answer new h s = absurd h
 
 -- no identifier comes back
 
-same_next : (old new : SystemState) → new ≡ old → old.table.next ≤ new.table.next
-same_next old new e = subst (λ (t : SystemState). old.table.next ≤ t.table.next) (sym e) (omega arith)
-
 pub gives_next : (agg : AggId) (conv : ℕ) (what : Result Assignment SystemFault) (old : SystemState) (a : Result Unit SystemFault)
     (new : SystemState) → GivesOrRefuses agg conv what old a new → old.table.next ≤ new.table.next
 gives_next agg conv what old a new k = grind (arith, nat_tests)

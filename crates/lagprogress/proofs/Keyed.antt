@@ -2,7 +2,7 @@
 use Rattle.lagprogress.proofs.Common.{Bool, List, None, Option, Some, [], ap, arith, cond, false, find, if◌then◌else◌, inl, inr, length, not}
 use Rattle.lagprogress.proofs.Common.{option_map, refl, slice_get, slice_set, subst, suc, sym, true, zero, ℕ, ◌&&◌, ◌+◌, ◌==◌, ◌∙◌, ◌∷◌, ◌≡◌, ◌≢◌}
 use Rattle.lagprogress.proofs.Common.{◌≤◌, ◌⊎◌, cases_eq, nat_tests, none-some, same_Some, AllByRecursion, enumerate_from, list_all, AggId, Key}
-use Rattle.lagprogress.proofs.Common.{Choice, Selected, Standby, Unselected, is_selected, Pair, SamePair, individual, pair_of, itself, party_of, Side}
+use Rattle.lagprogress.proofs.Common.{Choice, Selected, Standby, Unselected, is_selected, Pair, SamePair, individual, itself, party_of, Side}
 use Rattle.lagprogress.proofs.Common.{Machines, mux_rows, RunsPeriodic, receive_rows, RunsToRest, after_sending, count_down, PortView}
 use Rattle.lagprogress.proofs.Common.{aggregator_of_entry, chosen_if_eligible, has_group_of, has_no_occupant, has_occupant, lowest, occupants}
 use Rattle.lagprogress.proofs.Common.{occupants_share_group, or_else, AggregatorsValue, has_room, is_eligible, occupies, HostCall, HostReply, Answer}
@@ -35,7 +35,7 @@ use Rattle.lagprogress.proofs.SharedLemmas.{played_lasted, Lasted, one_group}
 use Rattle.lagprogress.proofs.Quieting.{IsCalm, calm_steady, quiet_ports}
 use Rattle.lagprogress.proofs.Halves.{each_is_calls, both_first, start_steady}
 use Rattle.lagsystem.proofs.OccupantSteps.{Step-placed}
-use Rattle.lagprogress.proofs.Bundling.{each_link_comes_up, heard_holds, LinksMeet, alone, ends_know}
+use Rattle.lagprogress.proofs.Bundling.{each_link_comes_up, heard_holds, LinksMeet, ends_know}
 use Rattle.lagprogress.proofs.Linked.{events_each}
 use Rattle.lagsystem.specs.declared.drive.HostCall.TheVariants as host
 use Rattle.lagsystem.specs.declared.drive.HostReply.TheVariants as told
@@ -52,14 +52,6 @@ group_along : (a b c : Pair) → SamePair a b → SamePair b c → SamePair a c
 group_along a b c hyp1 hyp2 = grind (arith, nat_tests)
 
 -- where no port gets another aggregator or group
-
-same_ends : (x s : SystemPort) → x.port.party ≡ s.port.party → party_of x.port.partner ≡ party_of s.port.partner
-    → ends (selection_view x) ≡ ends (selection_view s)
-same_ends x s e f = λ i. pair_of (e i) (f i)
-
-same_individual : (x s : SystemPort) → x.port.party ≡ s.port.party → party_of x.port.partner ≡ party_of s.port.partner
-    → individual x.port.party (party_of x.port.partner) ≡ individual s.port.party (party_of s.port.partner)
-same_individual x s e f = λ i. individual (e i) (f i)
 
 by_place : (old new : List SystemPort) → ((j : ℕ) (t : SystemPort) → slice_get new j ≡ Some t
     → (s : SystemPort) × (slice_get old j ≡ Some s) × OccupiesAsBefore s.port t.port) → InOne old → InOne new
@@ -91,9 +83,6 @@ second a b h = grind (arith, nat_tests)
 -- the lowest one that passes does
 lowest_passes : (keys : List Key) (key : Key) (test : AggId → Bool) (agg : AggId) → lowest keys key test ≡ Some agg → test agg ≡ true
 lowest_passes keys key test agg e = grind (arith, nat_tests, of_entry, find, aggregator_of_entry, enumerate_from, second, find_passes)
-
-fails : (a b : Bool) → a ≡ true → (a && b) ≡ false → b ≡ false
-fails a b e h = grind (arith, nat_tests)
 
 -- if there is no lowest one, none passes that has the key
 none_passes : (first : ℕ) (keys : List Key) (key k : Key) (test : AggId → Bool) (n : ℕ)
@@ -462,7 +451,8 @@ module _ (Holds : LinkState → WorldState → Type 0) (first : ℕ) (gives : Al
         → (agg : AggId) × (x.port.choice ≡ Selected agg)
     up_selected k x there on =
         let it = still_heard Holds s old new (last.before s) b.heard k x there on in
-        let e = end_of Distributes (port_at s it.link) (half s new).state (each_link_comes_up Holds first gives (alone Holds first gives meet) n it.index it.link old new b it.healthy many h s) in
+        let e = end_of Distributes (port_at s it.link) (half s new).state (each_link_comes_up LateRounds 1 Holds first gives
+        meet n it.index it.link old new b it.healthy many h s) in
         let number : e.1.number ≡ x.number = found_place (port_at s it.link) (half s new).state.system_ports e.0 e.1 e.2 e.3 ∙ it.joins in
         let same : e.1.port ≡ x.port = all-get (λ (z : SystemPort). AtPort x.number (λ p. p ≡ x.port) z.number z.port)
         (half s new).state.system_ports e.0 e.1 e.3
@@ -474,8 +464,8 @@ module _ (Holds : LinkState → WorldState → Type 0) (first : ℕ) (gives : Al
         let w = rounds_whole gives n old new h b.steady s (in_one_of (half s old).state whole) in
         let a = up_selected i x at on in
         let c = up_selected k y bt up in
-        let knows = λ (m : ℕ) (l : LinkState) (z : IsHealthyAt m l old) (t : Side). ends_know Holds first gives meet n m l old new b.cabling b.steady z
-        (heard_holds Holds old b.cabling b.heard m l z) (omega (arith, many)) h t in
+        let knows = λ (m : ℕ) (l : LinkState) (z : IsHealthyAt m l old) (t : Side). ends_know LateRounds 1 Holds first gives meet n m l old new
+        b.cabling b.steady z (heard_holds Holds old b.cabling b.heard m l z) (omega (arith, many)) h t in
         let group = one_group old new b.steady last Holds b.heard knows s key g k y bt up its in
         let pair = (group-test (selection_view y) (selection_view x)).0 (group.group i x at (is ∙ sym its) (selected_chosen a.0 x.port.choice a.1)) in
         let same : a.0.0 ≡ c.0.0 = w a.0.0 c.0.0 i k x y at bt (ap occupied a.1) (ap occupied c.1) (is ∙ sym its) pair

@@ -10,7 +10,7 @@ use Rattle.lagprogress.proofs.Common.{KeptBySettling, OfEach, Step-each, first_e
 use Rattle.lagprogress.proofs.Common.{periodic_leaves, RowsKeep, runs_keep, takes_keep, LateRounds, OldArrive, EndKnows, Knows, AtEnd, IsHealthyAt}
 use Rattle.lagprogress.proofs.Common.{OfPort}
 use Rattle.lagprogress.proofs.SharedLemmas.{played_lasted, shared_finds}
-use Rattle.lagprogress.proofs.EachRound.{played_join, played_on, played_steady, EachAt, RoundKeeps, host_each, played_pass, same_on}
+use Rattle.lagprogress.proofs.EachRound.{played_join, played_steady, RoundKeeps, played_pass, same_on, each_on}
 use Rattle.lagprogress.proofs.Lasting.{played_alike, played_before, all_by_place, ends_at, own_system, still_heard, still_links, Alike, end_of}
 use Rattle.lagprogress.proofs.Linked.{each_side, events_each, machines_there}
 use Rattle.lagprogress.specs.Limited.{CarriesOnAll, DownAreUnselected, EachLimitedLinkAgrees, EachReachedHasDownUnselected, EndsAgreed}
@@ -65,10 +65,8 @@ idle_round = record { settles = idle_settles; sends = λ n p a. a; takes = λ n 
 still_down : (gives : Algorithms) (n : ℕ) (old new : WorldState) (s : Side) → LateRounds gives n old new → DownAreUnselected (half s old).state
     → DownAreUnselected (half s new).state
 still_down gives n old new s h a k x there =
-    let first : EachAt IdleAt s old = all_by_place (λ x. Idle x.port) (half s old).state.system_ports a in
-    let last = played_on OldArrive gives (λ m j. EachAt IdleAt s j) old first
-    (λ m i j q b. host_each IdleAt IdleAt idle_round idle_round idle_ticks s gives i j q b) n new h in
-    all-get (λ (y : SystemPort). Idle y.port) (half s new).state.system_ports k x there last
+    all-get (λ (y : SystemPort). Idle y.port) (half s new).state.system_ports k x there (each_on gives old new (played_pass OldArrive gives n old new h)
+    IdleAt idle_round idle_ticks s (all_by_place (λ x. Idle x.port) (half s old).state.system_ports a))
 
 -- so it is in each system with a limit
 
@@ -227,6 +225,6 @@ module _ (Holds : LinkState → WorldState → Type 0) (t : Side) (gives : Algor
 pub each_limited_link_agrees : (Holds : LinkState → WorldState → Type 0) (first : ℕ) (gives : Algorithms) → LinksMeet Holds first gives
     → EachLimitedLinkAgrees LateRounds Holds (first + 33) gives
 each_limited_link_agrees Holds first gives meet n i l t old new sound b y enough h = limited Holds t gives n old new sound b h
-    (λ k m z s. ends_know Holds first gives meet n k m old new sound.cabling b.steady z (heard_holds Holds old sound.cabling b.heard k m z)
-    (omega (arith, enough)) h s)
+    (λ k m z s. ends_know LateRounds 1 Holds first gives meet n k m old new sound.cabling b.steady z
+    (heard_holds Holds old sound.cabling b.heard k m z) (omega (arith, enough)) h s)
     (λ k m z both. selected_pairs_agree Holds first gives meet n k m old new sound b.steady b.heard z enough h both) i l y

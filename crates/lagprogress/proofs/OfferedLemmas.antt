@@ -10,7 +10,7 @@ use Rattle.lagprogress.proofs.Common.{SometimePlayed, TakesFrame, EndsHealthyCab
 use Rattle.lagprogress.proofs.Common.{TickOnce, LateRounds, OldArrive, NothingInFlight, OfPort}
 use Rattle.lagprogress.proofs.ArrivingLemmas.{deliver_hands_up, is_data, offer_gets_port}
 use Rattle.lagprogress.proofs.Climbing.{PartnerInSync, distributes_now, partner_along, ticks_partner}
-use Rattle.lagprogress.proofs.EachRound.{same_index, joins_kept, played_join, played_on, played_steady, EachAt, RoundKeeps, host_each, few_done}
+use Rattle.lagprogress.proofs.EachRound.{same_index, joins_kept, played_join, played_steady, RoundKeeps, few_done, each_on, played_pass}
 use Rattle.lagprogress.proofs.EndFacts.{activity, Along}
 use Rattle.lagprogress.proofs.Linked.{Fits, Link, end_here, EndIs, IsGood, place_kept, push_there}
 use Rattle.lagprogress.proofs.Quieting.{leaves}
@@ -21,10 +21,9 @@ use Rattle.lagprogress.proofs.LateFlow.{Flows, flows, gain_at}
 use Rattle.lagprogress.proofs.Knowing.{awake_peer, fits_fresh, fits_before}
 use Rattle.lagprogress.proofs.Lasting.{played_before, all_by_place, still_heard}
 use Rattle.lagprogress.proofs.LateHearing.{counts_of, kept_of}
-use Rattle.lagprogress.proofs.Bundling.{Meets, Nowhere, awake_of, said, ups_of, named_of}
+use Rattle.lagprogress.proofs.Bundling.{LinksMeet, MeetsBy, Nowhere, alone, awake_of, said, ups_of, named_of}
 use Rattle.lagprogress.proofs.Carrying.{Lapses, LapsesAt, distributes_up, lapse_settles, receive_lapses}
 use Rattle.lagprogress.proofs.Halves.{keeps_timely}
-use Rattle.lagprogress.proofs.ComingUp.{told_now}
 use Rattle.lagscript.specs.declared.event.Event.TheVariants as event
 use Rattle.lagworld.specs.declared.reply.Reply.TheVariants as reply
 use Rattle.lagprogress.proofs.SeveralTicks.{done, fits_at, known_at, none_counted, own_at, peer_at}
@@ -234,16 +233,16 @@ accepted : (s : Side) (p i : ℕ) (at : Side → ℕ) (fl : Side → List ItemVa
 accepted s p i at fl links c e = grind (arith, is_accepted, accepts_at, link_at, placed, takes_all)
 
 module _ (Holds : LinkState → WorldState → Type 0) (first : ℕ) (gives : Algorithms) (old : WorldState) (b : IsBundle Holds old)
-    (m : Meets Holds first gives old) where
+    (m : MeetsBy (LateRounds gives) 1 Holds Nowhere first gives old) where
   -- the healthy cable of a port that is up
   carrier : (n : ℕ) (s : Side) (agg : AggId) (octets : List ℕ) (r : Reply) (mid sent : WorldState) → DisabledAreUnsynchronized (half s old).state
       → LateRounds gives n old mid → (g : GetsPort s agg octets mid r sent) → EndsHealthyCable Holds s g.port old
   carrier n s agg octets r mid sent quiet h g =
       let st = (half s mid).state in
       let now = played_steady OldArrive gives n old mid b.steady h in
-      let up = distributes_up st agg g.port (now s).0 (played_on OldArrive gives (λ m j. EachAt LapsesAt s j) old
-      (all_by_place (λ x. Lapses x.port) (half s old).state.system_ports quiet) (λ m i j q b. host_each LapsesAt LapsesAt lapse_round lapse_round
-      (λ k p r run c. runs_keep Lapses receive_rows receive_lapses (count_down p) r run c) s gives i j q b) n mid h) g.distributes in
+      let up = distributes_up st agg g.port (now s).0 (each_on gives old mid (played_pass OldArrive gives n old mid h) LapsesAt lapse_round
+      (λ k p r run c. runs_keep Lapses receive_rows receive_lapses (count_down p) r run c) s
+      (all_by_place (λ x. Lapses x.port) (half s old).state.system_ports quiet)) g.distributes in
       subst (λ p. EndsHealthyCable Holds s p old) up.3
       (still_heard Holds s old mid (played_before OldArrive gives n old mid b.steady h s) b.heard up.0 up.1 up.2 up.4)
 
@@ -261,12 +260,11 @@ module _ (Holds : LinkState → WorldState → Type 0) (first : ℕ) (gives : Al
       let y = it.healthy in
       let at : Side → ℕ = λ t. port_at t l in
       let w = said old i l y in
-      let named = named_of OldArrive Holds Nowhere first gives old m i l y in
-      let awake = awake_of OldArrive Holds Nowhere first gives old m i l y in
-      let top = ups_of OldArrive Holds Nowhere first gives old m i l y n mid enough h in
-      let fresh = top.2.fresh in
-      let heard = told_now at w (counts_of at old) (kept_of at old) 1 11 top.0 mid (omega arith) top.1 top.2 (peer s) in
-      let start = join 2 at w fresh.known One (peer s) PartnerInSync mid fresh.link heard in
+      let named = named_of (LateRounds gives) 1 Holds Nowhere first gives old m i l y in
+      let awake = awake_of (LateRounds gives) 1 Holds Nowhere first gives old m i l y in
+      let top = ups_of (LateRounds gives) 1 Holds Nowhere first gives old m i l y n mid enough h in
+      let fresh = top.fresh in
+      let start = join 2 at w fresh.known One (peer s) PartnerInSync mid fresh.link (top.heard (peer s)) in
       let plain = subst (λ o. IsFrame o Data_frame) (sym g.frame) (is_data octets.items takes.may.1) in
       let o = offer_link gives number s 2 at w fresh.known (peer s) PartnerInSync agg octets r mid sent g (sym it.joins) plain step start in
       let fl : Side → List ItemValue = push (peer s) g.item start.flying in
@@ -296,6 +294,7 @@ module _ (Holds : LinkState → WorldState → Type 0) (first : ℕ) (gives : Al
       }
 
 pub each_frame_arrives_by_hosts : (Holds : LinkState → WorldState → Type 0) (first : ℕ) (gives : Algorithms)
-    → ((old : WorldState) → IsBundle Holds old → Meets Holds first gives old) → EachFrameArrivesByHosts Holds (first + 33) gives
-each_frame_arrives_by_hosts Holds first gives meets n number s agg octets r old mid sent new b quiet enough h none named takes step q =
-    arrives Holds first gives old b (meets old b) n number s agg octets r mid sent new quiet enough h none named takes step q
+    → LinksMeet Holds first gives → EachFrameArrivesByHosts Holds (first + 33) gives
+each_frame_arrives_by_hosts Holds first gives meet n number s agg octets r old mid sent new b quiet enough h none named takes step q =
+    arrives Holds first gives old b (alone LateRounds 1 Holds first gives meet old b) n number s agg octets r mid sent new quiet enough h none named
+    takes step q

@@ -8,14 +8,13 @@ use Rattle.lagprogress.proofs.Common.{port_numbers, processes_or_stays, rests, a
 use Rattle.lagprogress.proofs.Common.{LinkState, WorldState, half, port_at, towards, HostEvent, Plays, IsTimed, OfEach, asked_each, no, AtPort}
 use Rattle.lagprogress.proofs.Common.{at_number, AllHeard, EndsHealthyCable, SelectedPairsAgree, SelectedPairsComeUp, IsBetweenTicks, StepReplies}
 use Rattle.lagprogress.proofs.Common.{IsLateRound, LateRounds, OldArrive, AtEnd, IsHealthyAt, OfPort, IsSteady}
-use Rattle.lagprogress.proofs.EachRound.{played_on, EachAt, tick_keeps, played_split, played_steady, RoundKeeps, host_each, played_pass, same_on}
-use Rattle.lagprogress.proofs.EachRound.{each_between, holds_once}
+use Rattle.lagprogress.proofs.EachRound.{played_on, EachAt, tick_keeps, played_split, played_steady, RoundKeeps, played_pass, same_on, each_between}
+use Rattle.lagprogress.proofs.EachRound.{holds_once}
 use Rattle.lagprogress.proofs.LateHearing.{counts_of, kept_of}
-use Rattle.lagprogress.proofs.Quieting.{as_beside, IsCalm, calm_steady, calm_keeps, quiet_ports, asked_half, came_half, all_beside, calm_between}
-use Rattle.lagprogress.proofs.Quieting.{leaves}
+use Rattle.lagprogress.proofs.Quieting.{as_beside, IsCalm, calm_steady, calm_keeps, quiet_ports, asked_half, came_half, calm_between, leaves}
 use Rattle.lagprogress.proofs.Knowing.{Fresh, fits_fresh, fits_before, knows_late, stays_met, AtIt, Met}
 use Rattle.lagprogress.proofs.Linked.{each_side, EndIs, Fits, IsGood, Link, arrival, at_end, end_here}
-use Rattle.lagprogress.proofs.Bundling.{Awake, said, Named, names, agree_up, heard_holds, LinksMeet}
+use Rattle.lagprogress.proofs.Bundling.{Awake, said, Named, names, agree_still, heard_holds, LinksMeet, stands_in, sinks_in}
 use Rattle.lagprogress.proofs.Choosing.{AllAsRead, AsRead, Chose, down_as_read, down_still, one_as_read, settles_choice, takes_as_read, zip_as_read}
 use Rattle.lagprogress.proofs.Climbing.{ticks_still, Down, Ripe, Rising, down_settles, down_takes, down_ticks, rising_first}
 use Rattle.lagprogress.proofs.EndFacts.{nothing_along}
@@ -24,7 +23,7 @@ use Rattle.lagprogress.proofs.OneCable.{Comes, alone, cable, towards_there, tick
 use Rattle.lagprogress.proofs.OneRound.{Nothing}
 use Rattle.lagprogress.proofs.HostRound.{KeptBetween, MadeByTick, tick_one, between}
 use Rattle.lagprogress.proofs.Lasting.{Alike, alike_keeps, alike_ticks, all_by_place, old_port, played_alike, played_before}
-use Rattle.lagprogress.proofs.ComingUp.{comes_to_be_up, up_synced, AreSynced, distributes, climbed_end, climbs}
+use Rattle.lagprogress.proofs.ComingUp.{AreSynced, agreed_synced, comes_to_agree, distributes, climbed_end, climbs, rounds_beside, rounds_once}
 use Rattle.slowpdu.specs.declared.pdu.Pdu.TheVariants as pdu
 use Rattle.lagsystem.specs.declared.drive.Reply.TheVariants as answer
 use Rattle.lagscript.specs.declared.event.Event.TheVariants as event
@@ -287,14 +286,6 @@ down_one t n = record {
   takes = λ m v p q h a e. down_takes t n v p q h (a e);
 }
 
-sinks_one : (gives : Algorithms) (s : Side) (n m : ℕ) (mid top : WorldState) → EachAt (AtPort n (Down 20 n)) s mid → LateRounds gives m mid top
-    → EachAt (AtPort n (Down (20 - m) n)) s top
-sinks_one gives s n m mid top a h = played_on OldArrive gives (λ k j. EachAt (AtPort n (Down (20 - k) n)) s j) mid
-    (subst (λ t. EachAt (AtPort n (Down t n)) s mid) (omega arith) a)
-    (λ k i j q b. subst (λ t. EachAt (AtPort n (Down t n)) s j) (omega arith)
-    (host_each (AtPort n (Down (20 - k) n)) (AtPort n (Down (20 - k - 1) n)) (down_one (20 - k) n) (down_one (20 - k - 1) n)
-    (λ x p r run c e. down_ticks (20 - k) n p r run (c e)) s gives i j q b)) m top h
-
 module _ (Holds : LinkState → WorldState → Type 0) (first : ℕ) (gives : Algorithms) (old : WorldState) (cabling : IsCabling (world_setup old).cables)
     (steady : IsSteady old) (heard : AllHeard Holds old) (k : LinksMeet Holds first gives) where
   -- of each healthy cable it holds
@@ -349,8 +340,8 @@ module _ (Holds : LinkState → WorldState → Type 0) (first : ℕ) (gives : Al
         → Met (λ t. port_at t l) (said old i l y) (counts_of (λ t. port_at t l) old) (kept_of (λ t. port_at t l) old) 1 top
         × AtIt (λ t. port_at t l) (said old i l y) s (Rising 0) top
     climb top more i l y s chosen = let at : Side → ℕ = λ t. port_at t l in
-        climbs at (said old i l y) (counts_of at old) (kept_of at old) gives (names_of i l y) (wake i l y) s mid top (fresh i l y) chosen
-        (all_beside at OldArrive gives 20 mid top more)
+        climbs at (said old i l y) (counts_of at old) (kept_of at old) 1 gives (names_of i l y) (wake i l y) (omega arith) (omega arith) s mid top
+        (fresh i l y) chosen (rounds_beside at 1 gives 20 mid top (k.kind.are 20 mid top more))
 
     -- the SELECTED ports have risen
     ripe : (top : WorldState) → LateRounds gives 20 mid top → (s : Side) → AllByRecursion (λ (y : SystemPort). Ripe 0 y.port) (half s top).state.system_ports
@@ -376,9 +367,10 @@ module _ (Holds : LinkState → WorldState → Type 0) (first : ℕ) (gives : Al
                     λ agg stand. no (sym (ap is_selected stand) ∙ was),
                     λ c. (rising_first x.0.port mux timed c).1,
                   ) in
-                  let sunk = subst (λ t. EachAt (AtPort x.0.number (Down t x.0.number)) s top) (omega arith)
-                  (sinks_one gives s x.0.number 20 mid top
-                  (at_number (Down 20 x.0.number) 0 st.system_ports k x.0 (ports_rise st (stands.steady s).0.ports) x.1 starts) more) in
+                  let sunk = sinks_in (λ t. AtPort x.0.number (Down t x.0.number)) (λ t. down_one t x.0.number)
+                  (λ t n p q run c e. down_ticks t x.0.number p q run (c e)) 1 gives s mid top
+                  (rounds_once IsBetweenTicks 1 gives (omega arith) 20 mid top more)
+                  (at_number (Down 20 x.0.number) 0 st.system_ports k x.0 (ports_rise st (stands.steady s).0.ports) x.1 starts) in
                   (all-get (λ (q : SystemPort). AtPort x.0.number (Down 0 x.0.number) q.number q.port) (half s top).state.system_ports k y there
                   sunk x.2 ((both.alike k x.0 y x.1 there).1 ∙ gone)).1 sel)
             ])
@@ -392,8 +384,10 @@ module _ (Holds : LinkState → WorldState → Type 0) (first : ℕ) (gives : Al
       let cut = played_split OldArrive gives m first n old new (omega (arith, enough)) h in
       let up = played_split OldArrive gives (m - 20) 20 m cut.0 new (omega (arith, enough)) cut.2 in
       let risen = λ (s : Side). climb cut.0 cut.1 up.0 up.1 i l y s (was_chosen cut.0 cut.1 i l y m new cut.2 s (sel s)) in
-      up_synced gives at w old new (comes_to_be_up gives at w (names_of i l y) (wake i l y) (m - 20) old up.0 new (omega (arith, enough)) up.2 (risen One).0
-      (λ s. climbed_end at w (counts_of at old) (kept_of at old) s up.0 (ripe cut.0 cut.1 up.0 up.1 s) (risen s)))
+      agreed_synced gives at w old new 1 (omega arith) (comes_to_agree at w (counts_of at old) (kept_of at old) 1 gives (names_of i l y) (wake i l y)
+      (omega arith) (omega arith) (m - 20) up.0 new (omega (arith, enough)) (risen One).0
+      (λ s. climbed_end at w (risen s).0.known s up.0 (ripe cut.0 cut.1 up.0 up.1 s) (risen s).0.link (risen s).1)
+      (rounds_beside at 1 gives (m - 20) up.0 new (k.kind.are (m - 20) up.0 new up.2)))
 
 module _ (Holds : LinkState → WorldState → Type 0) (first : ℕ) (gives : Algorithms) (k : LinksMeet Holds first gives) where
   pub selected_pairs_come_up : SelectedPairsComeUp LateRounds Holds (first + 33) gives
@@ -402,5 +396,5 @@ module _ (Holds : LinkState → WorldState → Type 0) (first : ℕ) (gives : Al
 
   pub selected_pairs_agree : SelectedPairsAgree LateRounds Holds (first + 33) gives
   selected_pairs_agree n i l old new sound steady heard y enough h sel =
-      agree_up OldArrive gives n i l old new sound (all_beside (λ s. port_at s l) OldArrive gives n old new h) y
+      agree_still i l old new sound (stands_in 1 gives n i l old new sound.cabling y (k.kind.are n old new h)) y
       (ups Holds first gives old sound.cabling steady heard k i l y n new enough h sel)

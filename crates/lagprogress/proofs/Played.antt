@@ -11,7 +11,6 @@ use Rattle.lagprogress.specs.Played.{most_cables}
 use Rattle.std.proofs.lemmas.List.{length-map, take_more}
 use Rattle.lagscript.specs.declared.event.Event.TheVariants as event
 use Rattle.lagworld.specs.declared.fault.WorldFault.TheVariants.{NoCable}
-use Rattle.lagworld.specs.declared.reply.Reply.TheVariants as reply
 
 -- of an answer
 pub if_err : {T E : Type 0} (P Q : E → Type 0) (r : Result T E) → ((x : E) → P x → Q x) → IfErr r P → IfErr r Q
@@ -211,9 +210,6 @@ one_more gives c n r old mid new h x = delivers_both gives old mid new h (record
   arrives = (tt, tt);
   acts = record { replies = r ∷ []; acts = (new, x, refl) };
 })
-
-is_nothing : (r : Reply) → found_nothing r ≡ true → r ≡ reply.Empty
-is_nothing r h = grind (arith, nat_tests)
 
 -- no cable changed, and nothing is on those before this index
 pub record IsQuiet (n : ℕ) (old new : WorldState) : Type 0 where

@@ -1,6 +1,6 @@
 use Rattle.lagprogress.proofs.Common.{arith, refl, subst, ℕ, ◌∙◌, ◌≡◌, ◌≤◌, One, Side, Algorithms, WorldState, BothAreActive, OneIsActive}
-use Rattle.lagprogress.proofs.Common.{DrainingRounds, PlaysHostRounds, up_if_both_active, up_if_one_is, IsSteady}
-use Rattle.lagprogress.proofs.Bundling.{each_link_agrees, each_link_comes_up, one_active, both_active}
+use Rattle.lagprogress.proofs.Common.{DrainingRounds, LateRounds, PlaysHostRounds, up_if_both_active, up_if_one_is, IsSteady}
+use Rattle.lagprogress.proofs.Bundling.{each_link_agrees, each_link_comes_up, one_meets, both_meet}
 use Rattle.lagprogress.proofs.Freeing.{nothing_is_held_by_hosts}
 use Rattle.lagprogress.proofs.HostLoops.{draining_are_host}
 use Rattle.lagprogress.proofs.Looping.{one_draining_round_more, one_round_more, round_runs, runs_none}
@@ -68,24 +68,24 @@ returns-clause-rounds g c = λ steady. draining_are_host _ One 0 0 c.args.count 
 
 pub returns-clause-distributes_both : goal.returns-clause-distributes_both
 returns-clause-distributes_both g c = distribute g.C.Cable.items g.C.Cable.limit BothAreActive up_if_both_active _
-    (each_link_comes_up BothAreActive 323 _ (both_active _)) c.args.count _ _ (returns-clause-rounds g c)
+    (each_link_comes_up LateRounds 1 BothAreActive 323 _ (both_meet _)) c.args.count _ _ (returns-clause-rounds g c)
 
 pub returns-clause-agrees_both : goal.returns-clause-agrees_both
 returns-clause-agrees_both g c = agree g.C.Cable.items g.C.Cable.limit BothAreActive up_if_both_active _
-    (each_link_agrees BothAreActive 323 _ (both_active _)) c.args.count _ _ (returns-clause-rounds g c)
+    (each_link_agrees LateRounds 1 BothAreActive 323 _ (both_meet _)) c.args.count _ _ (returns-clause-rounds g c)
 
 pub returns-clause-distributes_one : goal.returns-clause-distributes_one
 returns-clause-distributes_one g c = distribute g.C.Cable.items g.C.Cable.limit OneIsActive up_if_one_is _
-    (each_link_comes_up OneIsActive 624 _ (one_active _)) c.args.count _ _ (returns-clause-rounds g c)
+    (each_link_comes_up LateRounds 1 OneIsActive 624 _ (one_meets _)) c.args.count _ _ (returns-clause-rounds g c)
 
 pub returns-clause-agrees_one : goal.returns-clause-agrees_one
 returns-clause-agrees_one g c = agree g.C.Cable.items g.C.Cable.limit OneIsActive up_if_one_is _
-    (each_link_agrees OneIsActive 624 _ (one_active _)) c.args.count _ _ (returns-clause-rounds g c)
+    (each_link_agrees LateRounds 1 OneIsActive 624 _ (one_meets _)) c.args.count _ _ (returns-clause-rounds g c)
 
 pub returns-clause-frees_both : goal.returns-clause-frees_both
 returns-clause-frees_both g c = free_by_hosts g.C.Cable.items g.C.Cable.limit BothAreActive up_if_both_active _
-    (nothing_is_held_by_hosts BothAreActive 323 _ (both_active _)) c.args.count _ _ c.loop-done.invariant.events (returns-clause-drains g c)
+    (nothing_is_held_by_hosts BothAreActive 323 _ (both_meet _)) c.args.count _ _ c.loop-done.invariant.events (returns-clause-drains g c)
 
 pub returns-clause-frees_one : goal.returns-clause-frees_one
 returns-clause-frees_one g c = free_by_hosts g.C.Cable.items g.C.Cable.limit OneIsActive up_if_one_is _
-    (nothing_is_held_by_hosts OneIsActive 624 _ (one_active _)) c.args.count _ _ c.loop-done.invariant.events (returns-clause-drains g c)
+    (nothing_is_held_by_hosts OneIsActive 624 _ (one_meets _)) c.args.count _ _ c.loop-done.invariant.events (returns-clause-drains g c)

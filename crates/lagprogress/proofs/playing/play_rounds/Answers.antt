@@ -1,6 +1,6 @@
-use Rattle.lagprogress.proofs.Common.{arith, subst, ℕ, ◌∙◌, ◌≡◌, ◌≤◌, Algorithms, WorldState, BothAreActive, OneIsActive, Rounds}
+use Rattle.lagprogress.proofs.Common.{arith, subst, ℕ, ◌∙◌, ◌≡◌, ◌≤◌, Algorithms, WorldState, BothAreActive, OneIsActive, LateRounds, Rounds}
 use Rattle.lagprogress.proofs.Common.{freed_if_both_active, freed_if_one_is, up_if_both_active, up_if_one_is}
-use Rattle.lagprogress.proofs.Bundling.{each_link_agrees, each_link_comes_up, one_active, both_active}
+use Rattle.lagprogress.proofs.Bundling.{each_link_agrees, each_link_comes_up, one_meets, both_meet}
 use Rattle.lagprogress.proofs.Freeing.{nothing_is_held}
 use Rattle.lagprogress.proofs.HostLoops.{rounds_are_host_rounds}
 use Rattle.lagprogress.proofs.MadeWorlds.{agree, distribute, free}
@@ -45,28 +45,28 @@ returns-clause-rounds g c =
 
 pub returns-clause-distributes_both : goal.returns-clause-distributes_both
 returns-clause-distributes_both g c = distribute g.C.Cable.items g.C.Cable.limit BothAreActive up_if_both_active _
-    (each_link_comes_up BothAreActive 323 _ (both_active _)) c.args.count _ _
+    (each_link_comes_up LateRounds 1 BothAreActive 323 _ (both_meet _)) c.args.count _ _
     (λ steady. rounds_are_host_rounds _ c.args.count _ _ steady (returns-clause-rounds g c))
 
 pub returns-clause-agrees_both : goal.returns-clause-agrees_both
 returns-clause-agrees_both g c = agree g.C.Cable.items g.C.Cable.limit BothAreActive up_if_both_active _
-    (each_link_agrees BothAreActive 323 _ (both_active _)) c.args.count _ _
+    (each_link_agrees LateRounds 1 BothAreActive 323 _ (both_meet _)) c.args.count _ _
     (λ steady. rounds_are_host_rounds _ c.args.count _ _ steady (returns-clause-rounds g c))
 
 pub returns-clause-frees_both : goal.returns-clause-frees_both
 returns-clause-frees_both g c = free g.C.Cable.items g.C.Cable.limit BothAreActive freed_if_both_active _
-    (nothing_is_held BothAreActive 323 _ (both_active _)) c.args.count _ _ (returns-clause-rounds g c)
+    (nothing_is_held BothAreActive 323 _ (both_meet _)) c.args.count _ _ (returns-clause-rounds g c)
 
 pub returns-clause-distributes_one : goal.returns-clause-distributes_one
 returns-clause-distributes_one g c = distribute g.C.Cable.items g.C.Cable.limit OneIsActive up_if_one_is _
-    (each_link_comes_up OneIsActive 624 _ (one_active _)) c.args.count _ _
+    (each_link_comes_up LateRounds 1 OneIsActive 624 _ (one_meets _)) c.args.count _ _
     (λ steady. rounds_are_host_rounds _ c.args.count _ _ steady (returns-clause-rounds g c))
 
 pub returns-clause-agrees_one : goal.returns-clause-agrees_one
 returns-clause-agrees_one g c = agree g.C.Cable.items g.C.Cable.limit OneIsActive up_if_one_is _
-    (each_link_agrees OneIsActive 624 _ (one_active _)) c.args.count _ _
+    (each_link_agrees LateRounds 1 OneIsActive 624 _ (one_meets _)) c.args.count _ _
     (λ steady. rounds_are_host_rounds _ c.args.count _ _ steady (returns-clause-rounds g c))
 
 pub returns-clause-frees_one : goal.returns-clause-frees_one
 returns-clause-frees_one g c = free g.C.Cable.items g.C.Cable.limit OneIsActive freed_if_one_is _
-    (nothing_is_held OneIsActive 624 _ (one_active _)) c.args.count _ _ (returns-clause-rounds g c)
+    (nothing_is_held OneIsActive 624 _ (one_meets _)) c.args.count _ _ (returns-clause-rounds g c)
