@@ -2,13 +2,12 @@
 use Rattle.lagprogress.proofs.Common.{Bool, List, [], ap, false, inl, inr, length, refl, subst, suc, sym, true, zero, ℕ, ◌++◌, ◌∙◌, ◌∷◌, ◌≡◌}
 use Rattle.lagprogress.proofs.Common.{IsCabling, One, Side, Two, Reply, Algorithms, world_setup, ItemValue, WorldState, port_at, towards, HostEvent}
 use Rattle.lagprogress.proofs.Common.{Clearing, HostRounds, IsHostRound, IsTickOf, NoneIsLeft, PlayedRounds, RunReplies, StepReplies, TickOnce}
-use Rattle.lagprogress.proofs.Common.{ArriveIn, HostRoundIsLateRound, HostRoundsAreLateRounds, OldArrive, NothingInFlight, LateRoundsAreSeveral}
+use Rattle.lagprogress.proofs.Common.{ArriveIn, HostRoundIsLateRound, HostRoundsAreLateRounds, OldArrive, NothingInFlight}
 use native.Mathlib.Omega.{arith}
 use Rattle.lagprogress.proofs.EachRound.{clears_less, joins_kept, played_join}
 use Rattle.lagprogress.proofs.LateFlow.{flows, gain_at, stays_there}
 use Rattle.lagprogress.proofs.OneCable.{OnCable, cable, sent_frame, ticks, towards_there}
 use Rattle.lagprogress.proofs.Quieting.{leaves, replayed}
-use Rattle.lagprogress.proofs.SeveralTicks.{once}
 use Rattle.lagprogress.proofs.Lasting.{healthy_cable}
 
 -- a run in the end of which nothing is on the cable: what was on it has arrived
@@ -86,8 +85,3 @@ rounds_emptied gives (suc n) old new cabling h = (
 
 pub host_rounds_are_late_rounds : (gives : Algorithms) → HostRoundsAreLateRounds gives
 host_rounds_are_late_rounds gives n old new cabling h = grind (arith, clears_less, Emptied, rounds_emptied)
-
--- a late round is one of several ticks, of one
-pub late_rounds_are_several : (gives : Algorithms) → LateRoundsAreSeveral gives
-late_rounds_are_several gives zero old new h = h
-late_rounds_are_several gives (suc n) old new h = (h.0, late_rounds_are_several gives n old h.0 h.1, 1, omega arith, omega arith, once h.2)

@@ -1,5 +1,6 @@
-use Rattle.lagprogress.proofs.LateLoops.{host_round_is_late_round, host_rounds_are_late_rounds, late_rounds_are_several}
-use Rattle.lagprogress.proofs.Common.{port_at, LeavesPorts, IsBetweenTicks, OldArrive}
+use Rattle.lagprogress.proofs.LateLoops.{host_round_is_late_round, host_rounds_are_late_rounds}
+use Rattle.lagprogress.proofs.ComingUp.{rounds_once}
+use Rattle.lagprogress.proofs.Common.{arith, port_at, LeavesPorts, IsBetweenTicks, OldArrive, most_ticks}
 use Rattle.lagprogress.proofs.HostLoops.{asking_is_played, asking_is_several, come_beside, come_between}
 use Rattle.lagprogress.proofs.clocks.clocks_play_rounds.Goals as goal
 
@@ -23,4 +24,4 @@ pub returns-clause-several_beside : goal.returns-clause-several_beside
 returns-clause-several_beside g c = λ one two l. asking_is_several (LeavesPorts (λ s. port_at s l)) (come_beside (λ s. port_at s l)) _
 
 pub returns-clause-several_late : goal.returns-clause-several_late
-returns-clause-several_late g c = λ one two. late_rounds_are_several _
+returns-clause-several_late g c = λ one two. rounds_once IsBetweenTicks most_ticks _ (omega arith)
