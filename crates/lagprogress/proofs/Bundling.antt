@@ -14,7 +14,8 @@ use Rattle.lagprogress.proofs.SeveralTicks.{once}
 use Rattle.lagprogress.proofs.ComingUp.{Up, comes_to_be_up, several_join, several_stamped, several_synced, up_synced, AreSynced, agrees_now}
 use Rattle.lagprogress.proofs.ComingUp.{distributes, stamps_stay, climbed_end, climbs}
 use Rattle.lagprogress.proofs.EachRound.{clears_less, EachAt, RoundKeeps, same_index, joins_beside, host_each, played_on, played_split, played_steady}
-use Rattle.lagprogress.proofs.Knowing.{Fresh, knows_late, late_active_meet, late_fresh_knows, late_one_meets, AtIt, Met}
+use Rattle.lagprogress.proofs.Knowing.{knows_late, AtIt, Met}
+use Rattle.lagprogress.proofs.LateMeeting.{Fresh, late_active_meet, late_fresh_knows, late_one_meets}
 use Rattle.lagprogress.proofs.Climbing.{Down, Ripe, Rising, down_settles, down_takes, down_ticks, rising_first}
 use Rattle.lagprogress.proofs.Lasting.{active_at, awake_at, named_at, healthy_cable, said_by, starts, IsAsBefore, all_by_place, ends_at, old_port}
 use Rattle.lagprogress.proofs.Lasting.{own_system, still_links, played_before}
