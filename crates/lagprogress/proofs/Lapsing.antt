@@ -1,10 +1,11 @@
 -- A port that is kept from silence by an active partner alone: it is CURRENT, or EXPIRED and about to send.
-use Rattle.lagprogress.proofs.Common.{Bool, ap, arith, false, inl, inr, refl, subst, sym, true, ℕ, ◌&&◌, ◌-◌, ◌==◌, ◌∙◌, ◌≡◌, ◌≤◌, ◌⊎◌, nat_tests}
-use Rattle.lagprogress.proofs.Common.{Choice, State, StateBits, is_selected, bits_of, with_synchronization, with_timeout, encode_then_decode, Lacpdu}
-use Rattle.lagprogress.proofs.Common.{ReceiveState, Current, Expired, Initialize, PortDisabled, Machines, mux_rows, RunsPeriodic, periodic_rows}
-use Rattle.lagprogress.proofs.Common.{receive_rows, same_receive_state, AtRest, RunsToRest, count_down, HasRecorded, timeout_time, EnabledKeep, no}
-use Rattle.lagprogress.proofs.Common.{not_down, Recorded, mux_leaves, periodic_leaves, Calm, Sounds, counts_sounds, mux_sounds, not_gone, not_silent}
-use Rattle.lagprogress.proofs.Common.{periodic_runs, runs_keep, takes_keep, suc, ◌+◌, IsTimed, times_keep, sounds_first, sounds_in_slow}
+use Rattle.lagprogress.proofs.Common.{Bool, ap, arith, false, inl, inr, refl, subst, suc, sym, true, ℕ, ◌&&◌, ◌+◌, ◌-◌, ◌==◌, ◌∙◌, ◌≡◌, ◌≤◌, ◌⊎◌}
+use Rattle.lagprogress.proofs.Common.{nat_tests, Choice, State, StateBits, is_selected, bits_of, with_synchronization, with_timeout}
+use Rattle.lagprogress.proofs.Common.{encode_then_decode, Lacpdu, ReceiveState, Current, Expired, Initialize, PortDisabled, Machines, mux_rows}
+use Rattle.lagprogress.proofs.Common.{RunsPeriodic, periodic_rows, receive_rows, same_receive_state, AtRest, RunsToRest, count_down, HasRecorded}
+use Rattle.lagprogress.proofs.Common.{IsTimed, timeout_time, EnabledKeep, no, not_down, times_keep, Recorded, mux_leaves, periodic_leaves, Calm}
+use Rattle.lagprogress.proofs.Common.{Sounds, counts_sounds, mux_sounds, not_gone, not_silent, periodic_runs, sounds_first, sounds_in_slow, runs_keep}
+use Rattle.lagprogress.proofs.Common.{takes_keep}
 use Rattle.lagprogress.proofs.EndFacts.{Along, activity, short_timeout, sounds_takes, takes_known, each_row, both_along, constant_along, wait_of}
 use Rattle.lagprogress.proofs.OneRound.{still_sounds}
 use Rattle.lagprogress.proofs.SeveralTicks.{TickPasses, no_less}

@@ -1,6 +1,6 @@
 -- The ends of a cable know each other behind so many late rounds.
-use Rattle.lagprogress.proofs.Common.{arith, inl, true, zero, suc, ℕ, ◌≡◌, ◌≤◌, Lacpdu, One, Side, Algorithms, LinkState, WorldState, port_at}
-use Rattle.lagprogress.proofs.Common.{EndKnows, LateRounds, OldArrive, refl}
+use Rattle.lagprogress.proofs.Common.{arith, inl, refl, suc, true, zero, ℕ, ◌≡◌, ◌≤◌, Lacpdu, One, Side, Algorithms, LinkState, WorldState, port_at}
+use Rattle.lagprogress.proofs.Common.{LateRounds, OldArrive, EndKnows}
 use Rattle.lagprogress.proofs.Claims.{IsNamed}
 use Rattle.lagprogress.proofs.EndFacts.{activity}
 use Rattle.lagprogress.proofs.Knowing.{Early, leaves_once, met_knows}

@@ -1,7 +1,7 @@
 -- The ends of a cable know each other behind so many rounds of several ticks.
-use Rattle.lagprogress.proofs.Common.{List, [], arith, inl, inr, refl, true, zero, suc, ℕ, ◌∷◌, ◌≡◌, ◌≤◌, Lacpdu, One, Side, Algorithms, LinkState}
-use Rattle.lagprogress.proofs.Common.{WorldState, port_at, HostEvent, LeavesPorts, Clearing, IsBetweenTicks, OldArrive, EndKnows, IsPlayedTicks}
-use Rattle.lagprogress.proofs.Common.{SeveralRounds, TicksAmong, most_ticks, Bool}
+use Rattle.lagprogress.proofs.Common.{Bool, List, [], arith, inl, inr, refl, suc, true, zero, ℕ, ◌∷◌, ◌≡◌, ◌≤◌, Lacpdu, One, Side, Algorithms}
+use Rattle.lagprogress.proofs.Common.{LinkState, WorldState, port_at, HostEvent, LeavesPorts, Clearing, IsBetweenTicks, OldArrive, EndKnows}
+use Rattle.lagprogress.proofs.Common.{IsPlayedTicks, SeveralRounds, TicksAmong, most_ticks}
 use Rattle.lagprogress.proofs.Claims.{IsNamed}
 use Rattle.lagprogress.proofs.EndFacts.{activity}
 use Rattle.lagprogress.proofs.Knowing.{GoingIn, MetIn, counted, leaves_six, met_knows}
