@@ -1,4 +1,4 @@
--- How the ends of a cable come to know each other.
+-- What the ends of a cable know of each other, and what a round leaves of that.
 use Rattle.lagprogress.proofs.Common.{Bool, arith, false, inl, inr, refl, subst, sym, true, ℕ, ◌+◌, ◌-◌, ◌∙◌, ◌≡◌, ◌≤◌, ◌⊎◌, nat_tests, Lacpdu, One}
 use Rattle.lagprogress.proofs.Common.{Side, peer, Machines, periodic_rows, AtRest, Algorithms, LinkState, WorldState, half, port_at, IsTimed}
 use Rattle.lagprogress.proofs.Common.{timeout_time, OfEach, AtPort, Sounds, silence_of, sounds_first, OldArrive, EndKnows, Knows, most_ticks}

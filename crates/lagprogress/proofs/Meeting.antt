@@ -57,39 +57,39 @@ module _ (at : Side → ℕ) (w : Side → Lacpdu) (s : Side) (quick : IsQuick (
 
 -- rounds of one tick to N
 
-abbrev pub RoundIn : (Side → ℕ) → Algorithms → ℕ → WorldState → WorldState → Type 0
-RoundIn at gives N old new = (k : ℕ) × (1 ≤ k) × (k ≤ N) × TicksBeside k at OldArrive gives old new
+abbrev pub IsRoundIn : (Side → ℕ) → Algorithms → ℕ → WorldState → WorldState → Type 0
+IsRoundIn at gives N old new = (k : ℕ) × (1 ≤ k) × (k ≤ N) × TicksBeside k at OldArrive gives old new
 
 abbrev pub RoundsIn : (Side → ℕ) → Algorithms → ℕ → ℕ → WorldState → WorldState → Type 0
 RoundsIn at gives N zero old new = new ≡ old
-RoundsIn at gives N (suc n) old new = (mid : WorldState) × RoundsIn at gives N n old mid × RoundIn at gives N mid new
+RoundsIn at gives N (suc n) old new = (mid : WorldState) × RoundsIn at gives N n old mid × IsRoundIn at gives N mid new
 
 rounds_on : (at : Side → ℕ) (gives : Algorithms) (N : ℕ) (S : ℕ → WorldState → Type 0) (start : WorldState)
-    → ((new : WorldState) → RoundIn at gives N start new → S 1 new)
-    → ((n : ℕ) (old new : WorldState) → RoundIn at gives N old new → S n old → S (n + 1) new)
+    → ((new : WorldState) → IsRoundIn at gives N start new → S 1 new)
+    → ((n : ℕ) (old new : WorldState) → IsRoundIn at gives N old new → S n old → S (n + 1) new)
     → (n : ℕ) (new : WorldState) → 1 ≤ n → RoundsIn at gives N n start new → S n new
 rounds_on at gives N S start first next zero new l h = absurd (omega (arith, l))
-rounds_on at gives N S start first next (suc zero) new l (mid, same, r) = first new (subst (λ j. RoundIn at gives N j new) same r)
+rounds_on at gives N S start first next (suc zero) new l (mid, same, r) = first new (subst (λ j. IsRoundIn at gives N j new) same r)
 rounds_on at gives N S start first next (suc (suc n)) new l (mid, h, r) =
     subst (λ m. S m new) (omega arith) (next (suc n) mid new r (rounds_on at gives N S start first next (suc n) mid (omega arith) h))
 
 -- the phases
 
 module _ (at : Side → ℕ) (w : Side → Lacpdu) (counts : Side → ℕ) (kept : Side → Bool) (gives : Algorithms) (N : ℕ) (some : 1 ≤ N) (small : N ≤ 6)
-    (slack : ℕ) (slacks : 1 ≤ slack) (tight : slack ≤ 11) (leaves : Leaves at w counts kept gives N slack) (named : (t : Side) → IsNamed (w t)) where
+    (slack : ℕ) (loose : 1 ≤ slack) (tight : slack ≤ 11) (leaves : Leaves at w counts kept gives N slack) (named : (t : Side) → IsNamed (w t)) where
   abbrev Rest : WorldState → Type 0
   Rest j = Stamped 1 at counts kept j
 
   abbrev Round : WorldState → WorldState → Type 0
-  Round old new = RoundIn at gives N old new
+  Round old new = IsRoundIn at gives N old new
 
   -- the ticks in which the other end hears one that may sound
   abbrev gap : Bool → ℕ
   gap b = silence_of b + (N + N) - 1
 
-  -- both ends know each other
-  abbrev Meet : WorldState → Type 0
-  Meet j = GoingIn at w counts kept N slack 0 1 (gap true) 0 j
+  -- both ends know each other since few rounds
+  abbrev EarlyIn : WorldState → Type 0
+  EarlyIn j = GoingIn at w counts kept N slack 0 1 (gap true) 0 j
 
   -- an end may sound now
   abbrev Sounding : Side → WorldState → Type 0
@@ -103,18 +103,18 @@ module _ (at : Side → ℕ) (w : Side → Lacpdu) (counts : Side → ℕ) (kept
   Goes s j = Went at w counts kept N slack 0 1 (gap true) 0 s j
 
   goes_longer : (s : Side) (j : WorldState) (g : Goes s j) → g.next + 1 ≤ g.known
-  goes_longer s j g = elim g.longer [ inl l ↦ omega (arith, l, slacks) | inr (m, l) ↦ omega (arith, l) ]
+  goes_longer s j g = elim g.longer [ inl l ↦ omega (arith, l, loose) | inr (m, l) ↦ omega (arith, l) ]
 
-  -- so both are met
-  goes_both : (c : Side → ℕ) (j : WorldState) → Link 1 at w c One Nothing j → Rest j → ((s : Side) → Goes s j) → Meet j
+  -- so it is of both
+  goes_both : (c : Side → ℕ) (j : WorldState) → Link 1 at w c One Nothing j → Rest j → ((s : Side) → Goes s j) → EarlyIn j
   goes_both = both_went at w counts kept N slack 0 1 (gap true) 0
 
   -- it has just been heard
-  hears : (s : Side) (k : ℕ) (c : Side → ℕ) (j : WorldState) → 1 ≤ k → k ≤ N → HearsIn k 1 at w counts kept c s j → Sounding s j → Goes s j
-  hears s k c j one less q sounds = heard at w counts kept gives named N slack k leaves one less (few_ticks k less) 0 1 (gap true) 0 c s j q
+  heard_now : (s : Side) (k : ℕ) (c : Side → ℕ) (j : WorldState) → 1 ≤ k → k ≤ N → HearsIn k 1 at w counts kept c s j → Sounding s j → Goes s j
+  heard_now s k c j one less q sounds = heard at w counts kept gives named N slack k leaves one less (few_ticks k less) 0 1 (gap true) 0 c s j q
       (soon at w N some s (mode at w s) j sounds)
 
-  -- it is known for long enough, if it is heard within the time of an end that hears it
+  -- what is left of the time that an end is known does, if there was room for two gaps in it
   longer_left : (b c : Bool) (m : ℕ) → gap b + 1 + gap c + N ≤ timeout_time b → timeout_time b ≤ m + N + gap c
       → Longer slack 0 (gap true) 0 (gap b) m
   longer_left true c m room l = inr (omega arith, omega (arith, room, l))
@@ -145,7 +145,7 @@ module _ (at : Side → ℕ) (w : Side → Lacpdu) (counts : Side → ℕ) (kept
         let enough = leaves (mode at w s) in
         sounds_now at w 1 (two (peer s) m 0) (peer s) Nothing (peer s) (mode at w (peer s)) new
         (can_known at w (peer s) (two (peer s) m 0 (peer s))
-        (subst (λ n. 1 ≤ n) (sym (two_there (peer s) m 0)) (omega (arith, enough, less, slacks))) awake) known
+        (subst (λ n. 1 ≤ n) (sym (two_there (peer s) m 0)) (omega (arith, enough, less, loose))) awake) known
 
   -- an active end sends once in a while, whatever it knows
 
@@ -253,9 +253,9 @@ module _ (at : Side → ℕ) (w : Side → Lacpdu) (counts : Side → ℕ) (kept
       ))))
 
   -- it goes on so
-  met_on : ((u : Side) → (activity (w u) ≡ true) ⊎ (activity (w (peer u)) ≡ true)) → (old new : WorldState) → Round old new → Meet old → Meet new
+  met_on : ((u : Side) → (activity (w u) ≡ true) ⊎ (activity (w (peer u)) ≡ true)) → (old new : WorldState) → Round old new → EarlyIn old → EarlyIn new
   met_on awake old new (k, one, less, h) g = stays_counted at w counts kept gives named N slack k leaves one less (few_ticks k less) awake 1 (gap true) 0
-      old new (omega arith) slacks h g
+      old new (omega arith) loose h g
 
   -- both are active and have Long Timeout
 
@@ -283,7 +283,7 @@ module _ (at : Side → ℕ) (w : Side → Lacpdu) (counts : Side → ℕ) (kept
         old new g (omega arith) (fits_first at w g.known g.fits) (fits_first at w (ticked_by k g.known) (λ t. let l = g.fits t in omega (arith, l)))
         (λ s a l. (inl (active s), λ i. absurd (no (sym (long s) ∙ i)))) h
 
-    lasted : (n : ℕ) (j : WorldState) → 1 + gap false ≤ n → Lasts n j → Meet j
+    lasted : (n : ℕ) (j : WorldState) → 1 + gap false ≤ n → Lasts n j → EarlyIn j
     lasted n j l g = settled at w counts kept N slack (gap false + 1) 1 (1 + gap false) n (gap true) 0 j some l g
 
   -- one end is active, and has Short Timeout, or the other end has Long Timeout
@@ -292,7 +292,7 @@ module _ (at : Side → ℕ) (w : Side → Lacpdu) (counts : Side → ℕ) (kept
     abbrev t : Side
     t = peer s
 
-    -- the other end has Long Timeout, or rounds have few ticks
+    -- there is room for two gaps in the time that the other end knows it
     abbrev Wide : Type 0
     Wide = gap (mode at w s) + 1 + gap (mode at w t) + N ≤ wait_of (w t)
 
@@ -300,7 +300,7 @@ module _ (at : Side → ℕ) (w : Side → Lacpdu) (counts : Side → ℕ) (kept
     abbrev Narrow : Type 0
     Narrow = (activity (w s) ≡ true) × (mode at w s ≡ true) × (mode at w t ≡ true)
 
-    -- and the last round is late enough
+    -- and the last round is late enough: if there is no such room, it takes a gap more
     abbrev Room : Type 0
     Room = (Wide × (most + gap (mode at w t) ≤ last)) ⊎ (Narrow × (most + gap (mode at w t) + gap true ≤ last))
 
@@ -314,7 +314,7 @@ module _ (at : Side → ℕ) (w : Side → Lacpdu) (counts : Side → ℕ) (kept
         (subst (λ b. gap true + N + 1 ≤ timeout_time b) (sym quick) (omega (arith, small)))
 
     abbrev Answered : ℕ → WorldState → Type 0
-    Answered n j = Answers s most n j ⊎ ((Narrow × Half s last n j) ⊎ Meet j)
+    Answered n j = Answers s most n j ⊎ ((Narrow × Half s last n j) ⊎ EarlyIn j)
 
     answers_on : Room → (n k : ℕ) (old new : WorldState) → 1 ≤ k → k ≤ N → TicksBeside k at OldArrive gives old new → Answers s most n old
         → Answered (n + 1) new
@@ -372,9 +372,9 @@ module _ (at : Side → ℕ) (w : Side → Lacpdu) (counts : Side → ℕ) (kept
             (answers_now k one less old new h c a.fits a.link a.rest t (awake (peer t)) q)
 
         other_goes : HearsIn k 1 at w counts kept c t new → Goes t new
-        other_goes q = hears t k c new one less q (sounds_now at w 1 (ticked_by k c) One Nothing t (mode at w t) new (able k (omega arith)) here)
+        other_goes q = heard_now t k c new one less q (sounds_now at w 1 (ticked_by k c) One Nothing t (mode at w t) new (able k (omega arith)) here)
 
-        ends : HearsIn k 1 at w counts kept c t new → Room → (Narrow × Half s last (n + 1) new) ⊎ Meet new
+        ends : HearsIn k 1 at w counts kept c t new → Room → (Narrow × Half s last (n + 1) new) ⊎ EarlyIn new
         ends q (inl (wide, in_last)) = inr (goes_both (ticked_by k c) new here still (each_side (λ u. Goes u new) s (record {
           next = gap (mode at w s);
           known = c t - k;
@@ -408,7 +408,7 @@ module _ (at : Side → ℕ) (w : Side → Lacpdu) (counts : Side → ℕ) (kept
         )
 
     half_on : Narrow → (n k : ℕ) (old new : WorldState) → 1 ≤ k → k ≤ N → TicksBeside k at OldArrive gives old new → Half s last n old
-        → Half s last (n + 1) new ⊎ Meet new
+        → Half s last (n + 1) new ⊎ EarlyIn new
     half_on (on, slow, fast) n k old new one less h a =
         elim (ticks_near gives 1 at w counts kept s (omega arith) (inr (named t)) k (few_ticks k less) c fit after N (mode at w s) a.left old new less able
         link (wakes_now at w 1 c One Nothing s (mode at w s) old (can_known at w s (c s) (omega (arith, some_left)) (awake s)) link) a.rest a.ahead h) [
@@ -431,7 +431,7 @@ module _ (at : Side → ℕ) (w : Side → Lacpdu) (counts : Side → ℕ) (kept
                 keen = still_keen;
               }))
           | inr q ↦ inr (goes_both (ticked_by k c) new here (restful k one less old new h c short link a.rest) (each_side (λ u. Goes u new) s
-              (hears s k c new one less q (sounds_now at w 1 (ticked_by k c) One Nothing s (mode at w s) new (able k (omega arith)) here)) other_goes))
+              (heard_now s k c new one less q (sounds_now at w 1 (ticked_by k c) One Nothing s (mode at w s) new (able k (omega arith)) here)) other_goes))
         ]
       where
         longer : a.goes.next + 1 ≤ a.goes.known
@@ -499,7 +499,7 @@ module _ (at : Side → ℕ) (w : Side → Lacpdu) (counts : Side → ℕ) (kept
     ])
     answered_on room n old new r (inr (inr g)) = inr (inr (met_on awake old new r g))
 
-    answered : Room → (j : WorldState) → Answered last j → Meet j
+    answered : Room → (j : WorldState) → Answered last j → EarlyIn j
     answered room j (inl a) = let l = in_room room in let m = a.later in let o = a.in_time in absurd (omega (arith, l, m, o, some))
     answered room j (inr (inl (narrow, a))) = let m = a.later in let o = a.in_time in absurd (omega (arith, m, o, some))
     answered room j (inr (inr g)) = g
@@ -517,7 +517,7 @@ module _ (at : Side → ℕ) (w : Side → Lacpdu) (counts : Side → ℕ) (kept
     ]
     comes room few active n old new r (inr a) = inr (answered_on room n old new r a)
 
-    came : Room → 1 + gap false ≤ most → (j : WorldState) → Comes last j → Meet j
+    came : Room → 1 + gap false ≤ most → (j : WorldState) → Comes last j → EarlyIn j
     came room few j (inl c) = let l = in_room room in let m = c.1 in let o = c.2 in absurd (omega (arith, l, m, o, some, few))
     came room few j (inr a) = answered room j a
 
@@ -550,9 +550,9 @@ module _ (at : Side → ℕ) (w : Side → Lacpdu) (counts : Side → ℕ) (kept
         subst (λ x. Link 1 at w c x (Learnt 1 (w (peer x)) (wait_of (w x) - k)) j) (peer_twice s) q.link in
         let more = leaves (short_timeout (w s)) in
         let y = at_rest 1 at w c s (Learnt 1 u (wait_of (w s) - k)) (LastingIn N u 300) j
-        (λ p settled timed a z. (let r = z.0.1 (omega (arith, more, less, slacks)) in
+        (λ p settled timed a z. (let r = z.0.1 (omega (arith, more, less, loose)) in
         let o = r.1 in
-        begins_lasting_in N u p active long z.0.0 settled timed (r.0, omega (arith, o, more, less, slacks)))) learnt in
+        begins_lasting_in N u p active long z.0.0 settled timed (r.0, omega (arith, o, more, less, loose)))) learnt in
         record {
           left = 300 + N;
           in_time = omega (arith, l);
@@ -631,7 +631,7 @@ module _ (at : Side → ℕ) (w : Side → Lacpdu) (counts : Side → ℕ) (kept
     ]
     slowly n old new r (inr (inr a)) = inr (inr (answered_on s awake WaitsMost last room n old new r a))
 
-    waited : (j : WorldState) → Slowly last j → Meet j
+    waited : (j : WorldState) → Slowly last j → EarlyIn j
     waited j (inl c) = let l = in_room s awake WaitsMost last room in let m = c.1 in let o = c.2 in absurd (omega (arith, l, m, o, some))
     waited j (inr (inl a)) = let l = in_room s awake WaitsMost last room in let o = a.in_time in elim a.ahead [
       | inl (m, same, lasting) ↦ absurd (omega (arith, l, o, same, some))
@@ -643,7 +643,7 @@ module _ (at : Side → ℕ) (w : Side → Lacpdu) (counts : Side → ℕ) (kept
 
   module _ (n : ℕ) (many : 1 ≤ n) (old new : WorldState) (run : RoundsIn at gives N n old new)
       (first : (j : WorldState) → Round old j → Link 1 at w (λ _. 0) One Nothing j × Rest j) where
-    from_one : (s : Side) (active : activity (w s) ≡ true) → Room s (awake_at w s active) (1 + gap false) n → Meet new
+    from_one : (s : Side) (active : activity (w s) ≡ true) → Room s (awake_at w s active) (1 + gap false) n → EarlyIn new
     from_one s active room = came s (awake_at w s active) (1 + gap false) n room (omega arith) new
         (rounds_on at gives N (Comes s (awake_at w s active) (1 + gap false) n) old
         (λ j r. let f = first j r in inl (called s active j f.0 f.1)) (comes s (awake_at w s active) (1 + gap false) n room (omega arith) active)
@@ -661,7 +661,7 @@ module _ (at : Side → ℕ) (w : Side → Lacpdu) (counts : Side → ℕ) (kept
     abbrev pub Enough : Type 0
     Enough = ((N ≤ 1) × (1 + gap false + gap true ≤ n)) ⊎ (1 + gap false + gap true + gap true ≤ n)
 
-    from_short : (s : Side) → activity (w s) ≡ true → short_timeout (w s) ≡ true → Enough → Meet new
+    from_short : (s : Side) → activity (w s) ≡ true → short_timeout (w s) ≡ true → Enough → EarlyIn new
     from_short s active short enough = from_one s active (elim (cases_Bool (mode at w s)) [
       | inl quick ↦ elim enough [
         | inl (single, l) ↦ inl (is_wide s true true quick fast (omega (arith, single)), in_bounds s true (1 + gap false) fast l)
@@ -676,11 +676,11 @@ module _ (at : Side → ℕ) (w : Side → Lacpdu) (counts : Side → ℕ) (kept
         fast : mode at w (peer s) ≡ true
         fast = subst (λ u. short_timeout (w u) ≡ true) (sym (peer_twice s)) short
 
-    from_long : ((s : Side) → activity (w s) ≡ true) → ((s : Side) → mode at w s ≡ false) → 1 + gap false ≤ n → Meet new
+    from_long : ((s : Side) → activity (w s) ≡ true) → ((s : Side) → mode at w s ≡ false) → 1 + gap false ≤ n → EarlyIn new
     from_long active long enough = lasted active long n new enough (rounds_on at gives N Lasts old
         (λ j r. let f = first j r in lasts_first active long j f.0 f.1) (lasts active long) n new many run)
 
-    pub both_meet : ((s : Side) → activity (w s) ≡ true) → Enough → Meet new
+    pub both_meet : ((s : Side) → activity (w s) ≡ true) → Enough → EarlyIn new
     both_meet active enough = elim (cases_Bool (short_timeout (w One))) [
       | inl a ↦ from_short One (active One) a enough
       | inr a ↦ elim (cases_Bool (short_timeout (w Two))) [
@@ -690,7 +690,7 @@ module _ (at : Side → ℕ) (w : Side → Lacpdu) (counts : Side → ℕ) (kept
     ]
 
     from_slow : (s : Side) → activity (w (peer s)) ≡ true → short_timeout (w (peer s)) ≡ false → short_timeout (w s) ≡ true
-        → 1 + gap false + 300 + N + gap true ≤ n → Meet new
+        → 1 + gap false + 300 + N + gap true ≤ n → EarlyIn new
     from_slow s active long short enough = waited s active long awake n room new (rounds_on at gives N (Slowly s active long awake n room) old
         (λ j r. let f = first j r in inl (called (peer s) active j f.0 f.1)) (slowly s active long awake n room) n new many run)
       where
@@ -703,7 +703,7 @@ module _ (at : Side → ℕ) (w : Side → Lacpdu) (counts : Side → ℕ) (kept
         room : Room s awake (1 + gap false + 300 + N) n
         room = inl (is_wide s false true long fast (omega (arith, small)), in_bounds s true (1 + gap false + 300 + N) fast enough)
 
-    pub one_meets : (s : Side) → activity (w s) ≡ true → 1 + gap false + 300 + N + gap true ≤ n → Meet new
+    pub one_meets : (s : Side) → activity (w s) ≡ true → 1 + gap false + 300 + N + gap true ≤ n → EarlyIn new
     one_meets s active enough = elim (cases_Bool (short_timeout (w s))) [
       | inl short ↦ from_short s active short (inr (omega (arith, enough, small)))
       | inr long ↦ elim (cases_Bool (short_timeout (w (peer s)))) [
