@@ -649,14 +649,6 @@ module _ (at : Side → ℕ) (w : Side → Lacpdu) (counts : Side → ℕ) (kept
         (λ j r. let f = first j r in inl (called s active j f.0 f.1)) (comes s (awake_at w s active) (1 + gap false) n room (omega arith) active)
         n new many run)
 
-    in_bounds : (s : Side) (c : Bool) (most : ℕ) → mode at w (peer s) ≡ c → most + gap c ≤ n → most + gap (mode at w (peer s)) ≤ n
-    in_bounds s c most e l = subst (λ b. most + gap b ≤ n) (sym e) l
-
-    is_wide : (s : Side) (b c : Bool) → mode at w s ≡ b → mode at w (peer s) ≡ c → gap b + 1 + gap c + N ≤ timeout_time b
-        → gap (mode at w s) + 1 + gap (mode at w (peer s)) + N ≤ wait_of (w (peer s))
-    is_wide s b c e f l = subst (λ x. gap x + 1 + gap (mode at w (peer s)) + N ≤ timeout_time x) (sym e)
-        (subst (λ x. gap b + 1 + gap x + N ≤ timeout_time b) (sym f) l)
-
     -- rounds have one tick, or there are rounds for one gap more
     abbrev pub Enough : Type 0
     Enough = ((N ≤ 1) × (1 + gap false + gap true ≤ n)) ⊎ (1 + gap false + gap true + gap true ≤ n)
@@ -664,13 +656,10 @@ module _ (at : Side → ℕ) (w : Side → Lacpdu) (counts : Side → ℕ) (kept
     from_short : (s : Side) → activity (w s) ≡ true → short_timeout (w s) ≡ true → Enough → EarlyIn new
     from_short s active short enough = from_one s active (elim (cases_Bool (mode at w s)) [
       | inl quick ↦ elim enough [
-        | inl (single, l) ↦ inl (is_wide s true true quick fast (omega (arith, single)), in_bounds s true (1 + gap false) fast l)
-        | inr l ↦ inr ((active, quick, fast), subst (λ b. 1 + gap false + gap b + gap true ≤ n) (sym fast) l)
+        | inl (single, l) ↦ inl (rw (quick, fast) (omega (arith, single)), rw fast l)
+        | inr l ↦ inr ((active, quick, fast), rw fast l)
       ]
-      | inr slow ↦ inl (
-        is_wide s false true slow fast (omega (arith, small)),
-        in_bounds s true (1 + gap false) fast (elim enough [ inl (single, l) ↦ l | inr l ↦ omega (arith, l) ]),
-      )
+      | inr slow ↦ inl (rw (slow, fast) (omega (arith, small)), rw fast (elim enough [ inl (single, l) ↦ l | inr l ↦ omega (arith, l) ]))
     ])
       where
         fast : mode at w (peer s) ≡ true
@@ -701,7 +690,7 @@ module _ (at : Side → ℕ) (w : Side → Lacpdu) (counts : Side → ℕ) (kept
         fast = subst (λ u. short_timeout (w u) ≡ true) (sym (peer_twice s)) short
 
         room : Room s awake (1 + gap false + 300 + N) n
-        room = inl (is_wide s false true long fast (omega (arith, small)), in_bounds s true (1 + gap false + 300 + N) fast enough)
+        room = inl (rw (long, fast) (omega (arith, small)), rw fast enough)
 
     pub one_meets : (s : Side) → activity (w s) ≡ true → 1 + gap false + 300 + N + gap true ≤ n → EarlyIn new
     one_meets s active enough = elim (cases_Bool (short_timeout (w s))) [
@@ -710,9 +699,6 @@ module _ (at : Side → ℕ) (w : Side → Lacpdu) (counts : Side → ℕ) (kept
         | inl short ↦ from_slow (peer s) (subst (λ u. activity (w u) ≡ true) (sym (peer_twice s)) active)
             (subst (λ u. short_timeout (w u) ≡ false) (sym (peer_twice s)) long) short enough
         | inr wide ↦ (let slow : mode at w (peer s) ≡ false = subst (λ u. short_timeout (w u) ≡ false) (sym (peer_twice s)) long in
-            from_one s active (inl (
-              is_wide s false false wide slow (omega (arith, small)),
-              in_bounds s false (1 + gap false) slow (omega (arith, enough)),
-            )))
+            from_one s active (inl (rw (wide, slow) (omega (arith, small)), rw slow (omega (arith, enough)))))
       ]
     ]
