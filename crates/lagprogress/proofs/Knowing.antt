@@ -46,22 +46,24 @@ module _ (at : Side → ℕ) (w : Side → Lacpdu) where
   pub beside : (d : ℕ) (c : Side → ℕ) (x : Side) (Y : Machines → Type 0) (j : WorldState) → Link d at w c x Y j → AtIt x Y j
   beside d c x Y j l = of_end l x Y (λ p rest timed a. a.1 refl)
 
-  -- the end of s knows its partner since just now, for so many ticks more
-  pub learns_for : (m d : ℕ) (c : Side → ℕ) (s : Side) (b : ℕ) (j : WorldState) → b ≤ c (peer s) → Link d at w c s (Learnt d (w (peer s)) m) j
-      → Link d at w (two s m b) s Nothing j
-  learns_for m d c s b j less l =
-      let P : Side → Machines → Type 0 = EndIs d w c s (Learnt d (w (peer s)) m) in
-      let Q : Side → Machines → Type 0 = EndIs d w (two s m b) s Nothing in
+  -- of the end of s alone it is kept that it knows its partner, for so many ticks more, as what stands beside it says
+  pub known_by : (m d : ℕ) (c : Side → ℕ) (s : Side) (Y : Machines → Type 0) (j : WorldState)
+      → ((p : Machines) → IsEnd d (w s) (w (peer s)) (c s) p → Y p → IsEnd d (w s) (w (peer s)) m p) → Link d at w c s Y j
+      → Link d at w (two s m 0) s Nothing j
+  known_by m d c s Y j known l =
+      let P : Side → Machines → Type 0 = EndIs d w c s Y in
+      let Q : Side → Machines → Type 0 = EndIs d w (two s m 0) s Nothing in
       other_ports l (each_side (λ u. (p : Machines) → AtRest periodic_rows p → IsTimed p → P u p → Q u p) s
+      (λ p rest timed a. (subst (λ n. IsEnd d (w s) (w (peer s)) n p) (sym (two_there s m 0)) (known p a.0 (a.1 refl)), λ f. tt))
       (λ p rest timed a. (
-        subst (λ n. IsEnd d (w s) (w (peer s)) n p) (sym (two_there s m b)) (a.0.0, (a.1 refl).0, a.0.2),
-        λ f. tt,
-      ))
-      (λ p rest timed a. (
-        less_known d (w (peer s)) (w (peer (peer s))) (c (peer s)) (two s m b (peer s)) p
-            (subst (λ n. n ≤ c (peer s)) (sym (two_other s m b)) less) a.0,
+        less_known d (w (peer s)) (w (peer (peer s))) (c (peer s)) (two s m 0 (peer s)) p
+            (subst (λ n. n ≤ c (peer s)) (sym (two_other s m 0)) (omega arith)) a.0,
         λ f. tt,
       )))
+
+  -- it has just learnt it
+  pub learns_for : (m d : ℕ) (c : Side → ℕ) (s : Side) (j : WorldState) → Link d at w c s (Learnt d (w (peer s)) m) j → Link d at w (two s m 0) s Nothing j
+  learns_for m d c s j l = known_by m d c s (Learnt d (w (peer s)) m) j (λ p e y. (e.0, y.0, e.2)) l
 
   pub sounds_now : (d : ℕ) (c : Side → ℕ) (x : Side) (Y : Machines → Type 0) (s : Side) (fast : Bool) (j : WorldState)
       → CanSound (w s) (w (peer s)) fast (c s) → Link d at w c x Y j → AtIt s (Sounds fast (silence_of fast)) j
@@ -303,7 +305,7 @@ module _ (at : Side → ℕ) (w : Side → Lacpdu) (counts : Side → ℕ) (kept
       pub heard : (spare d most n : ℕ) (c : Side → ℕ) (s : Side) (j : WorldState) → HearsIn k d at w counts kept c s j
           → AheadIn ticks at w s (mode at w s) (silence_of (mode at w s) + (ticks + ticks) - 1) j → Went ticks slack spare d most n s j
       heard spare d most n c s j q ahead =
-          let known = learns_for at w (wait_of (w (peer s)) - k) d (ticked_by k c) (peer s) 0 j (omega arith) q.link in
+          let known = learns_for at w (wait_of (w (peer s)) - k) d (ticked_by k c) (peer s) j q.link in
           let quiet = some_silence at w (mode at w s) in
           let enough : silence_of (mode at w s) + (ticks + ticks) - 1 + slack ≤ wait_of (w (peer s)) - ticks = leaves (mode at w s) in
           record {

@@ -1,19 +1,20 @@
 -- How the ends of a cable come to know each other, in rounds of one tick to N.
 use Rattle.lagprogress.proofs.Common.{Bool, arith, false, inl, inr, refl, subst, suc, sym, true, zero, ℕ, ◌+◌, ◌-◌, ◌∙◌, ◌≡◌, ◌≤◌, ◌⊎◌, cases_Bool}
-use Rattle.lagprogress.proofs.Common.{Lacpdu, One, Side, Two, peer, Algorithms, WorldState, half, timeout_time, OfEach, no, AtPort, Sounds}
-use Rattle.lagprogress.proofs.Common.{silence_of, sounds_first, OldArrive}
+use Rattle.lagprogress.proofs.Common.{Lacpdu, One, Side, Two, peer, Algorithms, WorldState, half, timeout_time, no, Sounds, silence_of, sounds_first}
+use Rattle.lagprogress.proofs.Common.{OldArrive}
 use Rattle.lagprogress.proofs.LateHearing.{AheadIn, Flies, HearsIn, Said, Whoever, ticks_bring, ticks_near, ticks_pass, ticks_stamp, ticks_take}
 use Rattle.lagprogress.proofs.LateHearing.{near_by, ticks_tell}
 use Rattle.lagprogress.proofs.Lasting.{awake_at}
 use Rattle.lagprogress.proofs.Claims.{IsNamed, Wakeful}
-use Rattle.lagprogress.proofs.EndFacts.{CanSound, IsEnd, Learnt, activity, less_known, short_timeout, wait_of}
-use Rattle.lagprogress.proofs.HostRound.{two, two_other, two_there}
+use Rattle.lagprogress.proofs.EndFacts.{CanSound, IsEnd, Learnt, activity, short_timeout, wait_of}
+use Rattle.lagprogress.proofs.HostRound.{two, two_there}
 use Rattle.lagprogress.proofs.Lapsing.{Brisk, IsQuick, Keen, LastingIn, NewTail, Phase, Tail, begins_lasting_in, brisk_passes, keen_active}
 use Rattle.lagprogress.proofs.Lapsing.{keen_along, keen_calm, keen_ticks, lasting_in_now, lasting_ticks}
-use Rattle.lagprogress.proofs.Linked.{EndIs, Fits, Link, both_at, each_map, each_side, of_end, peer_twice, with_ports}
+use Rattle.lagprogress.proofs.Linked.{Fits, Link, both_at, each_side, of_end, peer_twice}
 use Rattle.lagprogress.proofs.OneRound.{Nothing, at_rest, beside_here, forget, join}
-use Rattle.lagprogress.proofs.Knowing.{AtIt, GoingIn, beside, can_known, ends_of, fits_first, goes_in, learns_for, lower, mode, settled, some_silence}
-use Rattle.lagprogress.proofs.Knowing.{sounds_now, two_less, wait, wakes_now, Leaves, Longer, Went, both_went, heard, went_on, stays_counted, soon}
+use Rattle.lagprogress.proofs.Knowing.{AtIt, GoingIn, beside, can_known, ends_of, fits_first, goes_in, known_by, learns_for, lower, mode, settled}
+use Rattle.lagprogress.proofs.Knowing.{some_silence, sounds_now, two_less, wait, wakes_now, Leaves, Longer, Went, both_went, heard, went_on}
+use Rattle.lagprogress.proofs.Knowing.{stays_counted, soon}
 use Rattle.lagprogress.proofs.SeveralTicks.{TicksBeside, no_less, ticked_by, ticks_hold, ticks_keep}
 use Rattle.lagprogress.proofs.Stamps.{Stamped, Took}
 use Rattle.lagprogress.proofs.Climbing.{PartnerInSync}
@@ -141,7 +142,7 @@ module _ (at : Side → ℕ) (w : Side → Lacpdu) (counts : Side → ℕ) (kept
         → Sounding (peer s) new
     answers_now s awake q =
         let m = wait_of (w (peer s)) - k in
-        let known = learns_for at w m 1 (ticked_by k c) (peer s) 0 new (omega arith) q.link in
+        let known = learns_for at w m 1 (ticked_by k c) (peer s) new q.link in
         let enough = leaves (mode at w s) in
         sounds_now at w 1 (two (peer s) m 0) (peer s) Nothing (peer s) (mode at w (peer s)) new
         (can_known at w (peer s) (two (peer s) m 0 (peer s))
@@ -211,7 +212,7 @@ module _ (at : Side → ℕ) (w : Side → Lacpdu) (counts : Side → ℕ) (kept
       let some_left = leaves (mode at w s) in
       record {
         known = two t m 0;
-        link = forget 1 at w (two t m 0) t One Nothing j (learns_for at w m 1 (ticked_by k c) t 0 j (omega arith) q.link);
+        link = forget 1 at w (two t m 0) t One Nothing j (learns_for at w m 1 (ticked_by k c) t j q.link);
         rest = rest;
         fits = two_less t (wait at w) m 0 (omega (arith, one)) (omega arith);
         left = gap (mode at w t);
@@ -239,18 +240,6 @@ module _ (at : Side → ℕ) (w : Side → Lacpdu) (counts : Side → ℕ) (kept
     enough : left + 1 ≤ time
     bounded : time ≤ wait_of (w (peer s)) + 30
     keen : AtIt at w (peer s) (Keen (w (peer (peer s))) time) j
-
-  -- what is known of one end alone
-  at_one : (x : Side) (m : ℕ) (c : Side → ℕ) (j : WorldState) → Link 1 at w c One Nothing j → AtIt at w x (IsEnd 1 (w x) (w (peer x)) m) j
-      → Link 1 at w (two x m 0) One Nothing j
-  at_one x m c j l y = with_ports l (each_side (λ u. OfEach (AtPort (at u) (EndIs 1 w (two x m 0) One Nothing u)) (half u j).state.system_ports) x
-      (each_map (AtPort (at x) (IsEnd 1 (w x) (w (peer x)) m)) (AtPort (at x) (EndIs 1 w (two x m 0) One Nothing x))
-      (λ i p a e. (subst (λ n. IsEnd 1 (w x) (w (peer x)) n p) (sym (two_there x m 0)) (a e), λ f. tt)) (half x j).state.system_ports y)
-      (of_end l (peer x) (EndIs 1 w (two x m 0) One Nothing (peer x)) (λ p rest timed a. (
-        subst (λ n. IsEnd 1 (w (peer x)) (w (peer (peer x))) n p) (sym (two_other x m 0))
-            (less_known 1 (w (peer x)) (w (peer (peer x))) (c (peer x)) 0 p (omega arith) a.0),
-        λ f. tt,
-      ))))
 
   -- it goes on so
   met_on : ((u : Side) → (activity (w u) ≡ true) ⊎ (activity (w (peer u)) ≡ true)) → (old new : WorldState) → Round old new → EarlyIn old → EarlyIn new
@@ -310,8 +299,7 @@ module _ (at : Side → ℕ) (w : Side → Lacpdu) (counts : Side → ℕ) (kept
 
     room_left : Room → gap (mode at w t) + N + 1 ≤ wait_of (w t)
     room_left (inl (wide, l)) = omega (arith, wide)
-    room_left (inr ((on, quick, fast), l)) = subst (λ b. gap b + N + 1 ≤ wait_of (w t)) (sym fast)
-        (subst (λ b. gap true + N + 1 ≤ timeout_time b) (sym quick) (omega (arith, small)))
+    room_left (inr ((on, quick, fast), l)) = rw (fast, quick) (omega (arith, small))
 
     abbrev Answered : ℕ → WorldState → Type 0
     Answered n j = Answers s most n j ⊎ ((Narrow × Half s last n j) ⊎ EarlyIn j)
@@ -444,7 +432,8 @@ module _ (at : Side → ℕ) (w : Side → Lacpdu) (counts : Side → ℕ) (kept
         short = two_less (peer t) (wait at w) a.goes.known 0 a.goes.fits (omega arith)
 
         link : Link 1 at w c One Nothing old
-        link = at_one (peer t) a.goes.known a.known old a.link a.goes.peer
+        link = forget 1 at w c (peer t) One Nothing old (known_by at w a.goes.known 1 a.known (peer t) (IsEnd 1 (w (peer t)) (w (peer (peer t))) a.goes.known)
+            old (λ p e y. y) (join 1 at w a.known One (peer t) (IsEnd 1 (w (peer t)) (w (peer (peer t))) a.goes.known) old a.link a.goes.peer))
 
         fit : Fits 1 w c
         fit = fitting k one less old new h c short link a.rest
