@@ -122,31 +122,34 @@ module _ (at : Side → ℕ) (w : Side → Lacpdu) (counts : Side → ℕ) (kept
   longer_left false true m room l = inl (omega (arith, l, small, tight))
   longer_left false false m room l = inl (omega (arith, l, small, tight))
 
-  -- in a round
-  module _ (k : ℕ) (one : 1 ≤ k) (less : k ≤ N) (old new : WorldState) (h : TicksBeside k at OldArrive gives old new) (c : Side → ℕ)
-      (short : (t : Side) → c t ≤ wait at w t) (link : Link 1 at w c One Nothing old) (rest : Rest old) where
-    fitting : Fits 1 w c
-    fitting = fits_first at w c short
+  -- what a round leaves of what is known
+  record Carried (k : ℕ) (c : Side → ℕ) (new : WorldState) : Type 0 where
+    fits : Fits 1 w c
+    then : Fits 1 w (ticked_by k c)
+    link : Link 1 at w (ticked_by k c) One Nothing new
+    rest : Rest new
 
-    fitting_then : Fits 1 w (ticked_by k c)
-    fitting_then = fits_first at w (ticked_by k c) (λ t. let l = short t in omega (arith, l))
+  carried : (k : ℕ) (c : Side → ℕ) (old new : WorldState) → TicksBeside k at OldArrive gives old new → ((t : Side) → c t ≤ wait at w t)
+      → Link 1 at w c One Nothing old → Rest old → Carried k c new
+  carried k c old new h short link rest =
+      let fits = fits_first at w c short in
+      let then = fits_first at w (ticked_by k c) (λ t. let l = short t in omega (arith, l)) in
+      record {
+        fits = fits;
+        then = then;
+        link = ticks_keep gives k One 1 at w c old new fits then link h;
+        rest = ticks_stamp 1 gives at counts kept k old new h rest;
+      }
 
-    carried : Link 1 at w (ticked_by k c) One Nothing new
-    carried = ticks_keep gives k One 1 at w c old new fitting fitting_then link h
-
-    restful : Rest new
-    restful = ticks_stamp 1 gives at counts kept k old new h rest
-
-    -- the other end has just heard it, and may sound
-    answers_now : (s : Side) → (activity (w (peer s)) ≡ true) ⊎ (activity (w (peer (peer s))) ≡ true) → HearsIn k 1 at w counts kept c s new
-        → Sounding (peer s) new
-    answers_now s awake q =
-        let m = wait_of (w (peer s)) - k in
-        let known = learns_for at w m 1 (ticked_by k c) (peer s) new q.link in
-        let enough = leaves (mode at w s) in
-        sounds_now at w 1 (two (peer s) m 0) (peer s) Nothing (peer s) (mode at w (peer s)) new
-        (can_known at w (peer s) (two (peer s) m 0 (peer s))
-        (subst (λ n. 1 ≤ n) (sym (two_there (peer s) m 0)) (omega (arith, enough, less, loose))) awake) known
+  -- the other end has just heard it, and may sound
+  answers_now : (s : Side) (k : ℕ) (c : Side → ℕ) (new : WorldState) → k ≤ N → (activity (w (peer s)) ≡ true) ⊎ (activity (w (peer (peer s))) ≡ true)
+      → HearsIn k 1 at w counts kept c s new → Sounding (peer s) new
+  answers_now s k c new less awake q =
+      let m = wait_of (w (peer s)) - k in
+      let enough = leaves (mode at w s) in
+      sounds_now at w 1 (two (peer s) m 0) (peer s) Nothing (peer s) (mode at w (peer s)) new (can_known at w (peer s) (two (peer s) m 0 (peer s))
+      (subst (λ n. 1 ≤ n) (sym (two_there (peer s) m 0)) (omega (arith, enough, less, loose))) awake)
+      (learns_for at w m 1 (ticked_by k c) (peer s) new q.link)
 
   -- an active end sends once in a while, whatever it knows
 
@@ -173,20 +176,19 @@ module _ (at : Side → ℕ) (w : Side → Lacpdu) (counts : Side → ℕ) (kept
   calls_on : (s : Side) (active : activity (w s) ≡ true) (n k : ℕ) (old new : WorldState) → 1 ≤ k → k ≤ N → TicksBeside k at OldArrive gives old new
       → Calls s n old → Calls s (n + 1) new ⊎ (HearsIn k 1 at w counts kept (λ _. 0) s new × (n + 1 ≤ 1 + gap false) × Rest new)
   calls_on s active n k old new one less h (m, later, in_time, link, rest, ahead) =
-      elim (ticks_near gives 1 at w counts kept s (omega arith) (inl active) k (few_ticks k less) (λ _. 0)
-      (fitting k one less old new h (λ _. 0) none_short link rest) (fitting_then k one less old new h (λ _. 0) none_short link rest) N false m old new
-      less (λ a l. can_call s (0 - a) active) link (wakes_now at w 1 (λ _. 0) One Nothing s false old (can_call s 0 active) link) rest ahead h) [
+      let r = carried k (λ _. 0) old new h none_short link rest in
+      elim (ticks_near gives 1 at w counts kept s (omega arith) (inl active) k (few_ticks k less) (λ _. 0) r.fits r.then N false m old new less
+      (λ a l. can_call s (0 - a) active) link (wakes_now at w 1 (λ _. 0) One Nothing s false old (can_call s 0 active) link) rest ahead h) [
         | inl q ↦ (let more = q.0 in
             inl (
               m - k,
               more,
               omega (arith, in_time, more, one, some),
-              lower at w (ticked_by k (λ _. 0)) (λ _. 0) One Nothing new (λ _. omega arith)
-                  (carried k one less old new h (λ _. 0) none_short link rest),
-              restful k one less old new h (λ _. 0) none_short link rest,
+              lower at w (ticked_by k (λ _. 0)) (λ _. 0) One Nothing new (λ _. omega arith) r.link,
+              r.rest,
               q.1,
             ))
-        | inr q ↦ inr (q, omega (arith, in_time, later, some), restful k one less old new h (λ _. 0) none_short link rest)
+        | inr q ↦ inr (q, omega (arith, in_time, later, some), r.rest)
       ]
 
   -- The other end has heard that of s, and knows it; so it is heard before it forgets.
@@ -307,7 +309,7 @@ module _ (at : Side → ℕ) (w : Side → Lacpdu) (counts : Side → ℕ) (kept
     answers_on : Room → (n k : ℕ) (old new : WorldState) → 1 ≤ k → k ≤ N → TicksBeside k at OldArrive gives old new → Answers s most n old
         → Answered (n + 1) new
     answers_on room n k old new one less h a =
-        elim (ticks_near gives 1 at w counts kept t (omega arith) (inr (named (peer t))) k (few_ticks k less) c fit after N (mode at w t) a.left
+        elim (ticks_near gives 1 at w counts kept t (omega arith) (inr (named (peer t))) k (few_ticks k less) c r.fits r.then N (mode at w t) a.left
         old new less able a.link (wakes_now at w 1 c One Nothing t (mode at w t) old (can_known at w t (c t) (omega (arith, some_left)) (awake t)) a.link)
         a.rest a.ahead h) [
           | inl q ↦ (let more = q.0 in
@@ -315,8 +317,8 @@ module _ (at : Side → ℕ) (w : Side → Lacpdu) (counts : Side → ℕ) (kept
               let o = a.enough in
               inl (record {
                 known = ticked_by k c;
-                link = here;
-                rest = still;
+                link = r.link;
+                rest = r.rest;
                 fits = λ u. (let f = a.fits u in omega (arith, f));
                 left = a.left - k;
                 later = more;
@@ -333,17 +335,8 @@ module _ (at : Side → ℕ) (w : Side → Lacpdu) (counts : Side → ℕ) (kept
         c : Side → ℕ
         c = a.known
 
-        fit : Fits 1 w c
-        fit = fitting k one less old new h c a.fits a.link a.rest
-
-        after : Fits 1 w (ticked_by k c)
-        after = fitting_then k one less old new h c a.fits a.link a.rest
-
-        here : Link 1 at w (ticked_by k c) One Nothing new
-        here = carried k one less old new h c a.fits a.link a.rest
-
-        still : Rest new
-        still = restful k one less old new h c a.fits a.link a.rest
+        r : Carried k c new
+        r = carried k c old new h a.fits a.link a.rest
 
         some_left : N + 1 ≤ c t
         some_left = let l = a.enough in let m = a.later in let r = room_left room in omega (arith, l, m, r)
@@ -352,18 +345,18 @@ module _ (at : Side → ℕ) (w : Side → Lacpdu) (counts : Side → ℕ) (kept
         able i l = can_known at w t (c t - i) (omega (arith, some_left, l, less)) (awake t)
 
         tell : AtIt at w s (Wakeful (w s) (w (peer s))) new × Said at w s PartnerInSync new
-        tell = ticks_tell gives 1 at w counts kept s (omega arith) (inr (named (peer s))) k (few_ticks k less) c fit after One old new a.link a.wakes h
+        tell = ticks_tell gives 1 at w counts kept s (omega arith) (inr (named (peer s))) k (few_ticks k less) c r.fits r.then One old new a.link a.wakes h
             (omega (arith, some_left, less)) a.told
 
         own_sounds : HearsIn k 1 at w counts kept c t new → Sounding s new
         own_sounds q = subst (λ u. Sounding u new) (peer_twice s)
-            (answers_now k one less old new h c a.fits a.link a.rest t (awake (peer t)) q)
+            (answers_now t k c new less (awake (peer t)) q)
 
         other_goes : HearsIn k 1 at w counts kept c t new → Goes t new
-        other_goes q = heard_now t k c new one less q (sounds_now at w 1 (ticked_by k c) One Nothing t (mode at w t) new (able k (omega arith)) here)
+        other_goes q = heard_now t k c new one less q (sounds_now at w 1 (ticked_by k c) One Nothing t (mode at w t) new (able k (omega arith)) r.link)
 
         ends : HearsIn k 1 at w counts kept c t new → Room → (Narrow × Half s last (n + 1) new) ⊎ EarlyIn new
-        ends q (inl (wide, in_last)) = inr (goes_both (ticked_by k c) new here still (each_side (λ u. Goes u new) s (record {
+        ends q (inl (wide, in_last)) = inr (goes_both (ticked_by k c) new r.link r.rest (each_side (λ u. Goes u new) s (record {
           next = gap (mode at w s);
           known = c t - k;
           fits = let f = a.fits t in omega (arith, f);
@@ -372,14 +365,14 @@ module _ (at : Side → ℕ) (w : Side → Lacpdu) (counts : Side → ℕ) (kept
           ahead = soon at w N some s (mode at w s) new (own_sounds q);
           told = λ i. tell.1;
           took = λ i. (ticks_take gives at counts kept k old new h t (a.rest, a.took)).1;
-          peer = ends_of at w 1 (ticked_by k c) One Nothing t new here;
+          peer = ends_of at w 1 (ticked_by k c) One Nothing t new r.link;
         }) (other_goes q)))
         ends q (inr (narrow, in_last)) = inl (
           narrow,
           record {
             known = ticked_by k c;
-            link = here;
-            rest = still;
+            link = r.link;
+            rest = r.rest;
             goes = other_goes q;
             left = gap (mode at w s);
             later = let quiet = some_silence at w (mode at w s) in omega (arith, quiet, some);
@@ -389,7 +382,7 @@ module _ (at : Side → ℕ) (w : Side → Lacpdu) (counts : Side → ℕ) (kept
             time = c t - k + 30;
             enough = subst (λ b. gap b + 1 ≤ c t - k + 30) (sym narrow.1) (omega (arith, small));
             bounded = let f = a.fits t in omega (arith, f);
-            keen = of_end here t (Keen (w (peer t)) (c t - k + 30)) (λ p rest timed x. (let r = x.0.1.1 (omega (arith, some_left, less)) in
+            keen = of_end r.link t (Keen (w (peer t)) (c t - k + 30)) (λ p rest timed x. (let r = x.0.1.1 (omega (arith, some_left, less)) in
                 let l = r.1 in
                 inl (r.0, omega (arith, l))));
           },
@@ -398,7 +391,7 @@ module _ (at : Side → ℕ) (w : Side → Lacpdu) (counts : Side → ℕ) (kept
     half_on : Narrow → (n k : ℕ) (old new : WorldState) → 1 ≤ k → k ≤ N → TicksBeside k at OldArrive gives old new → Half s last n old
         → Half s last (n + 1) new ⊎ EarlyIn new
     half_on (on, slow, fast) n k old new one less h a =
-        elim (ticks_near gives 1 at w counts kept s (omega arith) (inr (named t)) k (few_ticks k less) c fit after N (mode at w s) a.left old new less able
+        elim (ticks_near gives 1 at w counts kept s (omega arith) (inr (named t)) k (few_ticks k less) c r.fits r.then N (mode at w s) a.left old new less able
         link (wakes_now at w 1 c One Nothing s (mode at w s) old (can_known at w s (c s) (omega (arith, some_left)) (awake s)) link) a.rest a.ahead h) [
           | inl q ↦ (let more = q.0 in
               let l = a.in_time in
@@ -406,8 +399,8 @@ module _ (at : Side → ℕ) (w : Side → Lacpdu) (counts : Side → ℕ) (kept
               let b = a.bounded in
               inl (record {
                 known = ticked_by k c;
-                link = here;
-                rest = restful k one less old new h c short link a.rest;
+                link = r.link;
+                rest = r.rest;
                 goes = other_goes;
                 left = a.left - k;
                 later = more;
@@ -418,8 +411,8 @@ module _ (at : Side → ℕ) (w : Side → Lacpdu) (counts : Side → ℕ) (kept
                 bounded = omega (arith, b);
                 keen = still_keen;
               }))
-          | inr q ↦ inr (goes_both (ticked_by k c) new here (restful k one less old new h c short link a.rest) (each_side (λ u. Goes u new) s
-              (heard_now s k c new one less q (sounds_now at w 1 (ticked_by k c) One Nothing s (mode at w s) new (able k (omega arith)) here)) other_goes))
+          | inr q ↦ inr (goes_both (ticked_by k c) new r.link r.rest (each_side (λ u. Goes u new) s
+              (heard_now s k c new one less q (sounds_now at w 1 (ticked_by k c) One Nothing s (mode at w s) new (able k (omega arith)) r.link)) other_goes))
         ]
       where
         longer : a.goes.next + 1 ≤ a.goes.known
@@ -435,14 +428,8 @@ module _ (at : Side → ℕ) (w : Side → Lacpdu) (counts : Side → ℕ) (kept
         link = forget 1 at w c (peer t) One Nothing old (known_by at w a.goes.known 1 a.known (peer t) (IsEnd 1 (w (peer t)) (w (peer (peer t))) a.goes.known)
             old (λ p e y. y) (join 1 at w a.known One (peer t) (IsEnd 1 (w (peer t)) (w (peer (peer t))) a.goes.known) old a.link a.goes.peer))
 
-        fit : Fits 1 w c
-        fit = fitting k one less old new h c short link a.rest
-
-        after : Fits 1 w (ticked_by k c)
-        after = fitting_then k one less old new h c short link a.rest
-
-        here : Link 1 at w (ticked_by k c) One Nothing new
-        here = carried k one less old new h c short link a.rest
+        r : Carried k c new
+        r = carried k c old new h short link a.rest
 
         there : a.goes.known ≡ c (peer t)
         there = sym (two_there (peer t) a.goes.known 0)
@@ -460,7 +447,7 @@ module _ (at : Side → ℕ) (w : Side → Lacpdu) (counts : Side → ℕ) (kept
         more_time = let l = a.enough in let m = a.later in omega (arith, l, m, less)
 
         still_keen : AtIt at w t (Keen (w (peer t)) (a.time - k)) new
-        still_keen = keen_stays at w t quick gives k (few_ticks k less) c fit after a.time more_time a.bounded old new link h a.keen
+        still_keen = keen_stays at w t quick gives k (few_ticks k less) c r.fits r.then a.time more_time a.bounded old new link h a.keen
 
         still_longer : N ≤ a.goes.next - k → Longer slack 0 (gap true) 0 (a.goes.next - k) (c (peer t) - k)
         still_longer m = subst (λ i. Longer slack 0 (gap true) 0 (a.goes.next - k) (i - k)) there (elim a.goes.longer [
@@ -470,13 +457,13 @@ module _ (at : Side → ℕ) (w : Side → Lacpdu) (counts : Side → ℕ) (kept
 
         other_goes : Goes t new
         other_goes = went_on at w counts kept gives named N slack k leaves one less (few_ticks k less) 0 1 (gap true) 0 old new c t a.goes.next (omega arith)
-            fit after short h link a.rest (keen_wakes at w t quick c a.time old link a.keen) still_longer
+            r.fits r.then short h link a.rest (keen_wakes at w t quick c a.time old link a.keen) still_longer
             (λ i. a.goes.told (omega (arith, longer))) (λ i. a.goes.took (omega (arith, longer)))
             (soon at w N some t (mode at w t) new (subst (λ b. AtIt at w t (Sounds b (silence_of b)) new) (sym fast)
-            (keen_sounds at w t quick (ticked_by k c) (a.time - k) new here still_keen)))
+            (keen_sounds at w t quick (ticked_by k c) (a.time - k) new r.link still_keen)))
             (subst (λ b. ((N ≤ a.goes.next - k) × AheadIn N at w t b (a.goes.next - k) new) ⊎ HearsIn k 1 at w counts kept c t new) (sym fast)
-            (keen_near at w t quick gives k (few_ticks k less) c fit after a.time more_time a.bounded counts kept (inr (named (peer t))) N a.goes.next old new
-            less link a.rest a.keen (subst (λ b. AheadIn N at w t b a.goes.next old) fast a.goes.ahead) h))
+            (keen_near at w t quick gives k (few_ticks k less) c r.fits r.then a.time more_time a.bounded counts kept (inr (named (peer t))) N a.goes.next
+            old new less link a.rest a.keen (subst (λ b. AheadIn N at w t b a.goes.next old) fast a.goes.ahead) h))
 
     -- behind so many rounds both are met
 
@@ -502,7 +489,7 @@ module _ (at : Side → ℕ) (w : Side → Lacpdu) (counts : Side → ℕ) (kept
     comes room few active n old new (k, one, less, h) (inl c) = elim (calls_on s active n k old new one less h c) [
       | inl m ↦ inl m
       | inr (q, l, rest) ↦ inr (inl (begins_answers s most (n + 1) k (λ _. 0) new (awake t) one less (omega (arith, l, few)) q rest
-          (answers_now k one less old new h (λ _. 0) none_short c.3 c.4 s (awake t) q)))
+          (answers_now s k (λ _. 0) new less (awake t) q)))
     ]
     comes room few active n old new r (inr a) = inr (answered_on room n old new r a)
 
@@ -555,32 +542,26 @@ module _ (at : Side → ℕ) (w : Side → Lacpdu) (counts : Side → ℕ) (kept
         → Waits (n + 1) new ⊎ (HearsIn k 1 at w counts kept none s new × (n + 1 ≤ WaitsMost) × Rest new)
     waits_on n k old new one less h a = by_case a.ahead
       where
-        fit : Fits 1 w none
-        fit = fitting k one less old new h none none_short a.link a.rest
-
-        after : Fits 1 w (ticked_by k none)
-        after = fitting_then k one less old new h none none_short a.link a.rest
-
-        still : Rest new
-        still = restful k one less old new h none none_short a.link a.rest
+        r : Carried k none new
+        r = carried k none old new h none_short a.link a.rest
 
         here : Link 1 at w none One Nothing new
-        here = lower at w (ticked_by k none) none One Nothing new (λ _. omega arith) (carried k one less old new h none none_short a.link a.rest)
+        here = lower at w (ticked_by k none) none One Nothing new (λ _. omega arith) r.link
 
         by_case : ((m : ℕ) × (a.left ≡ m + N) × AtIt at w s (LastingIn N u m) old) ⊎ ((1 ≤ a.left) × Said at w s Whoever old × Flies at s old)
             → Waits (n + 1) new ⊎ (HearsIn k 1 at w counts kept none s new × (n + 1 ≤ WaitsMost) × Rest new)
         by_case (inr (more, said, flies)) = let l = a.in_time in
             inr (
-              ticks_bring gives 1 at w counts kept s (omega arith) (inr (named (peer s))) k (few_ticks k less) none fit after One old new a.link a.wakes
+              ticks_bring gives 1 at w counts kept s (omega arith) (inr (named (peer s))) k (few_ticks k less) none r.fits r.then One old new a.link a.wakes
                   a.rest said flies h,
               omega (arith, l, more),
-              still,
+              r.rest,
             )
         by_case (inl (m, same, lasting)) =
             let l = a.in_time in
             let before = join 1 at w none One s (LastingIn N u m) old a.link lasting in
             let more = (beside_here 1 at w none s (LastingIn N u m) old before).0 in
-            elim (ticks_pass gives 1 at w counts kept s (omega arith) (inr (named (peer s))) k (few_ticks k less) none fit after
+            elim (ticks_pass gives 1 at w counts kept s (omega arith) (inr (named (peer s))) k (few_ticks k less) none r.fits r.then
             (λ i. Phase u (Tail N i) (m - i)) (λ i. Phase u (NewTail N i) (m - i)) (LastingIn N u (m - k))
             (lasting_ticks (w s) u 1 N k m small less active (omega arith)) old new (join 1 at w none One s (Phase u (Tail N 0) (m - 0)) old a.link
             (of_end before s (Phase u (Tail N 0) (m - 0)) (λ p settled timed x. subst (λ i. Phase u (Tail N 0) i p) (sym (no_less m)) (x.1 refl).1)))
@@ -590,7 +571,7 @@ module _ (at : Side → ℕ) (w : Side → Lacpdu) (counts : Side → ℕ) (kept
                     left = a.left - k;
                     in_time = omega (arith, l, same, left, one);
                     link = here;
-                    rest = still;
+                    rest = r.rest;
                     wakes = of_end z s (Wakeful (w s) u) (λ p settled timed x. inr (active, λ e. lasting_in_now N u (m - k) p active (x.1 refl)));
                     ahead = inl (m - k, omega (arith, same, left), of_end z s (LastingIn N u (m - k)) (λ p settled timed x. x.1 refl));
                   }))
@@ -598,11 +579,11 @@ module _ (at : Side → ℕ) (w : Side → Lacpdu) (counts : Side → ℕ) (kept
                 left = a.left - k;
                 in_time = omega (arith, l, same, more, one, less);
                 link = here;
-                rest = still;
+                rest = r.rest;
                 wakes = y.0;
                 ahead = inr (omega (arith, same, more, less), y.1, y.2);
               })
-              | inr (inr q) ↦ inr (q, omega (arith, l, same, some), still)
+              | inr (inr q) ↦ inr (q, omega (arith, l, same, some), r.rest)
             ]
 
     abbrev Slowly : ℕ → WorldState → Type 0
@@ -616,7 +597,7 @@ module _ (at : Side → ℕ) (w : Side → Lacpdu) (counts : Side → ℕ) (kept
     slowly n old new (k, one, less, h) (inr (inl a)) = elim (waits_on n k old new one less h a) [
       | inl m ↦ inr (inl m)
       | inr (q, l, rest) ↦ inr (inr (inl (begins_answers s WaitsMost (n + 1) k none new (awake (peer s)) one less l q rest
-          (answers_now k one less old new h none none_short a.link a.rest s (awake (peer s)) q))))
+          (answers_now s k none new less (awake (peer s)) q))))
     ]
     slowly n old new r (inr (inr a)) = inr (inr (answered_on s awake WaitsMost last room n old new r a))
 
