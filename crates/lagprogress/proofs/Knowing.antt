@@ -198,23 +198,18 @@ module _ (at : Side → ℕ) (w : Side → Lacpdu) (counts : Side → ℕ) (kept
 
   -- both ends know each other, and so they go on
   module _ (named : (t : Side) → IsNamed (w t)) (awake : (s : Side) → (activity (w s) ≡ true) ⊎ (activity (w (peer s)) ≡ true)) where
+    fits_known : (d : ℕ) (c : Side → ℕ) → 1 ≤ d → ((s : Side) → c s ≤ wait at w s) → ((s : Side) → 1 ≤ c s) → Fits d w c
+    fits_known d c there less some s = ((let l = less s in omega (arith, l)), λ _. there, λ _. some s, λ _. awake_peer w awake s)
+
     -- so many ticks before the end of a round, which has no more than the first number
     pub fits_in_round : {most n : ℕ} (ticks slack d : ℕ) (j : WorldState) (g : GoingIn ticks slack 0 d most n j) → 1 ≤ slack → 1 ≤ d → (k : ℕ)
         → k ≤ ticks → Fits d w (ticked_by k g.known)
-    fits_in_round ticks slack d j g more there k less s = (
-      (let l = g.fits s in omega (arith, l)),
-      λ _. there,
-      λ _. (let l = knows_in ticks slack d j g more s in omega (arith, l, less)),
-      λ _. awake_peer w awake s,
-    )
+    fits_in_round ticks slack d j g more there k less = fits_known d (ticked_by k g.known) there (λ s. let l = g.fits s in omega (arith, l))
+        (λ s. let l = knows_in ticks slack d j g more s in omega (arith, l, less))
 
     pub fits_met : {most n : ℕ} (ticks slack d : ℕ) (j : WorldState) (g : GoingIn ticks slack 0 d most n j) → 1 ≤ slack → 1 ≤ d → Fits d w g.known
-    fits_met ticks slack d j g more there s = (
-      (let l = g.fits s in omega (arith, l)),
-      λ _. there,
-      λ _. (let l = knows_in ticks slack d j g more s in omega (arith, l)),
-      λ _. awake_peer w awake s,
-    )
+    fits_met ticks slack d j g more there =
+        fits_known d g.known there g.fits (λ s. let l = knows_in ticks slack d j g more s in omega (arith, l))
 
     pub fits_fresh : {most n : ℕ} (d : ℕ) (j : WorldState) (g : GoingIn 1 11 0 d most n j) → 1 ≤ d → Fits d w (ticked g.known)
     fits_fresh d j g there = fits_in_round 1 11 d j g (omega arith) there 1 (omega arith)
