@@ -15,7 +15,8 @@ use Rattle.lagprogress.proofs.ComingUp.{keeps_agreeing, TickedRound, CableStands
 use Rattle.lagprogress.proofs.ComingUp.{comes_to_agree, rounds_pass, rounds_on}
 use Rattle.lagprogress.proofs.EachRound.{clears_less, EachAt, RoundKeeps, same_index, played_split, each_between, tick_makes, tick_beside, steady_on}
 use Rattle.lagprogress.proofs.EachRound.{Passes}
-use Rattle.lagprogress.proofs.Knowing.{late_active_meet, late_one_meets, AtIt, knows_in, met_knows, for_several}
+use Rattle.lagprogress.proofs.Knowing.{AtIt, knows_in, met_knows, for_several}
+use Rattle.lagprogress.proofs.LateMeeting.{late_active_meet, late_one_meets}
 use Rattle.lagprogress.proofs.Climbing.{Down, Ripe, Rising, down_settles, down_takes, down_ticks, rising_first}
 use Rattle.lagprogress.proofs.Lasting.{active_at, awake_at, named_at, healthy_cable, said_by, starts, IsAsBefore, all_by_place, ends_at, old_port}
 use Rattle.lagprogress.proofs.Lasting.{own_system, still_links, before_on}

@@ -329,10 +329,6 @@ abbrev pub AheadIn : ℕ → (Side → ℕ) → (Side → Lacpdu) → Side → B
 AheadIn most at w s fast m j = ((most + most ≤ m) × OfEach (AtPort (at s) (Sounds fast (m + 1 - (most + most)))) (half s j).state.system_ports)
     ⊎ ((most ≤ m) × Said at w s Whoever j × Flies at s j)
 
--- in so many rounds of one tick
-abbrev pub Ahead : (Side → ℕ) → (Side → Lacpdu) → Side → Bool → ℕ → WorldState → Type 0
-Ahead at w s fast m j = AheadIn 1 at w s fast m j
-
 -- what is so once the other end has heard an LACPDU of the end of s in a round of so many ticks
 pub record HearsIn (n d : ℕ) (at : Side → ℕ) (w : Side → Lacpdu) (k : Side → ℕ) (kept : Side → Bool) (c : Side → ℕ) (s : Side) (j : WorldState)
     : Type 0 where
@@ -340,10 +336,6 @@ pub record HearsIn (n d : ℕ) (at : Side → ℕ) (w : Side → Lacpdu) (k : Si
   pub wakes : Wakes at w s j
   pub told : Said at w s PartnerInSync j
   pub took : Took at k kept (peer s) j
-
-abbrev pub Hears : (d : ℕ) (at : Side → ℕ) (w : Side → Lacpdu) (k : Side → ℕ) (kept : Side → Bool) (c : Side → ℕ) (s : Side) (j : WorldState)
-    → Type 0
-Hears d at w k kept c s j = HearsIn 1 d at w k kept c s j
 
 module _ (gives : Algorithms) (d : ℕ) (at : Side → ℕ) (w : Side → Lacpdu) (k : Side → ℕ) (kept : Side → Bool) (s : Side) (there : 1 ≤ d)
     (named : (activity (w s) ≡ true) ⊎ IsNamed (w (peer s))) where
@@ -414,37 +406,44 @@ module _ (gives : Algorithms) (d : ℕ) (at : Side → ℕ) (w : Side → Lacpdu
         of_told new (late_heard gives d at w s there named Counted (Took-it gives 1 at k kept (peer s)) extra n few c fits then y old fl on new o
         (subst Flying (sym (same_items y o.0.index at fl o.0.flying old on o.0.links (peer s))) f) stamped h)
 
-    -- an LACPDU of the end of s is nearer, or the other end has heard one
-    pub ticks_near : (most : ℕ) (fast : Bool) (m : ℕ) (old new : WorldState) → n ≤ most
-        → ((a : ℕ) → a ≤ n → CanSound (w s) (w (peer s)) fast (c s - a)) → Link d at w c One Nothing old → Wakes at w s old → Counted old
+    -- an LACPDU of the end of s is nearer, or the other end has heard one: what it sounds goes on in X
+    pub near_by : (most : ℕ) (fast : Bool) (m : ℕ) (X V : ℕ → Machines → Type 0) (Z : Machines → Type 0)
+        → TickPasses n X V Z (w s) (w (peer s)) (c s) d → ((p : Machines) → Z p → Later fast (m + 1 - (most + most) - n) p)
+        → (old new : WorldState) → n ≤ most → (OfEach (AtPort (at s) (Sounds fast (m + 1 - (most + most)))) (half s old).state.system_ports
+        → OfEach (AtPort (at s) (X 0)) (half s old).state.system_ports) → Link d at w c One Nothing old → Wakes at w s old → Counted old
         → AheadIn most at w s fast m old → TicksBeside n at OldArrive gives old new
         → ((most ≤ m - n) × AheadIn most at w s fast (m - n) new) ⊎ HearsIn n d at w k kept c s new
-    ticks_near most fast m old new less can l wakes stamped (inr (one, said, flies)) h =
+    near_by most fast m X V Z passes later old new less first l wakes stamped (inr (one, said, flies)) h =
         inr (ticks_bring One old new l wakes stamped said flies h)
-    ticks_near most fast m old new less can l wakes stamped (inl (two, sounds)) h =
-        elim (ticks_pass (λ a. Sounds fast (far - a)) (λ a. Sounds fast (far - a)) (Later fast (far - n))
-        (sounds_by_ticks (w s) (w (peer s)) fast n (c s) d far can) old new
-        (join d at w c One s (Sounds fast (far - 0)) old l (subst (λ q. OfEach (AtPort (at s) (Sounds fast q)) (half s old).state.system_ports)
-        (sym (no_less far)) sounds)) wakes stamped h) [
-          | inl z ↦ (let more : 1 ≤ m + 1 - (most + most) - n = (beside_here d at w (ticked_by n c) s (Later fast (far - n)) new z).0 in
+    near_by most fast m X V Z passes later old new less first l wakes stamped (inl (two, sounds)) h =
+        elim (ticks_pass X V Z passes old new (join d at w c One s (X 0) old l (first sounds)) wakes stamped h) [
+          | inl z ↦ (let more : 1 ≤ m + 1 - (most + most) - n = (later _ (beside_here d at w (ticked_by n c) s Z new z)).0 in
               let room : most + most ≤ m - n = omega (arith, more) in
               inl (
                 omega (arith, room),
                 inl (
                   room,
                   subst (λ q. OfEach (AtPort (at s) (Sounds fast q)) (half s new).state.system_ports) (nearer more)
-                      (of_end z s (Sounds fast (far - n)) (λ p rest timed a. (a.1 refl).1)),
+                      (of_end z s (Sounds fast (m + 1 - (most + most) - n)) (λ p rest timed a. (later p (a.1 refl)).1)),
                 ),
               ))
           | inr (inl y) ↦ (let room : most ≤ m - n = omega (arith, two, less) in inl (room, inr (room, y.1, y.2)))
           | inr (inr y) ↦ inr y
         ]
       where
-        far : ℕ
-        far = m + 1 - (most + most)
-
         nearer : 1 ≤ m + 1 - (most + most) - n → m + 1 - (most + most) - n ≡ m - n + 1 - (most + most)
         nearer more = omega (arith, more)
+
+    -- so it is with an end that may sound
+    pub ticks_near : (most : ℕ) (fast : Bool) (m : ℕ) (old new : WorldState) → n ≤ most
+        → ((a : ℕ) → a ≤ n → CanSound (w s) (w (peer s)) fast (c s - a)) → Link d at w c One Nothing old → Wakes at w s old → Counted old
+        → AheadIn most at w s fast m old → TicksBeside n at OldArrive gives old new
+        → ((most ≤ m - n) × AheadIn most at w s fast (m - n) new) ⊎ HearsIn n d at w k kept c s new
+    ticks_near most fast m old new less can l wakes stamped ahead h =
+        let far : ℕ = m + 1 - (most + most) in
+        near_by most fast m (λ a. Sounds fast (far - a)) (λ a. Sounds fast (far - a)) (Later fast (far - n))
+        (sounds_by_ticks (w s) (w (peer s)) fast n (c s) d far can) (λ p y. y) old new less
+        (λ y. subst (λ q. OfEach (AtPort (at s) (Sounds fast q)) (half s old).state.system_ports) (sym (no_less far)) y) l wakes stamped ahead h
 
     -- what it was told stays, or is on its way, and the end stays wakeful
     pub ticks_tell : {E : Clearing} (x : Side) (old new : WorldState) → Link d at w c x Nothing old → Wakes at w s old → TicksBeside n at E gives old new

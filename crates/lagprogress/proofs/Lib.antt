@@ -17,7 +17,8 @@ mod Quieting
 mod HostSteady
 mod HostRound
 mod SeveralTicks
-mod SeveralLapsing
+mod Meeting
+mod LateMeeting
 mod SeveralMeeting
 mod SeveralUp
 mod HostTelling

@@ -1,10 +1,9 @@
 -- What a healthy round leaves of a cable: an LACPDU of an end is nearer by a tick, or was heard.
 use Rattle.lagprogress.proofs.Common.{Bool, Err, List, None, Ok, Option, Result, Some, [], arith, false, inl, inr, refl, slice_get, subst, suc, sym}
 use Rattle.lagprogress.proofs.Common.{true, zero, ℕ, ◌-◌, ◌∙◌, ◌∷◌, ◌≡◌, ◌≤◌, ◌⊎◌, nat_tests, none-some, same_Some, AllByRecursion, Lacpdu, Side}
-use Rattle.lagprogress.proofs.Common.{peer, Machines, is_silent, periodic_rows, receive_rows, AtRest, RunsToRest, count_down, is_due, pdu_of}
-use Rattle.lagprogress.proofs.Common.{SystemFault, SystemPort, Step, Transmit, IsLacpduOf, SystemState, port_index, Event, Reply, Algorithms}
-use Rattle.lagprogress.proofs.Common.{WorldSteps, side_of, ItemValue, LinkState, WorldState, half, IsTimed, OfEach, no, AtPort, Sounds, now_due}
-use Rattle.lagprogress.proofs.Common.{asks_all}
+use Rattle.lagprogress.proofs.Common.{peer, Machines, is_silent, periodic_rows, AtRest, is_due, pdu_of, SystemFault, SystemPort, Step, Transmit}
+use Rattle.lagprogress.proofs.Common.{IsLacpduOf, SystemState, port_index, Event, Reply, Algorithms, WorldSteps, side_of, ItemValue, LinkState}
+use Rattle.lagprogress.proofs.Common.{WorldState, half, IsTimed, OfEach, no, AtPort, Sounds, now_due, asks_all}
 use Rattle.lagprogress.proofs.EndFacts.{Along, CanSound, IsEnd, both_along, nothing_along, sounds_along, constant_along}
 use Rattle.lagprogress.proofs.OneCable.{Went}
 use Rattle.lagprogress.proofs.Passing.{lacpdu_is_sent, sends_due, sent_carries}
@@ -98,15 +97,6 @@ IsAsk _ = ⊥
 pub all_ask : (links : List LinkState) → AllByRecursion IsAsk (asks_all links)
 all_ask [] = tt
 all_ask (l ∷ links) = (tt, (tt, (tt, (tt, all_ask links))))
-
--- what holds of the end of s in a round: X before it, V after its tick, Y then at rest, Z once it is asked and nothing is due
-pub record Passes (X V Y Z : Machines → Type 0) (v u : Lacpdu) (before c d : ℕ) : Type 0 where
-  pub ticks : (p q : Machines) → RunsToRest receive_rows (count_down p) q → AtRest periodic_rows p → IsEnd d v u before p → X p → V q
-  pub ticked : Along V v u c d
-  pub rests : (p : Machines) → AtRest periodic_rows p → IsTimed p → IsEnd d v u c p → V p → Y p
-  pub waits : Along Y v u c d
-  pub asks : Asks d Y Z v u c
-  pub asked : Along Z v u c d
 
 pub at_rest : (d : ℕ) (at : Side → ℕ) (w : Side → Lacpdu) (c : Side → ℕ) (s : Side) (V Y : Machines → Type 0) (j : WorldState)
     → ((p : Machines) → AtRest periodic_rows p → IsTimed p → IsEnd d (w s) (w (peer s)) (c s) p → V p → Y p)

@@ -12,7 +12,8 @@ use Rattle.lagprogress.proofs.EachRound.{played_on, EachAt, tick_keeps, played_s
 use Rattle.lagprogress.proofs.EachRound.{holds_once}
 use Rattle.lagprogress.proofs.LateHearing.{counts_of, kept_of}
 use Rattle.lagprogress.proofs.Quieting.{as_beside, IsCalm, calm_steady, calm_keeps, quiet_ports, asked_half, came_half, calm_between, leaves}
-use Rattle.lagprogress.proofs.Knowing.{Fresh, fits_fresh, fits_before, knows_late, stays_met, AtIt, Met}
+use Rattle.lagprogress.proofs.LateMeeting.{Fresh}
+use Rattle.lagprogress.proofs.Knowing.{fits_fresh, fits_before, knows_late, stays_met, AtIt, Met}
 use Rattle.lagprogress.proofs.Linked.{each_side, EndIs, Fits, IsGood, Link, arrival, at_end, end_here}
 use Rattle.lagprogress.proofs.Bundling.{Awake, said, Named, names, agree_still, heard_holds, LinksMeet, stands_in, sinks_in}
 use Rattle.lagprogress.proofs.Choosing.{AllAsRead, AsRead, Chose, down_as_read, down_still, one_as_read, settles_choice, takes_as_read, zip_as_read}

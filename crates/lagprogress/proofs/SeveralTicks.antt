@@ -8,7 +8,7 @@ use Rattle.lagprogress.proofs.EndFacts.{Along, CanSound, IsEnd, activity, calm, 
 use Rattle.lagprogress.proofs.HostRound.{Counts, IsTickless, KeptAmong, KeptBeside, MadeByTick, between, not_tick, one_of, tick_one, two, two_other}
 use Rattle.lagprogress.proofs.HostRound.{two_there}
 use Rattle.lagprogress.proofs.Linked.{Fits, Link, each_side, other_ports, other_side, peer_twice}
-use Rattle.lagprogress.proofs.OneRound.{Asks, Later, Nothing, Passes, later_along, still_sounds}
+use Rattle.lagprogress.proofs.OneRound.{Asks, Later, Nothing, later_along, still_sounds}
 
 -- a round of several ticks beside these ports
 abbrev pub TicksBeside : ℕ → (Side → ℕ) → Clearing → Algorithms → WorldState → WorldState → Type 0
@@ -313,42 +313,3 @@ sounds_by_ticks v u fast n c d most can = record {
   asks = λ p rest timed e y not. (still_sounds fast (most - n) p rest (calm d v u fast (c - n) p (can n (omega arith)) e).0 not y, y);
   asked = later_along v u fast (c - n) d (most - n) (can n (omega arith));
 }
-
--- and in a round of one tick
-abbrev pub Turned : (Machines → Type 0) → (Machines → Type 0) → ℕ → Machines → Type 0
-Turned X Y zero = X
-Turned X Y (suc a) = Y
-
-pub once_passes : (X V Y Z : Machines → Type 0) (v u : Lacpdu) (c d : ℕ) → Passes X V Y Z v u c (c - 1) d → Along X v u c d
-    → TickPasses 1 (Turned X Y) (Turned X V) Z v u c d
-once_passes X V Y Z v u c d k before = record {
-  ticks = ticks;
-  ticked = ticked;
-  rests = rests;
-  waits = waits;
-  asks = k.asks;
-  asked = k.asked;
-}
-  where
-    more : (a : ℕ) → suc (suc a) ≤ 1 → ⊥
-    more a l = omega (arith, l)
-
-    ticks : (a : ℕ) → suc a ≤ 1 → (p q : Machines) → RunsToRest receive_rows (count_down p) q → AtRest periodic_rows p
-        → IsEnd d v u (c - a) p → Turned X Y a p → Turned X V (suc a) q
-    ticks zero l p q r rest e y = k.ticks p q r rest (subst (λ m. IsEnd d v u m p) (no_less c) e) y
-    ticks (suc a) l p q r rest e y = absurd (more a l)
-
-    ticked : (a : ℕ) → a ≤ 1 → Along (Turned X V a) v u (c - a) d
-    ticked zero l = subst (λ m. Along X v u m d) (sym (no_less c)) before
-    ticked (suc zero) l = k.ticked
-    ticked (suc (suc a)) l = absurd (more a l)
-
-    rests : (a : ℕ) → a ≤ 1 → (p : Machines) → AtRest periodic_rows p → IsTimed p → IsEnd d v u (c - a) p → Turned X V a p → Turned X Y a p
-    rests zero l p rest timed e y = y
-    rests (suc zero) l p rest timed e y = k.rests p rest timed e y
-    rests (suc (suc a)) l p rest timed e y = absurd (more a l)
-
-    waits : (a : ℕ) → a ≤ 1 → Along (Turned X Y a) v u (c - a) d
-    waits zero l = subst (λ m. Along X v u m d) (sym (no_less c)) before
-    waits (suc zero) l = k.waits
-    waits (suc (suc a)) l = absurd (more a l)
