@@ -10,9 +10,9 @@ use Rattle.lagprogress.proofs.Common.{AllHeard, BothAreActive, EachLinkAgrees, E
 use Rattle.lagprogress.proofs.Common.{IsBundle, OneIsActive, SystemsDiffer, Clearing, IsBetweenTicks, PlayedRounds, LateRounds, OldArrive}
 use Rattle.lagprogress.proofs.Common.{Distributes, AtEnd, IsHealthyAt, Playing, SeveralBeside, TicksAmong, most_ticks, IsSteady}
 use Rattle.lagprogress.proofs.LateHearing.{counts_of, kept_of}
-use Rattle.lagprogress.proofs.ComingUp.{AreSynced, agrees_now, distributes, climbed_end, climbs, RoundsUpTo, BesideUpTo, rounds_once, stands_on}
-use Rattle.lagprogress.proofs.ComingUp.{keeps_agreeing, TickedRound, CableStands, Going, agreed_synced, slack_of, rounds_beside, AgreesIn}
-use Rattle.lagprogress.proofs.ComingUp.{comes_to_agree, rounds_pass, rounds_on}
+use Rattle.lagprogress.proofs.ComingUp.{AreSynced, agrees_now, distributes, climbed_end, climbs, TickedRounds, rounds_once, stands_on, keeps_agreeing}
+use Rattle.lagprogress.proofs.ComingUp.{IsTickedRound, CableStands, Going, agreed_synced, slack_of, rounds_beside, AgreesIn, comes_to_agree}
+use Rattle.lagprogress.proofs.ComingUp.{rounds_pass, rounds_on}
 use Rattle.lagprogress.proofs.EachRound.{clears_less, EachAt, RoundKeeps, same_index, played_split, each_between, tick_makes, tick_beside, steady_on}
 use Rattle.lagprogress.proofs.EachRound.{Passes}
 use Rattle.lagprogress.proofs.Knowing.{AtIt, knows_in, met_knows, for_several}
@@ -94,12 +94,12 @@ Sinks D s n j = (ticks : ℕ) × (n ≤ ticks) × EachAt (D (20 - ticks)) s j
 
 pub sinks_in : (D : ℕ → ℕ → Machines → Type 0) → ((t : ℕ) → RoundKeeps (D t))
     → ((t n : ℕ) (p q : Machines) → RunsToRest receive_rows (count_down p) q → D t n p → D (t - 1) n q) → (most : ℕ) (gives : Algorithms)
-    (s : Side) (old new : WorldState) → RoundsUpTo IsBetweenTicks most gives 20 old new → EachAt (D 20) s old → EachAt (D 0) s new
+    (s : Side) (old new : WorldState) → TickedRounds IsBetweenTicks most gives 20 old new → EachAt (D 20) s old → EachAt (D 0) s new
 sinks_in D keeps ticked most gives s old new h a =
     let r = rounds_on IsBetweenTicks most gives (Sinks D s) old (0, omega arith, a) sinks 20 new h in
     let l = r.1 in subst (λ t. EachAt (D t) s new) (omega (arith, l)) r.2
   where
-    sinks : (m : ℕ) (i j : WorldState) → TickedRound IsBetweenTicks most gives i j → Sinks D s m i → Sinks D s (m + 1) j
+    sinks : (m : ℕ) (i j : WorldState) → IsTickedRound IsBetweenTicks most gives i j → Sinks D s m i → Sinks D s (m + 1) j
     sinks m i j (k, some, less, q) (t, few, b) = (
       t + k,
       omega (arith, few, some),
@@ -153,7 +153,7 @@ pub record IsLateKind (R : ℕ → WorldState → WorldState → Type 0) (ticks 
   pub one : 1 ≤ ticks
   pub small : ticks ≤ most_ticks
   pub split : (k m n : ℕ) (old new : WorldState) → n ≡ k + m → R n old new → (mid : WorldState) × R m old mid × R k mid new
-  pub are : (n : ℕ) (old new : WorldState) → R n old new → RoundsUpTo IsBetweenTicks ticks gives n old new
+  pub are : (n : ℕ) (old new : WorldState) → R n old new → TickedRounds IsBetweenTicks ticks gives n old new
   pub lasts : (at : Side → ℕ) (w : Side → Lacpdu) (counts : Side → ℕ) (kept : Side → Bool) (j : WorldState) → AgreesIn at w counts kept ticks j
       → AgreesIn at w counts kept most_ticks j
 
@@ -216,7 +216,7 @@ agree_still i l old new sound stands h up = agrees_now (λ s. port_at s l) (said
 
 -- as they do in rounds
 pub stands_in : (most : ℕ) (gives : Algorithms) (n i : ℕ) (l : LinkState) (old new : WorldState) → IsCabling (world_setup old).cables
-    → IsHealthyAt i l old → RoundsUpTo IsBetweenTicks most gives n old new → CableStands (λ s. port_at s l) old new
+    → IsHealthyAt i l old → TickedRounds IsBetweenTicks most gives n old new → CableStands (λ s. port_at s l) old new
 stands_in most gives n i l old new cabling h rounds = let at : Side → ℕ = λ t. port_at t l in
     stands_on at most gives n old old new (
       refl,
@@ -274,7 +274,7 @@ module _ (R : ℕ → WorldState → WorldState → Type 0) (ticks : ℕ) (Holds
   met i l h = m.meets i l h (holds_of i l h)
 
   -- beside its ends
-  beside_of : (l : LinkState) (n : ℕ) (i j : WorldState) → R n i j → BesideUpTo (λ s. port_at s l) ticks gives n i j
+  beside_of : (l : LinkState) (n : ℕ) (i j : WorldState) → R n i j → TickedRounds (LeavesPorts (λ s. port_at s l)) ticks gives n i j
   beside_of l n i j h = rounds_beside (λ s. port_at s l) ticks gives n i j (m.kind.are n i j h)
 
   module _ (mid top : WorldState) (h : R first old mid) (more : R 20 mid top) where
@@ -353,7 +353,7 @@ module _ (R : ℕ → WorldState → WorldState → Type 0) (ticks : ℕ) (Holds
   -- and go on, in rounds of several ticks beside the ends of the cable
 
   module _ (i : ℕ) (l : LinkState) (y : IsHealthyAt i l old) (n k : ℕ) (mid new : WorldState) (enough : first + (31 + ticks + ticks) ≤ n)
-      (h : R n old mid) (more : BesideUpTo (λ s. port_at s l) most_ticks gives k mid new) where
+      (h : R n old mid) (more : TickedRounds (LeavesPorts (λ s. port_at s l)) most_ticks gives k mid new) where
     are_synced : AreSynced (λ s. port_at s l) (said old i l y) new
     are_synced =
         let at : Side → ℕ = λ s. port_at s l in
@@ -412,7 +412,7 @@ module _ (Plays : Playing) (ticks : ℕ) (Holds : LinkState → WorldState → T
 
   -- and then after any number of rounds of this kind
   module _ (More : LinkState → Algorithms → ℕ → WorldState → WorldState → Type 0)
-      (are : (l : LinkState) (n : ℕ) (old new : WorldState) → More l gives n old new → BesideUpTo (λ s. port_at s l) most_ticks gives n old new) where
+      (are : (l : LinkState) (n : ℕ) (old new : WorldState) → More l gives n old new → TickedRounds (LeavesPorts (λ s. port_at s l)) most_ticks gives n old new) where
     pub each_link_stays_up : (n m i : ℕ) (l : LinkState) (old mid new : WorldState) → IsBundle Holds old → IsHealthyAt i l old
         → first + (31 + ticks + ticks) ≤ n → Plays gives n old mid → More l gives m mid new → (s : Side) → AtEnd Distributes s l new
     each_link_stays_up n m i l old mid new b y enough h more =
@@ -426,10 +426,5 @@ module _ (Plays : Playing) (ticks : ℕ) (Holds : LinkState → WorldState → T
 -- beside the ends of a cable, of one tick or of several
 
 pub beside_once : (gives : Algorithms) (l : LinkState) (n : ℕ) (old new : WorldState) → RoundsBeside l gives n old new
-    → BesideUpTo (λ s. port_at s l) most_ticks gives n old new
+    → TickedRounds (LeavesPorts (λ s. port_at s l)) most_ticks gives n old new
 beside_once gives l n old new h = rounds_once (LeavesPorts (λ s. port_at s l)) most_ticks gives (omega arith) n old new h
-
-pub beside_several : (gives : Algorithms) (l : LinkState) (n : ℕ) (old new : WorldState) → SeveralBeside l gives n old new
-    → BesideUpTo (λ s. port_at s l) most_ticks gives n old new
-beside_several gives l zero old new h = h
-beside_several gives l (suc n) old new h = (h.0, beside_several gives l n old h.0 h.1, (h.2, h.3, h.4, h.5))

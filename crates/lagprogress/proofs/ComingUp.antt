@@ -99,41 +99,8 @@ module _ (at : Side → ℕ) (w : Side → Lacpdu) (j : WorldState) (g : AreSync
       (subst (λ x. slice_get j.links x ≡ Some (cable at links.flying)) (only links.index links.flying links.links) links.links.there)
       ∙ ap Some (rw (a.distributes, b.distributes, a.present, b.present, b.taken, a.taken, groups) refl)
 
--- late rounds in which each system ticks once at the least, as often as the other, and so often at the most
-
-abbrev pub TickedRound : (HostEvent → Type 0) → ℕ → Algorithms → WorldState → WorldState → Type 0
-TickedRound May most gives old new = (k : ℕ) × (1 ≤ k) × (k ≤ most) × IsPlayedTicks May OldArrive k gives old new
-
-abbrev pub RoundsUpTo : (HostEvent → Type 0) → ℕ → Algorithms → ℕ → WorldState → WorldState → Type 0
-RoundsUpTo May most gives zero old new = new ≡ old
-RoundsUpTo May most gives (suc n) old new = (mid : WorldState) × RoundsUpTo May most gives n old mid × TickedRound May most gives mid new
-
--- so it is beside the ends of a cable
-abbrev pub BesideUpTo : (Side → ℕ) → ℕ → Algorithms → ℕ → WorldState → WorldState → Type 0
-BesideUpTo at most gives n old new = RoundsUpTo (LeavesPorts at) most gives n old new
-
-pub rounds_on : (May : HostEvent → Type 0) (most : ℕ) (gives : Algorithms) (S : ℕ → WorldState → Type 0) (start : WorldState) → S 0 start
-    → ((n : ℕ) (old new : WorldState) → TickedRound May most gives old new → S n old → S (n + 1) new)
-    → (n : ℕ) (new : WorldState) → RoundsUpTo May most gives n start new → S n new
-rounds_on May most gives S start first next zero new h = subst (S 0) (sym h) first
-rounds_on May most gives S start first next (suc n) new h =
-    subst (λ m. S m new) (omega arith) (next n h.0 new h.2 (rounds_on May most gives S start first next n h.0 h.1))
-
--- rounds of one tick are such rounds
-pub rounds_once : (May : HostEvent → Type 0) (most : ℕ) (gives : Algorithms) → 1 ≤ most → (n : ℕ) (old new : WorldState)
-    → PlayedAmong May OldArrive gives n old new → RoundsUpTo May most gives n old new
-rounds_once May most gives some zero old new h = h
-rounds_once May most gives some (suc n) old new h = (h.0, rounds_once May most gives some n old h.0 h.1, (1, omega arith, some, once h.2))
-
--- what hosts do between ticks leaves the ends of a cable
-pub rounds_beside : (at : Side → ℕ) (most : ℕ) (gives : Algorithms) (n : ℕ) (old new : WorldState) → RoundsUpTo IsBetweenTicks most gives n old new
-    → BesideUpTo at most gives n old new
-rounds_beside at most gives zero old new h = h
-rounds_beside at most gives (suc n) old new h =
-    let r = h.2 in (h.0, rounds_beside at most gives n old h.0 h.1, (r.0, r.1, r.2, several_beside at OldArrive gives r.0 h.0 new r.3))
-
 -- what each event and each tick keeps, rounds do
-pub rounds_pass : (most : ℕ) (gives : Algorithms) (n : ℕ) (old new : WorldState) → RoundsUpTo IsBetweenTicks most gives n old new → Passes gives old new
+pub rounds_pass : (most : ℕ) (gives : Algorithms) (n : ℕ) (old new : WorldState) → TickedRounds IsBetweenTicks most gives n old new → Passes gives old new
 rounds_pass most gives n old new h M kept ticks m = rounds_on IsBetweenTicks most gives (λ i j. M j) old m
     (λ i a b r y. holds_turns IsBetweenTicks gives r.0 One (λ x z. M) (λ x z k. kept) (λ x z k. ticks One) (λ x z k. ticks Two) r.3.events r.3.replies
     a b 0 0 r.3.turns r.3.acts y) n new h
@@ -143,7 +110,7 @@ abbrev pub CableStands : (Side → ℕ) → WorldState → WorldState → Type 0
 CableStands at old j = (map link_ends j.links ≡ map link_ends old.links) × Stamped 0 at (counts_of at old) (kept_of at old) j
 
 pub stands_on : (at : Side → ℕ) (most : ℕ) (gives : Algorithms) (n : ℕ) (old mid new : WorldState) → CableStands at old mid
-    → BesideUpTo at most gives n mid new → CableStands at old new
+    → TickedRounds (LeavesPorts at) most gives n mid new → CableStands at old new
 stands_on at most gives n old mid new first h = rounds_on (LeavesPorts at) most gives (λ m j. CableStands at old j) mid first (λ m i j r k. (
   keeps_ticks OldArrive at gives r.0 (λ z. map link_ends z.links ≡ map link_ends old.links) (joins_kept at gives old.links)
       (λ t. joins_tick gives old.links t) i j r.3 k.0,
@@ -224,7 +191,7 @@ module _ (at : Side → ℕ) (w : Side → Lacpdu) (counts : Side → ℕ) (kept
   module _ (gives : Algorithms) (named : (t : Side) → IsNamed (w t)) (awake : (s : Side) → (activity (w s) ≡ true) ⊎ (activity (w (peer s)) ≡ true))
       (one : 1 ≤ ticks) (small : ticks ≤ most_ticks) where
     abbrev Round : WorldState → WorldState → Type 0
-    Round old new = TickedRound (LeavesPorts at) ticks gives old new
+    Round old new = IsTickedRound (LeavesPorts at) ticks gives old new
 
     more : 1 ≤ slack_of ticks
     more = omega (arith, small)
@@ -278,7 +245,7 @@ module _ (at : Side → ℕ) (w : Side → Lacpdu) (counts : Side → ℕ) (kept
       )
 
       pub climbs : (mid top : WorldState) → Going 1 12 0 mid → AtIt at w s (λ p. is_selected p.choice ≡ true) mid
-          → BesideUpTo at ticks gives 20 mid top → Going 1 0 0 top × AtIt at w s (Rising 0) top
+          → TickedRounds (LeavesPorts at) ticks gives 20 mid top → Going 1 0 0 top × AtIt at w s (Rising 0) top
       climbs mid top g chosen h =
           let c = rounds_on (LeavesPorts at) ticks gives Climbs mid (0, omega arith, g, rises_first at w g.known mid g.link s chosen) climbs_on 20 top h in
           let l = c.1 in (
@@ -388,7 +355,7 @@ module _ (at : Side → ℕ) (w : Side → Lacpdu) (counts : Side → ℕ) (kept
     comes_nearer n old new r (inr (k, l, c)) = inr (k + 1, omega (arith, l), agrees_on k old new r c)
 
     pub comes_to_agree : (n : ℕ) (top new : WorldState) → 11 + ticks + ticks ≤ n → Going 1 0 0 top → ((s : Side) → AtIt at w s Synced top)
-        → BesideUpTo at ticks gives n top new → AgreesIn new
+        → TickedRounds (LeavesPorts at) ticks gives n top new → AgreesIn new
     comes_to_agree n top new enough g synced h =
         elim (rounds_on (LeavesPorts at) ticks gives ComesToAgree top (inl (refl, g, synced)) comes_nearer n new h) [
           | inl (e, g, synced) ↦ absurd (omega (arith, e, enough))
@@ -402,7 +369,7 @@ module _ (at : Side → ℕ) (w : Side → Lacpdu) (counts : Side → ℕ) (kept
         ]
 
     -- and so it stays
-    pub keeps_agreeing : (n : ℕ) (old new : WorldState) → AgreesIn old → BesideUpTo at ticks gives n old new → AgreesIn new
+    pub keeps_agreeing : (n : ℕ) (old new : WorldState) → AgreesIn old → TickedRounds (LeavesPorts at) ticks gives n old new → AgreesIn new
     keeps_agreeing n old new c h = rounds_on (LeavesPorts at) ticks gives (λ m j. AgreesIn j) old c (λ m i j r a.
         record { fresh = met_on 2 i j (omega arith) r a.fresh; heard = λ t. hears_on i j a.fresh r t (a.heard t) }) n new h
 

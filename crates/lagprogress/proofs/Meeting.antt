@@ -58,19 +58,12 @@ module _ (at : Side → ℕ) (w : Side → Lacpdu) (s : Side) (quick : IsQuick (
 
 -- rounds of one tick to N
 
-abbrev pub IsRoundIn : (Side → ℕ) → Algorithms → ℕ → WorldState → WorldState → Type 0
-IsRoundIn at gives N old new = (k : ℕ) × (1 ≤ k) × (k ≤ N) × TicksBeside k at OldArrive gives old new
-
-abbrev pub RoundsIn : (Side → ℕ) → Algorithms → ℕ → ℕ → WorldState → WorldState → Type 0
-RoundsIn at gives N zero old new = new ≡ old
-RoundsIn at gives N (suc n) old new = (mid : WorldState) × RoundsIn at gives N n old mid × IsRoundIn at gives N mid new
-
 rounds_on : (at : Side → ℕ) (gives : Algorithms) (N : ℕ) (S : ℕ → WorldState → Type 0) (start : WorldState)
-    → ((new : WorldState) → IsRoundIn at gives N start new → S 1 new)
-    → ((n : ℕ) (old new : WorldState) → IsRoundIn at gives N old new → S n old → S (n + 1) new)
-    → (n : ℕ) (new : WorldState) → 1 ≤ n → RoundsIn at gives N n start new → S n new
+    → ((new : WorldState) → IsTickedRound (LeavesPorts at) N gives start new → S 1 new)
+    → ((n : ℕ) (old new : WorldState) → IsTickedRound (LeavesPorts at) N gives old new → S n old → S (n + 1) new)
+    → (n : ℕ) (new : WorldState) → 1 ≤ n → TickedRounds (LeavesPorts at) N gives n start new → S n new
 rounds_on at gives N S start first next zero new l h = absurd (omega (arith, l))
-rounds_on at gives N S start first next (suc zero) new l (mid, same, r) = first new (subst (λ j. IsRoundIn at gives N j new) same r)
+rounds_on at gives N S start first next (suc zero) new l (mid, same, r) = first new (subst (λ j. IsTickedRound (LeavesPorts at) N gives j new) same r)
 rounds_on at gives N S start first next (suc (suc n)) new l (mid, h, r) =
     subst (λ m. S m new) (omega arith) (next (suc n) mid new r (rounds_on at gives N S start first next (suc n) mid (omega arith) h))
 
@@ -82,7 +75,7 @@ module _ (at : Side → ℕ) (w : Side → Lacpdu) (counts : Side → ℕ) (kept
   Rest j = Stamped 1 at counts kept j
 
   abbrev Round : WorldState → WorldState → Type 0
-  Round old new = IsRoundIn at gives N old new
+  Round old new = IsTickedRound (LeavesPorts at) N gives old new
 
   -- the ticks in which the other end hears one that may sound
   abbrev gap : Bool → ℕ
@@ -611,7 +604,7 @@ module _ (at : Side → ℕ) (w : Side → Lacpdu) (counts : Side → ℕ) (kept
 
   -- so many rounds
 
-  module _ (n : ℕ) (many : 1 ≤ n) (old new : WorldState) (run : RoundsIn at gives N n old new)
+  module _ (n : ℕ) (many : 1 ≤ n) (old new : WorldState) (run : TickedRounds (LeavesPorts at) N gives n old new)
       (first : (j : WorldState) → Round old j → Link 1 at w (λ _. 0) One Nothing j × Rest j) where
     from_one : (s : Side) (active : activity (w s) ≡ true) → Room s (awake_at w s active) (1 + gap false) n → EarlyIn new
     from_one s active room = came s (awake_at w s active) (1 + gap false) n room (omega arith) new

@@ -54,6 +54,46 @@ once {May} {E} {gives} {old} {new} h = record {
   empties = h.empties;
 }
 
+-- late rounds of so many ticks at the most
+
+pub rounds_on : (May : HostEvent → Type 0) (most : ℕ) (gives : Algorithms) (S : ℕ → WorldState → Type 0) (start : WorldState) → S 0 start
+    → ((n : ℕ) (old new : WorldState) → IsTickedRound May most gives old new → S n old → S (n + 1) new)
+    → (n : ℕ) (new : WorldState) → TickedRounds May most gives n start new → S n new
+rounds_on May most gives S start first next zero new h = subst (S 0) (sym h) first
+rounds_on May most gives S start first next (suc n) new h =
+    subst (λ m. S m new) (omega arith) (next n h.0 new h.2 (rounds_on May most gives S start first next n h.0 h.1))
+
+-- rounds of one tick are such rounds
+pub rounds_once : (May : HostEvent → Type 0) (most : ℕ) (gives : Algorithms) → 1 ≤ most → (n : ℕ) (old new : WorldState)
+    → PlayedAmong May OldArrive gives n old new → TickedRounds May most gives n old new
+rounds_once May most gives some zero old new h = h
+rounds_once May most gives some (suc n) old new h = (h.0, rounds_once May most gives some n old h.0 h.1, (1, omega arith, some, once h.2))
+
+-- what hosts do between ticks leaves the ends of a cable
+pub turns_less : (May New : HostEvent → Type 0) → ((e : HostEvent) → May e → New e) → (n : ℕ) (s : Side) (a b : ℕ) (es : List HostEvent)
+    → TicksAmong May n s a b es → TicksAmong New n s a b es
+turns_less May New less n s a b [] h = h
+turns_less May New less n s a b (e ∷ es) (inl h) = inl (h.0, turns_less May New less n s (suc a) b es h.1)
+turns_less May New less n s a b (e ∷ es) (inr (inl h)) = inr (inl (h.0, turns_less May New less n s a (suc b) es h.1))
+turns_less May New less n s a b (e ∷ es) (inr (inr h)) = inr (inr (less e h.0, turns_less May New less n s a b es h.1))
+
+pub several_beside : (at : Side → ℕ) (E : Clearing) (gives : Algorithms) (n : ℕ) (old new : WorldState) → IsPlayedTicks IsBetweenTicks E n gives old new
+    → TicksBeside n at E gives old new
+several_beside at E gives n old new h = record {
+  events = h.events;
+  replies = h.replies;
+  turns = turns_less IsBetweenTicks (LeavesPorts at) (leaves at) n One 0 0 h.events h.turns;
+  acts = h.acts;
+  asked = h.asked;
+  empties = h.empties;
+}
+
+pub rounds_beside : (at : Side → ℕ) (most : ℕ) (gives : Algorithms) (n : ℕ) (old new : WorldState) → TickedRounds IsBetweenTicks most gives n old new
+    → TickedRounds (LeavesPorts at) most gives n old new
+rounds_beside at most gives zero old new h = h
+rounds_beside at most gives (suc n) old new h =
+    let r = h.2 in (h.0, rounds_beside at most gives n old h.0 h.1, (r.0, r.1, r.2, several_beside at OldArrive gives r.0 h.0 new r.3))
+
 -- the events of a round, in the eyes of either system
 
 pub turned : (May : HostEvent → Type 0) (n : ℕ) (es : List HostEvent) (a b : ℕ) → TicksAmong May n One a b es → TicksAmong May n Two b a es

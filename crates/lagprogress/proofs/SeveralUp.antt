@@ -2,7 +2,6 @@
 use Rattle.lagprogress.proofs.Common.{arith, refl, subst, suc, zero, ℕ, ◌+◌, ◌≡◌, Lacpdu, Side, Algorithms, WorldState, port_at, BothAreActive}
 use Rattle.lagprogress.proofs.Common.{OneIsActive, IsBetweenTicks, SeveralRounds, most_ticks}
 use Rattle.lagprogress.proofs.Bundling.{IsLateKind, KnowsSince, LinksMeetBy, both_meet, names, one_meets, said}
-use Rattle.lagprogress.proofs.ComingUp.{RoundsUpTo}
 use Rattle.lagprogress.proofs.Knowing.{settled}
 use Rattle.lagprogress.proofs.Lasting.{active_at, ends_at, starts}
 use Rattle.lagprogress.proofs.LateHearing.{counts_of, kept_of}
@@ -13,19 +12,14 @@ several_split : (gives : Algorithms) (k m n : ℕ) (old new : WorldState) → n 
 several_split gives zero m n old new e h = (new, subst (λ i. SeveralRounds gives i old new) (omega (arith, e)) h, refl)
 several_split gives (suc k) m zero old new e h = absurd (omega (arith, e))
 several_split gives (suc k) m (suc n) old new e h =
-    let r = several_split gives k m n old h.0 (omega (arith, e)) h.1 in (r.0, r.1, (h.0, r.2, h.2, h.3, h.4, h.5))
-
-several_are : (gives : Algorithms) (n : ℕ) (old new : WorldState) → SeveralRounds gives n old new
-    → RoundsUpTo IsBetweenTicks most_ticks gives n old new
-several_are gives zero old new h = h
-several_are gives (suc n) old new h = (h.0, several_are gives n old h.0 h.1, (h.2, h.3, h.4, h.5))
+    let r = several_split gives k m n old h.0 (omega (arith, e)) h.1 in (r.0, r.1, (h.0, r.2, h.2))
 
 several_kind : (gives : Algorithms) → IsLateKind (SeveralRounds gives) most_ticks gives
 several_kind gives = record {
   one = omega arith;
   small = omega arith;
   split = several_split gives;
-  are = several_are gives;
+  are = λ n old new h. h;
   lasts = λ at w counts kept j c. c;
 }
 
@@ -41,7 +35,7 @@ both_meet_several gives = record {
   wake = (both_meet gives).wake;
 }
 
-pub one_meets_several : (gives : Algorithms) → LinksMeetBy SeveralRounds most_ticks OneIsActive 671 gives
+pub one_meets_several : (gives : Algorithms) → LinksMeetBy SeveralRounds most_ticks OneIsActive 649 gives
 one_meets_several gives = record {
   kind = several_kind gives;
   meet = λ n old mid cabling steady i l h a enough r. knows_since (λ s. port_at s l) (said old i l h) old mid (one_meets_in gives (λ s. port_at s l)

@@ -51,31 +51,36 @@ pub record IsPlayedTicks (May : HostEvent → Type 0) (Clears : Clearing) (ticks
       → AfterTicks s (λ j. AtEnd (λ p. is_due p ≡ false) s l j) ticks gives events replies old new acts
   pub empties : Clears events old new
 
--- so many late rounds beside the ends of this cable, in each of which each system ticks once at the least, and as often as the other
-abbrev pub SeveralBeside : LinkState → Algorithms → ℕ → WorldState → WorldState → Type 0
-SeveralBeside l gives zero old new = new ≡ old
-SeveralBeside l gives (suc n) old new = (mid : WorldState) × SeveralBeside l gives n old mid × (ticks : ℕ) × (1 ≤ ticks) × (ticks ≤ most_ticks)
-    × IsPlayedTicks (LeavesPorts (λ s. port_at s l)) OldArrive ticks gives mid new
+-- A late round among events that may come so: each system ticks once at the least, as often as the other, and so often at the most.
+abbrev pub IsTickedRound : (May : HostEvent → Type 0) → (most : ℕ) → Algorithms → WorldState → WorldState → Type 0
+IsTickedRound May most gives old new = (ticks : ℕ) × (1 ≤ ticks) × (ticks ≤ most) × IsPlayedTicks May OldArrive ticks gives old new
 
--- so many late rounds, in each of which each system ticks once at the least, and as often as the other
+-- and so many of them
+abbrev pub TickedRounds : (May : HostEvent → Type 0) → (most : ℕ) → Algorithms → ℕ → WorldState → WorldState → Type 0
+TickedRounds May most gives zero old new = new ≡ old
+TickedRounds May most gives (suc n) old new = (mid : WorldState) × TickedRounds May most gives n old mid × IsTickedRound May most gives mid new
+
+-- so many late rounds of several ticks beside the ends of this cable
+abbrev pub SeveralBeside : LinkState → Algorithms → ℕ → WorldState → WorldState → Type 0
+SeveralBeside l gives n old new = TickedRounds (LeavesPorts (λ s. port_at s l)) most_ticks gives n old new
+
+-- so many late rounds of several ticks
 abbrev pub SeveralRounds : Algorithms → ℕ → WorldState → WorldState → Type 0
-SeveralRounds gives zero old new = new ≡ old
-SeveralRounds gives (suc n) old new = (mid : WorldState) × SeveralRounds gives n old mid × (ticks : ℕ) × (1 ≤ ticks) × (ticks ≤ most_ticks)
-    × IsPlayedTicks IsBetweenTicks OldArrive ticks gives mid new
+SeveralRounds gives n old new = TickedRounds IsBetweenTicks most_ticks gives n old new
 
 -- After so many of these rounds the ends of healthy cables know each other, if both are active, and if one is.
 abbrev pub known_in_several_if_both_active : ℕ
 known_in_several_if_both_active = 365
 
 abbrev pub known_in_several_if_one_is : ℕ
-known_in_several_if_one_is = 671
+known_in_several_if_one_is = 649
 
 -- And they distribute and agree.
 abbrev pub up_in_several_if_both_active : ℕ
 up_in_several_if_both_active = 408
 
 abbrev pub up_in_several_if_one_is : ℕ
-up_in_several_if_one_is = 714
+up_in_several_if_one_is = 692
 
 -- one of the events after so many ticks of system s asks this port
 abbrev pub AsksAfterTicks : Side → ℕ → (ticks : ℕ) → List HostEvent → Type 0

@@ -45,7 +45,7 @@ ghost use Rattle.lagprogress.specs.Several.{SeveralRounds, known_in_several_if_b
 // promise: among any cables, the ports of each healthy one know each other after 323 late rounds if both are active, after 624 if one is
 // contract: `ends_come_to_know_by_clocks` (`both`, `one`)
 // premises: steady; no port has two cables
-// promise: so they do after 365 late rounds of several ticks if both are active, after 671 if one is: in each both systems tick one to six times, as often
+// promise: so they do after 365 late rounds of several ticks if both are active, after 649 if one is: in each both systems tick one to six times, as often
 //    as the other, at once or not
 // contract: `ends_come_to_know_by_clocks` (`several_both`, `several_one`: `SeveralRounds`)
 // premises: as in the row above; each end of a healthy cable is asked after the last tick of its system in the round, and each tick is an event of its own
@@ -53,7 +53,7 @@ ghost use Rattle.lagprogress.specs.Several.{SeveralRounds, known_in_several_if_b
 /// from 624 (62.4 s) on if one is, whatever was before them, whatever is offered or called in them, whatever the other cables are, and
 /// whatever other ports and aggregators the systems have. A cable is healthy that is whole and has no limit, with the links of both of its
 /// ports up; no port has two cables; both systems are sound, their timers within their bounds, and no port held (6.4.12, 6.4.13). So they
-/// do where hosts make up ticks: in each round each system may tick up to six times, as often as the other; from 365 such rounds on, or 671.
+/// do where hosts make up ticks: in each round each system may tick up to six times, as often as the other; from 365 such rounds on, or 649.
 pub fn ends_come_to_know_by_clocks<F: Fn(u16, usize) -> usize>()
     ensures both { (one two : F) → EndsOfEachKnow LateRounds BothAreActive known_if_both_active (both_algorithms (F.post one) (F.post two)) }
     ensures one { (one two : F) → EndsOfEachKnow LateRounds OneIsActive known_if_one_is (both_algorithms (F.post one) (F.post two)) }
@@ -68,7 +68,7 @@ ghost use Rattle.lagprogress.specs.Several.{up_in_several_if_both_active, up_in_
 // promise: both ports of each healthy cable are up, and its `agreement` is `Same`: 356 | 657
 // contract: `each_link_comes_up_by_clocks`, `each_link_agrees_by_clocks` (`both`, `one`)
 // premises: `IsBundle`; for the agreement the world is sound. Other cables may be cut, have a limit, or end at ports whose links are down
-// promise: **a link comes up in rounds of up to six ticks, too:** both ports of each healthy cable are up, and its `agreement` is `Same`, after 408 | 714 late
+// promise: **a link comes up in rounds of up to six ticks, too:** both ports of each healthy cable are up, and its `agreement` is `Same`, after 408 | 692 late
 //    rounds of several ticks: in each both systems tick one to six times, as often as the other, at once or not
 // contract: `each_link_comes_up_by_clocks`, `each_link_agrees_by_clocks` (`several_both`, `several_one`: `SeveralRounds`)
 // premises: as in the row above; each end of a healthy cable is asked after the last tick of its system in the round, and each tick is an event of its own
@@ -79,7 +79,7 @@ ghost use Rattle.lagprogress.specs.Several.{up_in_several_if_both_active, up_in_
 /// those whose links are down are UNSELECTED or led there; a limit of links, if it has one, is no less than the ports of one key;
 /// the two systems differ, both are sound, their timers are within their bounds, and no port is held. Other cables may be cut,
 /// or end at ports whose links are down (6.3.6, 6.4.12 to 6.4.16). So they do where hosts make up ticks: in each round each system may tick
-/// up to six times, as often as the other; from 408 such rounds on, or 714.
+/// up to six times, as often as the other; from 408 such rounds on, or 692.
 pub fn each_link_comes_up_by_clocks<F: Fn(u16, usize) -> usize>()
     ensures both { (one two : F) → EachLinkComesUp LateRounds BothAreActive up_if_both_active (both_algorithms (F.post one) (F.post two)) }
     ensures one { (one two : F) → EachLinkComesUp LateRounds OneIsActive up_if_one_is (both_algorithms (F.post one) (F.post two)) }
@@ -89,7 +89,7 @@ pub fn each_link_comes_up_by_clocks<F: Fn(u16, usize) -> usize>()
 
 /// The two ends of each link agree: in a sound world as in `each_link_comes_up_by_clocks` the agreement of each healthy cable is `Same` from
 /// 356 late rounds (35.6 s) on if both ends of each are active, from 657 (65.7 s) on if one is; and from 408 rounds of several ticks on, or
-/// 714 (6.3.6, 6.4.12 to 6.4.16; profile).
+/// 692 (6.3.6, 6.4.12 to 6.4.16; profile).
 pub fn each_link_agrees_by_clocks<F: Fn(u16, usize) -> usize>()
     ensures both { (one two : F) → EachLinkAgrees LateRounds BothAreActive up_if_both_active (both_algorithms (F.post one) (F.post two)) }
     ensures one { (one two : F) → EachLinkAgrees LateRounds OneIsActive up_if_one_is (both_algorithms (F.post one) (F.post two)) }
@@ -114,7 +114,7 @@ ghost use Rattle.lagprogress.specs.Several.{EachLinkStaysAgreedThroughout, EachL
 // contract: `each_link_stays_up_by_clocks` (`several_up_both`, `several_up_one`, `several_agrees_both`, `several_agrees_one`: `SeveralBeside`)
 // premises: as in the row above; each end of a healthy cable is asked after the last tick of its system in the round, and each tick is an event of its
 //    own. No clause says what ticks do that one end has more of than the other
-// promise: so it goes on behind 408 | 714 late rounds of several ticks
+// promise: so it goes on behind 408 | 692 late rounds of several ticks
 // contract: `each_link_stays_up_by_clocks` (`throughout_up_both`, `throughout_up_one`, `throughout_agrees_both`, `throughout_agrees_one`: `SeveralRounds`,
 //    `SeveralBeside`)
 // premises: as in the row above

@@ -13,4 +13,4 @@ pub returns-clause-several_both : goal.returns-clause-several_both
 returns-clause-several_both g c = λ one two. ends_know SeveralRounds most_ticks BothAreActive 365 _ (both_meet_several _)
 
 pub returns-clause-several_one : goal.returns-clause-several_one
-returns-clause-several_one g c = λ one two. ends_know SeveralRounds most_ticks OneIsActive 671 _ (one_meets_several _)
+returns-clause-several_one g c = λ one two. ends_know SeveralRounds most_ticks OneIsActive 649 _ (one_meets_several _)
