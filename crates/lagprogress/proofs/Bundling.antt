@@ -8,11 +8,12 @@ use Rattle.lagprogress.proofs.Common.{world_setup, IsWorldSound, LinkState, Worl
 use Rattle.lagprogress.proofs.Common.{ports_with, IsTimed, count, count_more_of, counted, OfEach, AtPort, waits_for_room, LeavesPorts, RoundsBeside}
 use Rattle.lagprogress.proofs.Common.{AllHeard, BothAreActive, EachLinkAgrees, EachLinkComesUp, EndsHealthyCable, EndsOfEachKnow, EnoughLinks}
 use Rattle.lagprogress.proofs.Common.{IsBundle, OneIsActive, SystemsDiffer, Clearing, IsBetweenTicks, PlayedRounds, LateRounds, OldArrive}
-use Rattle.lagprogress.proofs.Common.{Distributes, AtEnd, IsHealthyAt, Playing, SeveralBeside, TicksAmong, most_ticks, IsSteady}
+use Rattle.lagprogress.proofs.Common.{Distributes, AtEnd, IsHealthyAt, Playing, IsTickedRound, SeveralBeside, TickedRounds, TicksAmong, most_ticks}
+use Rattle.lagprogress.proofs.Common.{IsSteady}
+use Rattle.lagprogress.proofs.SeveralTicks.{rounds_on, rounds_beside, rounds_once, no_less, turned, holds_turns}
 use Rattle.lagprogress.proofs.LateHearing.{counts_of, kept_of}
-use Rattle.lagprogress.proofs.ComingUp.{AreSynced, agrees_now, distributes, climbed_end, climbs, TickedRounds, rounds_once, stands_on, keeps_agreeing}
-use Rattle.lagprogress.proofs.ComingUp.{IsTickedRound, CableStands, Going, agreed_synced, slack_of, rounds_beside, AgreesIn, comes_to_agree}
-use Rattle.lagprogress.proofs.ComingUp.{rounds_pass, rounds_on}
+use Rattle.lagprogress.proofs.ComingUp.{AreSynced, agrees_now, distributes, climbed_end, climbs, stands_on, keeps_agreeing, CableStands, Going}
+use Rattle.lagprogress.proofs.ComingUp.{agreed_synced, slack_of, AgreesIn, comes_to_agree, rounds_pass}
 use Rattle.lagprogress.proofs.EachRound.{clears_less, EachAt, RoundKeeps, same_index, played_split, each_between, tick_makes, tick_beside, steady_on}
 use Rattle.lagprogress.proofs.EachRound.{Passes}
 use Rattle.lagprogress.proofs.Knowing.{AtIt, knows_in, met_knows, for_several}
@@ -26,7 +27,6 @@ use Rattle.lagprogress.proofs.Linked.{at_end, end_here, EndPort}
 use Rattle.lagprogress.proofs.OneRound.{Nothing}
 use Rattle.lagprogress.proofs.SharedLemmas.{Finds, shared_finds, lasts_on}
 use Rattle.lagprogress.proofs.Claims.{IsNamed}
-use Rattle.lagprogress.proofs.SeveralTicks.{no_less, turned, holds_turns}
 
 -- no port stands by
 

@@ -6,7 +6,8 @@ use Rattle.lagprogress.proofs.Common.{CollectingDistributing, Machines, is_synch
 use Rattle.lagprogress.proofs.Common.{machines_of, all-get, Same, agreement_at, agreement_of, end_facts, is_stamp, same_groups, Algorithms, link_ends}
 use Rattle.lagprogress.proofs.Common.{ItemValue, LinkState, WorldState, half, history_at, HostEvent, IsTimed, no, times_keep, AtPort, periodic_leaves}
 use Rattle.lagprogress.proofs.Common.{Sounds, all_leave, LeavesPorts, IsBetweenTicks, PlayedAmong, OldArrive, Distributes, OfPort, IsPlayedTicks}
-use Rattle.lagprogress.proofs.Common.{most_ticks}
+use Rattle.lagprogress.proofs.Common.{IsTickedRound, TickedRounds, most_ticks}
+use Rattle.lagprogress.proofs.SeveralTicks.{rounds_on, keeps_ticks, no_less, once, ticked_by, ticks_hold, holds_turns}
 use Rattle.lagprogress.proofs.EachRound.{joins_kept, joins_tick, Passes}
 use Rattle.lagprogress.proofs.Stamps.{Took-it, Present, Stamped}
 use Rattle.lagprogress.proofs.Climbing.{Rising, PartnerInSync, keeps_selected, ticks_still, distributes_now, partner_along, rising_along}
@@ -19,13 +20,11 @@ use Rattle.lagprogress.proofs.LateHearing.{Whoever, ticks_stamp, AheadIn, ticks_
 use Rattle.lagprogress.proofs.LateFlow.{Past}
 use Rattle.lagprogress.proofs.Linked.{Flying, IsGood, Link, each_map, peer_twice, same_items, EndPort, at_end, end_here, end_with, both_at, of_end}
 use Rattle.lagprogress.proofs.OneRound.{Nothing, join}
-use Rattle.lagprogress.proofs.SeveralTicks.{keeps_ticks, no_less, once, ticked_by, ticks_hold, holds_turns}
 use Rattle.lagprogress.proofs.Lasting.{raised}
 use Rattle.lagprogress.proofs.Telling.{Bears, SaysIt, Tells, tells_map}
 use Rattle.lagprogress.proofs.OneCable.{OnCable, cable}
 use Rattle.lagtypes.proofs.GroupLemmas.{groups_from_pairs}
 use Rattle.std.proofs.Math.Bool.{and_comm}
-use Rattle.lagprogress.proofs.SeveralMeeting.{several_beside}
 
 -- the ends agree
 

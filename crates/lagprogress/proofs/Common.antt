@@ -178,7 +178,7 @@ pub use Rattle.lagprogress.specs.PlayedByHosts.{PlaysHostRound, PlaysHostRounds,
 pub use Rattle.lagprogress.specs.Progress.{Distributes, EndKnows, Knows}
 pub use Rattle.lagprogress.specs.Rounds.{AtEnd, IsDeliver, IsHealthyAt, IsRound, NothingInFlight, OfPort, Playing, Rounds, asks_all, asks_ends}
 pub use Rattle.lagprogress.specs.Rounds.{freed_if_both_active, freed_if_one_is, ticks_of_both, up_if_both_active, up_if_one_is}
-pub use Rattle.lagprogress.specs.Several.{AfterTicks, AskingIsSeveral, AsksAfterTicks, IsPlayedTicks, SeveralBeside, SeveralRounds, TicksAmong}
-pub use Rattle.lagprogress.specs.Several.{most_ticks}
+pub use Rattle.lagprogress.specs.Several.{AfterTicks, AskingIsSeveral, AsksAfterTicks, IsPlayedTicks, IsTickedRound, SeveralBeside, SeveralRounds}
+pub use Rattle.lagprogress.specs.Several.{TickedRounds, TicksAmong, most_ticks}
 pub use Rattle.lagprogress.specs.Shared.{AreOneGroup, DownWereLinkedTo, HasAggregators, LeadToKey}
 pub use Rattle.lagprogress.specs.Steady.{EachHostReachedIsSteady, EachHostRunKeepsSteady, GoesByCalls, IsSteady, IsSteadySystem, WarmStartIsSteady}

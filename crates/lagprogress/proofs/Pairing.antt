@@ -8,6 +8,7 @@ use Rattle.lagprogress.proofs.Common.{port_numbers, processes_or_stays, rests, a
 use Rattle.lagprogress.proofs.Common.{LinkState, WorldState, half, port_at, towards, HostEvent, Plays, IsTimed, OfEach, asked_each, no, AtPort}
 use Rattle.lagprogress.proofs.Common.{at_number, AllHeard, EndsHealthyCable, SelectedPairsAgree, SelectedPairsComeUp, IsBetweenTicks, StepReplies}
 use Rattle.lagprogress.proofs.Common.{IsLateRound, LateRounds, OldArrive, AtEnd, IsHealthyAt, OfPort, IsSteady}
+use Rattle.lagprogress.proofs.SeveralTicks.{rounds_beside, rounds_once, Within, fits_at, known_at, none_counted}
 use Rattle.lagprogress.proofs.EachRound.{played_on, EachAt, tick_keeps, played_split, played_steady, RoundKeeps, played_pass, same_on, each_between}
 use Rattle.lagprogress.proofs.EachRound.{holds_once}
 use Rattle.lagprogress.proofs.LateHearing.{counts_of, kept_of}
@@ -24,11 +25,10 @@ use Rattle.lagprogress.proofs.OneCable.{Comes, alone, cable, towards_there, tick
 use Rattle.lagprogress.proofs.OneRound.{Nothing}
 use Rattle.lagprogress.proofs.HostRound.{KeptBetween, MadeByTick, tick_one, between}
 use Rattle.lagprogress.proofs.Lasting.{Alike, alike_keeps, alike_ticks, all_by_place, old_port, played_alike, played_before}
-use Rattle.lagprogress.proofs.ComingUp.{AreSynced, agreed_synced, comes_to_agree, distributes, climbed_end, climbs, rounds_beside, rounds_once}
+use Rattle.lagprogress.proofs.ComingUp.{AreSynced, agreed_synced, comes_to_agree, distributes, climbed_end, climbs}
 use Rattle.slowpdu.specs.declared.pdu.Pdu.TheVariants as pdu
 use Rattle.lagsystem.specs.declared.drive.Reply.TheVariants as answer
 use Rattle.lagscript.specs.declared.event.Event.TheVariants as event
-use Rattle.lagprogress.proofs.SeveralTicks.{Within, fits_at, known_at, none_counted}
 
 -- Selected stays what it is in the rounds of a world in which each end of a healthy cable knows its partner.
 

@@ -1,5 +1,5 @@
+use Rattle.lagprogress.proofs.SeveralTicks.{rounds_once}
 use Rattle.lagprogress.proofs.LateLoops.{host_round_is_late_round, host_rounds_are_late_rounds}
-use Rattle.lagprogress.proofs.ComingUp.{rounds_once}
 use Rattle.lagprogress.proofs.Common.{arith, port_at, LeavesPorts, IsBetweenTicks, OldArrive, most_ticks}
 use Rattle.lagprogress.proofs.HostLoops.{asking_is_played, asking_is_several, come_beside, come_between}
 use Rattle.lagprogress.proofs.clocks.clocks_play_rounds.Goals as goal
