@@ -181,4 +181,4 @@ pub use Rattle.lagprogress.specs.Rounds.{freed_if_both_active, freed_if_one_is, 
 pub use Rattle.lagprogress.specs.Several.{AfterTicks, AskingIsSeveral, AsksAfterTicks, IsPlayedTicks, IsTickedRound, SeveralBeside, SeveralRounds}
 pub use Rattle.lagprogress.specs.Several.{TickedRounds, TicksAmong, most_ticks}
 pub use Rattle.lagprogress.specs.Shared.{AreOneGroup, DownWereLinkedTo, HasAggregators, LeadToKey}
-pub use Rattle.lagprogress.specs.Steady.{EachHostReachedIsSteady, EachHostRunKeepsSteady, GoesByCalls, IsSteady, IsSteadySystem, WarmStartIsSteady}
+pub use Rattle.lagprogress.specs.Steady.{EachHostReachedIsSteady, EachHostRunKeepsSteady, GoesByCalls, IsSteady, IsSteadySystem}

@@ -2,7 +2,8 @@
 use Rattle.lagprogress.proofs.Common.{Err, List, Ok, Result, [], arith, refl, subst, sym, ℕ, ◌∙◌, ◌∷◌, ◌≡◌, nat_tests, AggId, Assignment, On, MaySend}
 use Rattle.lagprogress.proofs.Common.{assignment_of, Answer, SystemFault, Call, Drives, GivesOrRefuses, distributing, IsSound, NoneHeld, SystemState}
 use Rattle.lagprogress.proofs.Common.{first_free, PortsAreTimed, Step-each, first_each, TimedAt, timed_kept, timed_settles, timed_starts}
-use Rattle.lagprogress.proofs.Common.{IsSteadySystem, WarmStartIsSteady}
+use Rattle.lagprogress.proofs.Common.{IsSteadySystem}
+use Rattle.lagprogress.specs.WarmStarts.{WarmStartIsSteady}
 use Rattle.lagsystem.proofs.OnPorts.{may_carry, sets_carried}
 use Rattle.lagsystem.proofs.PromiseLemmas.{table_sound}
 use Rattle.dataplane.specs.Adopting.{Adoption, Adopts, adopt_result}

@@ -1,5 +1,6 @@
 pub mod Shared
 pub mod Steady
+pub mod WarmStarts
 pub mod Overtaking
 pub mod Passing
 pub mod Rounds

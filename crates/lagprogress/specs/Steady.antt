@@ -13,9 +13,6 @@ use Rattle.lagworld.specs.Making.{AreFirst}
 use Rattle.lagworld.specs.Sound.{IsSound as IsSoundWorld, IsStart}
 use Rattle.lagworld.specs.State.{WorldState, half}
 use Rattle.laghosts.specs.HostEvents.{HostEvent, HostRuns}
-use Rattle.dataplane.specs.declared.resuming.SavedPort.{SavedPort}
-use Rattle.dataplane.specs.Adopting.{Adoption, Adopts}
-use Rattle.dataplane.specs.Resuming.{IsResumed}
 use Rattle.lagbeside.specs.Timers.{PortsAreTimed}
 
 -- the system is sound, no timer of its ports is above its bound, and the host holds no port
@@ -55,11 +52,6 @@ abbrev pub EachHostReachedIsSteady : Algorithms → Type 0
 EachHostReachedIsSteady gives = (configs : List Config) (es : List HostEvent) (start new : WorldState) → IsStart start
     → AreFirst configs start → HostRuns gives start es new → new.acted ≤ most_events → ((s : Side) → NoneHeld (half s new).state)
     → IsSoundWorld new × IsSteady new
-
--- So is a system that a warm start made, with whatever conversations it adopted.
-abbrev pub WarmStartIsSteady : (ℕ → ℕ → ℕ → Type 0) → Type 0
-WarmStartIsSteady gives = (config : Config) (saved : List SavedPort) (adoptions : List Adoption) (resumed new : SystemState)
-    → IsResumed gives config saved resumed → Adopts resumed adoptions new → IsSteadySystem new
 
 -- some calls lead from one state of a system to another
 abbrev pub GoesByCalls : (ℕ → ℕ → ℕ → Type 0) → SystemState → SystemState → Type 0

@@ -17,7 +17,8 @@ mod sharing;
 
 ghost use Rattle.lagworld.specs.Sound.{both_algorithms};
 ghost use Rattle.lagprogress.specs.Steady.{EachEventIsCalls, EachEventKeepsSteady, StartIsSteady};
-ghost use Rattle.lagprogress.specs.Steady.{EachHostReachedIsSteady, EachHostRunKeepsSteady, EachReachedIsSteady, EachRunKeepsSteady, WarmStartIsSteady};
+ghost use Rattle.lagprogress.specs.Steady.{EachHostReachedIsSteady, EachHostRunKeepsSteady, EachReachedIsSteady, EachRunKeepsSteady};
+ghost use Rattle.lagprogress.specs.WarmStarts.{WarmStartIsSteady};
 
 pub use arriving::{
     disabled_ports_have_unsynchronized_partners, each_frame_arrives_by_hosts, frames_pass_cables,
