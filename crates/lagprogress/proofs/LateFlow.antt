@@ -41,16 +41,17 @@ flying_push (suc k) [] ys h = absurd h
 flying_push (suc k) (x ∷ xs) ys (inl h) = inl h
 flying_push (suc k) (x ∷ xs) ys (inr h) = inr (flying_push k xs ys h)
 
-flying_more : (k : ℕ) (xs : List ItemValue) → FlyingIn k xs → FlyingIn (suc k) xs
+pub flying_more : (k : ℕ) (xs : List ItemValue) → FlyingIn k xs → FlyingIn (suc k) xs
 flying_more zero xs h = absurd h
 flying_more (suc k) [] h = absurd h
 flying_more (suc k) (x ∷ xs) (inl h) = inl h
 flying_more (suc k) (x ∷ xs) (inr h) = inr (flying_more k xs h)
 
-pub flying_pop : (k : ℕ) (x : ItemValue) (xs : List ItemValue) → (HasLacpdu x → ⊥) → FlyingIn k (x ∷ xs) → FlyingIn k xs
-flying_pop zero x xs n h = absurd h
-flying_pop (suc k) x xs n (inl h) = absurd (n h)
-flying_pop (suc k) x xs n (inr h) = flying_more k xs h
+pub flying_in : (k : ℕ) (xs : List ItemValue) → FlyingIn k xs → Flying xs
+flying_in zero xs h = absurd h
+flying_in (suc k) [] h = absurd h
+flying_in (suc k) (x ∷ xs) (inl h) = inl h
+flying_in (suc k) (x ∷ xs) (inr h) = inr (flying_in k xs h)
 
 pub beyond_first : (P : ItemValue → Type 0) (xs : List ItemValue) → Beyond P (length xs) xs
 beyond_first P [] = tt
