@@ -1,5 +1,5 @@
 -- In a healthy round of hosts, an end that hears the other is told when the other is synchronized, or the other owes it an LACPDU.
-use Rattle.lagprogress.proofs.Common.{Bool, List, length, Some, [], arith, false, inl, inr, refl, subst, suc, sym, true, ℕ, ◌+◌, ◌-◌, ◌∙◌, ◌∷◌, ◌≡◌, ◌≤◌, ◌⊎◌}
+use Rattle.lagprogress.proofs.Common.{nat_tests, Bool, List, length, Some, [], arith, false, inl, inr, refl, subst, suc, sym, true, ℕ, ◌+◌, ◌-◌, ◌∙◌, ◌∷◌, ◌≡◌, ◌≤◌, ◌⊎◌}
 use Rattle.lagprogress.proofs.Common.{cases_Bool, AllByRecursion, Lacpdu, Side, peer, Machines, partner_synchronized, periodic_rows, receive_rows}
 use Rattle.lagprogress.proofs.Common.{AtRest, RunsToRest, after_sending, count_down, is_due, SystemPort, Carries, IsFrame, OnlyPortChangesBy}
 use Rattle.lagprogress.proofs.Common.{ProcessesLacpdu, ThenSettles, SystemState, machines_of, Reply, Algorithms, WorldSteps, side_of, ItemValue}
@@ -117,7 +117,7 @@ module _ (gives : Algorithms) (d : ℕ) (at : Side → ℕ) (w : Side → Lacpdu
   Any p = Unit {0}
 
   pub any_settles : KeptBySettling (AtPort (at (peer s)) Any)
-  any_settles = record { mux = λ m ready p q h a. a; periodic = λ m p q h a. a; select = λ m choice p none may a. a }
+  any_settles = grind (arith, nat_tests)
 
   pub all_any : (n : ℕ) (xs : List SystemPort) → OfEach (AtPort n Any) xs
   all_any n [] = tt
@@ -312,17 +312,11 @@ module _ (gives : Algorithms) (d : ℕ) (at : Side → ℕ) (w : Side → Lacpdu
       fit_at a b l = fits_at d w c s n fits then a b l
 
       waits_long : n + 1 ≤ W
-      waits_long = long (short_timeout (w (peer s)))
-        where
-          long : (b : Bool) → n + 1 ≤ timeout_time b
-          long true = few
-          long false = omega (arith, few)
+      waits_long = grind (arith, nat_tests)
 
       pub comes_own : (k a b : ℕ) → Within n (suc a) b → MadeByTick gives s (Comes k (kn a b) (W - b)) (Comes k (kn (suc a) b) (W - b))
-      comes_own k a b l m r i j numbered h (inl y) =
-          inl (sent_tick s k (kn a b) (kn (suc a) b) (own_counted d w c s n then a b l) m r i j numbered h y)
-      comes_own k a b l m r i j numbered h (inr y) =
-          inr (told_own (kn a b) (kn (suc a) b) (W - b) (own_counted d w c s n then a b l) (omega arith) (fit_at (suc a) b l) m r i j numbered h y)
+      comes_own k a b l m r i j numbered h y = grind (arith, nat_tests, sent_tick s k (kn a b) (kn (suc a) b),
+          told_own (kn a b) (kn (suc a) b) (W - b), own_counted d w c s n then a b l, fit_at (suc a) b l)
 
       -- the tick of the other system
       pub comes_other : (k a b : ℕ) → Within n a (suc b) → MadeByTick gives (peer s) (Comes k (kn a b) (W - b)) (Comes k (kn a (suc b)) (W - suc b))

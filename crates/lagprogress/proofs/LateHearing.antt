@@ -1,5 +1,5 @@
 -- What a late round leaves of a cable: an LACPDU of an end is nearer, on the cable in the end, or was heard.
-use Rattle.lagprogress.proofs.Common.{Bool, List, Some, [], ap, arith, inl, inr, is_some, length, map, refl, subst, suc, sym, true, ℕ, ◌++◌, ◌+◌, ◌-◌}
+use Rattle.lagprogress.proofs.Common.{nat_tests, Bool, List, Some, [], ap, arith, inl, inr, is_some, length, map, refl, subst, suc, sym, true, ℕ, ◌++◌, ◌+◌, ◌-◌}
 use Rattle.lagprogress.proofs.Common.{◌∙◌, ◌∷◌, ◌≡◌, ◌≤◌, ◌⊎◌, AllByRecursion, Lacpdu, One, Side, peer, Machines, periodic_rows, receive_rows, AtRest}
 use Rattle.lagprogress.proofs.Common.{RunsToRest, after_sending, count_down, Reply, Algorithms, WorldSteps, side_of, link_ends, ItemValue, WorldState}
 use Rattle.lagprogress.proofs.Common.{change_count_in, half, history_at, HostEvent, KeptBySettling, OfEach, AtPort, Sounds, Clearing, StepReplies}
@@ -27,8 +27,7 @@ use Rattle.lagscript.specs.declared.event.Event.TheVariants as event
 -- as many arrive as were on the cable
 arriving : (n : ℕ) (gives : Algorithms) (at : Side → ℕ) (x : ℕ) (fl : Side → List ItemValue) (old new : WorldState) → IsHealthyAt x (cable at fl) old
     → (h : TicksBeside n at OldArrive gives old new) → (t : Side) → ArriveIn (length (fl t)) t x h.events
-arriving n gives at x fl old new healthy h t =
-    subst (λ xs. ArriveIn (length xs) t x h.events) (towards_there t at fl) (h.empties t x (cable at fl) healthy)
+arriving n gives at x fl old new healthy h t = let e = h.empties t x (cable at fl) healthy in grind (arith, nat_tests, towards_there)
 
 -- what is on the cable towards the end of t in the end is good, since its peer sent it
 module _ (gives : Algorithms) (n d e : ℕ) (at : Side → ℕ) (w : Side → Lacpdu) (c : Side → ℕ) (t : Side) (Y : Machines → Type 0) (fits : Fits d w c)
