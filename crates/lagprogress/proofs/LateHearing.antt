@@ -5,7 +5,7 @@ use Rattle.lagprogress.proofs.Common.{RunsToRest, after_sending, count_down, Rep
 use Rattle.lagprogress.proofs.Common.{change_count_in, half, history_at, HostEvent, KeptBySettling, OfEach, AtPort, Sounds, Clearing, StepReplies}
 use Rattle.lagprogress.proofs.Common.{ArriveIn, IsArrivalAt, OldArrive, IsHealthyAt}
 use Rattle.lagprogress.proofs.EndFacts.{Along, IsEnd, Suits, Synced, nothing_along, activity, wait_of, CanSound, Learnt}
-use Rattle.lagprogress.proofs.HostRound.{KeptBeside, MadeByTick, between, healthy_link, two_there, learn_less}
+use Rattle.lagprogress.proofs.HostRound.{both_kept, both_made, KeptBeside, MadeByTick, between, healthy_link, two_there, learn_less}
 use Rattle.lagprogress.proofs.SeveralTicks.{TicksBeside, Within, all_counted, fits_at, known_at, no_less, none_counted, own_at, peer_at, side_turns}
 use Rattle.lagprogress.proofs.SeveralTicks.{ticks_keep, own_counted, peer_counted, ticked_by, TickPasses, keeps_ticks, sounds_by_ticks}
 use Rattle.lagprogress.proofs.Stamps.{stamped_between, stamped_tick, Stamped, Took-it, took_between, took_now, took_tick, Took}
@@ -172,10 +172,8 @@ module _ (gives : Algorithms) (d : ℕ) (at : Side → ℕ) (w : Side → Lacpdu
   fit a b l = fits_at d w c s n fits then a b l
 
   way_kept : (k a b : ℕ) → Within n a b → KeptBeside at gives (State k a b)
-  way_kept k a b l e r i j q h (joins, m) = (
-    joins_kept at gives old.links e r i j q h joins,
-    comes_between gives d at w s there named D E extra k (kn a b) (W - b) (omega arith) (fit a b l) e r i j q h m,
-  )
+  way_kept k a b l = both_kept (joins_kept at gives old.links)
+      (comes_between gives d at w s there named D E extra k (kn a b) (W - b) (omega arith) (fit a b l))
 
   comes : (k a b : ℕ) → Within n a b → (e : HostEvent) (r : Reply) (i j : WorldState) → IsArrivalAt (peer s) x e → StepReplies gives i e r j
       → State (suc k) a b i → State k a b j
@@ -187,16 +185,11 @@ module _ (gives : Algorithms) (d : ℕ) (at : Side → ℕ) (w : Side → Lacpdu
   comes k a b l e r i j come h (joins, inr m) = way_kept k a b l e r i j (between_at at come) h (joins, inr m)
 
   own : (k a b : ℕ) → Within n (suc a) b → MadeByTick gives s (State k a b) (State k (suc a) b)
-  own k a b l number r i j numbered h (joins, m) = (
-    joins_tick gives old.links s number r i j numbered h joins,
-    comes_own gives d at w s there named D E extra n few c fits then k a b l number r i j numbered h m,
-  )
+  own k a b l = both_made gives s (joins_tick gives old.links s) (comes_own gives d at w s there named D E extra n few c fits then k a b l)
 
   other : (k a b : ℕ) → Within n a (suc b) → MadeByTick gives (peer s) (State k a b) (State k a (suc b))
-  other k a b l number r i j numbered h (joins, m) = (
-    joins_tick gives old.links (peer s) number r i j numbered h joins,
-    comes_other gives d at w s there named D E extra n few c fits then k a b l number r i j numbered h m,
-  )
+  other k a b l =
+      both_made gives (peer s) (joins_tick gives old.links (peer s)) (comes_other gives d at w s there named D E extra n few c fits then k a b l)
 
   -- so the peer has heard it after the round
   pub late_heard : (new : WorldState) (o : OnWay gives d at w s there named (kn 0 0) (Any gives d at w s there named) old) → Flying (o.0.flying (peer s))
@@ -273,8 +266,7 @@ module _ (gives : Algorithms) (d : ℕ) (at : Side → ℕ) (w : Side → Lacpdu
   )
 
   said_of : (c : Side → ℕ) (X : Machines → Type 0) (j : WorldState) → Way c X j → Said at w s X j
-  said_of c X j (l, inl owes) = inl owes
-  said_of c X j (l, inr tells) = inr (l.index, l.flying, l.links, tells)
+  said_of c X j o = grind (arith, nat_tests)
 
   module _ (n : ℕ) (few : n + 1 ≤ 30) (c : Side → ℕ) (fits : Fits d w c) (then : Fits d w (ticked_by n c)) where
     woken : (x : Side) (j : WorldState) → Link d at w c x Nothing j → Wakes at w s j
