@@ -1,10 +1,10 @@
 -- In a healthy round of hosts, an end that hears the other is told when the other is synchronized, or the other owes it an LACPDU.
-use Rattle.lagprogress.proofs.Common.{nat_tests, Bool, List, length, Some, [], arith, false, inl, inr, refl, subst, suc, sym, true, ℕ, ◌+◌, ◌-◌, ◌∙◌, ◌∷◌, ◌≡◌, ◌≤◌, ◌⊎◌}
-use Rattle.lagprogress.proofs.Common.{cases_Bool, AllByRecursion, Lacpdu, Side, peer, Machines, partner_synchronized, periodic_rows, receive_rows}
-use Rattle.lagprogress.proofs.Common.{AtRest, RunsToRest, after_sending, count_down, is_due, SystemPort, Carries, IsFrame, OnlyPortChangesBy}
-use Rattle.lagprogress.proofs.Common.{ProcessesLacpdu, ThenSettles, SystemState, machines_of, Reply, Algorithms, WorldSteps, side_of, ItemValue}
-use Rattle.lagprogress.proofs.Common.{WorldState, half, HostEvent, Plays, timeout_time, KeptBySettling, OfEach, Tick-each, counts, AtPort}
-use Rattle.lagprogress.proofs.Common.{LeavesPorts, Clearing, StepReplies, IsArrivalAt, OfPort, AfterTicks}
+use Rattle.lagprogress.proofs.Common.{Bool, List, Some, [], arith, false, inl, inr, length, refl, subst, suc, sym, true, ℕ, ◌+◌, ◌-◌, ◌∙◌, ◌∷◌, ◌≡◌}
+use Rattle.lagprogress.proofs.Common.{◌≤◌, ◌⊎◌, cases_Bool, nat_tests, AllByRecursion, Lacpdu, Side, peer, Machines, partner_synchronized}
+use Rattle.lagprogress.proofs.Common.{periodic_rows, receive_rows, AtRest, RunsToRest, after_sending, count_down, is_due, SystemPort, Carries}
+use Rattle.lagprogress.proofs.Common.{IsFrame, OnlyPortChangesBy, ProcessesLacpdu, ThenSettles, SystemState, machines_of, Reply, Algorithms}
+use Rattle.lagprogress.proofs.Common.{WorldSteps, side_of, ItemValue, WorldState, half, HostEvent, Plays, timeout_time, KeptBySettling, OfEach}
+use Rattle.lagprogress.proofs.Common.{Tick-each, counts, AtPort, LeavesPorts, Clearing, StepReplies, IsArrivalAt, OfPort, AfterTicks}
 use Rattle.lagprogress.proofs.SeveralTicks.{TickPasses, TickStages, TicksBeside, Within, fits_at, holds_ticks, known_at, none_counted, own_counted}
 use Rattle.lagprogress.proofs.SeveralTicks.{own_at, peer_at, peer_counted, side_turns, ticked_by, ticks_on}
 use Rattle.slowpdu.specs.declared.pdu.Pdu.TheVariants as pdu

@@ -1,16 +1,16 @@
 -- What a late round leaves of a cable: an LACPDU of an end is nearer, on the cable in the end, or was heard.
-use Rattle.lagprogress.proofs.Common.{nat_tests, Bool, List, Some, [], ap, arith, inl, inr, is_some, length, map, refl, subst, suc, sym, true, ℕ, ◌++◌, ◌+◌, ◌-◌}
-use Rattle.lagprogress.proofs.Common.{◌∙◌, ◌∷◌, ◌≡◌, ◌≤◌, ◌⊎◌, AllByRecursion, Lacpdu, One, Side, peer, Machines, periodic_rows, receive_rows, AtRest}
-use Rattle.lagprogress.proofs.Common.{RunsToRest, after_sending, count_down, Reply, Algorithms, WorldSteps, side_of, link_ends, ItemValue, WorldState}
-use Rattle.lagprogress.proofs.Common.{change_count_in, half, history_at, HostEvent, KeptBySettling, OfEach, AtPort, Sounds, Clearing, StepReplies}
-use Rattle.lagprogress.proofs.Common.{ArriveIn, IsArrivalAt, OldArrive, IsHealthyAt}
+use Rattle.lagprogress.proofs.Common.{Bool, List, Some, [], ap, arith, inl, inr, is_some, length, map, refl, subst, suc, sym, true, ℕ, ◌++◌, ◌+◌, ◌-◌}
+use Rattle.lagprogress.proofs.Common.{◌∙◌, ◌∷◌, ◌≡◌, ◌≤◌, ◌⊎◌, nat_tests, AllByRecursion, Lacpdu, One, Side, peer, Machines, periodic_rows}
+use Rattle.lagprogress.proofs.Common.{receive_rows, AtRest, RunsToRest, after_sending, count_down, Reply, Algorithms, WorldSteps, side_of, link_ends}
+use Rattle.lagprogress.proofs.Common.{ItemValue, WorldState, change_count_in, half, history_at, HostEvent, KeptBySettling, OfEach, AtPort, Sounds}
+use Rattle.lagprogress.proofs.Common.{Clearing, StepReplies, ArriveIn, IsArrivalAt, OldArrive, IsHealthyAt}
 use Rattle.lagprogress.proofs.EndFacts.{Along, IsEnd, Suits, Synced, nothing_along, activity, wait_of, CanSound, Learnt}
 use Rattle.lagprogress.proofs.HostRound.{both_kept, both_made, KeptBeside, MadeByTick, between, healthy_link, two_there, learn_less}
 use Rattle.lagprogress.proofs.SeveralTicks.{TicksBeside, Within, all_counted, fits_at, known_at, no_less, none_counted, own_at, peer_at, side_turns}
 use Rattle.lagprogress.proofs.SeveralTicks.{ticks_keep, own_counted, peer_counted, ticked_by, TickPasses, keeps_ticks, sounds_by_ticks}
 use Rattle.lagprogress.proofs.Stamps.{stamped_between, stamped_tick, Stamped, Took-it, took_between, took_now, took_tick, Took}
-use Rattle.lagprogress.proofs.LateFlow.{Adds, Past, cleared_on, gain_at, FlyingIn, IsPlain, between_at, counted_on, flows, flying_first}
-use Rattle.lagprogress.proofs.LateFlow.{flying_in, stays_there}
+use Rattle.lagprogress.proofs.LateFlow.{Adds, Past, cleared_on, gain_at, FlyingIn, IsPlain, between_at, counted_on, flows, flying_first, flying_in}
+use Rattle.lagprogress.proofs.LateFlow.{stays_there}
 use Rattle.lagprogress.proofs.Linked.{Fits, IsGood, Link, of_end, other_ports, peer_twice, push_there, told_good, same_items, Flying}
 use Rattle.lagprogress.proofs.OneCable.{Asks, IsStamped, OnCable, cable, sent_frame, towards_there, ticks}
 use Rattle.lagprogress.proofs.OneRound.{Nothing, forget, join, Later, beside_here}

@@ -1,7 +1,7 @@
 -- How the ends of a cable come to know each other, in rounds of one tick to N.
-use Rattle.lagprogress.proofs.Common.{nat_tests, Bool, arith, false, inl, inr, refl, subst, suc, sym, true, zero, ℕ, ◌+◌, ◌-◌, ◌∙◌, ◌≡◌, ◌≤◌, ◌⊎◌, cases_Bool}
-use Rattle.lagprogress.proofs.Common.{Lacpdu, One, Side, Two, peer, Algorithms, WorldState, half, timeout_time, no, Sounds, silence_of, sounds_first}
-use Rattle.lagprogress.proofs.Common.{LeavesPorts, OldArrive, IsTickedRound, TickedRounds}
+use Rattle.lagprogress.proofs.Common.{Bool, arith, false, inl, inr, refl, subst, suc, sym, true, zero, ℕ, ◌+◌, ◌-◌, ◌∙◌, ◌≡◌, ◌≤◌, ◌⊎◌, cases_Bool}
+use Rattle.lagprogress.proofs.Common.{nat_tests, Lacpdu, One, Side, Two, peer, Algorithms, WorldState, half, timeout_time, no, Sounds, silence_of}
+use Rattle.lagprogress.proofs.Common.{sounds_first, LeavesPorts, OldArrive, IsTickedRound, TickedRounds}
 use Rattle.lagprogress.proofs.LateHearing.{AheadIn, Flies, HearsIn, Said, Whoever, ticks_bring, ticks_near, ticks_pass, ticks_stamp, ticks_take}
 use Rattle.lagprogress.proofs.LateHearing.{near_by, ticks_tell}
 use Rattle.lagprogress.proofs.Lasting.{awake_at}

@@ -1,10 +1,10 @@
 -- What a round of several ticks leaves of a cable, by its stages.
+use Rattle.lagprogress.proofs.Common.{Bool, List, [], ap, arith, false, inl, inr, refl, subst, suc, sym, true, zero, ℕ, ◌+◌, ◌-◌, ◌∙◌, ◌∷◌, ◌≡◌, ◌≤◌}
+use Rattle.lagprogress.proofs.Common.{◌⊎◌, nat_tests, Lacpdu, One, Side, Two, peer, Machines, periodic_rows, receive_rows, AtRest, RunsToRest}
+use Rattle.lagprogress.proofs.Common.{after_sending, count_down, Reply, Algorithms, WorldState, HostEvent, IsTimed, no, Sounds, LeavesPorts}
+use Rattle.lagprogress.proofs.Common.{AfterTick, AtSomeWorld, Clearing, IsBetweenTicks, IsPlayedAmong, IsTickOf, PlayedAmong, RunReplies, StepReplies}
+use Rattle.lagprogress.proofs.Common.{TickOnceAmong, OldArrive, AfterTicks, IsPlayedTicks, IsTickedRound, TickedRounds, TicksAmong}
 use Rattle.lagprogress.proofs.Quieting.{leaves}
-use Rattle.lagprogress.proofs.Common.{nat_tests, Bool, List, [], ap, arith, false, inl, inr, refl, subst, suc, sym, true, zero, ℕ, ◌+◌, ◌-◌, ◌∙◌, ◌∷◌, ◌≡◌, ◌≤◌}
-use Rattle.lagprogress.proofs.Common.{◌⊎◌, Lacpdu, One, Side, Two, peer, Machines, periodic_rows, receive_rows, AtRest, RunsToRest, after_sending}
-use Rattle.lagprogress.proofs.Common.{count_down, Reply, Algorithms, WorldState, HostEvent, IsTimed, no, Sounds, LeavesPorts, AfterTick, AtSomeWorld}
-use Rattle.lagprogress.proofs.Common.{Clearing, IsBetweenTicks, IsPlayedAmong, IsTickOf, PlayedAmong, RunReplies, StepReplies, TickOnceAmong}
-use Rattle.lagprogress.proofs.Common.{OldArrive, AfterTicks, IsPlayedTicks, IsTickedRound, TickedRounds, TicksAmong}
 use Rattle.lagprogress.proofs.EndFacts.{Along, CanSound, IsEnd, activity, calm, nothing_along, sounds_along, ticks_sounds, wait_of}
 use Rattle.lagprogress.proofs.HostRound.{Counts, IsTickless, KeptAmong, KeptBeside, MadeByTick, between, not_tick, one_of, tick_one, two, two_other}
 use Rattle.lagprogress.proofs.HostRound.{two_there}

@@ -4,7 +4,7 @@ use Rattle.lagprogress.proofs.Common.{true, ℕ, ◌++◌, ◌==◌, ◌∙◌, 
 use Rattle.lagprogress.proofs.Common.{Lacpdu, all-append, Side, peer, cond_false, cond_true, Machines, SystemFault, Received, Carries, IsFrame}
 use Rattle.lagprogress.proofs.Common.{Receive, CallPromise, SystemState, PortHistory, Reply, is_stamp, Algorithms, WorldSteps, set_last_lacpdu}
 use Rattle.lagprogress.proofs.Common.{side_of, stamped_in, set_taken, ItemValue, WorldState, change_count_in, half, history_at, taken_in, count_heard}
-use Rattle.lagprogress.proofs.Common.{read_log, HostEvent, Plays, StepReplies, LeavesPorts}
+use Rattle.lagprogress.proofs.Common.{read_log, HostEvent, Plays, LeavesPorts, StepReplies}
 use Rattle.lagprogress.proofs.HostRound.{KeptBeside, MadeByTick}
 use Rattle.lagprogress.proofs.Linked.{Link, end_here, same_items, asked_which, each_side, is_took, peer_twice, put_other, put_there}
 use Rattle.lagprogress.proofs.OneCable.{Arrives, IsStamped, OnCable, logged, ticks, Back, Beside, asks, delivers, push, push_each, put}
