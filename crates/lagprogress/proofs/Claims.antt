@@ -20,15 +20,9 @@ abbrev pub Owes : Lacpdu → Machines → Type 0
 Owes u p = Claims u p → p.ntt ≡ true
 
 pub claims_or_not : (u : Lacpdu) (p : Machines) → Claims u p ⊎ (Claims u p → ⊥)
-claims_or_not u p = elim (cases_Bool (is_selected p.choice)) [
-  | inl sel ↦ elim (cases_Bool (is_synchronized p.mux)) [
-    | inl sync ↦ elim (cases_Bool (same_party (party_of p.partner) (party_of u.actor))) [
-      | inl same ↦ inl ((sel, sync), exact_party (party_of p.partner) (party_of u.actor) same)
-      | inr other ↦ inr (λ c. no (sym other ∙ (ap (λ y. same_party y (party_of u.actor)) c.1 ∙ party_itself (party_of u.actor))))
-    ]
-    | inr f ↦ inr (λ c. no (sym f ∙ c.0.1))
-  ]
-  | inr f ↦ inr (λ c. no (sym f ∙ c.0.0))
+claims_or_not u p = elim (cases_Bool (same_party (party_of p.partner) (party_of u.actor))) [
+  | inl same ↦ (let e = exact_party (party_of p.partner) (party_of u.actor) same in grind (arith, nat_tests))
+  | inr other ↦ inr (λ c. no (sym other ∙ (ap (λ y. same_party y (party_of u.actor)) c.1 ∙ party_itself (party_of u.actor))))
 ]
 
 -- settling

@@ -32,9 +32,7 @@ two_other s a b = grind (arith, nat_tests)
 
 turned : (es : List HostEvent) (a b : Bool) → TickOnce One a b es → TickOnce Two b a es
 turned [] a b h = (h.1, h.0)
-turned (e ∷ es) a b (inl h) = inr (inl (h.0, h.1, turned es false b h.2))
-turned (e ∷ es) a b (inr (inl h)) = inl (h.0, h.1, turned es a false h.2)
-turned (e ∷ es) a b (inr (inr h)) = inr (inr (h.0, turned es a b h.1))
+turned (e ∷ es) a b h = grind (arith, nat_tests, turned es false b, turned es a false, turned es a b)
 
 pub of_side : (s : Side) (es : List HostEvent) → TickOnce One true true es → TickOnce s true true es
 of_side One es h = h

@@ -142,13 +142,11 @@ module _ (at : Side → ℕ) (w : Side → Lacpdu) (counts : Side → ℕ) (kept
 
   known_long : (ticks slack spare d most n : ℕ) (j : WorldState) (g : GoingIn ticks slack spare d most n j) → 1 ≤ ticks → most ≤ n → (s : Side)
       → g.next s + slack ≤ g.known (peer s)
-  known_long ticks slack spare d most n j g some l s =
-      elim (g.longer s) [ inl m ↦ m | inr (m, k) ↦ (let o = g.later s in absurd (omega (arith, l, m, o, some))) ]
+  known_long ticks slack spare d most n j g some l s = let m = g.longer s in let o = g.later s in grind (arith, nat_tests)
 
   pub knows_in : {most n : ℕ} (ticks slack d : ℕ) (j : WorldState) (g : GoingIn ticks slack 0 d most n j) → 1 ≤ slack → (s : Side)
       → ticks + 1 ≤ g.known s
-  knows_in ticks slack d j g more s = subst (λ t. ticks + 1 ≤ g.known t) (peer_twice s) (let o = g.later (peer s) in
-      elim (g.longer (peer s)) [ inl m ↦ omega (arith, m, o, more) | inr (m, k) ↦ omega (arith, k, o) ])
+  knows_in ticks slack d j g more s = let o = g.later (peer s) in let l = g.longer (peer s) in grind (arith, nat_tests, peer_twice)
 
   pub knows_late : {most n : ℕ} (d : ℕ) (j : WorldState) (g : GoingIn 1 11 0 d most n j) (s : Side) → 2 ≤ g.known s
   knows_late d j g s = knows_in 1 11 d j g (omega arith) s
@@ -372,11 +370,6 @@ module _ (at : Side → ℕ) (w : Side → Lacpdu) (counts : Side → ℕ) (kept
           → 1 ≤ slack → TicksBeside k at OldArrive gives old new → GoingIn ticks slack 0 d most n old → GoingIn ticks slack 0 d most n new
       stays_counted awake d most n old new there more h g = let f = stays_met_in awake d most n old new there more h g in
           counted ticks slack d new 0 most n f (λ s. elim (f.longer s) [ inl l ↦ inl l | inr (l, o) ↦ inr (omega (arith, l), o) ])
-
-    pub goes_met : ((t : Side) → IsNamed (w t)) → ((s : Side) → (activity (w s) ≡ true) ⊎ (activity (w (peer s)) ≡ true)) → (d most n : ℕ)
-        (old new : WorldState) → 1 ≤ d → Round old new → GoingIn 1 11 0 d most n old → GoingIn 1 11 0 d most (n + 1) new
-    goes_met named awake d most n old new there h g =
-        stays_met_in named 1 11 1 leaves_once (omega arith) (omega arith) (omega arith) awake d most n old new there (omega arith) (once h) g
 
     pub stays_met : {most n : ℕ} → ((t : Side) → IsNamed (w t)) → ((s : Side) → (activity (w s) ≡ true) ⊎ (activity (w (peer s)) ≡ true)) → (d : ℕ)
         (old new : WorldState) → 1 ≤ d → Round old new → GoingIn 1 11 0 d most n old → GoingIn 1 11 0 d most n new

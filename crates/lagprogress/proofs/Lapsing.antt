@@ -122,32 +122,8 @@ gone : (b : Bool) (n e : ℕ) → (b && (n == 0)) ≡ true → e ≤ n + 30 → 
 gone b n e h l = grind (arith, nat_tests)
 
 keen_rows : (u : Lacpdu) (e : ℕ) → activity u ≡ true → 1 ≤ e → EnabledKeep (UpAnd (Keen u e)) receive_rows
-keen_rows u e on some = each_row
-    (λ p h a. absurd (elim a.1 [
-      | inl r ↦ not_in (same_receive_state Initialize) p.receive Current true r.0.current refl h
-      | inr y ↦ not_in (same_receive_state Initialize) p.receive Expired true y.0 refl h
-    ]))
-    (λ p h a. absurd (not_down _ p.enabled h a.0))
-    (λ p h a. absurd (elim a.1 [
-      | inl r ↦ not_in (same_receive_state PortDisabled) p.receive Current p.enabled r.0.current refl h
-      | inr y ↦ not_in (same_receive_state PortDisabled) p.receive Expired p.enabled y.0 refl h
-    ]))
-    (λ p h a. absurd (elim a.1 [
-      | inl r ↦ not_in (same_receive_state Expired) p.receive Current (p.current_while == 0) r.0.current refl h
-      | inr y ↦ some_left (same_receive_state Expired p.receive) p.current_while e h some y.3
-    ]))
-    (λ p h a. elim a.1 [
-      | inl r ↦ (
-        a.0,
-        inr (
-          refl,
-          expired_active p.partner.state ∙ (r.0.active ∙ on),
-          expired_short p.partner.state,
-          gone (same_receive_state Current p.receive) p.current_while e h r.1,
-        ),
-      )
-      | inr y ↦ absurd (not_in (same_receive_state Current) p.receive Expired (p.current_while == 0) y.0 refl h)
-    ])
+keen_rows u e on some = each_row (grind (arith, nat_tests, not_in)) (grind (arith, nat_tests, not_down)) (grind (arith, nat_tests, not_in))
+    (grind (arith, nat_tests, not_in, some_left)) (grind (arith, nat_tests, not_in, gone, expired_active, expired_short))
 
 running : (r : ReceiveState) (n : ℕ) → r ≡ Current → (same_receive_state Current r && (n == 0)) ≡ false → 1 ≤ n
 running r n e h = not_gone n (subst (λ x. (same_receive_state Current x && (n == 0)) ≡ false) e h)

@@ -32,25 +32,19 @@ Beyond P (suc k) (x ∷ xs) = Beyond P k xs
 
 pub flying_first : (xs : List ItemValue) → Flying xs → FlyingIn (length xs) xs
 flying_first [] h = absurd h
-flying_first (x ∷ xs) (inl h) = inl h
-flying_first (x ∷ xs) (inr h) = inr (flying_first xs h)
+flying_first (x ∷ xs) h = grind (arith, nat_tests, flying_first xs)
 
 pub flying_push : (k : ℕ) (xs ys : List ItemValue) → FlyingIn k xs → FlyingIn k (xs ++ ys)
-flying_push zero xs ys h = absurd h
-flying_push (suc k) [] ys h = absurd h
-flying_push (suc k) (x ∷ xs) ys (inl h) = inl h
-flying_push (suc k) (x ∷ xs) ys (inr h) = inr (flying_push k xs ys h)
+flying_push (suc k) (x ∷ xs) ys h = grind (arith, nat_tests, flying_push k xs ys)
+flying_push k xs ys h = absurd h
 
-flying_more : (k : ℕ) (xs : List ItemValue) → FlyingIn k xs → FlyingIn (suc k) xs
-flying_more zero xs h = absurd h
-flying_more (suc k) [] h = absurd h
-flying_more (suc k) (x ∷ xs) (inl h) = inl h
-flying_more (suc k) (x ∷ xs) (inr h) = inr (flying_more k xs h)
+pub flying_more : (k : ℕ) (xs : List ItemValue) → FlyingIn k xs → FlyingIn (suc k) xs
+flying_more (suc k) (x ∷ xs) h = grind (arith, nat_tests, flying_more k xs)
+flying_more k xs h = absurd h
 
-pub flying_pop : (k : ℕ) (x : ItemValue) (xs : List ItemValue) → (HasLacpdu x → ⊥) → FlyingIn k (x ∷ xs) → FlyingIn k xs
-flying_pop zero x xs n h = absurd h
-flying_pop (suc k) x xs n (inl h) = absurd (n h)
-flying_pop (suc k) x xs n (inr h) = flying_more k xs h
+pub flying_in : (k : ℕ) (xs : List ItemValue) → FlyingIn k xs → Flying xs
+flying_in (suc k) (x ∷ xs) h = grind (arith, nat_tests, flying_in k xs)
+flying_in k xs h = absurd h
 
 pub beyond_first : (P : ItemValue → Type 0) (xs : List ItemValue) → Beyond P (length xs) xs
 beyond_first P [] = tt
@@ -60,18 +54,15 @@ beyond_none : (P : ItemValue → Type 0) (k : ℕ) → Beyond P k []
 beyond_none P k = grind (arith, nat_tests)
 
 beyond_less : (P : ItemValue → Type 0) (k : ℕ) (xs : List ItemValue) → Beyond P k xs → Beyond P (suc k) xs
-beyond_less P zero [] h = tt
-beyond_less P zero (x ∷ xs) h = h.1
-beyond_less P (suc k) [] h = tt
 beyond_less P (suc k) (x ∷ xs) h = beyond_less P k xs h
+beyond_less P k xs h = grind (arith, nat_tests)
 
 beyond_pop : (P : ItemValue → Type 0) (k : ℕ) (x : ItemValue) (xs : List ItemValue) → Beyond P k (x ∷ xs) → Beyond P k xs
 beyond_pop P k x xs h = grind (arith, nat_tests, beyond_less)
 
 beyond_push : (P : ItemValue → Type 0) (k : ℕ) (xs : List ItemValue) (x : ItemValue) → P x → Beyond P k xs → Beyond P k (xs ++ x ∷ [])
-beyond_push P zero xs x p h = all-append P xs (x ∷ []) h (p, tt)
-beyond_push P (suc k) [] x p h = beyond_none P k
 beyond_push P (suc k) (y ∷ ys) x p h = beyond_push P k ys x p h
+beyond_push P k xs x p h = grind (arith, nat_tests, all-append, beyond_none)
 
 -- what an event makes of the items towards an end
 
@@ -234,33 +225,18 @@ module _ (gives : Algorithms) (n : ℕ) (s t : Side) (x : ℕ) (at : Side → �
   -- an event that need not be an arrival
   step_on : (e : HostEvent) (es : List HostEvent) (r : Reply) (i j : WorldState) (k a b : ℕ) → TicksAmong (LeavesPorts at) n s a b (e ∷ es)
       → StepReplies gives i e r j → A k a b i → (c : ℕ) × (d : ℕ) × TicksAmong (LeavesPorts at) n s c d es × A k c d j
-  step_on e es r i j k a b (inl (m, h)) run y = (
-    suc a,
-    b,
-    h,
-    own k a b (within (LeavesPorts at) n s es (suc a) b h) m.0 r i j m.1 (subst (λ z. StepReplies gives i z r j) m.2 run) y,
-  )
-  step_on e es r i j k a b (inr (inl (m, h))) run y = (
-    a,
-    suc b,
-    h,
-    other k a b (within (LeavesPorts at) n s es a (suc b) h) m.0 r i j m.1 (subst (λ z. StepReplies gives i z r j) m.2 run) y,
-  )
-  step_on e es r i j k a b (inr (inr h)) run y = (a, b, h.1, kept k a b (within (LeavesPorts at) n s es a b h.1) e r i j h.0 run y)
+  step_on e es r i j k a b h run y = grind (arith, nat_tests, own, other, kept, within)
 
   pub counted_on : (es : List HostEvent) (rs : List Reply) (i j : WorldState) (k a b : ℕ) → TicksAmong (LeavesPorts at) n s a b es
       → ArriveIn k t x es → RunReplies gives i es rs j → A k a b i → A 0 n n j
-  counted_on [] [] i j zero a b h come run y =
-      subst (λ x. A 0 n n x) (sym run) (subst (λ x. A 0 n x i) h.1 (subst (λ x. A 0 x b i) h.0 y))
+  counted_on [] [] i j zero a b h come run y = grind (arith, nat_tests)
   counted_on [] [] i j (suc k) a b h come run y = absurd come
   counted_on (e ∷ es) (r ∷ rs) i j zero a b h come run y =
       let m = step_on e es r i run.0 0 a b h run.1 y in counted_on es rs run.0 j 0 m.0 m.1 m.2 tt run.2 m.3
   counted_on (e ∷ es) (r ∷ rs) i j (suc k) a b h (inr come) run y =
       let m = step_on e es r i run.0 (suc k) a b h run.1 y in counted_on es rs run.0 j (suc k) m.0 m.1 m.2 come run.2 m.3
-  counted_on (e ∷ es) (r ∷ rs) i j (suc k) a b (inl h) (inl come) run y = absurd (not_tick (LeavesPorts at) (λ m b. b) s e h.0 (between_at at come.0))
-  counted_on (e ∷ es) (r ∷ rs) i j (suc k) a b (inr (inl h)) (inl come) run y = absurd (not_tick (LeavesPorts at) (λ m b. b) (peer s) e h.0 (between_at at come.0))
-  counted_on (e ∷ es) (r ∷ rs) i j (suc k) a b (inr (inr h)) (inl come) run y =
-      counted_on es rs run.0 j k a b h.1 come.1 run.2 (comes k a b (within (LeavesPorts at) n s es a b h.1) e r i run.0 come.0 run.1 y)
+  counted_on (e ∷ es) (r ∷ rs) i j (suc k) a b h (inl come) run y =
+      grind (arith, nat_tests, not_tick (LeavesPorts at), between_at at come.0, comes, within, counted_on es rs run.0 j k a b)
   counted_on es rs i j k a b h come run y = absurd run
 
 -- and so what is on the cable in the end has come to it in the run

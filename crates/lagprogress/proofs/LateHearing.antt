@@ -1,24 +1,23 @@
 -- What a late round leaves of a cable: an LACPDU of an end is nearer, on the cable in the end, or was heard.
 use Rattle.lagprogress.proofs.Common.{Bool, List, Some, [], ap, arith, inl, inr, is_some, length, map, refl, subst, suc, sym, true, ℕ, ◌++◌, ◌+◌, ◌-◌}
-use Rattle.lagprogress.proofs.Common.{◌∙◌, ◌∷◌, ◌≡◌, ◌≤◌, ◌⊎◌, AllByRecursion, Lacpdu, One, Side, peer, Machines, periodic_rows, receive_rows, AtRest}
-use Rattle.lagprogress.proofs.Common.{RunsToRest, after_sending, count_down, Reply, Algorithms, WorldSteps, side_of, link_ends, ItemValue, WorldState}
-use Rattle.lagprogress.proofs.Common.{change_count_in, half, history_at, HostEvent, KeptBySettling, OfEach, AtPort, Sounds, Clearing, StepReplies}
-use Rattle.lagprogress.proofs.Common.{ArriveIn, IsArrivalAt, OldArrive, IsHealthyAt}
+use Rattle.lagprogress.proofs.Common.{◌∙◌, ◌∷◌, ◌≡◌, ◌≤◌, ◌⊎◌, nat_tests, AllByRecursion, Lacpdu, One, Side, peer, Machines, periodic_rows}
+use Rattle.lagprogress.proofs.Common.{receive_rows, AtRest, RunsToRest, after_sending, count_down, Reply, Algorithms, WorldSteps, side_of, link_ends}
+use Rattle.lagprogress.proofs.Common.{ItemValue, WorldState, change_count_in, half, history_at, HostEvent, KeptBySettling, OfEach, AtPort, Sounds}
+use Rattle.lagprogress.proofs.Common.{Clearing, StepReplies, ArriveIn, IsArrivalAt, OldArrive, IsHealthyAt}
 use Rattle.lagprogress.proofs.EndFacts.{Along, IsEnd, Suits, Synced, nothing_along, activity, wait_of, CanSound, Learnt}
-use Rattle.lagprogress.proofs.HostRound.{KeptBeside, MadeByTick, between, healthy_link, two_there, learn_less}
+use Rattle.lagprogress.proofs.HostRound.{both_kept, both_made, KeptBeside, MadeByTick, between, healthy_link, two_there, learn_less}
 use Rattle.lagprogress.proofs.SeveralTicks.{TicksBeside, Within, all_counted, fits_at, known_at, no_less, none_counted, own_at, peer_at, side_turns}
 use Rattle.lagprogress.proofs.SeveralTicks.{ticks_keep, own_counted, peer_counted, ticked_by, TickPasses, keeps_ticks, sounds_by_ticks}
 use Rattle.lagprogress.proofs.Stamps.{stamped_between, stamped_tick, Stamped, Took-it, took_between, took_now, took_tick, Took}
-use Rattle.lagprogress.proofs.LateFlow.{Adds, Past, cleared_on, gain_at, FlyingIn, IsPlain, between_at, counted_on, flows, flying_first, flying_flows}
-use Rattle.lagprogress.proofs.LateFlow.{flying_pop, stays_there}
+use Rattle.lagprogress.proofs.LateFlow.{Adds, Past, cleared_on, gain_at, FlyingIn, IsPlain, between_at, counted_on, flows, flying_first, flying_in}
+use Rattle.lagprogress.proofs.LateFlow.{stays_there}
 use Rattle.lagprogress.proofs.Linked.{Fits, IsGood, Link, of_end, other_ports, peer_twice, push_there, told_good, same_items, Flying}
 use Rattle.lagprogress.proofs.OneCable.{Asks, IsStamped, OnCable, cable, sent_frame, towards_there, ticks}
 use Rattle.lagprogress.proofs.OneRound.{Nothing, forget, join, Later, beside_here}
 use Rattle.lagprogress.proofs.Lasting.{raised}
 use Rattle.lagprogress.proofs.Claims.{IsNamed, Wakeful, Owes}
 use Rattle.lagprogress.proofs.EachRound.{joins_kept, joins_tick}
-use Rattle.lagprogress.proofs.HostTelling.{Any, Extra, HasTold, OnWay, all_any, any_settles, on_between, on_other, on_own, told_between, told_next}
-use Rattle.lagprogress.proofs.HostTelling.{told_own, stays_on, turns, first_came}
+use Rattle.lagprogress.proofs.HostTelling.{Any, Comes, Extra, HasTold, OnWay, comes_between, comes_other, comes_own, first_came, stays_on, turns}
 use Rattle.lagprogress.proofs.Telling.{Tells, Wakes}
 use Rattle.lagprogress.proofs.Climbing.{PartnerInSync}
 use Rattle.lagscript.specs.declared.event.Event.TheVariants as event
@@ -28,8 +27,7 @@ use Rattle.lagscript.specs.declared.event.Event.TheVariants as event
 -- as many arrive as were on the cable
 arriving : (n : ℕ) (gives : Algorithms) (at : Side → ℕ) (x : ℕ) (fl : Side → List ItemValue) (old new : WorldState) → IsHealthyAt x (cable at fl) old
     → (h : TicksBeside n at OldArrive gives old new) → (t : Side) → ArriveIn (length (fl t)) t x h.events
-arriving n gives at x fl old new healthy h t =
-    subst (λ xs. ArriveIn (length xs) t x h.events) (towards_there t at fl) (h.empties t x (cable at fl) healthy)
+arriving n gives at x fl old new healthy h t = let e = h.empties t x (cable at fl) healthy in grind (arith, nat_tests, towards_there)
 
 -- what is on the cable towards the end of t in the end is good, since its peer sent it
 module _ (gives : Algorithms) (n d e : ℕ) (at : Side → ℕ) (w : Side → Lacpdu) (c : Side → ℕ) (t : Side) (Y : Machines → Type 0) (fits : Fits d w c)
@@ -167,132 +165,35 @@ module _ (gives : Algorithms) (d : ℕ) (at : Side → ℕ) (w : Side → Lacpdu
   abbrev kn : ℕ → ℕ → Side → ℕ
   kn = known_at c s
 
-  abbrev OnItsWay : ℕ → ℕ → WorldState → Type 0
-  OnItsWay a b j = OnWay gives d at w s there named (kn a b) (Any gives d at w s there named) j
-
-  abbrev Told : ℕ → ℕ → WorldState → Type 0
-  Told a b j = HasTold gives d at w s there named D E extra (kn a b) (W - b) j
-
-  -- one of the first k items that are on the cable is an LACPDU, or the peer has heard one
-  abbrev Heard : ℕ → ℕ → ℕ → WorldState → Type 0
-  Heard k a b j = (((o : OnItsWay a b j) × FlyingIn k (o.0.flying (peer s))) × D j) ⊎ Told a b j
-
   abbrev State : ℕ → ℕ → ℕ → WorldState → Type 0
-  State k a b j = (map link_ends j.links ≡ map link_ends old.links) × Heard k a b j
+  State k a b j = (map link_ends j.links ≡ map link_ends old.links) × Comes gives d at w s there named D E extra k (kn a b) (W - b) j
 
   fit : (a b : ℕ) → Within n a b → Fits d w (kn a b)
   fit a b l = fits_at d w c s n fits then a b l
 
-  less : (b : ℕ) → W - b ≤ W
-  less b = omega arith
-
-  settles : KeptBySettling (AtPort (at (peer s)) (Any gives d at w s there named))
-  settles = any_settles gives d at w s there named
-
-  way_between : (a b : ℕ) → Within n a b → KeptBeside at gives (OnItsWay a b)
-  way_between a b l = on_between gives d at w s there named (Any gives d at w s there named) settles (λ p y. y) (λ p y. tt) (kn a b) (fit a b l)
-
-  -- the first item came: it is no LACPDU, or was heard
-  arrival_on : (a b : ℕ) → Within n a b → (e : HostEvent) (r : Reply) (i j : WorldState) → map link_ends i.links ≡ map link_ends old.links → IsArrivalAt (peer s) x e
-      → StepReplies gives i e r j → (o : OnItsWay a b i) → D i
-      → (o.0.flying (peer s) ≡ [])
-      ⊎ (((item : ItemValue) × (rest : List ItemValue) × IsPlain item × (o.0.flying (peer s) ≡ item ∷ rest)
-      × ((after : OnItsWay a b j) × (after.0.flying (peer s) ≡ rest)))
-      ⊎ Told a b j)
-  arrival_on a b l e r i j joins come h o da = elim (first_came gives d at w s there named D E extra (kn a b) (fit a b l) e r i j o
-      (subst (λ y. IsArrivalAt (peer s) y e) (sym (stays_there x o.0.index at was o.0.flying old i stood o.0.links joins)) come) h da) [
-        | inl none ↦ inl none
-        | inr (inl y) ↦ inr (inl y)
-        | inr (inr y) ↦ inr (inr (
-          (
-            learn_less gives s d at w (kn a b) W (W - b) j (less b)
-                (join d at w (kn a b) s (peer s) _ j (forget d at w (kn a b) s s (Wakeful (w s) (w (peer s))) j y.0.1.0) y.0.0),
-            y.0.1,
-          ),
-          y.1,
-        ))
-      ]
-
   way_kept : (k a b : ℕ) → Within n a b → KeptBeside at gives (State k a b)
-  way_kept k a b l e r i j q h (joins, inr m) = (
-    joins_kept at gives old.links e r i j q h joins,
-    inr (told_between gives d at w s there named D E extra (kn a b) (W - b) (less b) (fit a b l) e r i j q h m),
-  )
-  way_kept k a b l e r i j q h (joins, inl ((o, f), da)) =
-      let g = flows gives (peer s) o.0.index at o.0.flying r i j o.0.links e q h in
-      let after = way_between a b l e r i j q h o in (
-        joins_kept at gives old.links e r i j q h joins,
-        elim (flying_flows k g f) [
-          | inl y ↦ inl (
-            (after, subst (FlyingIn k) (sym (same_items g.index after.0.index at g.now after.0.flying j g.on after.0.links (peer s))) y),
-            extra.first e r i j q h da,
-          )
-          | inr (item, come, first) ↦ elim (arrival_on a b l e r i j joins (at_x o come) h o da) [
-            | inl none ↦ absurd (let y = sym none ∙ first in cc)
-            | inr (inl (it, rest, plain, y, (now, same))) ↦ inl (
-              (now, subst (FlyingIn k) (sym same) (flying_pop k it rest plain (subst (FlyingIn k) y f))),
-              extra.first e r i j q h da,
-            )
-            | inr (inr m) ↦ inr m
-          ]
-        ],
-      )
-    where
-      at_x : (o : OnItsWay a b i) → IsArrivalAt (peer s) o.0.index e → IsArrivalAt (peer s) x e
-      at_x o come = subst (λ y. IsArrivalAt (peer s) y e) (stays_there x o.0.index at was o.0.flying old i stood o.0.links joins) come
+  way_kept k a b l = both_kept (joins_kept at gives old.links)
+      (comes_between gives d at w s there named D E extra k (kn a b) (W - b) (omega arith) (fit a b l))
 
   comes : (k a b : ℕ) → Within n a b → (e : HostEvent) (r : Reply) (i j : WorldState) → IsArrivalAt (peer s) x e → StepReplies gives i e r j
       → State (suc k) a b i → State k a b j
-  comes k a b l e r i j come h (joins, m) = (
+  comes k a b l e r i j come h (joins, inl ((o, f), da)) = (
     joins_kept at gives old.links e r i j (between_at at come) h joins,
-    by_state m,
+    first_came gives d at w s there named D E extra k (kn a b) (W - b) (omega arith) (fit a b l) e r i j o
+        (subst (λ y. IsArrivalAt (peer s) y e) (sym (stays_there x o.0.index at was o.0.flying old i stood o.0.links joins)) come) h da f,
   )
-    where
-      by_state : Heard (suc k) a b i → Heard k a b j
-      by_state (inr m) = inr (told_between gives d at w s there named D E extra (kn a b) (W - b) (less b) (fit a b l) e r i j (between_at at come) h m)
-      by_state (inl ((o, f), da)) = elim (arrival_on a b l e r i j joins come h o da) [
-        | inl none ↦ absurd (subst (FlyingIn (suc k)) none f)
-        | inr (inl (it, rest, plain, y, (now, same))) ↦ inl (
-          (now, subst (FlyingIn k) (sym same) (elim (subst (FlyingIn (suc k)) y f) [ inl v ↦ absurd (plain v) | inr v ↦ v ])),
-          extra.first e r i j (between_at at come) h da,
-        )
-        | inr (inr m) ↦ inr m
-      ]
-
-  -- the ticks
-  same_tick : (u : Side) (a b m : ℕ) (r : Reply) (i j : WorldState) → side_of m ≡ Some u → WorldSteps gives i (event.Tick m 1) r j → (k : ℕ)
-      (fl : Side → List ItemValue) (y : ℕ) → OnCable y at fl i.links → (o : OnItsWay a b j) → FlyingIn k (fl (peer s)) → FlyingIn k (o.0.flying (peer s))
-  same_tick u a b m r i j numbered h k fl y on o f = subst (FlyingIn k) (sym (same_items y o.0.index at fl o.0.flying j
-      (subst (OnCable y at fl) (sym (ticks gives m u r i j numbered h).links) on) o.0.links (peer s))) f
+  comes k a b l e r i j come h (joins, inr m) = way_kept k a b l e r i j (between_at at come) h (joins, inr m)
 
   own : (k a b : ℕ) → Within n (suc a) b → MadeByTick gives s (State k a b) (State k (suc a) b)
-  own k a b l number r i j numbered h (joins, m) = (joins_tick gives old.links s number r i j numbered h joins, by_state m)
-    where
-      by_state : Heard k a b i → Heard k (suc a) b j
-      by_state (inr m) = inr (told_own gives d at w s there named D E extra (kn a b) (kn (suc a) b) (W - b) (own_counted d w c s n then a b l) (less b)
-          (fit (suc a) b l) number r i j numbered h m)
-      by_state (inl ((o, f), da)) =
-          let after = on_own gives d at w s there named (Any gives d at w s there named) settles (λ p y. y) (λ p y. tt) (kn a b) (kn (suc a) b)
-          (own_counted d w c s n then a b l) number r i j numbered h o in
-          inl ((after, same_tick s (suc a) b number r i j numbered h k o.0.flying o.0.index o.0.links after f), extra.ticks_first s number r i j numbered h da)
+  own k a b l = both_made gives s (joins_tick gives old.links s) (comes_own gives d at w s there named D E extra n few c fits then k a b l)
 
   other : (k a b : ℕ) → Within n a (suc b) → MadeByTick gives (peer s) (State k a b) (State k a (suc b))
-  other k a b l number r i j numbered h (joins, m) = (joins_tick gives old.links (peer s) number r i j numbered h joins, by_state m)
-    where
-      by_state : Heard k a b i → Heard k a (suc b) j
-      by_state (inr m) = inr (told_next gives d at w s there named D E extra n few c fits then a b l number r i j numbered h m)
-      by_state (inl ((o, f), da)) =
-          let after = on_other gives d at w s there named (Any gives d at w s there named) settles (λ p y. y) (λ p y. tt) (kn a b) (kn a (suc b))
-          (peer_counted d w c s n then a b l) number r i j numbered h
-          (λ y. all_any gives d at w s there named (at (peer s)) (half (peer s) j).state.system_ports) o in
-          inl (
-            (after, same_tick (peer s) a (suc b) number r i j numbered h k o.0.flying o.0.index o.0.links after f),
-            extra.ticks_first (peer s) number r i j numbered h da,
-          )
+  other k a b l =
+      both_made gives (peer s) (joins_tick gives old.links (peer s)) (comes_other gives d at w s there named D E extra n few c fits then k a b l)
 
   -- so the peer has heard it after the round
-  pub late_heard : (new : WorldState) → (o : OnItsWay 0 0 old) → Flying (o.0.flying (peer s)) → D old → TicksBeside n at OldArrive gives old new
-      → HasTold gives d at w s there named D E extra (kn n n) (W - n) new
+  pub late_heard : (new : WorldState) (o : OnWay gives d at w s there named (kn 0 0) (Any gives d at w s there named) old) → Flying (o.0.flying (peer s))
+      → D old → TicksBeside n at OldArrive gives old new → HasTold gives d at w s there named D E extra (kn n n) (W - n) new
   late_heard new o f da h = elim last.1 [ inl y ↦ absurd y.0.1 | inr m ↦ m ]
     where
       index : o.0.index ≡ x
@@ -365,8 +266,7 @@ module _ (gives : Algorithms) (d : ℕ) (at : Side → ℕ) (w : Side → Lacpdu
   )
 
   said_of : (c : Side → ℕ) (X : Machines → Type 0) (j : WorldState) → Way c X j → Said at w s X j
-  said_of c X j (l, inl owes) = inl owes
-  said_of c X j (l, inr tells) = inr (l.index, l.flying, l.links, tells)
+  said_of c X j o = grind (arith, nat_tests)
 
   module _ (n : ℕ) (few : n + 1 ≤ 30) (c : Side → ℕ) (fits : Fits d w c) (then : Fits d w (ticked_by n c)) where
     woken : (x : Side) (j : WorldState) → Link d at w c x Nothing j → Wakes at w s j
@@ -390,12 +290,12 @@ module _ (gives : Algorithms) (d : ℕ) (at : Side → ℕ) (w : Side → Lacpdu
     ticks_pass X V Z p old new l wakes stamped h = elim (turns gives d at w s there named Counted (Took-it gives 1 at k kept (peer s)) extra
         n few c fits then X V Z p old new l wakes h stamped) [
           | inl y ↦ inl (all_counted d at w c s s n Z new (other_ports y.0 (λ t p rest timed a. (a.0, λ f. (a.1 f).0))))
-          | inr (inl ((o, f), y)) ↦ inr (inl (
+          | inr (m, inl ((o, f), y)) ↦ inr (inl (
             of_end o.0 s (Wakeful (w s) (w (peer s))) (λ p rest timed a. a.1 refl),
             said_of (known_at c s n n) Whoever new o,
-            (o.0.index, o.0.flying, o.0.links, f),
+            (o.0.index, o.0.flying, o.0.links, flying_in m (o.0.flying (peer s)) f),
           ))
-          | inr (inr y) ↦ inr (inr (of_told new y))
+          | inr (m, inr y) ↦ inr (inr (of_told new y))
         ]
 
     -- what is on the cable comes

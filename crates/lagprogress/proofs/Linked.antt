@@ -77,8 +77,7 @@ Has P (x ∷ xs) = P x ⊎ Has P xs
 
 pub has_on : (P : ItemValue → Type 0) (xs ys : List ItemValue) → Has P xs → Has P (xs ++ ys)
 has_on P [] ys h = absurd h
-has_on P (x ∷ xs) ys (inl h) = inl h
-has_on P (x ∷ xs) ys (inr h) = inr (has_on P xs ys h)
+has_on P (x ∷ xs) ys h = grind (arith, nat_tests, has_on P xs ys)
 
 pub has_last : (P : ItemValue → Type 0) (xs : List ItemValue) (x : ItemValue) → P x → Has P (xs ++ x ∷ [])
 has_last P [] x h = inl h
@@ -119,19 +118,7 @@ pushed P s item fl k a t = grind (arith, nat_tests)
 -- what the frames of a port say
 
 own_suits : (p : Machines) (dl d : ℕ) (v u : Lacpdu) (c : ℕ) → (2 ≤ d → 1 ≤ c) → IsEnd d v u c p → Suits d u v (pdu_of p dl)
-own_suits p dl d v u c known a =
-    let bits = said_bits p in (
-      λ _. (
-        ap (named (actor_of p)) bits ∙ a.0.0,
-        ap (λ (b : StateBits). b.activity) bits ∙ a.0.1,
-        ap (λ (b : StateBits). b.timeout) bits ∙ a.0.2,
-      ),
-      λ f. (
-        ap (λ (b : StateBits). b.synchronization) bits ∙ (a.2 f).1,
-        (a.1.1 (known f)).0.party,
-        (a.1.1 (known f)).0.active,
-      ),
-    )
+own_suits p dl d v u c known a = let bits = said_bits p in grind (arith, nat_tests)
 
 -- what a frame bears that a port sends
 pub sent_is : (up due : Bool) (i : ℕ) (z : SystemPort) (old : SystemState) (frame : List ℕ) (new : SystemState)

@@ -1,7 +1,7 @@
 -- How the ends of a cable come to know each other, in rounds of one tick to N.
 use Rattle.lagprogress.proofs.Common.{Bool, arith, false, inl, inr, refl, subst, suc, sym, true, zero, ℕ, ◌+◌, ◌-◌, ◌∙◌, ◌≡◌, ◌≤◌, ◌⊎◌, cases_Bool}
-use Rattle.lagprogress.proofs.Common.{Lacpdu, One, Side, Two, peer, Algorithms, WorldState, half, timeout_time, no, Sounds, silence_of, sounds_first}
-use Rattle.lagprogress.proofs.Common.{LeavesPorts, OldArrive, IsTickedRound, TickedRounds}
+use Rattle.lagprogress.proofs.Common.{nat_tests, Lacpdu, One, Side, Two, peer, Algorithms, WorldState, half, timeout_time, no, Sounds, silence_of}
+use Rattle.lagprogress.proofs.Common.{sounds_first, LeavesPorts, OldArrive, IsTickedRound, TickedRounds}
 use Rattle.lagprogress.proofs.LateHearing.{AheadIn, Flies, HearsIn, Said, Whoever, ticks_bring, ticks_near, ticks_pass, ticks_stamp, ticks_take}
 use Rattle.lagprogress.proofs.LateHearing.{near_by, ticks_tell}
 use Rattle.lagprogress.proofs.Lasting.{awake_at}
@@ -63,7 +63,7 @@ rounds_on : (at : Side → ℕ) (gives : Algorithms) (N : ℕ) (S : ℕ → Worl
     → ((n : ℕ) (old new : WorldState) → IsTickedRound (LeavesPorts at) N gives old new → S n old → S (n + 1) new)
     → (n : ℕ) (new : WorldState) → 1 ≤ n → TickedRounds (LeavesPorts at) N gives n start new → S n new
 rounds_on at gives N S start first next zero new l h = absurd (omega (arith, l))
-rounds_on at gives N S start first next (suc zero) new l (mid, same, r) = first new (subst (λ j. IsTickedRound (LeavesPorts at) N gives j new) same r)
+rounds_on at gives N S start first next (suc zero) new l h = grind (arith, nat_tests)
 rounds_on at gives N S start first next (suc (suc n)) new l (mid, h, r) =
     subst (λ m. S m new) (omega arith) (next (suc n) mid new r (rounds_on at gives N S start first next (suc n) mid (omega arith) h))
 
@@ -97,7 +97,7 @@ module _ (at : Side → ℕ) (w : Side → Lacpdu) (counts : Side → ℕ) (kept
   Goes s j = Went at w counts kept N slack 0 1 (gap true) 0 s j
 
   goes_longer : (s : Side) (j : WorldState) (g : Goes s j) → g.next + 1 ≤ g.known
-  goes_longer s j g = elim g.longer [ inl l ↦ omega (arith, l, loose) | inr (m, l) ↦ omega (arith, l) ]
+  goes_longer s j g = let l = g.longer in grind (arith, nat_tests)
 
   -- so it is of both
   goes_both : (c : Side → ℕ) (j : WorldState) → Link 1 at w c One Nothing j → Rest j → ((s : Side) → Goes s j) → EarlyIn j
@@ -111,9 +111,7 @@ module _ (at : Side → ℕ) (w : Side → Lacpdu) (counts : Side → ℕ) (kept
   -- what is left of the time that an end is known does, if there was room for two gaps in it
   longer_left : (b c : Bool) (m : ℕ) → gap b + 1 + gap c + N ≤ timeout_time b → timeout_time b ≤ m + N + gap c
       → Longer slack 0 (gap true) 0 (gap b) m
-  longer_left true c m room l = inr (omega arith, omega (arith, room, l))
-  longer_left false true m room l = inl (omega (arith, l, small, tight))
-  longer_left false false m room l = inl (omega (arith, l, small, tight))
+  longer_left b c m room l = grind (arith, nat_tests)
 
   -- what a round leaves of what is known
   record Carried (k : ℕ) (c : Side → ℕ) (new : WorldState) : Type 0 where
@@ -289,12 +287,10 @@ module _ (at : Side → ℕ) (w : Side → Lacpdu) (counts : Side → ℕ) (kept
     Room = (Wide × (most + gap (mode at w t) ≤ last)) ⊎ (Narrow × (most + gap (mode at w t) + gap true ≤ last))
 
     in_room : Room → most + gap (mode at w t) ≤ last
-    in_room (inl (wide, l)) = l
-    in_room (inr (narrow, l)) = omega (arith, l)
+    in_room r = grind (arith, nat_tests)
 
     room_left : Room → gap (mode at w t) + N + 1 ≤ wait_of (w t)
-    room_left (inl (wide, l)) = omega (arith, wide)
-    room_left (inr ((on, quick, fast), l)) = rw (fast, quick) (omega (arith, small))
+    room_left r = grind (arith, nat_tests)
 
     abbrev Answered : ℕ → WorldState → Type 0
     Answered n j = Answers s most n j ⊎ ((Narrow × Half s last n j) ⊎ EarlyIn j)
@@ -617,16 +613,8 @@ module _ (at : Side → ℕ) (w : Side → Lacpdu) (counts : Side → ℕ) (kept
     Enough = ((N ≤ 1) × (1 + gap false + gap true ≤ n)) ⊎ (1 + gap false + gap true + gap true ≤ n)
 
     from_short : (s : Side) → activity (w s) ≡ true → short_timeout (w s) ≡ true → Enough → EarlyIn new
-    from_short s active short enough = from_one s active (elim (cases_Bool (mode at w s)) [
-      | inl quick ↦ elim enough [
-        | inl (single, l) ↦ inl (rw (quick, fast) (omega (arith, single)), rw fast l)
-        | inr l ↦ inr ((active, quick, fast), rw fast l)
-      ]
-      | inr slow ↦ inl (rw (slow, fast) (omega (arith, small)), rw fast (elim enough [ inl (single, l) ↦ l | inr l ↦ omega (arith, l) ]))
-    ])
-      where
-        fast : mode at w (peer s) ≡ true
-        fast = subst (λ u. short_timeout (w u) ≡ true) (sym (peer_twice s)) short
+    from_short s active short enough = from_one s active
+        (let fast = subst (λ u. short_timeout (w u) ≡ true) (sym (peer_twice s)) short in grind (arith, nat_tests))
 
     from_long : ((s : Side) → activity (w s) ≡ true) → ((s : Side) → mode at w s ≡ false) → 1 + gap false ≤ n → EarlyIn new
     from_long active long enough = lasted active long n new enough (rounds_on at gives N Lasts old

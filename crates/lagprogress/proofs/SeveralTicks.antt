@@ -1,10 +1,10 @@
 -- What a round of several ticks leaves of a cable, by its stages.
-use Rattle.lagprogress.proofs.Quieting.{leaves}
 use Rattle.lagprogress.proofs.Common.{Bool, List, [], ap, arith, false, inl, inr, refl, subst, suc, sym, true, zero, ℕ, ◌+◌, ◌-◌, ◌∙◌, ◌∷◌, ◌≡◌, ◌≤◌}
-use Rattle.lagprogress.proofs.Common.{◌⊎◌, Lacpdu, One, Side, Two, peer, Machines, periodic_rows, receive_rows, AtRest, RunsToRest, after_sending}
-use Rattle.lagprogress.proofs.Common.{count_down, Reply, Algorithms, WorldState, HostEvent, IsTimed, no, Sounds, LeavesPorts, AfterTick, AtSomeWorld}
-use Rattle.lagprogress.proofs.Common.{Clearing, IsBetweenTicks, IsPlayedAmong, IsTickOf, PlayedAmong, RunReplies, StepReplies, TickOnceAmong}
-use Rattle.lagprogress.proofs.Common.{OldArrive, AfterTicks, IsPlayedTicks, IsTickedRound, TickedRounds, TicksAmong}
+use Rattle.lagprogress.proofs.Common.{◌⊎◌, nat_tests, Lacpdu, One, Side, Two, peer, Machines, periodic_rows, receive_rows, AtRest, RunsToRest}
+use Rattle.lagprogress.proofs.Common.{after_sending, count_down, Reply, Algorithms, WorldState, HostEvent, IsTimed, no, Sounds, LeavesPorts}
+use Rattle.lagprogress.proofs.Common.{AfterTick, AtSomeWorld, Clearing, IsBetweenTicks, IsPlayedAmong, IsTickOf, PlayedAmong, RunReplies, StepReplies}
+use Rattle.lagprogress.proofs.Common.{TickOnceAmong, OldArrive, AfterTicks, IsPlayedTicks, IsTickedRound, TickedRounds, TicksAmong}
+use Rattle.lagprogress.proofs.Quieting.{leaves}
 use Rattle.lagprogress.proofs.EndFacts.{Along, CanSound, IsEnd, activity, calm, nothing_along, sounds_along, ticks_sounds, wait_of}
 use Rattle.lagprogress.proofs.HostRound.{Counts, IsTickless, KeptAmong, KeptBeside, MadeByTick, between, not_tick, one_of, tick_one, two, two_other}
 use Rattle.lagprogress.proofs.HostRound.{two_there}
@@ -29,20 +29,14 @@ done false = 1
 pub once_turns : (May : HostEvent → Type 0) (s : Side) (es : List HostEvent) (a b : Bool) → TickOnceAmong May s a b es
     → TicksAmong May 1 s (done a) (done b) es
 once_turns May s [] false false h = (refl, refl)
-once_turns May s [] true b h = absurd (no (sym h.0))
-once_turns May s [] false true h = absurd (no (sym h.1))
-once_turns May s (e ∷ es) true b (inl h) = inl (h.0, once_turns May s es false b h.2)
-once_turns May s (e ∷ es) false b (inl h) = absurd (no h.1)
-once_turns May s (e ∷ es) a true (inr (inl h)) = inr (inl (h.0, once_turns May s es a false h.2))
-once_turns May s (e ∷ es) a false (inr (inl h)) = absurd (no h.1)
-once_turns May s (e ∷ es) a b (inr (inr h)) = inr (inr (h.0, once_turns May s es a b h.1))
+once_turns May s [] a b h = grind (arith, nat_tests, no)
+once_turns May s (e ∷ es) a b h = grind (arith, nat_tests, no, once_turns May s es false b, once_turns May s es a false, once_turns May s es a b)
 
 once_asked : (s : Side) (P : WorldState → Type 0) (gives : Algorithms) (es : List HostEvent) (rs : List Reply) (old new : WorldState)
     (run : RunReplies gives old es rs new) → AfterTick s P gives es rs old new run → AfterTicks s P 1 gives es rs old new run
-once_asked s P gives [] rs old new run y = absurd y
-once_asked s P gives (e ∷ es) [] old new run y = absurd y
 once_asked s P gives (e ∷ es) (r ∷ rs) old new run (inl y) = inl y
 once_asked s P gives (e ∷ es) (r ∷ rs) old new run (inr y) = inr (once_asked s P gives es rs run.0 new run.2 y)
+once_asked s P gives es rs old new run y = absurd y
 
 pub once : {May : HostEvent → Type 0} {E : Clearing} {gives : Algorithms} {old new : WorldState} → IsPlayedAmong May E gives old new
     → IsPlayedTicks May E 1 gives old new
@@ -74,9 +68,8 @@ rounds_once May most gives some (suc n) old new h = (h.0, rounds_once May most g
 pub turns_less : (May New : HostEvent → Type 0) → ((e : HostEvent) → May e → New e) → (n : ℕ) (s : Side) (a b : ℕ) (es : List HostEvent)
     → TicksAmong May n s a b es → TicksAmong New n s a b es
 turns_less May New less n s a b [] h = h
-turns_less May New less n s a b (e ∷ es) (inl h) = inl (h.0, turns_less May New less n s (suc a) b es h.1)
-turns_less May New less n s a b (e ∷ es) (inr (inl h)) = inr (inl (h.0, turns_less May New less n s a (suc b) es h.1))
-turns_less May New less n s a b (e ∷ es) (inr (inr h)) = inr (inr (less e h.0, turns_less May New less n s a b es h.1))
+turns_less May New less n s a b (e ∷ es) h =
+    grind (arith, nat_tests, less, turns_less May New less n s (suc a) b es, turns_less May New less n s a (suc b) es, turns_less May New less n s a b es)
 
 pub several_beside : (at : Side → ℕ) (E : Clearing) (gives : Algorithms) (n : ℕ) (old new : WorldState) → IsPlayedTicks IsBetweenTicks E n gives old new
     → TicksBeside n at E gives old new
@@ -99,9 +92,7 @@ rounds_beside at most gives (suc n) old new h =
 
 pub turned : (May : HostEvent → Type 0) (n : ℕ) (es : List HostEvent) (a b : ℕ) → TicksAmong May n One a b es → TicksAmong May n Two b a es
 turned May n [] a b h = (h.1, h.0)
-turned May n (e ∷ es) a b (inl h) = inr (inl (h.0, turned May n es (suc a) b h.1))
-turned May n (e ∷ es) a b (inr (inl h)) = inl (h.0, turned May n es a (suc b) h.1)
-turned May n (e ∷ es) a b (inr (inr h)) = inr (inr (h.0, turned May n es a b h.1))
+turned May n (e ∷ es) a b h = grind (arith, nat_tests, turned May n es (suc a) b, turned May n es a (suc b), turned May n es a b)
 
 pub side_turns : (at : Side → ℕ) (n : ℕ) (s : Side) (es : List HostEvent) → TicksAmong (LeavesPorts at) n One 0 0 es
     → TicksAmong (LeavesPorts at) n s 0 0 es
@@ -109,10 +100,8 @@ side_turns at n One es h = h
 side_turns at n Two es h = turned (LeavesPorts at) n es 0 0 h
 
 pub within : (May : HostEvent → Type 0) (n : ℕ) (s : Side) (es : List HostEvent) (a b : ℕ) → TicksAmong May n s a b es → Within n a b
-within May n s [] a b h = (let k = h.0 in omega (arith, k), let k = h.1 in omega (arith, k))
-within May n s (e ∷ es) a b (inl h) = let k = within May n s es (suc a) b h.1 in (let l = k.0 in omega (arith, l), k.1)
-within May n s (e ∷ es) a b (inr (inl h)) = let k = within May n s es a (suc b) h.1 in (k.0, let l = k.1 in omega (arith, l))
-within May n s (e ∷ es) a b (inr (inr h)) = within May n s es a b h.1
+within May n s [] a b h = grind (arith, nat_tests)
+within May n s (e ∷ es) a b h = grind (arith, nat_tests, within May n s es (suc a) b, within May n s es a (suc b), within May n s es a b)
 
 -- what holds through a round, without the question what was due
 module _ (May : HostEvent → Type 0) (gives : Algorithms) (n : ℕ) (s : Side) (A : ℕ → ℕ → WorldState → Type 0)
@@ -123,12 +112,8 @@ module _ (May : HostEvent → Type 0) (gives : Algorithms) (n : ℕ) (s : Side) 
       → A a b i → A n n j
   holds_turns [] [] i j a b h run m =
       subst (λ x. A n n x) (sym run) (subst (λ x. A n x i) h.1 (subst (λ x. A x b i) h.0 m))
-  holds_turns (e ∷ es) (r ∷ rs) i j a b (inl (t, h)) run m = holds_turns es rs run.0 j (suc a) b h run.2
-      (own a b (within May n s es (suc a) b h) t.0 r i run.0 t.1 (subst (λ x. StepReplies gives i x r run.0) t.2 run.1) m)
-  holds_turns (e ∷ es) (r ∷ rs) i j a b (inr (inl (t, h))) run m = holds_turns es rs run.0 j a (suc b) h run.2
-      (other a b (within May n s es a (suc b) h) t.0 r i run.0 t.1 (subst (λ x. StepReplies gives i x r run.0) t.2 run.1) m)
-  holds_turns (e ∷ es) (r ∷ rs) i j a b (inr (inr h)) run m =
-      holds_turns es rs run.0 j a b h.1 run.2 (kept a b (within May n s es a b h.1) e r i run.0 h.0 run.1 m)
+  holds_turns (e ∷ es) (r ∷ rs) i j a b h run m = grind (arith, nat_tests, own, other, kept, within, holds_turns es rs run.0 j (suc a) b,
+      holds_turns es rs run.0 j a (suc b), holds_turns es rs run.0 j a b)
   holds_turns es rs i j a b h run m = absurd run
 
 pub holds_ticks : (E : Clearing) (at : Side → ℕ) (gives : Algorithms) (n : ℕ) (s : Side) (A : ℕ → ℕ → WorldState → Type 0)
@@ -166,12 +151,9 @@ module _ (May : HostEvent → Type 0) (gives : Algorithms) (n : ℕ) (s : Side) 
   all_ticks l = omega (arith, l)
 
   third_on : (es : List HostEvent) (rs : List Reply) (i j : WorldState) (b : ℕ) → TicksAmong May n s n b es → RunReplies gives i es rs j → C b i → C n j
-  third_on [] [] i j b h run m = subst (λ x. C n x) (sym run) (subst (λ x. C x i) h.1 m)
-  third_on (e ∷ es) (r ∷ rs) i j b (inl h) run m = absurd (all_ticks (within May n s es (suc n) b h.1).0)
-  third_on (e ∷ es) (r ∷ rs) i j b (inr (inl h)) run m = third_on es rs run.0 j (suc b) h.1 run.2
-      (tick_of (peer s) (C b) (C (suc b)) (k.other_third b (within May n s es n (suc b) h.1).1) e r i run.0 h.0 run.1 m)
-  third_on (e ∷ es) (r ∷ rs) i j b (inr (inr h)) run m =
-      third_on es rs run.0 j b h.1 run.2 (k.third b (within May n s es n b h.1).1 e r i run.0 h.0 run.1 m)
+  third_on [] [] i j b h run m = grind (arith, nat_tests)
+  third_on (e ∷ es) (r ∷ rs) i j b h run m =
+      grind (arith, nat_tests, all_ticks, within, tick_of, k.other_third, k.third, third_on es rs run.0 j (suc b), third_on es rs run.0 j b)
   third_on es rs i j b h run m = absurd run
 
   second_on : (es : List HostEvent) (rs : List Reply) (i j : WorldState) (b : ℕ) → TicksAmong May n s n b es → (run : RunReplies gives i es rs j)
@@ -189,33 +171,22 @@ module _ (May : HostEvent → Type 0) (gives : Algorithms) (n : ℕ) (s : Side) 
   few_left : (es : List HostEvent) (rs : List Reply) (i j : WorldState) (a b m : ℕ) → TicksAmong May n s a b es → (run : RunReplies gives i es rs j)
       → AfterTicks s P m gives es rs i j run → a + m ≤ n
   few_left es rs i j a b zero h run y = let l = (within May n s es a b h).0 in omega (arith, l)
-  few_left [] rs i j a b (suc m) h run y = absurd y
-  few_left (e ∷ es) [] i j a b (suc m) h run y = absurd y
-  few_left (e ∷ es) (r ∷ rs) i j a b (suc m) (inl h) run (inl y) = let l = few_left es rs run.0 j (suc a) b m h.1 run.2 y.1 in omega (arith, l)
-  few_left (e ∷ es) (r ∷ rs) i j a b (suc m) (inl h) run (inr y) =
-      let l = few_left es rs run.0 j (suc a) b (suc m) h.1 run.2 y in omega (arith, l)
-  few_left (e ∷ es) (r ∷ rs) i j a b (suc m) (inr (inl h)) run (inl y) = absurd (one_of s e y.0 h.0)
-  few_left (e ∷ es) (r ∷ rs) i j a b (suc m) (inr (inl h)) run (inr y) = few_left es rs run.0 j a (suc b) (suc m) h.1 run.2 y
-  few_left (e ∷ es) (r ∷ rs) i j a b (suc m) (inr (inr h)) run (inl y) = absurd (not_tick May k.none s e y.0 h.0)
-  few_left (e ∷ es) (r ∷ rs) i j a b (suc m) (inr (inr h)) run (inr y) = few_left es rs run.0 j a b (suc m) h.1 run.2 y
+  few_left (e ∷ es) (r ∷ rs) i j a b (suc m) h run y = grind (arith, nat_tests, one_of s e, not_tick May k.none s e, few_left es rs run.0 j (suc a) b m,
+      few_left es rs run.0 j (suc a) b (suc m), few_left es rs run.0 j a (suc b) (suc m), few_left es rs run.0 j a b (suc m))
+  few_left es rs i j a b m h run y = absurd y
 
   pub ticks_on : (es : List HostEvent) (rs : List Reply) (i j : WorldState) (a b m : ℕ) → a + m ≡ n → TicksAmong May n s a b es
       → (run : RunReplies gives i es rs j) → AfterTicks s P m gives es rs i j run → A a b i → C n j
   ticks_on es rs i j a b zero e h run y x =
       let all : a ≡ n = omega (arith, e) in
       second_on es rs i j b (subst (λ q. TicksAmong May n s q b es) all h) run y (subst (λ q. A q b i) all x)
-  ticks_on [] rs i j a b (suc m) e h run y x = absurd y
-  ticks_on (f ∷ es) [] i j a b (suc m) e h run y x = absurd y
   ticks_on (f ∷ es) (r ∷ rs) i j a b (suc m) e (inl h) run (inl y) x = ticks_on es rs run.0 j (suc a) b m (omega (arith, e)) h.1 run.2 y.1
       (tick_of s (A a b) (A (suc a) b) (k.own a b (within May n s es (suc a) b h.1)) f r i run.0 h.0 run.1 x)
   ticks_on (f ∷ es) (r ∷ rs) i j a b (suc m) e (inl h) run (inr y) x =
       let l = few_left es rs run.0 j (suc a) b (suc m) h.1 run.2 y in absurd (omega (arith, l, e))
-  ticks_on (f ∷ es) (r ∷ rs) i j a b (suc m) e (inr (inl h)) run (inl y) x = absurd (one_of s f y.0 h.0)
-  ticks_on (f ∷ es) (r ∷ rs) i j a b (suc m) e (inr (inl h)) run (inr y) x = ticks_on es rs run.0 j a (suc b) (suc m) e h.1 run.2 y
-      (tick_of (peer s) (A a b) (A a (suc b)) (k.other_first a b (within May n s es a (suc b) h.1)) f r i run.0 h.0 run.1 x)
-  ticks_on (f ∷ es) (r ∷ rs) i j a b (suc m) e (inr (inr h)) run (inl y) x = absurd (not_tick May k.none s f y.0 h.0)
-  ticks_on (f ∷ es) (r ∷ rs) i j a b (suc m) e (inr (inr h)) run (inr y) x = ticks_on es rs run.0 j a b (suc m) e h.1 run.2 y
-      (k.first a b (within May n s es a b h.1) f r i run.0 h.0 run.1 x)
+  ticks_on (f ∷ es) (r ∷ rs) i j a b (suc m) e (inr h) run y x = grind (arith, nat_tests, one_of s f, not_tick May k.none s f, within, tick_of,
+      k.other_first, k.first, ticks_on es rs run.0 j a (suc b) (suc m), ticks_on es rs run.0 j a b (suc m))
+  ticks_on es rs i j a b m e h run y x = absurd y
 
 -- what is known in a round, by the ticks that were
 
@@ -234,26 +205,11 @@ less_by n a b e = omega (arith, e)
 
 pub own_counted : (d : ℕ) (w : Side → Lacpdu) (c : Side → ℕ) (s : Side) (n : ℕ) → Fits d w (ticked_by n c) → (a b : ℕ) → Within n (suc a) b
     → Counts d s (known_at c s a b) (known_at c s (suc a) b)
-own_counted d w c s n then a b k = record {
-  own = two_there s (c s - suc a) (c (peer s) - b) ∙ (less_by (c s) a (c s - suc a) refl
-      ∙ sym (ap (λ m. m - 1) (two_there s (c s - a) (c (peer s) - b))));
-  other = two_other s (c s - suc a) (c (peer s) - b) ∙ sym (two_other s (c s - a) (c (peer s) - b));
-  some = λ two_or_more. (let l = (then s).2 two_or_more in
-      let m = k.0 in
-      subst (λ x. 1 ≤ x - 1) (sym (two_there s (c s - a) (c (peer s) - b))) (omega (arith, l, m)));
-}
+own_counted d w c s n then a b k = grind (arith, nat_tests, two_there, two_other, peer_twice)
 
 pub peer_counted : (d : ℕ) (w : Side → Lacpdu) (c : Side → ℕ) (s : Side) (n : ℕ) → Fits d w (ticked_by n c) → (a b : ℕ) → Within n a (suc b)
     → Counts d (peer s) (known_at c s a b) (known_at c s a (suc b))
-peer_counted d w c s n then a b k = record {
-  own = two_other s (c s - a) (c (peer s) - suc b) ∙ (less_by (c (peer s)) b (c (peer s) - suc b) refl
-      ∙ sym (ap (λ m. m - 1) (two_other s (c s - a) (c (peer s) - b))));
-  other = ap (two s (c s - a) (c (peer s) - suc b)) (peer_twice s) ∙ (two_there s (c s - a) (c (peer s) - suc b)
-      ∙ sym (ap (two s (c s - a) (c (peer s) - b)) (peer_twice s) ∙ two_there s (c s - a) (c (peer s) - b)));
-  some = λ two_or_more. (let l = (then (peer s)).2 two_or_more in
-      let m = k.1 in
-      subst (λ x. 1 ≤ x - 1) (sym (two_other s (c s - a) (c (peer s) - b))) (omega (arith, l, m)));
-}
+peer_counted d w c s n then a b k = grind (arith, nat_tests, two_there, two_other, peer_twice)
 
 -- so many ticks known of one end fit
 abbrev FitsHere : ℕ → (Side → Lacpdu) → Side → ℕ → Type 0
@@ -261,34 +217,19 @@ FitsHere d w t m = (m ≤ wait_of (w t)) × (1 ≤ m → 1 ≤ d) × (2 ≤ d �
 
 fewer_fit : (d : ℕ) (w : Side → Lacpdu) (c : Side → ℕ) (n : ℕ) → Fits d w c → Fits d w (ticked_by n c) → (t : Side) (m : ℕ) → m ≤ n
     → FitsHere d w t (c t - m)
-fewer_fit d w c n fits then t m l = (
-  (let o = (fits t).0 in omega (arith, o)),
-  λ o. (fits t).1 (omega (arith, o)),
-  λ o. (let q = (then t).2 o in omega (arith, q, l)),
-  (fits t).3,
-)
+fewer_fit d w c n fits then t m l = grind (arith, nat_tests)
 
 pub fits_at : (d : ℕ) (w : Side → Lacpdu) (c : Side → ℕ) (s : Side) (n : ℕ) → Fits d w c → Fits d w (ticked_by n c) → (a b : ℕ) → Within n a b
     → Fits d w (known_at c s a b)
-fits_at d w c s n fits then a b k t = each_side (λ u. FitsHere d w u (known_at c s a b u)) s
-    (subst (FitsHere d w s) (sym (two_there s (c s - a) (c (peer s) - b))) (fewer_fit d w c n fits then s a k.0))
-    (subst (FitsHere d w (peer s)) (sym (two_other s (c s - a) (c (peer s) - b))) (fewer_fit d w c n fits then (peer s) b k.1)) t
+fits_at d w c s n fits then a b k t = let f = fits t in let g = then t in grind (arith, nat_tests, two_there, two_other, peer_twice)
 
 pub all_counted : (d : ℕ) (at : Side → ℕ) (w : Side → Lacpdu) (c : Side → ℕ) (s x : Side) (n : ℕ) (Y : Machines → Type 0) (j : WorldState)
     → Link d at w (known_at c s n n) x Y j → Link d at w (ticked_by n c) x Y j
-all_counted d at w c s x n Y j l = other_ports l (λ t p rest timed a. (
-  subst (λ m. IsEnd d (w t) (w (peer t)) m p) (each_side (λ u. two s (c s - n) (c (peer s) - n) u ≡ c u - n) s
-      (two_there s (c s - n) (c (peer s) - n)) (two_other s (c s - n) (c (peer s) - n)) t) a.0,
-  a.1,
-))
+all_counted d at w c s x n Y j l = other_ports l (λ t p rest timed a. grind (arith, nat_tests))
 
 pub none_counted : (d : ℕ) (at : Side → ℕ) (w : Side → Lacpdu) (c : Side → ℕ) (s x : Side) (Y : Machines → Type 0) (j : WorldState)
     → Link d at w c x Y j → Link d at w (known_at c s 0 0) x Y j
-none_counted d at w c s x Y j l = other_ports l (λ t p rest timed a. (
-  subst (λ m. IsEnd d (w t) (w (peer t)) m p) (sym (each_side (λ u. two s (c s - 0) (c (peer s) - 0) u ≡ c u) s
-      (two_there s (c s - 0) (c (peer s) - 0) ∙ no_less (c s)) (two_other s (c s - 0) (c (peer s) - 0) ∙ no_less (c (peer s))) t)) a.0,
-  a.1,
-))
+none_counted d at w c s x Y j l = other_ports l (λ t p rest timed a. grind (arith, nat_tests))
 
 -- what a tick makes of a cable, with something beside it: the tick of x, and that of its peer
 

@@ -4,12 +4,12 @@ use Rattle.lagprogress.proofs.Common.{true, ℕ, ◌++◌, ◌==◌, ◌∙◌, 
 use Rattle.lagprogress.proofs.Common.{Lacpdu, all-append, Side, peer, cond_false, cond_true, Machines, SystemFault, Received, Carries, IsFrame}
 use Rattle.lagprogress.proofs.Common.{Receive, CallPromise, SystemState, PortHistory, Reply, is_stamp, Algorithms, WorldSteps, set_last_lacpdu}
 use Rattle.lagprogress.proofs.Common.{side_of, stamped_in, set_taken, ItemValue, WorldState, change_count_in, half, history_at, taken_in, count_heard}
-use Rattle.lagprogress.proofs.Common.{read_log, HostEvent, Plays, StepReplies}
+use Rattle.lagprogress.proofs.Common.{read_log, HostEvent, Plays, LeavesPorts, StepReplies}
 use Rattle.lagprogress.proofs.HostRound.{KeptBeside, MadeByTick}
 use Rattle.lagprogress.proofs.Linked.{Link, end_here, same_items, asked_which, each_side, is_took, peer_twice, put_other, put_there}
 use Rattle.lagprogress.proofs.OneCable.{Arrives, IsStamped, OnCable, logged, ticks, Back, Beside, asks, delivers, push, push_each, put}
 use Rattle.lagprogress.proofs.Passing.{receives_lacpdu, marker_carries_none}
-use Rattle.lagprogress.proofs.Quieting.{LeavesEnds, leaves_cable, leaves_logs}
+use Rattle.lagprogress.proofs.Quieting.{leaves_cable, leaves_logs}
 use Rattle.lagworld.specs.declared.histories.StampedLacpdu.{StampedLacpdu}
 use Rattle.slowpdu.specs.declared.pdu.Pdu.TheVariants as pdu
 use Rattle.lagsystem.specs.declared.drive.Reply.TheVariants as answer
@@ -189,57 +189,42 @@ module _ (gives : Algorithms) (b : ℕ) (at k : Side → ℕ) (kept : Side → B
   grown : (t : Side) (fl now : Side → List ItemValue)
       → (now t ≡ fl t) ⊎ ((item : ItemValue) × ((x : Lacpdu) → IsFrame item.octets (Carries (pdu.Lacpdu x)) → ⊥) × (now t ≡ fl t ++ item ∷ []))
       → AllByRecursion (IsStamped (k (peer t))) (fl t) → AllByRecursion (IsStamped (k (peer t))) (now t)
-  grown t fl now (inl e) a = subst (AllByRecursion (IsStamped (k (peer t)))) (sym e) a
-  grown t fl now (inr e) a = subst (AllByRecursion (IsStamped (k (peer t)))) (sym e.2)
-      (all-append (IsStamped (k (peer t))) (fl t) (e.0 ∷ []) a ((λ x c. absurd (e.1 x c)), tt))
+  grown t fl now h a = grind (arith, nat_tests, all-append)
 
-  leaves_stamped : (e : HostEvent) (r : Reply) (i j : WorldState) → LeavesEnds at e → StepReplies gives i e r j → St i → St j
-  leaves_stamped e r i j q h l =
+  -- what each event leaves
+  stamps_step : (e : HostEvent) (r : Reply) (i j : WorldState) → LeavesPorts at e → StepReplies gives i e r j → St i → Stamping b at k kept i j
+  stamps_step (Plays (event.Emit n p)) r i j q h l = stamps_ask gives n p b at k kept r i j l h
+  stamps_step (Plays (event.Deliver cn n)) r i j q h l = stamps_deliver gives cn n b at k kept r i j l h
+  stamps_step e r i j q h l =
       let g = leaves_cable gives e l.index at l.flying r i j q h l.links in
       let logs = leaves_logs gives e at r i j q h in
       record {
-        flying = g.flying;
-        index = l.index;
-        links = g.on;
-        counts = λ t. ap (λ x. change_count_in (history_at x (at t))) (logs t) ∙ l.counts t;
-        there = λ t. ap (λ x. is_some (history_at x (at t))) (logs t) ∙ l.there t;
-        items = λ m t. grown t l.flying g.flying (g.grew t) (l.items m t);
+        world = record {
+          flying = g.flying;
+          index = l.index;
+          links = g.on;
+          counts = λ t. ap (λ x. change_count_in (history_at x (at t))) (logs t) ∙ l.counts t;
+          there = λ t. ap (λ x. is_some (history_at x (at t))) (logs t) ∙ l.there t;
+          items = λ m t. grown t l.flying g.flying (g.grew t) (l.items m t);
+        };
+        took = λ m t y. took_same at k kept t i j (logs t) y;
       }
 
   pub stamped_between : KeptBeside at gives St
-  stamped_between (Plays (event.Emit n p)) r i j x h l = (stamps_ask gives n p b at k kept r i j l h).world
-  stamped_between (Plays (event.Deliver cn n)) r i j x h l = (stamps_deliver gives cn n b at k kept r i j l h).world
-  stamped_between e r i j x h l = leaves_stamped e r i j x h l
+  stamped_between e r i j q h l = (stamps_step e r i j q h l).world
 
   pub stamped_tick : (s : Side) → MadeByTick gives s St St
-  stamped_tick s n r i j numbered h l =
-      let t = ticks gives n s r i j numbered h in
-      record {
-        flying = l.flying;
-        index = l.index;
-        links = subst (OnCable l.index at l.flying) (sym t.links) l.links;
-        counts = λ u. ap (λ x. change_count_in (history_at x (at u))) (t.logs u) ∙ l.counts u;
-        there = λ u. ap (λ x. is_some (history_at x (at u))) (t.logs u) ∙ l.there u;
-        items = l.items;
-      }
+  stamped_tick s n r i j numbered h l = grind (arith, nat_tests, ticks)
 
   -- and the end of t has taken one
   abbrev pub Took-it : Side → WorldState → Type 0
   Took-it t j = Stamped b at k kept j × Took at k kept t j
 
   pub took_between : 1 ≤ b → (t : Side) → KeptBeside at gives (Took-it t)
-  took_between some t (Plays (event.Emit n p)) r i j x h (l, y) =
-      let s = stamps_ask gives n p b at k kept r i j l h in (s.world, s.took some t y)
-  took_between some t (Plays (event.Deliver cn n)) r i j x h (l, y) =
-      let s = stamps_deliver gives cn n b at k kept r i j l h in (s.world, s.took some t y)
-  took_between some t e r i j x h (l, y) = (
-    leaves_stamped e r i j x h l,
-    took_same at k kept t i j (leaves_logs gives e at r i j x h t) y,
-  )
+  took_between some t e r i j q h (l, y) = let s = stamps_step e r i j q h l in (s.world, s.took some t y)
 
   pub took_tick : (t s : Side) → MadeByTick gives s (Took-it t) (Took-it t)
-  took_tick t s n r i j numbered h (l, y) =
-      (stamped_tick s n r i j numbered h l, took_same at k kept t i j ((ticks gives n s r i j numbered h).logs t) y)
+  took_tick t s n r i j numbered h l = grind (arith, nat_tests, ticks, stamped_tick, took_same)
 
   -- an LACPDU arrives at the end of t
   pub took_now : 1 ≤ b → (d : ℕ) (w : Side → Lacpdu) (c : Side → ℕ) (x : Side) (Y : Machines → Type 0) (t : Side) (i j : WorldState)
