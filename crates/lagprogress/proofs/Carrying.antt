@@ -68,8 +68,7 @@ lapse_kept call answer = tt
 is_disabled : (r : ReceiveState) → same_receive_state PortDisabled r ≡ true → r ≡ PortDisabled
 is_disabled r h = grind (arith, nat_tests)
 
-must_be_up : (e d sync chosen m : Bool) → (not d && not e) ≡ false → (d ≡ true → sync ≡ false) → m ≡ true
-    → (m && (not chosen || not sync)) ≡ false → e ≡ true
+must_be_up : (e d sync chosen m : Bool) → (not d && not e) ≡ false → (d ≡ true → sync ≡ false) → m ≡ true → (m && (not chosen || not sync)) ≡ false → e ≡ true
 must_be_up e d sync chosen m r l i j = grind (arith, nat_tests)
 
 pub distributes_up : (s : SystemState) (agg : AggId) (p : ℕ) → IsSound s → OfEach LapsesAt s.system_ports
@@ -105,8 +104,7 @@ up_kept p call answer t = tt
 
 up_from : (p : ℕ) (old new : SystemState) → IsSound old → IsSound new → new.ports ≡ old.ports
     → (OfEach (AtPort p Up) old.system_ports → OfEach (AtPort p Up) new.system_ports) → HasPortUp p old → HasPortUp p new
-up_from p old new was now ports stay (k, x, there, number, up) =
-    let each = stay
+up_from p old new was now ports stay (k, x, there, number, up) = let each = stay
     (subst (λ n. OfEach (AtPort n Up) old.system_ports) number (at_number Up 0 old.system_ports k x (ports_rise old was.ports) there up)) in
     let numbers : port_numbers new.system_ports ≡ port_numbers old.system_ports =
     now.ports.same ∙ (ap configured_numbers ports ∙ sym was.ports.same) in
@@ -168,8 +166,7 @@ carries_on new sound lapses held g k p e = elim (carrier_cases (assignment_of ne
   | inr f ↦ distributes_up new (aggregator_numbered g) p sound lapses (sound.carried g k p f)
 ]
 
-call_keeps : (gives : ℕ → ℕ → ℕ → Type 0) (old new : SystemState) (call : Call) (answer : Answer) → Step gives old call answer new → Keeps old
-    → Keeps new
+call_keeps : (gives : ℕ → ℕ → ℕ → Type 0) (old new : SystemState) (call : Call) (answer : Answer) → Step gives old call answer new → Keeps old → Keeps new
 call_keeps gives old new call answer h k = (
   sound,
   lapses,
@@ -283,8 +280,7 @@ host_call_keeps gives old new call answer h k = absurd h
 abbrev BothKeep : WorldState → Type 0
 BothKeep j = (s : Side) → Keeps (half s j).state
 
-one_told : (gives : ℕ → ℕ → ℕ → Type 0) (s : Side) (call : HostCall) (old new : WorldState) → IsBeside gives s call old new → BothKeep old
-    → BothKeep new
+one_told : (gives : ℕ → ℕ → ℕ → Type 0) (s : Side) (call : HostCall) (old new : WorldState) → IsBeside gives s call old new → BothKeep old → BothKeep new
 one_told gives s call old new b k = each_side (λ t. Keeps (half t new).state) s
     (host_call_keeps gives (half s old).state (half s new).state call b.answer b.promise (k s)) (subst Keeps (sym b.peers) (k (peer s)))
 
@@ -300,8 +296,7 @@ run_keeps gives [] old new h k = subst BothKeep (sym h) k
 run_keeps gives (e ∷ es) old new h k = run_keeps gives es h.0 new h.2 (step_keeps gives e old h.0 h.1 k)
 
 start_keeps : (configs : List Config) (start : WorldState) → IsStart start → AreFirst configs start → BothKeep start
-start_keeps configs start i h s =
-    let first = both_first configs start h s in
+start_keeps configs start i h s = let first = both_first configs start h s in
     let st = (half s start).state in (
       first_sound st (i.kept s).agrees.ports first,
       first_each LapsesAt lapse_settles lapse_first st first,

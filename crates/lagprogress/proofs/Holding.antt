@@ -32,8 +32,7 @@ Fine p m W F (On q) = Unit {0}
 Fine p m W F (Wanted q preferred) = q ≡ p → W
 Fine p m W F (Flushing q id preferred age) = q ≡ p → ((m ≤ age) × (1 ≤ m → age < 30)) ⊎ F id
 
-pub fine_map : (p m : ℕ) (W V : Type 0) (F G : ℕ → Type 0) → (W → V) → ((id : ℕ) → F id → G id) → (a : Assignment) → Fine p m W F a
-    → Fine p m V G a
+pub fine_map : (p m : ℕ) (W V : Type 0) (F G : ℕ → Type 0) → (W → V) → ((id : ℕ) → F id → G id) → (a : Assignment) → Fine p m W F a → Fine p m V G a
 fine_map p m W V F G k f a h = grind (arith, nat_tests)
 
 pub is_port : (q p : ℕ) → eqb q p ≡ true → q ≡ p
@@ -43,8 +42,7 @@ pub not_port : (q p : ℕ) → eqb q p ≡ false → q ≡ p → ⊥
 not_port q p e f = grind (arith, nat_tests)
 
 -- a marker is sent on another port
-pub marked_beside : (p m q id : ℕ) (W : Type 0) (F : ℕ → Type 0) → (q ≡ p → ⊥) → (a : Assignment) → Fine p m W F a
-    → Fine p m W F (after_mark q id a)
+pub marked_beside : (p m q id : ℕ) (W : Type 0) (F : ℕ → Type 0) → (q ≡ p → ⊥) → (a : Assignment) → Fine p m W F a → Fine p m W F (after_mark q id a)
 marked_beside p m q id W F other a h = grind (arith, nat_tests)
 
 -- a marker is sent on the port, and is on its way
@@ -53,8 +51,7 @@ pub marked_here : (p m id : ℕ) (W : Type 0) (F G : ℕ → Type 0) → G id �
 marked_here p m id W F G here k a h = grind (arith, nat_tests)
 
 -- a response comes on another port
-pub released_beside : (p m q id : ℕ) (W : Type 0) (F : ℕ → Type 0) (a : Assignment) → Fine p m W F a
-    → Fine p m W F (after_release q id a)
+pub released_beside : (p m q id : ℕ) (W : Type 0) (F : ℕ → Type 0) (a : Assignment) → Fine p m W F a → Fine p m W F (after_release q id a)
 released_beside p m q id W F a h = grind (arith, nat_tests)
 
 -- a settling leaves what is On the port
