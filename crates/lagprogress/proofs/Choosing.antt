@@ -129,8 +129,7 @@ as_read x = (refl, refl, refl, refl, refl)
 abbrev pub AllAsRead : List SystemPort → List SystemPort → Type 0
 AllAsRead [] [] = Unit {0}
 AllAsRead (x ∷ xs) (y ∷ ys) = ((y.number ≡ x.number) × (y.held ≡ x.held) × AsRead x.port y.port) × AllAsRead xs ys
-AllAsRead [] (y ∷ ys) = ⊥
-AllAsRead (x ∷ xs) [] = ⊥
+AllAsRead xs ys = ⊥
 
 pub all_as_read : (xs : List SystemPort) → AllAsRead xs xs
 all_as_read [] = tt
@@ -145,12 +144,11 @@ one_as_read (y ∷ ys) (suc i) x p e h = ((refl, refl, as_read y.port), one_as_r
 pub zip_as_read : (R : Machines → Machines → Type 0) (xs ys : List SystemPort)
     → AllByRecursion (λ (x : SystemPort). (q : Machines) → R x.port q → AsRead x.port q) xs → PortsChangeBy R xs ys → AllAsRead xs ys
 zip_as_read R [] [] k h = tt
-zip_as_read R [] (y ∷ ys) k h = absurd h
-zip_as_read R (x ∷ xs) [] k h = absurd h
 zip_as_read R (x ∷ xs) (y ∷ ys) k h = (
   (ap (λ (z : SystemPort). z.number) h.0.0, ap (λ (z : SystemPort). z.held) h.0.0, k.0 y.port h.0.1),
   zip_as_read R xs ys k.1 h.1,
 )
+zip_as_read R xs ys k h = absurd h
 
 -- a port at rest that wants an aggregator and is UNSELECTED is eligible
 abbrev Able : SystemPort → Type 0
@@ -195,9 +193,8 @@ Chose n c = AtPort n (λ p. p.choice ≡ c)
 
 seen_choice : (n : ℕ) (c : Choice) (xs ys : List SystemPort) → SameSeen xs ys → OfEach (Chose n c) xs → OfEach (Chose n c) ys
 seen_choice n c [] [] h a = tt
-seen_choice n c [] (y ∷ ys) h a = absurd h
-seen_choice n c (x ∷ xs) [] h a = absurd h
 seen_choice n c (x ∷ xs) (y ∷ ys) h a = (λ e. h.0.choice ∙ a.0 (sym h.0.number ∙ e), seen_choice n c xs ys h.1 a.1)
+seen_choice n c xs ys h a = absurd h
 
 -- a settling that begins so
 pub settles_choice : (s mid new : SystemState) → IsSound s → AllAsRead s.system_ports mid.system_ports → aggregators_value mid ≡ aggregators_value s

@@ -119,11 +119,10 @@ some_left s t P gives a b es rs old new h run left y = absurd run
 after_left : (s t : Side) (P : WorldState → Type 0) (gives : Algorithms) (a b : Bool) (es : List HostEvent) (rs : List Reply) (old new : WorldState)
     → TickOnce t a b es → (run : RunReplies gives old es rs new) → HasLeft s new → AfterTick s P gives es rs old new run
     → AfterTicks s (λ j. P j × HasLeft s j) 1 gives es rs old new run
-after_left s t P gives a b [] rs old new h run left y = y
-after_left s t P gives a b (e ∷ es) [] old new h run left y = y
 after_left s t P gives a b (e ∷ es) (r ∷ rs) old new h run left (inl y) = grind (arith, nat_tests, rest_ticks, some_left)
 after_left s t P gives a b (e ∷ es) (r ∷ rs) old new h run left (inr y) =
     let o = rest_ticks t a b e es h in inr (after_left s t P gives o.0 o.1 es rs run.0 new o.2 run.2 left y)
+after_left s t P gives a b es rs old new h run left y = absurd y
 
 still_turns : (s : Side) (Is : HostEvent → Type 0) (es : List HostEvent) (a b : ℕ) → AllByRecursion Is es → TicksAmong IsBetweenTicks 1 s a b es
     → TicksAmong (λ e. IsBetweenTicks e × Is e) 1 s a b es
@@ -188,9 +187,6 @@ module _ (at : Side → ℕ) (w : Side → Lacpdu) (named : (t : Side) → IsNam
       → FineIn l W (Flights s (at s) mac fl) (half s new).state.table → Mid l W to new
   made {old = old} {new = new} h e r calm i d link fl j links fine = grind (arith, nat_tests, fixed)
 
-  placed : (kn : Side → ℕ) (j : WorldState) → Link 2 at w kn s Y j → (t : Side) → EndPort at w 2 kn t j
-  placed kn j l t = end_here at w 2 kn s Y j l t
-
   -- the port is asked
   own_asked : {kn : Side → ℕ} (m : ℕ) (W : Type 0) (a : Result (Option (List ℕ)) SystemFault) (j new : WorldState) (fl now : Side → List ItemValue)
       → EndPort at w 2 kn s j → IsFixed j → CallPromise (gives s) (half s j).state (Transmit (at s)) (answer.Transmit a) (half s new).state → Went s a fl now
@@ -235,7 +231,7 @@ module _ (at : Side → ℕ) (w : Side → Lacpdu) (named : (t : Side) → IsNam
         asked t k = elim (one_of_both s t) [
           | inl e ↦ (let o = subst (λ u. Asks gives u at d.flying old new) e k in
               made W (Plays (event.Emit n p)) r tt h d link o.now o.index o.links
-              (own_asked m W o.a old new d.flying o.now (placed kn old d.link s) d.same o.promise o.went d.fine))
+              (own_asked m W o.a old new d.flying o.now (end_here at w 2 kn s Y old d.link s) d.same o.promise o.went d.fine))
           | inr e ↦ (let o = subst (λ u. Asks gives u at d.flying old new) e k in
               made W (Plays (event.Emit n p)) r tt h d link o.now o.index o.links (peer_asked m W old new d.flying o d.fine))
         ]
@@ -253,12 +249,12 @@ module _ (at : Side → ℕ) (w : Side → Lacpdu) (named : (t : Side) → IsNam
         came : (t : Side) (k : Arrives gives t at d.flying old new) → Mid m W kn new
         came t k = elim (one_of_both s t) [
           | inl e ↦ (let o = subst (λ u. Arrives gives u at d.flying old new) e k in
-              let z = placed kn old d.link s in
+              let z = end_here at w 2 kn s Y old d.link s in
               made W (Plays (event.Deliver cn n)) r tt h d link o.now o.index o.links
               (comes_fine at w s mac agg conv gives d.flying old new z.index z.port m W z.place z.there z.is.1.0 d.same.own o
               (stays_on at w s mac agg conv c kn kn old new d.link link) d.fine))
           | inr e ↦ (let o = subst (λ u. Arrives gives u at d.flying old new) e k in
-              let z = placed kn old d.link (peer s) in
+              let z = end_here at w 2 kn s Y old d.link (peer s) in
               let still : (half s new).state ≡ (half s old).state = subst (λ u. (half u new).state ≡ (half u old).state) (peer_twice s) o.peers in
               made W (Plays (event.Deliver cn n)) r tt h d link o.now o.index o.links
               (subst (λ (y : SystemState). FineIn m W (Flights s (at s) mac o.now) y.table) (sym still)

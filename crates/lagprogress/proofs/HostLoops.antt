@@ -13,7 +13,7 @@ use Rattle.lagprogress.proofs.Common.{RoundsAreHostRounds, RunReplies, RunsHaveR
 use Rattle.lagprogress.proofs.Common.{IsDeliver, IsHealthyAt, OfPort, Rounds, asks_all, ticks_of_both, AfterTicks, AskingIsSeveral, AsksAfterTicks}
 use Rattle.lagprogress.proofs.Common.{TicksAmong, IsSteady, AsksOrDelivers, IsDrainingRound, IsRound, NothingInFlight, all-append}
 use Rattle.distributor.specs.Conversations.{sum_below}
-use Rattle.lagprogress.proofs.HostSteady.{sets_up}
+use Rattle.lagprogress.proofs.HostSteady.{IsUp, sets_up}
 use Rattle.lagprogress.proofs.Quieting.{calm_timely, place_stays}
 use Rattle.lagprogress.proofs.Halves.{AreTimely, timely}
 use Rattle.std.specs.Prelude.{map}
@@ -112,9 +112,6 @@ all_move : (May : HostEvent → Type 0) (s : Side) (es : List HostEvent) (a b : 
 all_move May s es a b h = several_move May 1 s es _ _ (once_turns May s es a b h)
 
 module _ (gives : Algorithms) (s : Side) (p : ℕ) where
-  abbrev Up : Machines → Type 0
-  Up q = q.enabled ≡ true
-
   abbrev NoneDue : WorldState → Type 0
   NoneDue j = OfPort (λ q. is_due q ≡ false) (machines_of p (half s j).state)
 
@@ -123,22 +120,22 @@ module _ (gives : Algorithms) (s : Side) (p : ℕ) where
     steady : AreTimely j
     index : ℕ
     place : port_index p (half s j).state.system_ports ≡ Some index
-    up : EachAt (AtPort p Up) s j
+    up : EachAt (AtPort p IsUp) s j
 
-  kept : (e : HostEvent) (r : Reply) (i j : WorldState) → StepReplies gives i e r j → EachAt (AtPort p Up) s j → Stays i → Stays j
+  kept : (e : HostEvent) (r : Reply) (i j : WorldState) → StepReplies gives i e r j → EachAt (AtPort p IsUp) s j → Stays i → Stays j
   kept e r i j h up x = let steady = calm_timely gives e r i j h x.steady in
       record { steady = steady; index = x.index; place = place_stays gives e r i j h x.steady steady s p ∙ x.place; up = up }
 
   between : (e : HostEvent) (r : Reply) (i j : WorldState) → MayCome e → StepReplies gives i e r j → Stays i → Stays j
   between (Sets t setting) r i j b h x = kept (Sets t setting) r i j h (sets_up gives t setting i j h s p x.up) x
-  between e r i j b h x = kept e r i j h (each_between (AtPort p Up) (own_keeps (λ party up. up ≡ true) p) s gives e r i j b h x.up) x
+  between e r i j b h x = kept e r i j h (each_between (AtPort p IsUp) (own_keeps (λ party up. up ≡ true) p) s gives e r i j b h x.up) x
 
   ticked : (t : Side) (e : HostEvent) (r : Reply) (i j : WorldState) → IsTickOf t e → StepReplies gives i e r j → Stays i → Stays j
   ticked t e r i j (n, named, is) h x = let k = ticks gives n t r i j named (subst (λ f. StepReplies gives i f r j) is h) in
-      kept e r i j h (each_side (λ u. EachAt (AtPort p Up) u i → EachAt (AtPort p Up) u j) t
-      (λ a. Tick-each (AtPort p Up) (AtPort p Up) (own_keeps (λ party up. up ≡ true) p).settles (own_ticks (λ party up. up ≡ true) p)
+      kept e r i j h (each_side (λ u. EachAt (AtPort p IsUp) u i → EachAt (AtPort p IsUp) u j) t
+      (λ a. Tick-each (AtPort p IsUp) (AtPort p IsUp) (own_keeps (λ party up. up ≡ true) p).settles (own_ticks (λ party up. up ≡ true) p)
       (gives t) (half t i).state answer.Tick (half t j).state k.step a)
-      (λ a. subst (λ (y : SystemState). OfEach (AtPort p Up) y.system_ports) (sym k.peers) a) s x.up) x
+      (λ a. subst (λ (y : SystemState). OfEach (AtPort p IsUp) y.system_ports) (sym k.peers) a) s x.up) x
 
   asked : (e : HostEvent) (r : Reply) (i j : WorldState) → Asks s p e → StepReplies gives i e r j → Stays i → NoneDue j
   asked e r i j (n, named, is) h x = let m = emits gives n p r i j (subst (λ f. StepReplies gives i f r j) is h) in
@@ -146,7 +143,7 @@ module _ (gives : Algorithms) (s : Side) (p : ℕ) where
       let k = subst (λ u. Emits gives u p i j) t m.2 in
       let st = (half s i).state in
       let z = found p x.index st.system_ports x.place in
-      let up = all-get (λ (y : SystemPort). AtPort p Up y.number y.port) st.system_ports x.index z.0 z.1 x.up
+      let up = all-get (λ (y : SystemPort). AtPort p IsUp y.number y.port) st.system_ports x.index z.0 z.1 x.up
       (found_place p st.system_ports x.index z.0 x.place z.1) in
       let now = asked_none (gives s) p x.index z.0 k.a st (half s j).state x.place z.1 up k.promise.step in
       let steady = calm_timely gives e r i j h x.steady in
@@ -163,7 +160,7 @@ module _ (gives : Algorithms) (s : Side) (p : ℕ) where
       let k = subst (λ u. Emits gives u p i j) t m.2 in
       let st = (half s i).state in
       let z = found p x.index st.system_ports x.place in
-      let up = all-get (λ (y : SystemPort). AtPort p Up y.number y.port) st.system_ports x.index z.0 z.1 x.up
+      let up = all-get (λ (y : SystemPort). AtPort p IsUp y.number y.port) st.system_ports x.index z.0 z.1 x.up
       (found_place p st.system_ports x.index z.0 x.place z.1) in
       let not : is_due z.0.port ≡ false = subst (OfPort (λ q. is_due q ≡ false)) (machines_there p st x.index z.0 x.place z.1) none in
       (asked e r i j (n, named, is) h x, asked_marks (gives s) p x.index z.0 k.a st (half s j).state x.place z.1 up not k.promise.step)
@@ -190,7 +187,7 @@ module _ (gives : Algorithms) (s : Side) (p : ℕ) where
   vain_by (Ok None) mid r i j h after vain x = let st = (half s i).state in
       let z = found p x.index st.system_ports x.place in
       let number = found_place p st.system_ports x.index z.0 x.place z.1 in
-      let up = all-get (λ (y : SystemPort). AtPort p Up y.number y.port) st.system_ports x.index z.0 z.1 x.up number in
+      let up = all-get (λ (y : SystemPort). AtPort p IsUp y.number y.port) st.system_ports x.index z.0 z.1 x.up number in
       let t = subst (λ k. TransmitsAt k st None mid.state) x.place h in
       let is : t.0 ≡ z.0 = same_Some t.0 z.0 (sym t.1 ∙ z.1) in
       let d = by_due t.0.port.enabled (is_due t.0.port) x.index t.0 st mid.state (ap (λ (y : SystemPort). y.port.enabled) is ∙ up) t.2 in
@@ -244,17 +241,15 @@ module _ (gives : Algorithms) (s : Side) (p : ℕ) where
     -- if it is asked until it sends nothing
     vain_on : (es : List HostEvent) (rs : List Reply) (i j : WorldState) → AllByRecursion (Moves May) es → (run : RunReplies gives i es rs j)
         → AsksInVain s p es rs → Stays i → AtSomeWorld Drained gives es rs i j run
-    vain_on [] rs i j h run q x = absurd q
-    vain_on (e ∷ es) [] i j h run q x = absurd q
     vain_on (e ∷ es) (r ∷ rs) i j h run (inl q) x = inr (at_first Drained es rs run.0 j run.2 (vain_now e r i run.0 q.0 q.1 run.1 x))
     vain_on (e ∷ es) (r ∷ rs) i j h run (inr q) x = inr (vain_on es rs run.0 j h.1 run.2 q (stays e r i run.0 h.0 run.1 x))
+    vain_on es rs i j h run q x = absurd q
 
     vain_after : (es : List HostEvent) (rs : List Reply) (i j : WorldState) → AllByRecursion (Moves May) es → (run : RunReplies gives i es rs j)
         → AsksInVainAfterTick s p es rs → Stays i → AfterTick s Drained gives es rs i j run
-    vain_after [] rs i j h run q x = q
-    vain_after (e ∷ es) [] i j h run q x = absurd run
     vain_after (e ∷ es) (r ∷ rs) i j h run (inl q) x = inl (q.0, vain_on es rs run.0 j h.1 run.2 q.1 (stays e r i run.0 h.0 run.1 x))
     vain_after (e ∷ es) (r ∷ rs) i j h run (inr q) x = inr (vain_after es rs run.0 j h.1 run.2 q (stays e r i run.0 h.0 run.1 x))
+    vain_after es rs i j h run q x = absurd q
 
     -- if it is asked twice in turn
     twice_on : (es : List HostEvent) (rs : List Reply) (i j : WorldState) → AllByRecursion (Moves May) es → (run : RunReplies gives i es rs j)
@@ -372,10 +367,9 @@ at_map P Q gives k es rs i j run y = absurd run
 
 after_map : (s : Side) (P Q : WorldState → Type 0) (gives : Algorithms) → ((j : WorldState) → P j → Q j) → (es : List HostEvent) (rs : List Reply)
     (i j : WorldState) (run : RunReplies gives i es rs j) → AfterTick s P gives es rs i j run → AfterTick s Q gives es rs i j run
-after_map s P Q gives k [] rs i j run y = y
-after_map s P Q gives k (e ∷ es) [] i j run y = y
 after_map s P Q gives k (e ∷ es) (r ∷ rs) i j run (inl y) = inl (y.0, at_map P Q gives k es rs run.0 j run.2 y.1)
 after_map s P Q gives k (e ∷ es) (r ∷ rs) i j run (inr y) = inr (after_map s P Q gives k es rs run.0 j run.2 y)
+after_map s P Q gives k es rs i j run y = absurd y
 
 -- a run in which each end has nothing due after its system's tick is draining
 drains : (t : Side) (g k : ℕ) (gives : Algorithms) (events : List HostEvent) (replies : List Reply) (old new : WorldState) → TickOnce One true true events

@@ -379,9 +379,8 @@ host_call gives old call answer new h p = beside old new (host_alone gives old c
 host_calls : (gives : ℕ → ℕ → ℕ → Type 0) (old new : SystemState) (calls : List HostCall) (answers : List HostReply)
     → HostRun gives old calls answers new → Placed old → Placed new
 host_calls gives old new [] [] h p = subst Placed (sym h) p
-host_calls gives old new [] (r ∷ answers) h p = absurd h
-host_calls gives old new (c ∷ calls) [] h p = absurd h
 host_calls gives old new (c ∷ calls) (r ∷ answers) h p = host_calls gives h.0 new calls answers h.2 (host_call gives old c r h.0 h.1 p)
+host_calls gives old new calls answers h p = absurd h
 
 pub calls_keep_whole : (gives : ℕ → ℕ → ℕ → Type 0) → CallsKeepGroupsWhole gives
 calls_keep_whole gives old new calls answers sound whole run = let p = host_calls gives old new calls answers run

@@ -9,7 +9,7 @@ use Rattle.lagprogress.proofs.Common.{IsWorldSound, LinkState, WorldState, half,
 use Rattle.lagprogress.proofs.Common.{KeptBySettling, OfEach, Step-each, first_each, place_each, settling_each, no, AtPort, at_number, mux_leaves}
 use Rattle.lagprogress.proofs.Common.{periodic_leaves, RowsKeep, runs_keep, takes_keep, LateRounds, OldArrive, EndKnows, Knows, AtEnd, IsHealthyAt}
 use Rattle.lagprogress.proofs.Common.{OfPort}
-use Rattle.lagprogress.proofs.SharedLemmas.{played_lasted, shared_finds}
+use Rattle.lagprogress.proofs.SharedLemmas.{played_lasted, shared_finds, standing}
 use Rattle.lagprogress.proofs.EachRound.{played_join, played_steady, RoundKeeps, played_pass, same_on, each_on}
 use Rattle.lagprogress.proofs.Lasting.{played_alike, played_before, all_by_place, ends_at, own_system, still_heard, still_links, Alike, end_of}
 use Rattle.lagprogress.proofs.Linked.{each_side, events_each, machines_there}
@@ -40,9 +40,6 @@ idle_settles = record {
   periodic = λ n. periodic_leaves Idle;
   select = λ n choice p none may a e. absurd (elim may.0 [ inl up ↦ no (sym e ∙ up.0) | inr s ↦ standing s.0 (sym s.1 ∙ a e) ]);
 }
-  where
-    standing : (agg : AggId) → Standby agg ≡ Unselected → ⊥
-    standing agg e = cc
 
 idle_takes : (v : Lacpdu) (p q : Machines) → ProcessesLacpdu v p q → Idle p → Idle q
 idle_takes v = takes_keep Idle v (λ p a e. chooses_none (same_party (party_of v.actor) (party_of p.partner)) p.choice (a e), tt)

@@ -43,10 +43,9 @@ vain_behind gives s p (e ∷ es) fs (r ∷ rs) qs i j run h = inr (vain_behind g
 vain_behind gives s p es fs rs qs i j run h = absurd run
 
 vain_before : (s : Side) (p : ℕ) (es fs : List Event) (rs qs : List Reply) → AsksInVain s p (map Plays es) rs → AsksInVain s p (map Plays (es ++ fs)) (rs ++ qs)
-vain_before s p [] fs rs qs h = absurd h
-vain_before s p (e ∷ es) fs [] qs h = absurd h
 vain_before s p (e ∷ es) fs (r ∷ rs) qs (inl h) = inl h
 vain_before s p (e ∷ es) fs (r ∷ rs) qs (inr h) = inr (vain_before s p es fs rs qs h)
+vain_before s p es fs rs qs h = absurd h
 
 -- and sends nothing
 pub asks_port : (gives : Algorithms) (number p : ℕ) (r : Reply) (old mid new : WorldState) → PlaysBetween gives old mid
@@ -126,10 +125,6 @@ asks_one_more gives n one two old mid between new a fixed h b c = record {
         subst (λ m. AsksInVain Two m (map Plays later) replies) at (vain_behind gives Two two b.played.events c.played.events b.played.replies c.played.replies
         mid between b.played.acts (c.asks Two refl))
 
--- so they are, whatever the count is
-pub asks_all_ends : (gives : Algorithms) (m n : ℕ) (old new : WorldState) → m ≤ n → n ≤ m → AsksEnds gives m old new → AsksEnds gives n old new
-asks_all_ends gives m n old new l k a = let same : m ≡ n = omega (arith, l, k) in subst (λ i. AsksEnds gives i old new) same a
-
 some_joined : (o : Option LinkState) → is_some o ≡ true → (x : ℕ × ℕ) × (option_map ports_joined o ≡ Some x)
 some_joined None h = absurd (false≢true h)
 some_joined (Some l) h = (ports_joined l, refl)
@@ -138,14 +133,6 @@ some_joined (Some l) h = (ports_joined l, refl)
 pub cable_there : (n : ℕ) (start mid : WorldState) → n < length start.links → world_setup mid ≡ world_setup start
     → (x : ℕ × ℕ) × (ends_of_cable (n + 1) mid ≡ Some x)
 cable_there n start mid within fixed = grind (arith, as_many, ends_of_cable, some_joined, slice_get, some_within)
-
-pub stops_first : (gives : Algorithms) (n : ℕ) (fault : WorldFault) (old mid new : WorldState) → AsksEnds gives n old mid
-    → StopsBetween gives fault mid new → StopsBetween gives fault old new
-stops_first gives n fault old mid new a b = stops_later gives fault old mid new a.played b
-
-pub stops_second : (gives : Algorithms) (n one : ℕ) (fault : WorldFault) (old mid between new : WorldState) → AsksEnds gives n old mid
-    → AsksPort gives 1 one mid between → StopsBetween gives fault between new → StopsBetween gives fault old new
-stops_second gives n one fault old mid between new a b c = grind (arith, stops_later)
 
 -- items arrive and ends are asked again and again
 pub plays_again : (gives : Algorithms) (count times : ℕ) (old new : WorldState) → DeliversAndAsks gives count times old new → PlaysBetween gives old new

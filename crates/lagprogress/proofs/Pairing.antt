@@ -16,7 +16,7 @@ use Rattle.lagprogress.proofs.Quieting.{as_beside, IsCalm, calm_steady, calm_kee
 use Rattle.lagprogress.proofs.LateMeeting.{Fresh}
 use Rattle.lagprogress.proofs.Knowing.{fits_fresh, fits_before, knows_late, stays_met, AtIt, Met}
 use Rattle.lagprogress.proofs.Linked.{each_side, EndIs, Fits, IsGood, Link, arrival, at_end, end_here}
-use Rattle.lagprogress.proofs.Bundling.{Awake, said, Named, names, agree_still, heard_holds, LinksMeet, stands_in, sinks_in}
+use Rattle.lagprogress.proofs.Bundling.{Awake, said, names, agree_still, heard_holds, LinksMeet, stands_in, sinks_in}
 use Rattle.lagprogress.proofs.Choosing.{AllAsRead, AsRead, Chose, down_as_read, down_still, one_as_read, settles_choice, takes_as_read, zip_as_read}
 use Rattle.lagprogress.proofs.Climbing.{ticks_still, Down, Ripe, Rising, down_settles, down_takes, down_ticks, rising_first}
 use Rattle.lagprogress.proofs.EndFacts.{nothing_along}
@@ -49,9 +49,6 @@ module _ (Holds : LinkState → WorldState → Type 0) (gives : Algorithms) (old
 
   abbrev AllFit : Known → Type 0
   AllFit kn = OfCables (λ i l y. Fits 1 (said old i l y) (kn i l y) × ((t : Side) → 1 ≤ kn i l y t))
-
-  named : (start : IsSteady old) (i : ℕ) (l : LinkState) (h : IsHealthyAt i l old) → Named old i l h
-  named = names old
 
   -- what stays of both systems
   pub record Stands (j : WorldState) : Type 0 where
@@ -247,8 +244,8 @@ module _ (Holds : LinkState → WorldState → Type 0) (gives : Algorithms) (old
             let n = long x l y Two in
             let o = few.0 in
             let p = few.1 in (
-              fits_at 1 w g.known One 1 (fits_before at w (counts_of at old) (kept_of at old) (named start x l y) (wakes x l y) 1 i g (omega arith))
-                  (fits_fresh at w (counts_of at old) (kept_of at old) (named start x l y) (wakes x l y) 1 i g (omega arith)) a b few,
+              fits_at 1 w g.known One 1 (fits_before at w (counts_of at old) (kept_of at old) (names old start x l y) (wakes x l y) 1 i g (omega arith))
+                  (fits_fresh at w (counts_of at old) (kept_of at old) (names old start x l y) (wakes x l y) 1 i g (omega arith)) a b few,
               each_side (λ t. 1 ≤ kn a b x l y t) One (omega (arith, m, o)) (omega (arith, n, p)),
             )
 
@@ -258,7 +255,7 @@ module _ (Holds : LinkState → WorldState → Type 0) (gives : Algorithms) (old
     choice_rounds n from j fresh s chose h = played_on OldArrive gives (λ m k. AllFresh k × Stands k × AllChose from k) from (fresh, s, chose)
         (λ m a b q d. (let e = choice_round from a b q d.0 d.1 d.2 in (
           λ x l y. (let at : Side → ℕ = λ t. port_at t l in
-              stays_met at (said old x l y) (counts_of at old) (kept_of at old) gives (named start x l y) (wakes x l y) 1 a b (omega arith)
+              stays_met at (said old x l y) (counts_of at old) (kept_of at old) gives (names old start x l y) (wakes x l y) 1 a b (omega arith)
               (as_beside at OldArrive gives a b q) (d.0 x l y)),
           e.0,
           e.1,
@@ -279,19 +276,12 @@ down_one t n = record {
 
 module _ (Holds : LinkState → WorldState → Type 0) (first : ℕ) (gives : Algorithms) (old : WorldState) (cabling : IsCabling (world_setup old).cables)
     (steady : IsSteady old) (heard : AllHeard Holds old) (k : LinksMeet Holds first gives) where
-  -- of each healthy cable it holds
-  holds : (i : ℕ) (l : LinkState) → IsHealthyAt i l old → Holds l old
-  holds = heard_holds Holds old cabling heard
-
   pub wake : (i : ℕ) (l : LinkState) (h : IsHealthyAt i l old) → Awake old i l h
-  wake i l h = k.wake old i l h (holds i l h)
-
-  names_of : (i : ℕ) (l : LinkState) (h : IsHealthyAt i l old) → Named old i l h
-  names_of = names old steady
+  wake i l h = k.wake old i l h (heard_holds Holds old cabling heard i l h)
 
   module _ (mid : WorldState) (h : LateRounds gives first old mid) where
     fresh : AllFresh Holds gives old heard wake mid
-    fresh i l y = k.meet first old mid cabling steady i l y (holds i l y) (omega arith) h
+    fresh i l y = k.meet first old mid cabling steady i l y (heard_holds Holds old cabling heard i l y) (omega arith) h
 
     stands : Stands Holds gives old heard wake mid
     stands = record {
@@ -329,7 +319,7 @@ module _ (Holds : LinkState → WorldState → Type 0) (first : ℕ) (gives : Al
         → Met (λ t. port_at t l) (said old i l y) (counts_of (λ t. port_at t l) old) (kept_of (λ t. port_at t l) old) 1 top
         × AtIt (λ t. port_at t l) (said old i l y) s (Rising 0) top
     climb top more i l y s chosen = let at : Side → ℕ = λ t. port_at t l in
-        climbs at (said old i l y) (counts_of at old) (kept_of at old) 1 gives (names_of i l y) (wake i l y) (omega arith) (omega arith) s mid top
+        climbs at (said old i l y) (counts_of at old) (kept_of at old) 1 gives (names old steady i l y) (wake i l y) (omega arith) (omega arith) s mid top
         (fresh i l y) chosen (rounds_beside at 1 gives 20 mid top (k.kind.are 20 mid top more))
 
     -- the SELECTED ports have risen
@@ -371,7 +361,7 @@ module _ (Holds : LinkState → WorldState → Type 0) (first : ℕ) (gives : Al
       let cut = played_split OldArrive gives m first n old new (omega (arith, enough)) h in
       let up = played_split OldArrive gives (m - 20) 20 m cut.0 new (omega (arith, enough)) cut.2 in
       let risen = λ (s : Side). climb cut.0 cut.1 up.0 up.1 i l y s (was_chosen cut.0 cut.1 i l y m new cut.2 s (sel s)) in
-      agreed_synced gives at w old new 1 (omega arith) (comes_to_agree at w (counts_of at old) (kept_of at old) 1 gives (names_of i l y) (wake i l y)
+      agreed_synced gives at w old new 1 (omega arith) (comes_to_agree at w (counts_of at old) (kept_of at old) 1 gives (names old steady i l y) (wake i l y)
       (omega arith) (omega arith) (m - 20) up.0 new (omega (arith, enough)) (risen One).0
       (λ s. climbed_end at w (risen s).0.known s up.0 (ripe cut.0 cut.1 up.0 up.1 s) (risen s).0.link (risen s).1)
       (rounds_beside at 1 gives (m - 20) up.0 new (k.kind.are (m - 20) up.0 new up.2)))

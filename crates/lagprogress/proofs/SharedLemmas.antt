@@ -48,7 +48,7 @@ not_up a up e h = grind (arith, nat_tests)
 sleeping_rows : (x : Machines) → EnabledKeep (Sleeps x) receive_rows
 sleeping_rows x = grind (arith, nat_tests, not_from, true, not_others, not, not_up)
 
-standing : (agg : AggId) → Standby agg ≡ Unselected → ⊥
+pub standing : (agg : AggId) → Standby agg ≡ Unselected → ⊥
 standing agg e = cc
 
 pub sleeping_round : (n : ℕ) (x : Machines) → RoundKeeps (AtPort n (Sleeps x))
@@ -118,9 +118,6 @@ module _ (old new : WorldState) (steady : IsSteady old) (last : Lasted old new) 
   kept : (s : Side) → (half s new).state.system ≡ (half s old).state.system
   kept = last.system
 
-  now : IsSteady new
-  now = last.now
-
   up_linked : (s : Side) (key far : Key) → LeadToKey s key far old → (k : ℕ) (x : SystemPort)
       → slice_get (half s new).state.system_ports k ≡ Some x → x.port.enabled ≡ true → x.port.party.key ≡ key → Linked s key far x.port
   up_linked s key far lead k x there up is = let st = (half s new).state in
@@ -132,7 +129,7 @@ module _ (old new : WorldState) (steady : IsSteady old) (last : Lasted old new) 
       let f = end_of (λ q. Knows e.1.port q) (port_at (peer s) l) other e.4 in
       let number : e.1.number ≡ x.number = found_place (port_at s l) st.system_ports e.0 e.1 e.2 e.3 ∙ it.joins in
       let same : e.1.port ≡ x.port = all-get (λ (z : SystemPort). AtPort x.number (λ p. p ≡ x.port) z.number z.port) st.system_ports e.0 e.1 e.3
-      (at_number (λ p. p ≡ x.port) 0 st.system_ports k x (ports_rise st (now s).0.ports) there refl) number in
+      (at_number (λ p. p ≡ x.port) 0 st.system_ports k x (ports_rise st (last.now s).0.ports) there refl) number in
       let was = ends_at it.index l old it.healthy in
       let party_of_end = λ (t : Side) (i : ℕ) (z : SystemPort) (g : slice_get (half t new).state.system_ports i ≡ Some z)
       (m : z.number ≡ port_at t l). (all-get (λ (y : SystemPort). AtPort (was t).1.number (Alike (was t).1.port) y.number y.port)
@@ -179,8 +176,8 @@ module _ (old new : WorldState) (steady : IsSteady old) (last : Lasted old new) 
         (rw (
           (together y.port.party (party_of y.port.partner) its.own its.partner),
           (together x.port.party (party_of x.port.partner) mine.own mine.partner),
-          (own_system (half s new).state m y (now s).0 at ∙ sym
-              (own_system (half s new).state k x (now s).0 there)),
+          (own_system (half s new).state m y (last.now s).0 at ∙ sym
+              (own_system (half s new).state k x (last.now s).0 there)),
           same,
           (its.system ∙ sym mine.system),
           (its.far_key ∙ sym mine.far_key),
@@ -206,9 +203,9 @@ module _ (old new : WorldState) (steady : IsSteady old) (last : Lasted old new) 
       let z = old_port (half s old).state.system_ports st.system_ports k x like.numbers there in
       let alike = like.alike k z.0 x z.1 there in
       let key : x.port.party.key ≡ z.0.port.party.key = ap (λ (y : Party). y.key) alike.0 in
-      let free = none_held st k x (now s).2 there in
+      let free = none_held st k x (last.now s).2 there in
       elim (has s k z.0 z.1 (sym alike.1 ∙ wants.up)) [
-        | inl many ↦ finds_aggregator st k x (now s).0 there wants free (still_enough s old new like x.port.party.key z.0.port.party.key key many)
-        | inr g ↦ shares_aggregator st k x (now s).0 there wants free (still_one s old new like x.port.party.key z.0.port.party.key key g.aggregator)
+        | inl many ↦ finds_aggregator st k x (last.now s).0 there wants free (still_enough s old new like x.port.party.key z.0.port.party.key key many)
+        | inr g ↦ shares_aggregator st k x (last.now s).0 there wants free (still_one s old new like x.port.party.key z.0.port.party.key key g.aggregator)
             (one_group s z.0.port.party.key g k x there wants.up key)
       ]
