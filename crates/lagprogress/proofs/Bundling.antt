@@ -1,6 +1,6 @@
 -- How the links of a bundle come up and agree.
 use Rattle.lagprogress.proofs.Common.{Bool, IsSome, List, None, Option, Some, [], ap, arith, inl, inr, is_some, length, map, refl, slice_get, subst}
-use Rattle.lagprogress.proofs.Common.{suc, sym, true, zero, ℕ, ◌+◌, ◌-◌, ◌==◌, ◌∙◌, ◌∷◌, ◌≡◌, ◌≢◌, ◌≤◌, ◌⊎◌, cases_Bool, nat_tests, same_Some}
+use Rattle.lagprogress.proofs.Common.{suc, sym, true, ℕ, ◌+◌, ◌-◌, ◌==◌, ◌∙◌, ◌∷◌, ◌≡◌, ◌≢◌, ◌≤◌, ◌⊎◌, cases_Bool, nat_tests, same_Some}
 use Rattle.lagprogress.proofs.Common.{AllByRecursion, AggId, Key, Choice, Standby, is_selected, itself, Lacpdu, IsCabling, One, Side, Two, end_at}
 use Rattle.lagprogress.proofs.Common.{peer, Machines, receive_rows, RunsToRest, count_down, ports_that_chose, has_chosen, SystemPort, MuxIsSettled}
 use Rattle.lagprogress.proofs.Common.{occupied, IsSound, SystemState, views, all-get, found_place, Same, agreement_at, Algorithms, link_ends}
@@ -8,8 +8,7 @@ use Rattle.lagprogress.proofs.Common.{world_setup, IsWorldSound, LinkState, Worl
 use Rattle.lagprogress.proofs.Common.{ports_with, IsTimed, count, count_more_of, counted, OfEach, AtPort, waits_for_room, LeavesPorts, RoundsBeside}
 use Rattle.lagprogress.proofs.Common.{AllHeard, BothAreActive, EachLinkAgrees, EachLinkComesUp, EndsHealthyCable, EndsOfEachKnow, EnoughLinks}
 use Rattle.lagprogress.proofs.Common.{IsBundle, OneIsActive, SystemsDiffer, Clearing, IsBetweenTicks, PlayedRounds, LateRounds, OldArrive}
-use Rattle.lagprogress.proofs.Common.{Distributes, AtEnd, IsHealthyAt, Playing, IsTickedRound, SeveralBeside, TickedRounds, TicksAmong, most_ticks}
-use Rattle.lagprogress.proofs.Common.{IsSteady}
+use Rattle.lagprogress.proofs.Common.{Distributes, AtEnd, IsHealthyAt, Playing, IsTickedRound, TickedRounds, TicksAmong, most_ticks, IsSteady}
 use Rattle.lagprogress.proofs.SeveralTicks.{rounds_on, rounds_beside, rounds_once, no_less, turned, holds_turns}
 use Rattle.lagprogress.proofs.LateHearing.{counts_of, kept_of}
 use Rattle.lagprogress.proofs.ComingUp.{AreSynced, agrees_now, distributes, climbed_end, climbs, stands_on, keeps_agreeing, CableStands, Going}

@@ -77,9 +77,6 @@ distributes_up s agg p h lapses e = grind (arith, nat_tests, among_port, all-get
 
 -- a call that does not take a link down leaves it up
 
-up_settles : (p : ℕ) → KeptBySettling (AtPort p IsUp)
-up_settles p = settling_leaves (AtPort p IsUp)
-
 receive_up : RowsKeep IsUp receive_rows
 receive_up = (λ p a. a, (λ p a. a, (λ p a. a, (λ p a. a, (λ p a. a, tt)))))
 
@@ -171,7 +168,7 @@ call_keeps gives old new call answer h k = (
     | inl e ↦ subst Carries (sym e) k.2
     | inr hb ↦ carries_on new sound lapses
         (λ g c p f. let was = hb g c p f in (up_from p old new k.0 sound (ap (λ (s : SystemState). s.ports) (Step-frame gives old call answer new h))
-        (Step-each (AtPort p IsUp) (up_settles p) gives old call answer new (up_kept p call answer was.1) h)) (k.2 g c p was.0))
+        (Step-each (AtPort p IsUp) (settling_leaves (AtPort p IsUp)) gives old call answer new (up_kept p call answer was.1) h)) (k.2 g c p was.0))
   ],
 )
   where
@@ -192,7 +189,7 @@ by_turns old new sound ports each held k = (
   sound,
   lapses,
   carries_on new sound lapses (λ g c p f. up_from p old new k.0 sound ports
-      (each (AtPort p IsUp) (up_settles p) (λ n q choice a. a) (λ n q active short a. a)) (k.2 g c p (held g c p f))),
+      (each (AtPort p IsUp) (settling_leaves (AtPort p IsUp)) (λ n q choice a. a) (λ n q active short a. a)) (k.2 g c p (held g c p f))),
 )
   where
     lapses : OfEach LapsesAt new.system_ports

@@ -1,13 +1,12 @@
 -- How both ends of a cable come to distribute, round by round.
 use Rattle.lagprogress.proofs.Common.{Bool, List, Some, [], ap, arith, false, inl, inr, is_some, map, not, option_map, refl, slice_get, subst, suc}
-use Rattle.lagprogress.proofs.Common.{sym, true, zero, ℕ, ◌+◌, ◌-◌, ◌∙◌, ◌∷◌, ◌≡◌, ◌≤◌, ◌⊎◌, AllByRecursion, unwrap_or, Party, is_selected, group_end}
+use Rattle.lagprogress.proofs.Common.{sym, true, ℕ, ◌+◌, ◌-◌, ◌∙◌, ◌∷◌, ◌≡◌, ◌≤◌, ◌⊎◌, AllByRecursion, unwrap_or, Party, is_selected, group_end}
 use Rattle.lagprogress.proofs.Common.{group_of, individual, pair_of, same_group, group-itself, Lacpdu, party_of, One, Side, Two, peer}
 use Rattle.lagprogress.proofs.Common.{CollectingDistributing, Machines, is_synchronized, mux_rows, same_mux_state, SystemPort, MuxIsSettled, group_at}
 use Rattle.lagprogress.proofs.Common.{machines_of, all-get, Same, agreement_at, agreement_of, end_facts, is_stamp, same_groups, Algorithms, link_ends}
-use Rattle.lagprogress.proofs.Common.{ItemValue, LinkState, WorldState, half, history_at, HostEvent, IsTimed, no, times_keep, AtPort, periodic_leaves}
-use Rattle.lagprogress.proofs.Common.{Sounds, all_leave, LeavesPorts, IsBetweenTicks, PlayedAmong, OldArrive, Distributes, OfPort, IsPlayedTicks}
-use Rattle.lagprogress.proofs.Common.{IsTickedRound, TickedRounds, most_ticks}
-use Rattle.lagprogress.proofs.SeveralTicks.{rounds_on, keeps_ticks, no_less, once, ticked_by, ticks_hold, holds_turns}
+use Rattle.lagprogress.proofs.Common.{ItemValue, LinkState, WorldState, half, history_at, IsTimed, no, times_keep, AtPort, periodic_leaves, Sounds}
+use Rattle.lagprogress.proofs.Common.{all_leave, LeavesPorts, IsBetweenTicks, OldArrive, Distributes, OfPort, IsTickedRound, TickedRounds, most_ticks}
+use Rattle.lagprogress.proofs.SeveralTicks.{rounds_on, keeps_ticks, no_less, ticked_by, ticks_hold, holds_turns}
 use Rattle.lagprogress.proofs.EachRound.{joins_kept, joins_tick, Passes}
 use Rattle.lagprogress.proofs.Stamps.{Took-it, Present, Stamped}
 use Rattle.lagprogress.proofs.Climbing.{Rising, PartnerInSync, keeps_selected, ticks_still, distributes_now, partner_along, rising_along}

@@ -1,18 +1,18 @@
 -- A port of a healthy cable is drained of a conversation that is held on it.
 use Rattle.lagprogress.proofs.Common.{Bool, Err, IsSome, List, None, Ok, Option, Result, Some, [], ap, arith, cond, eqb, false, inl, inr, length, ltb}
-use Rattle.lagprogress.proofs.Common.{refl, subst, suc, sym, true, zero, ℕ, ◌&&◌, ◌+◌, ◌-◌, ◌<◌, ◌==◌, ◌^◌, ◌∙◌, ◌∷◌, ◌≡◌, ◌≤◌, ◌⊎◌, cases_Bool}
-use Rattle.lagprogress.proofs.Common.{nat_tests, none-some, AllByRecursion, AggId, Choice, is_selected, Lacpdu, IsCabling, One, Side, peer, Machines}
-use Rattle.lagprogress.proofs.Common.{is_due, Assignment, after_tick, marker_due, IsConversation, Table, assignment_of, next_identifier, HostReply}
-use Rattle.lagprogress.proofs.Common.{SystemFault, OffersIf, Offer, Receive, Step, Transmit, HostPromise, GivesOrRefuses, number_of_conversation}
-use Rattle.lagprogress.proofs.Common.{TransmitsAt, Set_max_delay, CallPromise, SystemState, machines_of, port_index, found_place, Event, Reply}
-use Rattle.lagprogress.proofs.Common.{Algorithms, WorldSteps, side_of, world_setup, ItemValue, WorldState, half, port_at, ForcesPort, HostEvent}
-use Rattle.lagprogress.proofs.Common.{HostSteps, Leaves, Offers, Plays, Probes, Sets, DrainingRounds, IsDrainingRound, IsNoMoveOf, AfterTick}
-use Rattle.lagprogress.proofs.Common.{AtSomeWorld, IsBetweenTicks, IsHostRound, IsQuiet, NoneIsLeft, RunReplies, StepReplies, TickOnce, OldArrive}
-use Rattle.lagprogress.proofs.Common.{NothingInFlight, OfPort, AfterTicks, TicksAmong}
+use Rattle.lagprogress.proofs.Common.{refl, subst, suc, sym, true, zero, ℕ, ◌&&◌, ◌+◌, ◌-◌, ◌==◌, ◌^◌, ◌∙◌, ◌∷◌, ◌≡◌, ◌≤◌, ◌⊎◌, cases_Bool, nat_tests}
+use Rattle.lagprogress.proofs.Common.{none-some, AllByRecursion, AggId, Choice, is_selected, Lacpdu, IsCabling, One, Side, peer, Machines, is_due}
+use Rattle.lagprogress.proofs.Common.{Assignment, after_tick, marker_due, IsConversation, Table, assignment_of, next_identifier, HostReply}
+use Rattle.lagprogress.proofs.Common.{SystemFault, OffersIf, Offer, Receive, Step, Transmit, HostPromise, GivesOrRefuses, TransmitsAt, Set_max_delay}
+use Rattle.lagprogress.proofs.Common.{CallPromise, SystemState, machines_of, port_index, found_place, Event, Reply, Algorithms, WorldSteps, side_of}
+use Rattle.lagprogress.proofs.Common.{world_setup, ItemValue, WorldState, half, port_at, ForcesPort, HostEvent, HostSteps, Leaves, Offers, Plays}
+use Rattle.lagprogress.proofs.Common.{Probes, Sets, DrainingRounds, IsDrainingRound, IsNoMoveOf, AfterTick, AtSomeWorld, IsBetweenTicks, IsHostRound}
+use Rattle.lagprogress.proofs.Common.{IsQuiet, NoneIsLeft, RunReplies, StepReplies, TickOnce, OldArrive, NothingInFlight, OfPort, AfterTicks}
+use Rattle.lagprogress.proofs.Common.{TicksAmong}
 use Rattle.lagprogress.proofs.Quieting.{as_beside, IsCalm, calm_quiet, calm_timely, calm_keeps, leaves_link, leaves_quiet, quiet_cable, offered_half}
 use Rattle.lagprogress.proofs.Quieting.{moved_half, forced_half, Grown, asked_half, came_half, leaves}
 use Rattle.lagprogress.proofs.Linked.{each_side, Fits, Link, asked_which, peer_twice, EndPort, end_here, other_side}
-use Rattle.lagprogress.proofs.Holding.{has_on, Has, Fine, Flights, ticked_fine, IsMarker, asking, answering, offered_fine, forced_fine}
+use Rattle.lagprogress.proofs.Holding.{has_on, Has, Fine, Flights, ticked_fine, IsMarker, asking, answering}
 use Rattle.lagprogress.proofs.Halves.{AreTimely}
 use Rattle.lagprogress.proofs.HostSteady.{IsAside, aside, asked_by, beside_next, caller, delay_keeps, gives_next, probes_half, Probed}
 use Rattle.lagsystem.specs.declared.drive.HostCall.TheVariants as host
@@ -185,7 +185,7 @@ module _ (at : Side → ℕ) (w : Side → Lacpdu) (named : (t : Side) → IsNam
   made : {m l : ℕ} {V : Type 0} {kn to : Side → ℕ} {old new : WorldState} (W : Type 0) (e : HostEvent) (r : Reply) → IsCalm e
       → StepReplies gives old e r new → Mid m V kn old → Link 2 at w to s Y new → (fl : Side → List ItemValue) (i : ℕ) → OnCable i at fl new.links
       → FineIn l W (Flights s (at s) mac fl) (half s new).state.table → Mid l W to new
-  made {old = old} {new = new} h e r calm i d link fl j links fine = grind (arith, nat_tests, fixed)
+  made W e r calm h d link fl i links fine = grind (arith, nat_tests, fixed)
 
   -- the port is asked
   own_asked : {kn : Side → ℕ} (m : ℕ) (W : Type 0) (a : Result (Option (List ℕ)) SystemFault) (j new : WorldState) (fl now : Side → List ItemValue)
@@ -277,11 +277,11 @@ module _ (at : Side → ℕ) (w : Side → Lacpdu) (named : (t : Side) → IsNam
 
     offered_frame : (m : ℕ) (W : Type 0) (F : ℕ → Type 0) (group : AggId) (octets : List ℕ) (a : Result ℕ SystemFault) (old new : SystemState)
         → Step (gives s) old (Offer group octets) (answer.Offer a) new → FineIn m W F old.table → FineIn m W F new.table
-    offered_frame m h i group octets a old new j fine = grind (arith, nat_tests)
+    offered_frame m W F group octets a old new h fine = grind (arith, nat_tests)
 
     numbered_frame : (there known : Bool) (m : ℕ) (W : Type 0) (F : ℕ → Type 0) (group : AggId) (moved : ℕ) (a : Result ℕ SystemFault)
         (old new : SystemState) → OffersIf there known (gives s) group moved old a new → FineIn m W F old.table → FineIn m W F new.table
-    numbered_frame there known m h i group moved a old new j fine = grind (arith, nat_tests)
+    numbered_frame there known m W F group moved a old new h fine = grind (arith, nat_tests)
 
     module _ (m : ℕ) (W : Type 0) (F : ℕ → Type 0) where
       -- a call leaves the conversation if it is another system's, or if this one's leaves it

@@ -1,9 +1,8 @@
 -- What a healthy round leaves of conversations that are held on a port whose cable is healthy: their markers are answered.
-use Rattle.lagprogress.proofs.Common.{Bool, List, ap, arith, cond, drop, eqb, false, sym, true, ℕ, ◌+◌, ◌<◌, ◌∙◌, ◌≡◌, ◌≤◌, ◌⊎◌, nat_tests, none-some}
-use Rattle.lagprogress.proofs.Common.{Marker, Information, Response, Pdu, no_fault, one_pdu, Side, peer, Assignment, Flushing, Free, On, Wanted}
-use Rattle.lagprogress.proofs.Common.{is_among, after_mark, after_release, after_tick, Carries, Data_frame, Faulty, IsFrame, ReceivedFrame, Runt}
+use Rattle.lagprogress.proofs.Common.{List, ap, arith, drop, eqb, false, sym, true, ℕ, ◌+◌, ◌<◌, ◌∙◌, ◌≡◌, ◌≤◌, ◌⊎◌, nat_tests, none-some, Marker}
+use Rattle.lagprogress.proofs.Common.{Information, Response, Pdu, no_fault, one_pdu, Side, peer, Assignment, Flushing, Free, On, Wanted, is_among}
+use Rattle.lagprogress.proofs.Common.{after_mark, after_release, after_tick, Carries, Data_frame, Faulty, IsFrame, ReceivedFrame, Runt}
 use Rattle.lagprogress.proofs.Common.{held_unless_on, ItemValue}
-use Rattle.lagsystem.specs.Forcing.{after_forcing}
 use Rattle.slowpdu.specs.declared.pdu.Pdu.TheVariants as pdu
 pub use Rattle.lagprogress.proofs.Linked.{Has, has_last, has_on}
 
@@ -62,15 +61,6 @@ settled_fine p m W F ports a k h = grind (arith, nat_tests)
 -- a tick
 pub ticked_fine : (p m : ℕ) (W : Type 0) (F : ℕ → Type 0) (a : Assignment) → Fine p m W F a → Fine p (m + 1) (Unit {0}) F (after_tick a)
 ticked_fine p m W F a h = grind (arith, nat_tests)
-
--- a frame is offered
-pub offered_fine : (p m q : ℕ) (W : Type 0) (F : ℕ → Type 0) (b : Bool) (a : Assignment) → Fine p m W F a → Fine p m W F (cond b (On q) a)
-offered_fine p m q W F b a h = grind (arith, nat_tests)
-
--- what is held on some port is forced
-
-pub forced_fine : (p m q : ℕ) (W : Type 0) (F : ℕ → Type 0) (a : Assignment) → Fine p m W F a → Fine p m W F (after_forcing q a)
-forced_fine p m q W F a h = grind (arith, nat_tests)
 
 -- frames
 

@@ -1,17 +1,17 @@
 -- Which runs are healthy rounds of hosts.
 use Rattle.lagprogress.proofs.Common.{Bool, Err, List, None, Ok, Option, Result, Some, [], ap, arith, cond, false, inl, inr, ltb, refl, slice_get}
 use Rattle.lagprogress.proofs.Common.{subst, suc, sym, true, zero, ℕ, ◌++◌, ◌∙◌, ◌∷◌, ◌≡◌, ◌⊎◌, cases_Bool, false≢true, nat_tests, none-some}
-use Rattle.lagprogress.proofs.Common.{same_Some, AllByRecursion, Pdu, pdu_in, One, Side, Two, peer, value_of, Machines, after_sending, is_due}
+use Rattle.lagprogress.proofs.Common.{same_Some, AllByRecursion, Pdu, pdu_in, all-append, One, Side, Two, peer, value_of, after_sending, is_due}
 use Rattle.lagprogress.proofs.Common.{Assignment, after_mark, marker_due, wants_marker, Table, assignment_of, SystemFault, SystemPort, Step, Transmit}
 use Rattle.lagprogress.proofs.Common.{SendsMarkerOf, TransmitsAt, TransmitsIf, SystemState, machines_of, port_index, all-get, found_place, ports_rise}
 use Rattle.lagprogress.proofs.Common.{Event, Reply, AfterTransmit, Algorithms, WorldRuns, sent_reply, payload_in, HalfState, LinkState, WorldState}
 use Rattle.lagprogress.proofs.Common.{half, is_accepted, port_at, with_half, half_there, HostEvent, HostSteps, Plays, Sets, OfEach, Tick-each, placed}
 use Rattle.lagprogress.proofs.Common.{AtPort, at_number, LeavesPorts, AskingInVainIsDraining, AsksInVain, AsksInVainAfterTick, DrainingRounds}
-use Rattle.lagprogress.proofs.Common.{IsNoMoveOf, NothingIsDue, RoundIsDraining, sent_nothing, AfterTick, AskingIsPlayed, Asks, AsksAfterTick, AsksIn}
-use Rattle.lagprogress.proofs.Common.{AtSomeWorld, Clearing, EventsAreOfHosts, HostRounds, IsBetweenTicks, IsTickOf, NoneIsLeft, RoundIsHostRound}
-use Rattle.lagprogress.proofs.Common.{RoundsAreHostRounds, RunReplies, RunsHaveReplies, StepReplies, TickOnce, TickOnceAmong, as_played, AtEnd}
-use Rattle.lagprogress.proofs.Common.{IsDeliver, IsHealthyAt, OfPort, Rounds, asks_all, ticks_of_both, AfterTicks, AskingIsSeveral, AsksAfterTicks}
-use Rattle.lagprogress.proofs.Common.{TicksAmong, IsSteady, AsksOrDelivers, IsDrainingRound, IsRound, NothingInFlight, all-append}
+use Rattle.lagprogress.proofs.Common.{IsDrainingRound, IsNoMoveOf, NothingIsDue, RoundIsDraining, sent_nothing, AfterTick, AskingIsPlayed, Asks}
+use Rattle.lagprogress.proofs.Common.{AsksAfterTick, AsksIn, AtSomeWorld, Clearing, EventsAreOfHosts, HostRounds, IsBetweenTicks, IsTickOf}
+use Rattle.lagprogress.proofs.Common.{NoneIsLeft, RoundIsHostRound, RoundsAreHostRounds, RunReplies, RunsHaveReplies, StepReplies, TickOnce}
+use Rattle.lagprogress.proofs.Common.{TickOnceAmong, as_played, AsksOrDelivers, AtEnd, IsDeliver, IsHealthyAt, IsRound, NothingInFlight, OfPort}
+use Rattle.lagprogress.proofs.Common.{Rounds, asks_all, ticks_of_both, AfterTicks, AskingIsSeveral, AsksAfterTicks, TicksAmong, IsSteady}
 use Rattle.distributor.specs.Conversations.{sum_below}
 use Rattle.lagprogress.proofs.HostSteady.{IsUp, sets_up}
 use Rattle.lagprogress.proofs.Quieting.{calm_timely, place_stays}

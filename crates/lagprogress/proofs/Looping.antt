@@ -1,12 +1,12 @@
 -- Healthy rounds of hosts that are played.
 use Rattle.lagprogress.proofs.Common.{List, None, Option, Some, [], ap, arith, inl, inr, is_some, length, option_map, refl, slice_get, subst, suc}
-use Rattle.lagprogress.proofs.Common.{sym, true, zero, ℕ, ◌++◌, ◌+◌, ◌<◌, ◌∙◌, ◌∷◌, ◌≡◌, ◌≤◌, false≢true, same_Some, slice_get_within, AllByRecursion}
-use Rattle.lagprogress.proofs.Common.{all-append, One, Side, Two, WorldSetup, end_at, Event, WorldFault, Reply, Algorithms, WorldRuns, WorldSteps}
-use Rattle.lagprogress.proofs.Common.{cause, cause_or_no_memory, has_system, world_setup, ends_of_cable, ports_joined, LinkState, WorldState, port_at}
-use Rattle.lagprogress.proofs.Common.{end_is, Plays, AsksInVain, DrainingRounds, IsDrainingRound, IsNoMoveOf, sent_nothing, IsBetweenTicks}
-use Rattle.lagprogress.proofs.Common.{NoneIsLeft, as_played, Delivers, IsOutOfMemoryOrSpent, RefusesDelivery, RunsAll, AsksEnds, AsksOrDelivers}
-use Rattle.lagprogress.proofs.Common.{AsksPort, DeliversAndAsks, EmptiesCables, PlaysBetween, PlaysHostPart, PlaysHostRound, PlaysHostRounds}
-use Rattle.lagprogress.proofs.Common.{StopsBetween, IsDeliver, ticks_of_both, IsSteady}
+use Rattle.lagprogress.proofs.Common.{sym, true, zero, ℕ, ◌++◌, ◌+◌, ◌<◌, ◌∙◌, ◌∷◌, ◌≡◌, false≢true, same_Some, slice_get_within, all-append, One}
+use Rattle.lagprogress.proofs.Common.{Side, Two, WorldSetup, end_at, Event, WorldFault, Reply, Algorithms, WorldRuns, WorldSteps, cause}
+use Rattle.lagprogress.proofs.Common.{cause_or_no_memory, has_system, world_setup, ends_of_cable, ports_joined, LinkState, WorldState, port_at}
+use Rattle.lagprogress.proofs.Common.{end_is, Plays, AsksInVain, DrainingRounds, IsDrainingRound, sent_nothing, NoneIsLeft, as_played, Delivers}
+use Rattle.lagprogress.proofs.Common.{IsOutOfMemoryOrSpent, RefusesDelivery, RunsAll, AsksEnds, AsksOrDelivers, AsksPort, DeliversAndAsks}
+use Rattle.lagprogress.proofs.Common.{EmptiesCables, PlaysBetween, PlaysHostPart, PlaysHostRound, PlaysHostRounds, StopsBetween, ticks_of_both}
+use Rattle.lagprogress.proofs.Common.{IsSteady}
 use Rattle.lagprogress.proofs.HostLoops.{asking_in_vain_is_draining, both_tick, delivers_between, draining_are_host, move_none, vain_after_ticks}
 use Rattle.std.specs.Prelude.{map}
 use Rattle.lagprogress.proofs.EachRound.{played_steady}

@@ -1,14 +1,13 @@
 -- What moves no port (`IsQuiet`) leaves the ports, and what their LACPDUs say.
-use Rattle.lagprogress.proofs.Common.{Bool, Err, List, Ok, Option, Result, Some, [], ap, arith, false, inl, inr, map, refl, slice_get, subst, suc}
-use Rattle.lagprogress.proofs.Common.{sym, true, zero, ℕ, ◌++◌, ◌==◌, ◌∙◌, ◌∷◌, ◌≡◌, ◌⊎◌, cases_Bool, nat_tests, Vec, AllByRecursion, AggId, Lacpdu}
-use Rattle.lagprogress.proofs.Common.{all-append, One, Side, Two, peer, value_of, Machines, Table, Answer, SystemFault, SystemPort, Call, Carries}
-use Rattle.lagprogress.proofs.Common.{Force, IsFrame, Move_conversation, Offer, Step, TableRun, Transmit, system_move_result, Set_max_delay}
-use Rattle.lagprogress.proofs.Common.{SystemState, port_index, with_system_ports, with_table, Step-frame, becomes_slots, offers_slots, Event, Reply}
-use Rattle.lagprogress.proofs.Common.{AfterOffer, Algorithms, InHalf, WorldRuns, WorldSteps, offered_item, side_of, with_frame_counted, HalfForces}
-use Rattle.lagprogress.proofs.Common.{HalfMoves, link_ends, HalfState, ItemValue, LinkState, WorldState, half, put_on_port, with_half, put_ends}
-use Rattle.lagprogress.proofs.Common.{half_there, HostEvent, HostSteps, Plays, Sets, KeptBySettling, OfEach, AtPort, calls_each, LeavesPorts}
-use Rattle.lagprogress.proofs.Common.{Clearing, IsBetweenTicks, IsPlayed, IsPlayedAmong, IsQuiet, PlayedAmong, PlayedRounds, StepReplies, TickOnce}
-use Rattle.lagprogress.proofs.Common.{TickOnceAmong, IsSteady}
+use Rattle.lagprogress.proofs.Common.{Bool, Err, List, Ok, Option, Result, Some, [], ap, arith, false, inl, inr, map, refl, slice_get, subst, sym}
+use Rattle.lagprogress.proofs.Common.{true, ℕ, ◌++◌, ◌==◌, ◌∙◌, ◌∷◌, ◌≡◌, ◌⊎◌, cases_Bool, nat_tests, Vec, AllByRecursion, AggId, Lacpdu, all-append}
+use Rattle.lagprogress.proofs.Common.{One, Side, Two, peer, value_of, Machines, Table, Answer, SystemFault, SystemPort, Call, Carries, Force, IsFrame}
+use Rattle.lagprogress.proofs.Common.{Move_conversation, Offer, Step, TableRun, Transmit, system_move_result, Set_max_delay, SystemState, port_index}
+use Rattle.lagprogress.proofs.Common.{with_system_ports, with_table, Step-frame, becomes_slots, offers_slots, Event, Reply, AfterOffer, Algorithms}
+use Rattle.lagprogress.proofs.Common.{InHalf, WorldRuns, WorldSteps, offered_item, side_of, with_frame_counted, HalfForces, HalfMoves, link_ends}
+use Rattle.lagprogress.proofs.Common.{HalfState, ItemValue, LinkState, WorldState, half, put_on_port, with_half, put_ends, half_there, HostEvent}
+use Rattle.lagprogress.proofs.Common.{HostSteps, Plays, Sets, KeptBySettling, OfEach, AtPort, calls_each, LeavesPorts, Clearing, IsBetweenTicks}
+use Rattle.lagprogress.proofs.Common.{IsPlayed, IsPlayedAmong, IsQuiet, StepReplies, TickOnce, TickOnceAmong, IsSteady}
 use Rattle.lagprogress.proofs.Linked.{events_each, each_side, EndIs, Flying, HasLacpdu, IsGood, Link, end_kept, has_on, of_end, place_kept}
 use Rattle.lagprogress.proofs.Linked.{push_other, push_there}
 use native.Mathlib.Omega.{arith}

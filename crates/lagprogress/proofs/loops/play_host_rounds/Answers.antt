@@ -1,5 +1,4 @@
-use Rattle.lagprogress.proofs.Common.{arith, refl, subst, ℕ, ◌∙◌, ◌≡◌, ◌≤◌, One, Side, Algorithms, WorldState, BothAreActive, OneIsActive}
-use Rattle.lagprogress.proofs.Common.{DrainingRounds, LateRounds, PlaysHostRounds, up_if_both_active, up_if_one_is, IsSteady}
+use Rattle.lagprogress.proofs.Common.{arith, refl, ◌∙◌, ◌≡◌, One, BothAreActive, OneIsActive, LateRounds, up_if_both_active, up_if_one_is}
 use Rattle.lagprogress.proofs.Bundling.{each_link_agrees, each_link_comes_up, one_meets, both_meet}
 use Rattle.lagprogress.proofs.Freeing.{nothing_is_held_by_hosts}
 use Rattle.lagprogress.proofs.HostLoops.{draining_are_host}

@@ -1,5 +1,5 @@
-use Rattle.lagprogress.proofs.Common.{arith, subst, ℕ, ◌∙◌, ◌≡◌, ◌≤◌, Algorithms, WorldState, BothAreActive, OneIsActive, LateRounds, Rounds}
-use Rattle.lagprogress.proofs.Common.{freed_if_both_active, freed_if_one_is, up_if_both_active, up_if_one_is}
+use Rattle.lagprogress.proofs.Common.{arith, ◌∙◌, ◌≡◌, BothAreActive, OneIsActive, LateRounds, freed_if_both_active, freed_if_one_is}
+use Rattle.lagprogress.proofs.Common.{up_if_both_active, up_if_one_is}
 use Rattle.lagprogress.proofs.Bundling.{each_link_agrees, each_link_comes_up, one_meets, both_meet}
 use Rattle.lagprogress.proofs.Freeing.{nothing_is_held}
 use Rattle.lagprogress.proofs.HostLoops.{rounds_are_host_rounds}
