@@ -86,20 +86,8 @@ Stays a b = (carrier_of b ≡ None) ⊎ (carrier_of b ≡ carrier_of a)
 stays_through : (a b d : Assignment) → Stays a b → Stays b d → Stays a d
 stays_through a b d h k = grind (arith, nat_tests)
 
-stays_tick : (a : Assignment) → Stays a (after_tick a)
-stays_tick a = grind (arith, nat_tests)
-
-stays_mark : (port id : ℕ) (a : Assignment) → Stays a (after_mark port id a)
-stays_mark port id a = grind (arith, nat_tests)
-
-stays_release : (port id : ℕ) (a : Assignment) → Stays a (after_release port id a)
-stays_release port id a = grind (arith, nat_tests)
-
-stays_held : (ports : List ℕ) (a : Assignment) → Stays a (held_unless_on ports a)
-stays_held ports a = grind (arith, nat_tests)
-
 pub stays : Turning Stays
-stays = grind (arith, nat_tests, stays_through, stays_tick, stays_mark, stays_release, stays_held)
+stays = grind (arith, nat_tests, stays_through)
 
 abbrev WorldStays : Side → WorldState → WorldState → Type 0
 WorldStays s i j = Turns Stays stays (half s i).state.table (half s j).state.table
