@@ -1,12 +1,11 @@
 -- No conversation that is not moved stays held on a port of a healthy cable of a bundle.
 use Rattle.lagprogress.proofs.Common.{List, None, Option, Some, [], ap, arith, inl, inr, length, refl, subst, suc, sym, zero, ℕ, ◌++◌, ◌+◌, ◌-◌, ◌∷◌}
-use Rattle.lagprogress.proofs.Common.{◌≡◌, ◌≤◌, ◌⊎◌, nat_tests, AllByRecursion, IsCabling, One, Side, peer, value_of, Assignment, after_mark}
-use Rattle.lagprogress.proofs.Common.{after_release, after_tick, IsConversation, assignment_of, held_unless_on, SystemState, Event, Reply, Algorithms}
-use Rattle.lagprogress.proofs.Common.{WorldSteps, side_of, LinkState, WorldState, half, port_at, AtPort, Turning, Turns, asks_turn, comes_turn}
-use Rattle.lagprogress.proofs.Common.{same_turns, ticks_turn, turns_through, EndsHealthyCable, HasIdentifierLeft, IsNotHeldOn, NothingIsHeld}
-use Rattle.lagprogress.proofs.Common.{carrier_of, held_on, DrainingRounds, NoneIsHeldOnEndsByHosts, NothingIsHeldByHosts, Clearing, HostRounds}
-use Rattle.lagprogress.proofs.Common.{IsBetweenTicks, NoneIsLeft, PlayedRounds, LateRounds, OldArrive, AsksOrDelivers, IsHealthyAt, IsRound, Rounds}
-use Rattle.lagprogress.proofs.Common.{asks_all, ticks_of_both, IsSteady}
+use Rattle.lagprogress.proofs.Common.{◌≡◌, ◌≤◌, ◌⊎◌, nat_tests, AllByRecursion, IsCabling, One, Side, peer, value_of, Assignment, IsConversation}
+use Rattle.lagprogress.proofs.Common.{assignment_of, SystemState, Event, Reply, Algorithms, WorldSteps, side_of, LinkState, WorldState, half, port_at}
+use Rattle.lagprogress.proofs.Common.{AtPort, Turning, Turns, asks_turn, comes_turn, same_turns, ticks_turn, turns_through, EndsHealthyCable}
+use Rattle.lagprogress.proofs.Common.{HasIdentifierLeft, IsNotHeldOn, NothingIsHeld, carrier_of, held_on, DrainingRounds, NoneIsHeldOnEndsByHosts}
+use Rattle.lagprogress.proofs.Common.{NothingIsHeldByHosts, Clearing, HostRounds, IsBetweenTicks, NoneIsLeft, PlayedRounds, LateRounds, OldArrive}
+use Rattle.lagprogress.proofs.Common.{AsksOrDelivers, IsHealthyAt, IsRound, Rounds, asks_all, ticks_of_both, IsSteady}
 use Rattle.lagprogress.proofs.Lasting.{played_before, still_heard}
 use Rattle.lagprogress.proofs.LateLoops.{host_rounds_are_late_rounds}
 use Rattle.lagprogress.proofs.LateHearing.{counts_of, kept_of}
