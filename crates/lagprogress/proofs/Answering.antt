@@ -128,8 +128,7 @@ module _ (at : Side → ℕ) (w : Side → Lacpdu) (s : Side) (mac : List ℕ) (
       (m : ℕ) (W : Type 0) → z.number ≡ at s → old.system.mac ≡ mac → SendsMarkerOf o z.number z.mac old a new → Went s (Ok a) fl now
       → IsFine m W (Flights s (at s) mac fl) old.table → IsFine m W (Flights s (at s) mac now) new.table
   sends_marker None z old a new fl now m W number own h went fine = went_fine a old new fl now m W (ap (λ (t : SystemState). t.table) h.1) went fine
-  sends_marker (Some id) z old a new fl now m W number own h went fine =
-      let gone = subst (λ b. Went s (Ok b) fl now) h.3 went in
+  sends_marker (Some id) z old a new fl now m W number own h went fine = let gone = subst (λ b. Went s (Ok b) fl now) h.3 went in
       let flies = marker_flies z old id h.0 fl now h.1 h.2 number own gone in
       fine_in_map m ⊥ W (Flights s (at s) mac now) (Flights s (at s) mac now) new.table (λ x. absurd x) (λ id y. y)
       (turned_by agg conv (Fine (at s) m W (Flights s (at s) mac fl)) (Fine (at s) m ⊥ (Flights s (at s) mac now)) (after_mark (at s) id)
@@ -140,8 +139,7 @@ module _ (at : Side → ℕ) (w : Side → Lacpdu) (s : Side) (mac : List ℕ) (
   pub sends_fine : (up due : Bool) (i : ℕ) (z : SystemPort) (old : SystemState) (a : Option (List ℕ)) (new : SystemState)
       (fl now : Side → List ItemValue) (m : ℕ) (W : Type 0) → z.number ≡ at s → old.system.mac ≡ mac → TransmitsIf up due i z old a new
       → Went s (Ok a) fl now → IsFine m W (Flights s (at s) mac fl) old.table → IsFine m W (Flights s (at s) mac now) new.table
-  sends_fine false due i z old a new fl now m W number own h went fine =
-      went_fine a old new fl now m W (ap (λ (t : SystemState). t.table) h.1) went fine
+  sends_fine false due i z old a new fl now m W number own h went fine = grind (arith, nat_tests)
   sends_fine true true i z old a new fl now m W number own h went fine =
       went_fine a old new fl now m W (ap (λ (t : SystemState). t.table) h.3) went fine
   sends_fine true false i z old a new fl now m W number own h went fine =
@@ -149,10 +147,9 @@ module _ (at : Side → ℕ) (w : Side → Lacpdu) (s : Side) (mac : List ℕ) (
 
   -- the port is probed, or another one
 
-  pub probes_fine : (o : Option ℕ) (old : SystemState) (a : Option (List ℕ)) (new : SystemState) (fl now : Side → List ItemValue) (m : ℕ)
-      (W : Type 0) → ((i : ℕ) (z : SystemPort) → o ≡ Some i → slice_get old.system_ports i ≡ Some z → z.number ≡ at s) → old.system.mac ≡ mac
-      → ProbesAt o old a new → Went s (Ok a) fl now → IsFine m W (Flights s (at s) mac fl) old.table
-      → IsFine m W (Flights s (at s) mac now) new.table
+  pub probes_fine : (o : Option ℕ) (old : SystemState) (a : Option (List ℕ)) (new : SystemState) (fl now : Side → List ItemValue) (m : ℕ) (W : Type 0)
+      → ((i : ℕ) (z : SystemPort) → o ≡ Some i → slice_get old.system_ports i ≡ Some z → z.number ≡ at s) → old.system.mac ≡ mac → ProbesAt o old a new
+      → Went s (Ok a) fl now → IsFine m W (Flights s (at s) mac fl) old.table → IsFine m W (Flights s (at s) mac now) new.table
   probes_fine None old a new fl now m W number own h went fine = absurd h
   probes_fine (Some i) old a new fl now m W number own h went fine = by_up h.0.port.enabled h.2
     where
@@ -192,10 +189,8 @@ module _ (at : Side → ℕ) (w : Side → Lacpdu) (s : Side) (mac : List ℕ) (
     Steady p = PartnerInSync p × (p.choice ≡ c)
 
     pub stays_on : (one two : Side → ℕ) (old new : WorldState) → Link 2 at w one s Steady old → Link 2 at w two s Steady new → (g k : ℕ)
-        → assignment_of (half s old).state.table g k ≡ On (at s)
-        → is_among (distributing (aggregator_numbered g) (half s new).state.system_ports) (at s) ≡ true
-    stays_on one two old new a b g k e =
-        let numbered = aggregator_numbered g in
+        → assignment_of (half s old).state.table g k ≡ On (at s) → is_among (distributing (aggregator_numbered g) (half s new).state.system_ports) (at s) ≡ true
+    stays_on one two old new a b g k e = let numbered = aggregator_numbered g in
         let was = (half s old).state in
         let st = (half s new).state in
         let x = among_port numbered was.system_ports (at s) ((a.steady s).0.carried g k (at s) e) in
@@ -250,16 +245,7 @@ module _ (at : Side → ℕ) (w : Side → Lacpdu) (s : Side) (mac : List ℕ) (
   one_fine octets m W F G (Free preferred) b split comes goes h = goes h
   one_fine octets m W F G (On q) b split comes goes h = goes h
   one_fine octets m W F G (Wanted q preferred) b split comes goes h = goes h
-  one_fine octets m W F G (Flushing q id preferred age) b split comes goes h = elim (cases_Bool (eqb q (at s))) [
-    | inl t ↦ (let same = is_port q (at s) t in elim (h same) [
-      | inl y ↦ goes (λ _. inl y)
-      | inr f ↦ elim (split id f) [
-        | inl r ↦ subst (Fine (at s) m W G) (sym (comes id r ∙ (ap (λ b. cond b (Free preferred) (Flushing q id preferred age)) (passes same)))) tt
-        | inr y ↦ goes (λ _. inr y)
-      ]
-    ])
-    | inr t ↦ goes (λ e. absurd (not_port q (at s) t e))
-  ]
+  one_fine octets m W F G (Flushing q id preferred age) b split comes goes h = grind (arith, nat_tests, cases_Bool, eqb, is_port, passes, not_port)
     where
       passes : q ≡ at s → (eqb q (at s) && eqb id id) ≡ true
       passes e = grind (arith, nat_tests)
@@ -283,8 +269,7 @@ module _ (at : Side → ℕ) (w : Side → Lacpdu) (s : Side) (mac : List ℕ) (
       st : SystemState
       st = (half s old).state
 
-      split : Back s k.a (put s k.rest fl) k.now → (id : ℕ) → Flights s (at s) mac fl id
-          → IsResponse k.item.octets id ⊎ Flights s (at s) mac k.now id
+      split : Back s k.a (put s k.rest fl) k.now → (id : ℕ) → Flights s (at s) mac fl id → IsResponse k.item.octets id ⊎ Flights s (at s) mac k.now id
       split back id (inl y) = inr (inl (gains_has s (IsMarker (asking (at s) mac id)) (response k.a) (put s k.rest fl) k.now back (peer s)
           (subst (Has (IsMarker (asking (at s) mac id))) (sym (put_other s k.rest fl)) y)))
       split back id (inr y) = elim (subst (Has (IsMarker (answering (at s) mac id))) k.first y) [
@@ -314,15 +299,13 @@ module _ (at : Side → ℕ) (w : Side → Lacpdu) (s : Side) (mac : List ℕ) (
 
   -- an item comes to the other end, which answers a marker
   pub peer_answers : (gives : Algorithms) (fl : Side → List ItemValue) (old new : WorldState) (i : ℕ) (z : SystemPort)
-      → port_index (at (peer s)) (half (peer s) old).state.system_ports ≡ Some i
-      → slice_get (half (peer s) old).state.system_ports i ≡ Some z → z.port.enabled ≡ true → (k : Arrives gives (peer s) at fl old new) → (id : ℕ)
-      → Flights s (at s) mac fl id → Flights s (at s) mac k.now id
+      → port_index (at (peer s)) (half (peer s) old).state.system_ports ≡ Some i → slice_get (half (peer s) old).state.system_ports i ≡ Some z
+      → z.port.enabled ≡ true → (k : Arrives gives (peer s) at fl old new) → (id : ℕ) → Flights s (at s) mac fl id → Flights s (at s) mac k.now id
   peer_answers gives fl old new i z place there up k id (inr y) =
       inr (gains_has (peer s) (IsMarker (answering (at s) mac id)) (response k.a) (put (peer s) k.rest fl) k.now k.back s
       (subst (Has (IsMarker (answering (at s) mac id)))
       (sym (subst (λ t. put (peer s) k.rest fl t ≡ fl t) (peer_twice s) (put_other (peer s) k.rest fl))) y))
-  peer_answers gives fl old new i z place there up k id (inl y) =
-      elim (subst (Has (IsMarker (asking (at s) mac id))) k.first y) [
+  peer_answers gives fl old new i z place there up k id (inl y) = elim (subst (Has (IsMarker (asking (at s) mac id))) k.first y) [
         | inl r ↦ inr (by_answer k.a k.promise k.back r)
         | inr r ↦ inl (gains_has (peer s) (IsMarker (asking (at s) mac id)) (response k.a) (put (peer s) k.rest fl) k.now k.back (peer s)
             (subst (Has (IsMarker (asking (at s) mac id))) (sym (put_there (peer s) k.rest fl)) r))
@@ -330,8 +313,7 @@ module _ (at : Side → ℕ) (w : Side → Lacpdu) (s : Side) (mac : List ℕ) (
     where
       responds : (o : Received) (frame : List ℕ) → o ≡ received.Respond frame → IsFrame frame (Carries (pdu.Marker (answering (at s) mac id)))
           → Back (peer s) (Ok o) (put (peer s) k.rest fl) k.now → Has (IsMarker (answering (at s) mac id)) (k.now s)
-      responds o frame e c back =
-          let b = subst (λ (x : Received). Back (peer s) (Ok x) (put (peer s) k.rest fl) k.now) e back in
+      responds o frame e c back = let b = subst (λ (x : Received). Back (peer s) (Ok x) (put (peer s) k.rest fl) k.now) e back in
           let is : IsMarker (answering (at s) mac id) b.0 =
           subst (λ x. IsFrame x (Carries (pdu.Marker (answering (at s) mac id)))) (sym b.1) c in
           let last : Has (IsMarker (answering (at s) mac id)) (k.now (peer (peer s))) =
@@ -342,8 +324,7 @@ module _ (at : Side → ℕ) (w : Side → Lacpdu) (s : Side) (mac : List ℕ) (
 
       by_answer : (a : Result Received SystemFault)
           → CallPromise (gives (peer s)) (half (peer s) old).state (Receive (at (peer s)) k.item.octets) (answer.Receive a) (half (peer s) new).state
-          → Back (peer s) a (put (peer s) k.rest fl) k.now → IsMarker (asking (at s) mac id) k.item
-          → Has (IsMarker (answering (at s) mac id)) (k.now s)
+          → Back (peer s) a (put (peer s) k.rest fl) k.now → IsMarker (asking (at s) mac id) k.item → Has (IsMarker (answering (at s) mac id)) (k.now s)
       by_answer (Err fault) h back c = absurd (none-some i (sym h.step.cause ∙ place))
       by_answer (Ok o) h back c =
           let r = subst (λ x. ReceivesAt x k.item.octets (half (peer s) old).state o (half (peer s) new).state) place h.step in
@@ -364,8 +345,7 @@ module _ (at : Side → ℕ) (w : Side → Lacpdu) (s : Side) (mac : List ℕ) (
   other_sends : (up due : Bool) (i : ℕ) (z : SystemPort) (old : SystemState) (a : Option (List ℕ)) (new : SystemState) (m : ℕ) (W : Type 0)
       (F : ℕ → Type 0) → (z.number ≡ at s → ⊥) → TransmitsIf up due i z old a new → FineIn m W F old.table → FineIn m W F new.table
   other_sends false due i z old a new m W F other h fine = fines_same m W F old new h.1 fine
-  other_sends true true i z old a new m W F other h fine =
-      subst (FineIn m W F) (sym (ap (λ (t : SystemState). t.table) h.3)) fine
+  other_sends true true i z old a new m W F other h fine = grind (arith, nat_tests)
   other_sends true false i z old a new m W F other h fine = other_marks (marker_due old.table z.number) z.number z.mac old a new m W F other h fine
 
   other_transmits : (n : ℕ) (o : Option ℕ) (old : SystemState) (a : Option (List ℕ)) (new : SystemState) (m : ℕ) (W : Type 0) (F : ℕ → Type 0)

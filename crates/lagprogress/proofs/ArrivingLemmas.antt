@@ -17,24 +17,20 @@ pub is_data : (octets : List ℕ) → MayBeOffered octets → IsFrame octets Dat
 is_data octets h = grind (arith, nat_tests, and_parts)
 
 -- the port that it gives distributes
-given : (ports : List ℕ) (a : Assignment) (port : ℕ) → ((p : ℕ) → a ≡ On p → is_among ports p ≡ true) → MaySend ports a port
-    → is_among ports port ≡ true
+given : (ports : List ℕ) (a : Assignment) (port : ℕ) → ((p : ℕ) → a ≡ On p → is_among ports p ≡ true) → MaySend ports a port → is_among ports port ≡ true
 given ports a port hyp1 hyp2 = grind (arith, nat_tests, true)
 
 -- what the world does with it
 
 pub same_ports : (s t : Side) (h k : HalfState) (j : WorldState) → h.state.system_ports ≡ (half s j).state.system_ports
-    → k.state.system_ports ≡ h.state.system_ports
-    → (half t (with_half s k (with_half s h j))).state.system_ports ≡ (half t j).state.system_ports
+    → k.state.system_ports ≡ h.state.system_ports → (half t (with_half s k (with_half s h j))).state.system_ports ≡ (half t j).state.system_ports
 same_ports s t h k j hyp1 hyp2 = grind (arith, nat_tests)
 
-offered : (gives : Algorithms) (s : Side) (agg : AggId) (octets : List ℕ) (a : Result ℕ SystemFault) (old new : WorldState) (mid : HalfState)
-    (r : Reply) → IsSound (half s old).state → TakesFrame agg octets (half s old).state
-    → Step (gives s) (half s old).state (Offer agg octets) (answer.Offer a) mid.state → AfterOffer s agg octets a (with_half s mid old) r (record new { acted = old.acted })
-    → GetsPort s agg octets old r new
+offered : (gives : Algorithms) (s : Side) (agg : AggId) (octets : List ℕ) (a : Result ℕ SystemFault) (old new : WorldState) (mid : HalfState) (r : Reply)
+    → IsSound (half s old).state → TakesFrame agg octets (half s old).state → Step (gives s) (half s old).state (Offer agg octets) (answer.Offer a) mid.state
+    → AfterOffer s agg octets a (with_half s mid old) r (record new { acted = old.acted }) → GetsPort s agg octets old r new
 offered gives s agg octets (Err fault) old new mid r sound takes h after = grind (arith, nat_tests)
-offered gives s agg octets (Ok port) old new mid r sound takes h after =
-    let st = (half s old).state in
+offered gives s agg octets (Ok port) old new mid r sound takes h after = let st = (half s old).state in
     let conv = number_of_conversation st octets in
     let ports = distributing agg st.system_ports in
     let j = with_half s mid old in
@@ -58,9 +54,8 @@ offer_gets_port gives = grind (arith, nat_tests, value_of, same_Some, offered)
 -- a data frame comes off its cable
 
 receives_data : (n k : ℕ) (x : SystemPort) (octets : List ℕ) (agg : AggId) (old : SystemState) (o : Received) (new : SystemState)
-    → port_index n old.system_ports ≡ Some k → slice_get old.system_ports k ≡ Some x → x.port.enabled ≡ true
-    → IsFrame octets Data_frame → collecting x.port ≡ Some agg → ReceivesAt (port_index n old.system_ports) octets old o new
-    → (o ≡ Up agg) × (new ≡ old)
+    → port_index n old.system_ports ≡ Some k → slice_get old.system_ports k ≡ Some x → x.port.enabled ≡ true → IsFrame octets Data_frame
+    → collecting x.port ≡ Some agg → ReceivesAt (port_index n old.system_ports) octets old o new → (o ≡ Up agg) × (new ≡ old)
 receives_data n k x octets agg old o new place there up plain collects h = grind (arith, nat_tests, effect_one)
 
 handed : (gives : Algorithms) (s : Side) (i k : ℕ) (l : LinkState) (x : SystemPort) (agg : AggId) (item : ItemValue) (rest : List ItemValue)

@@ -55,8 +55,7 @@ says_none up due i z old frame new e h = grind (arith, nat_tests)
 sends_none : (n : ℕ) (o : Option ℕ) (old : SystemState) (frame : List ℕ) (new : SystemState) → port_index n old.system_ports ≡ o
     → TransmitsAt o old (Some frame) new → OfEach (AtPort n Dead) old.system_ports → ⊥
 sends_none n None old frame new e h a = h
-sends_none n (Some i) old frame new e h a =
-    says_none h.0.port.enabled (is_due h.0.port) i h.0 old frame new
+sends_none n (Some i) old frame new e h a = says_none h.0.port.enabled (is_due h.0.port) i h.0 old frame new
     (all-get (λ (y : SystemPort). AtPort n Dead y.number y.port) old.system_ports i h.0 h.1 a (found_place n old.system_ports i h.0 e h.1)) h.2
 
 answers_none : (n : ℕ) (o : Option ℕ) (octets : List ℕ) (old : SystemState) (frame : List ℕ) (new : SystemState)
@@ -79,9 +78,7 @@ set_cut : (b : ℕ) (s : Side) (p k : ℕ) (M : ℕ → Type 0) (m new : LinkSta
     → (port_at s new ≡ p → ((new.whole ≡ false) ⊎ M (port_at (peer s) new)) × (1 ≤ b → Plain (towards s new))) → CutAt b s p M links
     → CutAt b s p M (slice_set links k new)
 set_cut b s p k M m new links there is cut i l h e = elim (cases_Bool (i == k)) [
-  | inl t ↦ (let same : i ≡ k = grind (arith, nat_tests) in
-      let one : l ≡ new = same_Some l new (sym h ∙ (ap (slice_get (slice_set links k new)) same ∙ set_here links k new m there)) in
-      subst (λ x. ((x.whole ≡ false) ⊎ M (port_at (peer s) x)) × (1 ≤ b → Plain (towards s x))) (sym one) (is (sym (ap (port_at s) one) ∙ e)))
+  | inl t ↦ grind (arith, nat_tests, same_Some, slice_get, slice_set, set_here, port_at, peer, towards)
   | inr f ↦ (let other : i ≡ k → ⊥ = grind (arith, nat_tests) in cut i l (sym (set_elsewhere links k i new other) ∙ h) e)
 ]
 
@@ -157,8 +154,7 @@ says_no : (gives : ℕ → ℕ → ℕ → Type 0) (n : ℕ) (a : Result (Option
 says_no gives n a old new frame e h d = grind (arith, nat_tests, sends_none, port_index)
 
 sends_cut : (b : ℕ) (s v : Side) (p q : ℕ) (M : ℕ → Type 0) (a : Result Received SystemFault) (old new : List LinkState)
-    → ((frame : List ℕ) → a ≡ Ok (received.Respond frame) → v ≡ peer s → M q → ⊥) → Sends v q a old new
-    → CutAt b s p M old → CutAt b s p M new
+    → ((frame : List ℕ) → a ≡ Ok (received.Respond frame) → v ≡ peer s → M q → ⊥) → Sends v q a old new → CutAt b s p M old → CutAt b s p M new
 sends_cut b s v p q M (Ok (received.Respond frame)) old new not h cut =
     subst (CutAt b s p M) (sym h) (put_cut b s v p q M _ old (not frame refl) cut)
 sends_cut b s v p q M a old new not h cut = subst (CutAt b s p M) (sym h) cut
@@ -199,8 +195,7 @@ comes_cut gives b s v p k M m old new there c down cut =
 -- what each event between ticks leaves of it
 cut_between : (gives : Algorithms) (b : ℕ) (s : Side) (p : ℕ) (M : ℕ → Type 0) (e : HostEvent) (r : Reply) (old new : WorldState) → IsBetweenTicks e
     → StepReplies gives old e r new → Downs M (peer s) old → CutAt b s p M old.links → CutAt b s p M new.links
-cut_between gives b s p M (Plays (event.Emit n q)) r old new x h down cut =
-    let v = value_of (side_of n) _ h.0 in
+cut_between gives b s p M (Plays (event.Emit n q)) r old new x h down cut = let v = value_of (side_of n) _ h.0 in
     let w = v.2 in
     transmitted_cut b s p M v.0 q w.0 w.1 r old (record new { acted = old.acted })
     (λ frame e same dead. says_no (gives v.0) q w.0 (half v.0 old).state w.1.state frame e w.2.answers.step
@@ -209,8 +204,7 @@ cut_between gives b s p M (Plays (event.Deliver cn n)) r old new x h down cut = 
   | inl m ↦ comes_cut gives b s m.side p m.index M m.link old new m.there m.comes down cut
   | inr m ↦ subst (CutAt b s p M) (sym m.links) cut
 ]
-cut_between gives b s p M e r old new x h down cut =
-    let k = quietly gives e r old new x h in
+cut_between gives b s p M e r old new x h down cut = let k = quietly gives e r old new x h in
     elim k.1.links [
       | inl same ↦ subst (CutAt b s p M) (sym same) cut
       | inr m ↦ subst (CutAt b s p M) (sym m.sent) (put_fine b s k.0 p m.port M m.item old.links
@@ -227,8 +221,7 @@ severed_between gives b s p M e r i j x h a = (
   λ m dead. each_between (AtPort m Dead) (dead_keeps m) (peer s) gives e r i j x h (a.1 m dead),
 )
 
-severed_tick : (gives : Algorithms) (b : ℕ) (s : Side) (p : ℕ) (M : ℕ → Type 0) (t : Side)
-    → MadeByTick gives t (Severed b s p M) (Severed b s p M)
+severed_tick : (gives : Algorithms) (b : ℕ) (s : Side) (p : ℕ) (M : ℕ → Type 0) (t : Side) → MadeByTick gives t (Severed b s p M) (Severed b s p M)
 severed_tick gives b s p M t n r i j named step a = (
   subst (CutAt b s p M) (sym (ticks gives n t r i j named step).links) a.0,
   λ m dead. tick_keeps (AtPort m Dead) (dead_keeps m).settles (own_ticks (λ party up. up ≡ false) m) (peer s) t gives n r i j named step
@@ -245,8 +238,7 @@ abbrev Silent : ℕ → (ℕ → Type 0) → (Machines → Type 0) → Side → 
 Silent p M Q s j = EachAt (AtPort p Q) s j × Severed 1 s p M j
 
 module _ (p : ℕ) (M : ℕ → Type 0) (Q : Machines → Type 0) (keeps : KeptUnheard p Q) (gives : Algorithms) (s : Side) where
-  ports_between : (e : HostEvent) (r : Reply) (i j : WorldState) → IsBetweenTicks e → StepReplies gives i e r j → Silent p M Q s i
-      → EachAt (AtPort p Q) s j
+  ports_between : (e : HostEvent) (r : Reply) (i j : WorldState) → IsBetweenTicks e → StepReplies gives i e r j → Silent p M Q s i → EachAt (AtPort p Q) s j
   ports_between (Plays (event.Emit n q)) r i j x h a = elim (asked_half gives n q r i j h s) [
     | inl same ↦ subst (λ (z : SystemState). OfEach (AtPort p Q) z.system_ports) (sym same) a.0
     | inr (b, step) ↦ asked_each (AtPort p Q) (λ m x c e. keeps.sends x (c e)) (gives s) q b (half s i).state (half s j).state step a.0
@@ -271,8 +263,7 @@ NowSilent p M P Q s x j = EachAt (Pick (AtPort p P) (AtPort p Q) x) s j × Sever
 pub cut_round : (p : ℕ) (M : ℕ → Type 0) (P Q : Machines → Type 0) → KeptUnheard p P → KeptUnheard p Q
     → ((x y : Machines) → RunsToRest receive_rows (count_down x) y → P x → Q y) → (gives : Algorithms) (s : Side) (old new : WorldState)
     → IsHostRound gives old new → EachAt (AtPort p P) s old × Severed 1 s p M old → EachAt (AtPort p Q) s new × Severed 1 s p M new
-cut_round p M P Q kp kq counted gives s old new h a =
-    holds_once gives s (λ x y. NowSilent p M P Q s x) kept
+cut_round p M P Q kp kq counted gives s old new h a = holds_once gives s (λ x y. NowSilent p M P Q s x) kept
     (λ y l. both_made gives s (tick_makes (AtPort p P) (AtPort p Q) kq.settles (λ m x z run c e. counted x z run (c e)) s gives)
     (severed_tick gives 1 s p M s))
     (λ x l. both_made gives (peer s) (tick_beside (Pick (AtPort p P) (AtPort p Q) x) s gives) (severed_tick gives 1 s p M (peer s))) old new h a
@@ -288,8 +279,7 @@ deaf_keeps : (p most : ℕ) → KeptUnheard p (Unheard 1 most)
 deaf_keeps p most = record { settles = unheard_settles p most 0; sends = λ q y. y }
 
 deaf_ticks : (most : ℕ) (x y : Machines) → RunsToRest receive_rows (count_down x) y → Unheard 1 most x → Unheard 1 (most - 1) y
-deaf_ticks most x y h a =
-    let b = receives 0 (most - 1) (count_down x) y h (a.0, counts most x.current_while x.receive a.1) in
+deaf_ticks most x y h a = let b = receives 0 (most - 1) (count_down x) y h (a.0, counts most x.current_while x.receive a.1) in
     (b.0, rested (most - 1) y.current_while y.receive h.2.1.1.1.0 h.2.1.1.1.1.0 b.1)
 
 -- where it begins
@@ -307,11 +297,9 @@ WereDown s old n = DownAt s n old
 
 -- after its first round nothing is on its cables towards it, and the port counts
 deaf_since : (gives : Algorithms) (n k : ℕ) (s : Side) (x : SystemPort) (old new : WorldState) → IsSteady old
-    → slice_get (half s old).state.system_ports k ≡ Some x → x.port.enabled ≡ true → IsCutOff s x.number old
-    → 931 ≤ n → HostRounds gives n old new
+    → slice_get (half s old).state.system_ports k ≡ Some x → x.port.enabled ≡ true → IsCutOff s x.number old → 931 ≤ n → HostRounds gives n old new
     → EachAt (Deaf x.number (930 - (n - 1))) s new × Severed 1 s x.number (WereDown (peer s) old) new
-deaf_since gives n k s x old new steady there up cut enough h =
-    let p = x.number in
+deaf_since gives n k s x old new steady there up cut enough h = let p = x.number in
     let M : ℕ → Type 0 = WereDown (peer s) old in
     let parts = played_split NoneIsLeft gives (n - 1) 1 n old new (omega (arith, enough)) h in
     let mid = parts.0 in
@@ -377,16 +365,7 @@ climbing_settles n c t = record {
 }
 
 climbing_ticks : (c : Info) (t : ℕ) (p q : Machines) → RunsToRest receive_rows (count_down p) q → IdleRising c t p → IdleRising c (t - 1) q
-climbing_ticks c t p q h a = subst (IdleRising c (t - 1)) (sym (idle_ticks c p q h a.0)) (
-  a.0,
-  (
-    a.1.0,
-    elim a.1.1 [
-      | inl s ↦ inl s
-      | inr w ↦ (let m = w.1 in inr (w.0, omega (arith, m)))
-    ],
-  ),
-)
+climbing_ticks c t p q h a = subst (IdleRising c (t - 1)) (sym (idle_ticks c p q h a.0)) (a.0, (a.1.0, grind (arith, nat_tests)))
 
 -- so it has risen if it is SELECTED
 
@@ -417,8 +396,7 @@ module _ (gives : Algorithms) (s : Side) (k : ℕ) (x : SystemPort) (mid top : W
       (λ p r run y. subst (Idle c) (sym (idle_ticks c p r run y)) y) gives s i j q a) 20 top more).0
 
   climbs : is_selected x.port.choice ≡ true → EachAt (AtPort x.number (IdleRising c 0)) s top
-  climbs sel =
-      let mux = (all-get (MuxIsSettled st.keys st.system_ports) st.system_ports k x there (steady s).0.quiet.0).mux in
+  climbs sel = let mux = (all-get (MuxIsSettled st.keys st.system_ports) st.system_ports k x there (steady s).0.quiet.0).mux in
       let timed = all-get (λ (z : SystemPort). IsTimed z.port) st.system_ports k x there (steady s).1 in
       let first : EachAt (AtPort x.number (IdleRising c 20)) s mid = at_number (IdleRising c 20) 0 st.system_ports k x
       (ports_rise st (steady s).0.ports) there ((up, defaulted, refl), rising_first x.port mux timed sel) in
@@ -442,8 +420,7 @@ module _ (gives : Algorithms) (s : Side) (k : ℕ) (x : SystemPort) (mid top : W
   ]
     where
       chosen : same_system c.system x.port.party.system ≡ false → is_selected x.port.choice ≡ true
-      chosen other =
-          let wants : WantsAggregator x.port = record {
+      chosen other = let wants : WantsAggregator x.port = record {
             up = up;
             known = inr defaulted;
             apart = λ e. no (sym other ∙ (ap (λ z. same_system z x.port.party.system) e ∙ system-itself x.port.party.system));
@@ -469,8 +446,7 @@ module _ (gives : Algorithms) (old : WorldState) (b : IsBundleBesideCutOffs old)
   idle : (mid top : WorldState) → HostRounds gives 931 old mid → HostRounds gives 20 mid top → (s : Side) (k : ℕ) (z y : SystemPort)
       → slice_get (half s old).state.system_ports k ≡ Some z → z.port.enabled ≡ true → IsCutOff s z.number old
       → slice_get (half s top).state.system_ports k ≡ Some y → Ripe 0 y.port
-  idle mid top h more s k z y there up cut now =
-      let steady = played_steady NoneIsLeft gives 931 old mid b.steady h in
+  idle mid top h more s k z y there up cut now = let steady = played_steady NoneIsLeft gives 931 old mid b.steady h in
       let first = played_before NoneIsLeft gives 931 old mid b.steady h s in
       let since = played_before NoneIsLeft gives 20 mid top steady more s in
       let x = old_port (half s mid).state.system_ports (half s top).state.system_ports k y since.numbers now in

@@ -1,6 +1,6 @@
 -- How the links of a bundle come up and agree.
 use Rattle.lagprogress.proofs.Common.{Bool, IsSome, List, None, Option, Some, [], ap, arith, inl, inr, is_some, length, map, refl, slice_get, subst}
-use Rattle.lagprogress.proofs.Common.{suc, sym, true, zero, ℕ, ◌+◌, ◌-◌, ◌==◌, ◌∙◌, ◌∷◌, ◌≡◌, ◌≢◌, ◌≤◌, ◌⊎◌, cases_Bool, nat_tests, same_Some}
+use Rattle.lagprogress.proofs.Common.{suc, sym, true, ℕ, ◌+◌, ◌-◌, ◌==◌, ◌∙◌, ◌∷◌, ◌≡◌, ◌≢◌, ◌≤◌, ◌⊎◌, cases_Bool, nat_tests, same_Some}
 use Rattle.lagprogress.proofs.Common.{AllByRecursion, AggId, Key, Choice, Standby, is_selected, itself, Lacpdu, IsCabling, One, Side, Two, end_at}
 use Rattle.lagprogress.proofs.Common.{peer, Machines, receive_rows, RunsToRest, count_down, ports_that_chose, has_chosen, SystemPort, MuxIsSettled}
 use Rattle.lagprogress.proofs.Common.{occupied, IsSound, SystemState, views, all-get, found_place, Same, agreement_at, Algorithms, link_ends}
@@ -8,8 +8,7 @@ use Rattle.lagprogress.proofs.Common.{world_setup, IsWorldSound, LinkState, Worl
 use Rattle.lagprogress.proofs.Common.{ports_with, IsTimed, count, count_more_of, counted, OfEach, AtPort, waits_for_room, LeavesPorts, RoundsBeside}
 use Rattle.lagprogress.proofs.Common.{AllHeard, BothAreActive, EachLinkAgrees, EachLinkComesUp, EndsHealthyCable, EndsOfEachKnow, EnoughLinks}
 use Rattle.lagprogress.proofs.Common.{IsBundle, OneIsActive, SystemsDiffer, Clearing, IsBetweenTicks, PlayedRounds, LateRounds, OldArrive}
-use Rattle.lagprogress.proofs.Common.{Distributes, AtEnd, IsHealthyAt, Playing, IsTickedRound, SeveralBeside, TickedRounds, TicksAmong, most_ticks}
-use Rattle.lagprogress.proofs.Common.{IsSteady}
+use Rattle.lagprogress.proofs.Common.{Distributes, AtEnd, IsHealthyAt, Playing, IsTickedRound, TickedRounds, TicksAmong, most_ticks, IsSteady}
 use Rattle.lagprogress.proofs.SeveralTicks.{rounds_on, rounds_beside, rounds_once, no_less, turned, holds_turns}
 use Rattle.lagprogress.proofs.LateHearing.{counts_of, kept_of}
 use Rattle.lagprogress.proofs.ComingUp.{AreSynced, agrees_now, distributes, climbed_end, climbs, stands_on, keeps_agreeing, CableStands, Going}
@@ -40,8 +39,7 @@ chose_occupies agg c h = grind (arith, nat_tests)
 
 pub never_stands : (s : SystemState) (i : ℕ) (x : SystemPort) (agg : AggId) → IsSound s → EnoughLinks s → slice_get s.system_ports i ≡ Some x
     → x.port.choice ≡ Standby agg → ⊥
-never_stands s i x agg h enough there stands =
-    let full = waits_for_room s i x agg h there stands in
+never_stands s i x agg h enough there stands = let full = waits_for_room s i x agg h there stands in
     let key = x.port.party.key in
     let one : SystemPort → Bool = λ y. has_chosen agg y.port.choice in
     let other : SystemPort → Bool = λ y. y.port.party.key.0 == key.0 in
@@ -60,19 +58,14 @@ never_stands s i x agg h enough there stands =
 
 -- a port that knows its partner is SELECTED
 
-pub is_chosen : (at : Side → ℕ) (w : Side → Lacpdu) (c : Side → ℕ) (s : Side) (j : WorldState) → IsSteady j
-    → Finds s j → EnoughLinks (half s j).state → ((w (peer s)).actor.system ≢ (w s).actor.system) → 1 ≤ c s
-    → (e : EndPort at w 1 c s j) → is_selected e.port.port.choice ≡ true
+pub is_chosen : (at : Side → ℕ) (w : Side → Lacpdu) (c : Side → ℕ) (s : Side) (j : WorldState) → IsSteady j → Finds s j → EnoughLinks (half s j).state
+    → ((w (peer s)).actor.system ≢ (w s).actor.system) → 1 ≤ c s → (e : EndPort at w 1 c s j) → is_selected e.port.port.choice ≡ true
 is_chosen at w c s j hyp1 hyp2 hyp3 hyp4 hyp5 e = grind (arith, nat_tests, never_stands)
 
 -- ports whose links are down
 
 down_keeps : (t : ℕ) → RoundKeeps (Down t)
-down_keeps t = record {
-  settles = down_settles t;
-  sends = λ n p a e. a e;
-  takes = λ n v p q h a. down_takes t n v p q h a;
-}
+down_keeps t = record { settles = down_settles t; sends = λ n p a e. a e; takes = λ n v p q h a. down_takes t n v p q h a }
 
 down_first : (s : SystemState) → IsSound s → AllByRecursion (λ (x : SystemPort). IsTimed x.port) s.system_ports → EnoughLinks s
     → OfEach (Down 20) s.system_ports
@@ -116,8 +109,7 @@ sinks_in D keeps ticked most gives s old new h a =
 -- of each healthy cable it holds, since no port has two cables
 pub holds_there : (Holds : LinkState → WorldState → Type 0) (old : WorldState) → IsCabling (world_setup old).cables → (i : ℕ) (l : LinkState)
     → (h : IsHealthyAt i l old) → EndsHealthyCable Holds One (ends_at i l old h One).1.number old → Holds l old
-holds_there Holds old cabling i l h it =
-    let e = ends_at i l old h One in
+holds_there Holds old cabling i l h it = let e = ends_at i l old h One in
     let joins : port_at One it.link ≡ port_at One l = it.joins ∙ found_place (port_at One l) (half One old).state.system_ports e.0 e.1 e.2 e.3 in
     let here : end_at (map link_ends old.links) One (suc it.index) ≡ Some (port_at One l) =
     end_is One old.links it.index it.link it.healthy.there ∙ ap (λ (n : ℕ). Some n) joins in
@@ -255,8 +247,7 @@ module _ (R : ℕ → WorldState → WorldState → Type 0) (ticks : ℕ) (Holds
     (gives : Algorithms) (old : WorldState) (m : MeetsBy R ticks Holds Other first gives old) where
   -- of each healthy cable it holds
   holds_of : (i : ℕ) (l : LinkState) → IsHealthyAt i l old → Holds l old
-  holds_of i l h =
-      let e = ends_at i l old h One in
+  holds_of i l h = let e = ends_at i l old h One in
       holds_there Holds old m.cabling i l h (elim (m.heard One e.0 e.1 e.3 e.4) [
         | inl y ↦ y
         | inr o ↦ absurd (m.never One i l h
@@ -269,8 +260,7 @@ module _ (R : ℕ → WorldState → WorldState → Type 0) (ticks : ℕ) (Holds
   pub named_of : (i : ℕ) (l : LinkState) (h : IsHealthyAt i l old) → Named old i l h
   named_of = names old m.steady
 
-  met : (i : ℕ) (l : LinkState) (h : IsHealthyAt i l old) (mid : WorldState) → R first old mid
-      → KnowsSince ticks (λ s. port_at s l) (said old i l h) old mid
+  met : (i : ℕ) (l : LinkState) (h : IsHealthyAt i l old) (mid : WorldState) → R first old mid → KnowsSince ticks (λ s. port_at s l) (said old i l h) old mid
   met i l h = m.meets i l h (holds_of i l h)
 
   -- beside its ends
@@ -288,10 +278,8 @@ module _ (R : ℕ → WorldState → WorldState → Type 0) (ticks : ℕ) (Holds
     links_of s = still_links s old mid (start s) (m.links s)
 
     -- both ends of each healthy cable are SELECTED
-    chosen : (i : ℕ) (l : LinkState) (y : IsHealthyAt i l old) → (s : Side)
-        → AtIt (λ t. port_at t l) (said old i l y) s (λ p. is_selected p.choice ≡ true) mid
-    chosen i l y s =
-        let at : Side → ℕ = λ t. port_at t l in
+    chosen : (i : ℕ) (l : LinkState) (y : IsHealthyAt i l old) → (s : Side) → AtIt (λ t. port_at t l) (said old i l y) s (λ p. is_selected p.choice ≡ true) mid
+    chosen i l y s = let at : Side → ℕ = λ t. port_at t l in
         let w = said old i l y in
         let g = met i l y mid h in
         let e = end_here at w 1 g.known One Nothing mid g.link s in
@@ -342,8 +330,7 @@ module _ (R : ℕ → WorldState → WorldState → Type 0) (ticks : ℕ) (Holds
 
   pub ups_of : (i : ℕ) (l : LinkState) (y : IsHealthyAt i l old) (n : ℕ) (new : WorldState) → first + (31 + ticks + ticks) ≤ n → R n old new
       → AgreesIn (λ s. port_at s l) (said old i l y) (counts_of (λ s. port_at s l) old) (kept_of (λ s. port_at s l) old) ticks new
-  ups_of i l y n new enough h =
-      let at : Side → ℕ = λ s. port_at s l in
+  ups_of i l y n new enough h = let at : Side → ℕ = λ s. port_at s l in
       let cut = m.kind.split (n - first) first n old new (omega (arith, enough)) h in
       let up = m.kind.split (n - first - 20) 20 (n - first) cut.0 new (omega (arith, enough)) cut.2 in
       comes_to_agree at (said old i l y) (counts_of at old) (kept_of at old) ticks gives (named_of i l y) (awake_of i l y) m.kind.one m.kind.small
@@ -355,8 +342,7 @@ module _ (R : ℕ → WorldState → WorldState → Type 0) (ticks : ℕ) (Holds
   module _ (i : ℕ) (l : LinkState) (y : IsHealthyAt i l old) (n k : ℕ) (mid new : WorldState) (enough : first + (31 + ticks + ticks) ≤ n)
       (h : R n old mid) (more : TickedRounds (LeavesPorts (λ s. port_at s l)) most_ticks gives k mid new) where
     are_synced : AreSynced (λ s. port_at s l) (said old i l y) new
-    are_synced =
-        let at : Side → ℕ = λ s. port_at s l in
+    are_synced = let at : Side → ℕ = λ s. port_at s l in
         let counts = counts_of at old in
         let kept = kept_of at old in
         let w = said old i l y in
@@ -380,8 +366,7 @@ Nowhere s n = ⊥
 module _ (Plays : Playing) (ticks : ℕ) (Holds : LinkState → WorldState → Type 0) (first : ℕ) (gives : Algorithms)
     (k : LinksMeetBy Plays ticks Holds first gives) where
   pub ends_know : EndsOfEachKnow Plays Holds first gives
-  ends_know n i l old new cabling steady healthy holds enough h =
-      let at : Side → ℕ = λ t. port_at t l in
+  ends_know n i l old new cabling steady healthy holds enough h = let at : Side → ℕ = λ t. port_at t l in
       let small = k.kind.small in
       met_knows at (said old i l healthy) (counts_of at old) (kept_of at old) ticks (slack_of ticks) (omega (arith, small)) l (λ t. refl) new
       (k.meet n old new cabling steady i l healthy holds enough h)

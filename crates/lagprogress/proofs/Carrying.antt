@@ -28,7 +28,7 @@ use Rattle.lagprogress.proofs.Answering.{among_port}
 use Rattle.lagprogress.proofs.Freeing.{Stays, stays}
 use Rattle.lagprogress.proofs.Halves.{both_first, each_is_calls}
 use Rattle.lagprogress.proofs.Linked.{many, each_side}
-use Rattle.lagprogress.proofs.HostSteady.{IsBeside, aside, asked_by, caller, host_sound, setting_both}
+use Rattle.lagprogress.proofs.HostSteady.{IsBeside, IsUp, aside, asked_by, caller, host_sound, setting_both}
 
 -- the partner of a port in PORT_DISABLED is not synchronized
 
@@ -68,8 +68,7 @@ lapse_kept call answer = tt
 is_disabled : (r : ReceiveState) → same_receive_state PortDisabled r ≡ true → r ≡ PortDisabled
 is_disabled r h = grind (arith, nat_tests)
 
-must_be_up : (e d sync chosen m : Bool) → (not d && not e) ≡ false → (d ≡ true → sync ≡ false) → m ≡ true
-    → (m && (not chosen || not sync)) ≡ false → e ≡ true
+must_be_up : (e d sync chosen m : Bool) → (not d && not e) ≡ false → (d ≡ true → sync ≡ false) → m ≡ true → (m && (not chosen || not sync)) ≡ false → e ≡ true
 must_be_up e d sync chosen m r l i j = grind (arith, nat_tests)
 
 pub distributes_up : (s : SystemState) (agg : AggId) (p : ℕ) → IsSound s → OfEach LapsesAt s.system_ports
@@ -78,24 +77,18 @@ distributes_up s agg p h lapses e = grind (arith, nat_tests, among_port, all-get
 
 -- a call that does not take a link down leaves it up
 
-abbrev Up : Machines → Type 0
-Up q = q.enabled ≡ true
-
-up_settles : (p : ℕ) → KeptBySettling (AtPort p Up)
-up_settles p = settling_leaves (AtPort p Up)
-
-receive_up : RowsKeep Up receive_rows
+receive_up : RowsKeep IsUp receive_rows
 receive_up = (λ p a. a, (λ p a. a, (λ p a. a, (λ p a. a, (λ p a. a, tt)))))
 
-up_starts : (p q : Machines) → Starts p q → Up p → Up q
-up_starts p q h a = subst Up (sym h.2) (runs_keep Up receive_rows receive_up (start_receive p) h.0 h.1 a)
+up_starts : (p q : Machines) → Starts p q → IsUp p → IsUp q
+up_starts p q h a = subst IsUp (sym h.2) (runs_keep IsUp receive_rows receive_up (start_receive p) h.0 h.1 a)
 
 set_up : (m p : ℕ) (up : Bool) → ((m == p) && not up) ≡ false → m ≡ p → up ≡ true
 set_up m p up h e = grind (arith, nat_tests)
 
-up_kept : (p : ℕ) (call : Call) (answer : Answer) → takes_down p call ≡ false → KeptByCall (AtPort p Up) call answer
-up_kept p Tick answer t = λ n q r h a e. runs_keep Up receive_rows receive_up (count_down q) r h (a e)
-up_kept p (Set_link n up) answer t = λ max_links q r h a e. runs_keep Up receive_rows receive_up
+up_kept : (p : ℕ) (call : Call) (answer : Answer) → takes_down p call ≡ false → KeptByCall (AtPort p IsUp) call answer
+up_kept p Tick answer t = λ n q r h a e. runs_keep IsUp receive_rows receive_up (count_down q) r h (a e)
+up_kept p (Set_link n up) answer t = λ max_links q r h a e. runs_keep IsUp receive_rows receive_up
     (record q { enabled = up; choice = choice_with_link max_links up q.choice }) r h (set_up n p up t e)
 up_kept p (Receive n octets) answer t = grind (arith, nat_tests, fires_keep)
 up_kept p (Configure n change) answer t = λ q r h a e. up_starts (record q { party = changed_party change q.party }) r h.1 (a e)
@@ -104,10 +97,9 @@ up_kept p (Transmit n) answer t = λ q told a e. a e
 up_kept p call answer t = tt
 
 up_from : (p : ℕ) (old new : SystemState) → IsSound old → IsSound new → new.ports ≡ old.ports
-    → (OfEach (AtPort p Up) old.system_ports → OfEach (AtPort p Up) new.system_ports) → HasPortUp p old → HasPortUp p new
-up_from p old new was now ports stay (k, x, there, number, up) =
-    let each = stay
-    (subst (λ n. OfEach (AtPort n Up) old.system_ports) number (at_number Up 0 old.system_ports k x (ports_rise old was.ports) there up)) in
+    → (OfEach (AtPort p IsUp) old.system_ports → OfEach (AtPort p IsUp) new.system_ports) → HasPortUp p old → HasPortUp p new
+up_from p old new was now ports stay (k, x, there, number, up) = let each = stay
+    (subst (λ n. OfEach (AtPort n IsUp) old.system_ports) number (at_number IsUp 0 old.system_ports k x (ports_rise old was.ports) there up)) in
     let numbers : port_numbers new.system_ports ≡ port_numbers old.system_ports =
     now.ports.same ∙ (ap configured_numbers ports ∙ sym was.ports.same) in
     let within = slice_get_within old.system_ports k x there in
@@ -116,7 +108,7 @@ up_from p old new was now ports stay (k, x, there, number, up) =
     let both = ap (λ (ns : List ℕ). length ns) numbers in
     elim (slice_get_cases new.system_ports k).1 [
       | inl c ↦ (let n = same_place old.system_ports new.system_ports k x c.0 numbers there c.2 ∙ number in
-          (k, c.0, c.2, n, all-get (λ (y : SystemPort). AtPort p Up y.number y.port) new.system_ports k c.0 c.2 each n))
+          (k, c.0, c.2, n, all-get (λ (y : SystemPort). AtPort p IsUp y.number y.port) new.system_ports k c.0 c.2 each n))
       | inr c ↦ (let past = c.0 in absurd (omega (arith, within, one, two, both, past)))
     ]
 
@@ -168,8 +160,7 @@ carries_on new sound lapses held g k p e = elim (carrier_cases (assignment_of ne
   | inr f ↦ distributes_up new (aggregator_numbered g) p sound lapses (sound.carried g k p f)
 ]
 
-call_keeps : (gives : ℕ → ℕ → ℕ → Type 0) (old new : SystemState) (call : Call) (answer : Answer) → Step gives old call answer new → Keeps old
-    → Keeps new
+call_keeps : (gives : ℕ → ℕ → ℕ → Type 0) (old new : SystemState) (call : Call) (answer : Answer) → Step gives old call answer new → Keeps old → Keeps new
 call_keeps gives old new call answer h k = (
   sound,
   lapses,
@@ -177,7 +168,7 @@ call_keeps gives old new call answer h k = (
     | inl e ↦ subst Carries (sym e) k.2
     | inr hb ↦ carries_on new sound lapses
         (λ g c p f. let was = hb g c p f in (up_from p old new k.0 sound (ap (λ (s : SystemState). s.ports) (Step-frame gives old call answer new h))
-        (Step-each (AtPort p Up) (up_settles p) gives old call answer new (up_kept p call answer was.1) h)) (k.2 g c p was.0))
+        (Step-each (AtPort p IsUp) (settling_leaves (AtPort p IsUp)) gives old call answer new (up_kept p call answer was.1) h)) (k.2 g c p was.0))
   ],
 )
   where
@@ -198,7 +189,7 @@ by_turns old new sound ports each held k = (
   sound,
   lapses,
   carries_on new sound lapses (λ g c p f. up_from p old new k.0 sound ports
-      (each (AtPort p Up) (up_settles p) (λ n q choice a. a) (λ n q active short a. a)) (k.2 g c p (held g c p f))),
+      (each (AtPort p IsUp) (settling_leaves (AtPort p IsUp)) (λ n q choice a. a) (λ n q active short a. a)) (k.2 g c p (held g c p f))),
 )
   where
     lapses : OfEach LapsesAt new.system_ports
@@ -283,8 +274,7 @@ host_call_keeps gives old new call answer h k = absurd h
 abbrev BothKeep : WorldState → Type 0
 BothKeep j = (s : Side) → Keeps (half s j).state
 
-one_told : (gives : ℕ → ℕ → ℕ → Type 0) (s : Side) (call : HostCall) (old new : WorldState) → IsBeside gives s call old new → BothKeep old
-    → BothKeep new
+one_told : (gives : ℕ → ℕ → ℕ → Type 0) (s : Side) (call : HostCall) (old new : WorldState) → IsBeside gives s call old new → BothKeep old → BothKeep new
 one_told gives s call old new b k = each_side (λ t. Keeps (half t new).state) s
     (host_call_keeps gives (half s old).state (half s new).state call b.answer b.promise (k s)) (subst Keeps (sym b.peers) (k (peer s)))
 
@@ -300,8 +290,7 @@ run_keeps gives [] old new h k = subst BothKeep (sym h) k
 run_keeps gives (e ∷ es) old new h k = run_keeps gives es h.0 new h.2 (step_keeps gives e old h.0 h.1 k)
 
 start_keeps : (configs : List Config) (start : WorldState) → IsStart start → AreFirst configs start → BothKeep start
-start_keeps configs start i h s =
-    let first = both_first configs start h s in
+start_keeps configs start i h s = let first = both_first configs start h s in
     let st = (half s start).state in (
       first_sound st (i.kept s).agrees.ports first,
       first_each LapsesAt lapse_settles lapse_first st first,

@@ -48,8 +48,7 @@ same_occupied agg [] [] h = refl
 same_occupied agg (x ∷ xs) (y ∷ ys) h = grind (arith, nat_tests, same_occupied agg xs ys h.1)
 same_occupied agg xs ys h = absurd h
 
-same_members : (agg : AggId) (xs ys : List SystemPort) → SameSeen xs ys
-    → length (ports_that_chose agg (views ys)) ≡ length (ports_that_chose agg (views xs))
+same_members : (agg : AggId) (xs ys : List SystemPort) → SameSeen xs ys → length (ports_that_chose agg (views ys)) ≡ length (ports_that_chose agg (views xs))
 same_members agg [] [] h = refl
 same_members agg (x ∷ xs) (y ∷ ys) h = grind (arith, nat_tests, same_members agg xs ys h.1)
 same_members agg xs ys h = absurd h
@@ -83,25 +82,21 @@ none_chooses s ys k y h same e =
     rises = subst (Rises 0) (sym (same_numbers s.system_ports ys same)) (ports_rise s h.ports)
 
     none : may_choose y ≡ true → chosen_if_eligible s.keys (views ys) (selection_view y) ≡ None
-    none able =
-        let x = same_at s.system_ports ys k y same e in
+    none able = let x = same_at s.system_ports ys k y same e in
         let settled = all-get (MuxIsSettled s.keys s.system_ports) s.system_ports k x.0 x.1 h.quiet.0 in
         same_chosen s.keys (selection_view x.0) (selection_view y) s.system_ports ys x.2.party x.2.partner same
         ∙ when_is (may_choose x.0) (is_eligible (selection_view x.0)) (chosen_if_eligible s.keys (views s.system_ports) (selection_view x.0))
         (x.2.may able) (and_parts (is_eligible (selection_view x.0)) (not x.0.held) (x.2.may able)).0
         (sym (takes_is s.keys s.system_ports k x.0 (ports_rise s h.ports) x.1) ∙ settled.apart)
 
-    by_test : (b c : Bool) → may_choose y ≡ b
-        → (if b then (if c then chosen_if_eligible s.keys (views ys) (selection_view y) else None) else None) ≡ None
+    by_test : (b c : Bool) → may_choose y ≡ b → (if b then (if c then chosen_if_eligible s.keys (views ys) (selection_view y) else None) else None) ≡ None
     by_test true true able = none able
     by_test true false able = refl
     by_test false c able = refl
 
 -- and none is promoted
-none_promoted : (s : SystemState) (agg : AggId) (l m : List SystemPort) → IsSound s → SameSeen s.system_ports l
-    → PromotesNext (aggregators_value s) agg l m → ⊥
-none_promoted s agg l m h same p =
-    let n = is_next (aggregators_value s) (views l) agg p.0 p.2 in
+none_promoted : (s : SystemState) (agg : AggId) (l m : List SystemPort) → IsSound s → SameSeen s.system_ports l → PromotesNext (aggregators_value s) agg l m → ⊥
+none_promoted s agg l m h same p = let n = is_next (aggregators_value s) (views l) agg p.0 p.2 in
     let x = same_at s.system_ports l p.0 p.1 same p.3 in
     let stand = next_stands (aggregators_value s) agg l m p in
     elim (none_is_next (aggregators_value s) (views s.system_ports) agg (h.promoted agg)) [
@@ -115,8 +110,7 @@ none_promoted s agg l m h same p =
 
 pub nothing_chosen : (s : SystemState) (one two : List SystemPort) → IsSound s → SameSeen s.system_ports one
     → ChoosesIn (aggregators_value s) one two → SameSeen s.system_ports two
-nothing_chosen s one two h same c =
-    let aggs = aggregators_value s in
+nothing_chosen s one two h same c = let aggs = aggregators_value s in
     let P = SameSeen s.system_ports in
     subst P (sym c.2) (choices_keep aggs P
     (λ l i t e p. subst P (sym (ap (λ o. slice_set l i (with_choice t o)) (none_chooses s l i t h p e) ∙ set_same l i t e)) p)
@@ -135,8 +129,7 @@ as_read x = (refl, refl, refl, refl, refl)
 abbrev pub AllAsRead : List SystemPort → List SystemPort → Type 0
 AllAsRead [] [] = Unit {0}
 AllAsRead (x ∷ xs) (y ∷ ys) = ((y.number ≡ x.number) × (y.held ≡ x.held) × AsRead x.port y.port) × AllAsRead xs ys
-AllAsRead [] (y ∷ ys) = ⊥
-AllAsRead (x ∷ xs) [] = ⊥
+AllAsRead xs ys = ⊥
 
 pub all_as_read : (xs : List SystemPort) → AllAsRead xs xs
 all_as_read [] = tt
@@ -151,12 +144,11 @@ one_as_read (y ∷ ys) (suc i) x p e h = ((refl, refl, as_read y.port), one_as_r
 pub zip_as_read : (R : Machines → Machines → Type 0) (xs ys : List SystemPort)
     → AllByRecursion (λ (x : SystemPort). (q : Machines) → R x.port q → AsRead x.port q) xs → PortsChangeBy R xs ys → AllAsRead xs ys
 zip_as_read R [] [] k h = tt
-zip_as_read R [] (y ∷ ys) k h = absurd h
-zip_as_read R (x ∷ xs) [] k h = absurd h
 zip_as_read R (x ∷ xs) (y ∷ ys) k h = (
   (ap (λ (z : SystemPort). z.number) h.0.0, ap (λ (z : SystemPort). z.held) h.0.0, k.0 y.port h.0.1),
   zip_as_read R xs ys k.1 h.1,
 )
+zip_as_read R xs ys k h = absurd h
 
 -- a port at rest that wants an aggregator and is UNSELECTED is eligible
 abbrev Able : SystemPort → Type 0
@@ -168,8 +160,7 @@ known_state r h = grind (arith, nat_tests)
 five_parts : (a b c d e : Bool) → ((((a && b) && c) && d) && not e) ≡ true → (a ≡ true) × (b ≡ true) × (d ≡ true) × (e ≡ false)
 five_parts a b c d e h = grind (arith, nat_tests)
 
-eligible_before : (x z : SystemPort) → Able x → AsRead x.port z.port → is_eligible (selection_view z) ≡ true
-    → is_eligible (selection_view x) ≡ true
+eligible_before : (x z : SystemPort) → Able x → AsRead x.port z.port → is_eligible (selection_view z) ≡ true → is_eligible (selection_view x) ≡ true
 eligible_before x z able a h = grind (arith, nat_tests, five_parts, known_state, no, system-itself)
 
 both_so : (a b : Bool) → a ≡ true → b ≡ true → (a && b) ≡ true
@@ -179,15 +170,13 @@ may_before : (x z : SystemPort) → Able x → AsRead x.port z.port → z.held �
 may_before x z able a held h = grind (arith, nat_tests, and_parts, is_eligible, selection_view, not, both_so, eligible_before)
 
 -- step 1 of a settling
-one_seen : (xs ys zs : List SystemPort) → AllByRecursion Able xs → AllAsRead xs ys → PortsChangeBy (RunsToRest (mux_rows false)) ys zs
-    → SameSeen xs zs
+one_seen : (xs ys zs : List SystemPort) → AllByRecursion Able xs → AllAsRead xs ys → PortsChangeBy (RunsToRest (mux_rows false)) ys zs → SameSeen xs zs
 one_seen [] [] [] k a h = tt
 one_seen [] [] (z ∷ zs) k a h = absurd h
 one_seen [] (y ∷ ys) zs k a h = absurd a
 one_seen (x ∷ xs) [] zs k a h = absurd a
 one_seen (x ∷ xs) (y ∷ ys) [] k a h = absurd h
-one_seen (x ∷ xs) (y ∷ ys) (z ∷ zs) k a h =
-    let b = mux_leaves (AsRead x.port) false y.port z.port h.0.1 a.0.2 in (
+one_seen (x ∷ xs) (y ∷ ys) (z ∷ zs) k a h = let b = mux_leaves (AsRead x.port) false y.port z.port h.0.1 a.0.2 in (
       record {
         number = ap (λ (q : SystemPort). q.number) h.0.0 ∙ a.0.0;
         party = b.0;
@@ -204,16 +193,13 @@ Chose n c = AtPort n (λ p. p.choice ≡ c)
 
 seen_choice : (n : ℕ) (c : Choice) (xs ys : List SystemPort) → SameSeen xs ys → OfEach (Chose n c) xs → OfEach (Chose n c) ys
 seen_choice n c [] [] h a = tt
-seen_choice n c [] (y ∷ ys) h a = absurd h
-seen_choice n c (x ∷ xs) [] h a = absurd h
 seen_choice n c (x ∷ xs) (y ∷ ys) h a = (λ e. h.0.choice ∙ a.0 (sym h.0.number ∙ e), seen_choice n c xs ys h.1 a.1)
+seen_choice n c xs ys h a = absurd h
 
 -- a settling that begins so
-pub settles_choice : (s mid new : SystemState) → IsSound s → AllAsRead s.system_ports mid.system_ports
-    → aggregators_value mid ≡ aggregators_value s → Settling mid new → (n : ℕ) (c : Choice) → OfEach (Chose n c) s.system_ports
-    → OfEach (Chose n c) new.system_ports
-settles_choice s mid new h read aggs k n c a =
-    let one = k.0 in
+pub settles_choice : (s mid new : SystemState) → IsSound s → AllAsRead s.system_ports mid.system_ports → aggregators_value mid ≡ aggregators_value s
+    → Settling mid new → (n : ℕ) (c : Choice) → OfEach (Chose n c) s.system_ports → OfEach (Chose n c) new.system_ports
+settles_choice s mid new h read aggs k n c a = let one = k.0 in
     let two = k.2.0 in
     let three = k.2.2.0 in
     let four = k.2.2.2.0 in
@@ -249,10 +235,7 @@ takes_as_read u x p q up e known h =
 -- an LACPDU at a port whose link is down
 pub down_as_read : (x : Lacpdu) (p q : Machines) → p.enabled ≡ false → ProcessesLacpdu x p q → AsRead p q
 down_as_read x p q down h = elim h [
-  | inl f ↦ elim f [
-    | inl g ↦ absurd (awake _ p.enabled down g.0)
-    | inr g ↦ absurd g
-  ]
+  | inl f ↦ elim f [ inl g ↦ absurd (awake _ p.enabled down g.0) | inr g ↦ absurd g ]
   | inr r ↦ subst (AsRead p) (sym r.1) (as_read p)
 ]
   where

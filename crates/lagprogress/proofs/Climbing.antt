@@ -21,8 +21,7 @@ known_rests u c p hyp1 hyp2 = grind (arith, nat_tests, false)
 pub known_still : (u : Lacpdu) (c : ℕ) (p q : Machines) → 1 ≤ c → Known u c 0 p → RunsToRest receive_rows p q → q ≡ p
 known_still u c p q l k h = rests_still receive_rows h.0 p q (known_rests u c p l k) h.1
 
-pub ticks_still : (d : ℕ) (v u : Lacpdu) (c : ℕ) (p q : Machines) → 1 ≤ c - 1 → IsEnd d v u c p → RunsToRest receive_rows (count_down p) q
-    → q ≡ count_down p
+pub ticks_still : (d : ℕ) (v u : Lacpdu) (c : ℕ) (p q : Machines) → 1 ≤ c - 1 → IsEnd d v u c p → RunsToRest receive_rows (count_down p) q → q ≡ count_down p
 ticks_still d v u c p q l a h = known_still u (c - 1) (count_down p) q l (counts u c 0 p a.1) h
 
 -- a SELECTED port climbs
@@ -62,10 +61,7 @@ rising_along v u c d t there known = record {
   select = λ choice p none y. absurd (no (sym none ∙ y.0));
   takes = λ x p q e awake h a y. (let k = keeps_selected u x p q (e.0 there) (a.1.1 known).0 h in (
     ap is_selected k.0 ∙ y.0,
-    elim y.1 [
-      | inl s ↦ inl (ap is_synchronized k.1 ∙ s)
-      | inr w ↦ inr (k.1 ∙ w.0, subst (λ n. n ≤ t) (sym k.2) w.1)
-    ],
+    elim y.1 [ inl s ↦ inl (ap is_synchronized k.1 ∙ s) | inr w ↦ inr (k.1 ∙ w.0, subst (λ n. n ≤ t) (sym k.2) w.1) ],
   ));
 }
 
@@ -143,13 +139,7 @@ down_takes t k x p q h a = elim h [
 pub down_ticks : (t k : ℕ) (p q : Machines) → RunsToRest receive_rows (count_down p) q → Down t k p → Down (t - 1) k q
 down_ticks t k p q h a = runs_keep (Down (t - 1) k) receive_rows (each_row (λ p a. a) (λ p a. a) (λ p a. a)
     (λ p a e. unselects (t - 1) (same_party (party_of default_partner) (party_of p.partner)) p.choice p.mux p.wait_while (a e)) (λ p a. a))
-    (count_down p) q h (λ e. (
-      (a e).0,
-      λ s. elim ((a e).1 s) [
-        | inl y ↦ inl y
-        | inr w ↦ (let l = w.1 in inr (w.0, omega (arith, l)))
-      ],
-    ))
+    (count_down p) q h (λ e. ((a e).0, λ s. elim ((a e).1 s) [ inl y ↦ inl y | inr w ↦ (let l = w.1 in inr (w.0, omega (arith, l))) ]))
 
 -- the partner stays synchronized
 
@@ -170,8 +160,7 @@ ticks_partner d v u c p q l h a y = subst PartnerInSync (sym (ticks_still d v u 
 
 -- Selected stays what it is
 
-pub choice_along : (v u : Lacpdu) (c d : ℕ) (choice : Choice) → is_selected choice ≡ true → 1 ≤ d → 1 ≤ c
-    → Along (λ p. p.choice ≡ choice) v u c d
+pub choice_along : (v u : Lacpdu) (c d : ℕ) (choice : Choice) → is_selected choice ≡ true → 1 ≤ d → 1 ≤ c → Along (λ p. p.choice ≡ choice) v u c d
 choice_along v u c d choice chosen there known = record {
   mux = mux_leaves (λ p. p.choice ≡ choice);
   periodic = λ p q h a y. periodic_leaves (λ p. p.choice ≡ choice) p q h y;

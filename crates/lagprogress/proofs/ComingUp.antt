@@ -1,13 +1,12 @@
 -- How both ends of a cable come to distribute, round by round.
 use Rattle.lagprogress.proofs.Common.{Bool, List, Some, [], ap, arith, false, inl, inr, is_some, map, not, option_map, refl, slice_get, subst, suc}
-use Rattle.lagprogress.proofs.Common.{sym, true, zero, ℕ, ◌+◌, ◌-◌, ◌∙◌, ◌∷◌, ◌≡◌, ◌≤◌, ◌⊎◌, AllByRecursion, unwrap_or, Party, is_selected, group_end}
+use Rattle.lagprogress.proofs.Common.{sym, true, ℕ, ◌+◌, ◌-◌, ◌∙◌, ◌∷◌, ◌≡◌, ◌≤◌, ◌⊎◌, AllByRecursion, unwrap_or, Party, is_selected, group_end}
 use Rattle.lagprogress.proofs.Common.{group_of, individual, pair_of, same_group, group-itself, Lacpdu, party_of, One, Side, Two, peer}
 use Rattle.lagprogress.proofs.Common.{CollectingDistributing, Machines, is_synchronized, mux_rows, same_mux_state, SystemPort, MuxIsSettled, group_at}
 use Rattle.lagprogress.proofs.Common.{machines_of, all-get, Same, agreement_at, agreement_of, end_facts, is_stamp, same_groups, Algorithms, link_ends}
-use Rattle.lagprogress.proofs.Common.{ItemValue, LinkState, WorldState, half, history_at, HostEvent, IsTimed, no, times_keep, AtPort, periodic_leaves}
-use Rattle.lagprogress.proofs.Common.{Sounds, all_leave, LeavesPorts, IsBetweenTicks, PlayedAmong, OldArrive, Distributes, OfPort, IsPlayedTicks}
-use Rattle.lagprogress.proofs.Common.{IsTickedRound, TickedRounds, most_ticks}
-use Rattle.lagprogress.proofs.SeveralTicks.{rounds_on, keeps_ticks, no_less, once, ticked_by, ticks_hold, holds_turns}
+use Rattle.lagprogress.proofs.Common.{ItemValue, LinkState, WorldState, half, history_at, IsTimed, no, times_keep, AtPort, periodic_leaves, Sounds}
+use Rattle.lagprogress.proofs.Common.{all_leave, LeavesPorts, IsBetweenTicks, OldArrive, Distributes, OfPort, IsTickedRound, TickedRounds, most_ticks}
+use Rattle.lagprogress.proofs.SeveralTicks.{rounds_on, keeps_ticks, no_less, ticked_by, ticks_hold, holds_turns}
 use Rattle.lagprogress.proofs.EachRound.{joins_kept, joins_tick, Passes}
 use Rattle.lagprogress.proofs.Stamps.{Took-it, Present, Stamped}
 use Rattle.lagprogress.proofs.Climbing.{Rising, PartnerInSync, keeps_selected, ticks_still, distributes_now, partner_along, rising_along}
@@ -29,8 +28,7 @@ use Rattle.std.proofs.Math.Bool.{and_comm}
 -- the ends agree
 
 turned : (p q : Party) → same_group (group_of p q) (group_of q p) ≡ true
-turned p q =
-    let alone : individual p q ≡ individual q p = ap not (and_comm p.aggregatable q.aggregatable) in
+turned p q = let alone : individual p q ≡ individual q p = ap not (and_comm p.aggregatable q.aggregatable) in
     let same : group_of p q ≡ group_of q p = groups_from_pairs (pair_of p q) (pair_of q p)
     (inr (ap (λ b. group_end b p) alone, ap (λ b. group_end b q) alone)) in
     subst (λ g. same_group (group_of p q) g ≡ true) same (group-itself (group_of p q))
@@ -46,15 +44,13 @@ pub record AreSynced (at : Side → ℕ) (w : Side → Lacpdu) (j : WorldState) 
 
 module _ (at : Side → ℕ) (w : Side → Lacpdu) (j : WorldState) (g : AreSynced at w j) where
   now_distributes : (s : Side) (e : EndPort at w 2 g.known s j) → e.port.port.mux ≡ CollectingDistributing
-  now_distributes s e =
-      let st = (half s j).state in
+  now_distributes s e = let st = (half s j).state in
       let mux = (all-get (MuxIsSettled st.keys st.system_ports) st.system_ports e.index e.port e.there (g.link.steady s).0.quiet.0).mux in
       distributes_now e.port.port mux (e.is.2 (omega arith)) (end_with at w 2 g.known s j e PartnerInSync (g.heard s))
 
   -- so both distribute
   pub distributes : (s : Side) → OfPort Distributes (machines_of (at s) (half s j).state)
-  distributes s =
-      let e = end_here at w 2 g.known One Nothing j g.link s in
+  distributes s = let e = end_here at w 2 g.known One Nothing j g.link s in
       subst (OfPort Distributes) (sym e.found) (now_distributes s e, (e.is.2 (omega arith)).0)
 
   -- what is compared of an end
@@ -69,8 +65,7 @@ module _ (at : Side → ℕ) (w : Side → Lacpdu) (j : WorldState) (g : AreSync
     group : (end_facts (half s j) (at s)).group ≡ Some (group_of own others)
 
   compared : ((s : Side) → is_some (history_at (half s j).histories (at s)) ≡ true) → (s : Side) → Compared s
-  compared kept s =
-      let e = end_here at w 2 g.known One Nothing j g.link s in
+  compared kept s = let e = end_here at w 2 g.known One Nothing j g.link s in
       let known = (e.is.1.1 (g.knows s)).0 in
       record {
         distributes = ap (λ o. unwrap_or (option_map (λ (x : Machines). same_mux_state CollectingDistributing x.mux) o) false) e.found
@@ -86,8 +81,7 @@ module _ (at : Side → ℕ) (w : Side → Lacpdu) (j : WorldState) (g : AreSync
 
   pub agrees_now : (i : ℕ) → ((x : ℕ) (fl : Side → List ItemValue) → OnCable x at fl j.links → x ≡ i)
       → ((s : Side) → is_some (history_at (half s j).histories (at s)) ≡ true) → agreement_at j (suc i) ≡ Some Same
-  agrees_now i only kept =
-      let a = compared kept One in
+  agrees_now i only kept = let a = compared kept One in
       let b = compared kept Two in
       let links = g.link in
       let groups : same_groups (end_facts j.one (at One)).group (end_facts j.two (at Two)).group ≡ true =
@@ -126,8 +120,7 @@ owed at w c j l s heard owes = both_at (at s) (λ p. IsTimed p × IsEnd 2 (w s) 
 -- a SELECTED end begins to climb
 pub rises_first : (at : Side → ℕ) (w : Side → Lacpdu) (c : Side → ℕ) (j : WorldState) → Link 1 at w c One Nothing j → (s : Side)
     → AtIt at w s (λ p. is_selected p.choice ≡ true) j → AtIt at w s (Rising 20) j
-rises_first at w c j l s chosen =
-    let e = end_here at w 1 c One Nothing j l s in
+rises_first at w c j l s chosen = let e = end_here at w 1 c One Nothing j l s in
     let st = (half s j).state in
     at_end at w 1 c s j e l.steady (Rising 20) (rising_first e.port.port
     (all-get (MuxIsSettled st.keys st.system_ports) st.system_ports e.index e.port e.there (l.steady s).0.quiet.0).mux
@@ -138,8 +131,7 @@ rises_first at w c j l s chosen =
 pub climbed_end : (at : Side → ℕ) (w : Side → Lacpdu) (c : Side → ℕ) (s : Side) (j : WorldState)
     → AllByRecursion (λ (y : SystemPort). Ripe 0 y.port) (half s j).state.system_ports → Link 1 at w c One Nothing j → AtIt at w s (Rising 0) j
     → AtIt at w s Synced j
-climbed_end at w c s j ripe l rising =
-    let e = end_here at w 1 c One Nothing j l s in
+climbed_end at w c s j ripe l rising = let e = end_here at w 1 c One Nothing j l s in
     at_end at w 1 c s j e l.steady Synced (climbed (half s j).state e.index e.port (l.steady s).0 e.there ripe
     (end_with at w 1 c s j e (Rising 0) rising))
 
@@ -209,8 +201,7 @@ module _ (at : Side → ℕ) (w : Side → Lacpdu) (counts : Side → ℕ) (kept
 
     -- an end that knows that the other is in sync goes on so
     hears_on : (old new : WorldState) → Going 2 0 0 old → Round old new → (t : Side) → AtIt at w t PartnerInSync old → AtIt at w t PartnerInSync new
-    hears_on old new g (k, some, less, h) t y =
-        let l = knows_in at w counts kept ticks (slack_of ticks) 2 old g more t in
+    hears_on old new g (k, some, less, h) t y = let l = knows_in at w counts kept ticks (slack_of ticks) 2 old g more t in
         beside at w 2 (ticked_by k g.known) t PartnerInSync new (ticks_hold gives k t 2 at w g.known (λ a. PartnerInSync) old new
         (fits_met at w counts kept named awake ticks (slack_of ticks) 2 old g more (omega arith))
         (fits_in_round at w counts kept named awake ticks (slack_of ticks) 2 old g more (omega arith) k less)
@@ -222,8 +213,7 @@ module _ (at : Side → ℕ) (w : Side → Lacpdu) (counts : Side → ℕ) (kept
     module _ (s : Side) where
       rises_in : {most n : ℕ} (t : ℕ) (old new : WorldState) → Going 1 most n old → (r : Round old new) → AtIt at w s (Rising t) old
           → AtIt at w s (Rising (t - r.0)) new
-      rises_in t old new g (k, some, less, h) rising =
-          let l = knows_in at w counts kept ticks (slack_of ticks) 1 old g more s in
+      rises_in t old new g (k, some, less, h) rising = let l = knows_in at w counts kept ticks (slack_of ticks) 1 old g more s in
           beside at w 1 (ticked_by k g.known) s (Rising (t - k)) new (ticks_hold gives k s 1 at w g.known (λ a. Rising (t - a)) old new
           (fits_met at w counts kept named awake ticks (slack_of ticks) 1 old g more (omega arith))
           (fits_in_round at w counts kept named awake ticks (slack_of ticks) 1 old g more (omega arith) k less)
@@ -258,8 +248,7 @@ module _ (at : Side → ℕ) (w : Side → Lacpdu) (counts : Side → ℕ) (kept
         record { fresh = met_on 2 old new (omega arith) (k, some, less, h) c.fresh; tells = λ s. tells s (c.tells s) }
       where
         tells : (s : Side) → Tellings s n old → Tellings s (n + 1) new
-        tells s (inl (m, far, soon, y)) =
-            let g = c.fresh in
+        tells s (inl (m, far, soon, y)) = let g = c.fresh in
             elim (ticks_near gives 2 at w counts kept s (omega arith) (inr (named (peer s))) k (omega (arith, less, small)) g.known
             (fits_met at w counts kept named awake ticks (slack_of ticks) 2 old g more (omega arith))
             (fits_in_round at w counts kept named awake ticks (slack_of ticks) 2 old g more (omega arith) k less) ticks (mode at w s) m old new less
@@ -276,8 +265,7 @@ module _ (at : Side → ℕ) (w : Side → Lacpdu) (counts : Side → ℕ) (kept
 
     synced_round : (old new : WorldState) (g : Going 1 0 0 old) → ((s : Side) → AtIt at w s Synced old) → (r : Round old new)
         → (t : Side) → Link 1 at w (ticked_by r.0 g.known) (peer t) Synced new × (x : ℕ) × Past t x at (IsGood 2 w t) 0 new
-    synced_round old new g synced (k, some, less, h) t =
-        let x = peer t in
+    synced_round old new g synced (k, some, less, h) t = let x = peer t in
         let l = knows_in at w counts kept ticks (slack_of ticks) 1 old g more x in
         flush gives k 1 2 at w g.known t Synced (fits_met at w counts kept named awake ticks (slack_of ticks) 1 old g more (omega arith))
         (fits_in_round at w counts kept named awake ticks (slack_of ticks) 1 old g more (omega arith) k less)
@@ -286,8 +274,7 @@ module _ (at : Side → ℕ) (w : Side → Lacpdu) (counts : Side → ℕ) (kept
         (λ p y. y) (λ p y f. y) (λ f. omega (arith, l, less)) old new (join 1 at w g.known One x Synced old g.link (synced x)) h
 
     raises : (old new : WorldState) → Going 1 0 0 old → ((s : Side) → AtIt at w s Synced old) → Round old new → Going 2 0 0 new
-    raises old new g synced h =
-        let r = synced_round old new g synced h in
+    raises old new g synced h = let r = synced_round old new g synced h in
         let f = met_on 1 old new (omega arith) h g in
         let now : (s : Side) → AtIt at w s Synced new = λ s. subst (λ u. AtIt at w u Synced new) (peer_twice s)
         (beside at w 1 (ticked_by h.0 g.known) (peer (peer s)) Synced new (r (peer s)).0) in
@@ -380,8 +367,7 @@ present_of gives at old new t m there = grind arith
 
 pub agreed_synced : (gives : Algorithms) (at : Side → ℕ) (w : Side → Lacpdu) (old j : WorldState) (ticks : ℕ) → ticks ≤ most_ticks
     → AgreesIn at w (counts_of at old) (kept_of at old) ticks j → AreSynced at w j
-agreed_synced gives at w old j ticks small c =
-    let g = c.fresh in
+agreed_synced gives at w old j ticks small c = let g = c.fresh in
     let knows : (s : Side) → 1 ≤ g.known s = λ s. (let m = knows_in at w (counts_of at old) (kept_of at old) ticks (slack_of ticks) 2 j g
     (omega (arith, small)) s in omega (arith, m)) in
     record { known = g.known; link = g.link; knows = knows; heard = c.heard; present = λ s. present_of gives at old j s (g.rest, g.took s (knows s)) }

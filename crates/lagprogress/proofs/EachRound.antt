@@ -72,8 +72,7 @@ pub each_between : (P : ℕ → Machines → Type 0) → RoundKeeps P → (s : S
 each_between P k s gives l r i j b h a = grind (arith, nat_tests, asks_each, delivers_each, quiet_ports)
 
 -- a tick of system t makes Q of P at that system, and leaves the other's ports
-pub tick_makes : (P Q : ℕ → Machines → Type 0) → KeptBySettling Q
-    → ((n : ℕ) (p q : Machines) → RunsToRest receive_rows (count_down p) q → P n p → Q n q)
+pub tick_makes : (P Q : ℕ → Machines → Type 0) → KeptBySettling Q → ((n : ℕ) (p q : Machines) → RunsToRest receive_rows (count_down p) q → P n p → Q n q)
     → (t : Side) (gives : Algorithms) → MadeByTick gives t (EachAt P t) (EachAt Q t)
 tick_makes P Q k ticked t gives n r i j named step a =
     Tick-each P Q k ticked (gives t) (half t i).state answer.Tick (half t j).state (ticks gives n t r i j named step).step a
@@ -85,8 +84,7 @@ tick_leaves P t gives n r i j named step a = grind (arith, nat_tests)
 pub tick_beside : (P : ℕ → Machines → Type 0) (s : Side) (gives : Algorithms) → MadeByTick gives (peer s) (EachAt P s) (EachAt P s)
 tick_beside P s gives = subst (λ u. MadeByTick gives (peer s) (EachAt P u) (EachAt P u)) (peer_twice s) (tick_leaves P (peer s) gives)
 
-pub tick_keeps : (P : ℕ → Machines → Type 0) → KeptBySettling P
-    → ((n : ℕ) (p q : Machines) → RunsToRest receive_rows (count_down p) q → P n p → P n q)
+pub tick_keeps : (P : ℕ → Machines → Type 0) → KeptBySettling P → ((n : ℕ) (p q : Machines) → RunsToRest receive_rows (count_down p) q → P n p → P n q)
     → (s t : Side) (gives : Algorithms) → MadeByTick gives t (EachAt P s) (EachAt P s)
 tick_keeps P k ticked s t gives n r i j named step a = grind (arith, nat_tests, ticked, each_side, EachAt, tick_makes, tick_leaves)
 
@@ -127,8 +125,7 @@ abbrev pub Passes : Algorithms → WorldState → WorldState → Type 1
 Passes gives old new = (M : WorldState → Type 0) → KeptBetween gives M → ((s : Side) → MadeByTick gives s M M) → M old → M new
 
 module _ (gives : Algorithms) (old new : WorldState) (h : Passes gives old new) where
-  pub calm_on : (M : WorldState → Type 0) → ((e : HostEvent) (r : Reply) (i j : WorldState) → IsCalm e → StepReplies gives i e r j → M i → M j)
-      → M old → M new
+  pub calm_on : (M : WorldState → Type 0) → ((e : HostEvent) (r : Reply) (i j : WorldState) → IsCalm e → StepReplies gives i e r j → M i → M j) → M old → M new
   calm_on M k = h M (λ e r i j b step. k e r i j (calm_between e b) step) (λ s n r i j named step. k (Plays (event.Tick n 1)) r i j tt step)
 
   pub steady_on : IsSteady old → IsSteady new

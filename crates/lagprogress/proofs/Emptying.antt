@@ -1,18 +1,18 @@
 -- A port of a healthy cable is drained of a conversation that is held on it.
 use Rattle.lagprogress.proofs.Common.{Bool, Err, IsSome, List, None, Ok, Option, Result, Some, [], ap, arith, cond, eqb, false, inl, inr, length, ltb}
-use Rattle.lagprogress.proofs.Common.{refl, subst, suc, sym, true, zero, ℕ, ◌&&◌, ◌+◌, ◌-◌, ◌<◌, ◌==◌, ◌^◌, ◌∙◌, ◌∷◌, ◌≡◌, ◌≤◌, ◌⊎◌, cases_Bool}
-use Rattle.lagprogress.proofs.Common.{nat_tests, none-some, AllByRecursion, AggId, Choice, is_selected, Lacpdu, IsCabling, One, Side, peer, Machines}
-use Rattle.lagprogress.proofs.Common.{is_due, Assignment, after_tick, marker_due, IsConversation, Table, assignment_of, next_identifier, HostReply}
-use Rattle.lagprogress.proofs.Common.{SystemFault, OffersIf, Offer, Receive, Step, Transmit, HostPromise, GivesOrRefuses, number_of_conversation}
-use Rattle.lagprogress.proofs.Common.{TransmitsAt, Set_max_delay, CallPromise, SystemState, machines_of, port_index, found_place, Event, Reply}
-use Rattle.lagprogress.proofs.Common.{Algorithms, WorldSteps, side_of, world_setup, ItemValue, WorldState, half, port_at, ForcesPort, HostEvent}
-use Rattle.lagprogress.proofs.Common.{HostSteps, Leaves, Offers, Plays, Probes, Sets, DrainingRounds, IsDrainingRound, IsNoMoveOf, AfterTick}
-use Rattle.lagprogress.proofs.Common.{AtSomeWorld, IsBetweenTicks, IsHostRound, IsQuiet, NoneIsLeft, RunReplies, StepReplies, TickOnce, OldArrive}
-use Rattle.lagprogress.proofs.Common.{NothingInFlight, OfPort, AfterTicks, TicksAmong}
+use Rattle.lagprogress.proofs.Common.{refl, subst, suc, sym, true, zero, ℕ, ◌&&◌, ◌+◌, ◌-◌, ◌==◌, ◌^◌, ◌∙◌, ◌∷◌, ◌≡◌, ◌≤◌, ◌⊎◌, cases_Bool, nat_tests}
+use Rattle.lagprogress.proofs.Common.{none-some, AllByRecursion, AggId, Choice, is_selected, Lacpdu, IsCabling, One, Side, peer, Machines, is_due}
+use Rattle.lagprogress.proofs.Common.{Assignment, after_tick, marker_due, IsConversation, Table, assignment_of, next_identifier, HostReply}
+use Rattle.lagprogress.proofs.Common.{SystemFault, OffersIf, Offer, Receive, Step, Transmit, HostPromise, GivesOrRefuses, TransmitsAt, Set_max_delay}
+use Rattle.lagprogress.proofs.Common.{CallPromise, SystemState, machines_of, port_index, found_place, Event, Reply, Algorithms, WorldSteps, side_of}
+use Rattle.lagprogress.proofs.Common.{world_setup, ItemValue, WorldState, half, port_at, ForcesPort, HostEvent, HostSteps, Leaves, Offers, Plays}
+use Rattle.lagprogress.proofs.Common.{Probes, Sets, DrainingRounds, IsDrainingRound, IsNoMoveOf, AfterTick, AtSomeWorld, IsBetweenTicks, IsHostRound}
+use Rattle.lagprogress.proofs.Common.{IsQuiet, NoneIsLeft, RunReplies, StepReplies, TickOnce, OldArrive, NothingInFlight, OfPort, AfterTicks}
+use Rattle.lagprogress.proofs.Common.{TicksAmong}
 use Rattle.lagprogress.proofs.Quieting.{as_beside, IsCalm, calm_quiet, calm_timely, calm_keeps, leaves_link, leaves_quiet, quiet_cable, offered_half}
 use Rattle.lagprogress.proofs.Quieting.{moved_half, forced_half, Grown, asked_half, came_half, leaves}
 use Rattle.lagprogress.proofs.Linked.{each_side, Fits, Link, asked_which, peer_twice, EndPort, end_here, other_side}
-use Rattle.lagprogress.proofs.Holding.{has_on, Has, Fine, Flights, ticked_fine, IsMarker, asking, answering, offered_fine, forced_fine}
+use Rattle.lagprogress.proofs.Holding.{has_on, Has, Fine, Flights, ticked_fine, IsMarker, asking, answering}
 use Rattle.lagprogress.proofs.Halves.{AreTimely}
 use Rattle.lagprogress.proofs.HostSteady.{IsAside, aside, asked_by, beside_next, caller, delay_keeps, gives_next, probes_half, Probed}
 use Rattle.lagsystem.specs.declared.drive.HostCall.TheVariants as host
@@ -93,8 +93,7 @@ rest_ticks t a b e es h = grind (arith, nat_tests)
 run_next : (s t : Side) (gives : Algorithms) (a b : Bool) (es : List HostEvent) (rs : List Reply) (old new : WorldState) → TickOnce t a b es
     → RunReplies gives old es rs new → Rising s old new
 run_next s t gives a b [] [] old new h run = same_next s old new (ap (λ (j : WorldState). (half s j).state) run)
-run_next s t gives a b (e ∷ es) (r ∷ rs) old new h run =
-    let o = rest_ticks t a b e es h in
+run_next s t gives a b (e ∷ es) (r ∷ rs) old new h run = let o = rest_ticks t a b e es h in
     let one = one_next s t gives a b e es r old run.0 h run.1 in
     let more = run_next s t gives o.0 o.1 es rs run.0 new o.2 run.2 in
     omega (arith, one, more)
@@ -120,12 +119,10 @@ some_left s t P gives a b es rs old new h run left y = absurd run
 after_left : (s t : Side) (P : WorldState → Type 0) (gives : Algorithms) (a b : Bool) (es : List HostEvent) (rs : List Reply) (old new : WorldState)
     → TickOnce t a b es → (run : RunReplies gives old es rs new) → HasLeft s new → AfterTick s P gives es rs old new run
     → AfterTicks s (λ j. P j × HasLeft s j) 1 gives es rs old new run
-after_left s t P gives a b [] rs old new h run left y = y
-after_left s t P gives a b (e ∷ es) [] old new h run left y = y
-after_left s t P gives a b (e ∷ es) (r ∷ rs) old new h run left (inl y) =
-    let o = rest_ticks t a b e es h in inl (y.0, some_left s t P gives o.0 o.1 es rs run.0 new o.2 run.2 left y.1)
+after_left s t P gives a b (e ∷ es) (r ∷ rs) old new h run left (inl y) = grind (arith, nat_tests, rest_ticks, some_left)
 after_left s t P gives a b (e ∷ es) (r ∷ rs) old new h run left (inr y) =
     let o = rest_ticks t a b e es h in inr (after_left s t P gives o.0 o.1 es rs run.0 new o.2 run.2 left y)
+after_left s t P gives a b es rs old new h run left y = absurd y
 
 still_turns : (s : Side) (Is : HostEvent → Type 0) (es : List HostEvent) (a b : ℕ) → AllByRecursion Is es → TicksAmong IsBetweenTicks 1 s a b es
     → TicksAmong (λ e. IsBetweenTicks e × Is e) 1 s a b es
@@ -145,8 +142,7 @@ apart : (a b c d : ℕ) → (a ≡ c → b ≡ d → ⊥) → (eqb a c && eqb b 
 apart a b c d h = grind (arith, nat_tests)
 
 moved_elsewhere : (group : AggId) (moved agg conv : ℕ) (what : Result Assignment SystemFault) (a : Result Unit SystemFault) (old new : SystemState)
-    → (group.0 ≡ agg → moved ≡ conv → ⊥) → GivesOrRefuses group moved what old a new
-    → assignment_of new.table agg conv ≡ assignment_of old.table agg conv
+    → (group.0 ≡ agg → moved ≡ conv → ⊥) → GivesOrRefuses group moved what old a new → assignment_of new.table agg conv ≡ assignment_of old.table agg conv
 moved_elsewhere group moved agg conv what a old new other h = grind (arith, nat_tests)
 
 module _ (at : Side → ℕ) (w : Side → Lacpdu) (named : (t : Side) → IsNamed (w t)) (awake : (s : Side) → (activity (w s) ≡ true) ⊎ (activity (w (peer s)) ≡ true)) (s : Side)
@@ -168,17 +164,12 @@ module _ (at : Side → ℕ) (w : Side → Lacpdu) (named : (t : Side) → IsNam
     pub there : IsConversation (half s j).state.table agg conv
 
   fixed : (e : HostEvent) (r : Reply) (old new : WorldState) → IsCalm e → StepReplies gives old e r new → AreTimely old → IsFixed old → IsFixed new
-  fixed e r old new calm h steady f =
-      let now = calm_timely gives e r old new h steady in
+  fixed e r old new calm h steady f = let now = calm_timely gives e r old new h steady in
       let keys = calm_keeps ℕ (λ t. length t.keys) (λ t a b. refl) (λ t a. refl) (λ t d. refl) gives e r old new calm h s in
       let cols = calm_keeps ℕ (λ t. t.conversations) (λ t a b. refl) (λ t a. refl) (λ t d. refl) gives e r old new calm h s in
       record {
         own = calm_keeps (List ℕ) (λ t. t.system.mac) (λ t a b. refl) (λ t a. refl) (λ t d. refl) gives e r old new calm h s ∙ f.own;
-        there = (
-          f.there.0,
-          subst (λ n. agg ≤ n) (sym ((now s).0.aggregators ∙ (keys ∙ sym (steady s).0.aggregators))) f.there.1,
-          subst (λ n. conv < n) (sym ((now s).0.conversations ∙ (cols ∙ sym (steady s).0.conversations))) f.there.2,
-        );
+        there = grind (arith, nat_tests);
       }
 
   -- within a round
@@ -194,17 +185,7 @@ module _ (at : Side → ℕ) (w : Side → Lacpdu) (named : (t : Side) → IsNam
   made : {m l : ℕ} {V : Type 0} {kn to : Side → ℕ} {old new : WorldState} (W : Type 0) (e : HostEvent) (r : Reply) → IsCalm e
       → StepReplies gives old e r new → Mid m V kn old → Link 2 at w to s Y new → (fl : Side → List ItemValue) (i : ℕ) → OnCable i at fl new.links
       → FineIn l W (Flights s (at s) mac fl) (half s new).state.table → Mid l W to new
-  made {old = old} {new = new} W e r calm h d link fl i links fine = record {
-    link = link;
-    flying = fl;
-    index = i;
-    links = links;
-    same = fixed e r old new calm h d.link.steady d.same;
-    fine = fine;
-  }
-
-  placed : (kn : Side → ℕ) (j : WorldState) → Link 2 at w kn s Y j → (t : Side) → EndPort at w 2 kn t j
-  placed kn j l t = end_here at w 2 kn s Y j l t
+  made W e r calm h d link fl i links fine = grind (arith, nat_tests, fixed)
 
   -- the port is asked
   own_asked : {kn : Side → ℕ} (m : ℕ) (W : Type 0) (a : Result (Option (List ℕ)) SystemFault) (j new : WorldState) (fl now : Side → List ItemValue)
@@ -250,7 +231,7 @@ module _ (at : Side → ℕ) (w : Side → Lacpdu) (named : (t : Side) → IsNam
         asked t k = elim (one_of_both s t) [
           | inl e ↦ (let o = subst (λ u. Asks gives u at d.flying old new) e k in
               made W (Plays (event.Emit n p)) r tt h d link o.now o.index o.links
-              (own_asked m W o.a old new d.flying o.now (placed kn old d.link s) d.same o.promise o.went d.fine))
+              (own_asked m W o.a old new d.flying o.now (end_here at w 2 kn s Y old d.link s) d.same o.promise o.went d.fine))
           | inr e ↦ (let o = subst (λ u. Asks gives u at d.flying old new) e k in
               made W (Plays (event.Emit n p)) r tt h d link o.now o.index o.links (peer_asked m W old new d.flying o d.fine))
         ]
@@ -268,12 +249,12 @@ module _ (at : Side → ℕ) (w : Side → Lacpdu) (named : (t : Side) → IsNam
         came : (t : Side) (k : Arrives gives t at d.flying old new) → Mid m W kn new
         came t k = elim (one_of_both s t) [
           | inl e ↦ (let o = subst (λ u. Arrives gives u at d.flying old new) e k in
-              let z = placed kn old d.link s in
+              let z = end_here at w 2 kn s Y old d.link s in
               made W (Plays (event.Deliver cn n)) r tt h d link o.now o.index o.links
               (comes_fine at w s mac agg conv gives d.flying old new z.index z.port m W z.place z.there z.is.1.0 d.same.own o
               (stays_on at w s mac agg conv c kn kn old new d.link link) d.fine))
           | inr e ↦ (let o = subst (λ u. Arrives gives u at d.flying old new) e k in
-              let z = placed kn old d.link (peer s) in
+              let z = end_here at w 2 kn s Y old d.link (peer s) in
               let still : (half s new).state ≡ (half s old).state = subst (λ u. (half u new).state ≡ (half u old).state) (peer_twice s) o.peers in
               made W (Plays (event.Deliver cn n)) r tt h d link o.now o.index o.links
               (subst (λ (y : SystemState). FineIn m W (Flights s (at s) mac o.now) y.table) (sym still)
@@ -288,10 +269,7 @@ module _ (at : Side → ℕ) (w : Side → Lacpdu) (named : (t : Side) → IsNam
         (half s old).state.table (λ x. x) flights d.fine
       where
         has : (P : ItemValue → Type 0) (t : Side) → Has P (d.flying t) → Has P (g.flying t)
-        has P t y = elim (g.grew t) [
-          | inl e ↦ subst (Has P) (sym e) y
-          | inr x ↦ subst (Has P) (sym x.2) (has_on P (d.flying t) (x.0 ∷ []) y)
-        ]
+        has P t y = elim (g.grew t) [ inl e ↦ subst (Has P) (sym e) y | inr x ↦ subst (Has P) (sym x.2) (has_on P (d.flying t) (x.0 ∷ []) y) ]
 
         flights : (id : ℕ) → Flights s (at s) mac d.flying id → Flights s (at s) mac g.flying id
         flights id (inl y) = inl (has (IsMarker (asking (at s) mac id)) (peer s) y)
@@ -299,29 +277,18 @@ module _ (at : Side → ℕ) (w : Side → Lacpdu) (named : (t : Side) → IsNam
 
     offered_frame : (m : ℕ) (W : Type 0) (F : ℕ → Type 0) (group : AggId) (octets : List ℕ) (a : Result ℕ SystemFault) (old new : SystemState)
         → Step (gives s) old (Offer group octets) (answer.Offer a) new → FineIn m W F old.table → FineIn m W F new.table
-    offered_frame m W F group octets (Err fault) old new h fine = subst (λ (t : SystemState). FineIn m W F t.table) (sym h.1) fine
-    offered_frame m W F group octets (Ok port) old new h fine = subst (Fine (at s) m W F) (sym (h.2.0.states agg conv))
-        (offered_fine (at s) m port W F (eqb group.0 agg && eqb (number_of_conversation old octets) conv) (assignment_of old.table agg conv) fine)
+    offered_frame m W F group octets a old new h fine = grind (arith, nat_tests)
 
     numbered_frame : (there known : Bool) (m : ℕ) (W : Type 0) (F : ℕ → Type 0) (group : AggId) (moved : ℕ) (a : Result ℕ SystemFault)
         (old new : SystemState) → OffersIf there known (gives s) group moved old a new → FineIn m W F old.table → FineIn m W F new.table
-    numbered_frame true true m W F group moved (Ok port) old new h fine = subst (Fine (at s) m W F) (sym (h.1.0.states agg conv))
-        (offered_fine (at s) m port W F (eqb group.0 agg && eqb moved conv) (assignment_of old.table agg conv) fine)
-    numbered_frame true true m W F group moved (Err fault) old new h fine = subst (λ (t : SystemState). FineIn m W F t.table) (sym h.1) fine
-    numbered_frame true false m W F group moved a old new h fine = subst (λ (t : SystemState). FineIn m W F t.table) (sym h.1) fine
-    numbered_frame false known m W F group moved a old new h fine = subst (λ (t : SystemState). FineIn m W F t.table) (sym h.1) fine
+    numbered_frame there known m W F group moved a old new h fine = grind (arith, nat_tests)
 
     module _ (m : ℕ) (W : Type 0) (F : ℕ → Type 0) where
       -- a call leaves the conversation if it is another system's, or if this one's leaves it
       of_side_called : (t : Side) (old new : WorldState) → (half (peer t) new).state ≡ (half (peer t) old).state
           → (t ≡ s → FineIn m W F (half s old).state.table → FineIn m W F (half s new).state.table)
           → FineIn m W F (half s old).state.table → FineIn m W F (half s new).state.table
-      of_side_called t old new peers own fine = elim (one_of_both s t) [
-        | inl e ↦ own e fine
-        | inr e ↦ (let same = subst (λ u. (half u new).state ≡ (half u old).state) (peer_twice s)
-            (subst (λ u. (half (peer u) new).state ≡ (half (peer u) old).state) e peers) in
-            subst (λ (y : SystemState). FineIn m W F y.table) (sym same) fine)
-      ]
+      of_side_called t old new peers own fine = grind (arith, nat_tests)
 
       elsewhere : (group : AggId) (moved : ℕ) (what : Result Assignment SystemFault) (a : Result Unit SystemFault) (old new : SystemState)
           → (group.0 ≡ agg → moved ≡ conv → ⊥) → GivesOrRefuses group moved what old a new → FineIn m W F old.table → FineIn m W F new.table
@@ -329,9 +296,7 @@ module _ (at : Side → ℕ) (w : Side → Lacpdu) (named : (t : Side) → IsNam
 
       forces_fine : (port : ℕ) (a : Result ℕ SystemFault) (old new : SystemState) → IsConversation old.table agg conv
           → HostPromise (gives s) old (host.ForcePort port) (told.ForcePort a) new → FineIn m W F old.table → FineIn m W F new.table
-      forces_fine port (Ok count) old new there p fine = subst (Fine (at s) m W F) (sym (p.2.forced agg conv there))
-          (forced_fine (at s) m port W F (assignment_of old.table agg conv) fine)
-      forces_fine port (Err fault) old new there p fine = subst (λ (t : SystemState). FineIn m W F t.table) (sym p.1.same) fine
+      forces_fine port a old new there p fine = grind (arith, nat_tests)
 
       -- a probe of another port, or of the other system
       probed_beside : (port : ℕ) (a : Result (Option (List ℕ)) SystemFault) (old new : SystemState) → (port ≡ at s → ⊥)
@@ -341,9 +306,8 @@ module _ (at : Side → ℕ) (w : Side → Lacpdu) (named : (t : Side) → IsNam
       probed_beside port (Err fault) old new other p fine = subst (λ (t : SystemState). FineIn m W F t.table) (sym p.0.same) fine
 
       -- what it promises
-      told_fine : (e : HostEvent) (a : HostReply) → IsAside e → IsNoMoveOf s agg conv e → IsNoProbe s (at s) e → caller e ≡ s
-          → (old new : SystemState) → IsConversation old.table agg conv → HostPromise (gives s) old (asked_by e) a new → FineIn m W F old.table
-          → FineIn m W F new.table
+      told_fine : (e : HostEvent) (a : HostReply) → IsAside e → IsNoMoveOf s agg conv e → IsNoProbe s (at s) e → caller e ≡ s → (old new : SystemState)
+          → IsConversation old.table agg conv → HostPromise (gives s) old (asked_by e) a new → FineIn m W F old.table → FineIn m W F new.table
       told_fine (Offers t group moved octets) (told.OfferConversation a) is still far same old new there p fine =
           numbered_frame _ _ m W F group moved a old new p.0 fine
       told_fine (Leaves t group moved) (told.LeaveConversation a) is still far same old new there p fine =
@@ -366,8 +330,7 @@ module _ (at : Side → ℕ) (w : Side → Lacpdu) (named : (t : Side) → IsNam
       quiet_fine (Sets t (Set_max_delay delay)) r old new q still far there h fine =
           subst (FineIn m W F) (sym (delay_keeps Table (λ z. z.table) (λ z d. refl) gives t delay old new h s)) fine
       quiet_fine (Sets t setting) r old new q still far there h fine = absurd q
-      quiet_fine e r old new q still far there h fine =
-          let b = aside gives e old new tt h in
+      quiet_fine e r old new q still far there h fine = let b = aside gives e old new tt h in
           of_side_called (caller e) old new b.peers (λ same. told_fine e b.answer tt still far same (half s old).state (half s new).state there
           (subst (λ u. HostPromise (gives u) (half u old).state (asked_by e) b.answer (half u new).state) same b.promise)) fine
 
@@ -380,8 +343,7 @@ module _ (at : Side → ℕ) (w : Side → Lacpdu) (named : (t : Side) → IsNam
     probed_cable (Err fault) i fl old new on e = (fl, subst (OnCable i at fl) (sym e) on, refl)
 
     mid_probed : (m : ℕ) (W : Type 0) (r : Reply) (old new : WorldState) → HostSteps gives old (Probes s (at s)) new → Mid m W kn old → Mid m W kn new
-    mid_probed m W r old new h d =
-        let o = probes_half gives s (at s) old new h in
+    mid_probed m W r old new h d = let o = probes_half gives s (at s) old new h in
         let c = probed_cable o.0 d.index d.flying old new d.links o.2 in
         made W (Probes s (at s)) r tt h d (linked (Probes s (at s)) r old new tt h d.link) c.0 d.index c.1
         (by_answer o.0 o.1 c.0 c.2)
@@ -389,9 +351,8 @@ module _ (at : Side → ℕ) (w : Side → Lacpdu) (named : (t : Side) → IsNam
         st : SystemState
         st = (half s old).state
 
-        by_answer : (a : Result (Option (List ℕ)) SystemFault)
-            → HostPromise (gives s) (half s old).state (host.Probe (at s)) (told.Probe a) (half s new).state → (now : Side → List ItemValue)
-            → Went s a d.flying now → FineIn m W (Flights s (at s) mac now) (half s new).state.table
+        by_answer : (a : Result (Option (List ℕ)) SystemFault) → HostPromise (gives s) (half s old).state (host.Probe (at s)) (told.Probe a) (half s new).state
+            → (now : Side → List ItemValue) → Went s a d.flying now → FineIn m W (Flights s (at s) mac now) (half s new).state.table
         by_answer (Ok a) p now went = probes_fine at w s mac agg conv (port_index (at s) st.system_ports) st a (half s new).state d.flying now m W
             (λ i z place there. found_place (at s) st.system_ports i z place there) d.same.own p.0 went d.fine
         by_answer (Err fault) p now went = subst (λ (t : SystemState). FineIn m W (Flights s (at s) mac now) t.table) (sym p.0.same)
@@ -399,8 +360,7 @@ module _ (at : Side → ℕ) (w : Side → Lacpdu) (named : (t : Side) → IsNam
 
     mid_quiet : (m : ℕ) (W : Type 0) (e : HostEvent) (r : Reply) (i j : WorldState) → IsQuiet e → IsNoMoveOf s agg conv e → IsNoProbe s (at s) e
         → StepReplies gives i e r j → Mid m W kn i → Mid m W kn j
-    mid_quiet m W e r i j b still far h d =
-        let g = quiet_cable gives e d.index at d.flying r i j b h d.links in
+    mid_quiet m W e r i j b still far h d = let g = quiet_cable gives e d.index at d.flying r i j b h d.links in
         made W e r (calm_quiet e b) h d (leaves_link gives e 2 at w kn s Y r i j (leaves_quiet at e b) h (along kn ((fits s).2 (omega arith))) d.link).link
         g.flying d.index g.on
         (quiet_fine m W (Flights s (at s) mac g.flying) e r i j b still far d.same.there h (grown m W i j d g))
@@ -424,8 +384,7 @@ module _ (at : Side → ℕ) (w : Side → Lacpdu) (named : (t : Side) → IsNam
 
     -- where no marker is due and an identifier is left, it is not Wanted
     mid_drained : (m : ℕ) (W : Type 0) (j : WorldState) → marker_due (half s j).state.table (at s) ≡ None → HasLeft s j → Mid m W kn j → Mid m ⊥ kn j
-    mid_drained m W j none left d =
-        let t = (half s j).state.table in
+    mid_drained m W j none left d = let t = (half s j).state.table in
         let zero_wanted = none_due at w s mac agg conv t left none in
         record {
           link = d.link;
@@ -433,16 +392,14 @@ module _ (at : Side → ℕ) (w : Side → Lacpdu) (named : (t : Side) → IsNam
           index = d.index;
           links = d.links;
           same = d.same;
-          fine = not_wanted (at s) m W (Flights s (at s) mac d.flying) (assignment_of t agg conv)
-              (none_wanted (at s) t zero_wanted agg conv d.same.there.0 d.same.there.1 d.same.there.2) d.fine;
+          fine = grind (arith, nat_tests, not_wanted, assignment_of, none_wanted);
         }
 
   -- ticks
 
   own_ticked : (kn to : Side → ℕ) (m : ℕ) (W : Type 0) (n : ℕ) (r : Reply) (i j : WorldState) → side_of n ≡ Some s
       → WorldSteps gives i (event.Tick n 1) r j → (d : Mid m W kn i) → Link 2 at w to s Y j → Mid (m + 1) (Unit {0}) to j
-  own_ticked kn to m W n r i j told step d link =
-      let k = ticks gives n s r i j told step in
+  own_ticked kn to m W n r i j told step d link = let k = ticks gives n s r i j told step in
       made (Unit {0}) (Plays (event.Tick n 1)) r tt step d link d.flying d.index (subst (OnCable d.index at d.flying) (sym k.links) d.links)
       (settles_all at w s mac agg conv (m + 1) (Unit {0}) (Flights s (at s) mac d.flying) k.step.0 (half s j).state k.step.2
       (λ g x y. stays_on at w s mac agg conv c kn to i j d.link link g x
@@ -452,8 +409,7 @@ module _ (at : Side → ℕ) (w : Side → Lacpdu) (named : (t : Side) → IsNam
 
   peer_ticked : (kn to : Side → ℕ) (m : ℕ) (W : Type 0) (n : ℕ) (r : Reply) (i j : WorldState) → side_of n ≡ Some (peer s)
       → WorldSteps gives i (event.Tick n 1) r j → (d : Mid m W kn i) → Link 2 at w to s Y j → Mid m W to j
-  peer_ticked kn to m W n r i j told step d link =
-      let k = ticks gives n (peer s) r i j told step in
+  peer_ticked kn to m W n r i j told step d link = let k = ticks gives n (peer s) r i j told step in
       let still : (half s j).state ≡ (half s i).state = subst (λ u. (half u j).state ≡ (half u i).state) (peer_twice s) k.peers in
       made W (Plays (event.Tick n 1)) r tt step d link d.flying d.index (subst (OnCable d.index at d.flying) (sym k.links) d.links)
       (subst (λ (y : SystemState). FineIn m W (Flights s (at s) mac d.flying) y.table) (sym still) d.fine)
@@ -466,13 +422,8 @@ module _ (at : Side → ℕ) (w : Side → Lacpdu) (named : (t : Side) → IsNam
     pub same : IsFixed j
     pub fine : FineIn m W (λ id. ⊥) (half s j).state.table
 
-  none_flies : (j : WorldState) (i : ℕ) (fl : Side → List ItemValue) → NothingInFlight j → OnCable i at fl j.links → (id : ℕ)
-      → Flights s (at s) mac fl id → ⊥
-  none_flies j i fl none links id f =
-      elim f [
-        | inl y ↦ subst (Has (IsMarker (asking (at s) mac id))) (empty (peer s)) y
-        | inr y ↦ subst (Has (IsMarker (answering (at s) mac id))) (empty s) y
-      ]
+  none_flies : (j : WorldState) (i : ℕ) (fl : Side → List ItemValue) → NothingInFlight j → OnCable i at fl j.links → (id : ℕ) → Flights s (at s) mac fl id → ⊥
+  none_flies j i fl none links id f = grind (arith, nat_tests, asking, empty, peer, answering)
     where
       empty : (t : Side) → fl t ≡ []
       empty t = sym (towards_there t at fl) ∙ none t i (cable at fl) links.there
@@ -587,7 +538,6 @@ module _ (at : Side → ℕ) (w : Side → Lacpdu) (named : (t : Side) → IsNam
   rounds_rest zero start new l left rests h = absurd (omega (arith, l))
   rounds_rest (suc zero) start new l left rests h =
       round_rests 0 (Unit {0}) start new (subst (λ j. IsDrainingRound s agg conv gives j new) h.1 h.2) left rests
-  rounds_rest (suc (suc n)) start new l left rests h =
-      let before = left_before (half s h.0).state.table (half s new).state.table
+  rounds_rest (suc (suc n)) start new l left rests h = let before = left_before (half s h.0).state.table (half s new).state.table
       (run_next s One gives true true h.2.round.events h.2.round.replies h.0 new h.2.round.ticks h.2.round.acts) left in
       subst (λ k. Rests k ⊥ new) (omega arith) (round_rests (suc n) ⊥ h.0 new h.2 left (rounds_rest (suc n) start h.0 (omega arith) before rests h.1))

@@ -1,12 +1,11 @@
 -- No conversation that is not moved stays held on a port of a healthy cable of a bundle.
 use Rattle.lagprogress.proofs.Common.{List, None, Option, Some, [], ap, arith, inl, inr, length, refl, subst, suc, sym, zero, ℕ, ◌++◌, ◌+◌, ◌-◌, ◌∷◌}
-use Rattle.lagprogress.proofs.Common.{◌≡◌, ◌≤◌, ◌⊎◌, nat_tests, AllByRecursion, all-append, IsCabling, One, Side, peer, value_of, Assignment}
-use Rattle.lagprogress.proofs.Common.{after_mark, after_release, after_tick, IsConversation, assignment_of, held_unless_on, SystemState, Event, Reply}
-use Rattle.lagprogress.proofs.Common.{Algorithms, WorldSteps, side_of, LinkState, WorldState, half, port_at, AtPort, Turning, Turns, asks_turn}
-use Rattle.lagprogress.proofs.Common.{comes_turn, same_turns, ticks_turn, turns_through, EndsHealthyCable, HasIdentifierLeft, IsNotHeldOn}
-use Rattle.lagprogress.proofs.Common.{NothingIsHeld, carrier_of, held_on, DrainingRounds, NoneIsHeldOnEndsByHosts, NothingIsHeldByHosts, Clearing}
-use Rattle.lagprogress.proofs.Common.{HostRounds, IsBetweenTicks, NoneIsLeft, PlayedRounds, LateRounds, OldArrive, IsDeliver, IsHealthyAt, IsRound}
-use Rattle.lagprogress.proofs.Common.{Rounds, asks_all, ticks_of_both, IsSteady}
+use Rattle.lagprogress.proofs.Common.{◌≡◌, ◌≤◌, ◌⊎◌, nat_tests, AllByRecursion, IsCabling, One, Side, peer, value_of, Assignment, IsConversation}
+use Rattle.lagprogress.proofs.Common.{assignment_of, SystemState, Event, Reply, Algorithms, WorldSteps, side_of, LinkState, WorldState, half, port_at}
+use Rattle.lagprogress.proofs.Common.{AtPort, Turning, Turns, asks_turn, comes_turn, same_turns, ticks_turn, turns_through, EndsHealthyCable}
+use Rattle.lagprogress.proofs.Common.{HasIdentifierLeft, IsNotHeldOn, NothingIsHeld, carrier_of, held_on, DrainingRounds, NoneIsHeldOnEndsByHosts}
+use Rattle.lagprogress.proofs.Common.{NothingIsHeldByHosts, Clearing, HostRounds, IsBetweenTicks, NoneIsLeft, PlayedRounds, LateRounds, OldArrive}
+use Rattle.lagprogress.proofs.Common.{AsksOrDelivers, IsHealthyAt, IsRound, Rounds, asks_all, ticks_of_both, IsSteady}
 use Rattle.lagprogress.proofs.Lasting.{played_before, still_heard}
 use Rattle.lagprogress.proofs.LateLoops.{host_rounds_are_late_rounds}
 use Rattle.lagprogress.proofs.LateHearing.{counts_of, kept_of}
@@ -19,7 +18,7 @@ use Rattle.lagprogress.proofs.Climbing.{PartnerInSync}
 use Rattle.lagprogress.proofs.Emptying.{rounds_rest}
 use Rattle.lagprogress.proofs.Holding.{Fine}
 use Rattle.lagprogress.proofs.OneRound.{Nothing}
-use Rattle.lagprogress.proofs.HostLoops.{draining_are_host, rounds_are_host_rounds, rounds_are_draining}
+use Rattle.lagprogress.proofs.HostLoops.{draining_are_host, round_between, rounds_are_host_rounds, rounds_are_draining}
 use Rattle.lagscript.specs.declared.event.Event.TheVariants as event
 
 -- at first a marker may be wanted, and any response may be waited for
@@ -44,8 +43,7 @@ module _ (E : Clearing) (Holds : LinkState → WorldState → Type 0) (Other : S
   pub freed_by : (i : ℕ) (l : LinkState) (y : IsHealthyAt i l old) (n m : ℕ) (mid new : WorldState) (s : Side) (g k : ℕ) → first + 33 ≤ n
       → PlayedRounds E gives n old mid → 30 ≤ m → DrainingRounds s g k gives m mid new → HasIdentifierLeft (half s new).state
       → IsNotHeldOn (port_at s l) g k (half s new).state
-  freed_by i l y n m mid new s q r enough h late rounds left is held =
-      let at : Side → ℕ = λ t. port_at t l in
+  freed_by i l y n m mid new s q r enough h late rounds left is held = let at : Side → ℕ = λ t. port_at t l in
       let w = said old i l y in
       let up = ups_of (PlayedRounds E gives) 1 Holds Other first gives old b i l y n mid enough h in
       let g = up.fresh in
@@ -87,20 +85,8 @@ Stays a b = (carrier_of b ≡ None) ⊎ (carrier_of b ≡ carrier_of a)
 stays_through : (a b d : Assignment) → Stays a b → Stays b d → Stays a d
 stays_through a b d h k = grind (arith, nat_tests)
 
-stays_tick : (a : Assignment) → Stays a (after_tick a)
-stays_tick a = grind (arith, nat_tests)
-
-stays_mark : (port id : ℕ) (a : Assignment) → Stays a (after_mark port id a)
-stays_mark port id a = grind (arith, nat_tests)
-
-stays_release : (port id : ℕ) (a : Assignment) → Stays a (after_release port id a)
-stays_release port id a = grind (arith, nat_tests)
-
-stays_held : (ports : List ℕ) (a : Assignment) → Stays a (held_unless_on ports a)
-stays_held ports a = grind (arith, nat_tests)
-
 pub stays : Turning Stays
-stays = grind (arith, nat_tests, stays_through, stays_tick, stays_mark, stays_release, stays_held)
+stays = grind (arith, nat_tests, stays_through)
 
 abbrev WorldStays : Side → WorldState → WorldState → Type 0
 WorldStays s i j = Turns Stays stays (half s i).state.table (half s j).state.table
@@ -114,27 +100,20 @@ world_through s i j k a b = turns_through Stays stays (half s i).state.table (ha
 -- the events of a healthy round
 abbrev IsOfRound : Event → Type 0
 IsOfRound (event.Tick n count) = count ≡ 1
-IsOfRound (event.Emit n p) = Unit {0}
-IsOfRound (event.Deliver c n) = Unit {0}
-IsOfRound e = ⊥
+IsOfRound e = AsksOrDelivers e
 
-asks_of : (links : List LinkState) → AllByRecursion IsOfRound (asks_all links)
-asks_of [] = tt
-asks_of (l ∷ links) = (tt, (tt, (tt, (tt, asks_of links))))
-
-delivers_of : (es : List Event) → AllByRecursion IsDeliver es → AllByRecursion IsOfRound es
-delivers_of [] h = tt
-delivers_of (event.Deliver c n ∷ es) h = (tt, delivers_of es h.1)
-delivers_of (e ∷ es) h = absurd h.0
+all_of_round : (es : List Event) → AllByRecursion AsksOrDelivers es → AllByRecursion IsOfRound es
+all_of_round [] h = tt
+all_of_round (event.Tick n count ∷ es) h = absurd h.0
+all_of_round (e ∷ es) h = (h.0, all_of_round es h.1)
 
 round_stays : (s : Side) (gives : Algorithms) (old new : WorldState) → IsRound gives old new → WorldStays s old new
 round_stays s gives old new h = runs_all gives IsOfRound (WorldStays s old) one (ticks_of_both ++ (asks_all old.links ++ h.delivers)) h.replies old new
-    (refl, (refl, all-append IsOfRound (asks_all old.links) h.delivers (asks_of old.links) (delivers_of h.delivers h.arrives))) h.acts
+    (refl, (refl, all_of_round (asks_all old.links ++ h.delivers) (round_between old new gives h))) h.acts
     (world_same s old old refl)
   where
     ticked : (n : ℕ) (r : Reply) (i j : WorldState) → WorldSteps gives i (event.Tick n 1) r j → WorldStays s i j
-    ticked n r i j h =
-        let v = value_of (side_of n) _ h.0 in
+    ticked n r i j h = let v = value_of (side_of n) _ h.0 in
         let k = ticks gives n v.0 r i j v.1 h in
         each_side (λ t. WorldStays t i j) v.0 (ticks_turn Stays stays (gives v.0) (half v.0 i).state (half v.0 j).state k.step)
         (world_same (peer v.0) i j k.peers) s
@@ -171,8 +150,7 @@ held_carries a p e = grind (arith, nat_tests)
 -- so all that is held is held on ends of healthy cables
 
 -- the port of an assignment, if it has one, ends a healthy cable; but no end of one is its port
-unheld : (Holds : LinkState → WorldState → Type 0) (s : Side) (old : WorldState) (o : Option ℕ)
-    → ((p : ℕ) → o ≡ Some p → EndsHealthyCable Holds s p old)
+unheld : (Holds : LinkState → WorldState → Type 0) (s : Side) (old : WorldState) (o : Option ℕ) → ((p : ℕ) → o ≡ Some p → EndsHealthyCable Holds s p old)
     → ((i : ℕ) (l : LinkState) → IsHealthyAt i l old → o ≡ Some (port_at s l) → ⊥) → o ≡ None
 unheld Holds s old None ends none = refl
 unheld Holds s old (Some p) ends none =
@@ -209,7 +187,6 @@ module _ (Holds : LinkState → WorldState → Type 0) (first : ℕ) (gives : Al
           (subst IsCabling (sym (played_join OldArrive gives n old mid h)) b.cabling) (draining_are_host gives s g k m mid new more))
 
       ends : (p : ℕ) → held_on (assignment_of (half s new).state.table g k) ≡ Some p → EndsHealthyCable Holds s p old
-      ends p e =
-          let up = carriers g k p is (held_carries (assignment_of (half s new).state.table g k) p e) in
+      ends p e = let up = carriers g k p is (held_carries (assignment_of (half s new).state.table g k) p e) in
           subst (λ q. EndsHealthyCable Holds s q old) up.3
           (still_heard Holds s old new (played_before OldArrive gives (m + n) old new b.steady before s) b.heard up.0 up.1 up.2 up.4)

@@ -32,8 +32,7 @@ one_call : (gives : ℕ → ℕ → ℕ → Type 0) (call : Call) (a : Answer) (
     → GoesByCalls gives old.state new.state
 one_call gives call a old new h = (call ∷ [], a ∷ [], (new.state, h.answers.step, refl))
 
-ticked : (gives : ℕ → ℕ → ℕ → Type 0) (n : ℕ) (old new : HalfState) → HalfTicks gives n old new
-    → GoesByCalls gives old.state new.state
+ticked : (gives : ℕ → ℕ → ℕ → Type 0) (n : ℕ) (old new : HalfState) → HalfTicks gives n old new → GoesByCalls gives old.state new.state
 ticked gives zero old new h = stays gives old.state new.state (λ i. (h i).state)
 ticked gives (suc n) old new h =
     goes_on gives old.state h.0.state new.state (ticked gives n old h.0 h.1) (one_call gives Tick answer.Tick h.0 new h.2)
@@ -49,14 +48,12 @@ same gives j k e s = stays (gives s) (half s j).state (half s k).state (λ i. (h
 then : (gives : Algorithms) (a b c : WorldState) → Both gives a b → Both gives b c → Both gives a c
 then gives a b c h k s = goes_on (gives s) (half s a).state (half s b).state (half s c).state (h s) (k s)
 
-in_half : (gives : Algorithms) (s : Side) (h : HalfState) (j : WorldState) → GoesByCalls (gives s) (half s j).state h.state
-    → Both gives j (with_half s h j)
+in_half : (gives : Algorithms) (s : Side) (h : HalfState) (j : WorldState) → GoesByCalls (gives s) (half s j).state h.state → Both gives j (with_half s h j)
 in_half gives One h j g One = g
 in_half gives Two h j g Two = g
 in_half gives s h j g t = stays (gives t) (half t j).state (half t j).state refl
 
-as_half : (gives : Algorithms) (s : Side) (h : HalfState) (j : WorldState) → h.state ≡ (half s j).state
-    → Both gives j (with_half s h j)
+as_half : (gives : Algorithms) (s : Side) (h : HalfState) (j : WorldState) → h.state ≡ (half s j).state → Both gives j (with_half s h j)
 as_half gives s h j e = in_half gives s h j (stays (gives s) (half s j).state h.state e)
 
 cables : (gives : Algorithms) (j : WorldState) (links : List LinkState) (new : WorldState) → new ≡ with_links j links → Both gives j new
@@ -73,27 +70,23 @@ collected_on : (gives : Algorithms) (st : Stamp) (j : WorldState) → Both gives
 collected_on gives (stamp.Control count) j = same gives j j refl
 collected_on gives (stamp.Data system agg conv serial) j = as_half gives _ _ j refl
 
-arrived : (gives : Algorithms) (s : Side) (p : ℕ) (item : ItemValue) (a : Result Received SystemFault) (j new : WorldState) (r :
-    Reply)
+arrived : (gives : Algorithms) (s : Side) (p : ℕ) (item : ItemValue) (a : Result Received SystemFault) (j new : WorldState) (r : Reply)
     → AfterReceive s p item a j r new → Both gives j new
 arrived gives s p item (Ok received.TookLacpdu) j new r x = subst (Both gives j) (sym x.1) (as_half gives s _ j refl)
 arrived gives s p item (Ok (received.Respond frame)) j new r x = cables gives j _ new x.1
 arrived gives s p item (Ok (received.Up agg)) j new r x = subst (Both gives j) (sym x.1) (collected_on gives item.stamp j)
 arrived gives s p item a j new r x = same gives j new x.1
 
-arrives : (gives : Algorithms) (s : Side) (p : ℕ) (item : ItemValue) (j new : WorldState) (r : Reply)
-    → WorldReceives gives s p item j r new → Both gives j new
+arrives : (gives : Algorithms) (s : Side) (p : ℕ) (item : ItemValue) (j new : WorldState) (r : Reply) → WorldReceives gives s p item j r new → Both gives j new
 arrives gives s p item j new r x =
     then gives j (with_half s x.1 j) new (in_half gives s x.1 j (one_call (gives s) (Receive p item.octets) (answer.Receive x.0)
     _ _ x.2))
     (arrived gives s p item x.0 (with_half s x.1 j) new r x.3)
 
-offered : (gives : Algorithms) (s : Side) (agg : AggId) (octets : List ℕ) (a : Result ℕ SystemFault) (j new : WorldState) (r :
-    Reply)
+offered : (gives : Algorithms) (s : Side) (agg : AggId) (octets : List ℕ) (a : Result ℕ SystemFault) (j new : WorldState) (r : Reply)
     → AfterOffer s agg octets a j r new → Both gives j new
 offered gives s agg octets (Err fault) j new r x = same gives j new x.1
-offered gives s agg octets (Ok port) j new r x =
-    let mid = with_half s (with_frame_counted agg octets (half s j)) j in
+offered gives s agg octets (Ok port) j new r x = let mid = with_half s (with_frame_counted agg octets (half s j)) j in
     then gives j mid new (as_half gives s (with_frame_counted agg octets (half s j)) j refl) (cables gives mid _ new x.2)
 
 -- what is recorded changes no state
@@ -103,8 +96,7 @@ forced_state a agg conv h = grind arith
 noted : (kept : Recording) (a : Answer) (h : HalfState) → (recorded kept a h).state ≡ h.state
 noted kept a h = grind arith
 
-changes : (gives : Algorithms) (s : Side) (h : HalfState) (j new : WorldState)
-    → GoesByCalls (gives s) (half s j).state (half s new).state
+changes : (gives : Algorithms) (s : Side) (h : HalfState) (j new : WorldState) → GoesByCalls (gives s) (half s j).state (half s new).state
     → new ≡ with_half s (half s new) j → Both gives j new
 changes gives s h j new g e = subst (Both gives j) (sym e) (in_half gives s (half s new) j g)
 
@@ -121,26 +113,21 @@ does gives e (shrinks i l m a) r old new x = cables gives old _ new x.2
 does gives e (ticks s count) r old new x =
     changes gives s (half s new) old new (ticked (gives s) count (half s old) (half s new) x.0.0) x.0.1
 does gives e (asks s call kept up) r old new x = asked gives s call kept up r old new x.1
-does gives e (restarts s) r old new x =
-    let j = with_links old (map emptied old.links) in
+does gives e (restarts s) r old new x = let j = with_links old (map emptied old.links) in
     then gives old j new (cables gives old (map emptied old.links) j refl) (asked gives s Restart changes_counted true r j new x)
 does gives e (receives s p item) r old new x = arrives gives s p item old new r x
-does gives e (delivers s i l m item) r old new x =
-    let j = with_link_at i m old in
+does gives e (delivers s i l m item) r old new x = let j = with_link_at i m old in
     then gives old j new (cables gives old (slice_set old.links i m) j refl) (arrives gives s (port_at s l) item j new r x.1)
-does gives e (emits s p) r old new x =
-    then gives old (with_half s x.1 old) new
+does gives e (emits s p) r old new x = then gives old (with_half s x.1 old) new
     (in_half gives s x.1 old (one_call (gives s) (Transmit p) (answer.Transmit x.0) (half s old) x.1 x.2))
     (emitted gives s p x.0 (with_half s x.1 old) new r x.3)
-does gives e (offers s agg octets) r old new (n, frame, named, e_is, x) =
-    then gives old (with_half s x.1 old) new
+does gives e (offers s agg octets) r old new (n, frame, named, e_is, x) = then gives old (with_half s x.1 old) new
     (in_half gives s x.1 old (one_call (gives s) (Offer agg octets) (answer.Offer x.0) (half s old) x.1 x.2))
     (offered gives s agg octets x.0 (with_half s x.1 old) new r x.3)
 
 pub each_is_calls : (gives : Algorithms) (e : Event) (r : Reply) (old new : WorldState) → WorldSteps gives old e r new
     → (s : Side) → GoesByCalls (gives s) (half s old).state (half s new).state
-each_is_calls gives e r old new x s =
-    let v = does_effect gives e r old (record new { acted = old.acted }) x.0 in
+each_is_calls gives e r old new x s = let v = does_effect gives e r old (record new { acted = old.acted }) x.0 in
     does gives e v.0 r old (record new { acted = old.acted }) v.2 s
 
 -- what holds of both systems
@@ -152,15 +139,12 @@ IsTimely s = IsSound s × PortsAreTimed s
 abbrev pub AreTimely : WorldState → Type 0
 AreTimely j = (s : Side) → IsTimely (half s j).state
 
-pub call_timely : (gives : ℕ → ℕ → ℕ → Type 0) (old new : SystemState) (call : Call) (a : Answer) → Step gives old call a new → IsTimely old
-    → IsTimely new
+pub call_timely : (gives : ℕ → ℕ → ℕ → Type 0) (old new : SystemState) (call : Call) (a : Answer) → Step gives old call a new → IsTimely old → IsTimely new
 call_timely gives old new call a h k =
     (Step-sound gives old call a new h k.0, Step-each TimedAt timed_settles gives old call a new (timed_kept call a) h k.1)
 
-pub keeps_timely : (gives : Algorithms) (e : Event) (r : Reply) (old new : WorldState) → WorldSteps gives old e r new → AreTimely old
-    → AreTimely new
-keeps_timely gives e r old new x k s =
-    let g = each_is_calls gives e r old new x s in
+pub keeps_timely : (gives : Algorithms) (e : Event) (r : Reply) (old new : WorldState) → WorldSteps gives old e r new → AreTimely old → AreTimely new
+keeps_timely gives e r old new x k s = let g = each_is_calls gives e r old new x s in
     calls_each (gives s) IsTimely (call_timely (gives s)) (half s old).state (half s new).state g.0 g.1 g.2 (k s)
 
 -- so is a steady world
@@ -172,10 +156,8 @@ pub call_steady : (gives : ℕ → ℕ → ℕ → Type 0) (old new : SystemStat
 call_steady gives old new call a h k =
     (let t = call_timely gives old new call a h (k.0, k.1) in (t.0, t.1, Step-free gives old call a new h k.2))
 
-pub keeps_steady : (gives : Algorithms) (e : Event) (r : Reply) (old new : WorldState) → WorldSteps gives old e r new → IsSteady old
-    → IsSteady new
-keeps_steady gives e r old new x k s =
-    let g = each_is_calls gives e r old new x s in
+pub keeps_steady : (gives : Algorithms) (e : Event) (r : Reply) (old new : WorldState) → WorldSteps gives old e r new → IsSteady old → IsSteady new
+keeps_steady gives e r old new x k s = let g = each_is_calls gives e r old new x s in
     calls_each (gives s) IsSteadySystem (call_steady (gives s)) (half s old).state (half s new).state g.0 g.1 g.2 (k s)
 
 pub both_first : (configs : List Config) (j : WorldState) → AreFirst configs j → (s : Side) → IsFirst (half s j).state
@@ -184,8 +166,7 @@ both_first (a ∷ b ∷ []) j h Two = h.1.first
 both_first configs j h s = absurd h
 
 pub start_steady : (configs : List Config) (j : WorldState) → IsStart j → AreFirst configs j → IsSteady j
-start_steady configs j i h s =
-    let first = both_first configs j h s in (
+start_steady configs j i h s = let first = both_first configs j h s in (
       first_sound (half s j).state (i.kept s).agrees.ports first,
       first_each TimedAt timed_settles timed_starts (half s j).state first,
       first_free (half s j).state first,

@@ -1,9 +1,8 @@
 -- What a healthy round leaves of conversations that are held on a port whose cable is healthy: their markers are answered.
-use Rattle.lagprogress.proofs.Common.{Bool, List, ap, arith, cond, drop, eqb, false, sym, true, ℕ, ◌+◌, ◌<◌, ◌∙◌, ◌≡◌, ◌≤◌, ◌⊎◌, nat_tests, none-some}
-use Rattle.lagprogress.proofs.Common.{Marker, Information, Response, Pdu, no_fault, one_pdu, Side, peer, Assignment, Flushing, Free, On, Wanted}
-use Rattle.lagprogress.proofs.Common.{is_among, after_mark, after_release, after_tick, Carries, Data_frame, Faulty, IsFrame, ReceivedFrame, Runt}
+use Rattle.lagprogress.proofs.Common.{List, ap, arith, drop, eqb, false, sym, true, ℕ, ◌+◌, ◌<◌, ◌∙◌, ◌≡◌, ◌≤◌, ◌⊎◌, nat_tests, none-some, Marker}
+use Rattle.lagprogress.proofs.Common.{Information, Response, Pdu, no_fault, one_pdu, Side, peer, Assignment, Flushing, Free, On, Wanted, is_among}
+use Rattle.lagprogress.proofs.Common.{after_mark, after_release, after_tick, Carries, Data_frame, Faulty, IsFrame, ReceivedFrame, Runt}
 use Rattle.lagprogress.proofs.Common.{held_unless_on, ItemValue}
-use Rattle.lagsystem.specs.Forcing.{after_forcing}
 use Rattle.slowpdu.specs.declared.pdu.Pdu.TheVariants as pdu
 pub use Rattle.lagprogress.proofs.Linked.{Has, has_last, has_on}
 
@@ -32,8 +31,7 @@ Fine p m W F (On q) = Unit {0}
 Fine p m W F (Wanted q preferred) = q ≡ p → W
 Fine p m W F (Flushing q id preferred age) = q ≡ p → ((m ≤ age) × (1 ≤ m → age < 30)) ⊎ F id
 
-pub fine_map : (p m : ℕ) (W V : Type 0) (F G : ℕ → Type 0) → (W → V) → ((id : ℕ) → F id → G id) → (a : Assignment) → Fine p m W F a
-    → Fine p m V G a
+pub fine_map : (p m : ℕ) (W V : Type 0) (F G : ℕ → Type 0) → (W → V) → ((id : ℕ) → F id → G id) → (a : Assignment) → Fine p m W F a → Fine p m V G a
 fine_map p m W V F G k f a h = grind (arith, nat_tests)
 
 pub is_port : (q p : ℕ) → eqb q p ≡ true → q ≡ p
@@ -43,8 +41,7 @@ pub not_port : (q p : ℕ) → eqb q p ≡ false → q ≡ p → ⊥
 not_port q p e f = grind (arith, nat_tests)
 
 -- a marker is sent on another port
-pub marked_beside : (p m q id : ℕ) (W : Type 0) (F : ℕ → Type 0) → (q ≡ p → ⊥) → (a : Assignment) → Fine p m W F a
-    → Fine p m W F (after_mark q id a)
+pub marked_beside : (p m q id : ℕ) (W : Type 0) (F : ℕ → Type 0) → (q ≡ p → ⊥) → (a : Assignment) → Fine p m W F a → Fine p m W F (after_mark q id a)
 marked_beside p m q id W F other a h = grind (arith, nat_tests)
 
 -- a marker is sent on the port, and is on its way
@@ -53,8 +50,7 @@ pub marked_here : (p m id : ℕ) (W : Type 0) (F G : ℕ → Type 0) → G id �
 marked_here p m id W F G here k a h = grind (arith, nat_tests)
 
 -- a response comes on another port
-pub released_beside : (p m q id : ℕ) (W : Type 0) (F : ℕ → Type 0) (a : Assignment) → Fine p m W F a
-    → Fine p m W F (after_release q id a)
+pub released_beside : (p m q id : ℕ) (W : Type 0) (F : ℕ → Type 0) (a : Assignment) → Fine p m W F a → Fine p m W F (after_release q id a)
 released_beside p m q id W F a h = grind (arith, nat_tests)
 
 -- a settling leaves what is On the port
@@ -65,15 +61,6 @@ settled_fine p m W F ports a k h = grind (arith, nat_tests)
 -- a tick
 pub ticked_fine : (p m : ℕ) (W : Type 0) (F : ℕ → Type 0) (a : Assignment) → Fine p m W F a → Fine p (m + 1) (Unit {0}) F (after_tick a)
 ticked_fine p m W F a h = grind (arith, nat_tests)
-
--- a frame is offered
-pub offered_fine : (p m q : ℕ) (W : Type 0) (F : ℕ → Type 0) (b : Bool) (a : Assignment) → Fine p m W F a → Fine p m W F (cond b (On q) a)
-offered_fine p m q W F b a h = grind (arith, nat_tests)
-
--- what is held on some port is forced
-
-pub forced_fine : (p m q : ℕ) (W : Type 0) (F : ℕ → Type 0) (a : Assignment) → Fine p m W F a → Fine p m W F (after_forcing q a)
-forced_fine p m q W F a h = grind (arith, nat_tests)
 
 -- frames
 

@@ -47,8 +47,7 @@ offers_on : (there known : Bool) (gives : ℕ → ℕ → ℕ → Type 0) (agg :
     (new : SystemState) → OffersIf there known gives agg conv old a new → old.table.next ≤ new.table.next
 offers_on there known gives agg conv old a new h = grind (arith, nat_tests)
 
-probes_on : (o : Option ℕ) (old : SystemState) (a : Option (List ℕ)) (new : SystemState) → ProbesAt o old a new
-    → old.table.next ≤ new.table.next
+probes_on : (o : Option ℕ) (old : SystemState) (a : Option (List ℕ)) (new : SystemState) → ProbesAt o old a new → old.table.next ≤ new.table.next
 probes_on o old a new h = grind (arith, nat_tests)
 
 host_next : (gives : ℕ → ℕ → ℕ → Type 0) (old : SystemState) (call : HostCall) (answer : HostReply) (new : SystemState)
@@ -106,8 +105,7 @@ Puts s ls j = (ls ≡ j.links) ⊎ ((port : ℕ) × (item : ItemValue) × ((x : 
 state_there : (s : Side) (h : HalfState) (ls : List LinkState) (j : WorldState) → (half s (after_call s h ls j)).state ≡ h.state
 state_there s h ls j = grind (arith, nat_tests)
 
-peer_there : (s : Side) (h : HalfState) (ls : List LinkState) (j : WorldState)
-    → (half (peer s) (after_call s h ls j)).state ≡ (half (peer s) j).state
+peer_there : (s : Side) (h : HalfState) (ls : List LinkState) (j : WorldState) → (half (peer s) (after_call s h ls j)).state ≡ (half (peer s) j).state
 peer_there s h ls j = grind (arith, nat_tests)
 
 logs_there : (s : Side) (h : HalfState) (ls : List LinkState) (j : WorldState) → h.histories ≡ (half s j).histories → (t : Side)
@@ -171,8 +169,7 @@ probe_beside gives s port (Err fault) mid old new x y =
 rest_beside : (gives : ℕ → ℕ → ℕ → Type 0) (s : Side) (agg : AggId) (conv : ℕ) (a : Result Unit SystemFault) (mid : HalfState)
     (old new : WorldState) → HalfTells gives (host.Rest agg conv) (told.Rest a) (half s old) mid
     → new ≡ with_half s (forced_if_accepted a agg conv mid) old → IsBeside gives s (host.Rest agg conv) old new
-rest_beside gives s agg conv (Ok done) mid old new x y =
-    let h = forced_if_accepted (Ok done) agg conv mid in
+rest_beside gives s agg conv (Ok done) mid old new x y = let h = forced_if_accepted (Ok done) agg conv mid in
     built gives s (host.Rest agg conv) (told.Rest (Ok done)) mid h old.links old new x tt refl refl (inl refl) tt (y ∙ same_links s h old)
 rest_beside gives s agg conv (Err fault) mid old new x y =
     built gives s (host.Rest agg conv) (told.Rest (Err fault)) mid mid old.links old new x tt refl refl (inl refl) tt (y ∙ same_links s mid old)
@@ -236,8 +233,7 @@ probes_half gives s port old new h = let b = aside gives (Probes s port) old new
     by_answer a p k = absurd p
 
 -- it leaves the cables quietly
-pub beside_quietly : (gives : ℕ → ℕ → ℕ → Type 0) (s : Side) (call : HostCall) (old new : WorldState) → IsBeside gives s call old new
-    → Quietly s old new
+pub beside_quietly : (gives : ℕ → ℕ → ℕ → Type 0) (s : Side) (call : HostCall) (old new : WorldState) → IsBeside gives s call old new → Quietly s old new
 beside_quietly gives s call old new hyp1 = grind (arith, nat_tests, each_side, beside_alone)
 
 delayed : (s : Side) (delay : ℕ) (a : Result Unit SystemFault) (old : SystemState) (new : SystemState)
@@ -255,15 +251,12 @@ Withstands p P (Hold_port n held) = n ≡ p → (x : SystemPort) → P x.port �
 Withstands p P (Set_mode n active short) = n ≡ p → (x : SystemPort) → P x.port → P (in_mode active short x).port
 Withstands p P setting = Unit {0}
 
-left_alone : (at : Side → ℕ) (s : Side) (P : Machines → Type 0) (setting : Setting) → LeavesPorts at (Sets s setting)
-    → Withstands (at s) P setting
+left_alone : (at : Side → ℕ) (s : Side) (P : Machines → Type 0) (setting : Setting) → LeavesPorts at (Sets s setting) → Withstands (at s) P setting
 left_alone at s P setting h = grind (arith, nat_tests)
 
-set_beside : (n m : ℕ) (P : Machines → Type 0) → KeptBySettling (AtPort n P) → (already : SystemPort → Bool)
-    (change : SystemPort → SystemPort) → (m ≡ n → (x : SystemPort) → P x.port → P (change x).port)
-    → ((x : SystemPort) → (change x).number ≡ x.number) → (o : Option ℕ) (old new : SystemState)
-    → port_index m old.system_ports ≡ o → SetsPort already change o old new → OfEach (AtPort n P) old.system_ports
-    → OfEach (AtPort n P) new.system_ports
+set_beside : (n m : ℕ) (P : Machines → Type 0) → KeptBySettling (AtPort n P) → (already : SystemPort → Bool) (change : SystemPort → SystemPort)
+    → (m ≡ n → (x : SystemPort) → P x.port → P (change x).port) → ((x : SystemPort) → (change x).number ≡ x.number) → (o : Option ℕ) (old new : SystemState)
+    → port_index m old.system_ports ≡ o → SetsPort already change o old new → OfEach (AtPort n P) old.system_ports → OfEach (AtPort n P) new.system_ports
 set_beside n m P k already change stands same None old new e h a = absurd h
 set_beside n m P k already change stands same (Some i) old new e h a = elim h [
   | inl is ↦ subst (λ (s : SystemState). OfEach (AtPort n P) s.system_ports) (sym is.1) a
@@ -347,8 +340,7 @@ module _ (gives : Algorithms) (s : Side) (setting : Setting) (old new : WorldSta
 module _ (X : Type 0) (g : SystemState → X) where
   pub aside_keeps : ((s : SystemState) (t : Table) → g (with_table s t) ≡ g s) → (gives : Algorithms) (e : HostEvent) (old new : WorldState)
       → IsAside e → HostSteps gives old e new → (t : Side) → g (half t new).state ≡ g (half t old).state
-  aside_keeps tables gives e old new is x =
-      let b = aside gives e old new is x in
+  aside_keeps tables gives e old new is x = let b = aside gives e old new is x in
       each_side (λ u. g (half u new).state ≡ g (half u old).state) (caller e)
       (ap g (beside_alone b) ∙ tables (half (caller e) old).state (half (caller e) new).state.table) (ap g b.peers)
 
@@ -358,8 +350,7 @@ module _ (X : Type 0) (g : SystemState → X) where
 
 -- ---- both systems
 
-beside_timely : (gives : ℕ → ℕ → ℕ → Type 0) (s : Side) (call : HostCall) (old new : WorldState) → IsBeside gives s call old new → AreTimely old
-    → AreTimely new
+beside_timely : (gives : ℕ → ℕ → ℕ → Type 0) (s : Side) (call : HostCall) (old new : WorldState) → IsBeside gives s call old new → AreTimely old → AreTimely new
 beside_timely gives s call old new b k = each_side (λ t. IsTimely (half t new).state) s
     (host_sound gives (half s old).state call b.answer (half s new).state b.promise (k s).0, subst PortsAreTimed (sym (beside_alone b)) (k s).1)
     (subst IsTimely (sym b.peers) (k (peer s)))

@@ -216,8 +216,7 @@ module _ (keys : List Key) (l : List SystemPort) (i : ℕ) (s : SystemPort) (agg
     ]
 
   pub joining_in_one : (c : Choice) → occupied c ≡ Some agg.0 → InOne (slice_set l i (with_choice s (Some c)))
-  joining_in_one c oc g h j k x y at bt o p key pair together =
-      let z : SystemPort = with_choice s (Some c) in
+  joining_in_one c oc g h j k x y at bt o p key pair together = let z : SystemPort = with_choice s (Some c) in
       let number : (g : ℕ) (t : SystemPort) → t ≡ z → occupied t.port.choice ≡ Some g → agg.0 ≡ g =
       λ g t is o. same_Some agg.0 g (sym oc ∙ sym (ap (λ (z : SystemPort). occupied z.port.choice) is) ∙ o) in
       elim (set_cases l i j z x at) [
@@ -249,20 +248,17 @@ agreed_zip R k keys old new h a =
 
 promotion_in_one : (l : List SystemPort) (i : ℕ) (s : SystemPort) (agg : AggId) → slice_get l i ≡ Some s → s.port.choice ≡ Standby agg → InOne l
     → InOne (slice_set l i (with_choice s (Some (Selected agg))))
-promotion_in_one l i s agg there stands a =
-    let t : SystemPort = with_choice s (Some (Selected agg)) in
+promotion_in_one l i s agg there stands a = let t : SystemPort = with_choice s (Some (Selected agg)) in
     let here : OccupiesAsBefore s.port t.port = inr (sym (ap occupied stands), refl, refl) in
     grind (arith, nat_tests, by_place, slice_set, set_cases, slice_get, a)
 
 occupied_if : (room : Bool) (agg : AggId) → occupied (choice_if room agg) ≡ Some agg.0
 occupied_if room agg = grind (arith, nat_tests)
 
-choice_agreed : (aggs : AggregatorsValue) (l : List SystemPort) (i : ℕ) (s : SystemPort) (o : Option AggId) → Rises 0 (port_numbers l)
-    → slice_get l i ≡ Some s → aggregator_for aggs.keys l s ≡ o → Agreed aggs.keys l
-    → Agreed aggs.keys (slice_set l i (with_choice s (option_map (choice_in aggs (views l)) o)))
+choice_agreed : (aggs : AggregatorsValue) (l : List SystemPort) (i : ℕ) (s : SystemPort) (o : Option AggId) → Rises 0 (port_numbers l) → slice_get l i ≡ Some s
+    → aggregator_for aggs.keys l s ≡ o → Agreed aggs.keys l → Agreed aggs.keys (slice_set l i (with_choice s (option_map (choice_in aggs (views l)) o)))
 choice_agreed aggs l i s None r e k a = subst (Agreed aggs.keys) (sym (set_same l i s e)) a
-choice_agreed aggs l i s (Some agg) r e k a =
-    let c : Choice = choice_if (has_room aggs (views l) agg) agg in
+choice_agreed aggs l i s (Some agg) r e k a = let c : Choice = choice_if (has_room aggs (views l) agg) agg in
     let oc = occupied_if (has_room aggs (views l) agg) agg in (
       joining_agrees aggs.keys l i s agg c e oc ((taken_joins aggs.keys l i s agg r e k).1) a.0,
       joining_in_one aggs.keys l i s agg r e k a.0 a.1 c oc,
@@ -288,8 +284,7 @@ choosing_agreed aggs old new r h a =
 
 settling_agreed : (old new : SystemState) → Rises 0 (port_numbers old.system_ports) → Settling old new → Agreed old.keys old.system_ports
     → Agreed new.keys new.system_ports
-settling_agreed old new r h a =
-    let s = settling_in old new h in
+settling_agreed old new r h a = let s = settling_in old new h in
     let keys = old.keys in
     let rise = subst (λ ns. Rises 0 ns) (sym (zip_numbers (RunsToRest (mux_rows false)) old.system_ports s.one s.stops)) r in
     subst (λ k. Agreed k new.system_ports) (sym (ap (λ (x : SystemState). x.keys) (settling_keeps old new h).frame))
@@ -303,8 +298,7 @@ settling_agreed old new r h a =
 settled_in_one : (own : SystemState → SystemState → Type 0) (old new : SystemState) → Rises 0 (port_numbers old.system_ports)
     → ((mid : SystemState) → own old mid → Keeps old mid) → ((mid : SystemState) → own old mid → EachStays old.system_ports mid.system_ports)
     → ThenSettles own old new → Agreed old.keys old.system_ports → InOne new.system_ports
-settled_in_one own old new r keeps each h a =
-    let k = keeps h.0 h.1 in
+settled_in_one own old new r keeps each h a = let k = keeps h.0 h.1 in
     let e = each h.0 h.1 in
     (settling_agreed h.0 new (subst (λ ns. Rises 0 ns) (sym k.same) r) h.2
     (subst (λ ks. Agreed ks h.0.system_ports) (sym (ap (λ (x : SystemState). x.keys) k.frame))
@@ -379,24 +373,17 @@ host_call gives old (host.Call call) (told.Call answer) new h p = record {
   occupants = (Step-placed gives old (call_of call) answer new h.step p.agree.ports (p.occupants, p.agree.limited)).0;
   whole = step_in_one gives old (call_of call) answer new h.step p.agree.ports p.occupants p.whole;
 }
-host_call gives old (host.OfferConversation agg conv) answer new h p =
-    beside old new (host_alone gives old (host.OfferConversation agg conv) answer new h tt) p
-host_call gives old (host.LeaveConversation agg conv) answer new h p = grind arith
-host_call gives old (host.Probe port) answer new h p = beside old new (host_alone gives old (host.Probe port) answer new h tt) p
-host_call gives old (host.Rest agg conv) answer new h p = beside old new (host_alone gives old (host.Rest agg conv) answer new h tt) p
-host_call gives old (host.ForcePort port) answer new h p = beside old new (host_alone gives old (host.ForcePort port) answer new h tt) p
-host_call gives old call answer new h p = absurd h
+host_call gives old (host.Call call) answer new h p = absurd h
+host_call gives old call answer new h p = beside old new (host_alone gives old call answer new h tt) p
 
 host_calls : (gives : ℕ → ℕ → ℕ → Type 0) (old new : SystemState) (calls : List HostCall) (answers : List HostReply)
     → HostRun gives old calls answers new → Placed old → Placed new
 host_calls gives old new [] [] h p = subst Placed (sym h) p
-host_calls gives old new [] (r ∷ answers) h p = absurd h
-host_calls gives old new (c ∷ calls) [] h p = absurd h
 host_calls gives old new (c ∷ calls) (r ∷ answers) h p = host_calls gives h.0 new calls answers h.2 (host_call gives old c r h.0 h.1 p)
+host_calls gives old new calls answers h p = absurd h
 
 pub calls_keep_whole : (gives : ℕ → ℕ → ℕ → Type 0) → CallsKeepGroupsWhole gives
-calls_keep_whole gives old new calls answers sound whole run =
-    let p = host_calls gives old new calls answers run
+calls_keep_whole gives old new calls answers sound whole run = let p = host_calls gives old new calls answers run
     (record { agree = agrees old sound; occupants = sound.occupants; whole = in_one_of old whole }) in
     whole_of new p.agree p.occupants p.whole
 
@@ -422,8 +409,7 @@ reached_whole gives configs es rs start new made first run s =
 
 one_whole : (gives : Algorithms) (s : Side) (e : HostEvent) (r : Reply) (i j : WorldState) → IsCalm e → StepReplies gives i e r j → IsSteady i
     → InOne (half s i).state.system_ports → InOne (half s j).state.system_ports
-one_whole gives s (Plays e) r i j c h k w =
-    let g = each_is_calls gives e r i j h s in
+one_whole gives s (Plays e) r i j c h k w = let g = each_is_calls gives e r i j h s in
     (calls_each (gives s) Whole (call_whole (gives s)) (half s i).state (half s j).state g.0 g.1 g.2 ((k s).0, w)).1
 one_whole gives s e r i j c h k w = subst InOne (sym (quiet_ports gives e r i j c h s)) w
 
@@ -449,8 +435,7 @@ module _ (Holds : LinkState → WorldState → Type 0) (first : ℕ) (gives : Al
     -- a port whose link is up is SELECTED
     up_selected : (k : ℕ) (x : SystemPort) → slice_get (half s new).state.system_ports k ≡ Some x → x.port.enabled ≡ true
         → (agg : AggId) × (x.port.choice ≡ Selected agg)
-    up_selected k x there on =
-        let it = still_heard Holds s old new (last.before s) b.heard k x there on in
+    up_selected k x there on = let it = still_heard Holds s old new (last.before s) b.heard k x there on in
         let e = end_of Distributes (port_at s it.link) (half s new).state (each_link_comes_up LateRounds 1 Holds first gives
         meet n it.index it.link old new b it.healthy many h s) in
         let number : e.1.number ≡ x.number = found_place (port_at s it.link) (half s new).state.system_ports e.0 e.1 e.2 e.3 ∙ it.joins in

@@ -27,8 +27,7 @@ pub end_of : (P : Machines → Type 0) (n : ℕ) (s : SystemState) → OfPort P 
 end_of P n s h = grind (arith, nat_tests)
 
 pub own_says : (p : Machines) → Says (pdu_of p 0) p
-own_says p =
-    let bits = said_bits p in
+own_says p = let bits = said_bits p in
     (sym (ap (named (actor_of p)) bits), sym (ap (λ (b : StateBits). b.activity) bits), sym (ap (λ (b : StateBits). b.timeout) bits))
 
 -- what the LACPDUs of the port at an end say
@@ -87,8 +86,7 @@ own_number s k x h there =
     h.members.number x.number (model_port_of x) (ap (option_map model_port_of) found)
 
 pub named_at : (l : LinkState) (j : WorldState) (e : Ends l j) → IsSteady j → (t : Side) → IsNamed (said_by l j e t)
-named_at l j e steady t same =
-    let st = (half t j).state in
+named_at l j e steady t same = let st = (half t j).state in
     let x = (e t).1 in
     let some : 0 < x.number = higher 0 st.system_ports (e t).0 x (ports_rise st (steady t).0.ports) (e t).3 in
     grind (arith, nat_tests, own_says, own_number)
@@ -96,8 +94,7 @@ named_at l j e steady t same =
 pub awake_at : (w : Side → Lacpdu) (a : Side) → activity (w a) ≡ true → (s : Side) → (activity (w s) ≡ true) ⊎ (activity (w (peer s)) ≡ true)
 awake_at w a h = grind (arith, nat_tests, each_side, peer_twice)
 
-pub active_at : (l : LinkState) (j : WorldState) (e : Ends l j) (a : Side) → AtEnd (λ p. p.active ≡ true) a l j
-    → activity (said_by l j e a) ≡ true
+pub active_at : (l : LinkState) (j : WorldState) (e : Ends l j) (a : Side) → AtEnd (λ p. p.active ≡ true) a l j → activity (said_by l j e a) ≡ true
 active_at l j e a h = sym (own_says (e a).1.port).1
     ∙ subst (OfPort (λ p. p.active ≡ true)) (machines_there (port_at a l) (half a j).state (e a).0 (e a).1 (e a).2 (e a).3) h
 
@@ -110,14 +107,12 @@ Alike x p = (p.party ≡ x.party) × (p.enabled ≡ x.enabled)
 pub alike_keeps : (n : ℕ) (x : Machines) → RoundKeeps (AtPort n (Alike x))
 alike_keeps n x = own_keeps (λ party up. (party ≡ x.party) × (up ≡ x.enabled)) n
 
-pub alike_ticks : (n : ℕ) (x : Machines) (m : ℕ) (p q : Machines) → RunsToRest receive_rows (count_down p) q → AtPort n (Alike x) m p
-    → AtPort n (Alike x) m q
+pub alike_ticks : (n : ℕ) (x : Machines) (m : ℕ) (p q : Machines) → RunsToRest receive_rows (count_down p) q → AtPort n (Alike x) m p → AtPort n (Alike x) m q
 alike_ticks n x = own_ticks (λ party up. (party ≡ x.party) × (up ≡ x.enabled)) n
 
 pub alike_on : (gives : Algorithms) (old new : WorldState) → IsSteady old → Passes gives old new → (s : Side) (k : ℕ) (x : SystemPort)
     → slice_get (half s old).state.system_ports k ≡ Some x → EachAt (AtPort x.number (Alike x.port)) s new
-alike_on gives old new steady h s k x there =
-    let st = (half s old).state in
+alike_on gives old new steady h s k x there = let st = (half s old).state in
     each_on gives old new h (AtPort x.number (Alike x.port)) (alike_keeps x.number x.port) (alike_ticks x.number x.port) s
     (at_number (Alike x.port) 0 st.system_ports k x (ports_rise st (steady s).0.ports) there (refl, refl))
 
@@ -134,8 +129,7 @@ pub record IsAsBefore (s : Side) (old new : WorldState) : Type 0 where
       → slice_get (half s new).state.system_ports k ≡ Some y → Alike x.port y.port
 
 pub before_on : (gives : Algorithms) (old new : WorldState) → IsSteady old → Passes gives old new → (s : Side) → IsAsBefore s old new
-before_on gives old new steady h s =
-    let now = steady_on gives old new h steady in
+before_on gives old new steady h s = let now = steady_on gives old new h steady in
     let ports = same_on gives old new h (List PortConfig) (λ t. t.ports) (λ t a b. refl) (λ t a. refl) (λ t d. refl) s in
     let numbers : port_numbers (half s new).state.system_ports ≡ port_numbers (half s old).state.system_ports =
     (now s).0.ports.same ∙ (ap configured_numbers ports ∙ sym (steady s).0.ports.same) in
@@ -155,8 +149,7 @@ played_before E gives n old new steady h = before_on gives old new steady (playe
 -- the port that stood at the place
 pub old_port : (xs ys : List SystemPort) (k : ℕ) (y : SystemPort) → port_numbers ys ≡ port_numbers xs → slice_get ys k ≡ Some y
     → (x : SystemPort) × (slice_get xs k ≡ Some x) × (y.number ≡ x.number)
-old_port xs ys k y numbers f =
-    let within = slice_get_within ys k y f in
+old_port xs ys k y numbers f = let within = slice_get_within ys k y f in
     let one = many xs in
     let two = many ys in
     let both = ap (λ (ns : List ℕ). length ns) numbers in
@@ -165,8 +158,7 @@ old_port xs ys k y numbers f =
       | inr p ↦ (let past = p.0 in absurd (omega (arith, within, one, two, both, past)))
     ]
 
-same_ports_with : (s : Side) (old new : WorldState) → IsAsBefore s old new → (key : Key)
-    → ports_with key (half s new).state ≡ ports_with key (half s old).state
+same_ports_with : (s : Side) (old new : WorldState) → IsAsBefore s old new → (key : Key) → ports_with key (half s new).state ≡ ports_with key (half s old).state
 same_ports_with s old new b key = grind (arith, nat_tests, many, counted, count_same)
 
 same_aggregators_with : (s : Side) (old new : WorldState) → IsAsBefore s old new → (key : Key)
@@ -175,16 +167,14 @@ same_aggregators_with s old new b key = ap (λ (ks : List Key). length (filter (
 
 -- of a key
 pub still_enough : (s : Side) (old new : WorldState) → IsAsBefore s old new → (key was : Key) → key ≡ was
-    → ports_with was (half s old).state ≤ aggregators_with was (half s old).state
-    → ports_with key (half s new).state ≤ aggregators_with key (half s new).state
+    → ports_with was (half s old).state ≤ aggregators_with was (half s old).state → ports_with key (half s new).state ≤ aggregators_with key (half s new).state
 still_enough s old new hyp1 key was hyp2 hyp3 = grind (arith, nat_tests, same_ports_with, same_aggregators_with)
 
 pub still_one : (s : Side) (old new : WorldState) → IsAsBefore s old new → (key was : Key) → key ≡ was
     → 1 ≤ aggregators_with was (half s old).state → 1 ≤ aggregators_with key (half s new).state
 still_one s old new b key was e one = grind (arith, nat_tests)
 
-pub still_aggregators : (s : Side) (old new : WorldState) → IsAsBefore s old new → EnoughAggregators (half s old).state
-    → EnoughAggregators (half s new).state
+pub still_aggregators : (s : Side) (old new : WorldState) → IsAsBefore s old new → EnoughAggregators (half s old).state → EnoughAggregators (half s new).state
 still_aggregators s old new b enough k y there up = grind (arith, nat_tests, old_port, half, still_enough)
 
 pub still_links : (s : Side) (old new : WorldState) → IsAsBefore s old new → EnoughLinks (half s old).state → EnoughLinks (half s new).state
@@ -195,8 +185,7 @@ still_links s old new b enough k most y there limit =
 
 -- a port whose link is up ended a healthy cable before
 pub still_heard : (Holds : LinkState → WorldState → Type 0) (s : Side) (old new : WorldState) → IsAsBefore s old new → AllHeard Holds old
-    → (k : ℕ) (z : SystemPort) → slice_get (half s new).state.system_ports k ≡ Some z → z.port.enabled ≡ true
-    → EndsHealthyCable Holds s z.number old
+    → (k : ℕ) (z : SystemPort) → slice_get (half s new).state.system_ports k ≡ Some z → z.port.enabled ≡ true → EndsHealthyCable Holds s z.number old
 still_heard Holds s old new like heard k z there up = grind (arith, nat_tests, old_port, half)
 
 -- the ports of a system name it
@@ -212,8 +201,7 @@ own_system s k x h there = own_named s k x h.ports h.members there
 
 -- each place of a list
 
-pub all_by_place : (P : SystemPort → Type 0) (xs : List SystemPort) → ((k : ℕ) (x : SystemPort) → slice_get xs k ≡ Some x → P x)
-    → AllByRecursion P xs
+pub all_by_place : (P : SystemPort → Type 0) (xs : List SystemPort) → ((k : ℕ) (x : SystemPort) → slice_get xs k ≡ Some x → P x) → AllByRecursion P xs
 all_by_place P [] h = tt
 all_by_place P (x ∷ xs) h = (h zero x refl, all_by_place P xs (λ k y e. h (suc k) y e))
 

@@ -60,8 +60,7 @@ module _ (gives : Algorithms) (t : Side) (x : ℕ) (at : Side → ℕ) (j : Worl
           (subst (λ n. ArriveIn n t x es) (ap (λ (zs : List ItemValue). length zs) e ∙ one_longer xs item) h)
   must_arrive es rs i fl a b c h run = absurd run
 
-old_arrive : (gives : Algorithms) (old new : WorldState) → IsCabling (world_setup old).cables → (h : IsHostRound gives old new)
-    → OldArrive h.events old new
+old_arrive : (gives : Algorithms) (old new : WorldState) → IsCabling (world_setup old).cables → (h : IsHostRound gives old new) → OldArrive h.events old new
 old_arrive gives old new cabling h s i l y = must_arrive gives s i (λ t. port_at t l) new
     (λ fl on. sym (towards_there s (λ t. port_at t l) fl) ∙ h.empties s i (cable (λ t. port_at t l) fl) on.there)
     h.events h.replies old (λ t. towards t l) true true (healthy_cable i l old cabling y) h.ticks h.acts

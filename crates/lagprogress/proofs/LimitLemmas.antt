@@ -9,7 +9,7 @@ use Rattle.lagprogress.proofs.Common.{IsWorldSound, LinkState, WorldState, half,
 use Rattle.lagprogress.proofs.Common.{KeptBySettling, OfEach, Step-each, first_each, place_each, settling_each, no, AtPort, at_number, mux_leaves}
 use Rattle.lagprogress.proofs.Common.{periodic_leaves, RowsKeep, runs_keep, takes_keep, LateRounds, OldArrive, EndKnows, Knows, AtEnd, IsHealthyAt}
 use Rattle.lagprogress.proofs.Common.{OfPort}
-use Rattle.lagprogress.proofs.SharedLemmas.{played_lasted, shared_finds}
+use Rattle.lagprogress.proofs.SharedLemmas.{played_lasted, shared_finds, standing}
 use Rattle.lagprogress.proofs.EachRound.{played_join, played_steady, RoundKeeps, played_pass, same_on, each_on}
 use Rattle.lagprogress.proofs.Lasting.{played_alike, played_before, all_by_place, ends_at, own_system, still_heard, still_links, Alike, end_of}
 use Rattle.lagprogress.proofs.Linked.{each_side, events_each, machines_there}
@@ -38,14 +38,8 @@ idle_settles : KeptBySettling IdleAt
 idle_settles = record {
   mux = λ n. mux_leaves Idle;
   periodic = λ n. periodic_leaves Idle;
-  select = λ n choice p none may a e. absurd (elim may.0 [
-    | inl up ↦ no (sym e ∙ up.0)
-    | inr s ↦ standing s.0 (sym s.1 ∙ a e)
-  ]);
+  select = λ n choice p none may a e. absurd (elim may.0 [ inl up ↦ no (sym e ∙ up.0) | inr s ↦ standing s.0 (sym s.1 ∙ a e) ]);
 }
-  where
-    standing : (agg : AggId) → Standby agg ≡ Unselected → ⊥
-    standing agg e = cc
 
 idle_takes : (v : Lacpdu) (p q : Machines) → ProcessesLacpdu v p q → Idle p → Idle q
 idle_takes v = takes_keep Idle v (λ p a e. chooses_none (same_party (party_of v.actor) (party_of p.partner)) p.choice (a e), tt)
@@ -99,13 +93,11 @@ call_idle gives old new (Set_link n up) answer h some a = absurd h
 call_idle gives old new call answer h some a =
     Step-each IdleAt idle_settles gives old call answer new (idle_kept call answer (λ n up e. cc)) h a
 
-call_limits : (gives : ℕ → ℕ → ℕ → Type 0) (old new : SystemState) (call : Call) (answer : Answer) → Step gives old call answer new → Limits old
-    → Limits new
+call_limits : (gives : ℕ → ℕ → ℕ → Type 0) (old new : SystemState) (call : Call) (answer : Answer) → Step gives old call answer new → Limits old → Limits new
 call_limits gives old new call answer h a some = grind (arith, call_idle)
 
 pub each_reached_has_down_unselected : (gives : Algorithms) → EachReachedHasDownUnselected gives
-each_reached_has_down_unselected gives configs es rs start new s i h runs some k x there =
-    let st = (half s start).state in
+each_reached_has_down_unselected gives configs es rs start new s i h runs some k x there = let st = (half s start).state in
     let first : Limits st = λ o. first_each IdleAt idle_settles idle_first st (both_first configs start h s) in
     all-get (λ (y : SystemPort). Idle y.port) (half s new).state.system_ports k x there (events_each gives s Limits (call_limits (gives s)) es rs start new runs first some)
 
@@ -125,8 +117,7 @@ module _ (Holds : LinkState → WorldState → Type 0) (t : Side) (gives : Algor
     wants : WantsAggregator port.port
 
   known : (i : ℕ) (l : LinkState) → IsHealthyAt i l old → (s : Side) → Known s l
-  known i l y s =
-      let st = (half s new).state in
+  known i l y s = let st = (half s new).state in
       let now = played_steady OldArrive gives n old new b.steady h in
       let e = end_of (λ p. AtEnd (λ q. Knows p q) (peer s) l new) (port_at s l) st (knows i l y s) in
       let f = end_of (λ q. Knows e.1.port q) (port_at (peer s) l) (half (peer s) new).state e.4 in
@@ -159,8 +150,7 @@ module _ (Holds : LinkState → WorldState → Type 0) (t : Side) (gives : Algor
   Chooses s l = AtEnd (λ p. selected p ≡ true) s l new ⊎ AtEnd (StandsByFull (half s new).state) s l new
 
   chooses : (i : ℕ) (l : LinkState) → IsHealthyAt i l old → (s : Side) → Chooses s l
-  chooses i l y s =
-      let st = (half s new).state in
+  chooses i l y s = let st = (half s new).state in
       let e = known i l y s in
       let found = machines_there (port_at s l) st e.place e.port e.index e.there in
       elim (shared_finds old new b.steady (played_lasted OldArrive gives n old new b.steady h) Holds b.heard knows b.aggregators
@@ -187,8 +177,7 @@ module _ (Holds : LinkState → WorldState → Type 0) (t : Side) (gives : Algor
   -- so each member of an aggregator agrees
   member : (agg : AggId) (k : ℕ) (x : SystemPort) → slice_get (half t new).state.system_ports k ≡ Some x → has_chosen agg x.port.choice ≡ true
       → EndsAgreed t x.number new
-  member agg k x there chose =
-      let st = (half t new).state in
+  member agg k x there chose = let st = (half t new).state in
       let like = played_before OldArrive gives n old new b.steady h t in
       let now = played_steady OldArrive gives n old new b.steady h t in
       let sel : selected x.port ≡ true = is_chosen x.port.choice chose in

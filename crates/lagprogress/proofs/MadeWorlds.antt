@@ -24,15 +24,13 @@ use Rattle.lagprogress.proofs.Played.{runs_append}
 
 -- What holds of each world that events lead to.
 
-pub runs_steady : (gives : Algorithms) (es : List Event) (rs : List Reply) (old new : WorldState) → WorldRuns gives old es rs new
-    → IsSteady old → IsSteady new
+pub runs_steady : (gives : Algorithms) (es : List Event) (rs : List Reply) (old new : WorldState) → WorldRuns gives old es rs new → IsSteady old → IsSteady new
 runs_steady gives es rs old new h k s = events_each gives s IsSteadySystem (call_steady (gives s)) es rs old new h (k s)
 
 runs_sound : (gives : Algorithms) (es : List Event) (rs : List Reply) (old new : WorldState) → WorldRuns gives old es rs new
     → new.acted ≤ most_events → IsSound old → IsSound new
 runs_sound gives [] [] old new h few i = subst IsSound (sym h) i
-runs_sound gives (e ∷ es) (r ∷ rs) old new h few i =
-    let above = rises gives es rs h.0 new h.2 in
+runs_sound gives (e ∷ es) (r ∷ rs) old new h few i = let above = rises gives es rs h.0 new h.2 in
     runs_sound gives es rs h.0 new h.2 few
     (steps_sound gives e r old h.0 i (accepted gives e r old h.0 h.1 (omega (arith, above, few))) h.1)
 runs_sound gives es rs old new h few i = absurd h
@@ -95,17 +93,13 @@ module _ {C : Type 0} (items : C → List Item) (limit : C → Option ℕ) where
   -- in healthy rounds of hosts
 
   pub distribute : (Holds : LinkState → WorldState → Type 0) (least : ℕ) (gives : Algorithms) → EachLinkComesUp LateRounds Holds least gives
-      → (n : ℕ) (old new : WorldState) → (IsSteady old → HostRounds gives n old new)
-      → LeadsTo items limit EachDistributes Holds least gives n old new
-  distribute Holds least gives by n old new h r ready enough i l healthy =
-      let b = (is_bundle Holds gives old r ready).1 in
+      → (n : ℕ) (old new : WorldState) → (IsSteady old → HostRounds gives n old new) → LeadsTo items limit EachDistributes Holds least gives n old new
+  distribute Holds least gives by n old new h r ready enough i l healthy = let b = (is_bundle Holds gives old r ready).1 in
       by n i l old new b healthy enough (host_rounds_are_late_rounds gives n old new b.cabling (h b.steady))
 
   pub agree : (Holds : LinkState → WorldState → Type 0) (least : ℕ) (gives : Algorithms) → EachLinkAgrees LateRounds Holds least gives
-      → (n : ℕ) (old new : WorldState) → (IsSteady old → HostRounds gives n old new)
-      → LeadsTo items limit EachAgrees Holds least gives n old new
-  agree Holds least gives by n old new h r ready enough i l healthy =
-      let both = is_bundle Holds gives old r ready in
+      → (n : ℕ) (old new : WorldState) → (IsSteady old → HostRounds gives n old new) → LeadsTo items limit EachAgrees Holds least gives n old new
+  agree Holds least gives by n old new h r ready enough i l healthy = let both = is_bundle Holds gives old r ready in
       by n i l old new both.0 both.1 healthy enough (host_rounds_are_late_rounds gives n old new both.1.cabling (h both.1.steady))
 
   -- that ask until nothing is due
@@ -118,8 +112,7 @@ module _ {C : Type 0} (items : C → List Item) (limit : C → Option ℕ) where
   pub free_by_hosts : (Holds : LinkState → WorldState → Type 0) (least : ℕ) (gives : Algorithms) → NothingIsHeldByHosts Holds least gives
       → (n : ℕ) (old new : WorldState) → RunsEvents gives old new → (IsSteady old → (s : Side) (g k : ℕ) → DrainingRounds s g k gives n old new)
       → LeadsTo items limit NothingStaysHeld Holds (least + 30) gives n old new
-  free_by_hosts Holds least gives by n old new run h r ready enough s left g k =
-      let b = (is_bundle Holds gives old r ready).1 in
+  free_by_hosts Holds least gives by n old new run h r ready enough s left g k = let b = (is_bundle Holds gives old r ready).1 in
       let all = h b.steady s g k in
       let cut = draining_splits gives s g k 30 (n - 30) n old new (omega (arith, enough)) all in
       by (n - 30) 30 old cut.0 new s g k b (omega (arith, enough))

@@ -45,24 +45,17 @@ collects_in m c e h = absurd (true≢false (sym h))
 -- at some event of a run of ticks and what comes between, or not yet
 
 until : (gives : Algorithms) (t : Side) (P : WorldState → Event → Reply → Type 0) (I : Bool → Bool → WorldState → Type 0)
-    → ((a b : Bool) (e : HostEvent) (r : Reply) (i j : WorldState) → IsBetweenTicks e → StepReplies gives i e r j → I a b i
-    → IsEventWhere P i e r ⊎ I a b j)
+    → ((a b : Bool) (e : HostEvent) (r : Reply) (i j : WorldState) → IsBetweenTicks e → StepReplies gives i e r j → I a b i → IsEventWhere P i e r ⊎ I a b j)
     → ((b : Bool) → MadeByTick gives t (I true b) (I false b)) → ((a : Bool) → MadeByTick gives (peer t) (I a true) (I a false))
     → (es : List HostEvent) (rs : List Reply) (i j : WorldState) (a b : Bool) → TickOnce t a b es → (run : RunReplies gives i es rs j) → I a b i
     → SometimePlayed P gives es rs i j run ⊎ I false false j
 until gives t P I between own other [] [] i j a b h run m = grind (arith, nat_tests)
 until gives t P I between own other (e ∷ es) (r ∷ rs) i j a b (inl (k, due, h)) run m =
     elim (until gives t P I between own other es rs run.0 j false b h run.2
-    (own b k.0 r i run.0 k.1 (subst (λ x. StepReplies gives i x r run.0) k.2 run.1) (subst (λ x. I x b i) due m))) [
-      | inl p ↦ inl (inr p)
-      | inr n ↦ inr n
-    ]
+    (own b k.0 r i run.0 k.1 (subst (λ x. StepReplies gives i x r run.0) k.2 run.1) (subst (λ x. I x b i) due m))) [ inl p ↦ inl (inr p) | inr n ↦ inr n ]
 until gives t P I between own other (e ∷ es) (r ∷ rs) i j a b (inr (inl (k, due, h))) run m =
     elim (until gives t P I between own other es rs run.0 j a false h run.2
-    (other a k.0 r i run.0 k.1 (subst (λ x. StepReplies gives i x r run.0) k.2 run.1) (subst (λ x. I a x i) due m))) [
-      | inl p ↦ inl (inr p)
-      | inr n ↦ inr n
-    ]
+    (other a k.0 r i run.0 k.1 (subst (λ x. StepReplies gives i x r run.0) k.2 run.1) (subst (λ x. I a x i) due m))) [ inl p ↦ inl (inr p) | inr n ↦ inr n ]
 until gives t P I between own other (e ∷ es) (r ∷ rs) i j a b (inr (inr h)) run m = elim (between a b e r i run.0 h.0 run.1 m) [
   | inl p ↦ inl (inl p)
   | inr k ↦ elim (until gives t P I between own other es rs run.0 j a b h.1 run.2 k) [ inl p ↦ inl (inr p) | inr n ↦ inr n ]
@@ -123,8 +116,7 @@ module _ (gives : Algorithms) (s : Side) (i : ℕ) (l : LinkState) (w : Side →
   -- the port there collects
   hands_up : (k : Side → ℕ) (n : ℕ) (r : Reply) (old new : WorldState) → side_of n ≡ Some (peer s) → Ends k old → (f : OnItsWay s l item start old)
       → WorldSteps gives old (event.Deliver (suc f.index) n) r new → HandsUp (peer s) i item old (event.Deliver (suc f.index) n) r
-  hands_up k n r old new named e f h =
-      let t = peer s in
+  hands_up k n r old new named e f h = let t = peer s in
       let st = (half t old).state in
       let fl = f.flying in
       let z = end_here at w 2 k t PartnerInSync old e t in
@@ -189,8 +181,7 @@ module _ (gives : Algorithms) (s : Side) (i : ℕ) (l : LinkState) (w : Side →
 
   -- a run in which each system ticks once and that leaves nothing on the cables hands it up
   pub in_run : (es : List HostEvent) (rs : List Reply) (old new : WorldState) → TickOnce One true true es → (run : RunReplies gives old es rs new)
-      → NothingInFlight new → Ends c old → OnItsWay s l item start old
-      → SometimePlayed (HandsUp (peer s) i item) gives es rs old new run
+      → NothingInFlight new → Ends c old → OnItsWay s l item start old → SometimePlayed (HandsUp (peer s) i item) gives es rs old new run
   in_run es rs old new turns run none e f = elim (until gives (peer s) (HandsUp (peer s) i item) Flies between_on own other es rs old new true true
       (of_side (peer s) es turns) run (none_counted 2 at w c (peer s) (peer s) PartnerInSync old e, f)) [
         | inl p ↦ p
@@ -237,8 +228,7 @@ module _ (Holds : LinkState → WorldState → Type 0) (first : ℕ) (gives : Al
   -- the healthy cable of a port that is up
   carrier : (n : ℕ) (s : Side) (agg : AggId) (octets : List ℕ) (r : Reply) (mid sent : WorldState) → DisabledAreUnsynchronized (half s old).state
       → LateRounds gives n old mid → (g : GetsPort s agg octets mid r sent) → EndsHealthyCable Holds s g.port old
-  carrier n s agg octets r mid sent quiet h g =
-      let st = (half s mid).state in
+  carrier n s agg octets r mid sent quiet h g = let st = (half s mid).state in
       let now = played_steady OldArrive gives n old mid b.steady h in
       let up = distributes_up st agg g.port (now s).0 (each_on gives old mid (played_pass OldArrive gives n old mid h) LapsesAt lapse_round
       (λ k p r run c. runs_keep Lapses receive_rows receive_lapses (count_down p) r run c) s
@@ -246,10 +236,9 @@ module _ (Holds : LinkState → WorldState → Type 0) (first : ℕ) (gives : Al
       subst (λ p. EndsHealthyCable Holds s p old) up.3
       (still_heard Holds s old mid (played_before OldArrive gives n old mid b.steady h s) b.heard up.0 up.1 up.2 up.4)
 
-  pub arrives : (n number : ℕ) (s : Side) (agg : AggId) (octets : Vec ℕ) (r : Reply) (mid sent new : WorldState)
-      → DisabledAreUnsynchronized (half s old).state → first + 33 ≤ n → LateRounds gives n old mid → NothingInFlight mid → side_of number ≡ Some s
-      → TakesFrame agg octets.items (half s mid).state → WorldSteps gives mid (event.Offer number agg octets) r sent
-      → (q : IsHostRound gives sent new)
+  pub arrives : (n number : ℕ) (s : Side) (agg : AggId) (octets : Vec ℕ) (r : Reply) (mid sent new : WorldState) → DisabledAreUnsynchronized (half s old).state
+      → first + 33 ≤ n → LateRounds gives n old mid → NothingInFlight mid → side_of number ≡ Some s → TakesFrame agg octets.items (half s mid).state
+      → WorldSteps gives mid (event.Offer number agg octets) r sent → (q : IsHostRound gives sent new)
       → Arrives s agg octets.items mid r sent (λ P. SometimePlayed P gives q.events q.replies sent new q.acts)
   arrives n number s agg octets r mid sent new quiet enough h none told takes step q =
       let now = played_steady OldArrive gives n old mid b.steady h in

@@ -54,14 +54,11 @@ lawful_overtaken x w c Two ms o i = go
     go One = half_out _ _ _ _ _ _ _ _ _ _ _ _ _ _ _ c ms o (i One)
     go Two = half_back _ _ _ _ _ _ _ _ _ _ _ _ _ _ _ c ms o (i Two)
 
-run_kept : (x : WorldSetup) (es : List (Option Event)) (old new : World) → IsWorldSetup x → Lawful x old → OvertakingRun x es old new
-    → Lawful x new
+run_kept : (x : WorldSetup) (es : List (Option Event)) (old new : World) → IsWorldSetup x → Lawful x old → OvertakingRun x es old new → Lawful x new
 run_kept x [] old new f i r = subst (Lawful x) (sym r) i
 run_kept x (Some e ∷ es) old new f i r = run_kept x es r.0 new f (happens_kept x e old r.0 f i r.1) r.2
-run_kept x (None ∷ es) old new f i r =
-    let o = r.1 in
+run_kept x (None ∷ es) old new f i r = let o = r.1 in
     run_kept x es r.0 new f (subst (Lawful x) (sym o.new_is) (lawful_overtaken x old o.cable o.to o.messages o.overtakes i)) r.2
 
-pub lawful_where_lacpdus_overtake : (x : WorldSetup) (es : List (Option Event)) (w : World) → IsWorldSetup x
-    → OvertakingRun x es (first_world x) w → Lawful x w
+pub lawful_where_lacpdus_overtake : (x : WorldSetup) (es : List (Option Event)) (w : World) → IsWorldSetup x → OvertakingRun x es (first_world x) w → Lawful x w
 lawful_where_lacpdus_overtake x es w f r = run_kept x es (first_world x) w f (lawful_first x f) r

@@ -16,7 +16,7 @@ use Rattle.lagprogress.proofs.Quieting.{as_beside, IsCalm, calm_steady, calm_kee
 use Rattle.lagprogress.proofs.LateMeeting.{Fresh}
 use Rattle.lagprogress.proofs.Knowing.{fits_fresh, fits_before, knows_late, stays_met, AtIt, Met}
 use Rattle.lagprogress.proofs.Linked.{each_side, EndIs, Fits, IsGood, Link, arrival, at_end, end_here}
-use Rattle.lagprogress.proofs.Bundling.{Awake, said, Named, names, agree_still, heard_holds, LinksMeet, stands_in, sinks_in}
+use Rattle.lagprogress.proofs.Bundling.{Awake, said, names, agree_still, heard_holds, LinksMeet, stands_in, sinks_in}
 use Rattle.lagprogress.proofs.Choosing.{AllAsRead, AsRead, Chose, down_as_read, down_still, one_as_read, settles_choice, takes_as_read, zip_as_read}
 use Rattle.lagprogress.proofs.Climbing.{ticks_still, Down, Ripe, Rising, down_settles, down_takes, down_ticks, rising_first}
 use Rattle.lagprogress.proofs.EndFacts.{nothing_along}
@@ -50,15 +50,11 @@ module _ (Holds : LinkState → WorldState → Type 0) (gives : Algorithms) (old
   abbrev AllFit : Known → Type 0
   AllFit kn = OfCables (λ i l y. Fits 1 (said old i l y) (kn i l y) × ((t : Side) → 1 ≤ kn i l y t))
 
-  named : (start : IsSteady old) (i : ℕ) (l : LinkState) (h : IsHealthyAt i l old) → Named old i l h
-  named = names old
-
   -- what stays of both systems
   pub record Stands (j : WorldState) : Type 0 where
     pub steady : IsSteady j
     pub config : (t : Side) → (half t j).state.ports ≡ (half t old).state.ports
-    pub alike : (t : Side) (k : ℕ) (x : SystemPort) → slice_get (half t old).state.system_ports k ≡ Some x
-        → EachAt (AtPort x.number (Alike x.port)) t j
+    pub alike : (t : Side) (k : ℕ) (x : SystemPort) → slice_get (half t old).state.system_ports k ≡ Some x → EachAt (AtPort x.number (Alike x.port)) t j
 
   -- each port has this value of Selected
   abbrev pub AllChose : WorldState → WorldState → Type 0
@@ -96,10 +92,8 @@ module _ (Holds : LinkState → WorldState → Type 0) (gives : Algorithms) (old
 
         took : (kk : ℕ) (z : SystemPort) (v : Lacpdu) → slice_get (half t i).state.system_ports kk ≡ Some z
             → ((p : Machines) → ProcessesLacpdu v z.port p → AsRead z.port p)
-            → ThenSettles (OnlyPortChangesBy (Some kk) (ProcessesLacpdu v)) (half t i).state (half t j).state
-            → OfEach (Chose n c) (half t j).state.system_ports
-        took kk z v there read h =
-            let y = h.1.0 in
+            → ThenSettles (OnlyPortChangesBy (Some kk) (ProcessesLacpdu v)) (half t i).state (half t j).state → OfEach (Chose n c) (half t j).state.system_ports
+        took kk z v there read h = let y = h.1.0 in
             let is : y.0 ≡ z = same_Some y.0 z (sym y.2 ∙ there) in
             let one = subst (λ (x : SystemPort). AsRead x.port y.1) (sym is)
             (read y.1 (subst (λ (x : SystemPort). ProcessesLacpdu v x.port y.1) is y.3)) in
@@ -107,11 +101,9 @@ module _ (Holds : LinkState → WorldState → Type 0) (gives : Algorithms) (old
             (subst (AllAsRead (half t i).state.system_ports) (sym y.4) (one_as_read (half t i).state.system_ports kk y.0 y.1 y.2 one))
             (ap aggregators_value h.1.1) h.2 n c a
 
-        up_read : (kk : ℕ) (z : SystemPort) (v : Lacpdu) → slice_get (half t i).state.system_ports kk ≡ Some z → z.number ≡ port_at t l
-            → z.port.enabled ≡ true → IsFrame m.item.octets (Carries (pdu.Lacpdu v)) → (p : Machines) → ProcessesLacpdu v z.port p
-            → AsRead z.port p
-        up_read kk z v there number up carried p does =
-            let o = on_cable t i kk z start s there up in
+        up_read : (kk : ℕ) (z : SystemPort) (v : Lacpdu) → slice_get (half t i).state.system_ports kk ≡ Some z → z.number ≡ port_at t l → z.port.enabled ≡ true
+            → IsFrame m.item.octets (Carries (pdu.Lacpdu v)) → (p : Machines) → ProcessesLacpdu v z.port p → AsRead z.port p
+        up_read kk z v there number up carried p does = let o = on_cable t i kk z start s there up in
             let at : Side → ℕ = λ u. port_at u o.link in
             let w = said old o.index o.link o.healthy in
             let link = links o.index o.link o.healthy in
@@ -129,8 +121,7 @@ module _ (Holds : LinkState → WorldState → Type 0) (gives : Algorithms) (old
             → CallPromise (gives t) (half t i).state (Receive (port_at t l) m.item.octets) (answer.Receive (Ok o)) (half t j).state
             → ReceivesAt x m.item.octets (half t i).state o (half t j).state → OfEach (Chose n c) (half t j).state.system_ports
         by_index o None e p r = absurd (none-some r.0 r.2)
-        by_index o (Some kk) e p r =
-            let number = found_place (port_at t l) (half t i).state.system_ports kk r.0 e r.2 in
+        by_index o (Some kk) e p r = let number = found_place (port_at t l) (half t i).state.system_ports kk r.0 e r.2 in
             elim (cases_Bool r.0.port.enabled) [
               | inl up ↦ elim (arrival (gives t) (port_at t l) kk r.0 m.item.octets o (half t i).state (half t j).state e r.2 up p) [
                 | inl x ↦ took kk r.0 x.0 r.2 (up_read kk r.0 x.0 r.2 number up x.1) x.2
@@ -185,8 +176,7 @@ module _ (Holds : LinkState → WorldState → Type 0) (gives : Algorithms) (old
     tick_choice : (kn : Known) (i j : WorldState) (t : Side) (n : ℕ) (c : Choice)
         → Step (gives t) (half t i).state Tick answer.Tick (half t j).state → OfCables (λ x l y. 2 ≤ kn x l y t) → AllLinked kn i → Stands i
         → OfEach (Chose n c) (half t i).state.system_ports → OfEach (Chose n c) (half t j).state.system_ports
-    tick_choice kn i j t n c h known links s a =
-        settles_choice (half t i).state h.0 (half t j).state (s.steady t).0
+    tick_choice kn i j t n c h known links s a = settles_choice (half t i).state h.0 (half t j).state (s.steady t).0
         (zip_as_read (λ p q. RunsToRest receive_rows (count_down p) q) (half t i).state.system_ports h.0.system_ports
         (all_by_place (λ x. (q : Machines) → RunsToRest receive_rows (count_down x.port) q → AsRead x.port q) (half t i).state.system_ports read)
         h.1.0) (ap aggregators_value h.1.2) h.2 n c a
@@ -210,11 +200,9 @@ module _ (Holds : LinkState → WorldState → Type 0) (gives : Algorithms) (old
         ]
 
     -- and what it makes of a cable: the one side knows its partner for a tick less
-    ticked_one : (kn to : Known) (from : WorldState) (t : Side) → OfCables (λ x l y. 2 ≤ kn x l y t)
-        → OfCables (λ x l y. to x l y t ≡ kn x l y t - 1) → OfCables (λ x l y. to x l y (peer t) ≡ kn x l y (peer t))
-        → MadeByTick gives t (Mid kn from) (Mid to from)
-    ticked_one kn to from t known here there n r i j named step d =
-        let k = ticks gives n t r i j named step in record {
+    ticked_one : (kn to : Known) (from : WorldState) (t : Side) → OfCables (λ x l y. 2 ≤ kn x l y t) → OfCables (λ x l y. to x l y t ≡ kn x l y t - 1)
+        → OfCables (λ x l y. to x l y (peer t) ≡ kn x l y (peer t)) → MadeByTick gives t (Mid kn from) (Mid to from)
+    ticked_one kn to from t known here there n r i j named step d = let k = ticks gives n t r i j named step in record {
           links = λ x l y. (tick_one gives n t 1 (λ u. port_at u l) (said old x l y) (kn x l y) (to x l y) One Nothing Nothing r i j named
               (record { own = here x l y; other = there x l y; some = λ e. absurd (omega (arith, e)) })
               (nothing_along (said old x l y One) (said old x l y (peer One)) (to x l y One) 1) (λ p q run rest a f z. z) (λ p f z. z) step
@@ -230,8 +218,7 @@ module _ (Holds : LinkState → WorldState → Type 0) (gives : Algorithms) (old
               (λ a. subst (λ (z : SystemState). OfEach (Chose x.number x.port.choice) z.system_ports) (sym k.peers) a) u (d.chose u m x e);
         }
 
-    choice_round : (from i j : WorldState) → IsLateRound gives i j → AllFresh i → Stands i → AllChose from i
-        → Stands j × AllChose from j
+    choice_round : (from i j : WorldState) → IsLateRound gives i j → AllFresh i → Stands i → AllChose from i → Stands j × AllChose from j
     choice_round from i j h fresh s chose =
         let end = holds_once gives One (λ a b. Mid (kn a b) from) (λ a b l. mid_between (kn a b) from (fits a b l))
         (λ b l. ticked_one (kn 0 b) (kn 1 b) from One (λ x l y. let m = long x l y One in omega (arith, m)) (λ x l y. omega arith) (λ x l y. refl))
@@ -257,8 +244,8 @@ module _ (Holds : LinkState → WorldState → Type 0) (gives : Algorithms) (old
             let n = long x l y Two in
             let o = few.0 in
             let p = few.1 in (
-              fits_at 1 w g.known One 1 (fits_before at w (counts_of at old) (kept_of at old) (named start x l y) (wakes x l y) 1 i g (omega arith))
-                  (fits_fresh at w (counts_of at old) (kept_of at old) (named start x l y) (wakes x l y) 1 i g (omega arith)) a b few,
+              fits_at 1 w g.known One 1 (fits_before at w (counts_of at old) (kept_of at old) (names old start x l y) (wakes x l y) 1 i g (omega arith))
+                  (fits_fresh at w (counts_of at old) (kept_of at old) (names old start x l y) (wakes x l y) 1 i g (omega arith)) a b few,
               each_side (λ t. 1 ≤ kn a b x l y t) One (omega (arith, m, o)) (omega (arith, n, p)),
             )
 
@@ -268,7 +255,7 @@ module _ (Holds : LinkState → WorldState → Type 0) (gives : Algorithms) (old
     choice_rounds n from j fresh s chose h = played_on OldArrive gives (λ m k. AllFresh k × Stands k × AllChose from k) from (fresh, s, chose)
         (λ m a b q d. (let e = choice_round from a b q d.0 d.1 d.2 in (
           λ x l y. (let at : Side → ℕ = λ t. port_at t l in
-              stays_met at (said old x l y) (counts_of at old) (kept_of at old) gives (named start x l y) (wakes x l y) 1 a b (omega arith)
+              stays_met at (said old x l y) (counts_of at old) (kept_of at old) gives (names old start x l y) (wakes x l y) 1 a b (omega arith)
               (as_beside at OldArrive gives a b q) (d.0 x l y)),
           e.0,
           e.1,
@@ -289,19 +276,12 @@ down_one t n = record {
 
 module _ (Holds : LinkState → WorldState → Type 0) (first : ℕ) (gives : Algorithms) (old : WorldState) (cabling : IsCabling (world_setup old).cables)
     (steady : IsSteady old) (heard : AllHeard Holds old) (k : LinksMeet Holds first gives) where
-  -- of each healthy cable it holds
-  holds : (i : ℕ) (l : LinkState) → IsHealthyAt i l old → Holds l old
-  holds = heard_holds Holds old cabling heard
-
   pub wake : (i : ℕ) (l : LinkState) (h : IsHealthyAt i l old) → Awake old i l h
-  wake i l h = k.wake old i l h (holds i l h)
-
-  names_of : (i : ℕ) (l : LinkState) (h : IsHealthyAt i l old) → Named old i l h
-  names_of = names old steady
+  wake i l h = k.wake old i l h (heard_holds Holds old cabling heard i l h)
 
   module _ (mid : WorldState) (h : LateRounds gives first old mid) where
     fresh : AllFresh Holds gives old heard wake mid
-    fresh i l y = k.meet first old mid cabling steady i l y (holds i l y) (omega arith) h
+    fresh i l y = k.meet first old mid cabling steady i l y (heard_holds Holds old cabling heard i l y) (omega arith) h
 
     stands : Stands Holds gives old heard wake mid
     stands = record {
@@ -321,10 +301,8 @@ module _ (Holds : LinkState → WorldState → Type 0) (first : ℕ) (gives : Al
 
     -- an end that is SELECTED in the end was so
     was_chosen : (i : ℕ) (l : LinkState) (y : IsHealthyAt i l old) (m : ℕ) (new : WorldState) → LateRounds gives m mid new → (s : Side)
-        → AtEnd (λ p. selected p ≡ true) s l new
-        → AtIt (λ t. port_at t l) (said old i l y) s (λ p. is_selected p.choice ≡ true) mid
-    was_chosen i l y m new r s sel =
-        let at : Side → ℕ = λ t. port_at t l in
+        → AtEnd (λ p. selected p ≡ true) s l new → AtIt (λ t. port_at t l) (said old i l y) s (λ p. is_selected p.choice ≡ true) mid
+    was_chosen i l y m new r s sel = let at : Side → ℕ = λ t. port_at t l in
         let w = said old i l y in
         let g = fresh i l y in
         let d = later m new r in
@@ -341,7 +319,7 @@ module _ (Holds : LinkState → WorldState → Type 0) (first : ℕ) (gives : Al
         → Met (λ t. port_at t l) (said old i l y) (counts_of (λ t. port_at t l) old) (kept_of (λ t. port_at t l) old) 1 top
         × AtIt (λ t. port_at t l) (said old i l y) s (Rising 0) top
     climb top more i l y s chosen = let at : Side → ℕ = λ t. port_at t l in
-        climbs at (said old i l y) (counts_of at old) (kept_of at old) 1 gives (names_of i l y) (wake i l y) (omega arith) (omega arith) s mid top
+        climbs at (said old i l y) (counts_of at old) (kept_of at old) 1 gives (names old steady i l y) (wake i l y) (omega arith) (omega arith) s mid top
         (fresh i l y) chosen (rounds_beside at 1 gives 20 mid top (k.kind.are 20 mid top more))
 
     -- the SELECTED ports have risen
@@ -349,8 +327,7 @@ module _ (Holds : LinkState → WorldState → Type 0) (first : ℕ) (gives : Al
     ripe top more s = all_by_place (λ y. Ripe 0 y.port) (half s top).state.system_ports each
       where
         each : (k : ℕ) (y : SystemPort) → slice_get (half s top).state.system_ports k ≡ Some y → Ripe 0 y.port
-        each k y there =
-            let st = (half s mid).state in
+        each k y there = let st = (half s mid).state in
             let both = played_before OldArrive gives 20 mid top stands.steady more s in
             let x = old_port st.system_ports (half s top).state.system_ports k y both.numbers there in
             let same = all-get (λ (z : SystemPort). Chose x.0.number x.0.port.choice z.number z.port) (half s top).state.system_ports k y there
@@ -378,14 +355,13 @@ module _ (Holds : LinkState → WorldState → Type 0) (first : ℕ) (gives : Al
 
   ups : (i : ℕ) (l : LinkState) (y : IsHealthyAt i l old) (n : ℕ) (new : WorldState) → first + 33 ≤ n → LateRounds gives n old new
       → ((s : Side) → AtEnd (λ p. selected p ≡ true) s l new) → AreSynced (λ s. port_at s l) (said old i l y) new
-  ups i l y n new enough h sel =
-      let at : Side → ℕ = λ s. port_at s l in
+  ups i l y n new enough h sel = let at : Side → ℕ = λ s. port_at s l in
       let w = said old i l y in
       let m = n - first in
       let cut = played_split OldArrive gives m first n old new (omega (arith, enough)) h in
       let up = played_split OldArrive gives (m - 20) 20 m cut.0 new (omega (arith, enough)) cut.2 in
       let risen = λ (s : Side). climb cut.0 cut.1 up.0 up.1 i l y s (was_chosen cut.0 cut.1 i l y m new cut.2 s (sel s)) in
-      agreed_synced gives at w old new 1 (omega arith) (comes_to_agree at w (counts_of at old) (kept_of at old) 1 gives (names_of i l y) (wake i l y)
+      agreed_synced gives at w old new 1 (omega arith) (comes_to_agree at w (counts_of at old) (kept_of at old) 1 gives (names old steady i l y) (wake i l y)
       (omega arith) (omega arith) (m - 20) up.0 new (omega (arith, enough)) (risen One).0
       (λ s. climbed_end at w (risen s).0.known s up.0 (ripe cut.0 cut.1 up.0 up.1 s) (risen s).0.link (risen s).1)
       (rounds_beside at 1 gives (m - 20) up.0 new (k.kind.are (m - 20) up.0 new up.2)))

@@ -22,23 +22,19 @@ sent_carries octets v h = (sent_control octets v h, written_pdu (drop 14 octets)
 pub lacpdu_is_sent : (d : ℕ) (x : SystemPort) (octets : List ℕ) → IsLacpduOf d x octets → IsSent octets (pdu.Lacpdu (pdu_of x.port d))
 lacpdu_is_sent d x octets h = (x.mac, h.0, h.1, h.2, h.3)
 
-pub carries_one : (octets : List ℕ) (v w : Lacpdu) → IsFrame octets (Carries (pdu.Lacpdu v)) → IsFrame octets (Carries (pdu.Lacpdu w))
-    → w ≡ v
+pub carries_one : (octets : List ℕ) (v w : Lacpdu) → IsFrame octets (Carries (pdu.Lacpdu v)) → IsFrame octets (Carries (pdu.Lacpdu w)) → w ≡ v
 carries_one octets v w h k = one_reading (drop 14 octets) v w h.1 k.1
 
-pub marker_carries_none : (octets : List ℕ) (v : Lacpdu) (m : Marker) → IsFrame octets (Carries (pdu.Lacpdu v))
-    → IsSent octets (pdu.Marker m) → ⊥
+pub marker_carries_none : (octets : List ℕ) (v : Lacpdu) (m : Marker) → IsFrame octets (Carries (pdu.Lacpdu v)) → IsSent octets (pdu.Marker m) → ⊥
 marker_carries_none octets v m h k = not_both (drop 14 octets) v m h.1 (sent_carries octets (pdu.Marker m) k).1
 
 -- an LACPDU is processed
 
 -- the port at the index processes the LACPDU that the octets carry
 pub receives_lacpdu : (n k : ℕ) (x : SystemPort) (octets : List ℕ) (v : Lacpdu) (old : SystemState) (o : Received) (new : SystemState)
-    → port_index n old.system_ports ≡ Some k → slice_get old.system_ports k ≡ Some x → x.port.enabled ≡ true
-    → IsFrame octets (Carries (pdu.Lacpdu v)) → ReceivesAt (port_index n old.system_ports) octets old o new
-    → (o ≡ TookLacpdu) × ThenSettles (OnlyPortChangesBy (Some k) (ProcessesLacpdu v)) old new
-receives_lacpdu n k x octets v old o new place there up c h =
-    let at = subst (λ i. ReceivesAt i octets old o new) place h in
+    → port_index n old.system_ports ≡ Some k → slice_get old.system_ports k ≡ Some x → x.port.enabled ≡ true → IsFrame octets (Carries (pdu.Lacpdu v))
+    → ReceivesAt (port_index n old.system_ports) octets old o new → (o ≡ TookLacpdu) × ThenSettles (OnlyPortChangesBy (Some k) (ProcessesLacpdu v)) old new
+receives_lacpdu n k x octets v old o new place there up c h = let at = subst (λ i. ReceivesAt i octets old o new) place h in
     let same : at.0 ≡ x = same_Some at.0 x (sym at.2 ∙ there) in
     let parsed = subst (λ b. ParsesWhere b at.0 octets at.1) (ap (λ (y : SystemPort). y.port.enabled) same ∙ up) at.3 in
     let does = effect_one true at.0 octets at.1 _ parsed (Carries (pdu.Lacpdu v), c, refl) in
@@ -51,14 +47,12 @@ sends_flagged : (u d : Bool) (k : ℕ) (x : SystemPort) (old : SystemState) (o :
 sends_flagged u d k x old o new e f h = grind (arith, nat_tests)
 
 pub sends_due : (i : Option ℕ) (k : ℕ) (x : SystemPort) (old : SystemState) (o : Option (List ℕ)) (new : SystemState) → i ≡ Some k
-    → slice_get old.system_ports k ≡ Some x → x.port.enabled ≡ true → is_due x.port ≡ true → TransmitsAt i old o new
-    → SendsLacpdu k x old o new
+    → slice_get old.system_ports k ≡ Some x → x.port.enabled ≡ true → is_due x.port ≡ true → TransmitsAt i old o new → SendsLacpdu k x old o new
 sends_due i k x old o new place there up due h = grind (arith, nat_tests, sends_flagged)
 
 -- the cable after it
-pub put_there : (s : Side) (p i : ℕ) (item : ItemValue) (l : LinkState) (links : List LinkState) → link_index s p links ≡ Some i
-    → slice_get links i ≡ Some l → accepts s l ≡ true
-    → put_on_port s p item links ≡ slice_set links i (with_towards (peer s) (towards (peer s) l ++ item ∷ []) l)
+pub put_there : (s : Side) (p i : ℕ) (item : ItemValue) (l : LinkState) (links : List LinkState) → link_index s p links ≡ Some i → slice_get links i ≡ Some l
+    → accepts s l ≡ true → put_on_port s p item links ≡ slice_set links i (with_towards (peer s) (towards (peer s) l ++ item ∷ []) l)
 put_there s p i item l links e f g = grind (arith, nat_tests)
 
 pub peer_there : (s : Side) (h : HalfState) (j : WorldState) → (half (peer s) (with_half s h j)).state ≡ (half (peer s) j).state
@@ -74,8 +68,7 @@ emitted gives s i k l x (Ok None) old new mid r cable there accepted end due h a
 emitted gives s i k l x (Ok (Some frame)) old new mid r cable there accepted end due h after = grind (arith, nat_tests)
 
 pub emit_sends : (gives : Algorithms) → EmitSendsLacpdu gives
-emit_sends gives n s i k l x r old new is cable there accepted end due h =
-    let v = value_of (side_of n) _ h.0 in
+emit_sends gives n s i k l x r old new is cable there accepted end due h = let v = value_of (side_of n) _ h.0 in
     let same : v.0 ≡ s = same_Some v.0 s (sym v.1 ∙ is) in
     let e = subst (λ t. WorldEmits gives t (port_at s l) old r (record new { acted = old.acted })) same v.2 in
     let sent = emitted gives s i k l x e.0 old (record new { acted = old.acted }) e.1 r cable there accepted end due e.2.answers.step e.3 in
@@ -99,8 +92,7 @@ delivered gives s i k l x y d item rest r old new there end is (Ok o, mid, h, af
           ∙ same_halves s old));
     }
   where
-    same_halves : (s : Side) (old : WorldState) → (half (peer s) (with_link_at i (with_towards s rest l) old)).state
-        ≡ (half (peer s) old).state
+    same_halves : (s : Side) (old : WorldState) → (half (peer s) (with_link_at i (with_towards s rest l) old)).state ≡ (half (peer s) old).state
     same_halves One old = refl
     same_halves Two old = refl
 

@@ -112,9 +112,8 @@ pub delivery_refused : (fault : WorldFault) (c n : ℕ) (old new : WorldState) �
 delivery_refused fault c n old new same f = grind (arith, nat_tests)
 
 -- a Deliver event of a cable that exists
-pub refused_delivery : (fault : WorldFault) (n i : ℕ) (s : Side) (start old new : WorldState) → side_of n ≡ Some s
-    → i < length start.links → world_setup old ≡ world_setup start → fault ≡ cause_or_no_memory (cause old (event.Deliver (i + 1) n))
-    → new ≡ old → IsOutOfMemoryOrSpent fault new
+pub refused_delivery : (fault : WorldFault) (n i : ℕ) (s : Side) (start old new : WorldState) → side_of n ≡ Some s → i < length start.links
+    → world_setup old ≡ world_setup start → fault ≡ cause_or_no_memory (cause old (event.Deliver (i + 1) n)) → new ≡ old → IsOutOfMemoryOrSpent fault new
 refused_delivery fault n i s start old new hyp1 hyp2 hyp3 hyp4 hyp5 = grind (arith, nat_tests, length, as_many, is_some, true, some_within, refused_event)
 
 -- asking
@@ -135,8 +134,7 @@ ports_by_ends : (xs : List LinkState) (n : ℕ) → option_map ports (slice_get 
 ports_by_ends xs n = ends_first (slice_get xs n) ∙ ap (option_map ports_of) (sym (slice_get-map link_ends xs n))
 
 -- the cable at an index joins the same ports in a world with the same setup
-ports_stay : (a b : WorldState) (n : ℕ) → world_setup a ≡ world_setup b
-    → option_map ports (slice_get a.links n) ≡ option_map ports (slice_get b.links n)
+ports_stay : (a b : WorldState) (n : ℕ) → world_setup a ≡ world_setup b → option_map ports (slice_get a.links n) ≡ option_map ports (slice_get b.links n)
 ports_stay a b n e = grind (arith, nat_tests, ports_by_ends, option_map, ports_of, slice_get)
 
 asked_there : (o : Option LinkState) (one two : ℕ) → option_map ports o ≡ Some (one, two)
@@ -146,8 +144,7 @@ asked_there o one two h = grind (arith, nat_tests)
 -- the cable at the next index of the first world, from the ports that its number joins
 pub cable_at : (n one two : ℕ) (old mid : WorldState) → world_setup mid ≡ world_setup old → Some (one, two) ≡ ends_of_cable (n + 1) mid
     → (l : LinkState) × (slice_get old.links n ≡ Some l) × (asks_ends l ≡ asks_pair (one, two))
-cable_at n one two old mid fixed h =
-    let next : n + 1 ≡ suc n = omega arith in
+cable_at n one two old mid fixed h = let next : n + 1 ≡ suc n = omega arith in
     grind (arith, nat_tests, asked_there, slice_get, ports_stay, ends_of_cable)
 
 asks_next : (n : ℕ) (links : List LinkState) (l : LinkState) → slice_get links n ≡ Some l
@@ -166,20 +163,17 @@ asks_split (suc n) (x ∷ links) l h = ap (λ es. asks_ends x ++ es) (asks_split
 pub asks_more : (gives : Algorithms) (n one two : ℕ) (old mid new : WorldState) → RunsAll gives (asks_all (take n old.links)) old mid
     → world_setup mid ≡ world_setup old → Some (one, two) ≡ ends_of_cable (n + 1) mid → RunsAll gives (asks_pair (one, two)) mid new
     → RunsAll gives (asks_all (take (n + 1) old.links)) old new
-asks_more gives n one two old mid new a fixed h b =
-    let k = cable_at n one two old mid fixed h in
+asks_more gives n one two old mid new a fixed h b = let k = cable_at n one two old mid fixed h in
     let next : suc n ≡ n + 1 = omega arith in
     subst (λ es. RunsAll gives es old new)
     (ap (λ es. asks_all (take n old.links) ++ es) (sym k.2) ∙ (asks_next n old.links k.0 k.1 ∙ ap (λ m. asks_all (take m old.links)) next))
     (runs_both gives (asks_all (take n old.links)) (asks_pair (one, two)) old mid new a b)
 
 -- it is refused
-pub asks_part : (gives : Algorithms) (n one two : ℕ) (fault : WorldFault) (old mid new : WorldState)
-    → RunsAll gives (asks_all (take n old.links)) old mid → world_setup mid ≡ world_setup old
-    → Some (one, two) ≡ ends_of_cable (n + 1) mid → RunsPart gives (asks_pair (one, two)) fault mid new
+pub asks_part : (gives : Algorithms) (n one two : ℕ) (fault : WorldFault) (old mid new : WorldState) → RunsAll gives (asks_all (take n old.links)) old mid
+    → world_setup mid ≡ world_setup old → Some (one, two) ≡ ends_of_cable (n + 1) mid → RunsPart gives (asks_pair (one, two)) fault mid new
     → RunsPart gives (asks_all old.links) fault old new
-asks_part gives n one two fault old mid new a fixed h b =
-    let k = cable_at n one two old mid fixed h in
+asks_part gives n one two fault old mid new a fixed h b = let k = cable_at n one two old mid fixed h in
     let rest = asks_all (drop (suc n) old.links) in
     subst (λ es. RunsPart gives es fault old new)
     (ap (λ es. asks_all (take n old.links) ++ (es ++ rest)) (sym k.2) ∙ asks_split n old.links k.0 k.1)
@@ -227,9 +221,8 @@ nothing_before n old new h q s i l f = grind (arith, nat_tests, slice_get_within
 
 -- a round
 
-pub round_played : (gives : Algorithms) (old ticked asked new : WorldState) → world_setup ticked ≡ world_setup old
-    → RunsAll gives ticks_of_both old ticked → RunsAll gives (asks_all ticked.links) ticked asked → Delivers gives asked new
-    → NothingInFlight new → IsRound gives old new
+pub round_played : (gives : Algorithms) (old ticked asked new : WorldState) → world_setup ticked ≡ world_setup old → RunsAll gives ticks_of_both old ticked
+    → RunsAll gives (asks_all ticked.links) ticked asked → Delivers gives asked new → NothingInFlight new → IsRound gives old new
 round_played gives old ticked asked new fixed a b d empty =
     let asks = subst (λ es. RunsAll gives es ticked asked) (asks_stay ticked old fixed) b in
     let all = runs_both gives ticks_of_both (asks_all old.links ++ d.delivers) old ticked new a
@@ -258,14 +251,12 @@ stops_ticking gives fault old new a = inl (part_before gives ticks_of_both (asks
 
 -- rounds
 
-pub round_more : (gives : Algorithms) (n : ℕ) (old mid new : WorldState) → Rounds gives n old mid → IsRound gives mid new
-    → Rounds gives (n + 1) old new
+pub round_more : (gives : Algorithms) (n : ℕ) (old mid new : WorldState) → Rounds gives n old mid → IsRound gives mid new → Rounds gives (n + 1) old new
 round_more gives n old mid new h x = let e : suc n ≡ n + 1 = omega arith in subst (λ k. Rounds gives k old new) e (mid, h, x)
 
-pub quiet_more : (gives : Algorithms) (n : ℕ) (q r : Reply) (empty now : Bool) (start old mid new : WorldState)
-    → (empty ≡ true → IsQuiet n start old) → WorldSteps gives old (event.Deliver (n + 1) 1) q mid
-    → WorldSteps gives mid (event.Deliver (n + 1) 2) r new → now ≡ ((empty && found_nothing q) && found_nothing r) → now ≡ true
-    → IsQuiet (n + 1) start new
+pub quiet_more : (gives : Algorithms) (n : ℕ) (q r : Reply) (empty now : Bool) (start old mid new : WorldState) → (empty ≡ true → IsQuiet n start old)
+    → WorldSteps gives old (event.Deliver (n + 1) 1) q mid → WorldSteps gives mid (event.Deliver (n + 1) 2) r new
+    → now ≡ ((empty && found_nothing q) && found_nothing r) → now ≡ true → IsQuiet (n + 1) start new
 quiet_more gives n q r empty now start old mid new h x y e all = grind (arith, nat_tests)
 
 pub on_err : {T : Type 0} (P : WorldFault → Type 0) (why : WorldFault) (r : Result T WorldFault) → IsErrAnd r (λ e. e ≡ why) → P why → IfErr r P

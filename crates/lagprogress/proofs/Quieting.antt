@@ -1,14 +1,13 @@
 -- What moves no port (`IsQuiet`) leaves the ports, and what their LACPDUs say.
-use Rattle.lagprogress.proofs.Common.{Bool, Err, List, Ok, Option, Result, Some, [], ap, arith, false, inl, inr, map, refl, slice_get, subst, suc}
-use Rattle.lagprogress.proofs.Common.{sym, true, zero, ℕ, ◌++◌, ◌==◌, ◌∙◌, ◌∷◌, ◌≡◌, ◌⊎◌, cases_Bool, nat_tests, Vec, AllByRecursion, AggId, Lacpdu}
-use Rattle.lagprogress.proofs.Common.{all-append, One, Side, Two, peer, value_of, Machines, Table, Answer, SystemFault, SystemPort, Call, Carries}
-use Rattle.lagprogress.proofs.Common.{Force, IsFrame, Move_conversation, Offer, Step, TableRun, Transmit, system_move_result, Set_max_delay}
-use Rattle.lagprogress.proofs.Common.{SystemState, port_index, with_system_ports, with_table, Step-frame, becomes_slots, offers_slots, Event, Reply}
-use Rattle.lagprogress.proofs.Common.{AfterOffer, Algorithms, InHalf, WorldRuns, WorldSteps, offered_item, side_of, with_frame_counted, HalfForces}
-use Rattle.lagprogress.proofs.Common.{HalfMoves, link_ends, HalfState, ItemValue, LinkState, WorldState, half, put_on_port, with_half, put_ends}
-use Rattle.lagprogress.proofs.Common.{half_there, HostEvent, HostSteps, Plays, Sets, KeptBySettling, OfEach, AtPort, calls_each, LeavesPorts}
-use Rattle.lagprogress.proofs.Common.{Clearing, IsBetweenTicks, IsPlayed, IsPlayedAmong, IsQuiet, PlayedAmong, PlayedRounds, StepReplies, TickOnce}
-use Rattle.lagprogress.proofs.Common.{TickOnceAmong, IsSteady}
+use Rattle.lagprogress.proofs.Common.{Bool, Err, List, Ok, Option, Result, Some, [], ap, arith, false, inl, inr, map, refl, slice_get, subst, sym}
+use Rattle.lagprogress.proofs.Common.{true, ℕ, ◌++◌, ◌==◌, ◌∙◌, ◌∷◌, ◌≡◌, ◌⊎◌, cases_Bool, nat_tests, Vec, AllByRecursion, AggId, Lacpdu, all-append}
+use Rattle.lagprogress.proofs.Common.{One, Side, Two, peer, value_of, Machines, Table, Answer, SystemFault, SystemPort, Call, Carries, Force, IsFrame}
+use Rattle.lagprogress.proofs.Common.{Move_conversation, Offer, Step, TableRun, Transmit, system_move_result, Set_max_delay, SystemState, port_index}
+use Rattle.lagprogress.proofs.Common.{with_system_ports, with_table, Step-frame, becomes_slots, offers_slots, Event, Reply, AfterOffer, Algorithms}
+use Rattle.lagprogress.proofs.Common.{InHalf, WorldRuns, WorldSteps, offered_item, side_of, with_frame_counted, HalfForces, HalfMoves, link_ends}
+use Rattle.lagprogress.proofs.Common.{HalfState, ItemValue, LinkState, WorldState, half, put_on_port, with_half, put_ends, half_there, HostEvent}
+use Rattle.lagprogress.proofs.Common.{HostSteps, Plays, Sets, KeptBySettling, OfEach, AtPort, calls_each, LeavesPorts, Clearing, IsBetweenTicks}
+use Rattle.lagprogress.proofs.Common.{IsPlayed, IsPlayedAmong, IsQuiet, StepReplies, TickOnce, TickOnceAmong, IsSteady}
 use Rattle.lagprogress.proofs.Linked.{events_each, each_side, EndIs, Flying, HasLacpdu, IsGood, Link, end_kept, has_on, of_end, place_kept}
 use Rattle.lagprogress.proofs.Linked.{push_other, push_there}
 use native.Mathlib.Omega.{arith}
@@ -50,8 +49,7 @@ offered : (gives : Algorithms) (s : Side) (agg : AggId) (octets : List ℕ) (a :
     (r : Reply) → Step (gives s) (half s old).state (Offer agg octets) (answer.Offer a) mid.state
     → mid.histories ≡ (half s old).histories → AfterOffer s agg octets a (with_half s mid old) r (record new { acted = old.acted }) → Quietly s old new
 offered gives s agg octets (Err fault) old new mid r h log after = grind (arith, nat_tests, one_half, s, offers_slots, half_links, half_logs)
-offered gives s agg octets (Ok port) old new mid r h log after =
-    let j = with_half s mid old in
+offered gives s agg octets (Ok port) old new mid r h log after = let j = with_half s mid old in
     record {
       same = λ t. ap (λ (w : WorldState). (half t w).state.system_ports) after.2
           ∙ same_ports s t mid (with_frame_counted agg octets (half s j)) old
@@ -71,13 +69,8 @@ offered gives s agg octets (Ok port) old new mid r h log after =
 
 pub quietly : (gives : Algorithms) (e : HostEvent) (r : Reply) (old new : WorldState) → IsQuiet e → StepReplies gives old e r new
     → (s : Side) × Quietly s old new
-quietly gives (Plays (event.Offer n agg octets)) r old new q h =
-    let v = value_of (side_of n) _ h.0 in
-    let w = v.2 in (
-      v.0,
-      offered gives v.0 agg octets.items w.0 old new w.1 r w.2.answers.step
-          (ap (λ (k : HalfState). k.histories) w.2.same) w.3,
-    )
+quietly gives (Plays (event.Offer n agg octets)) r old new q h = let v = value_of (side_of n) _ h.0 in
+    let w = v.2 in (v.0, offered gives v.0 agg octets.items w.0 old new w.1 r w.2.answers.step (ap (λ (k : HalfState). k.histories) w.2.same) w.3)
 quietly gives (Plays (event.Move n agg conv p)) r old new q h = grind (arith, nat_tests, value_of, side_of, half, becomes_slots, system_move_result, one_half, half_links, half_logs)
 quietly gives (Plays (event.Force n agg conv)) r old new q h = grind (arith, nat_tests)
 quietly gives (Plays e) r old new q h = absurd q
@@ -133,8 +126,7 @@ module _ (X : Type 0) (g : SystemState → X)
     (tables : (s : SystemState) (t : Table) → g (with_table s t) ≡ g s) (delays : (s : SystemState) (d : ℕ) → g (record s { max_delay = d }) ≡ g s) where
   pub calm_keeps : (gives : Algorithms) (e : HostEvent) (r : Reply) (old new : WorldState) → IsCalm e → StepReplies gives old e r new → (t : Side)
       → g (half t new).state ≡ g (half t old).state
-  calm_keeps gives (Plays e) r old new c h t =
-      let k = each_is_calls gives e r old new h t in
+  calm_keeps gives (Plays e) r old new c h t = let k = each_is_calls gives e r old new h t in
       calls_keep X g kept (gives t) (half t old).state (half t new).state k.0 k.1 k.2
   calm_keeps gives (Sets s (Set_max_delay delay)) r old new c h t = delay_keeps X g delays gives s delay old new h t
   calm_keeps gives (Sets s setting) r old new c h t = absurd c
@@ -163,10 +155,9 @@ pub ends_up : (d : ℕ) (at : Side → ℕ) (w : Side → Lacpdu) (c : Side → 
 ends_up d at w c x Y j l t = of_end l t IsUp (λ p rest timed a. a.0.1.0)
 
 -- of an end whose link is up, what settling keeps
-pub leaves_each : (gives : Algorithms) (e : HostEvent) (at : Side → ℕ) (r : Reply) (old new : WorldState) → LeavesEnds at e
-    → StepReplies gives old e r new → (P : Machines → Type 0) (t : Side) → KeptBySettling (AtPort (at t) P)
-    → OfEach (AtPort (at t) IsUp) (half t old).state.system_ports → OfEach (AtPort (at t) P) (half t old).state.system_ports
-    → OfEach (AtPort (at t) P) (half t new).state.system_ports
+pub leaves_each : (gives : Algorithms) (e : HostEvent) (at : Side → ℕ) (r : Reply) (old new : WorldState) → LeavesEnds at e → StepReplies gives old e r new
+    → (P : Machines → Type 0) (t : Side) → KeptBySettling (AtPort (at t) P) → OfEach (AtPort (at t) IsUp) (half t old).state.system_ports
+    → OfEach (AtPort (at t) P) (half t old).state.system_ports → OfEach (AtPort (at t) P) (half t new).state.system_ports
 leaves_each gives (Sets s setting) at r old new q h P t k up p = sets_each gives s setting old new h at q P t k up p
 leaves_each gives e at r old new q h P t k up p = subst (OfEach (AtPort (at t) P)) (sym (quiet_ports gives e r old new q h t)) p
 
@@ -222,8 +213,7 @@ leaves_cable gives e i at fl r old new q h c = quiet_cable gives e i at fl r old
 pub leaves_link : (gives : Algorithms) (e : HostEvent) (d : ℕ) (at : Side → ℕ) (w : Side → Lacpdu) (c : Side → ℕ) (x : Side)
     (Y : Machines → Type 0) (r : Reply) (old new : WorldState) → LeavesEnds at e → StepReplies gives old e r new → Along Y (w x) (w (peer x)) (c x) d
     → (l : Link d at w c x Y old) → Quieted d at w c x Y l.flying new
-leaves_link gives e d at w c x Y r old new q h along l =
-    let g = leaves_cable gives e l.index at l.flying r old new q h l.links in
+leaves_link gives e d at w c x Y r old new q h along l = let g = leaves_cable gives e l.index at l.flying r old new q h l.links in
     let steady = calm_timely gives e r old new h l.steady in
     record {
       link = record {
@@ -266,9 +256,6 @@ leaves_all at s a b (e ∷ es) (inr (inr h)) = inr (inr (leaves at e h.0, leaves
 abbrev pub PlayedBeside : (Side → ℕ) → Clearing → Algorithms → WorldState → WorldState → Type 0
 PlayedBeside at E gives old new = IsPlayedAmong (LeavesPorts at) E gives old new
 
-abbrev pub AllBeside : (Side → ℕ) → Clearing → Algorithms → ℕ → WorldState → WorldState → Type 0
-AllBeside at E gives n old new = PlayedAmong (LeavesPorts at) E gives n old new
-
 -- a round is one of another kind, too, if its events may come there and the cables are cleared as that wants it
 pub replayed : {May New : HostEvent → Type 0} {E F : Clearing} {gives : Algorithms} {old new : WorldState} (q : IsPlayedAmong May E gives old new)
     → TickOnceAmong New One true true q.events → F q.events old new → IsPlayedAmong New F gives old new
@@ -276,11 +263,6 @@ replayed q ticks clears = grind (arith, nat_tests)
 
 pub as_beside : (at : Side → ℕ) (E : Clearing) (gives : Algorithms) (old new : WorldState) → IsPlayed E gives old new → PlayedBeside at E gives old new
 as_beside at E gives old new h = replayed h (leaves_all at One true true h.events h.ticks) h.empties
-
-pub all_beside : (at : Side → ℕ) (E : Clearing) (gives : Algorithms) (n : ℕ) (old new : WorldState) → PlayedRounds E gives n old new
-    → AllBeside at E gives n old new
-all_beside at E gives zero old new h = h
-all_beside at E gives (suc n) old new h = (h.0, all_beside at E gives n old h.0 h.1, as_beside at E gives h.0 new h.2)
 
 -- an Offer event leaves a system to itself, or offers it the frame
 
@@ -303,8 +285,7 @@ pub moved_half : (gives : Algorithms) (n : ℕ) (agg : AggId) (conv p : ℕ) (r 
     → WorldSteps gives old (event.Move n agg conv p) r new → (t : Side)
     → ((half t new).state ≡ (half t old).state) ⊎ ((side_of n ≡ Some t) × (a : Result Unit SystemFault)
     × Step (gives t) (half t old).state (Move_conversation agg conv p) (answer.MoveConversation a) (half t new).state)
-moved_half gives n agg conv p r old new h t =
-    let v = value_of (side_of n) _ h.0 in
+moved_half gives n agg conv p r old new h t = let v = value_of (side_of n) _ h.0 in
     elim (half_of (λ s x y. HalfMoves (gives s) agg conv p x r y) v.0 t old new v.2) [
       | inl same ↦ inl same
       | inr (is, m) ↦ inr (v.1 ∙ ap (λ (s : Side). Some s) is, m.0, m.1.answers.step)
@@ -315,8 +296,7 @@ pub forced_half : (gives : Algorithms) (n : ℕ) (agg : AggId) (conv : ℕ) (r :
     → WorldSteps gives old (event.Force n agg conv) r new → (t : Side)
     → ((half t new).state ≡ (half t old).state) ⊎ ((side_of n ≡ Some t) × (a : Result Unit SystemFault)
     × Step (gives t) (half t old).state (Force agg conv) (answer.Force a) (half t new).state)
-forced_half gives n agg conv r old new h t =
-    let v = value_of (side_of n) _ h.0 in
+forced_half gives n agg conv r old new h t = let v = value_of (side_of n) _ h.0 in
     elim (half_of (λ s x y. HalfForces (gives s) agg conv x r y) v.0 t old new v.2) [
       | inl same ↦ inl same
       | inr (is, m) ↦ inr (
@@ -337,6 +317,5 @@ asked_half gives n p r old new h = grind arith
 
 -- a Deliver event leaves a system to itself, or brings the first item of a cable to a port of it
 pub came_half : (gives : Algorithms) (c n : ℕ) (r : Reply) (old new : WorldState) → WorldSteps gives old (event.Deliver c n) r new → (t : Side)
-    → ((half t new).state ≡ (half t old).state)
-    ⊎ ((k : ℕ) × (l : LinkState) × (slice_get old.links k ≡ Some l) × Comes gives t k l old new)
+    → ((half t new).state ≡ (half t old).state) ⊎ ((k : ℕ) × (l : LinkState) × (slice_get old.links k ≡ Some l) × Comes gives t k l old new)
 came_half gives c n r old new h t = grind (arith, came_off, each_side, half, slice_get)

@@ -36,8 +36,7 @@ abbrev pub Sleeps : Machines → Machines → Type 0
 Sleeps x p = (p.enabled ≡ false) × (p.receive ≡ PortDisabled) × (party_of p.partner ≡ party_of x.partner)
     × (x.choice ≡ Unselected → p.choice ≡ Unselected)
 
-not_from : (s r : ReceiveState) (b : Bool) → r ≡ PortDisabled → same_receive_state s PortDisabled ≡ false
-    → (same_receive_state s r && b) ≡ true → ⊥
+not_from : (s r : ReceiveState) (b : Bool) → r ≡ PortDisabled → same_receive_state s PortDisabled ≡ false → (same_receive_state s r && b) ≡ true → ⊥
 not_from s r b hyp1 hyp2 hyp3 = grind (arith, nat_tests, no, true)
 
 not_others : (r : ReceiveState) (b : Bool) → r ≡ PortDisabled → (not (same_receive_state PortDisabled r) && b) ≡ true → ⊥
@@ -49,7 +48,7 @@ not_up a up e h = grind (arith, nat_tests)
 sleeping_rows : (x : Machines) → EnabledKeep (Sleeps x) receive_rows
 sleeping_rows x = grind (arith, nat_tests, not_from, true, not_others, not, not_up)
 
-standing : (agg : AggId) → Standby agg ≡ Unselected → ⊥
+pub standing : (agg : AggId) → Standby agg ≡ Unselected → ⊥
 standing agg e = cc
 
 pub sleeping_round : (n : ℕ) (x : Machines) → RoundKeeps (AtPort n (Sleeps x))
@@ -61,10 +60,7 @@ sleeping_round n x = record {
       y.0,
       y.1,
       y.2,
-      λ u. absurd (elim may.0 [
-        | inl up ↦ no (sym y.0 ∙ up.0)
-        | inr s ↦ standing s.0 (sym s.1 ∙ y.3 u)
-      ]),
+      λ u. absurd (elim may.0 [ inl up ↦ no (sym y.0 ∙ up.0) | inr s ↦ standing s.0 (sym s.1 ∙ y.3 u) ]),
     ));
   };
   sends = λ m p a e. a e;
@@ -80,8 +76,7 @@ is_disabled r up e h = grind (arith, nat_tests)
 
 sleeps_on : (gives : Algorithms) (old new : WorldState) → IsSteady old → Passes gives old new → (s : Side) (k : ℕ) (x : SystemPort)
     → slice_get (half s old).state.system_ports k ≡ Some x → x.port.enabled ≡ false → EachAt (AtPort x.number (Sleeps x.port)) s new
-sleeps_on gives old new steady h s k x there down =
-    let st = (half s old).state in
+sleeps_on gives old new steady h s k x there down = let st = (half s old).state in
     let rest = rests receive_rows x.port
     (all-get (λ (y : SystemPort). none_enabled receive_rows y.port ≡ true) st.system_ports k x there (steady s).0.rested.0) in
     each_on gives old new h (AtPort x.number (Sleeps x.port)) (sleeping_round x.number x.port) (sleeping_ticks x.number x.port) s
@@ -94,8 +89,7 @@ sleeps_on gives old new steady h s k x there down =
 pub record Lasted (old new : WorldState) : Type 0 where
   pub now : IsSteady new
   pub before : (s : Side) → IsAsBefore s old new
-  pub alike : (s : Side) (k : ℕ) (x : SystemPort) → slice_get (half s old).state.system_ports k ≡ Some x
-      → EachAt (AtPort x.number (Alike x.port)) s new
+  pub alike : (s : Side) (k : ℕ) (x : SystemPort) → slice_get (half s old).state.system_ports k ≡ Some x → EachAt (AtPort x.number (Alike x.port)) s new
   pub system : (s : Side) → (half s new).state.system ≡ (half s old).state.system
   pub sleeps : (s : Side) (k : ℕ) (x : SystemPort) → slice_get (half s old).state.system_ports k ≡ Some x → x.port.enabled ≡ false
       → EachAt (AtPort x.number (Sleeps x.port)) s new
@@ -109,8 +103,7 @@ lasts_on gives old new steady h = record {
   sleeps = sleeps_on gives old new steady h;
 }
 
-pub played_lasted : (E : Clearing) (gives : Algorithms) (n : ℕ) (old new : WorldState) → IsSteady old → PlayedRounds E gives n old new
-    → Lasted old new
+pub played_lasted : (E : Clearing) (gives : Algorithms) (n : ℕ) (old new : WorldState) → IsSteady old → PlayedRounds E gives n old new → Lasted old new
 played_lasted E gives n old new steady h = lasts_on gives old new steady (played_pass E gives n old new h)
 
 module _ (old new : WorldState) (steady : IsSteady old) (last : Lasted old new) (Holds : LinkState → WorldState → Type 0) (heard : AllHeard Holds old)
@@ -125,13 +118,9 @@ module _ (old new : WorldState) (steady : IsSteady old) (last : Lasted old new) 
   kept : (s : Side) → (half s new).state.system ≡ (half s old).state.system
   kept = last.system
 
-  now : IsSteady new
-  now = last.now
-
   up_linked : (s : Side) (key far : Key) → LeadToKey s key far old → (k : ℕ) (x : SystemPort)
       → slice_get (half s new).state.system_ports k ≡ Some x → x.port.enabled ≡ true → x.port.party.key ≡ key → Linked s key far x.port
-  up_linked s key far lead k x there up is =
-      let st = (half s new).state in
+  up_linked s key far lead k x there up is = let st = (half s new).state in
       let other = (half (peer s) new).state in
       let like = last.before in
       let it = still_heard Holds s old new (like s) heard k x there up in
@@ -140,7 +129,7 @@ module _ (old new : WorldState) (steady : IsSteady old) (last : Lasted old new) 
       let f = end_of (λ q. Knows e.1.port q) (port_at (peer s) l) other e.4 in
       let number : e.1.number ≡ x.number = found_place (port_at s l) st.system_ports e.0 e.1 e.2 e.3 ∙ it.joins in
       let same : e.1.port ≡ x.port = all-get (λ (z : SystemPort). AtPort x.number (λ p. p ≡ x.port) z.number z.port) st.system_ports e.0 e.1 e.3
-      (at_number (λ p. p ≡ x.port) 0 st.system_ports k x (ports_rise st (now s).0.ports) there refl) number in
+      (at_number (λ p. p ≡ x.port) 0 st.system_ports k x (ports_rise st (last.now s).0.ports) there refl) number in
       let was = ends_at it.index l old it.healthy in
       let party_of_end = λ (t : Side) (i : ℕ) (z : SystemPort) (g : slice_get (half t new).state.system_ports i ≡ Some z)
       (m : z.number ≡ port_at t l). (all-get (λ (y : SystemPort). AtPort (was t).1.number (Alike (was t).1.port) y.number y.port)
@@ -167,11 +156,9 @@ module _ (old new : WorldState) (steady : IsSteady old) (last : Lasted old new) 
         partner = ap (λ (y : Party). y.aggregatable) named ∙ far_end.1;
       }
 
-  down_linked : (s : Side) (key far : Key) → DownWereLinkedTo s key far old → (k : ℕ) (x : SystemPort)
-      → slice_get (half s new).state.system_ports k ≡ Some x → x.port.enabled ≡ false → x.port.party.key ≡ key
-      → x.port.choice ≢ Unselected → Linked s key far x.port
-  down_linked s key far linked k x there down is chosen =
-      let like = last.before s in
+  down_linked : (s : Side) (key far : Key) → DownWereLinkedTo s key far old → (k : ℕ) (x : SystemPort) → slice_get (half s new).state.system_ports k ≡ Some x
+      → x.port.enabled ≡ false → x.port.party.key ≡ key → x.port.choice ≢ Unselected → Linked s key far x.port
+  down_linked s key far linked k x there down is chosen = let like = last.before s in
       let z = old_port (half s old).state.system_ports (half s new).state.system_ports k x like.numbers there in
       let alike = like.alike k z.0 x z.1 there in
       let was_down : z.0.port.enabled ≡ false = sym alike.1 ∙ down in
@@ -189,8 +176,8 @@ module _ (old new : WorldState) (steady : IsSteady old) (last : Lasted old new) 
         (rw (
           (together y.port.party (party_of y.port.partner) its.own its.partner),
           (together x.port.party (party_of x.port.partner) mine.own mine.partner),
-          (own_system (half s new).state m y (now s).0 at ∙ sym
-              (own_system (half s new).state k x (now s).0 there)),
+          (own_system (half s new).state m y (last.now s).0 at ∙ sym
+              (own_system (half s new).state k x (last.now s).0 there)),
           same,
           (its.system ∙ sym mine.system),
           (its.far_key ∙ sym mine.far_key),
@@ -211,15 +198,14 @@ module _ (old new : WorldState) (steady : IsSteady old) (last : Lasted old new) 
       mine = up_linked s key g.far g.up k x there up is
 
   pub shared_finds : ((s : Side) → HasAggregators s old) → (s : Side) → Finds s new
-  shared_finds has s k x there wants =
-      let st = (half s new).state in
+  shared_finds has s k x there wants = let st = (half s new).state in
       let like = last.before s in
       let z = old_port (half s old).state.system_ports st.system_ports k x like.numbers there in
       let alike = like.alike k z.0 x z.1 there in
       let key : x.port.party.key ≡ z.0.port.party.key = ap (λ (y : Party). y.key) alike.0 in
-      let free = none_held st k x (now s).2 there in
+      let free = none_held st k x (last.now s).2 there in
       elim (has s k z.0 z.1 (sym alike.1 ∙ wants.up)) [
-        | inl many ↦ finds_aggregator st k x (now s).0 there wants free (still_enough s old new like x.port.party.key z.0.port.party.key key many)
-        | inr g ↦ shares_aggregator st k x (now s).0 there wants free (still_one s old new like x.port.party.key z.0.port.party.key key g.aggregator)
+        | inl many ↦ finds_aggregator st k x (last.now s).0 there wants free (still_enough s old new like x.port.party.key z.0.port.party.key key many)
+        | inr g ↦ shares_aggregator st k x (last.now s).0 there wants free (still_one s old new like x.port.party.key z.0.port.party.key key g.aggregator)
             (one_group s z.0.port.party.key g k x there wants.up key)
       ]

@@ -1,5 +1,5 @@
-use Rattle.lagprogress.proofs.Common.{arith, length, refl, sym, ◌<◌, ◌∙◌}
-use Rattle.lagprogress.proofs.Looping.{asks_all_ends, asks_none, asks_one_more, cable_there, stops_first, stops_second}
+use Rattle.lagprogress.proofs.Common.{arith, length, refl, sym, ◌<◌, ◌∙◌, ◌≡◌}
+use Rattle.lagprogress.proofs.Looping.{asks_none, asks_one_more, cable_there, stops_later}
 use Rattle.lagprogress.proofs.Played.{on_err}
 use Rattle.lagprogress.proofs.loops.ask_ends.Goals as goal
 
@@ -39,21 +39,22 @@ returns-in_default-clause-refused g c =
     absurd (c.in_default.not-Some _ (c.ends.ensures ∙ there.1))
 
 pub returns-clause-asks : goal.returns-clause-asks
-returns-clause-asks g c = asks_all_ends _ c.loop-asked.asked c.args.count _ _ c.loop-asked.invariant.within c.loop-asked-test.false
-    c.loop-asked.invariant.asks
+returns-clause-asks g c =
+    let none_left : c.args.count ≡ c.loop-asked.asked = omega (arith, c.loop-asked.invariant.within, c.loop-asked-test.false) in
+    rw none_left c.loop-asked.invariant.asks
 
 pub returns-in_err-first-clause-part : goal.returns-in_err-first-clause-part
 returns-in_err-first-clause-part g c = on_err _ c.in_err-first.field-0.0 c.from_residual.result c.from_residual.ensures.1
-    (stops_first _ c.loop-asked.asked _ _ _ _ c.loop-asked.invariant.asks
+    (stops_later _ _ _ _ _ c.loop-asked.invariant.asks.played
     (rw (c.loop-asked.invariant.one, c.loop-asked.invariant.two) at c.in_err-first.ensures.part))
 
 pub returns-in_err-second-clause-part : goal.returns-in_err-second-clause-part
 returns-in_err-second-clause-part g c = on_err _ c.in_err-second.field-0.0 c.from_residual-in_err-second.result
     c.from_residual-in_err-second.ensures.1
-    (stops_second _ c.loop-asked.asked c.in-Some.one _ _ _ _ _ c.loop-asked.invariant.asks
-    (rw (c.loop-asked.invariant.one, c.loop-asked.invariant.two) at c.in_ok-first.ensures.asks)
+    (stops_later _ _ _ _ _ c.loop-asked.invariant.asks.played (stops_later _ _ _ _ _
+    (rw (c.loop-asked.invariant.one, c.loop-asked.invariant.two) at c.in_ok-first.ensures.asks).played
     (rw (c.ask_port.ensures.algorithm_one, c.loop-asked.invariant.one, c.ask_port.ensures.algorithm_two, c.loop-asked.invariant.two)
-    at c.in_err-second.ensures.part))
+    at c.in_err-second.ensures.part)))
 
 pub loop-asked-preserved : goal.loop-asked-preserved
 loop-asked-preserved g c = record {

@@ -10,14 +10,7 @@ pub step-requires-clause-two : goal.step-requires-clause-two
 step-requires-clause-two g c = rw c.loop-reply.invariant.two c.requires.two
 
 pub loop-reply-init : goal.loop-reply-init
-loop-reply-init g c = record {
-  played = plays_nothing _ _;
-  risen = omega arith;
-  few = λ few. few;
-  fixed = refl;
-  one = refl;
-  two = refl;
-}
+loop-reply-init g c = record { played = plays_nothing _ _; risen = omega arith; few = λ few. few; fixed = refl; one = refl; two = refl }
 
 pub returns-in_err-reply-clause-part : goal.returns-in_err-reply-clause-part
 returns-in_err-reply-clause-part g c = on_err _ c.in_err-reply.field-0.0 c.from_residual.result c.from_residual.ensures.1

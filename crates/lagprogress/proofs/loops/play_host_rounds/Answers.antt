@@ -1,5 +1,4 @@
-use Rattle.lagprogress.proofs.Common.{arith, refl, subst, ℕ, ◌∙◌, ◌≡◌, ◌≤◌, One, Side, Algorithms, WorldState, BothAreActive, OneIsActive}
-use Rattle.lagprogress.proofs.Common.{DrainingRounds, LateRounds, PlaysHostRounds, up_if_both_active, up_if_one_is, IsSteady}
+use Rattle.lagprogress.proofs.Common.{arith, refl, ◌∙◌, ◌≡◌, One, BothAreActive, OneIsActive, LateRounds, up_if_both_active, up_if_one_is}
 use Rattle.lagprogress.proofs.Bundling.{each_link_agrees, each_link_comes_up, one_meets, both_meet}
 use Rattle.lagprogress.proofs.Freeing.{nothing_is_held_by_hosts}
 use Rattle.lagprogress.proofs.HostLoops.{draining_are_host}
@@ -43,25 +42,15 @@ returns-in_err-play_host_round-clause-stopped g c =
       refused = c.in_err-play_host_round.ensures.refused;
     })
 
--- none is left
-all_drain : (gives : Algorithms) (count done : ℕ) (old new : WorldState) → count ≤ done → done ≤ count
-    → (IsSteady old → (s : Side) (g k : ℕ) → DrainingRounds s g k gives done old new) → IsSteady old → (s : Side) (g k : ℕ)
-    → DrainingRounds s g k gives count old new
-all_drain gives count done old new l m h = let all : done ≡ count = omega (arith, l, m) in
-    subst (λ n. IsSteady old → (s : Side) (g k : ℕ) → DrainingRounds s g k gives n old new) all h
-
-all_rounds : (gives : Algorithms) (count done : ℕ) (old new : WorldState) → count ≤ done → done ≤ count → PlaysHostRounds gives done old new
-    → PlaysHostRounds gives count old new
-all_rounds gives count done old new l m h =
-    let all : done ≡ count = omega (arith, l, m) in subst (λ n. PlaysHostRounds gives n old new) all h
-
 pub returns-clause-plays : goal.returns-clause-plays
 returns-clause-plays g c =
-    all_rounds _ c.args.count c.loop-done.done _ _ c.loop-done-test.false c.loop-done.invariant.within c.loop-done.invariant.rounds
+    let none_left : c.args.count ≡ c.loop-done.done = omega (arith, c.loop-done-test.false, c.loop-done.invariant.within) in
+    rw none_left c.loop-done.invariant.rounds
 
 pub returns-clause-drains : goal.returns-clause-drains
 returns-clause-drains g c =
-    all_drain _ c.args.count c.loop-done.done _ _ c.loop-done-test.false c.loop-done.invariant.within c.loop-done.invariant.played
+    let none_left : c.args.count ≡ c.loop-done.done = omega (arith, c.loop-done-test.false, c.loop-done.invariant.within) in
+    rw none_left c.loop-done.invariant.played
 
 pub returns-clause-rounds : goal.returns-clause-rounds
 returns-clause-rounds g c = λ steady. draining_are_host _ One 0 0 c.args.count _ _ (returns-clause-drains g c steady One 0 0)

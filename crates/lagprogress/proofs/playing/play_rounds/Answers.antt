@@ -1,5 +1,5 @@
-use Rattle.lagprogress.proofs.Common.{arith, subst, ℕ, ◌∙◌, ◌≡◌, ◌≤◌, Algorithms, WorldState, BothAreActive, OneIsActive, LateRounds, Rounds}
-use Rattle.lagprogress.proofs.Common.{freed_if_both_active, freed_if_one_is, up_if_both_active, up_if_one_is}
+use Rattle.lagprogress.proofs.Common.{arith, ◌∙◌, ◌≡◌, BothAreActive, OneIsActive, LateRounds, freed_if_both_active, freed_if_one_is}
+use Rattle.lagprogress.proofs.Common.{up_if_both_active, up_if_one_is}
 use Rattle.lagprogress.proofs.Bundling.{each_link_agrees, each_link_comes_up, one_meets, both_meet}
 use Rattle.lagprogress.proofs.Freeing.{nothing_is_held}
 use Rattle.lagprogress.proofs.HostLoops.{rounds_are_host_rounds}
@@ -34,14 +34,10 @@ returns-in_err-play_round-clause-stopped g c = on_err _ c.in_err-play_round.fiel
       refused = c.in_err-play_round.ensures.refused;
     })
 
--- none is left
-all_played : (gives : Algorithms) (count done : ℕ) (old new : WorldState) → count ≤ done → done ≤ count → Rounds gives done old new
-    → Rounds gives count old new
-all_played gives count done old new l m h = let all : done ≡ count = omega (arith, l, m) in subst (λ n. Rounds gives n old new) all h
-
 pub returns-clause-rounds : goal.returns-clause-rounds
 returns-clause-rounds g c =
-    all_played _ c.args.count c.loop-done.done _ _ c.loop-done-test.false c.loop-done.invariant.within c.loop-done.invariant.played
+    let none_left : c.args.count ≡ c.loop-done.done = omega (arith, c.loop-done-test.false, c.loop-done.invariant.within) in
+    rw none_left c.loop-done.invariant.played
 
 pub returns-clause-distributes_both : goal.returns-clause-distributes_both
 returns-clause-distributes_both g c = distribute g.C.Cable.items g.C.Cable.limit BothAreActive up_if_both_active _
