@@ -306,10 +306,10 @@ module _ (at : Side → ℕ) (w : Side → Lacpdu) (s : Side) (mac : List ℕ) (
       (subst (Has (IsMarker (answering (at s) mac id)))
       (sym (subst (λ t. put (peer s) k.rest fl t ≡ fl t) (peer_twice s) (put_other (peer s) k.rest fl))) y))
   peer_answers gives fl old new i z place there up k id (inl y) = elim (subst (Has (IsMarker (asking (at s) mac id))) k.first y) [
-        | inl r ↦ inr (by_answer k.a k.promise k.back r)
-        | inr r ↦ inl (gains_has (peer s) (IsMarker (asking (at s) mac id)) (response k.a) (put (peer s) k.rest fl) k.now k.back (peer s)
-            (subst (Has (IsMarker (asking (at s) mac id))) (sym (put_there (peer s) k.rest fl)) r))
-      ]
+    | inl r ↦ inr (by_answer k.a k.promise k.back r)
+    | inr r ↦ inl (gains_has (peer s) (IsMarker (asking (at s) mac id)) (response k.a) (put (peer s) k.rest fl) k.now k.back (peer s)
+        (subst (Has (IsMarker (asking (at s) mac id))) (sym (put_there (peer s) k.rest fl)) r))
+  ]
     where
       responds : (o : Received) (frame : List ℕ) → o ≡ received.Respond frame → IsFrame frame (Carries (pdu.Marker (answering (at s) mac id)))
           → Back (peer s) (Ok o) (put (peer s) k.rest fl) k.now → Has (IsMarker (answering (at s) mac id)) (k.now s)

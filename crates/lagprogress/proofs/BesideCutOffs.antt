@@ -421,10 +421,10 @@ module _ (gives : Algorithms) (s : Side) (k : ℕ) (x : SystemPort) (mid top : W
     where
       chosen : same_system c.system x.port.party.system ≡ false → is_selected x.port.choice ≡ true
       chosen other = let wants : WantsAggregator x.port = record {
-            up = up;
-            known = inr defaulted;
-            apart = λ e. no (sym other ∙ (ap (λ z. same_system z x.port.party.system) e ∙ system-itself x.port.party.system));
-          } in
+        up = up;
+        known = inr defaulted;
+        apart = λ e. no (sym other ∙ (ap (λ z. same_system z x.port.party.system) e ∙ system-itself x.port.party.system));
+      } in
           elim (finds_aggregator st k x (steady s).0 there wants (none_held st k x (steady s).2 there) (aggregators k x there up)) [
             | inl h ↦ h
             | inr h ↦ absurd (never_stands st k x h.0 (steady s).0 links there h.1)

@@ -177,15 +177,15 @@ one_seen [] (y ∷ ys) zs k a h = absurd a
 one_seen (x ∷ xs) [] zs k a h = absurd a
 one_seen (x ∷ xs) (y ∷ ys) [] k a h = absurd h
 one_seen (x ∷ xs) (y ∷ ys) (z ∷ zs) k a h = let b = mux_leaves (AsRead x.port) false y.port z.port h.0.1 a.0.2 in (
-      record {
-        number = ap (λ (q : SystemPort). q.number) h.0.0 ∙ a.0.0;
-        party = b.0;
-        partner = b.1;
-        choice = b.2;
-        may = may_before x z k.0 b (ap (λ (q : SystemPort). q.held) h.0.0 ∙ a.0.1);
-      },
-      one_seen xs ys zs k.1 a.1 h.1,
-    )
+  record {
+    number = ap (λ (q : SystemPort). q.number) h.0.0 ∙ a.0.0;
+    party = b.0;
+    partner = b.1;
+    choice = b.2;
+    may = may_before x z k.0 b (ap (λ (q : SystemPort). q.held) h.0.0 ∙ a.0.1);
+  },
+  one_seen xs ys zs k.1 a.1 h.1,
+)
 
 -- the port with this number has this value of Selected
 abbrev pub Chose : ℕ → Choice → ℕ → Machines → Type 0

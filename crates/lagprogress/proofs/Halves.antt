@@ -167,7 +167,7 @@ both_first configs j h s = absurd h
 
 pub start_steady : (configs : List Config) (j : WorldState) → IsStart j → AreFirst configs j → IsSteady j
 start_steady configs j i h s = let first = both_first configs j h s in (
-      first_sound (half s j).state (i.kept s).agrees.ports first,
-      first_each TimedAt timed_settles timed_starts (half s j).state first,
-      first_free (half s j).state first,
-    )
+  first_sound (half s j).state (i.kept s).agrees.ports first,
+  first_each TimedAt timed_settles timed_starts (half s j).state first,
+  first_free (half s j).state first,
+)

@@ -446,10 +446,10 @@ pub rounds_are_draining : (gives : Algorithms) (t : Side) (g k n : ℕ) (old new
     → DrainingRounds t g k gives n old new
 rounds_are_draining gives t g k zero old new steady h = h
 rounds_are_draining gives t g k (suc n) old new steady h = let before = rounds_are_draining gives t g k n old h.0 steady h.1 in (
-      h.0,
-      before,
-      round_is_draining gives t g k h.0 new (played_steady NoneIsLeft gives n old h.0 steady (draining_are_host gives t g k n old h.0 before)) h.2,
-    )
+  h.0,
+  before,
+  round_is_draining gives t g k h.0 new (played_steady NoneIsLeft gives n old h.0 steady (draining_are_host gives t g k n old h.0 before)) h.2,
+)
 
 pub rounds_are_host_rounds : (gives : Algorithms) → RoundsAreHostRounds gives
 rounds_are_host_rounds gives n old new steady h =

@@ -315,8 +315,8 @@ module _ (gives : Algorithms) (d : ℕ) (at : Side → ℕ) (w : Side → Lacpdu
       waits_long = grind (arith, nat_tests)
 
       pub comes_own : (k a b : ℕ) → Within n (suc a) b → MadeByTick gives s (Comes k (kn a b) (W - b)) (Comes k (kn (suc a) b) (W - b))
-      comes_own k a b l m r i j numbered h y = grind (arith, nat_tests, sent_tick s k (kn a b) (kn (suc a) b),
-          told_own (kn a b) (kn (suc a) b) (W - b), own_counted d w c s n then a b l, fit_at (suc a) b l)
+      comes_own k a b l m r i j numbered h y =
+          grind (arith, nat_tests, sent_tick s k (kn a b) (kn (suc a) b), told_own (kn a b), own_counted d w c s n then a b l, fit_at (suc a) b l)
 
       -- the tick of the other system
       pub comes_other : (k a b : ℕ) → Within n a (suc b) → MadeByTick gives (peer s) (Comes k (kn a b) (W - b)) (Comes k (kn a (suc b)) (W - suc b))

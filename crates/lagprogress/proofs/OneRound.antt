@@ -94,10 +94,6 @@ abbrev pub IsAsk : Event → Type 0
 IsAsk (event.Emit n p) = Unit {0}
 IsAsk _ = ⊥
 
-pub all_ask : (links : List LinkState) → AllByRecursion IsAsk (asks_all links)
-all_ask [] = tt
-all_ask (l ∷ links) = (tt, (tt, (tt, (tt, all_ask links))))
-
 pub at_rest : (d : ℕ) (at : Side → ℕ) (w : Side → Lacpdu) (c : Side → ℕ) (s : Side) (V Y : Machines → Type 0) (j : WorldState)
     → ((p : Machines) → AtRest periodic_rows p → IsTimed p → IsEnd d (w s) (w (peer s)) (c s) p → V p → Y p)
     → Link d at w c s V j → Link d at w c s Y j

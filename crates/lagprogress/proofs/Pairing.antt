@@ -203,20 +203,20 @@ module _ (Holds : LinkState → WorldState → Type 0) (gives : Algorithms) (old
     ticked_one : (kn to : Known) (from : WorldState) (t : Side) → OfCables (λ x l y. 2 ≤ kn x l y t) → OfCables (λ x l y. to x l y t ≡ kn x l y t - 1)
         → OfCables (λ x l y. to x l y (peer t) ≡ kn x l y (peer t)) → MadeByTick gives t (Mid kn from) (Mid to from)
     ticked_one kn to from t known here there n r i j named step d = let k = ticks gives n t r i j named step in record {
-          links = λ x l y. (tick_one gives n t 1 (λ u. port_at u l) (said old x l y) (kn x l y) (to x l y) One Nothing Nothing r i j named
-              (record { own = here x l y; other = there x l y; some = λ e. absurd (omega (arith, e)) })
-              (nothing_along (said old x l y One) (said old x l y (peer One)) (to x l y One) 1) (λ p q run rest a f z. z) (λ p f z. z) step
-              (d.links x l y)).link;
-          stands = record {
-            steady = keeps_steady gives (event.Tick n 1) r i j step d.stands.steady;
-            config = config_kept (Plays (event.Tick n 1)) r i j tt step d.stands.config;
-            alike = λ u m x e. tick_keeps (AtPort x.number (Alike x.port)) (alike_keeps x.number x.port).settles (alike_ticks x.number x.port) u t
-                gives n r i j named step (d.stands.alike u m x e);
-          };
-          chose = λ u m x e. each_side (λ v. EachAt (Chose x.number x.port.choice) v i → EachAt (Chose x.number x.port.choice) v j) t
-              (λ a. tick_choice kn i j t x.number x.port.choice k.step known d.links d.stands a)
-              (λ a. subst (λ (z : SystemState). OfEach (Chose x.number x.port.choice) z.system_ports) (sym k.peers) a) u (d.chose u m x e);
-        }
+      links = λ x l y. (tick_one gives n t 1 (λ u. port_at u l) (said old x l y) (kn x l y) (to x l y) One Nothing Nothing r i j named
+          (record { own = here x l y; other = there x l y; some = λ e. absurd (omega (arith, e)) })
+          (nothing_along (said old x l y One) (said old x l y (peer One)) (to x l y One) 1) (λ p q run rest a f z. z) (λ p f z. z) step
+          (d.links x l y)).link;
+      stands = record {
+        steady = keeps_steady gives (event.Tick n 1) r i j step d.stands.steady;
+        config = config_kept (Plays (event.Tick n 1)) r i j tt step d.stands.config;
+        alike = λ u m x e. tick_keeps (AtPort x.number (Alike x.port)) (alike_keeps x.number x.port).settles (alike_ticks x.number x.port) u t
+            gives n r i j named step (d.stands.alike u m x e);
+      };
+      chose = λ u m x e. each_side (λ v. EachAt (Chose x.number x.port.choice) v i → EachAt (Chose x.number x.port.choice) v j) t
+          (λ a. tick_choice kn i j t x.number x.port.choice k.step known d.links d.stands a)
+          (λ a. subst (λ (z : SystemState). OfEach (Chose x.number x.port.choice) z.system_ports) (sym k.peers) a) u (d.chose u m x e);
+    }
 
     choice_round : (from i j : WorldState) → IsLateRound gives i j → AllFresh i → Stands i → AllChose from i → Stands j × AllChose from j
     choice_round from i j h fresh s chose =

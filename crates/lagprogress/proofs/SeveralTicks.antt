@@ -112,8 +112,7 @@ module _ (May : HostEvent → Type 0) (gives : Algorithms) (n : ℕ) (s : Side) 
       → A a b i → A n n j
   holds_turns [] [] i j a b h run m =
       subst (λ x. A n n x) (sym run) (subst (λ x. A n x i) h.1 (subst (λ x. A x b i) h.0 m))
-  holds_turns (e ∷ es) (r ∷ rs) i j a b h run m = grind (arith, nat_tests, own, other, kept, within, holds_turns es rs run.0 j (suc a) b,
-      holds_turns es rs run.0 j a (suc b), holds_turns es rs run.0 j a b)
+  holds_turns (e ∷ es) (r ∷ rs) i j a b h run m = grind (arith, nat_tests, own, other, kept, within, holds_turns es rs run.0 j)
   holds_turns es rs i j a b h run m = absurd run
 
 pub holds_ticks : (E : Clearing) (at : Side → ℕ) (gives : Algorithms) (n : ℕ) (s : Side) (A : ℕ → ℕ → WorldState → Type 0)
@@ -171,8 +170,16 @@ module _ (May : HostEvent → Type 0) (gives : Algorithms) (n : ℕ) (s : Side) 
   few_left : (es : List HostEvent) (rs : List Reply) (i j : WorldState) (a b m : ℕ) → TicksAmong May n s a b es → (run : RunReplies gives i es rs j)
       → AfterTicks s P m gives es rs i j run → a + m ≤ n
   few_left es rs i j a b zero h run y = let l = (within May n s es a b h).0 in omega (arith, l)
-  few_left (e ∷ es) (r ∷ rs) i j a b (suc m) h run y = grind (arith, nat_tests, one_of s e, not_tick May k.none s e, few_left es rs run.0 j (suc a) b m,
-      few_left es rs run.0 j (suc a) b (suc m), few_left es rs run.0 j a (suc b) (suc m), few_left es rs run.0 j a b (suc m))
+  few_left (e ∷ es) (r ∷ rs) i j a b (suc m) h run y = grind (
+    arith,
+    nat_tests,
+    one_of s e,
+    not_tick May k.none s e,
+    few_left es rs run.0 j (suc a) b m,
+    few_left es rs run.0 j (suc a) b (suc m),
+    few_left es rs run.0 j a (suc b) (suc m),
+    few_left es rs run.0 j a b (suc m),
+  )
   few_left es rs i j a b m h run y = absurd y
 
   pub ticks_on : (es : List HostEvent) (rs : List Reply) (i j : WorldState) (a b m : ℕ) → a + m ≡ n → TicksAmong May n s a b es
@@ -184,8 +191,18 @@ module _ (May : HostEvent → Type 0) (gives : Algorithms) (n : ℕ) (s : Side) 
       (tick_of s (A a b) (A (suc a) b) (k.own a b (within May n s es (suc a) b h.1)) f r i run.0 h.0 run.1 x)
   ticks_on (f ∷ es) (r ∷ rs) i j a b (suc m) e (inl h) run (inr y) x =
       let l = few_left es rs run.0 j (suc a) b (suc m) h.1 run.2 y in absurd (omega (arith, l, e))
-  ticks_on (f ∷ es) (r ∷ rs) i j a b (suc m) e (inr h) run y x = grind (arith, nat_tests, one_of s f, not_tick May k.none s f, within, tick_of,
-      k.other_first, k.first, ticks_on es rs run.0 j a (suc b) (suc m), ticks_on es rs run.0 j a b (suc m))
+  ticks_on (f ∷ es) (r ∷ rs) i j a b (suc m) e (inr h) run y x = grind (
+    arith,
+    nat_tests,
+    one_of s f,
+    not_tick May k.none s f,
+    within,
+    tick_of,
+    k.other_first,
+    k.first,
+    ticks_on es rs run.0 j a (suc b) (suc m),
+    ticks_on es rs run.0 j a b (suc m),
+  )
   ticks_on es rs i j a b m e h run y x = absurd y
 
 -- what is known in a round, by the ticks that were
@@ -200,9 +217,6 @@ ticked_by n c s = c s - n
 abbrev pub known_at : (Side → ℕ) → Side → ℕ → ℕ → Side → ℕ
 known_at c s a b = two s (c s - a) (c (peer s) - b)
 
-less_by : (n a b : ℕ) → b ≡ n - suc a → b ≡ n - a - 1
-less_by n a b e = omega (arith, e)
-
 pub own_counted : (d : ℕ) (w : Side → Lacpdu) (c : Side → ℕ) (s : Side) (n : ℕ) → Fits d w (ticked_by n c) → (a b : ℕ) → Within n (suc a) b
     → Counts d s (known_at c s a b) (known_at c s (suc a) b)
 own_counted d w c s n then a b k = grind (arith, nat_tests, two_there, two_other, peer_twice)
@@ -214,10 +228,6 @@ peer_counted d w c s n then a b k = grind (arith, nat_tests, two_there, two_othe
 -- so many ticks known of one end fit
 abbrev FitsHere : ℕ → (Side → Lacpdu) → Side → ℕ → Type 0
 FitsHere d w t m = (m ≤ wait_of (w t)) × (1 ≤ m → 1 ≤ d) × (2 ≤ d → 1 ≤ m) × (2 ≤ d → (activity (w (peer t)) ≡ true) ⊎ (activity (w t) ≡ true))
-
-fewer_fit : (d : ℕ) (w : Side → Lacpdu) (c : Side → ℕ) (n : ℕ) → Fits d w c → Fits d w (ticked_by n c) → (t : Side) (m : ℕ) → m ≤ n
-    → FitsHere d w t (c t - m)
-fewer_fit d w c n fits then t m l = grind (arith, nat_tests)
 
 pub fits_at : (d : ℕ) (w : Side → Lacpdu) (c : Side → ℕ) (s : Side) (n : ℕ) → Fits d w c → Fits d w (ticked_by n c) → (a b : ℕ) → Within n a b
     → Fits d w (known_at c s a b)

@@ -17,7 +17,8 @@ ghost use Rattle.lagprogress.specs.Several.{AskingIsSeveral, AskingIsSeveralBesi
 // contract: `clocks_play_rounds` (`beside`: `RoundsBeside`)
 // premises: both systems are sound, with timers within bounds; the events acted, the calls and settings kept their contracts
 // promise: events and calls as in the first row, and with settings as in the row above, are a late round of several ticks (`IsPlayedTicks`) if each
-//    system ticks so many times, at once or not, and each end of a healthy cable is asked after the last tick of its system; late rounds are rounds of one tick
+//    system ticks so many times, at once or not, each end of a healthy cable is asked after the last tick of its system, and what was on each healthy cable
+//    before has arrived; late rounds are rounds of one tick
 // contract: `clocks_play_rounds` (`several`, `several_beside`, `several_late`: `SeveralRounds`)
 // premises: as in the row above
 /// Which events are a late round: each system ticks once, and every other event or call is as `hosts_play_rounds` has it, in any order; each

@@ -47,10 +47,10 @@ pub fn each_event_is_calls<F: Fn(u16, usize) -> usize>()
 // promise: a world is steady at first, and after any events, and then it is sound, too; and after any events, calls and settings of hosts
 // contract: `each_world_is_steady` (`start`, `kept`, `run`, `reached`, `hosts`, `hosts_reached`)
 // premises: `World::new` made the first; for `reached` at most 2^63 events; after settings no port is held in the end
-// promise: so is a system that a warm start made (`IsSteadySystem`), whatever it adopted: what the laws of lagbeside ask of a system, and those of rounds of
-//    both (`IsSteady`)
+// promise: so is a system that a warm start made (`IsSteadySystem`), whatever it adopted: it is what `any_peer_brings_a_port_up` asks of a system, and the laws
+//    of rounds of both (`IsSteady`)
 // contract: `each_world_is_steady` (`warm`: `WarmStartIsSteady`)
-// not said: that a world with it is sound, as agreement after rounds wants it
+// premises: `resume` made it, and `adopt` refused none. That a world with it is sound, as agreement after rounds wants it, no clause says
 /// Both systems of a world are sound, their timers within their bounds, and no port held: at the start, after each event and
 /// after any events, whatever the distribution algorithms return. So each world that at most 2^63 events lead to from a start
 /// is sound, and both its systems are sound, with their timers within their bounds and no port held, as the laws of
