@@ -12,7 +12,7 @@ import os
 import re
 import subprocess
 
-from processors import AMD64, Processor, compile_crate
+from processors import AMD64, Processor, compile_crate, take_libraries
 from repository import COMPILER, CRATES, RT, TOOLS, TOP, Missing, read_text, runtime, want, write_text
 
 HEADER = os.path.join(CRATES, "lagffi", "include", "lag.h")
@@ -84,6 +84,7 @@ def proved(folder: str, processor: Processor = AMD64) -> list[str]:
         return [made, runtime_part("memory", folder, processor)]
     if not given:
         want(RT)
+        take_libraries()
         printed(RT, "lib", "--jobs", os.environ.get("RT_JOBS", "4"), *processor.words, cwd=os.path.join(CRATES, "lagffi"))
     return [given] if given and os.path.basename(given) == "liblag.a" else [given or ARCHIVE, runtime()]
 

@@ -126,6 +126,7 @@ def compile_crate(name: str, made: str, words: Sequence[str], toolchain: str | N
     """Proves a crate, and compiles it: a static library into an archive, a program into an object."""
     want(RT)
     folder, jobs, rt = os.path.join(CRATES, name), ["--jobs", os.environ.get("RT_JOBS", "2")], rtlib()
+    take_libraries()
     done([RT, "check", *jobs], cwd=folder)
     called = [*rt.Crate(folder, TOP, {}).words([*words, *jobs]), *rt.KEPT, "--backend", "llvm"]
     tools = ["--toolchain", toolchain or os.path.join(kit(), "toolchain")]

@@ -15,6 +15,7 @@ from typing import Iterable, Iterator, NamedTuple
 
 from edits import Trial, copy_crates, write
 from lanes import lanes
+from processors import take_libraries
 from repository import CRATES, RT, Missing, crates, read_text
 
 # An edit, whether it passed, and what to print.
@@ -99,6 +100,8 @@ def tried(folder: str, attempts: list[Attempt], with_all: bool = False) -> Itera
     """Tries these edits; one of which `rt` says nothing has failed. With all crates they are tried in a run of the test command, and what it says of
     all but these edits is the last result."""
     named = dict.fromkeys(it.trial.crate for it in attempts)
+    if not with_all:
+        take_libraries()
     top = copy_crates(folder, [*crates()] if with_all else [*named], with_kept=not with_all)
     for it in attempts:
         write(os.path.join(top, it.trial.crate, "must-fail", it.file), it.text)

@@ -118,7 +118,8 @@ def qemu(packages: Packages) -> list[str]:
             if not os.path.basename(package).startswith("linux-"):
                 done("dpkg-deb", "-x", package, packages.root)
         unpack(packages, ("busybox-static", "debootstrap"), packages.root)
-    return [program, *(word for it in ("qemu", "seabios") for word in ("-L", f"{packages.root}/usr/share/{it}"))]
+    libraries = ":".join(f"{packages.root}/{it}lib/x86_64-linux-gnu" for it in ("usr/", ""))
+    return ["env", f"LD_LIBRARY_PATH={libraries}", program, *(word for it in ("qemu", "seabios") for word in ("-L", f"{packages.root}/usr/share/{it}"))]
 
 
 def module_files(folder: str, version: str, tree: str) -> str:
