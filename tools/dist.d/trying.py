@@ -170,6 +170,13 @@ def try_library(count: Count, root: str, pkg_config: str, given: Mapping[str, st
                     try_on_oldest(count, f"a program by {compiler} with {kind}", [made], {"LD_LIBRARY_PATH": load}, PRINTS)
 
 
+def has_library(compiler: str, folder: str) -> bool:
+    """Whether a compiler has its C library: those of other processors are installed without, where recommended packages are left out."""
+    source = os.path.join(folder, "none.c")
+    write_text(source, "#include <stdio.h>\nint main(void) { return 0; }\n")
+    return not ran([compiler, "-static", "-o", os.path.join(folder, "none"), source]).returncode
+
+
 def try_source(count: Count, root: str) -> None:
     """Builds the program of the library as one file of C, and runs it on each processor whose compiler and emulator are here."""
     folder = os.path.join(root, "share", "liblag")
@@ -179,8 +186,8 @@ def try_source(count: Count, root: str) -> None:
         source, program = os.path.join(made, "try.c"), os.path.join(made, "try")
         write_text(source, PROGRAM)
         for name, (compiler, runs) in {**here, **elsewhere}.items():
-            if not shutil.which(compiler) or not all(runs):
-                print(f"skipped: lag.c on {name}: there is no {compiler}, or no emulator of it")
+            if not shutil.which(compiler) or not all(runs) or not has_library(compiler, made):
+                print(f"skipped: lag.c on {name}: there is no {compiler}, no emulator of it, or no C library")
                 continue
             built = ran([compiler, "-O2", "-static", f"-I{folder}", "-o", program, source, os.path.join(folder, "lag.c")])
             ended = built if built.returncode else ran([*runs, program])
