@@ -85,6 +85,16 @@ def test_what_stands_on_proofs_waits_until_that_is_made(names: list[str], ran: l
     assert (sorted(told[:before]), told[before:]) == (ran[:before], ran[before:])
 
 
+def test_where_nothing_is_made_the_others_still_end(monkeypatch: pytest.MonkeyPatch) -> None:
+    def made() -> None:
+        raise Missing("no library")
+
+    monkeypatch.setattr(check, "CHECKS", {"live": check.Check("tool", "library, root", "")})
+    monkeypatch.setattr(check, "ends", lambda name, more, gives_way: name)
+    monkeypatch.setattr(check, "make_all", made)
+    assert check.side_by_side([("live", [])]) == ["live"]
+
+
 def test_the_end_has_the_longest_first_and_tells_what_did_not_run() -> None:
     ended = [check.Ended("pages", "passed", 6.0, "1 passed, 0 failed"), check.Ended("live", "FAILED", 600.0, ""), check.Ended("carry", "not run", 0.1, "")]
     assert check.summary(ended) == ["  10.0 min  FAILED   live", "   0.1 min  passed   pages", "   0.0 min  not run  carry", "1 passed, 1 failed, 1 not run"]
