@@ -27,8 +27,7 @@ Stays (Err (Refused fault)) r = r ≡ Err (Refused fault)
 pub stays_same : {A : Type 0} (r t : Result A Stop) → t ≡ r → Stays r t
 stays_same r t e = grind arith
 
-pub stays_bind : {A B : Type 0} (r t : Result A Stop) (f g : A → Result B Stop) → Stays r t → ((x : A) → Stays (f x) (g x))
-    → Stays (r >>= f) (t >>= g)
+pub stays_bind : {A B : Type 0} (r t : Result A Stop) (f g : A → Result B Stop) → Stays r t → ((x : A) → Stays (f x) (g x)) → Stays (r >>= f) (t >>= g)
 stays_bind r t f g e h = grind arith
 
 -- the same, where the value is known
@@ -53,8 +52,7 @@ little_same i zero b more le = refl
 little_same i (suc n) b more le = ap (λ x. x + 256 * little_from (suc i) n (b ++ more)) (octet_same b more i (omega (arith, le)))
     ∙ ap (λ x. slice_index b i + 256 * x) (little_same (suc i) n b more (omega (arith, le)))
 
-pub number_same : (order : Order) (b more : List ℕ) (at width : ℕ) → at + width ≤ length b
-    → number_at order (b ++ more) at width ≡ number_at order b at width
+pub number_same : (order : Order) (b more : List ℕ) (at width : ℕ) → at + width ≤ length b → number_at order (b ++ more) at width ≡ number_at order b at width
 number_same order b more at width le = grind (arith, big_from, drop-append-le, big_same, drop, length-drop, little_same)
 
 pub length_same : (order : Order) (b more : List ℕ) (least : ℕ) → 8 ≤ length b → length_in order (b ++ more) least ≡ length_in order b least
@@ -72,8 +70,7 @@ pub link_stays : (order : Order) (b more : List ℕ) → Stays (link_of_file ord
 link_stays order b more = grind (arith, stays_octets, number_same)
 
 -- the captured octets end at the same offset
-pub whole_stays : (b more : List ℕ) (start captured other at : ℕ) → other ≡ captured
-    → Stays (whole b start captured at) (whole (b ++ more) start other at)
+pub whole_stays : (b more : List ℕ) (start captured other at : ℕ) → other ≡ captured → Stays (whole b start captured at) (whole (b ++ more) start other at)
 whole_stays b more start captured other at e = grind (arith, Stays, whole, nat_lt, refused, with_octets, stays_octets)
 
 pub packet_stays : (order : Order) (unit : Unit) (link : LinkType) (b more : List ℕ)

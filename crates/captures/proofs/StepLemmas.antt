@@ -51,8 +51,7 @@ stamped_stays order is b more older le =
     (λ captured. stays_bind (whole b 28 captured 20) (whole (b ++ more) 28 captured 20) _ _ (whole_stays b more 28 captured captured 20 refl)
     (λ end. rw (number_same order b more 24 4 (omega (arith, enough)), interface_number_same order b more older (omega (arith, enough))) refl))))))
 
-simple_stays : (order : Order) (is : List Interface) (b more : List ℕ) → 8 ≤ length b
-    → Stays (simple_packet order is b) (simple_packet order is (b ++ more))
+simple_stays : (order : Order) (is : List Interface) (b more : List ℕ) → 8 ≤ length b → Stays (simple_packet order is b) (simple_packet order is (b ++ more))
 simple_stays order is b more le =
     stays_bind (length_in order b 16) (length_in order (b ++ more) 16) _ _ (stays_same _ _ (length_same order b more 16 le))
     (λ n. stays_octets 12 b more _ _ (λ enough.
@@ -108,8 +107,7 @@ entry_same order b more end at le = by (nat_lt end 4 || nat_lt (end - 4) at) ref
         → cond past (Ok entries.End) (entry_by order (b ++ more) end at (option_code order (b ++ more) at) (option_size order (b ++ more) at))
         ≡ cond past (Ok entries.End) (entry_by order b end at (option_code order b at) (option_size order b at))
     by true e = refl
-    by false e =
-        let (whole, inside) = or_parts (nat_lt end 4) (nat_lt (end - 4) at) e in
+    by false e = let (whole, inside) = or_parts (nat_lt end 4) (nat_lt (end - 4) at) e in
         let four = ltb-false end 4 whole in
         let fits = ltb-false (end - 4) at inside in
         ap (λ c. entry_by order (b ++ more) end at c (option_size order (b ++ more) at)) (number_same order b more at 2 (omega (arith, le, four, fits)))

@@ -38,9 +38,8 @@ place : (at n taken all rest : ℕ) → n ≤ all → rest ≡ all - n → at + 
 place at n taken all rest le e = omega (arith, le, e)
 
 -- a step more
-pub reads_more : (b : List ℕ) (s t u : ReaderState) (found : List (Option Captured)) (n : ℕ) (x : Step) → ReadsTo b s found n t
-    → n < length b → 0 < x.taken → step t (drop n b) ≡ Ok (x, u) → IfSome x.packet (λ p. IsWithin (drop n b) p)
-    → ReadsTo b s (found ++ numbered_in x (drop n b)) (n + x.taken) u
+pub reads_more : (b : List ℕ) (s t u : ReaderState) (found : List (Option Captured)) (n : ℕ) (x : Step) → ReadsTo b s found n t → n < length b → 0 < x.taken
+    → step t (drop n b) ≡ Ok (x, u) → IfSome x.packet (λ p. IsWithin (drop n b) p) → ReadsTo b s (found ++ numbered_in x (drop n b)) (n + x.taken) u
 reads_more b s t u found n x h lt takes is within = λ at steps more le. let (left, enough, so) = h at steps more le in by at steps more left enough so
   where
     by : (at steps : ℕ) (more : List ℕ) (left : ℕ) → length (drop n (b ++ more)) ≤ left
@@ -50,8 +49,7 @@ reads_more b s t u found n x h lt takes is within = λ at steps more le. let (le
         (capture_from rest (at + min (n + x.taken) (length (b ++ more))) u (drop (n + x.taken) (b ++ more))))
     by at steps more zero enough so =
         let all = length-append b more in let l = length-drop n (b ++ more) in absurd (omega (arith, enough, all, l, lt))
-    by at steps more (suc m) enough so =
-        let all = length-append b more in
+    by at steps more (suc m) enough so = let all = length-append b more in
         let l = length-drop n (b ++ more) in
         let k = length-drop (n + x.taken) (b ++ more) in
         let joined = drop-append-le n b more (omega (arith, lt)) in (

@@ -21,17 +21,14 @@ pub record Fits (s : SystemState) (agg : AggId) (conv port : ℕ) : Type 0 where
 abbrev Tests : Bool → Bool → Bool → Bool → Bool → Type 0
 Tests a b c d m = (a ≡ true) × (b ≡ true) × (c ≡ true) × (d ≡ true) × (m ≡ false)
 
-pub fits : (s : SystemState) (agg : AggId) (conv port : ℕ) → IsFreeIn s agg conv → adopt_result s agg conv port ≡ Ok (On port)
-    → Fits s agg conv port
+pub fits : (s : SystemState) (agg : AggId) (conv port : ℕ) → IsFreeIn s agg conv → adopt_result s agg conv port ≡ Ok (On port) → Fits s agg conv port
 fits s agg conv port free e = grind (arith, nat_tests)
 
 -- with other conversations, and the same next marker
-still_fits : (s t : SystemState) (agg : AggId) (conv port c : ℕ) (a : Assignment) → GivesAssignment agg c a s t → Fits s agg conv port
-    → Fits t agg conv port
+still_fits : (s t : SystemState) (agg : AggId) (conv port c : ℕ) (a : Assignment) → GivesAssignment agg c a s t → Fits s agg conv port → Fits t agg conv port
 still_fits s t agg conv port c a h f = grind (arith, nat_tests)
 
-pub now_in : (s t : SystemState) (agg : AggId) (conv : ℕ) (a : Assignment) → GivesAssignment agg conv a s t
-    → assignment_of t.table agg.0 conv ≡ a
+pub now_in : (s t : SystemState) (agg : AggId) (conv : ℕ) (a : Assignment) → GivesAssignment agg conv a s t → assignment_of t.table agg.0 conv ≡ a
 now_in s t agg conv a h = grind (arith, nat_tests)
 
 twice : (x : Bool) (a b r : Assignment) → cond x b (cond x a r) ≡ cond x b r
@@ -59,16 +56,14 @@ pub as_preferred : (gives : ℕ → ℕ → ℕ → Type 0) (agg : AggId) (conv 
 as_preferred gives agg conv port p s t f free h = grind (arith, nat_tests)
 
 -- a move from another port is accepted
-pub is_moved : (agg : AggId) (conv port p : ℕ) (s : SystemState) (answer : Result Unit SystemFault) (t : SystemState)
-    → Fits s agg conv port → assignment_of s.table agg.0 conv ≡ On p → (p ≡ port → ⊥)
-    → GivesOrRefuses agg conv (system_move_result s agg conv port) s answer t
+pub is_moved : (agg : AggId) (conv port p : ℕ) (s : SystemState) (answer : Result Unit SystemFault) (t : SystemState) → Fits s agg conv port
+    → assignment_of s.table agg.0 conv ≡ On p → (p ≡ port → ⊥) → GivesOrRefuses agg conv (system_move_result s agg conv port) s answer t
     → (answer ≡ Ok tt) × GivesAssignment agg conv (Wanted p (Some port)) s t
 is_moved agg conv port p s answer t f on differs h = grind (arith, nat_tests)
 
 -- a force of what waits is accepted
-pub is_forced : (agg : AggId) (conv port p : ℕ) (s : SystemState) (answer : Result Unit SystemFault) (t : SystemState)
-    → Fits s agg conv port → assignment_of s.table agg.0 conv ≡ Wanted p (Some port)
-    → GivesOrRefuses agg conv (system_force_result s agg conv) s answer t
+pub is_forced : (agg : AggId) (conv port p : ℕ) (s : SystemState) (answer : Result Unit SystemFault) (t : SystemState) → Fits s agg conv port
+    → assignment_of s.table agg.0 conv ≡ Wanted p (Some port) → GivesOrRefuses agg conv (system_force_result s agg conv) s answer t
     → (answer ≡ Ok tt) × GivesAssignment agg conv (Free (Some port)) s t
 is_forced agg conv port p s answer t f on h = grind (arith, nat_tests)
 
@@ -130,20 +125,17 @@ first_given : (gives : ℕ → ℕ → ℕ → Type 0) (agg : AggId) (conv port 
     → GivesAssignment agg conv (On p) s t
 first_given gives agg conv port p s t o = is_given gives agg conv port p s t (fits s agg conv port o.0 o.1) o.2
 
-first_fits : (gives : ℕ → ℕ → ℕ → Type 0) (agg : AggId) (conv port p : ℕ) (s t : SystemState) → Offered gives agg conv port p s t
-    → Fits t agg conv port
+first_fits : (gives : ℕ → ℕ → ℕ → Type 0) (agg : AggId) (conv port p : ℕ) (s t : SystemState) → Offered gives agg conv port p s t → Fits t agg conv port
 first_fits gives agg conv port p s t o = grind (arith, nat_tests)
 
 then_moved : (gives : ℕ → ℕ → ℕ → Type 0) (agg : AggId) (conv port p : ℕ) (s t u : SystemState) (moved : Result Unit SystemFault)
-    → Offered gives agg conv port p s t → Moved agg conv port t moved u
-    → (moved ≡ Ok tt) × GivesAssignment agg conv (Wanted p (Some port)) t u
+    → Offered gives agg conv port p s t → Moved agg conv port t moved u → (moved ≡ Ok tt) × GivesAssignment agg conv (Wanted p (Some port)) t u
 then_moved gives agg conv port p s t u moved o m = grind (arith, nat_tests, is_moved, first_fits, now_in, first_given)
 
 then_forced : (gives : ℕ → ℕ → ℕ → Type 0) (agg : AggId) (conv port p : ℕ) (s t u v : SystemState) (moved forced : Result Unit SystemFault)
     → Offered gives agg conv port p s t → Moved agg conv port t moved u → Forced agg conv u forced v
     → (forced ≡ Ok tt) × GivesAssignment agg conv (Free (Some port)) u v × Fits v agg conv port
-then_forced gives agg conv port p s t u v moved forced o m h =
-    let a = then_moved gives agg conv port p s t u moved o m in
+then_forced gives agg conv port p s t u v moved forced o m h = let a = then_moved gives agg conv port p s t u moved o m in
     grind (arith, nat_tests, still_fits, first_fits, is_forced, now_in)
 
 not_done : (fault : SystemFault) → ◌≡◌ {A = Result Unit SystemFault} (Err fault) (Ok tt) → ⊥
@@ -172,16 +164,14 @@ first_refused gives agg conv port s t fault free e o = is_answered gives agg con
 pub placed_at_once : (gives : ℕ → ℕ → ℕ → Type 0) (agg : AggId) (conv port p : ℕ) (s t : SystemState) → IsFreeIn s agg conv
     → adopt_result s agg conv port ≡ Ok (On port) → OffersConversation gives agg conv s (Ok p) t → OffersEach gives agg conv s (Ok p) t
     → p ≡ port → IsPlaced agg conv port s t
-placed_at_once gives agg conv port p s t free e o each same =
-    let f = fits s agg conv port free e in
+placed_at_once gives agg conv port p s t free e o each same = let f = fits s agg conv port free e in
     placed gives agg conv port s s t refl refl f
     (subst (λ q. GivesAssignment agg conv (On q) s t) same (is_given gives agg conv port p s t f o))
     (subst (λ q. OffersEach gives agg conv s (Ok q) t) same each)
 
-pub placed_behind : (gives later : ℕ → ℕ → ℕ → Type 0) (agg : AggId) (conv port p q : ℕ) (s t u v w : SystemState)
-    (moved forced : Result Unit SystemFault) → Offered gives agg conv port p s t → Moved agg conv port t moved u
-    → Forced agg conv u forced v → OffersConversation later agg conv v (Ok q) w → OffersEach later agg conv v (Ok q) w
-    → IsPlaced agg conv port s w
+pub placed_behind : (gives later : ℕ → ℕ → ℕ → Type 0) (agg : AggId) (conv port p q : ℕ) (s t u v w : SystemState) (moved forced : Result Unit SystemFault)
+    → Offered gives agg conv port p s t → Moved agg conv port t moved u → Forced agg conv u forced v → OffersConversation later agg conv v (Ok q) w
+    → OffersEach later agg conv v (Ok q) w → IsPlaced agg conv port s w
 placed_behind gives later agg conv port p q s t u v w moved forced o m h l each =
     let a = then_moved gives agg conv port p s t u moved o m in
     let b = then_forced gives agg conv port p s t u v moved forced o m h in

@@ -14,8 +14,7 @@ in_turn (x ∷ xs) (y ∷ ys) [] a b = absurd b
 in_turn (x ∷ xs) (y ∷ ys) (z ∷ zs) a (inl q) = elim a [ inl p ↦ inl (p.0 ∙ q.0, in_turn xs ys zs p.1 q.1) | inr r ↦ inr (in_turn (x ∷ xs) ys zs r q.1) ]
 in_turn (x ∷ xs) (y ∷ ys) (z ∷ zs) a (inr q) = inr (in_turn (x ∷ xs) (y ∷ ys) zs a q)
 
-both : {X : Type 0} (xs ys : List X) (a b : Option X) → a ≡ b → IsSubsequence xs ys
-    → IsSubsequence (option_to_list a ++ xs) (option_to_list b ++ ys)
+both : {X : Type 0} (xs ys : List X) (a b : Option X) → a ≡ b → IsSubsequence xs ys → IsSubsequence (option_to_list a ++ xs) (option_to_list b ++ ys)
 both xs ys a b e h = grind arith
 
 more : {X : Type 0} (xs ys : List X) (b : Option X) → IsSubsequence xs ys → IsSubsequence xs (option_to_list b ++ ys)
@@ -38,8 +37,7 @@ pub all_places : {X : Type 0} (front o : List X) (js : List ℕ) → length o �
 all_places front [] [] e h = refl
 all_places front [] (j ∷ js) e h = absurd (omega (arith, e))
 all_places front (x ∷ o) [] e h = absurd (omega (arith, e))
-all_places front (x ∷ o) (j ∷ js) e h =
-    let start : j ≡ 0 + length front = h 0 (omega arith) in
+all_places front (x ∷ o) (j ∷ js) e h = let start : j ≡ 0 + length front = h 0 (omega arith) in
     let here : j ≡ length front = omega (arith, start) in
     let this : slice_get (front ++ x ∷ o) j ≡ Some x = ap (slice_get (front ++ x ∷ o)) here ∙ first_behind front x o in
     let grown : length (front ++ x ∷ []) ≡ length front + 1 = grind (arith, common_steps) in
@@ -58,8 +56,7 @@ pub each_place : {X : Type 0} (o : List X) (is js : List ℕ) → IsSubsequenceO
     → ((i : ℕ) → i < length js → slice_index js i < length o) → length (at_places o is) ≡ length is
 each_place o [] js s h = refl
 each_place o (i ∷ is) [] s h = absurd s
-each_place o (i ∷ is) (j ∷ js) (inl p) h =
-    let here : j < length o = h 0 (omega arith) in
+each_place o (i ∷ is) (j ∷ js) (inl p) h = let here : j < length o = h 0 (omega arith) in
     let one = there o i (subst (λ n. n < length o) (sym p.0) here) in
     let rest = each_place o is js p.1 (λ n l. h (suc n) (omega (arith, l))) in
     grind (arith, common_steps)

@@ -14,8 +14,7 @@ names now s agg r e = grind arith
 -- the best of the aggregators up to number n
 abbrev pub BestOf : Option AggId → SystemState → ℕ → Option Rank → Type 0
 BestOf now s n None = (agg : AggId) → IsAggregator s agg → agg.0 ≤ n → rank_in now s agg ≡ None
-BestOf now s n (Some r) =
-    IsAggregator s r.agg × (rank_in now s r.agg ≡ Some r) × (r.agg.0 ≤ n)
+BestOf now s n (Some r) = IsAggregator s r.agg × (rank_in now s r.agg ≡ Some r) × (r.agg.0 ≤ n)
     × ((other : AggId) (q : Rank) → IsAggregator s other → other.0 ≤ n → other ≢ r.agg → rank_in now s other ≡ Some q → is_before r q ≡ true)
 
 at_most : (other : AggId) (n : ℕ) → other.0 ≤ n + 1 → (other.0 ≤ n) ⊎ (other ≡ aggregator_numbered (n + 1))
@@ -38,8 +37,7 @@ one_without now s n (Some r) b e = (
 )
 
 pub one_more : (now : Option AggId) (s : SystemState) (n : ℕ) (best : Option Rank) (r : Rank) → BestOf now s n best
-    → IsAggregator s (aggregator_numbered (n + 1)) → rank_in now s (aggregator_numbered (n + 1)) ≡ Some r
-    → BestOf now s (n + 1) (Some (lesser best r))
+    → IsAggregator s (aggregator_numbered (n + 1)) → rank_in now s (aggregator_numbered (n + 1)) ≡ Some r → BestOf now s (n + 1) (Some (lesser best r))
 one_more now s n None r b is e = grind arith
 one_more now s n (Some k) r b is e = by_order (is_before k r) refl
   where

@@ -57,8 +57,7 @@ itself a = ap not (eq-eqb a.0 a.0 refl)
 
 pub stays : (s : SystemState) (now g : AggId) (r q : Rank) → Carries (Some now) s (Some g) → g ≢ now → IsAggregator s now
     → rank_in (Some now) s g ≡ Some r → rank_in (Some now) s now ≡ Some q → HasMore r q
-stays s now g r q a apart is er eq =
-    let same : a.1 ≡ r = same_Some a.1 r (sym a.2 ∙ er) in
+stays s now g r q a apart is er eq = let same : a.1 ≡ r = same_Some a.1 r (sym a.2 ∙ er) in
     let before = subst (λ z. is_before z q ≡ true) same (a.3 now q is (λ e. apart (sym e)) eq) in
     has_more r q ((names (Some now) s g r er).1 ∙ another g now (now.0 == g.0) refl apart)
     ((names (Some now) s now q eq).1 ∙ itself now) before

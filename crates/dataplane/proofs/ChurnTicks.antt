@@ -38,8 +38,7 @@ fits_tick st w c y n b e s f = grind (arith, nat_tests)
 -- each list of ticks
 fits : (ticks : List Found) → FitsMachine (machine_after ticks) (ticks_out_of_sync ticks) (is_in_sync ticks)
 fits [] = (refl, omega arith, refl)
-fits (f ∷ earlier) =
-    let m : ChurnMachine = machine_after earlier in
+fits (f ∷ earlier) = let m : ChurnMachine = machine_after earlier in
     fits_tick m.state m.waited m.churns m.synchronizations (ticks_out_of_sync earlier) (is_in_sync earlier) f.enabled f.synchronized (fits earlier)
 
 -- what fits has this state
@@ -77,6 +76,5 @@ counts_tick Churn w c y n t b true false f q = rw (not_full (n + 1) t (λ d. abs
 
 pub churns : (ticks : List Found) → (machine_after ticks).churns ≡ counted 0 (times_churned ticks)
 churns [] = sym (counted_is 0 0 ∙ omega arith)
-churns (f ∷ earlier) =
-    let m : ChurnMachine = machine_after earlier in
+churns (f ∷ earlier) = let m : ChurnMachine = machine_after earlier in
     counts_tick m.state m.waited m.churns m.synchronizations (ticks_out_of_sync earlier) (times_churned earlier) (is_in_sync earlier) f.enabled f.synchronized (fits earlier) (churns earlier)

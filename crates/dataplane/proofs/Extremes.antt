@@ -5,11 +5,10 @@ use Rattle.dataplane.proofs.Sums.{IsAmong, among}
 
 pub contained : (ports : List ℕ) (p : ℕ) → IsAmong p ports → Contains ports p
 contained [] p i = absurd i
-contained (q ∷ ports) p i =
-    elim i [
-      | inl e ↦ (0, omega arith, sym e)
-      | inr b ↦ let c : Contains ports p = contained ports p b in (suc c.0, omega (arith, c.1), c.2)
-    ]
+contained (q ∷ ports) p i = elim i [
+  | inl e ↦ (0, omega arith, sym e)
+  | inr b ↦ let c : Contains ports p = contained ports p b in (suc c.0, omega (arith, c.1), c.2)
+]
 
 -- a port of the most
 most_of : (f : ℕ → ℕ) (q : ℕ) (ports : List ℕ) → (a : ℕ) × IsAmong a (q ∷ ports) × ((p : ℕ) → IsAmong p (q ∷ ports) → f p ≤ f a)
@@ -39,19 +38,17 @@ one_at (one ∷ carried) (suc k) c l = one_at carried k c.1 (omega (arith, l))
 -- a conversation on a port that has load
 on_port : (carried : List Carried) (a : ℕ) → CountsOne carried → 0 < load_on a carried → (k : ℕ) × (k < length carried) × ((conversation_at carried k).port ≡ a)
 on_port [] a c l = absurd (omega (arith, l))
-on_port (one ∷ carried) a c l =
-    elim (eqb_tells one.port a) [
-      | inl s ↦ (0, omega arith, s.1)
-      | inr s ↦ let e : load_on a (one ∷ carried) ≡ cond (eqb one.port a) one.load 0 + load_on a carried = sum_by-cons (λ x. cond (eqb x.port a) x.load 0) one carried in
-          let z : cond (eqb one.port a) one.load 0 ≡ 0 = ap (λ t. cond t one.load 0) s.0 in
-          let found : (k : ℕ) × (k < length carried) × ((conversation_at carried k).port ≡ a) = on_port carried a c.1 (omega (arith, e, z, l)) in
-          (suc found.0, omega (arith, found.1), found.2)
-    ]
+on_port (one ∷ carried) a c l = elim (eqb_tells one.port a) [
+  | inl s ↦ (0, omega arith, s.1)
+  | inr s ↦ let e : load_on a (one ∷ carried) ≡ cond (eqb one.port a) one.load 0 + load_on a carried = sum_by-cons (λ x. cond (eqb x.port a) x.load 0) one carried in
+      let z : cond (eqb one.port a) one.load 0 ≡ 0 = ap (λ t. cond t one.load 0) s.0 in
+      let found : (k : ℕ) × (k < length carried) × ((conversation_at carried k).port ≡ a) = on_port carried a c.1 (omega (arith, e, z, l)) in
+      (suc found.0, omega (arith, found.1), found.2)
+]
 
 far_apart : (q : ℕ) (ports : List ℕ) (carried : List Carried) (p r : ℕ) → CountsOne carried → ((m : Move) → IsMove (q ∷ ports) carried m → ⊥)
     → IsAmong p (q ∷ ports) → IsAmong r (q ∷ ports) → load_on r carried + 1 < load_on p carried → ⊥
-far_apart q ports carried p r c none i j l =
-    let f : ℕ → ℕ = λ p. load_on p carried in
+far_apart q ports carried p r c none i j l = let f : ℕ → ℕ = λ p. load_on p carried in
     let a : (a : ℕ) × IsAmong a (q ∷ ports) × ((p : ℕ) → IsAmong p (q ∷ ports) → f p ≤ f a) = most_of f q ports in
     let b : (a : ℕ) × IsAmong a (q ∷ ports) × ((p : ℕ) → IsAmong p (q ∷ ports) → f a ≤ f p) = least_of f q ports in
     let high : f p ≤ f a.0 = a.2 p i in
@@ -73,11 +70,10 @@ far_apart q ports carried p r c none i j l =
 pub alike : (ports : List ℕ) (carried : List Carried) (p q : ℕ) → CountsOne carried → ((m : Move) → IsMove ports carried m → ⊥)
     → Contains ports p → Contains ports q → load_on p carried ≤ load_on q carried + 1
 alike [] carried p q c none i j = absurd (omega (arith, i.1))
-alike (r ∷ ports) carried p q c none i j =
-    elim (cases_lt (load_on q carried + 1) (load_on p carried)) [
-      | inl l ↦ absurd (far_apart r ports carried p q c none (among (r ∷ ports) p i) (among (r ∷ ports) q j) l)
-      | inr l ↦ l
-    ]
+alike (r ∷ ports) carried p q c none i j = elim (cases_lt (load_on q carried + 1) (load_on p carried)) [
+  | inl l ↦ absurd (far_apart r ports carried p q c none (among (r ∷ ports) p i) (among (r ∷ ports) q j) l)
+  | inr l ↦ l
+]
 
 pub none : (ports : List ℕ) (carried : List Carried) (m : Move) → CountsOne carried
     → ((p q : ℕ) → Contains ports p → Contains ports q → load_on p carried ≤ load_on q carried + 1) → IsMove ports carried m → ⊥

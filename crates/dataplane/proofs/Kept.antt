@@ -32,8 +32,7 @@ none : {n : List Act} → n ≡ [] → SendsNoFrame n
 none e = subst SendsNoFrame (sym e) tt
 
 -- a call that is no offer sends no frame
-no_frame : (s : SystemState) (call : Call) (answer : Reply) (acts : List Act) → IsNoOffer call → EffectsSeenAs s call answer acts
-    → SendsNoFrame acts
+no_frame : (s : SystemState) (call : Call) (answer : Reply) (acts : List Act) → IsNoOffer call → EffectsSeenAs s call answer acts → SendsNoFrame acts
 no_frame s call answer acts x e = grind (arith, nat_tests)
 
 -- moves that send no frame
@@ -48,12 +47,10 @@ quietly old new call acts n moves same i = record {
 
 pub kept : (gives : ℕ → ℕ → ℕ → Type 0) (old : SystemState) (call : Call) (answer : Reply) (new : SystemState)
     → CallPromise gives old call answer new → IsNoOffer call → IsInOneAggregator old → IsInOneAggregator new
-kept gives old call answer new p n i =
-    let m = p.moves in
+kept gives old call answer new p n i = let m = p.moves in
     quietly old new m.0 m.1 (no_frame old call answer m.1 n m.3) m.4 p.configured i
 
-pub left : (old new : SystemState) → TablePromise ModelCall.Move_conversation [] old new → IsInOneAggregator old
-    → IsInOneAggregator new
+pub left : (old new : SystemState) → TablePromise ModelCall.Move_conversation [] old new → IsInOneAggregator old → IsInOneAggregator new
 left old new p i = quietly old new ModelCall.Move_conversation [] tt p.moves p.configured i
 
 pub probed : (port : ℕ) (old : SystemState) (answer : Result (Option (List ℕ)) SystemFault) (new : SystemState)
@@ -69,8 +66,7 @@ first s h =
 free_or_not : (c : Conversation) → (c ≡ Free) ⊎ (c ≢ Free)
 free_or_not c = grind (arith, nat_tests)
 
-pub free_elsewhere : (s : SystemState) (agg : AggId) (conv : ℕ) → IsInOneAggregator s → (IsElsewhere s agg conv → ⊥)
-    → FreeElsewhere (model_view s) agg.0 conv
+pub free_elsewhere : (s : SystemState) (agg : AggId) (conv : ℕ) → IsInOneAggregator s → (IsElsewhere s agg conv → ⊥) → FreeElsewhere (model_view s) agg.0 conv
 free_elsewhere s agg conv i not = λ h apart. elim (free_or_not ((model_view s).flows.state h conv)) [
   | inl e ↦ e
   | inr busy ↦ absurd (not (record { other = aggregator_numbered h; is = i.there h conv busy; differs = apart; busy = busy }))
@@ -133,16 +129,14 @@ nothing : (gives : ℕ → ℕ → ℕ → Type 0) (old : SystemState) (agg : Ag
     (new : SystemState) (there : Bool) → OffersIf there false gives agg conv old answer new → new ≡ old
 nothing gives old agg conv answer new there h = grind (arith, nat_tests)
 
-pub offered_by_number : (gives : ℕ → ℕ → ℕ → Type 0) (old : SystemState) (agg : AggId) (conv : ℕ) (answer : Result ℕ SystemFault)
-    (new : SystemState) → agg.0 < 2 ^ 16 → OffersConversation gives agg conv old answer new
-    → ((octets : List ℕ) → MayBeOffered octets → number_of_conversation old octets ≡ conv
-    → CallPromise gives old (Offer agg octets) (reply.Offer answer) new)
+pub offered_by_number : (gives : ℕ → ℕ → ℕ → Type 0) (old : SystemState) (agg : AggId) (conv : ℕ) (answer : Result ℕ SystemFault) (new : SystemState)
+    → agg.0 < 2 ^ 16 → OffersConversation gives agg conv old answer new
+    → ((octets : List ℕ) → MayBeOffered octets → number_of_conversation old octets ≡ conv → CallPromise gives old (Offer agg octets) (reply.Offer answer) new)
     → (IsNumberElsewhere old agg conv → ⊥) → IsInOneAggregator old → IsInOneAggregator new
 offered_by_number gives old agg conv answer new l h each not i = by_number (nat_lt conv (conversation_count old)) refl
   where
     by_number : (t : Bool) → nat_lt conv (conversation_count old) ≡ t → IsInOneAggregator new
-    by_number true e =
-        let within : conv < conversation_count old = grind (arith, nat_tests) in
+    by_number true e = let within : conv < conversation_count old = grind (arith, nat_tests) in
         let frame = framed old conv within in
         offered gives old agg (frame_of_conversation conv) answer new l (each (frame_of_conversation conv) frame.0 frame.1)
         (λ z. not (frame_elsewhere old agg conv within z)) i
@@ -173,7 +167,6 @@ forced gives port old answer new h i = grind (arith, nat_tests, forced_first)
 pub rested : (gives : ℕ → ℕ → ℕ → Type 0) (agg : AggId) (conv : ℕ) (old : SystemState) (answer : Result Unit SystemFault) (new : SystemState)
     (result : Result Assignment SystemFault) → GivesOrRefuses agg conv result old answer new
     → IfOk answer (λ done. CallPromise gives old (Force agg conv) (reply.Force (Ok tt)) new) → IsInOneAggregator old → IsInOneAggregator new
-rested gives agg conv old answer new (Ok state) h p i =
-    kept gives old (Force agg conv) (reply.Force (Ok tt)) new
+rested gives agg conv old answer new (Ok state) h p i = kept gives old (Force agg conv) (reply.Force (Ok tt)) new
     (subst (λ a. IfOk a (λ (done : Unit {0}). CallPromise gives old (Force agg conv) (reply.Force (Ok tt)) new)) h.0 p) tt i
 rested gives agg conv old answer new (Err fault) h p i = subst IsInOneAggregator (sym h.1) i

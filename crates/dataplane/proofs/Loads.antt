@@ -50,8 +50,7 @@ less_by x y l = (y - suc x, omega (arith, l))
 
 pub lowers : (ports : List ℕ) (carried : List Carried) (m : Move) → AllDiffer ports → IsMove ports carried m
     → squares ports (moved carried m) < squares ports carried
-lowers ports carried m d is =
-    let a : ℕ = (conversation_at carried m.conversation).port in
+lowers ports carried m d is = let a : ℕ = (conversation_at carried m.conversation).port in
     let w : ℕ = (conversation_at carried m.conversation).load in
     let f : ℕ → ℕ = λ p. load_on p carried in
     let g : ℕ → ℕ = λ p. load_on p (moved carried m) in

@@ -10,9 +10,8 @@ queue_is : {X : Type 0} (qs : List (List X)) (c k most : ℕ) (q : List X) → l
 queue_is qs c k most q own other = grind (arith, eqb_tells, get_or-set_other)
 
 -- the number of all that wait, where one queue becomes another
-in_all_is : {X : Type 0} (qs : List (List X)) (c most : ℕ) (q : List X)
-    → (c < length qs → sum_by length qs + length q ≤ most + length (get_or qs c [])) → sum_by length qs ≤ most
-    → sum_by length (slice_set qs c q) ≤ most
+in_all_is : {X : Type 0} (qs : List (List X)) (c most : ℕ) (q : List X) → (c < length qs → sum_by length qs + length q ≤ most + length (get_or qs c []))
+    → sum_by length qs ≤ most → sum_by length (slice_set qs c q) ≤ most
 in_all_is qs c most q more h = grind (arith, cases_lt, sum_by, slice_set, get_or, sum_by-set, set_out)
 
 -- an equal or shorter queue

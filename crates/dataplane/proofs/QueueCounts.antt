@@ -39,19 +39,16 @@ dropped (call ∷ calls) h b =
     ∙ counted_twice h.dropped (number_dropped (gone (conversation_of call) call h)) (all_dropped calls (after call h))
 
 one_refused_put : {X : Type 0} (h : HoldingValue X) (c : ℕ) (x : X) (o : Option Refusal) → h.refused < 2 ^ 64
-    → (cond (is_none o) (with_queue h c (queue h c ++ x ∷ [])) (record h { refused = counted h.refused 1 })).refused
-    ≡ counted h.refused (cond (is_some o) 1 0)
+    → (cond (is_none o) (with_queue h c (queue h c ++ x ∷ [])) (record h { refused = counted h.refused 1 })).refused ≡ counted h.refused (cond (is_some o) 1 0)
 one_refused_put h c x o b = grind (arith, counted_nothing)
 
-one_refused : {X : Type 0} (call : QueueCall X) (h : HoldingValue X) → h.refused < 2 ^ 64
-    → (after call h).refused ≡ counted h.refused (handed_back call h)
+one_refused : {X : Type 0} (call : QueueCall X) (h : HoldingValue X) → h.refused < 2 ^ 64 → (after call h).refused ≡ counted h.refused (handed_back call h)
 one_refused call h b = grind (arith, one_refused_put, refusal, counted_nothing)
 
 pub refused : {X : Type 0} (calls : List (QueueCall X)) (h : HoldingValue X) → h.refused < 2 ^ 64
     → (after_all calls h).refused ≡ counted h.refused (all_handed_back calls h)
 refused [] h b = sym (counted_nothing h.refused b)
-refused (call ∷ calls) h b =
-    let one : (after call h).refused ≡ counted h.refused (handed_back call h) = one_refused call h b in
+refused (call ∷ calls) h b = let one : (after call h).refused ≡ counted h.refused (handed_back call h) = one_refused call h b in
     let fits : (after call h).refused < 2 ^ 64 = rw one (counted_fits h.refused (handed_back call h)) in
     refused calls (after call h) fits ∙ ap (λ d. counted d (all_handed_back calls (after call h))) one
     ∙ counted_twice h.refused (handed_back call h) (all_handed_back calls (after call h))

@@ -43,18 +43,15 @@ cond_map f b xs = grind arith
 one_step : {X : Type 0} (call : QueueCall X) (h : HoldingValue X) (k : ℕ)
     → queue h k ++ accepted k call h ≡ map handle_of (gone k call h) ++ queue (after call h) k
 one_step (Put c x) h k = put_step h c k x (refusal h c) (eqb c k) refl refl
-one_step (Next c) h k =
-    rw (append-nil, cond_map, handles_of) (lose_step h c k 1 (eqb c k) refl)
-one_step (DropOldest c) h k =
-    rw (append-nil, cond_map, dropped_handles_of) (lose_step h c k 1 (eqb c k) refl)
+one_step (Next c) h k = rw (append-nil, cond_map, handles_of) (lose_step h c k 1 (eqb c k) refl)
+one_step (DropOldest c) h k = rw (append-nil, cond_map, dropped_handles_of) (lose_step h c k 1 (eqb c k) refl)
 one_step (Clear c) h k =
     rw (append-nil, cond_map, dropped_handles_of) (rw take-length at (lose_step h c k (length (queue h c)) (eqb c k) refl))
 
 pub in_order : {X : Type 0} (calls : List (QueueCall X)) (h : HoldingValue X) (k : ℕ)
     → queue h k ++ all_accepted k calls h ≡ map handle_of (all_gone k calls h) ++ queue (after_all calls h) k
 in_order [] h k = append-nil (queue h k)
-in_order (call ∷ calls) h k =
-    sym (append_assoc (queue h k) (accepted k call h) (all_accepted k calls (after call h)))
+in_order (call ∷ calls) h k = sym (append_assoc (queue h k) (accepted k call h) (all_accepted k calls (after call h)))
     ∙ ap (λ q. q ++ all_accepted k calls (after call h)) (one_step call h k)
     ∙ append_assoc (map handle_of (gone k call h)) (queue (after call h) k) (all_accepted k calls (after call h))
     ∙ ap (λ q. map handle_of (gone k call h) ++ q) (in_order calls (after call h) k)

@@ -42,9 +42,8 @@ pub room_in_all : {X : Type 0} (h : HoldingValue X) (conversation : ℕ) → ref
 room_in_all h conversation e = grind (arith, common_steps)
 
 -- a handle more in a ring that has room
-pub put_keeps : {X : Type 0} (rings new : List (Buffer X)) (waiting most_in_all most_each place : ℕ) (x : X)
-    → IsHolding rings waiting most_in_all most_each → place < length rings → length (ring_at rings place).items < most_each
-    → waiting < most_in_all
+pub put_keeps : {X : Type 0} (rings new : List (Buffer X)) (waiting most_in_all most_each place : ℕ) (x : X) → IsHolding rings waiting most_in_all most_each
+    → place < length rings → length (ring_at rings place).items < most_each → waiting < most_in_all
     → new ≡ slice_set rings place (buffer ((ring_at rings place).items ++ x ∷ []) (ring_at rings place).capacity)
     → IsHolding new (waiting + 1) most_in_all most_each
 put_keeps rings new waiting most_in_all most_each place x h l m n e = grind (arith, common_steps, sum_by-set, buffer, ring_at)
@@ -57,14 +56,12 @@ pub put_waits : {X : Type 0} (rings new : List (Buffer X)) (a e d r place conver
 put_waits rings new a e d r place conversation x h v p o n = grind (arith, holding_of, ring_queues, with_queue, queue, queue_of, same_holding, queues_set, after, is_none, counted)
 
 -- and where one does
-pub put_refuses : {X : Type 0} (qs : List (List X)) (a e d r more conversation : ℕ) (x : X) (h : HoldingValue X) (f : Refusal)
-    → holding_of qs a e d r ≡ h → refusal h conversation ≡ Some f → more ≡ min (r + 1) (2 ^ 64 - 1)
-    → holding_of qs a e d more ≡ after (Put conversation x) h
+pub put_refuses : {X : Type 0} (qs : List (List X)) (a e d r more conversation : ℕ) (x : X) (h : HoldingValue X) (f : Refusal) → holding_of qs a e d r ≡ h
+    → refusal h conversation ≡ Some f → more ≡ min (r + 1) (2 ^ 64 - 1) → holding_of qs a e d more ≡ after (Put conversation x) h
 put_refuses qs a e d r more conversation x h f v o m = grind (arith, holding_of, counted, same_holding, counted_is, after, is_none, with_queue, queue)
 
 -- what `clear` leaves
 pub clear_empties : {X : Type 0} (rings new : List (Buffer X)) (a e d r more number most place conversation : ℕ) (h : HoldingValue X)
-    → holding_of (ring_queues rings) a e d r ≡ h → place ≡ conversation → number ≡ length (ring_at rings place).items
-    → more ≡ min (d + number) (2 ^ 64 - 1) → new ≡ slice_set rings place (buffer [] most)
-    → holding_of (ring_queues new) a e more r ≡ after (Clear conversation) h
+    → holding_of (ring_queues rings) a e d r ≡ h → place ≡ conversation → number ≡ length (ring_at rings place).items → more ≡ min (d + number) (2 ^ 64 - 1)
+    → new ≡ slice_set rings place (buffer [] most) → holding_of (ring_queues new) a e more r ≡ after (Clear conversation) h
 clear_empties rings new a e d r more number most place conversation h v p l m n = grind (arith, queue_of, take-length, drop-length, same_holding, queues_set, counted_is, counted)

@@ -35,18 +35,16 @@ pick o x y = if is_lt o then record { lower = y; upper = x } else record { lower
 
 -- Ends that compare Equal are equal: the ends of a group stand in their order, whichever is named first.
 exact_ends : (x y : End) → end_cmp x y ≡ Equal → x ≡ y
-exact_ends x y e =
-    let back : end_cmp y x ≡ Equal = total_ends.antisymm y x ∙ ap ordering_reverse e in
+exact_ends x y e = let back : end_cmp y x ≡ Equal = total_ends.antisymm y x ∙ ap ordering_reverse e in
     let same : pick (end_cmp y x) x y ≡ pick (end_cmp x y) y x
     = groups_from_pairs (record { one = x; other = y }) (record { one = y; other = x }) (inr (refl, refl)) in
     grind (arith, pick)
 
 exact_groups : (g h : Group) → group_cmp g h ≡ Equal → g ≡ h
-exact_groups g h e =
-    λ i. record {
-      lower = exact_ends g.lower h.lower (first_equal (end_cmp g.lower h.lower) (end_cmp g.upper h.upper) e) i;
-      upper = exact_ends g.upper h.upper (second_equal (end_cmp g.lower h.lower) (end_cmp g.upper h.upper) e) i;
-    }
+exact_groups g h e = λ i. record {
+  lower = exact_ends g.lower h.lower (first_equal (end_cmp g.lower h.lower) (end_cmp g.upper h.upper) e) i;
+  upper = exact_ends g.upper h.upper (second_equal (end_cmp g.lower h.lower) (end_cmp g.upper h.upper) e) i;
+}
 
 exact_flags : (a b : Bool) → bool_cmp a b ≡ Equal → a ≡ b
 exact_flags a b e = grind arith
@@ -104,14 +102,13 @@ total_all = then_total (on_total (λ (r : Rank). r.on_defaults) bool_cmp_total)
 -- ranks of which each comes before the other, but for its number, are equal but for their numbers
 pub alike : (r q p n : Rank) → p ≡ record r { agg = p.agg } → n ≡ record q { agg = n.agg } → is_before q p ≡ true → is_before r n ≡ true
     → q ≡ record r { agg = q.agg }
-alike r q p n ep en a b =
-    λ i. record {
-      on_defaults = sym (exact_flags r.on_defaults q.on_defaults flag) i;
-      ports = record { 0 = exact_unsigned q.ports.0 r.ports.0 ports i };
-      is_other = sym (exact_flags r.is_other q.is_other other) i;
-      group = sym (exact_groups r.group q.group group) i;
-      agg = q.agg;
-    }
+alike r q p n ep en a b = λ i. record {
+  on_defaults = sym (exact_flags r.on_defaults q.on_defaults flag) i;
+  ports = record { 0 = exact_unsigned q.ports.0 r.ports.0 ports i };
+  is_other = sym (exact_flags r.is_other q.is_other other) i;
+  group = sym (exact_groups r.group q.group group) i;
+  agg = q.agg;
+}
   where
     forth : is_lt (ordering_then (by_all q r) (by_number q p)) ≡ true
     forth = ap is_lt (sym (regrouped (by_flag q r) (by_ports q r) (by_other q r) (by_group q r) (by_number q p)))

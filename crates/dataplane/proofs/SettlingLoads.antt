@@ -9,23 +9,19 @@ use Rattle.dataplane.proofs.Extremes.{one_at, contained}
 
 at_least : (f : ℕ → ℕ) (m : ℕ) (ports : List ℕ) → ((p : ℕ) → IsAmong p ports → m ≤ f p) → m * length ports ≤ sum_by f ports
 at_least f m [] h = omega arith
-at_least f m (p ∷ ports) h =
-    let rest : m * length ports ≤ sum_by f ports = at_least f m ports (λ q b. h q (inr b)) in
+at_least f m (p ∷ ports) h = let rest : m * length ports ≤ sum_by f ports = at_least f m ports (λ q b. h q (inr b)) in
     let one : m ≤ f p = h p (inl refl) in
     rw (sum_by-cons f p ports) (omega (arith, rest, one))
 
 at_most : (f : ℕ → ℕ) (m : ℕ) (ports : List ℕ) → ((p : ℕ) → IsAmong p ports → f p ≤ m) → sum_by f ports ≤ m * length ports
 at_most f m [] h = omega arith
-at_most f m (p ∷ ports) h =
-    let rest : sum_by f ports ≤ m * length ports = at_most f m ports (λ q b. h q (inr b)) in
+at_most f m (p ∷ ports) h = let rest : sum_by f ports ≤ m * length ports = at_most f m ports (λ q b. h q (inr b)) in
     let one : f p ≤ m = h p (inl refl) in
     rw (sum_by-cons f p ports) (omega (arith, rest, one))
 
-falls_short : (f : ℕ → ℕ) (m b : ℕ) (ports : List ℕ) → ((p : ℕ) → IsAmong p ports → f p ≤ m) → IsAmong b ports → f b < m
-    → sum_by f ports < m * length ports
+falls_short : (f : ℕ → ℕ) (m b : ℕ) (ports : List ℕ) → ((p : ℕ) → IsAmong p ports → f p ≤ m) → IsAmong b ports → f b < m → sum_by f ports < m * length ports
 falls_short f m b [] h i l = absurd i
-falls_short f m b (p ∷ ports) h i l =
-    let one : f p ≤ m = h p (inl refl) in
+falls_short f m b (p ∷ ports) h i l = let one : f p ≤ m = h p (inl refl) in
     elim i [
       | inl e ↦ let rest : sum_by f ports ≤ m * length ports = at_most f m ports (λ q c. h q (inr c)) in
           let s : f b ≡ f p = ap f e in
@@ -36,11 +32,10 @@ falls_short f m b (p ∷ ports) h i l =
 
 term_within : (f : ℕ → ℕ) (a : ℕ) (ports : List ℕ) → IsAmong a ports → f a ≤ sum_by f ports
 term_within f a [] i = absurd i
-term_within f a (p ∷ ports) i =
-    elim i [
-      | inl e ↦ let s : f a ≡ f p = ap f e in rw (sum_by-cons f p ports) (omega (arith, s))
-      | inr c ↦ let rest : f a ≤ sum_by f ports = term_within f a ports c in rw (sum_by-cons f p ports) (omega (arith, rest))
-    ]
+term_within f a (p ∷ ports) i = elim i [
+  | inl e ↦ let s : f a ≡ f p = ap f e in rw (sum_by-cons f p ports) (omega (arith, s))
+  | inr c ↦ let rest : f a ≤ sum_by f ports = term_within f a ports c in rw (sum_by-cons f p ports) (omega (arith, rest))
+]
 
 no_sum : (f : ℕ → ℕ) (ports : List ℕ) → ((p : ℕ) → IsAmong p ports → f p ≡ 0) → sum_by f ports ≡ 0
 no_sum f ports h = let m : sum_by f ports ≤ 0 * length ports = at_most f 0 ports (λ p i. let z : f p ≡ 0 = h p i in omega (arith, z)) in omega (arith, m)
@@ -73,11 +68,9 @@ most_is_high f g a b q ports u = grind (arith, cases_lt, sum_by, falls_short)
 same_number : (f g : ℕ → ℕ) (a b q : ℕ) (ports : List ℕ) → Unequal f g a b q ports → sum_by g ports ≡ sum_by f ports
 same_number f g a b q ports u = grind (arith, sum_by, two_differ)
 
-above_falls : (f g : ℕ → ℕ) (a b q n : ℕ) (ports : List ℕ) → Unequal f g a b q ports → above q f ports ≤ n → below q f ports ≤ n
-    → above q g ports + 1 ≤ n
+above_falls : (f g : ℕ → ℕ) (a b q n : ℕ) (ports : List ℕ) → Unequal f g a b q ports → above q f ports ≤ n → below q f ports ≤ n → above q g ports + 1 ≤ n
 unfolding above below
-above_falls f g a b q n ports u hi lo =
-    let low : f b ≤ q = least_is_low f g a b q ports u in
+above_falls f g a b q n ports u hi lo = let low : f b ≤ q = least_is_low f g a b q ports u in
     let high : q < f a = most_is_high f g a b q ports u in
     let s : sum_by (λ p. g p - suc q) ports + (f a - suc q) + (f b - suc q) ≡ sum_by (λ p. f p - suc q) ports + (g a - suc q) + (g b - suc q) =
     two_differ (λ p. f p - suc q) (λ p. g p - suc q) a b ports u.differ u.from u.to u.shift.apart (λ p na nb. ap (λ n. n - suc q) (u.shift.other p na nb)) in
@@ -88,11 +81,9 @@ above_falls f g a b q n ports u hi lo =
           omega (arith, s, none, some, low, high, l, u.shift.from, u.shift.to, u.gains, lo)
     ]
 
-below_falls : (f g : ℕ → ℕ) (a b q n : ℕ) (ports : List ℕ) → Unequal f g a b q ports → above q f ports ≤ n → below q f ports ≤ n
-    → below q g ports + 1 ≤ n
+below_falls : (f g : ℕ → ℕ) (a b q n : ℕ) (ports : List ℕ) → Unequal f g a b q ports → above q f ports ≤ n → below q f ports ≤ n → below q g ports + 1 ≤ n
 unfolding above below
-below_falls f g a b q n ports u hi lo =
-    let low : f b ≤ q = least_is_low f g a b q ports u in
+below_falls f g a b q n ports u hi lo = let low : f b ≤ q = least_is_low f g a b q ports u in
     let high : q < f a = most_is_high f g a b q ports u in
     let s : sum_by (λ p. q - g p) ports + (q - f a) + (q - f b) ≡ sum_by (λ p. q - f p) ports + (q - g a) + (q - g b) =
     two_differ (λ p. q - f p) (λ p. q - g p) a b ports u.differ u.from u.to u.shift.apart (λ p na nb. ap (λ n. q - n) (u.shift.other p na nb)) in
@@ -112,8 +103,7 @@ run : (ports : List ℕ) (carried : List Carried) (ms : List Move) (q n : ℕ) �
     → q * length ports ≤ sum_by (λ p. load_on p carried) ports → sum_by (λ p. load_on p carried) ports < suc q * length ports
     → above q (λ p. load_on p carried) ports ≤ n → below q (λ p. load_on p carried) ports ≤ n → length ms ≤ n
 run ports carried [] q n d c r enough few hi lo = omega arith
-run ports carried (m ∷ ms) q n d c r enough few hi lo =
-    let is : IsMove ports carried m = r.0 in
+run ports carried (m ∷ ms) q n d c r enough few hi lo = let is : IsMove ports carried m = r.0 in
     let one : (conversation_at carried m.conversation).load ≡ 1 = one_at carried m.conversation c is.there in
     let f : ℕ → ℕ = λ p. load_on p carried in
     let g : ℕ → ℕ = λ p. load_on p (moved carried m) in
@@ -140,14 +130,12 @@ run ports carried (m ∷ ms) q n d c r enough few hi lo =
 
 plus : (f g : ℕ → ℕ) (ports : List ℕ) → sum_by (λ p. f p + g p) ports ≡ sum_by f ports + sum_by g ports
 plus f g [] = refl
-plus f g (p ∷ ports) =
-    let rest : sum_by (λ p. f p + g p) ports ≡ sum_by f ports + sum_by g ports = plus f g ports in
+plus f g (p ∷ ports) = let rest : sum_by (λ p. f p + g p) ports ≡ sum_by f ports + sum_by g ports = plus f g ports in
     rw (sum_by-cons (λ p. f p + g p) p ports, sum_by-cons f p ports, sum_by-cons g p ports) (omega (arith, rest))
 
 not_new : (port : ℕ) (ports : List ℕ) → IsNew port ports → sum_by (λ p. cond (eqb port p) 1 0) ports ≡ 0
 not_new port [] n = refl
-not_new port (p ∷ ports) n =
-    let rest : sum_by (λ p. cond (eqb port p) 1 0) ports ≡ 0 = not_new port ports n.1 in
+not_new port (p ∷ ports) n = let rest : sum_by (λ p. cond (eqb port p) 1 0) ports ≡ 0 = not_new port ports n.1 in
     elim (eqb_tells port p) [
       | inl s ↦ absurd (n.0 s.1)
       | inr s ↦ let z = misses port p 1 s.1 in rw (sum_by-cons (λ p. cond (eqb port p) 1 0) p ports) (omega (arith, rest, z))
@@ -155,15 +143,14 @@ not_new port (p ∷ ports) n =
 
 on_one_port : (port : ℕ) (ports : List ℕ) → AllDiffer ports → sum_by (λ p. cond (eqb port p) 1 0) ports ≤ 1
 on_one_port port [] d = omega arith
-on_one_port port (p ∷ ports) d =
-    elim (eqb_tells port p) [
-      | inl s ↦ let z = hits port p 1 s.1 in
-          let rest : sum_by (λ p. cond (eqb port p) 1 0) ports ≡ 0 = rw s.1 (not_new p ports d.0) in
-          rw (sum_by-cons (λ p. cond (eqb port p) 1 0) p ports) (omega (arith, rest, z))
-      | inr s ↦ let z = misses port p 1 s.1 in
-          let rest : sum_by (λ p. cond (eqb port p) 1 0) ports ≤ 1 = on_one_port port ports d.1 in
-          rw (sum_by-cons (λ p. cond (eqb port p) 1 0) p ports) (omega (arith, rest, z))
-    ]
+on_one_port port (p ∷ ports) d = elim (eqb_tells port p) [
+  | inl s ↦ let z = hits port p 1 s.1 in
+      let rest : sum_by (λ p. cond (eqb port p) 1 0) ports ≡ 0 = rw s.1 (not_new p ports d.0) in
+      rw (sum_by-cons (λ p. cond (eqb port p) 1 0) p ports) (omega (arith, rest, z))
+  | inr s ↦ let z = misses port p 1 s.1 in
+      let rest : sum_by (λ p. cond (eqb port p) 1 0) ports ≤ 1 = on_one_port port ports d.1 in
+      rw (sum_by-cons (λ p. cond (eqb port p) 1 0) p ports) (omega (arith, rest, z))
+]
 
 -- each conversation is on one of the ports or on none
 all_loads : (ports : List ℕ) (carried : List Carried) → AllDiffer ports → CountsOne carried → sum_by (λ p. load_on p carried) ports ≤ length carried
@@ -184,8 +171,7 @@ pub ends : (ports : List ℕ) (carried : List Carried) (ms : List Move) → AllD
 unfolding above below
 ends ports carried [] d c r = omega arith
 ends [] carried (m ∷ ms) d c r = absurd (omega (arith, r.0.from.1))
-ends (port ∷ others) carried (m ∷ ms) d c r =
-    let total : ℕ = sum_by (λ p. load_on p carried) (port ∷ others) in
+ends (port ∷ others) carried (m ∷ ms) d c r = let total : ℕ = sum_by (λ p. load_on p carried) (port ∷ others) in
     let q : ℕ = total / suc (length others) in
     let some : zero < suc (length others) = omega arith in
     let enough : suc (length others) * (total / suc (length others)) ≤ total = mul-div-le total (suc (length others)) in

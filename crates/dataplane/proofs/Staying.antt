@@ -28,20 +28,17 @@ none_sent h j (Took p pdu ∷ seen) n = none_sent h j seen n
 is_flushing : (c : Conversation) (p n : ℕ) → c ≡ Flushing p n → c ≡ Free → ⊥
 is_flushing c p n a b = cc
 
-send_stays : (f : DistributorFacts) (p g k h j : ℕ) → ((g ≡ h) × (k ≡ j) → ⊥) → f.state h j ≡ Free
-    → at_conversation f.state g k (On p) h j ≡ Free
+send_stays : (f : DistributorFacts) (p g k h j : ℕ) → ((g ≡ h) × (k ≡ j) → ⊥) → f.state h j ≡ Free → at_conversation f.state g k (On p) h j ≡ Free
 send_stays f p g k h j n e = grind arith
 
 become_stays : (mac : List ℕ) (call : ModelCall) (f : DistributorFacts) (g k : ℕ) (m : ConversationMove) (h j : ℕ)
-    → ConversationMoveAllowed mac call g k m (f.state g k) → f.state h j ≡ Free
-    → at_conversation f.state g k (conversation_after m) h j ≡ Free
+    → ConversationMoveAllowed mac call g k m (f.state g k) → f.state h j ≡ Free → at_conversation f.state g k (conversation_after m) h j ≡ Free
 become_stays mac call f g k m h j a e = grind arith
 
 stays_free : (u : SystemSetup) (call : ModelCall) (h j : ℕ) (ms : List Move) (v : View) → AllAllowed u call v ms
     → NotSent h j (acts u ms v) → v.flows.state h j ≡ Free → (view_after_all u ms v).flows.state h j ≡ Free
 stays_free u call h j [] v a n e = e
-stays_free u call h j (Port p m ∷ ms) v a n e =
-    stays_free u call h j ms (view_after u (Port p m) v) a.1
+stays_free u call h j (Port p m ∷ ms) v a n e = stays_free u call h j ms (view_after u (Port p m) v) a.1
     (past h j (act_of_port p m (v.port p)) (acts u ms (view_after u (Port p m) v)) n) e
 stays_free u call h j (Flow (DistributorMove.Send g k p) ∷ ms) v a n e =
     stays_free u call h j ms (view_after u (Flow (DistributorMove.Send g k p)) v) a.1 n.1 (send_stays v.flows p g k h j n.0 e)
@@ -75,14 +72,11 @@ sent u call old new p g k x e i = λ a b j fa fb. by_number a b j fa fb (cases_B
     ]
 
     by_number : (a b j : ℕ) → new.flows.state a j ≢ Free → new.flows.state b j ≢ Free → (eqb k j ≡ true) ⊎ (eqb k j ≡ false) → a ≡ b
-    by_number a b j fa fb (inl t) =
-        let same : k ≡ j = eqb-true k j t in
+    by_number a b j fa fb (inl t) = let same : k ≡ j = eqb-true k j t in
         in_g a (subst (λ l. new.flows.state a l ≢ Free) (sym same) fa)
         ∙ sym (in_g b (subst (λ l. new.flows.state b l ≢ Free) (sym same) fb))
-    by_number a b j fa fb (inr n) =
-        let apart : k ≢ j = eqb-false k j n in
+    by_number a b j fa fb (inr n) = let apart : k ≢ j = eqb-false k j n in
         i a b j (another a j (λ z. apart z.1) fa) (another b j (λ z. apart z.1) fb)
 
-pub behind : (x : WorldSetup) (w : World) (s : Side) (g k : ℕ) → OnItsCable x w → FreeElsewhere (w.view s) g k
-    → NoneOnItsWayElsewhere w s g k
+pub behind : (x : WorldSetup) (w : World) (s : Side) (g k : ℕ) → OnItsCable x w → FreeElsewhere (w.view s) g k → NoneOnItsWayElsewhere w s g k
 behind x w s g k on e = grind arith

@@ -35,15 +35,13 @@ module _ (s : SystemState) (system : SystemId) (saved : List SavedPort) (ports :
   pub touched_on : i < length ports → first_touched s system saved ports ≡ first_touched s system saved (drop i ports)
       → is_left_at saved system (get_or ports i no_port) (machines_of (get_or ports i no_port).number s) ≡ true
       → first_touched s system saved ports ≡ first_touched s system saved (drop (i + 1) ports)
-  touched_on l h left =
-      at_place l h
+  touched_on l h left = at_place l h
       ∙ ap (λ b. if b then first_touched s system saved (drop (i + 1) ports) else Some (get_or ports i no_port).number) left
 
   pub touched_next : i < length ports → first_touched s system saved ports ≡ first_touched s system saved (drop i ports)
       → is_left_at saved system (get_or ports i no_port) (machines_of (get_or ports i no_port).number s) ≡ false
       → first_touched s system saved ports ≡ Some (get_or ports i no_port).number
-  touched_next l h left =
-      at_place l h
+  touched_next l h left = at_place l h
       ∙ ap (λ b. if b then first_touched s system saved (drop (i + 1) ports) else Some (get_or ports i no_port).number) left
 
   pub touched_none : length ports ≤ i → first_touched s system saved ports ≡ first_touched s system saved (drop i ports)

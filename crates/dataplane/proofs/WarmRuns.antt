@@ -32,9 +32,8 @@ pub one_call : (gives : ℕ → ℕ → ℕ → Type 0) (old new : SystemState) 
 one_call gives old new call answer made = (answer ∷ [], (new, made, refl))
 
 -- three calls
-pub three_calls : (gives : ℕ → ℕ → ℕ → Type 0) (old one two new : SystemState) (first second third : Call) (a b c : Reply)
-    → CallPromise gives old first a one → CallPromise gives one second b two → CallPromise gives two third c new
-    → Runs gives old (first ∷ second ∷ third ∷ []) new
+pub three_calls : (gives : ℕ → ℕ → ℕ → Type 0) (old one two new : SystemState) (first second third : Call) (a b c : Reply) → CallPromise gives old first a one
+    → CallPromise gives one second b two → CallPromise gives two third c new → Runs gives old (first ∷ second ∷ third ∷ []) new
 three_calls gives old one two new first second third a b c p q r = (a ∷ b ∷ c ∷ [], (one, p, (two, q, (new, r, refl))))
 
 -- a call that is made on a condition
@@ -57,9 +56,8 @@ pub runs_all : {A : Type 0} (gives : ℕ → ℕ → ℕ → Type 0) (old new : 
 runs_all gives old new f xs i l h = subst (λ ys. Runs gives old (map f ys) new) (take_all i xs l) h
 
 -- the calls of one more item of a list
-pub flat_on : {A : Type 0} (gives : ℕ → ℕ → ℕ → Type 0) (old mid new : SystemState) (f : A → List Call) (xs : List A) (i : ℕ) (d : A)
-    → i < length xs → Runs gives old (flat_map f (take i xs)) mid → Runs gives mid (f (get_or xs i d)) new
-    → Runs gives old (flat_map f (take (i + 1) xs)) new
+pub flat_on : {A : Type 0} (gives : ℕ → ℕ → ℕ → Type 0) (old mid new : SystemState) (f : A → List Call) (xs : List A) (i : ℕ) (d : A) → i < length xs
+    → Runs gives old (flat_map f (take i xs)) mid → Runs gives mid (f (get_or xs i d)) new → Runs gives old (flat_map f (take (i + 1) xs)) new
 flat_on gives old mid new f xs i d l h made =
     let more : flat_map f (take (i + 1) xs) ≡ flat_map f (take i xs) ++ f (get_or xs i d) =
     ap (flat_map f) (take_more xs i d l)
@@ -76,12 +74,10 @@ one_more : (n : ℕ) → n + 1 ≡ suc n
 one_more n = omega arith
 
 -- one more aggregator gets its first port
-pub occupied_on : (gives : ℕ → ℕ → ℕ → Type 0) (old mid next new : SystemState) (saved : List SavedPort) (keys : List Key)
-    (ports : List PortConfig) (n : ℕ) → Runs gives old (occupied saved keys ports n) mid → Runs gives mid (heard (Leading (n + 1)) saved) next
-    → Runs gives next (filled saved (take n keys) (get_or keys n (record { 0 = 0 })) (n + 1) ports) new
-    → Runs gives old (occupied saved keys ports (n + 1)) new
-occupied_on gives old mid next new saved keys ports n h led more =
-    let first = heard (Leading (n + 1)) saved in
+pub occupied_on : (gives : ℕ → ℕ → ℕ → Type 0) (old mid next new : SystemState) (saved : List SavedPort) (keys : List Key) (ports : List PortConfig) (n : ℕ)
+    → Runs gives old (occupied saved keys ports n) mid → Runs gives mid (heard (Leading (n + 1)) saved) next
+    → Runs gives next (filled saved (take n keys) (get_or keys n (record { 0 = 0 })) (n + 1) ports) new → Runs gives old (occupied saved keys ports (n + 1)) new
+occupied_on gives old mid next new saved keys ports n h led more = let first = heard (Leading (n + 1)) saved in
     let rest = filled saved (take n keys) (get_or keys n (record { 0 = 0 })) (n + 1) ports in
     subst (λ m. Runs gives old (occupied saved keys ports m) new) (sym (one_more n))
     (runs_joined gives old mid new (occupied saved keys ports n) (first ++ rest) h (runs_joined gives mid next new first rest led more))
@@ -90,8 +86,7 @@ occupied_on gives old mid next new saved keys ports n h led more =
 pub passing_on : (gives : ℕ → ℕ → ℕ → Type 0) (old mid next new : SystemState) (saved : List SavedPort) (ticks n : ℕ)
     → Runs gives old (passing saved ticks n) mid → CallPromise gives mid Tick reply.Tick next
     → Runs gives next (heard (Before (ticks - n - 1)) saved) new → Runs gives old (passing saved ticks (n + 1)) new
-passing_on gives old mid next new saved ticks n h tick more =
-    let rest = heard (Before (ticks - n - 1)) saved in
+passing_on gives old mid next new saved ticks n h tick more = let rest = heard (Before (ticks - n - 1)) saved in
     subst (λ m. Runs gives old (passing saved ticks m) new) (sym (one_more n))
     (runs_joined gives old mid new (passing saved ticks n) (Tick ∷ rest) h
     (runs_joined gives mid next new (Tick ∷ []) rest (one_call gives mid next Tick reply.Tick tick) more))

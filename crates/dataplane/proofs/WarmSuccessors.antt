@@ -41,8 +41,7 @@ drives_frame : (gives : ℕ → ℕ → ℕ → Type 0) (old new : SystemState) 
 drives_frame gives old new [] [] h = subst (Frames old) (sym h) refl
 drives_frame gives old new [] (answer ∷ answers) h = absurd h
 drives_frame gives old new (call ∷ calls) [] h = absurd h
-drives_frame gives old new (call ∷ calls) (answer ∷ answers) h =
-    drives_frame gives h.0 new calls answers h.2
+drives_frame gives old new (call ∷ calls) (answer ∷ answers) h = drives_frame gives h.0 new calls answers h.2
     ∙ ap (λ (z : SystemState). with_table (with_system_ports z new.system_ports) new.table) (Step-frame gives old call answer h.0 h.1.step)
 
 drives_sound : (gives : ℕ → ℕ → ℕ → Type 0) (old new : SystemState) (calls : List Call) (answers : List Reply)
@@ -81,8 +80,7 @@ some_ticks : (long : Bool) → 0 < (if long then 920 else 60)
 some_ticks long = grind arith
 
 some_calls : (keys : List Key) (ports : List PortConfig) (saved : List SavedPort) → warm_calls keys ports saved ≡ [] → ⊥
-some_calls keys ports saved =
-    behind (map link_up ports) _
+some_calls keys ports saved = behind (map link_up ports) _
     (behind (occupied saved keys ports (length keys)) _
     (behind (others_starting saved ports) (passing saved (duration ports) (duration ports))
     (ticks_pass saved (duration ports) (duration ports) (some_ticks _))))
@@ -90,8 +88,7 @@ some_calls keys ports saved =
 -- the first state of a run that ends in an accepted configuration is sound, and so is the last one
 sound_through : (gives : ℕ → ℕ → ℕ → Type 0) (first s : SystemState) (calls : List Call) (answers : List Reply) → IsFirst first
     → Drives gives first calls answers s → (calls ≡ [] → ⊥) → IsSound s
-sound_through gives first s calls answers made run some =
-    let a = drives_agree gives first s calls answers run some in
+sound_through gives first s calls answers made run some = let a = drives_agree gives first s calls answers run some in
     let accepted = subst (λ (z : SystemState). refusal z.keys z.ports z.max_links z.conversations ≡ None)
     (drives_frame gives first s calls answers run) a.ports.accepted in
     drives_sound gives first s calls answers run (first_sound first (ports_first first accepted made) made)
@@ -101,8 +98,7 @@ untouched : (left : Bool) (rest : Option ℕ) (n : ℕ) → (if left then rest e
 untouched left rest n e = grind arith
 
 module _ (s : SystemState) (system : SystemId) (saved : List SavedPort) where
-  left_at : (ports : List PortConfig) (p : ℕ) (c : PortConfig) → first_touched s system saved ports ≡ None
-      → find_number configured_number ports p ≡ Some c
+  left_at : (ports : List PortConfig) (p : ℕ) (c : PortConfig) → first_touched s system saved ports ≡ None → find_number configured_number ports p ≡ Some c
       → (c.number ≡ p) × (is_left_at saved system c (machines_of c.number s) ≡ true)
   left_at [] p c e f = absurd (none-some c f)
   left_at (x ∷ xs) p c e f =
@@ -122,8 +118,7 @@ module _ (s : SystemState) (system : SystemId) (saved : List SavedPort) where
     pub party : machines.party ≡ configured_party system c
     pub start : is_saved saved p ≡ false → is_at_start machines ≡ true
 
-  left_machines : (p : ℕ) (c : PortConfig) (o : Option Machines) → machines_of p s ≡ o → c.number ≡ p → is_left_at saved system c o ≡ true
-      → Left p c
+  left_machines : (p : ℕ) (c : PortConfig) (o : Option Machines) → machines_of p s ≡ o → c.number ≡ p → is_left_at saved system c o ≡ true → Left p c
   left_machines p c None there number e = absurd (false≢true e)
   left_machines p c (Some m) there number e =
       let both = and_parts (same_party m.party (configured_party system c)) (is_saved saved c.number || is_at_start m) e in
@@ -136,19 +131,16 @@ module _ (s : SystemState) (system : SystemId) (saved : List SavedPort) where
 
   left_port : (ports : List PortConfig) (p : ℕ) (c : PortConfig) → first_touched s system saved ports ≡ None
       → find_number configured_number ports p ≡ Some c → Left p c
-  left_port ports p c e f =
-      let l = left_at ports p c e f in
+  left_port ports p c e f = let l = left_at ports p c e f in
       left_machines p c (machines_of p s) refl l.0
       (subst (λ n. is_left_at saved system c (machines_of n s) ≡ true) l.0 l.1)
 
 -- a port that was saved, and what holds of each saved one
-both_hold : (P Q : SavedPort → Type 0) (saved : List SavedPort) → AllByRecursion P saved → AllByRecursion Q saved
-    → AllByRecursion (λ x. P x × Q x) saved
+both_hold : (P Q : SavedPort → Type 0) (saved : List SavedPort) → AllByRecursion P saved → AllByRecursion Q saved → AllByRecursion (λ x. P x × Q x) saved
 both_hold P Q [] a b = tt
 both_hold P Q (x ∷ xs) a b = ((a.0, b.0), both_hold P Q xs a.1 b.1)
 
-one_saved : (P : SavedPort → Type 0) (saved : List SavedPort) (p : ℕ) → is_saved saved p ≡ true → AllByRecursion P saved
-    → (x : SavedPort) × (x.port ≡ p) × P x
+one_saved : (P : SavedPort → Type 0) (saved : List SavedPort) (p : ℕ) → is_saved saved p ≡ true → AllByRecursion P saved → (x : SavedPort) × (x.port ≡ p) × P x
 one_saved P [] p e all = absurd (false≢true e)
 one_saved P (x ∷ xs) p e all = elim (cases_Bool (x.port == p)) [
   | inl t ↦ (x, eqb-true x.port p t, all.0)
@@ -163,8 +155,7 @@ abbrev message_of : Machines → LacpMessage
 message_of m = record { actor = party_of m.partner; partner = m.party; synchronized = (bits_of m.partner.state).synchronization }
 
 back_message : (s : SystemState) (x : SavedPort) (back : IsBack s x) → lacp_message back.heard ≡ message_of back.port
-back_message s x back =
-    let knows = (and_parts _ _ (and_parts (know_each_other back.port back.heard) _ back.same).0).1 in
+back_message s x back = let knows = (and_parts _ _ (and_parts (know_each_other back.port back.heard) _ back.same).0).1 in
     let named = (and_parts _ _ (and_parts _ _ knows).0).0 in
     let partner = (and_parts _ _ (and_parts _ _ knows).1).0 in
     let state = (and_parts _ _ (and_parts _ _ knows).1).1 in
@@ -222,20 +213,16 @@ module _ (gives : ℕ → ℕ → ℕ → Type 0) (config : Config) (saved : Lis
   own_system = ap (λ (z : SystemState). z.system) framed_by ∙ r.configured.system
 
   left_of : (p : ℕ) (c : PortConfig) → find_number configured_number s.ports p ≡ Some c → Left s config.system saved p c
-  left_of p c e =
-      left_port s config.system saved config.ports.items p c r.warmed.left
+  left_of p c e = left_port s config.system saved config.ports.items p c r.warmed.left
       (subst (λ l. find_number configured_number l p ≡ Some c) own_ports e)
 
-  configured_at : (p : ℕ) (a : PortFacts) → (model_view s).port p ≡ Some a
-      → (c : PortConfig) × (find_number configured_number s.ports p ≡ Some c)
-  configured_at p a e =
-      mapped_there (configured_party s.system) (find_number configured_number s.ports p)
+  configured_at : (p : ℕ) (a : PortFacts) → (model_view s).port p ≡ Some a → (c : PortConfig) × (find_number configured_number s.ports p ≡ Some c)
+  configured_at p a e = mapped_there (configured_party s.system) (find_number configured_number s.ports p)
       (sym (sound.members.configured p) ∙ ap is_some e)
 
   heard_last : (taken : ℕ → Option TakenLacpdu) → AllByRecursion (WasTakenLast taken) saved → (p : ℕ) (a : PortFacts)
       → (model_view s).port p ≡ Some a → HasHeard a (taken p)
-  heard_last taken last p a e =
-      let c = configured_at p a e in
+  heard_last taken last p a e = let c = configured_at p a e in
       let l = left_of p c.0 c.1 in
       let shows = same_Some (model_port l.machines) a (sym (ap (option_map model_port) l.there) ∙ (sym (port_seen s p) ∙ e)) in
       subst (λ (y : PortFacts). HasHeard y (taken p)) shows (elim (cases_Bool (is_saved saved p)) [
@@ -248,23 +235,19 @@ module _ (gives : ℕ → ℕ → ℕ → Type 0) (config : Config) (saved : Lis
   own_party : (p : ℕ) → party_at (model_view s) p ≡ (model_setup s).party p
   own_party p = by_config (find_number configured_number s.ports p) refl
     where
-      by_config : (o : Option PortConfig) → find_number configured_number s.ports p ≡ o
-          → party_at (model_view s) p ≡ (model_setup s).party p
-      by_config None e =
-          let none = ap (option_map (configured_party s.system)) e in
+      by_config : (o : Option PortConfig) → find_number configured_number s.ports p ≡ o → party_at (model_view s) p ≡ (model_setup s).party p
+      by_config None e = let none = ap (option_map (configured_party s.system)) e in
           ap (option_map (λ (a : PortFacts). a.party))
           (none_there ((model_view s).port p) (sound.members.configured p ∙ ap is_some none))
           ∙ sym none
-      by_config (Some c) e =
-          let l = left_of p c e in
+      by_config (Some c) e = let l = left_of p c e in
           party_seen s p
           ∙ (ap (option_map (λ (x : Machines). x.party)) l.there
           ∙ (ap (λ (x : Party). Some x) (l.party ∙ ap (λ y. configured_party y c) (sym own_system))
           ∙ sym (ap (option_map (configured_party s.system)) e)))
 
   apart_from : (p : ℕ) (a : PortFacts) → (model_view s).port p ≡ Some a → IsSome a.aggregator → a.partner.system ≢ a.party.system
-  apart_from p a e some =
-      let m = mapped_some model_port (machines_of p s) a (sym (port_seen s p) ∙ e) in
+  apart_from p a e some = let m = mapped_some model_port (machines_of p s) a (sym (port_seen s p) ∙ e) in
       let x = placed_at (port_index p s.system_ports) s.system_ports m.0 m.1 in
       let shows = ap model_port x.3 ∙ m.2 in
       let g = occupies x.1.port.choice (subst (λ (y : PortFacts). IsSome y.aggregator) (sym shows) some) in
@@ -296,25 +279,21 @@ record IsAdopted (a : Adoption) (old new : SystemState) : Type 0 where
   given : GivesAssignment a.agg a.conv (On a.port) old new
   stood : (p : ℕ) → assignment_of old.table a.agg.0 a.conv ≡ On p → p ≡ a.port
 
-is_adopted : (a : Adoption) (old new : SystemState) → GivesOrRefuses a.agg a.conv (adopt_result old a.agg a.conv a.port) old (Ok tt) new
-    → IsAdopted a old new
+is_adopted : (a : Adoption) (old new : SystemState) → GivesOrRefuses a.agg a.conv (adopt_result old a.agg a.conv a.port) old (Ok tt) new → IsAdopted a old new
 is_adopted a old new h = grind arith
 
 -- what it leaves: what is on a port stays there, and nothing comes to wait for a response
-still_on : (a : Adoption) (old new : SystemState) → IsAdopted a old new → (g k p : ℕ) → assignment_of old.table g k ≡ On p
-    → assignment_of new.table g k ≡ On p
+still_on : (a : Adoption) (old new : SystemState) → IsAdopted a old new → (g k p : ℕ) → assignment_of old.table g k ≡ On p → assignment_of new.table g k ≡ On p
 still_on a old new o g k p on = grind arith
 
 abbrev NoneWaits : SystemState → Type 0
 NoneWaits s = (g k p n : ℕ) → model_conversation (assignment_of s.table g k) ≡ Flushing p n → ⊥
 
-waits_if : (b : Bool) (port p n : ℕ) (a : Assignment) → (model_conversation a ≡ Flushing p n → ⊥)
-    → model_conversation (cond b (On port) a) ≡ Flushing p n → ⊥
+waits_if : (b : Bool) (port p n : ℕ) (a : Assignment) → (model_conversation a ≡ Flushing p n → ⊥) → model_conversation (cond b (On port) a) ≡ Flushing p n → ⊥
 waits_if b port p n a h e = grind arith
 
 still_none : (a : Adoption) (old new : SystemState) → IsAdopted a old new → NoneWaits old → NoneWaits new
-still_none a old new o h g k p n e =
-    waits_if (eqb a.agg.0 g && eqb a.conv k) a.port p n (assignment_of old.table g k) (h g k p n)
+still_none a old new o h g k p n e = waits_if (eqb a.agg.0 g && eqb a.conv k) a.port p n (assignment_of old.table g k) (h g k p n)
     (sym (ap model_conversation (o.given.0.states g k)) ∙ e)
 
 free_waits : (p n : ℕ) → model_conversation (Free None) ≡ Flushing p n → ⊥
@@ -323,8 +302,7 @@ free_waits p n e = absurd cc
 -- So it is with all of them.
 adopts_frame : (old new : SystemState) (adoptions : List Adoption) → Adopts old adoptions new → new ≡ with_table old new.table
 adopts_frame old new [] h = subst (λ (z : SystemState). z ≡ with_table old z.table) (sym h) refl
-adopts_frame old new (a ∷ more) h =
-    adopts_frame h.0 new more h.2
+adopts_frame old new (a ∷ more) h = adopts_frame h.0 new more h.2
     ∙ ap (λ (z : SystemState). with_table z new.table) (is_adopted a old h.0 h.1).given.1
 
 adopts_next : (old new : SystemState) (adoptions : List Adoption) → Adopts old adoptions new → new.table.next ≡ old.table.next
@@ -333,8 +311,7 @@ adopts_next old new (a ∷ more) h = adopts_next h.0 new more h.2 ∙ (is_adopte
 
 adopts_none : (old new : SystemState) (adoptions : List Adoption) → Adopts old adoptions new → NoneWaits old → NoneWaits new
 adopts_none old new [] h none = subst NoneWaits (sym h) none
-adopts_none old new (a ∷ more) h none =
-    adopts_none h.0 new more h.2 (still_none a old h.0 (is_adopted a old h.0 h.1) none)
+adopts_none old new (a ∷ more) h none = adopts_none h.0 new more h.2 (still_none a old h.0 (is_adopted a old h.0 h.1) none)
 
 adopts_on : (old new : SystemState) (adoptions : List Adoption) → Adopts old adoptions new → (g k p : ℕ) → assignment_of old.table g k ≡ On p
     → assignment_of new.table g k ≡ On p
@@ -345,8 +322,7 @@ adopts_on old new (a ∷ more) h g k p on =
 each_on : (old new : SystemState) (adoptions : List Adoption) → Adopts old adoptions new → (a : Adoption) (i : ℕ) → i < length adoptions
     → slice_index_or adoptions i a ≡ a → assignment_of new.table a.agg.0 a.conv ≡ On a.port
 each_on old new [] h a i l e = absurd (omega (arith, l))
-each_on old new (b ∷ more) h a zero l e =
-    adopts_on h.0 new more h.2 a.agg.0 a.conv a.port
+each_on old new (b ∷ more) h a zero l e = adopts_on h.0 new more h.2 a.agg.0 a.conv a.port
     (subst (λ (z : Adoption). assignment_of h.0.table z.agg.0 z.conv ≡ On z.port) e
     (now_in old h.0 b.agg b.conv (On b.port) (is_adopted b old h.0 h.1).given))
 each_on old new (b ∷ more) h a (suc i) l e = each_on h.0 new more h.2 a i (omega (arith, l)) e
@@ -398,8 +374,7 @@ module _ (gives : ℕ → ℕ → ℕ → Type 0) (before : View) (taken : ℕ �
   }
 
   pub keeps_parties : ((p : ℕ) → party_at before p ≡ (model_setup new).party p) → KeepsParties before (model_view new)
-  keeps_parties own p =
-      subst (λ (z : SystemState). party_at (model_view z) p ≡ (model_setup z).party p) (sym stays)
+  keeps_parties own p = subst (λ (z : SystemState). party_at (model_view z) p ≡ (model_setup z).party p) (sym stays)
       (own_party gives w.config w.saved w.resumed w.resumes p)
       ∙ sym (own p)
 
@@ -421,9 +396,8 @@ all_of : (P Q : SavedPort → Type 0) → ((x : SavedPort) → P x → Q x) → 
 all_of P Q f [] all = tt
 all_of P Q f (x ∷ xs) all = (f x all.0, all_of P Q f xs all.1)
 
-pub is_possible : (gives : ℕ → ℕ → ℕ → Type 0) (config : Config) (saved : List SavedPort) (resumed new : SystemState)
-    (adoptions : List Adoption) → IsResumed gives config saved resumed → Adopts resumed adoptions new
-    → (taken : ℕ → Option TakenLacpdu) × IsWarmStart gives (model_view new) taken new
+pub is_possible : (gives : ℕ → ℕ → ℕ → Type 0) (config : Config) (saved : List SavedPort) (resumed new : SystemState) (adoptions : List Adoption)
+    → IsResumed gives config saved resumed → Adopts resumed adoptions new → (taken : ℕ → Option TakenLacpdu) × IsWarmStart gives (model_view new) taken new
 is_possible gives config saved resumed new adoptions r a = (
   taken_of resumed,
   record {

@@ -46,12 +46,10 @@ drives_free : (gives : ℕ → ℕ → ℕ → Type 0) (marker : ℕ) (old new :
 drives_free gives marker old new [] [] w h f = subst (λ (s : SystemState). IsFree marker s.table) (sym h) f
 drives_free gives marker old new [] (answer ∷ answers) w h f = absurd h
 drives_free gives marker old new (call ∷ calls) [] w h f = absurd h
-drives_free gives marker old new (call ∷ calls) (answer ∷ answers) w h f =
-    drives_free gives marker h.0 new calls answers w.1 h.2
+drives_free gives marker old new (call ∷ calls) (answer ∷ answers) w h f = drives_free gives marker h.0 new calls answers w.1 h.2
     (Step-preserves gives old (StaysFree marker old) (call_frees gives marker old) call answer h.0 h.1.step w.0 f)
 
-warm_of_each : {A : Type 0} (f : A → List Call) → ((x : A) → AllByRecursion IsWarmCall (f x)) → (xs : List A)
-    → AllByRecursion IsWarmCall (flat_map f xs)
+warm_of_each : {A : Type 0} (f : A → List Call) → ((x : A) → AllByRecursion IsWarmCall (f x)) → (xs : List A) → AllByRecursion IsWarmCall (flat_map f xs)
 warm_of_each f each [] = tt
 warm_of_each f each (x ∷ xs) = all-append IsWarmCall (f x) (flat_map f xs) (each x) (warm_of_each f each xs)
 
@@ -69,11 +67,9 @@ filled_warm : (saved : List SavedPort) (below : List Key) (key : Key) (agg : ℕ
     → AllByRecursion IsWarmCall (filled saved below key agg ports)
 filled_warm saved below key agg ports = grind (arith, warm_of_each, filled_by, warm_if, fills, individual_frame)
 
-occupied_warm : (saved : List SavedPort) (keys : List Key) (ports : List PortConfig) (n : ℕ)
-    → AllByRecursion IsWarmCall (occupied saved keys ports n)
+occupied_warm : (saved : List SavedPort) (keys : List Key) (ports : List PortConfig) (n : ℕ) → AllByRecursion IsWarmCall (occupied saved keys ports n)
 occupied_warm saved keys ports zero = tt
-occupied_warm saved keys ports (suc n) =
-    all-append IsWarmCall (occupied saved keys ports n) _ (occupied_warm saved keys ports n)
+occupied_warm saved keys ports (suc n) = all-append IsWarmCall (occupied saved keys ports n) _ (occupied_warm saved keys ports n)
     (all-append IsWarmCall (heard (Leading (n + 1)) saved) _ (heard_warm (Leading (n + 1)) saved)
     (filled_warm saved (take n keys) (get_or keys n (record { 0 = 0 })) (n + 1) ports))
 
@@ -108,8 +104,7 @@ module _ (gives : ℕ → ℕ → ℕ → Type 0) (config : Config) (saved : Lis
     (ports : List PortConfig) (k : keys ≡ config.aggregators.items) (p : ports ≡ config.ports.items) (fresh : AreFresh config saved)
     (made : IsFirst first) (configured : IsConfigured config first) where
   -- the system of a warm start
-  pub resumed_by : (s : SystemState) → IsWarmed gives first (warm_calls keys ports saved) config.system ports saved s
-      → IsResumed gives config saved s
+  pub resumed_by : (s : SystemState) → IsWarmed gives first (warm_calls keys ports saved) config.system ports saved s → IsResumed gives config saved s
   resumed_by s h =
       let warm = same_lists gives config saved first keys ports (λ calls ps. IsWarmed gives first calls config.system ps saved s) k p h in
       record {

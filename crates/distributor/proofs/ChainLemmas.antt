@@ -55,10 +55,8 @@ path_join next prev a [] i zs b h k = (h, k)
 path_join next prev a (y ∷ ys) i zs b h k = (h.0, path_join next prev y ys i zs b h.1 k)
 
 -- links that are written elsewhere
-pub path_kept : (next prev next' prev' : List ℕ) (a : ℕ) (xs : List ℕ) (b : ℕ)
-    → ((k : ℕ) → 0 < occurs k (a ∷ xs) → get_or next' k 0 ≡ get_or next k 0)
-    → ((k : ℕ) → 0 < occurs k (b ∷ xs) → get_or prev' k 0 ≡ get_or prev k 0)
-    → Path next prev a xs b → Path next' prev' a xs b
+pub path_kept : (next prev next' prev' : List ℕ) (a : ℕ) (xs : List ℕ) (b : ℕ) → ((k : ℕ) → 0 < occurs k (a ∷ xs) → get_or next' k 0 ≡ get_or next k 0)
+    → ((k : ℕ) → 0 < occurs k (b ∷ xs) → get_or prev' k 0 ≡ get_or prev k 0) → Path next prev a xs b → Path next' prev' a xs b
 path_kept next prev next' prev' a [] b n p h = (n a (omega (arith, one_same a)) ∙ h.0, p b (omega (arith, one_same b)) ∙ h.1)
 path_kept next prev next' prev' a (x ∷ xs) b n p h = (
   (n a (omega (arith, one_same a)) ∙ h.0.0, p x (omega (arith, one_same x)) ∙ h.0.1),
@@ -83,8 +81,7 @@ bypass next prev e ys i [] h t few u v =
     subst (λ l. Path (set next (last_of e ys) e) (set prev e (last_of e ys)) e l e) (sym (append-nil ys))
     (retarget next prev e ys i e h u v (λ k. omega (arith, few k, occurs_append k ys (i ∷ [])))
     (omega (arith, few e, one_same e, occurs_append e ys (i ∷ []))))
-bypass next prev e ys i (z ∷ zs) h t few u v =
-    let p = last_of e ys in
+bypass next prev e ys i (z ∷ zs) h t few u v = let p = last_of e ys in
     let joined = retarget next prev e ys i z h u v (λ k. omega (arith, few k, occurs_append k ys (i ∷ z ∷ zs)))
     (omega (arith, few z, one_same z, occurs_append z ys (i ∷ z ∷ zs))) in
     let n : (k : ℕ) → 0 < occurs k (z ∷ zs) → get_or (set next p z) k 0 ≡ get_or next k 0 =
@@ -114,12 +111,10 @@ insert next prev e i [] h few none u v w z = grind (arith, one_same, one, get_or
 insert next prev e i (x ∷ xs) h few none u v w z = grind (arith, one_same, one, occurs, get_or, set, get_or-set_other, get_or-set_same, length-set, path_kept)
 
 -- a slot is put right after the end of a ring
-pub path_in : (next prev : List ℕ) (e i : ℕ) (xs : List ℕ) → Path next prev e xs e
-    → ((k : ℕ) → occurs k (e ∷ xs) ≤ 1) → occurs i (e ∷ xs) ≡ 0
-    → i < length next → e < length next → i < length prev → get_or next e 0 < length prev
+pub path_in : (next prev : List ℕ) (e i : ℕ) (xs : List ℕ) → Path next prev e xs e → ((k : ℕ) → occurs k (e ∷ xs) ≤ 1) → occurs i (e ∷ xs) ≡ 0 → i < length next
+    → e < length next → i < length prev → get_or next e 0 < length prev
     → Path (set (set next i (get_or next e 0)) e i) (set (set prev i e) (get_or next e 0) i) e (i ∷ xs) e
-path_in next prev e i xs h few none u v w z =
-    let after : get_or next e 0 ≡ first_of xs e = path_first next prev e xs e h in
+path_in next prev e i xs h few none u v w z = let after : get_or next e 0 ≡ first_of xs e = path_first next prev e xs e h in
     subst (λ f. Path (set (set next i f) e i) (set (set prev i e) f i) e (i ∷ xs) e) (sym after)
     (insert next prev e i xs h few none u v w (omega (arith, z, after)))
 
@@ -169,15 +164,13 @@ module _ (count : ℕ) (states : List Assignment) (next prev : List ℕ) (h : Is
   member_stands c k l = cond_some _ (omega (arith, l, h.homes c k))
 
   pub member_below : (c k : ℕ) → 0 < occurs k (h.chains c) → k < count
-  member_below c k l =
-      let past : count ≤ k
+  member_below c k l = let past : count ≤ k
       → ⊥ = λ m. false≢true (ap (is_in_chain c) (sym (get_or_past states k (Free None) (omega (arith, m, h.states_len))))
       ∙ member_stands c k l) in
       omega (arith, past)
 
   end_apart : (c k : ℕ) → k ≡ count + c → occurs k (h.chains c) ≡ 0
-  end_apart c k m =
-      let no : 0 < occurs k (h.chains c) → ⊥ = λ l. omega (arith, m, member_below c k l) in
+  end_apart c k m = let no : 0 < occurs k (h.chains c) → ⊥ = λ l. omega (arith, m, member_below c k l) in
       omega (arith, no)
 
   pub few_on : (c k : ℕ) → occurs k ((count + c) ∷ h.chains c) ≤ 1
@@ -217,16 +210,14 @@ module _ (count : ℕ) (states : List Assignment) (next prev : List ℕ) (h : Is
     few k = subst (λ l. occurs k ((count + c) ∷ l) ≤ 1) split (few_on c k)
 
     pub before_on : 0 < occurs (get_or prev i 0) ((count + c) ∷ h.chains c)
-    before_on =
-        let e : get_or prev i 0 ≡ last_of (count + c) ys = path_last next prev (count + c) ys i
+    before_on = let e : get_or prev i 0 ≡ last_of (count + c) ys = path_last next prev (count + c) ys i
         (path_split next prev (count + c) ys i zs (count + c) ring).0 in
         subst (λ l. 0 < occurs (get_or prev i 0) ((count + c) ∷ l)) (sym split)
         (subst (λ x. 0 < occurs x ((count + c) ∷ (ys ++ i ∷ zs))) (sym e)
         (omega (arith, last_occurs (count + c) ys, occurs_append (last_of (count + c) ys) ys (i ∷ zs))))
 
     pub after_on : 0 < occurs (get_or next i 0) ((count + c) ∷ h.chains c)
-    after_on =
-        let e : get_or next i 0 ≡ first_of zs (count + c) = path_first next prev i zs (count + c)
+    after_on = let e : get_or next i 0 ≡ first_of zs (count + c) = path_first next prev i zs (count + c)
         (path_split next prev (count + c) ys i zs (count + c) ring).1 in
         subst (λ l. 0 < occurs (get_or next i 0) ((count + c) ∷ l)) (sym split)
         (subst (λ x. 0 < occurs x ((count + c) ∷ (ys ++ i ∷ zs))) (sym e)
@@ -293,8 +284,7 @@ module _ (count : ℕ) (states : List Assignment) (next prev : List ℕ) (h : Is
   module _ (c i : ℕ) (s : Assignment) (lt : c < 64) (inside : i < count) (free : (d : ℕ) → is_in_chain d (slot_state states i) ≡ false)
       (stands : (d : ℕ) → is_in_chain d s ≡ eqb c d) where
     nowhere : (d : ℕ) → occurs i ((count + d) ∷ h.chains d) ≡ 0
-    nowhere d =
-        let apart : i ≡ count + d → ⊥ = λ e. omega (arith, e, inside) in
+    nowhere d = let apart : i ≡ count + d → ⊥ = λ e. omega (arith, e, inside) in
         omega (arith, one_other i (count + d) apart, h.homes d i ∙ ap counted (free d))
 
     pub first_on : 0 < occurs (get_or next (count + c) 0) ((count + c) ∷ h.chains c)

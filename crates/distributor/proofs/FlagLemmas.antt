@@ -11,8 +11,7 @@ use Rattle.distributor.specs.Conversations.{sum_below}
 use Rattle.distributor.proofs.WalkLemmas.{bit, none_sum, same_sum}
 
 -- flags that are set allow what they allowed
-pub flagged_more : (w w' f f' : Bool) → (w ≡ true → w' ≡ true) → (f ≡ true → f' ≡ true) → (s : Assignment)
-    → is_flagged w f s ≡ true → is_flagged w' f' s ≡ true
+pub flagged_more : (w w' f f' : Bool) → (w ≡ true → w' ≡ true) → (f ≡ true → f' ≡ true) → (s : Assignment) → is_flagged w f s ≡ true → is_flagged w' f' s ≡ true
 flagged_more w w' f f' h k s e = grind arith
 
 -- what a change of one chain leaves in another is as it was
@@ -21,9 +20,8 @@ elsewhere : (change : Change) (c d : ℕ) (s : Assignment) → (d ≡ c → ⊥)
 elsewhere change c d s n h = grind arith
 
 -- a chain is changed, and its flags say what was found there
-pub change_flagged : (change : Change) (chain : ℕ) (olds states : List Assignment) (wanted flushing : List Bool) (w f : Bool)
-    → chain < 64 → IsFlagged olds wanted flushing
-    → ((k : ℕ) → slot_state states k ≡ changed_in_chain chain (after_change change) (slot_state olds k))
+pub change_flagged : (change : Change) (chain : ℕ) (olds states : List Assignment) (wanted flushing : List Bool) (w f : Bool) → chain < 64
+    → IsFlagged olds wanted flushing → ((k : ℕ) → slot_state states k ≡ changed_in_chain chain (after_change change) (slot_state olds k))
     → ((k : ℕ) → is_in_chain chain (slot_state states k) ≡ true → is_flagged w f (slot_state states k) ≡ true)
     → IsFlagged states (set wanted chain w) (set flushing chain f)
 change_flagged change chain olds states wanted flushing w f lt h changed finds = grind (arith, length-set, get_or-set_same, get_or-set_other)
@@ -83,8 +81,7 @@ no_bit : (b : Bool) → bit b ≡ 0 → b ≡ false
 no_bit b e = grind arith
 
 pub marked_passed : (chain port n count : ℕ) (states : List Assignment) → length states ≡ count
-    → sum_below (λ k. bit (wants_marker port (slot_state states k))) count ≡ 0
-    → map (changed_in_chain chain (after_change (Mark port n))) states ≡ states
+    → sum_below (λ k. bit (wants_marker port (slot_state states k))) count ≡ 0 → map (changed_in_chain chain (after_change (Mark port n))) states ≡ states
 marked_passed chain port n count states long none =
     sym (ext_get_or (Free None) states (map change states) (sym (length-map states change))
     (λ k lt. marked_none chain port n (slot_state states k)

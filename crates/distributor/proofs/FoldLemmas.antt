@@ -15,21 +15,17 @@ module _ {X : Type 0} {join : X → X → X} {unit : X} {fold : (ℕ → X) → 
       ∙ ap (join (fold g n)) (e n (omega arith)) ∙ sym (h.more g n)
 
   fold_more : (g : ℕ → X) (m n : ℕ) → fold g (m + n) ≡ join (fold g m) (fold (λ k. g (m + k)) n)
-  fold_more g m zero =
-      let e : m + 0 ≡ m = omega arith in
+  fold_more g m zero = let e : m + 0 ≡ m = omega arith in
       ap (fold g) e ∙ sym (ap (join (fold g m)) (h.none (λ k. g (m + k))) ∙ h.right (fold g m))
-  fold_more g m (suc n) =
-      let e : m + suc n ≡ suc (m + n) = omega arith in
+  fold_more g m (suc n) = let e : m + suc n ≡ suc (m + n) = omega arith in
       ap (fold g) e ∙ h.more g (m + n) ∙ ap (λ x. join x (g (m + n))) (fold_more g m n)
       ∙ h.assoc (fold g m) (fold (λ k. g (m + k)) n) (g (m + n)) ∙ sym (ap (join (fold g m)) (h.more (λ k. g (m + k)) n))
 
   -- rows of w places each
   pub fold_rows : (g : ℕ → X) (w rows : ℕ) → fold (λ a. fold (λ c. g (a * w + c)) w) rows ≡ fold g (rows * w)
-  fold_rows g w zero =
-      let e : 0 ≡ 0 * w = grind arith in
+  fold_rows g w zero = let e : 0 ≡ 0 * w = grind arith in
       h.none (λ a. fold (λ c. g (a * w + c)) w) ∙ sym (h.none g) ∙ ap (fold g) e
-  fold_rows g w (suc rows) =
-      let e : suc rows * w ≡ rows * w + w = suc_times rows w in
+  fold_rows g w (suc rows) = let e : suc rows * w ≡ rows * w + w = suc_times rows w in
       h.more (λ a. fold (λ c. g (a * w + c)) w) rows ∙ ap (λ x. join x (fold (λ c. g (rows * w + c)) w)) (fold_rows g w rows)
       ∙ sym (ap (fold g) e ∙ fold_more g (rows * w) w)
     where

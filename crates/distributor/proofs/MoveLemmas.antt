@@ -30,8 +30,7 @@ may_send agg conv port ports s h = grind arith
 
 pub send_moves : (mac : List ℕ) (call : ModelCall) (t u : Table) (agg conv port : ℕ) (ports : List ℕ) → replies_frame call ≡ true
     → MaySend ports (assignment_of t agg conv) port → SetsAssignment t u agg conv (state.On port)
-    → DistributorMoves mac call (OnlyListedDistribute agg ports) (model_distributor t) (Act.Sends_frame port agg conv
-    ∷ []) (model_distributor u)
+    → DistributorMoves mac call (OnlyListedDistribute agg ports) (model_distributor t) (Act.Sends_frame port agg conv ∷ []) (model_distributor u)
 send_moves mac call t u agg conv port ports r m h = (
   DistributorMove.Send agg conv port ∷ [],
   ((r, may_send agg conv port ports (assignment_of t agg conv) m), tt),
@@ -41,9 +40,8 @@ send_moves mac call t u agg conv port ports r m h = (
 
 -- a conversation changes while nothing is sent
 one_moves : (mac : List ℕ) (call : ModelCall) (t u : Table) (agg conv : ℕ) (s : Assignment) (m : ConversationMove)
-    → ConversationMoveAllowed mac call agg conv m (model_conversation (assignment_of t agg conv))
-    → model_conversation s ≡ conversation_after m → SetsAssignment t u agg conv s
-    → DistributorMoves mac call NoneDistributes (model_distributor t) [] (model_distributor u)
+    → ConversationMoveAllowed mac call agg conv m (model_conversation (assignment_of t agg conv)) → model_conversation s ≡ conversation_after m
+    → SetsAssignment t u agg conv s → DistributorMoves mac call NoneDistributes (model_distributor t) [] (model_distributor u)
 one_moves mac call t u agg conv s m a e h = (
   DistributorMove.Become agg conv m
       ∷ [],
@@ -69,8 +67,7 @@ is_moved next ports to s new h = absurd cc
 pub move_moves : (mac : List ℕ) (call : ModelCall) (t u : Table) (agg conv to : ℕ) (next : Option ℕ) (ports : List ℕ) (s : Assignment)
     → move_result next ports to (assignment_of t agg conv) ≡ Ok s → SetsAssignment t u agg conv s
     → DistributorMoves mac call NoneDistributes (model_distributor t) [] (model_distributor u)
-move_moves mac call t u agg conv to next ports s e h =
-    let m = is_moved next ports to (assignment_of t agg conv) s e in
+move_moves mac call t u agg conv to next ports s e h = let m = is_moved next ports to (assignment_of t agg conv) s e in
     one_moves mac call t u agg conv s (ConversationMove.Want m.0) m.1 m.2 h
 
 -- what leaving a port makes of a conversation
@@ -78,8 +75,7 @@ pub is_left : (next : Option ℕ) (old new : Assignment) → leave_result next o
     × (model_conversation old ≡ Conversation.On p) × (model_conversation new ≡ Conversation.Wanted p)
 is_left next (state.On p) new h = (p, refl, checked (is_none next) h)
   where
-    checked : (z : Bool) → cond z (Err DistFault.MarkersSpent) (Ok (state.Wanted p None)) ≡ Ok new
-        → model_conversation new ≡ Conversation.Wanted p
+    checked : (z : Bool) → cond z (Err DistFault.MarkersSpent) (Ok (state.Wanted p None)) ≡ Ok new → model_conversation new ≡ Conversation.Wanted p
     checked true e = absurd cc
     checked false e = let same : state.Wanted p None ≡ new = cc in ap model_conversation (sym same)
 is_left next s new h = absurd cc
@@ -87,8 +83,7 @@ is_left next s new h = absurd cc
 pub leave_one_moves : (mac : List ℕ) (call : ModelCall) (t u : Table) (agg conv : ℕ) (next : Option ℕ) (s : Assignment)
     → leave_result next (assignment_of t agg conv) ≡ Ok s → SetsAssignment t u agg conv s
     → DistributorMoves mac call NoneDistributes (model_distributor t) [] (model_distributor u)
-leave_one_moves mac call t u agg conv next s e h =
-    let m = is_left next (assignment_of t agg conv) s e in
+leave_one_moves mac call t u agg conv next s e h = let m = is_left next (assignment_of t agg conv) s e in
     one_moves mac call t u agg conv s (ConversationMove.Want m.0) m.1 m.2 h
 
 -- what rests is forced
@@ -99,14 +94,12 @@ is_rested old new h = grind arith
 pub is_forced : (old new : Assignment) → force_result old ≡ Ok new → model_conversation new ≡ Conversation.Free
 is_forced old new h = grind arith
 
-pub force_moves : (mac : List ℕ) (t u : Table) (agg conv : ℕ) (s : Assignment) → force_result (assignment_of t agg conv) ≡ Ok s
-    → SetsAssignment t u agg conv s
+pub force_moves : (mac : List ℕ) (t u : Table) (agg conv : ℕ) (s : Assignment) → force_result (assignment_of t agg conv) ≡ Ok s → SetsAssignment t u agg conv s
     → DistributorMoves mac (ModelCall.Force agg conv) NoneDistributes (model_distributor t) [] (model_distributor u)
 force_moves mac t u agg conv s e h = one_moves mac (ModelCall.Force agg conv) t u agg conv s ConversationMove.Forced refl
     (is_forced (assignment_of t agg conv) s e) h
 
-pub rest_moves : (mac : List ℕ) (t u : Table) (agg conv : ℕ) (s : Assignment) → rest_result (assignment_of t agg conv) ≡ Ok s
-    → SetsAssignment t u agg conv s
+pub rest_moves : (mac : List ℕ) (t u : Table) (agg conv : ℕ) (s : Assignment) → rest_result (assignment_of t agg conv) ≡ Ok s → SetsAssignment t u agg conv s
     → DistributorMoves mac (ModelCall.Force agg conv) NoneDistributes (model_distributor t) [] (model_distributor u)
 rest_moves mac t u agg conv s e h = force_moves mac t u agg conv s (is_rested (assignment_of t agg conv) s e) h
 
@@ -127,8 +120,7 @@ among_keys w g k (suc n) p l lt = ⊎_elim
     (cases_eq (slot_index w g k) n)
 
 in_states : (t : Table) (g k : ℕ) → (assignment_of t g k ≡ state.Free None) ⊎ IsAmong g k (keys_of t.conversations (length t.states))
-in_states t g k =
-    let w = t.conversations in
+in_states t g k = let w = t.conversations in
     elim (cases_Bool (ltb 0 g && ltb k w)) [
       | inl e ↦ (let p = and_parts (ltb 0 g) (ltb k w) e in
           elim (cases_Bool (ltb (slot_index w g k) (length t.states))) [
@@ -142,8 +134,7 @@ in_states t g k =
 
 -- what one conversation makes of itself
 abbrev pub Makes : List ℕ → ModelCall → ℕ → ℕ → Assignment → Assignment → Type 0
-Makes mac call g k old new =
-    (model_conversation new ≡ model_conversation old)
+Makes mac call g k old new = (model_conversation new ≡ model_conversation old)
     ⊎ ((m : ConversationMove) × ConversationMoveAllowed mac call g k m (model_conversation old)
     × (model_conversation new ≡ conversation_after m))
 
@@ -211,8 +202,7 @@ makes_release mac port id g k (state.Flushing p n preferred age) = chosen
 makes_release mac port id g k s = inl refl
 
 pub release_moves : (mac : List ℕ) (t u : Table) (port id : ℕ) → ChangesAssignments t u (after_release port id)
-    → DistributorMoves mac (ModelCall.Receive port (Some (ControlMessage.Response mac port id))) NoneDistributes (model_distributor t)
-    [] (model_distributor u)
+    → DistributorMoves mac (ModelCall.Receive port (Some (ControlMessage.Response mac port id))) NoneDistributes (model_distributor t) [] (model_distributor u)
 release_moves mac t u port id h = all_moves mac (ModelCall.Receive port (Some (ControlMessage.Response mac port id))) t u
     (after_release port id) refl (makes_release mac port id) h
 
@@ -231,17 +221,12 @@ is_flushed : (port id n : ℕ) (s : Assignment) → id ≡ n → model_conversat
 is_flushed port id n s e = grind arith
 
 pub mark_moves : (mac : List ℕ) (call : ModelCall) (t u : Table) (port id : ℕ) → replies_frame call ≡ true → id < 2 ^ 32 → Marks t u port id
-    → DistributorMoves mac call NoneDistributes (model_distributor t) (Act.Sends port (ControlMessage.Marker mac port id)
-    ∷ []) (model_distributor u)
+    → DistributorMoves mac call NoneDistributes (model_distributor t) (Act.Sends port (ControlMessage.Marker mac port id) ∷ []) (model_distributor u)
 mark_moves mac call t u port id r lt h = (
   DistributorMove.Mark port ∷ [],
   ((r, subst (λ n. n < 2 ^ 32) h.sent lt), tt),
   ap (λ n. Act.Sends port (ControlMessage.Marker mac port n) ∷ []) (sym h.sent),
-  λ i. record {
-    state = λ g k. (ap model_conversation (h.states g k) ∙ is_flushed port id t.next (assignment_of t g k) h.sent) i;
-    next =
-        h.next i;
-  },
+  λ i. record { state = λ g k. (ap model_conversation (h.states g k) ∙ is_flushed port id t.next (assignment_of t g k) h.sent) i; next = h.next i },
 )
 
 -- nothing changes
@@ -250,7 +235,6 @@ pub same_moves : (mac : List ℕ) (call : ModelCall) (t u : Table) → u ≡ t
 same_moves mac call t u e = ([], tt, refl, ap model_distributor e)
 
 -- at the start every conversation is free for the law too
-pub first_flows : (u : SystemSetup) (aggs conversations : ℕ)
-    → model_distributor (first_table aggs conversations u.first_marker) ≡ (first_view u).flows
+pub first_flows : (u : SystemSetup) (aggs conversations : ℕ) → model_distributor (first_table aggs conversations u.first_marker) ≡ (first_view u).flows
 first_flows u aggs conversations =
     λ i. record { state = λ agg conv. model_conversation (first_free aggs conversations u.first_marker agg conv i); next = u.first_marker }

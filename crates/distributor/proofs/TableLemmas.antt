@@ -11,8 +11,7 @@ use Rattle.distributor.proofs.WalkLemmas.{bit}
 abbrev pub stated : ℕ → List Assignment → ℕ → ℕ → Assignment
 stated w states agg conv = cond (ltb 0 agg && ltb conv w) (get_or states (slot_index w agg conv) (Free None)) (Free None)
 
-pub stated_in : (w : ℕ) (states : List Assignment) (agg conv : ℕ) → 0 < agg → conv < w
-    → stated w states agg conv ≡ slot_state states (slot_index w agg conv)
+pub stated_in : (w : ℕ) (states : List Assignment) (agg conv : ℕ) → 0 < agg → conv < w → stated w states agg conv ≡ slot_state states (slot_index w agg conv)
 stated_in w states agg conv p l = cond-true (ltb 0 agg && ltb conv w) _ _ (and_from _ _ (lt-ltb 0 agg p) (lt-ltb conv w l))
 
 -- a state that is given to one conversation is given to no other

@@ -78,8 +78,7 @@ taken_here : (count : ℕ) (states : List Assignment) (found : Option ℕ) (k : 
 taken_here count states found k lt e = grind arith
 
 -- the sooner of two that are taken is taken
-pub taken_sooner : (count : ℕ) (states : List Assignment) (a b : Option ℕ) → IsTaken count states a → IsTaken count states b
-    → IsTaken count states (sooner a b)
+pub taken_sooner : (count : ℕ) (states : List Assignment) (a b : Option ℕ) → IsTaken count states a → IsTaken count states b → IsTaken count states (sooner a b)
 taken_sooner count states a b h k = grind arith
 
 -- a walk along a chain has found the soonest of what it has seen
@@ -99,8 +98,7 @@ seeking_begins h chain end at lt e read = record {
 
 module _ {chain count : ℕ} {states : List Assignment} {next prev : List ℕ} {end at : ℕ} {found : Option ℕ}
     (h : Seeking chain count states next prev end at found) where
-  pub seeking_ends : at ≡ end → (k : ℕ) → is_in_chain chain (slot_state states k) ≡ true
-      → is_by found (ticks_until_wanted (slot_state states k)) ≡ true
+  pub seeking_ends : at ≡ end → (k : ℕ) → is_in_chain chain (slot_state states k) ≡ true → is_by found (ticks_until_wanted (slot_state states k)) ≡ true
   seeking_ends e k = h.soonest k (ap (occurs k) (walk_over h.standing e))
 
   pub seeking_on : (n : at ≡ end → ⊥) (here found' : Option ℕ) (place : ℕ) → here ≡ ticks_until_wanted (slot_state states at)
@@ -121,8 +119,7 @@ module _ {chain count : ℕ} {states : List Assignment} {next prev : List ℕ} {
 -- the soonest of the chains below this one was found
 pub record SeekingChains (chain count : ℕ) (states : List Assignment) (found : Option ℕ) : Type 0 where
   pub taken : IsTaken count states found
-  pub soonest : (c k : ℕ) → c < chain → is_in_chain c (slot_state states k) ≡ true
-      → is_by found (ticks_until_wanted (slot_state states k)) ≡ true
+  pub soonest : (c k : ℕ) → c < chain → is_in_chain c (slot_state states k) ≡ true → is_by found (ticks_until_wanted (slot_state states k)) ≡ true
 
 pub chains_walked : (chain count : ℕ) (states : List Assignment) (found here found' : Option ℕ)
     → SeekingChains chain count states found → found' ≡ sooner found here → IsTaken count states here
@@ -130,9 +127,8 @@ pub chains_walked : (chain count : ℕ) (states : List Assignment) (found here f
     → SeekingChains (chain + 1) count states found'
 chains_walked chain count states found here found' h e taken soonest = grind arith
 
-pub chains_passed : (chain count : ℕ) (states : List Assignment) (wanted flushing : List Bool) (found : Option ℕ)
-    → SeekingChains chain count states found → IsFlagged states wanted flushing → get_or flushing chain false ≡ false
-    → SeekingChains (chain + 1) count states found
+pub chains_passed : (chain count : ℕ) (states : List Assignment) (wanted flushing : List Bool) (found : Option ℕ) → SeekingChains chain count states found
+    → IsFlagged states wanted flushing → get_or flushing chain false ≡ false → SeekingChains (chain + 1) count states found
 chains_passed chain count states wanted flushing found h f none = grind arith
 
 some_chain : (found : Option ℕ) (s : Assignment)

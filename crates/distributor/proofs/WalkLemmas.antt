@@ -39,8 +39,7 @@ pub same_sum : (f h : ℕ → ℕ) (n : ℕ) → ((k : ℕ) → k < n → f k �
 same_sum = fold_same sum_fold
 
 -- one term is greater
-pub greater_sum : (f h : ℕ → ℕ) (n k d : ℕ) → k < n → f k ≡ d + h k → ((j : ℕ) → (j ≡ k → ⊥) → f j ≡ h j)
-    → sum_below f n ≡ d + sum_below h n
+pub greater_sum : (f h : ℕ → ℕ) (n k d : ℕ) → k < n → f k ≡ d + h k → ((j : ℕ) → (j ≡ k → ⊥) → f j ≡ h j) → sum_below f n ≡ d + sum_below h n
 unfolding sum_below
 greater_sum f h zero k d lt at others = absurd (omega arith)
 greater_sum f h (suc n) k d lt at others = elim (cases_Bool (eqb n k)) [
@@ -79,8 +78,7 @@ few_long xs n once below = omega (arith, length_sum xs n below, small_sum (λ k.
 
 -- ---- changes
 
-pub stands_alike : (d : ℕ) (s t : Assignment) (o : Option ℕ) → assignment_port s ≡ o → assignment_port t ≡ o
-    → is_in_chain d s ≡ is_in_chain d t
+pub stands_alike : (d : ℕ) (s t : Assignment) (o : Option ℕ) → assignment_port s ≡ o → assignment_port t ≡ o → is_in_chain d s ≡ is_in_chain d t
 stands_alike d s t o h k = grind arith
 
 path_drop : (next prev : List ℕ) (a : ℕ) (ys rest : List ℕ) (b : ℕ) → Path next prev a (ys ++ rest) b → Path next prev (last_of a ys) rest b
@@ -119,8 +117,7 @@ module _ {chain count : ℕ} {states : List Assignment} {next prev : List ℕ} {
   rest_below k l = member_below _ _ _ _ w.chained chain k (omega (arith, l, ap (occurs k) w.split, occurs_append k w.front w.rest))
 
   no_end : occurs end w.rest ≡ 0
-  no_end =
-      let no : 0 < occurs end w.rest → ⊥ = λ l. omega (arith, rest_below end l, w.ended) in
+  no_end = let no : 0 < occurs end w.rest → ⊥ = λ l. omega (arith, rest_below end l, w.ended) in
       omega (arith, no)
 
   ring : Path next prev end (w.front ++ w.rest) end
@@ -128,8 +125,7 @@ module _ {chain count : ℕ} {states : List Assignment} {next prev : List ℕ} {
       (subst (λ l. Path next prev (count + chain) l (count + chain)) w.split (w.chained.joined chain w.lt))
 
   pub steps_left : steps next end count at ≡ length w.rest
-  steps_left =
-      ap (steps next end count) w.here
+  steps_left = ap (steps next end count) w.here
       ∙ steps_path next prev (last_of end w.front) w.rest end count (path_drop next prev end w.front w.rest end ring) no_end
       (few_long w.rest count few_rest rest_below)
 
@@ -239,8 +235,7 @@ pub record Walking (chain : ℕ) (f : Assignment → Assignment) (count : ℕ) (
     (found : Assignment → Bool) : Type 0 where
   pub standing : Standing chain count states next prev end at
   pub olds_len : length olds ≡ count
-  pub changed : (k : ℕ)
-      → slot_state states k ≡ cond (ltb 0 (occurs k standing.rest)) (slot_state olds k) (changed_in_chain chain f (slot_state olds k))
+  pub changed : (k : ℕ) → slot_state states k ≡ cond (ltb 0 (occurs k standing.rest)) (slot_state olds k) (changed_in_chain chain f (slot_state olds k))
   pub noted : (k : ℕ) → occurs k standing.rest ≡ 0 → is_in_chain chain (slot_state states k) ≡ true → found (slot_state states k) ≡ true
 
 abbrev pub walk_begins : {count : ℕ} {states : List Assignment} {next prev : List ℕ} (h : IsChained count states next prev)
@@ -373,15 +368,13 @@ module _ {chain : ℕ} {p : Assignment → Bool} {count : ℕ} {states : List As
       (ap (λ xs. eqb (occurs k xs) 0) (walk_over h.standing e))))
 
   module _ (n : at ≡ end → ⊥) where
-    more : sum_below (seen p states (after_first h.standing.rest)) count ≡ bit (p (slot_state states at)) + sum_below
-        (seen p states h.standing.rest) count
+    more : sum_below (seen p states (after_first h.standing.rest)) count ≡ bit (p (slot_state states at)) + sum_below (seen p states h.standing.rest) count
     more = greater_sum (seen p states (after_first h.standing.rest)) (seen p states h.standing.rest) count at
         (bit (p (slot_state states at))) (walk_below h.standing n) here
         (λ j m. ap (λ x. bit (p (slot_state states j) && eqb x 0)) (sym (less_rest h.standing n j m)))
       where
         here : seen p states (after_first h.standing.rest) at ≡ bit (p (slot_state states at)) + seen p states h.standing.rest at
-        here =
-            let left = ap bit (and_true (p (slot_state states at)) (eqb (occurs at (after_first h.standing.rest)) 0)
+        here = let left = ap bit (and_true (p (slot_state states at)) (eqb (occurs at (after_first h.standing.rest)) 0)
             (eq-eqb (occurs at (after_first h.standing.rest)) 0 (walk_once h.standing n)))
             in
             let right = ap bit (and_right (p (slot_state states at)) (eqb (occurs at h.standing.rest) 0)
@@ -402,11 +395,9 @@ pub free_past : (count : ℕ) (states : List Assignment) → length states ≡ c
 free_past count states long free k = grind (arith, get_or_past)
 
 -- if the end of every chain is a ring of its own and every slot is free, the slots are chained
-pub all_free : (count : ℕ) (states : List Assignment) (next prev : List ℕ) → count + 64 < 2 ^ 32 → length states ≡ count
-    → length next ≡ count + 64 → length prev ≡ count + 64
-    → ((k : ℕ) → count ≤ k → k < count + 64 → get_or next k 0 ≡ k) → ((k : ℕ) → count ≤ k → k < count + 64 → get_or prev k 0 ≡ k)
-    → ((k : ℕ) → k < count → slot_state states k ≡ Free None)
-    → IsChained count states next prev
+pub all_free : (count : ℕ) (states : List Assignment) (next prev : List ℕ) → count + 64 < 2 ^ 32 → length states ≡ count → length next ≡ count + 64
+    → length prev ≡ count + 64 → ((k : ℕ) → count ≤ k → k < count + 64 → get_or next k 0 ≡ k) → ((k : ℕ) → count ≤ k → k < count + 64 → get_or prev k 0 ≡ k)
+    → ((k : ℕ) → k < count → slot_state states k ≡ Free None) → IsChained count states next prev
 all_free count states next prev few long nexts_long prevs_long nexts prevs free = record {
   few = few;
   states_len = long;

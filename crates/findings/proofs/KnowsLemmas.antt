@@ -102,8 +102,7 @@ many : (es : List LinkEnd) → length (take 64 es) ≡ 64 → 64 ≤ length es
 many es full = omega (arith, length-take 64 es)
 
 kept_known : (e : LinkEnd) (es : List LinkEnd) → is_among e (take 64 es) ≡ true → take 64 (with_end e es) ≡ take 64 es
-kept_known e es known =
-    ap (λ fs. take 64 fs)
+kept_known e es known = ap (λ fs. take 64 fs)
     (with_known e es (subst (λ fs. is_among e fs ≡ true) (take-append-drop 64 es) (among_more e (take 64 es) (drop 64 es) known)))
 
 kept_full : (e : LinkEnd) (es : List LinkEnd) → length (take 64 es) ≡ 64 → (b : Bool) → is_among e es ≡ b → take 64 (with_end e es) ≡ take 64 es
@@ -117,8 +116,7 @@ kept_new e es room new =
 beyond_known : (es : List LinkEnd) (o : SlowFrame) (h : List SlowFrame) → is_among (end_of o) es ≡ true → frames_beyond es (o ∷ h) ≡ frames_beyond es h
 beyond_known es o h known = rw known refl
 
-beyond_new : (es : List LinkEnd) (o : SlowFrame) (h : List SlowFrame) → is_among (end_of o) es ≡ false
-    → frames_beyond es (o ∷ h) ≡ o ∷ frames_beyond es h
+beyond_new : (es : List LinkEnd) (o : SlowFrame) (h : List SlowFrame) → is_among (end_of o) es ≡ false → frames_beyond es (o ∷ h) ≡ o ∷ frames_beyond es h
 beyond_new es o h new = rw new refl
 
 counted_one : (left n more : ℕ) → left ≡ counted n → more ≡ min (left + 1) (2 ^ 64 - 1) → more ≡ counted (suc n)
@@ -137,8 +135,7 @@ among_first now h olds news was left b t known k =
 pub known_end : (now : SlowFrame) (h : List SlowFrame) (olds news : List KeptEnd) (was is : Order) (left : ℕ) → AllZip (Takes now) olds news
     → has_end (end_of now) news ≡ true → ((g : List SlowFrame) → was ≡ order_of g → is ≡ order_of (now ∷ g))
     → Knows h olds was left → Knows (now ∷ h) news is left
-known_end now h olds news was is left t known o k =
-    let among = among_first now h olds news was left true t known k in
+known_end now h olds news was is left t known o k = let among = among_first now h olds news was left true t known k in
     let same : first_ends (now ∷ h) ≡ first_ends h = kept_known (end_of now) (firsts h) among in
     record {
       sequence = o h k.sequence;

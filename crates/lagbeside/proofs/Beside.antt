@@ -63,10 +63,7 @@ stays_up gives u left agg old new calls replies states i x y s at served l c run
 wait_only : (n : ℕ) (u : Service) (c : Choice) (t : ℕ) (ports : List SystemPort) → OfEach (AtPort n (Climbs u c true 1 t)) ports
     → OfEach (AtPort n (λ p. p.mux ≡ Waiting → p.wait_while ≤ t)) ports
 wait_only n u c t [] a = tt
-wait_only n u c t (x ∷ xs) a = (
-  λ e w. elim (a.0 e).1 [ inl s ↦ absurd (not_synced x.port.mux w s) | inr r ↦ r.2 ],
-  wait_only n u c t xs a.1,
-)
+wait_only n u c t (x ∷ xs) a = (λ e w. elim (a.0 e).1 [ inl s ↦ absurd (not_synced x.port.mux w s) | inr r ↦ r.2 ], wait_only n u c t xs a.1)
   where
     not_synced : (m : MuxState) → m ≡ Waiting → is_synchronized m ≡ true → ⊥
     not_synced m e h = grind (arith, nat_tests)

@@ -30,8 +30,7 @@ MayBeGiven choice p = (((p.enabled ≡ true) × (p.mux ≡ Detached)) ⊎ ((agg 
 pub record KeptBySettling (P : ℕ → Machines → Type 0) : Type 0 where
   pub mux : (n : ℕ) (ready : Bool) (p q : Machines) → RunsToRest (mux_rows ready) p q → P n p → P n q
   pub periodic : (n : ℕ) (p q : Machines) → RunsPeriodic p q → P n p → P n q
-  pub select : (n : ℕ) (choice : Choice) (p : Machines) → is_selected p.choice ≡ false → MayBeGiven choice p → P n p
-      → P n (record p { choice = choice })
+  pub select : (n : ℕ) (choice : Choice) (p : Machines) → is_selected p.choice ≡ false → MayBeGiven choice p → P n p → P n (record p { choice = choice })
 
 -- what a call itself does keeps P
 abbrev pub KeptByCall : (ℕ → Machines → Type 0) → Call → Reply → Type 0
@@ -90,8 +89,7 @@ detached_there : (m : MuxState) (c : Choice) (b : Bool) → is_unselected c ≡ 
     → (same_mux_state CollectingDistributing m && (not (is_selected c) || b)) ≡ false → m ≡ Detached
 detached_there m c b u w e f = grind (arith, nat_tests)
 
-mux_rested : (P : ℕ → Machines → Type 0) → KeptBySettling P → (n : ℕ) (p q : Machines) → RunsToRest (mux_rows false) p q → P n p
-    → AtRestAnd P n q
+mux_rested : (P : ℕ → Machines → Type 0) → KeptBySettling P → (n : ℕ) (p q : Machines) → RunsToRest (mux_rows false) p q → P n p → AtRestAnd P n q
 mux_rested P k n p q h a = (
   k.mux n false p q h a,
   λ e. unsynchronized q.mux (is_selected q.choice) (not (partner_synchronized q)) e h.2.1.1.1.0 h.2.1.1.1.1.1.0,
@@ -112,8 +110,7 @@ given : (P : ℕ → Machines → Type 0) → Selects P → (s : SystemPort) (o 
 given P k s o h a = grind (arith, nat_tests)
 
 gives_one : (P : ℕ → Machines → Type 0) → Selects P → (l : List SystemPort) (i : ℕ) (s : SystemPort) (o : Option Choice)
-    → ((choice : Choice) → o ≡ Some choice → (is_selected s.port.choice ≡ false) × MayBeGiven choice s.port) → slice_get l i ≡ Some s
-    → OfEach P l
+    → ((choice : Choice) → o ≡ Some choice → (is_selected s.port.choice ≡ false) × MayBeGiven choice s.port) → slice_get l i ≡ Some s → OfEach P l
     → OfEach P (slice_set l i (with_choice s o))
 gives_one P k l i s o h e a = grind (arith, nat_tests, all-set, with_choice, given, all-get)
 
@@ -127,8 +124,7 @@ same_choice c d e = cc
 
 promotes_one : (P : ℕ → Machines → Type 0) → KeptBySettling P → (aggs : AggregatorsValue) (agg : AggId) (l m : List SystemPort)
     → PromotesNext aggs agg l m → OfEach (AtRestAnd P) l → OfEach (AtRestAnd P) m
-promotes_one P k aggs agg l m h a =
-    let stands = next_stands aggs agg l m h in
+promotes_one P k aggs agg l m h a = let stands = next_stands aggs agg l m h in
     let none = ap is_selected stands in
     subst (OfEach (AtRestAnd P)) (sym h.4) (gives_one (AtRestAnd P) (rest_selects P k) l h.0 h.1 (Some (Selected agg))
     (λ choice e. (none, (inr (agg, stands, same_choice (Selected agg) choice e), (rest_at P l h.0 h.1 h.3 a).0 none))) h.3 a)
@@ -153,11 +149,9 @@ choosing_each P k aggs old new h a =
     subst (OfEach (AtRestAnd P)) (sym h.2) (choices_keep aggs (OfEach (AtRestAnd P)) (chooses_one P k aggs) (length h.0) h.0
     (promotions_keep aggs (OfEach (AtRestAnd P)) (promotes_one P k aggs) (length aggs.keys) old h.0 h.1 a))
 
-pub settling_each : (P : ℕ → Machines → Type 0) → KeptBySettling P → (old new : SystemState) → Settling old new
-    → OfEach P old.system_ports
+pub settling_each : (P : ℕ → Machines → Type 0) → KeptBySettling P → (old new : SystemState) → Settling old new → OfEach P old.system_ports
     → OfEach P new.system_ports
-settling_each P k old new h a =
-    let one = h.0 in
+settling_each P k old new h a = let one = h.0 in
     let two = h.2.0 in
     let three = h.2.2.0 in
     let four = h.2.2.2.0 in
@@ -178,20 +172,17 @@ pub place_each : (P : ℕ → Machines → Type 0) (R : Machines → Machines �
     → (o : Option ℕ) (old new : List SystemPort) → port_index n old ≡ o → PortAtChangesBy R o old new → OfEach P old → OfEach P new
 place_each P R n k o old new e h a = grind (arith, nat_tests, found_place, all-get, OfEach, all-set)
 
-same_each : (P : ℕ → Machines → Type 0) (s t : SystemState) → t.system_ports ≡ s.system_ports → OfEach P s.system_ports
-    → OfEach P t.system_ports
+same_each : (P : ℕ → Machines → Type 0) (s t : SystemState) → t.system_ports ≡ s.system_ports → OfEach P s.system_ports → OfEach P t.system_ports
 same_each P s t e a = subst (OfEach P) (sym e) a
 
 is_told : (n : ℕ) (frame : List ℕ) → subtype frame ≡ 1 → ((n == n) && (subtype frame == 1)) ≡ true
 is_told n frame e = grind (arith, nat_tests)
 
-sends_each : (P : ℕ → Machines → Type 0) (n : ℕ) (up due : Bool) (i : ℕ) (x : SystemPort) (old : SystemState)
-    (answer : Option (List ℕ)) (new : SystemState) → KeptByCall P (Transmit n) (reply.Transmit (Ok answer))
-    → port_index n old.system_ports ≡ Some i → slice_get old.system_ports i ≡ Some x
+sends_each : (P : ℕ → Machines → Type 0) (n : ℕ) (up due : Bool) (i : ℕ) (x : SystemPort) (old : SystemState) (answer : Option (List ℕ)) (new : SystemState)
+    → KeptByCall P (Transmit n) (reply.Transmit (Ok answer)) → port_index n old.system_ports ≡ Some i → slice_get old.system_ports i ≡ Some x
     → TransmitsIf up due i x old answer new → OfEach P old.system_ports → OfEach P new.system_ports
 sends_each P n false due i x old answer new k at e h a = same_each P old new (same_slots old new h.1) a
-sends_each P n true true i x old answer new k at e h a =
-    let Q : SystemPort → Type 0 = λ y. P y.number y.port in
+sends_each P n true true i x old answer new k at e h a = let Q : SystemPort → Type 0 = λ y. P y.number y.port in
     let numbered : x.number ≡ n = found_place n old.system_ports i x at e in
     let kind : subtype h.0 ≡ 1 = lacpdu_subtype old.max_delay x h.0 h.1 in
     let told : reply_has_lacpdu n (Transmit n) (reply.Transmit (Ok answer)) ≡ true =
@@ -202,10 +193,9 @@ sends_each P n true true i x old answer new k at e h a =
     (subst (λ m. P m (after_sending x.port)) (sym numbered) (k x.port told was)))
 sends_each P n true false i x old answer new k at e h a = grind (arith, nat_tests)
 
-transmits_each : (P : ℕ → Machines → Type 0) (n : ℕ) (o : Option ℕ) (old : SystemState) (answer : Option (List ℕ)) (new :
-    SystemState)
-    → KeptByCall P (Transmit n) (reply.Transmit (Ok answer)) → port_index n old.system_ports ≡ o
-    → TransmitsAt o old answer new → OfEach P old.system_ports → OfEach P new.system_ports
+transmits_each : (P : ℕ → Machines → Type 0) (n : ℕ) (o : Option ℕ) (old : SystemState) (answer : Option (List ℕ)) (new : SystemState)
+    → KeptByCall P (Transmit n) (reply.Transmit (Ok answer)) → port_index n old.system_ports ≡ o → TransmitsAt o old answer new → OfEach P old.system_ports
+    → OfEach P new.system_ports
 transmits_each P n None old answer new k e h a = absurd h
 transmits_each P n (Some i) old answer new k e h a =
     sends_each P n h.0.port.enabled (is_due h.0.port) i h.0 old answer new k e h.1 h.2 a
@@ -230,8 +220,7 @@ module _ (P : ℕ → Machines → Type 0) (s : KeptBySettling P) (n : ℕ) (oct
   stays_so e = same_each P old new (ap (λ (t : SystemState). t.system_ports) e) a
 
   by_marker : (m : Marker) (o : Option Marker) → AnswersMarker h.0.mac m o h.1 → OfEach P new.system_ports
-  by_marker m None g =
-      let d = subst (λ e. Performs e h.0.number (port_index n old.system_ports) old answer new) g h.4 in
+  by_marker m None g = let d = subst (λ e. Performs e h.0.number (port_index n old.system_ports) old answer new) g h.4 in
       same_each P old new (released_same _ _ m old answer new d) a
   by_marker m (Some reply) g =
       let d = subst (λ e. Performs e h.0.number (port_index n old.system_ports) old answer new) g.3 h.4 in stays_so d.1
@@ -287,19 +276,16 @@ module _ (index : Option ℕ) (octets : List ℕ) (old : SystemState) (new : Sys
   pub took : Took
   took = took_link h.0.port.enabled h.3
 
-pub first_each : (P : ℕ → Machines → Type 0) → KeptBySettling P
-    → ((n : ℕ) (u : Setup) (q : Machines) → Starts (before_start u) q → P n q) → (s : SystemState) → IsFirst s
-    → OfEach P s.system_ports
-first_each P k st s h =
-    settling_each P k (with_system_ports s h.0) s h.2
+pub first_each : (P : ℕ → Machines → Type 0) → KeptBySettling P → ((n : ℕ) (u : Setup) (q : Machines) → Starts (before_start u) q → P n q) → (s : SystemState)
+    → IsFirst s → OfEach P s.system_ports
+first_each P k st s h = settling_each P k (with_system_ports s h.0) s h.2
     (zip_all (HasJustStarted s.system) (λ x. P x.number x.port) (λ c x m. st x.number (setup_of s.system c) x.port m.2) s.ports
     h.0 h.1)
 
 -- a tick
-pub Tick-each : (P Q : ℕ → Machines → Type 0) → KeptBySettling Q
-    → ((n : ℕ) (p q : Machines) → RunsToRest receive_rows (count_down p) q → P n p → Q n q)
-    → (gives : ℕ → ℕ → ℕ → Type 0) (old : SystemState) (answer : Reply) (new : SystemState) → Step gives old Tick answer new
-    → OfEach P old.system_ports → OfEach Q new.system_ports
+pub Tick-each : (P Q : ℕ → Machines → Type 0) → KeptBySettling Q → ((n : ℕ) (p q : Machines) → RunsToRest receive_rows (count_down p) q → P n p → Q n q)
+    → (gives : ℕ → ℕ → ℕ → Type 0) (old : SystemState) (answer : Reply) (new : SystemState) → Step gives old Tick answer new → OfEach P old.system_ports
+    → OfEach Q new.system_ports
 Tick-each P Q s k gives old reply.Tick new h a =
     settling_each Q s h.0 new h.2 (zip_kept (λ p q. RunsToRest receive_rows (count_down p) q) P Q k old.system_ports
     h.0.system_ports h.1.0 a)
@@ -314,8 +300,7 @@ Step-each P s gives old (Set_link n up) (reply.SetLink (Ok done)) new k h a =
     old.system_ports)
     old.system_ports h.0.system_ports refl h.1.0 a)
 Step-each P s gives old (Set_link n up) (reply.SetLink (Err fault)) new k h a = same_each P old new (same_slots old new h.same) a
-Step-each P s gives old (Receive n octets) (reply.Receive (Ok answer)) new k h a =
-    receives_each P s n octets old answer new k h a
+Step-each P s gives old (Receive n octets) (reply.Receive (Ok answer)) new k h a = receives_each P s n octets old answer new k h a
 Step-each P s gives old (Receive n octets) (reply.Receive (Err fault)) new k h a = same_each P old new (same_slots old new h.same) a
 Step-each P s gives old (Configure n change) (reply.Configure (Ok true)) new k h a =
     settling_each P s h.0 new h.2 (place_each P (ChangesParty change) n k (port_index n old.system_ports) old.system_ports

@@ -35,9 +35,8 @@ link_kept : (P : Machines → Type 0) (max_links : Option ℕ) (up : Bool) (p : 
     → P p → P (record p { choice = choice_with_link max_links up p.choice })
 link_kept P max_links up p c a = grind arith
 
-pub Setting-each : (P : ℕ → Machines → Type 0) → KeptBySettling P → (old new : SystemState) (setting : Setting)
-    (answer : Result Unit SystemFault) → KeptBySetting P setting → SettingStep old setting answer new → OfEach P old.system_ports
-    → OfEach P new.system_ports
+pub Setting-each : (P : ℕ → Machines → Type 0) → KeptBySettling P → (old new : SystemState) (setting : Setting) (answer : Result Unit SystemFault)
+    → KeptBySetting P setting → SettingStep old setting answer new → OfEach P old.system_ports → OfEach P new.system_ports
 Setting-each P k old new (Setting.Hold_port n held) (Ok done) c h t = set_each P k n (is_held_so held) (with_held held)
     (held_kept P n held c) (port_index n old.system_ports) old new refl h t
 Setting-each P k old new (Setting.Hold_port n held) (Err fault) c h t = subst (λ (s : SystemState). OfEach P s.system_ports) (sym h.same) t
@@ -58,8 +57,7 @@ Stands old new = (new.keys ≡ old.keys) × (new.ports ≡ old.ports)
 stands_settled : (old mid new : SystemState) → Stands old mid → Settling mid new → Stands old new
 stands_settled old mid new a h = grind arith
 
-setting_stands : (old new : SystemState) (setting : Setting) (answer : Result Unit SystemFault) → SettingStep old setting answer new
-    → Stands old new
+setting_stands : (old new : SystemState) (setting : Setting) (answer : Result Unit SystemFault) → SettingStep old setting answer new → Stands old new
 setting_stands old new setting answer h = grind arith
 
 -- what stands between two calls
@@ -101,14 +99,12 @@ module _ (Sets : Setting → Type 0) where
 
   times_stand : (n : ℕ) (old new : SystemState) → AsideTimes Sets n old new → Stands old new
   times_stand zero old new h = one_stands old new h
-  times_stand (suc n) old new h =
-      let a = one_stands old h.0 h.1 in let b = times_stand n h.0 new h.2 in (b.0 ∙ a.0, b.1 ∙ a.1)
+  times_stand (suc n) old new h = let a = one_stands old h.0 h.1 in let b = times_stand n h.0 new h.2 in (b.0 ∙ a.0, b.1 ∙ a.1)
 
   pub asides_stand : (old new : SystemState) → Asides Sets old new → Stands old new
   asides_stand old new h = times_stand h.0 old new h.1
 
-  pub kept_key : (key : Key) (agg : AggId) (old new : SystemState) → Asides Sets old new → key_of old.keys agg.0 ≡ Some key
-      → key_of new.keys agg.0 ≡ Some key
+  pub kept_key : (key : Key) (agg : AggId) (old new : SystemState) → Asides Sets old new → key_of old.keys agg.0 ≡ Some key → key_of new.keys agg.0 ≡ Some key
   kept_key key agg old new h k = ap (λ keys. key_of keys agg.0) (asides_stand old new h).0 ∙ k
 
   pub key_after : (key : Key) (agg : AggId) (gives : ℕ → ℕ → ℕ → Type 0) (old before mid : SystemState) (call : Call) (answer : Reply)
@@ -118,10 +114,7 @@ module _ (Sets : Setting → Type 0) where
 
   module _ (P : ℕ → Machines → Type 0) (k : KeptBySettling P) (c : (setting : Setting) → Sets setting → KeptBySetting P setting) where
     one_each : (old new : SystemState) → IsAside Sets old new → OfEach P old.system_ports → OfEach P new.system_ports
-    one_each old new h a = elim h.1 [
-      | inl e ↦ table_each P old new e a
-      | inr s ↦ Setting-each P k old new s.0 s.1 (c s.0 s.2) s.3 a
-    ]
+    one_each old new h a = elim h.1 [ inl e ↦ table_each P old new e a | inr s ↦ Setting-each P k old new s.0 s.1 (c s.0 s.2) s.3 a ]
 
     times_each : (n : ℕ) (old new : SystemState) → AsideTimes Sets n old new → OfEach P old.system_ports → OfEach P new.system_ports
     times_each zero old new h a = one_each old new h a

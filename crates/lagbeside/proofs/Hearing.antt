@@ -33,27 +33,23 @@ fires_keep : (P : Machines → Type 0) (rows : List Row) → EnabledKeep P rows 
 fires_keep P [] k p q h a = absurd h
 fires_keep P (row ∷ rows) k p q h a = elim h [ inl f ↦ subst P (sym f.1) (k.0 p f.0 a) | inr f ↦ fires_keep P rows k.1 p q f a ]
 
-pub times_keep : (P : Machines → Type 0) (rows : List Row) → EnabledKeep P rows → (n : ℕ) (p q : Machines)
-    → FiresTimes rows n p q → P p → P q
+pub times_keep : (P : Machines → Type 0) (rows : List Row) → EnabledKeep P rows → (n : ℕ) (p q : Machines) → FiresTimes rows n p q → P p → P q
 times_keep P rows k zero p q h a = subst P (sym h) a
 times_keep P rows k (suc n) p q h a = fires_keep P rows k h.0 q h.2 (times_keep P rows k n p h.0 h.1 a)
 
 pub no : false ≡ true → ⊥
 no e = cc
 
-not_initialize : (least most n : ℕ) (r : ReceiveState) (g : Bool) → (same_receive_state Initialize r && g) ≡ true
-    → Within least most r n → ⊥
+not_initialize : (least most n : ℕ) (r : ReceiveState) (g : Bool) → (same_receive_state Initialize r && g) ≡ true → Within least most r n → ⊥
 not_initialize least most n r g h w = grind (arith, nat_tests)
 
-not_disabled : (least most n : ℕ) (r : ReceiveState) (g : Bool) → (same_receive_state PortDisabled r && g) ≡ true
-    → Within least most r n → ⊥
+not_disabled : (least most n : ℕ) (r : ReceiveState) (g : Bool) → (same_receive_state PortDisabled r && g) ≡ true → Within least most r n → ⊥
 not_disabled least most n r g h w = grind (arith, nat_tests)
 
 pub not_down : (a up : Bool) → (a && not up) ≡ true → up ≡ true → ⊥
 not_down a up h e = grind (arith, nat_tests)
 
-expires : (least most n : ℕ) (r : ReceiveState) (g : Bool) → (same_receive_state Current r && g) ≡ true → Within least most r n
-    → (30 ≤ most) × (least ≤ most)
+expires : (least most n : ℕ) (r : ReceiveState) (g : Bool) → (same_receive_state Current r && g) ≡ true → Within least most r n → (30 ≤ most) × (least ≤ most)
 expires least most n r g h w = grind (arith, nat_tests)
 
 receive_keeps : (least most : ℕ) → EnabledKeep (Unheard least most) receive_rows
@@ -72,13 +68,11 @@ unheard_settles n most k = settling_leaves (AtPort n (UnheardFor most k))
 pub counts : (most n : ℕ) (r : ReceiveState) → Within 1 most r n → Within 0 (most - 1) r (n - 1)
 counts most n r w = grind (arith, nat_tests)
 
-pub rested : (most n : ℕ) (r : ReceiveState) → (same_receive_state Expired r && (n == 0)) ≡ false
-    → (same_receive_state Current r && (n == 0)) ≡ false
+pub rested : (most n : ℕ) (r : ReceiveState) → (same_receive_state Expired r && (n == 0)) ≡ false → (same_receive_state Current r && (n == 0)) ≡ false
     → Within 0 most r n → Within 1 most r n
 rested most n r e f w = grind (arith, nat_tests)
 
-tick_unheard : (most k : ℕ) (p q : Machines) → RunsToRest receive_rows (count_down p) q → AtRest periodic_rows p
-    → UnheardFor most k p
+tick_unheard : (most k : ℕ) (p q : Machines) → RunsToRest receive_rows (count_down p) q → AtRest periodic_rows p → UnheardFor most k p
     → UnheardFor (most - 1) (k + 1) q
 tick_unheard most k p q h rest a =
     let b = receives 0 (most - 1) (count_down p) q h (a.0, counts most p.current_while p.receive a.1) in
@@ -126,8 +120,7 @@ pub is_defaulted : (most n : ℕ) (r : ReceiveState) → most ≡ 0 → Within 1
 is_defaulted most n r l w = grind (arith, nat_tests)
 
 pub is_noticed : (gives : ℕ → ℕ → ℕ → Type 0) → IsNoticed gives
-is_noticed gives old new calls replies states i x y s t at within up h u there =
-    let awake = can_receive_at_rest x.port
+is_noticed gives old new calls replies states i x y s t at within up h u there = let awake = can_receive_at_rest x.port
     (all-get (λ (z : SystemPort). none_enabled receive_rows z.port ≡ true) old.system_ports i x at s.rested.0) in
     let timed = all-get (λ (z : SystemPort). IsTimed z.port) old.system_ports i x at t in
     let most = timeout_time x.port.short + 30 in

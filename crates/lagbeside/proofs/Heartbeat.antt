@@ -38,8 +38,7 @@ receive_silent most k = (λ p a. a, (λ p a. a, (λ p a. a, (λ p a. a, (λ p a.
 pub raised : (b ntt : Bool) (S : Type 0) → (ntt ≡ true) ⊎ S → ((if b then ntt else true) ≡ true) ⊎ S
 raised b ntt S h = grind arith
 
-calls_silent : (n most k : ℕ) (call : Call) (answer : Reply) → LeavesUpAndSilent n call answer → (call ≡ Tick → ⊥)
-    → KeptByCall (SilentAt n most k) call answer
+calls_silent : (n most k : ℕ) (call : Call) (answer : Reply) → LeavesUpAndSilent n call answer → (call ≡ Tick → ⊥) → KeptByCall (SilentAt n most k) call answer
 calls_silent n most k Tick answer u t = absurd (t refl)
 calls_silent n most k (Set_link m up) answer u t = λ max_links p q h a e.
     let s = a e in
@@ -57,8 +56,7 @@ calls_silent n most k call answer u t = tt
 
 -- a tick
 
-tick_silent : (most k : ℕ) (p q : Machines) → RunsToRest receive_rows (count_down p) q → AtRest periodic_rows p → Silent most k p
-    → Silent (most - 1) (k + 1) q
+tick_silent : (most k : ℕ) (p q : Machines) → RunsToRest receive_rows (count_down p) q → AtRest periodic_rows p → Silent most k p → Silent (most - 1) (k + 1) q
 tick_silent most k p q h rest s = runs_keep (Silent (most - 1) (k + 1)) receive_rows (receive_silent (most - 1) (k + 1)) (count_down p) q h
     (s.0, counts_sounds false most p rest (loud p s.0).0 s.1)
 

@@ -64,8 +64,7 @@ module _ (gives : ℕ → ℕ → ℕ → Type 0) (P : SystemState → Type 0)
   forces_one port agg conv old true new h w = k old new (Force agg conv) (reply.Force (Ok tt)) h.1.step w
   forces_one port agg conv old false new h w = subst P (sym h.1) w
 
-  forces_in : (port : ℕ) (agg : AggId) (c : ℕ) (old : SystemState) (n : ℕ) (new : SystemState) → ForcesIn gives port agg c old n new
-      → P old → P new
+  forces_in : (port : ℕ) (agg : AggId) (c : ℕ) (old : SystemState) (n : ℕ) (new : SystemState) → ForcesIn gives port agg c old n new → P old → P new
   forces_in port agg zero old n new h w = subst P (sym h.0) w
   forces_in port agg (suc c) old n new h w = forces_one port agg c h.0 h.2 new h.4 (forces_in port agg c old h.1 h.0 h.3 w)
 
@@ -74,8 +73,7 @@ module _ (gives : ℕ → ℕ → ℕ → Type 0) (P : SystemState → Type 0)
   forces_first port (suc g) old n new h w =
       forces_in port (aggregator_numbered (suc g)) h.0.conversations h.0 h.2 new h.4 (forces_first port g old h.1 h.0 h.3 w)
 
-  pub forces_port : (port : ℕ) (old : SystemState) (answer : Result ℕ SystemFault) (new : SystemState) → ForcesPort gives port old answer new
-      → P old → P new
+  pub forces_port : (port : ℕ) (old : SystemState) (answer : Result ℕ SystemFault) (new : SystemState) → ForcesPort gives port old answer new → P old → P new
   forces_port port old (Ok n) new h w = forces_first port _ old n new h.1 w
   forces_port port old (Err fault) new h w = subst P (sym h.same) w
 

@@ -110,8 +110,7 @@ joined_receives who t w p q h a = times_keep (Joined who t w) receive_rows (rece
 counts : (t n : ℕ) (r : ReceiveState) → 1 ≤ t → Lasts t r n → Lasts (t - 1) r (n - 1)
 counts t n r l a = grind (arith, nat_tests)
 
-ticked : (who : Party) (t w v : ℕ) (p q : Machines) → 1 ≤ t → w ≤ v + 1 → RunsToRest receive_rows (count_down p) q → Joined who t w p
-    → Joined who (t - 1) v q
+ticked : (who : Party) (t w v : ℕ) (p q : Machines) → 1 ≤ t → w ≤ v + 1 → RunsToRest receive_rows (count_down p) q → Joined who t w p → Joined who (t - 1) v q
 ticked who t w v p q l m h a = joined_receives who (t - 1) v (count_down p) q h (
   λ f. (let b = a.0 f in (b.0, b.1, λ e. (let k = b.2 e in omega (arith, m, k)))),
   elim a.1 [ inl down ↦ inl down | inr s ↦ inr (s.0, counts t p.current_while p.receive l s.1, s.2) ],
@@ -159,8 +158,7 @@ Kind key t w (Some who) p = Joined who t w p
 abbrev OtherKey : Key → Machines → Type 0
 OtherKey key p = p.party.key ≢ key
 
-kind_mux : (key : Key) (t w : ℕ) (o : Option Party) (ready : Bool) (p q : Machines) → RunsToRest (mux_rows ready) p q → Kind key t w o p
-    → Kind key t w o q
+kind_mux : (key : Key) (t w : ℕ) (o : Option Party) (ready : Bool) (p q : Machines) → RunsToRest (mux_rows ready) p q → Kind key t w o p → Kind key t w o q
 kind_mux key t w None ready p q h a = mux_leaves (OtherKey key) ready p q h a
 kind_mux key t w (Some who) ready p q h a = times_keep (Joined who t w) (mux_rows ready) (joined_rows who t w ready) h.0 p q h.1 a
 
@@ -180,13 +178,11 @@ kind_ticks : (key : Key) (t w v : ℕ) (o : Option Party) (p q : Machines) → 1
 kind_ticks key t w v None p q l m h a = runs_keep (OtherKey key) receive_rows (key_rows key) (count_down p) q h a
 kind_ticks key t w v (Some who) p q l m h a = ticked who t w v p q l m h a
 
-kind_link : (key : Key) (t w : ℕ) (o : Option Party) (up : Bool) → ((who : Party) → o ≡ Some who → up ≡ false) → (most : Option ℕ)
-    (p q : Machines) → RunsToRest receive_rows (record p { enabled = up; choice = choice_with_link most up p.choice }) q → Kind key t w o p
-    → Kind key t w o q
+kind_link : (key : Key) (t w : ℕ) (o : Option Party) (up : Bool) → ((who : Party) → o ≡ Some who → up ≡ false) → (most : Option ℕ) (p q : Machines)
+    → RunsToRest receive_rows (record p { enabled = up; choice = choice_with_link most up p.choice }) q → Kind key t w o p → Kind key t w o q
 kind_link key t w None up down most p q h a =
     runs_keep (OtherKey key) receive_rows (key_rows key) (record p { enabled = up; choice = choice_with_link most up p.choice }) q h a
-kind_link key t w (Some who) up down most p q h a =
-    let f = down who refl in
+kind_link key t w (Some who) up down most p q h a = let f = down who refl in
     let r = subst (λ b. RunsToRest receive_rows (record p { enabled = b; choice = choice_with_link most b p.choice }) q) f h in
     joined_receives who t w (record p { enabled = false; choice = choice_with_link most false p.choice }) q r
     (link_clear most w p.choice p.mux p.wait_while a.0, inl refl)
@@ -254,8 +250,7 @@ module _ (key : Key) (hears : ℕ → Option Party) (n : ℕ) where
   begins_not_joined : (agg : AggId) (c : Choice) (m : MuxState) (k : ℕ) (b : Bool) → Clear 19 c m k
       → (occupies agg c && (same_mux_state Waiting m && (k == 20))) ≡ b → b ≡ false
   begins_not_joined agg c m k false a e = refl
-  begins_not_joined agg c m k true a e =
-      let f = begun agg c m k e in absurd (too_long k ((a f.0).2 f.1) f.2)
+  begins_not_joined agg c m k true a e = let f = begun agg c m k e in absurd (too_long k ((a f.0).2 f.1) f.2)
     where
       begun : (agg : AggId) (c : Choice) (m : MuxState) (k : ℕ) → (occupies agg c && (same_mux_state Waiting m && (k == 20))) ≡ true
           → (is_unselected c ≡ false) × (m ≡ Waiting) × (k ≡ 20)
@@ -274,8 +269,7 @@ module _ (key : Key) (hears : ℕ → Option Party) (n : ℕ) where
   other_number m f e = both (m == n) (is_number m n e) f
 
   none_begin : (agg : AggId) (keys : List Key) (t : ℕ) (ports : List SystemPort) → key_of keys agg.0 ≡ Some key
-      → ((j : ℕ) (y : SystemPort) → slice_get ports j ≡ Some y → occupied y.port.choice ≡ Some agg.0
-      → key_of keys agg.0 ≡ Some y.port.party.key)
+      → ((j : ℕ) (y : SystemPort) → slice_get ports j ≡ Some y → occupied y.port.choice ≡ Some agg.0 → key_of keys agg.0 ≡ Some y.port.party.key)
       → OfEach (Others t 19) ports → AllByRecursion (λ (y : SystemPort). (y.number == n) ≡ false → begins_in agg y ≡ false) ports
   none_begin agg keys t [] k agree a = tt
   none_begin agg keys t (y ∷ ys) k agree a = (
@@ -283,14 +277,12 @@ module _ (key : Key) (hears : ℕ → Option Party) (n : ℕ) where
     none_begin agg keys t ys k (λ j z f. agree (suc j) z f) a.1,
   )
 
-  at_state : (agg : AggId) (t : ℕ) (s : SystemState) → IsSound s → key_of s.keys agg.0 ≡ Some key → OfEach (Others t 19) s.system_ports
-      → NoneBegins agg n s
+  at_state : (agg : AggId) (t : ℕ) (s : SystemState) → IsSound s → key_of s.keys agg.0 ≡ Some key → OfEach (Others t 19) s.system_ports → NoneBegins agg n s
   at_state agg t s h k a = none_begin agg s.keys t s.system_ports k (λ j y e o. h.occupants.key j agg.0 y e o) a
 
   -- where they start
 
-  at_first : (t : ℕ) → t ≤ 30 → (s : SystemState) → IsSound s → WaitsAreBounded s → OthersStandApart t key hears n s
-      → OfEach (Others t 20) s.system_ports
+  at_first : (t : ℕ) → t ≤ 30 → (s : SystemState) → IsSound s → WaitsAreBounded s → OthersStandApart t key hears n s → OfEach (Others t 20) s.system_ports
   at_first t l s h waits others = each s.keys s.system_ports s.system_ports h.quiet.0 h.rested.0 waits others
     where
       each : (keys : List Key) (all ports : List SystemPort) → AllByRecursion (MuxIsSettled keys all) ports
@@ -341,8 +333,7 @@ module _ (key : Key) (hears : ℕ → Option Party) (n : ℕ) where
 
     none_run : (ticked : Bool) (t : ℕ) (old new : SystemState) (calls : List Call) (replies : List Reply) (states : List SystemState) → t ≤ 30
         → tick_count calls ≤ t → key_of old.keys agg.0 ≡ Some key → OfEach (Others t (most_left ticked)) old.system_ports
-        → Runs Sets gives old calls replies states new → EachCall (LetsNoneJoin hears n) calls replies
-        → OnceTicked (NoneBegins agg n) ticked calls states new
+        → Runs Sets gives old calls replies states new → EachCall (LetsNoneJoin hears n) calls replies → OnceTicked (NoneBegins agg n) ticked calls states new
     none_run ticked t old new [] [] [] l c k a r u = none_at ticked t old new k r (aside t (most_left ticked) old new r a)
     none_run ticked t old new (Tick ∷ calls) (answer ∷ answers) (before ∷ states) l c k a r u =
         let b = aside t (most_left ticked) old before r.1 a in (

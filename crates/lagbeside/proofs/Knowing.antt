@@ -79,8 +79,7 @@ pub asleep : (c b : Bool) → b ≡ true → (if b then c else true) ≡ true �
 asleep c b e a k = grind (arith, nat_tests)
 
 pub decoded : (t : Bool) (info : Info) → bits_of (with_synchronization t info.state) ≡ record (bits_of info.state) {
-  synchronization
-      = t;
+  synchronization = t;
 }
 decoded t info = encode_then_decode (record (bits_of info.state) { synchronization = t })
 
@@ -120,12 +119,10 @@ Begins v short p = Known v (timeout_time short) 0 p × (p.short ≡ short)
 begins_settles : (v : Lacpdu) (n : ℕ) (short : Bool) → KeptBySettling (AtPort n (Begins v short))
 begins_settles v n short = settling_leaves (AtPort n (Begins v short))
 
-begins : (old mid : SystemState) (v : Lacpdu) (i : ℕ) (w x : SystemPort) → IsSound old → slice_get old.system_ports i ≡ Some w
-    → w.port.enabled ≡ true → ThenSettles (OnlyPortChangesBy (Some i) (ProcessesLacpdu v)) old mid
-    → slice_get mid.system_ports i ≡ Some x
+begins : (old mid : SystemState) (v : Lacpdu) (i : ℕ) (w x : SystemPort) → IsSound old → slice_get old.system_ports i ≡ Some w → w.port.enabled ≡ true
+    → ThenSettles (OnlyPortChangesBy (Some i) (ProcessesLacpdu v)) old mid → slice_get mid.system_ports i ≡ Some x
     → Known v (timeout_time x.port.short) 0 x.port
-begins old mid v i w x s at up h there =
-    let z = h.1.0.0 in
+begins old mid v i w x s at up h there = let z = h.1.0.0 in
     let q = h.1.0.1 in
     let same : w ≡ z = same_Some w z (sym at ∙ h.1.0.2) in
     let awake = can_receive_at_rest z.port
@@ -153,12 +150,10 @@ is_known gives old mid new v calls replies states i w x y s t at up h there run 
     (end.1.1 (omega (arith, few))).0
 
 -- what holds of the port that processed an LACPDU, after the settling
-pub takes_each : (Q : Machines → Type 0) (old new : SystemState) (x : Lacpdu) (k : ℕ) (z : SystemPort) → IsSound old
-    → slice_get old.system_ports k ≡ Some z → ((q : Machines) → can_receive z.port ≡ true → ProcessesLacpdu x z.port q → Q q)
-    → KeptBySettling (AtPort z.number Q) → ThenSettles (OnlyPortChangesBy (Some k) (ProcessesLacpdu x)) old new
-    → OfEach (AtPort z.number Q) new.system_ports
-takes_each Q old new x k z sound at does settles h =
-    let y = h.1.0.0 in
+pub takes_each : (Q : Machines → Type 0) (old new : SystemState) (x : Lacpdu) (k : ℕ) (z : SystemPort) → IsSound old → slice_get old.system_ports k ≡ Some z
+    → ((q : Machines) → can_receive z.port ≡ true → ProcessesLacpdu x z.port q → Q q) → KeptBySettling (AtPort z.number Q)
+    → ThenSettles (OnlyPortChangesBy (Some k) (ProcessesLacpdu x)) old new → OfEach (AtPort z.number Q) new.system_ports
+takes_each Q old new x k z sound at does settles h = let y = h.1.0.0 in
     let q = h.1.0.1 in
     let same : z ≡ y = same_Some z y (sym at ∙ h.1.0.2) in
     let awake = can_receive_at_rest z.port

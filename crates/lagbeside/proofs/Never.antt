@@ -71,8 +71,7 @@ lonely_calls own may n call answer u t = tt
 lonely_settles : (own : Party) (may : Bool) (n : ℕ) → KeptBySettling (AtPort n (Lonely own may))
 lonely_settles own may n = settling_leaves (AtPort n (Lonely own may))
 
-lonely_sets : (own : Party) (may : Bool) (n : ℕ) (setting : Setting) → ActiveOnlyIf may n setting
-    → KeptBySetting (AtPort n (Lonely own may)) setting
+lonely_sets : (own : Party) (may : Bool) (n : ℕ) (setting : Setting) → ActiveOnlyIf may n setting → KeptBySetting (AtPort n (Lonely own may)) setting
 lonely_sets own may n setting v = grind (arith, nat_tests)
 
 aside_lonely : (own : Party) (may : Bool) (n : ℕ) (old new : SystemState) → Asides (ActiveOnlyIf may n) old new
@@ -101,8 +100,7 @@ in_sync_there : (m : MuxState) (sel sync : Bool) → m ≡ CollectingDistributin
 in_sync_there m sel sync e h = grind (arith, nat_tests)
 
 pub never_alone : (gives : ℕ → ℕ → ℕ → Type 0) → NeverAlone gives
-never_alone gives may old new calls replies states i x y s at active first run each there m =
-    let own = x.port.party in
+never_alone gives may old new calls replies states i x y s at active first run each there m = let own = x.port.party in
     let end = lonely_run own may x.number gives old new calls replies states
     (at_number (Lonely own may) 0 old.system_ports i x (ports_rise old s.ports) at (refl, active, first)) run each in
     grind (arith, nat_tests, same_number, runs_ports, all-get, Lonely, in_sync_there, is_selected, partner_synchronized, cases_Bool, no)

@@ -18,8 +18,7 @@ abbrev without_mux : Machines → Machines
 without_mux p = record p { mux = Detached; wait_while = 0; ntt = false }
 
 -- a property that does not read what the mux machine changes
-pub mux_leaves : (P : Machines → Type 0) (ready : Bool) (p q : Machines) → RunsToRest (mux_rows ready) p q → P (without_mux p)
-    → P (without_mux q)
+pub mux_leaves : (P : Machines → Type 0) (ready : Bool) (p q : Machines) → RunsToRest (mux_rows ready) p q → P (without_mux p) → P (without_mux q)
 mux_leaves P ready p q h a = runs_keep (λ r. P (without_mux r)) (mux_rows ready)
     (λ p a. a, (λ p a. a, (λ p a. a, (λ p a. a, (λ p a. a, (λ p a. a, tt)))))) p q h a
 
@@ -44,10 +43,8 @@ settling_leaves P = record {
 -- P of port n, with so many ticks to go and so many gone, goes on over calls that are so
 pub record GoesOn (Is : Call → Reply → Type 0) (P : ℕ → ℕ → Machines → Type 0) (n : ℕ) : Type 0 where
   pub settles : (most k : ℕ) → KeptBySettling (AtPort n (P most k))
-  pub ticks : (most k : ℕ) (p q : Machines) → RunsToRest receive_rows (count_down p) q → AtRest periodic_rows p → P most k p
-      → P (most - 1) (k + 1) q
-  pub calls : (most k : ℕ) (call : Call) (answer : Reply) → Is call answer → (call ≡ Tick → ⊥)
-      → KeptByCall (AtPort n (P most k)) call answer
+  pub ticks : (most k : ℕ) (p q : Machines) → RunsToRest receive_rows (count_down p) q → AtRest periodic_rows p → P most k p → P (most - 1) (k + 1) q
+  pub calls : (most k : ℕ) (call : Call) (answer : Reply) → Is call answer → (call ≡ Tick → ⊥) → KeptByCall (AtPort n (P most k)) call answer
   pub choice : (most k : ℕ) (p : Machines) → P most k p → P most k (record p { choice = Unselected })
 
 pub with_rest : (P : ℕ → Machines → Type 0) (ports : List SystemPort) → OfEach P ports → AllByRecursion PeriodicIsSettled ports
@@ -62,9 +59,8 @@ none_passed : (P : ℕ → ℕ → Machines → Type 0) (n most k : ℕ) (ports 
     → OfEach (AtPort n (P (most - 0) (k + 0))) ports
 none_passed P n most k ports a = grind (arith, nat_tests)
 
-one_more : (P : ℕ → ℕ → Machines → Type 0) (n most k ticks : ℕ) (ports : List SystemPort)
-    → OfEach (AtPort n (P (most - 1 - ticks) (k + 1 + ticks))) ports → OfEach (AtPort n (P (most - (ticks + 1)) (k + (ticks +
-    1)))) ports
+one_more : (P : ℕ → ℕ → Machines → Type 0) (n most k ticks : ℕ) (ports : List SystemPort) → OfEach (AtPort n (P (most - 1 - ticks) (k + 1 + ticks))) ports
+    → OfEach (AtPort n (P (most - (ticks + 1)) (k + (ticks + 1)))) ports
 one_more P n most k ticks ports a = grind (arith, nat_tests)
 
 -- what other ports are set to, and what leaves all ports, leaves it, too
@@ -102,13 +98,11 @@ module _ (Is : Call → Reply → Type 0) (P : ℕ → ℕ → Machines → Type
 wrong_number : (m n : ℕ) → m < n → m ≡ n → ⊥
 wrong_number m n l e = omega (arith, l, e)
 
-above : (S : Machines → Type 0) (low n : ℕ) (xs : List SystemPort) → Rises low (port_numbers xs) → n ≤ low
-    → OfEach (λ m p. m ≡ n → S p) xs
+above : (S : Machines → Type 0) (low n : ℕ) (xs : List SystemPort) → Rises low (port_numbers xs) → n ≤ low → OfEach (λ m p. m ≡ n → S p) xs
 above S low n [] r l = tt
 above S low n (y ∷ ys) r l = grind (arith, nat_tests, wrong_number, above S y.number n ys r.1 (omega (arith, r.0, l)))
 
-pub higher : (low : ℕ) (xs : List SystemPort) (i : ℕ) (x : SystemPort) → Rises low (port_numbers xs) → slice_get xs i ≡ Some x
-    → low < x.number
+pub higher : (low : ℕ) (xs : List SystemPort) (i : ℕ) (x : SystemPort) → Rises low (port_numbers xs) → slice_get xs i ≡ Some x → low < x.number
 higher low [] i x r e = absurd (none-some x e)
 higher low (y ∷ ys) zero x r e = subst (λ (z : SystemPort). low < z.number) (same_Some y x e) r.0
 higher low (y ∷ ys) (suc i) x r e = omega (arith, higher y.number ys i x r.1 e, r.0)
@@ -116,11 +110,10 @@ higher low (y ∷ ys) (suc i) x r e = omega (arith, higher y.number ys i x r.1 e
 pub at_number : (S : Machines → Type 0) (low : ℕ) (xs : List SystemPort) (i : ℕ) (x : SystemPort) → Rises low (port_numbers xs)
     → slice_get xs i ≡ Some x → S x.port → OfEach (λ m p. m ≡ x.number → S p) xs
 at_number S low [] i x r e s = absurd (none-some x e)
-at_number S low (y ∷ ys) zero x r e s =
-    let same : x ≡ y = sym (same_Some y x e) in (
-      λ _. subst (λ (z : SystemPort). S z.port) same s,
-      above S y.number x.number ys r.1 (subst (λ (z : SystemPort). z.number ≤ y.number) (sym same) (omega arith)),
-    )
+at_number S low (y ∷ ys) zero x r e s = let same : x ≡ y = sym (same_Some y x e) in (
+  λ _. subst (λ (z : SystemPort). S z.port) same s,
+  above S y.number x.number ys r.1 (subst (λ (z : SystemPort). z.number ≤ y.number) (sym same) (omega arith)),
+)
 at_number S low (y ∷ ys) (suc i) x r e s =
     (λ f. absurd (wrong_number y.number x.number (higher y.number ys i x r.1 e) f), at_number S y.number ys i x r.1 e s)
 

@@ -81,15 +81,11 @@ not_begun : (agg : AggId) (c : Choice) (m : MuxState) (w : ℕ) → occupies agg
     → (occupies agg c && (same_mux_state Waiting m && (w == 20))) ≡ false → ⊥
 not_begun agg c m w o e f h = grind (arith, nat_tests)
 
-harden : (n : ℕ) (agg : AggId) (t : ℕ) (ports : List SystemPort)
-    → AllByRecursion (λ (y : SystemPort). (y.number == n) ≡ false → begins_in agg y ≡ false) ports
+harden : (n : ℕ) (agg : AggId) (t : ℕ) (ports : List SystemPort) → AllByRecursion (λ (y : SystemPort). (y.number == n) ≡ false → begins_in agg y ≡ false) ports
     → OfEach (Beside n (Soft agg t)) ports → OfEach (Beside n (Hard agg t)) ports
 harden n agg t [] k a = tt
 harden n agg t (x ∷ xs) k a = (
-  λ e o w. elim (a.0 e o w) [
-    | inl l ↦ l
-    | inr f ↦ absurd (not_begun agg x.port.choice x.port.mux x.port.wait_while o w f (k.0 e))
-  ],
+  λ e o w. elim (a.0 e o w) [ inl l ↦ l | inr f ↦ absurd (not_begun agg x.port.choice x.port.mux x.port.wait_while o w f (k.0 e)) ],
   harden n agg t xs k.1 a.1,
 )
 
@@ -177,8 +173,7 @@ fine_ports u c n agg keys all t r e f (x ∷ xs) q a b = (
 
 -- so a member does not wait
 pub never_waits : (u : Service) (c : Choice) (s : SystemState) (i : ℕ) (x : SystemPort) (agg : AggId) (t r : ℕ) → t ≡ 0 → r ≡ 0 → IsSound s
-    → slice_get s.system_ports i ≡ Some x → x.port.choice ≡ Selected agg
-    → OfEach (AtPort x.number (λ p. p.mux ≡ Waiting → p.wait_while ≤ t)) s.system_ports
+    → slice_get s.system_ports i ≡ Some x → x.port.choice ≡ Selected agg → OfEach (AtPort x.number (λ p. p.mux ≡ Waiting → p.wait_while ≤ t)) s.system_ports
     → OfEach (Beside x.number (Hard agg r)) s.system_ports → x.port.mux ≡ Waiting → ⊥
 never_waits u c s i x agg t r e0 f0 h at e a b m =
     no_member_waits s i x agg h at e (fine_ports u c x.number agg s.keys s.system_ports t r e0 f0 s.system_ports h.quiet.0 a b) m

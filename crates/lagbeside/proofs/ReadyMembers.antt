@@ -47,6 +47,5 @@ all_ready keys ports agg known some all = grind (arith, nat_tests, both_true)
 -- so none of them waits in a system at rest
 pub no_member_waits : (s : SystemState) (i : ℕ) (x : SystemPort) (agg : AggId) → IsSound s → slice_get s.system_ports i ≡ Some x
     → x.port.choice ≡ Selected agg → AllByRecursion (Fine agg) s.system_ports → x.port.mux ≡ Waiting → ⊥
-no_member_waits s i x agg h at e fine m =
-    let key = h.occupants.key i agg.0 x at (ap occupied e) in
+no_member_waits s i x agg h at e fine m = let key = h.occupants.key i agg.0 x at (ap occupied e) in
     grind (arith, nat_tests, is_aggregator, known_number, all-get, is_ready, views, ready_of, Lags, selection_view, is_detached_or_waiting, stage_of, no, all_ready, some_lags, has_chosen, itself, all_waited)

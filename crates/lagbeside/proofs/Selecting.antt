@@ -52,8 +52,7 @@ one_enough b n next now h l k = grind (arith, nat_tests)
 enough : (k : ℕ) (ports : List SystemPort) (first : ℕ) (keys : List Key) → AllOccupied k ports first keys
     → count (λ (key : Key). key.0 == k) keys ≤ count (is_from k first) ports
 enough k ports first [] h = omega arith
-enough k ports first (key ∷ keys) h =
-    let wider : (x : SystemPort) → is_from k (first + 1) x ≡ true → is_from k first x ≡ true =
+enough k ports first (key ∷ keys) h = let wider : (x : SystemPort) → is_from k (first + 1) x ≡ true → is_from k first x ≡ true =
     λ x. from_less k first (first + 1) (place x.port.choice) x.port.party.key.0 (omega arith) in
     one_enough (key.0 == k) (count (λ (key : Key). key.0 == k) keys) (count (is_from k (first + 1)) ports) (count (is_from k
     first) ports)
@@ -90,12 +89,10 @@ has_one a b e h = grind (arith, nat_tests)
 -- each aggregator of the key has an occupant with the key, if none is found without one
 all_occupied : (keys : List Key) (ports : List SystemPort) (k first : ℕ) (rest : List Key) → OccupantsAgree keys ports
     → ((j : ℕ) (key : Key) → slice_get rest j ≡ Some key → key_of keys (first + j) ≡ Some key)
-    → find (λ (row : ℕ × Key). (row.1.0 == k) && has_no_occupant (views ports) (aggregator_of_entry row)) (enumerate_from first
-    rest) ≡ None
+    → find (λ (row : ℕ × Key). (row.1.0 == k) && has_no_occupant (views ports) (aggregator_of_entry row)) (enumerate_from first rest) ≡ None
     → AllOccupied k ports first rest
 all_occupied keys ports k first [] a at h = tt
-all_occupied keys ports k first (key ∷ rest) a at h =
-    let agg : AggId = record { 0 = first } in
+all_occupied keys ports k first (key ∷ rest) a at h = let agg : AggId = record { 0 = first } in
     let both = passed ((key.0 == k) && has_no_occupant (views ports) agg) (first, key)
     (find (λ (row : ℕ × Key). (row.1.0 == k) && has_no_occupant (views ports) (aggregator_of_entry row)) (enumerate_from (first +
     1) rest)) h in (
@@ -104,27 +101,19 @@ all_occupied keys ports k first (key ∷ rest) a at h =
           let is = occupies_is agg o.1.port.choice o.3 in
           let here : key_of keys first ≡ Some key = subst (λ n. key_of keys n ≡ Some key) (omega arith) (at 0 key refl) in
           let same : key ≡ o.1.port.party.key = same_Some key o.1.port.party.key (sym here ∙ a.key o.0 first o.1 o.2 is.0) in
-          record {
-            index = o.0;
-            port = o.1;
-            there = o.2;
-            key = sym (ap (λ (y : Key). y.0) same) ∙ eqb-true key.0 k e;
-            number = is.1;
-          },
+          record { index = o.0; port = o.1; there = o.2; key = sym (ap (λ (y : Key). y.0) same) ∙ eqb-true key.0 k e; number = is.1 },
       all_occupied keys ports k (first + 1) rest a (λ j y e. subst (λ n. key_of keys n ≡ Some y) (omega arith) (at (suc j) y e))
           both.1,
     )
 
 -- an UNSELECTED port that wants an aggregator is eligible
 
-is_detached_at : (m : MuxState) (w : ℕ) (c : Choice) (z : Bool) → is_unselected c ≡ true
-    → (same_mux_state Waiting m && is_unselected c) ≡ false
-    → (same_mux_state Attached m && not (is_selected c)) ≡ false
-    → (same_mux_state CollectingDistributing m && (not (is_selected c) || z)) ≡ false → is_detached (stage_of m w) ≡ true
+is_detached_at : (m : MuxState) (w : ℕ) (c : Choice) (z : Bool) → is_unselected c ≡ true → (same_mux_state Waiting m && is_unselected c) ≡ false
+    → (same_mux_state Attached m && not (is_selected c)) ≡ false → (same_mux_state CollectingDistributing m && (not (is_selected c) || z)) ≡ false
+    → is_detached (stage_of m w) ≡ true
 is_detached_at m w c z u a b d = grind (arith, nat_tests)
 
-is_known : (r : ReceiveState) → (r ≡ Current) ⊎ (r ≡ Defaulted) → (same_receive_state Current r || same_receive_state Defaulted
-    r) ≡ true
+is_known : (r : ReceiveState) → (r ≡ Current) ⊎ (r ≡ Defaulted) → (same_receive_state Current r || same_receive_state Defaulted r) ≡ true
 is_known r h = elim h [ inl e ↦ rw e refl | inr e ↦ rw e refl ]
 
 all_five : (a b c d e : Bool) → a ≡ true → b ≡ true → c ≡ true → d ≡ true → e ≡ false → ((((a && b) && c) && d) && not e) ≡ true
@@ -169,18 +158,15 @@ from_first keys j key g = grind (arith, nat_tests)
 -- an UNSELECTED port that wants an aggregator, and is not held, finds none, since the system has settled
 finds_none : (s : SystemState) (i : ℕ) (x : SystemPort) → IsSound s → slice_get s.system_ports i ≡ Some x → WantsAggregator x.port
     → x.held ≡ false → is_unselected x.port.choice ≡ true → chosen_if_eligible s.keys (views s.system_ports) (selection_view x) ≡ None
-finds_none s i x h e w free u =
-    let v = selection_view x in
+finds_none s i x h e w free u = let v = selection_view x in
     let settled = all-get (MuxIsSettled s.keys s.system_ports) s.system_ports i x e h.quiet.0 in
     let able = eligible s i x h e w u in
     when_is (may_choose x) (is_eligible v) (chosen_if_eligible s.keys (views s.system_ports) v) (free_may (is_eligible v) x.held able free) able
     (sym (takes_is s.keys s.system_ports i x (ports_rise s h.ports) e) ∙ settled.apart)
 
-never_unselected : (s : SystemState) (i : ℕ) (x : SystemPort) → IsSound s → slice_get s.system_ports i ≡ Some x
-    → WantsAggregator x.port → x.held ≡ false
+never_unselected : (s : SystemState) (i : ℕ) (x : SystemPort) → IsSound s → slice_get s.system_ports i ≡ Some x → WantsAggregator x.port → x.held ≡ false
     → ports_with x.port.party.key s ≤ aggregators_with x.port.party.key s → is_unselected x.port.choice ≡ true → ⊥
-never_unselected s i x h e w free many u =
-    let k = x.port.party.key.0 in
+never_unselected s i x h e w free many u = let k = x.port.party.key.0 in
     let v = selection_view x in
     let seen = views s.system_ports in
     let none = finds_none s i x h e w free u in
@@ -193,13 +179,7 @@ never_unselected s i x h e w free many u =
     (λ j y g. from_any k (place y.port.choice) y.port.party.key.0) i x e
     (not_first k (place x.port.choice) k (unselected_at x.port.choice u)) (itself k) in
     crowded (count (λ (y : SystemPort). y.port.party.key.0 == k) s.system_ports) (count (is_from k 1) s.system_ports)
-    (omega (
-      arith,
-      full,
-      many,
-      counted (λ (y : SystemPort). y.port.party.key.0 == k) s.system_ports,
-      counted (λ (y : Key). y.0 == k) s.keys,
-    )) least
+    (omega (arith, full, many, counted (λ (y : SystemPort). y.port.party.key.0 == k) s.system_ports, counted (λ (y : Key). y.0 == k) s.keys)) least
 
 -- a STANDBY port waits for room
 
@@ -233,8 +213,7 @@ at_most max_links agg ports w most e = grind (arith, nat_tests)
 
 pub waits_for_room : (s : SystemState) (i : ℕ) (x : SystemPort) (agg : AggId) → IsSound s → slice_get s.system_ports i ≡ Some x
     → x.port.choice ≡ Standby agg → IsFull s agg
-waits_for_room s i x agg h e c =
-    let key = h.occupants.key i agg.0 x e (ap occupied c) in
+waits_for_room s i x agg h e c = let key = h.occupants.key i agg.0 x e (ap occupied c) in
     let known : is_aggregator s.keys agg ≡ true = known_number s.keys agg.0 x.port.party.key key in
     let room : has_room (aggregators_value s) (views s.system_ports) agg ≡ false =
     elim (none_is_next (aggregators_value s) (views s.system_ports) agg (h.promoted agg)) [
@@ -280,8 +259,7 @@ share_all v agg [] h = refl
 share_all v agg (y ∷ ys) h = kept_all (has_group_of v) (occupies agg y.port.choice) (selection_view y) (occupants agg (views ys))
     (h zero y refl) (share_all v agg ys (λ j z e. h (suc j) z e))
 
-none_share : (b alone some all : Bool) → b ≡ true → alone ≡ false → some ≡ true → all ≡ true
-    → (b && ((not alone && some) && all)) ≡ false → ⊥
+none_share : (b alone some all : Bool) → b ≡ true → alone ≡ false → some ≡ true → all ≡ true → (b && ((not alone && some) && all)) ≡ false → ⊥
 none_share b alone some all e f g h k = grind (arith, nat_tests)
 
 not_unselected : (agg : AggId) (c : Choice) → occupies agg c ≡ true → c ≡ Unselected → ⊥
@@ -289,8 +267,7 @@ not_unselected agg c h e = grind (arith, nat_tests)
 
 always_shares : (s : SystemState) (i : ℕ) (x : SystemPort) → IsSound s → slice_get s.system_ports i ≡ Some x → WantsAggregator x.port
     → x.held ≡ false → 1 ≤ aggregators_with x.port.party.key s → SharesGroup s x → is_unselected x.port.choice ≡ true → ⊥
-always_shares s i x h e w free one shares u =
-    let k = x.port.party.key.0 in
+always_shares s i x h e w free one shares u = let k = x.port.party.key.0 in
     let v = selection_view x in
     let seen = views s.system_ports in
     let none = finds_none s i x h e w free u in
@@ -313,14 +290,11 @@ always_shares s i x h e w free one shares u =
     same_key : (a b : Key) → (a.0 == b.0) ≡ true → a ≡ b
     same_key a b t = ap (λ n. record { 0 = n }) (eqb-true a.0 b.0 t)
 
-pub shares_aggregator : (s : SystemState) (i : ℕ) (x : SystemPort) → IsSound s → slice_get s.system_ports i ≡ Some x
-    → WantsAggregator x.port → x.held ≡ false
+pub shares_aggregator : (s : SystemState) (i : ℕ) (x : SystemPort) → IsSound s → slice_get s.system_ports i ≡ Some x → WantsAggregator x.port → x.held ≡ false
     → 1 ≤ aggregators_with x.port.party.key s → SharesGroup s x → (is_selected x.port.choice ≡ true) ⊎ StandsByFull s x.port
 shares_aggregator s i x h e w free one shares =
     selected_or_stands s i x x.port.choice refl h e (always_shares s i x h e w free one shares)
 
-pub finds_aggregator : (s : SystemState) (i : ℕ) (x : SystemPort) → IsSound s → slice_get s.system_ports i ≡ Some x
-    → WantsAggregator x.port → x.held ≡ false
-    → ports_with x.port.party.key s ≤ aggregators_with x.port.party.key s
-    → (is_selected x.port.choice ≡ true) ⊎ StandsByFull s x.port
+pub finds_aggregator : (s : SystemState) (i : ℕ) (x : SystemPort) → IsSound s → slice_get s.system_ports i ≡ Some x → WantsAggregator x.port → x.held ≡ false
+    → ports_with x.port.party.key s ≤ aggregators_with x.port.party.key s → (is_selected x.port.choice ≡ true) ⊎ StandsByFull s x.port
 finds_aggregator s i x h e w free many = selected_or_stands s i x x.port.choice refl h e (never_unselected s i x h e w free many)

@@ -30,8 +30,7 @@ Climbs u c may left t p = (IsServed u left p × (p.choice ≡ c)) × (Comes may 
 abbrev Rises-so : Bool → ℕ → Machines → Type 0
 Rises-so may t p = (is_selected p.choice ≡ true) × Comes may t p.mux p.wait_while
 
-not_attached : (m : MuxState) (g : Bool) (from : MuxState) → is_synchronized from ≡ false → (same_mux_state from m && g) ≡ true
-    → is_synchronized m ≡ true → ⊥
+not_attached : (m : MuxState) (g : Bool) (from : MuxState) → is_synchronized from ≡ false → (same_mux_state from m && g) ≡ true → is_synchronized m ≡ true → ⊥
 not_attached m g from f h e = grind (arith, nat_tests)
 
 both_not : (c : Choice) → is_selected c ≡ true → is_unselected c ≡ true → ⊥
@@ -112,21 +111,18 @@ keeps_choice u v p q who serves h = elim h [
 
 climbs_takes : (u : Service) (c : Choice) (may : Bool) (left t : ℕ) (v : Lacpdu) (p q : Machines) → Serves u v → can_receive p ≡ true
     → Climbs u c may left t p → ProcessesLacpdu v p q → Climbs u c may (timeout_time u.short) t q
-climbs_takes u c may left t v p q serves awake a h =
-    let s = a.0.0 in
+climbs_takes u c may left t v p q serves awake a h = let s = a.0.0 in
     let k = keeps_choice u v p q s.5 serves h in (
       (served_first u v p q s.0 s.1 s.2 s.3 awake serves h, k.0 ∙ a.0.1),
       subst (λ m. Comes may t m q.wait_while) (sym k.1) (subst (λ n. Comes may t p.mux n) (sym k.2) a.1),
     )
 
 -- so of the port with this number
-pub takes_at : (P Q : Machines → Type 0) (m : ℕ) (old new : SystemState) (v : Lacpdu) (o : Option ℕ) → IsSound old
-    → port_index m old.system_ports ≡ o
+pub takes_at : (P Q : Machines → Type 0) (m : ℕ) (old new : SystemState) (v : Lacpdu) (o : Option ℕ) → IsSound old → port_index m old.system_ports ≡ o
     → ((p q : Machines) → can_receive p ≡ true → P p → ProcessesLacpdu v p q → Q q) → KeptBySettling (AtPort m Q)
     → ThenSettles (OnlyPortChangesBy o (ProcessesLacpdu v)) old new → OfEach (AtPort m P) old.system_ports → OfEach (AtPort m Q) new.system_ports
 takes_at P Q m old new v None sound e does settles h a = absurd h.1.0
-takes_at P Q m old new v (Some k) sound e does settles h a =
-    let z = h.1.0.0 in
+takes_at P Q m old new v (Some k) sound e does settles h a = let z = h.1.0.0 in
     let at = h.1.0.2 in
     let number : z.number ≡ m = found_place m old.system_ports k z e at in
     let was : P z.port = all-get (λ (c : SystemPort). AtPort m P c.number c.port) old.system_ports k z at a number in
@@ -203,14 +199,13 @@ module _ (u : Service) (c : Choice) (sel : is_selected c ≡ true) (n : ℕ) (gi
   served_call : (may : Bool) (left t : ℕ) → 1 ≤ left → (call : Call) (answer : Reply) (old mid : SystemState) → IsSound old
       → LeavesServed u n call answer → (call ≡ Tick → ⊥) → Step gives old call answer mid → OfEach (AtPort n (Climbs u c may left t)) old.system_ports
       → OfEach (AtPort n (Climbs u c may (if processed_on n call answer then timeout_time u.short else left) t)) mid.system_ports
-  served_call may left t l call answer old mid sound v none h a =
-      let b = processed_on n call answer in elim (cases_Bool b) [
-        | inl is ↦ climbs_to may (timeout_time u.short) (if b then timeout_time u.short else left) t mid (if_so b (timeout_time u.short) left is)
-            (processed may left t call answer old mid sound v is h a)
-        | inr f ↦ climbs_to may left (if b then timeout_time u.short else left) t mid (if_not b (timeout_time u.short) left f)
-            (Step-each (AtPort n (Climbs u c may left t)) (climbs_settles n u c may left t sel) gives old call answer mid
-            (kept may left t l call answer v none f) h a)
-      ]
+  served_call may left t l call answer old mid sound v none h a = let b = processed_on n call answer in elim (cases_Bool b) [
+    | inl is ↦ climbs_to may (timeout_time u.short) (if b then timeout_time u.short else left) t mid (if_so b (timeout_time u.short) left is)
+        (processed may left t call answer old mid sound v is h a)
+    | inr f ↦ climbs_to may left (if b then timeout_time u.short else left) t mid (if_not b (timeout_time u.short) left f)
+        (Step-each (AtPort n (Climbs u c may left t)) (climbs_settles n u c may left t sel) gives old call answer mid
+        (kept may left t l call answer v none f) h a)
+  ]
 
   weaker : (may : Bool) (left t : ℕ) → 1 ≤ left → (ports : List SystemPort) → OfEach (AtPort n (Climbs u c may left t)) ports
       → OfEach (AtPort n (Climbs u c may 1 t)) ports

@@ -43,12 +43,10 @@ unordered a b h = grind (arith, nat_tests)
 -- rows that are tried in their order, each where none before it is enabled
 abbrev OrderedKeep : (Machines → Type 0) → (Machines → Bool) → List Row → Type 0
 OrderedKeep P earlier [] = Unit {0}
-OrderedKeep P earlier (row ∷ rows) =
-    ((p : Machines) → earlier p ≡ false → row.enabled p ≡ true → P p → P (row.effect p))
+OrderedKeep P earlier (row ∷ rows) = ((p : Machines) → earlier p ≡ false → row.enabled p ≡ true → P p → P (row.effect p))
     × OrderedKeep P (λ p. earlier p || row.enabled p) rows
 
-ordered : (P : Machines → Type 0) (earlier : Machines → Bool) (rows : List Row) → OrderedKeep P earlier rows
-    → EnabledKeep P (in_order earlier rows)
+ordered : (P : Machines → Type 0) (earlier : Machines → Bool) (rows : List Row) → OrderedKeep P earlier rows → EnabledKeep P (in_order earlier rows)
 ordered P earlier [] k = tt
 ordered P earlier (row ∷ rows) k = grind (arith, nat_tests, unordered, ordered P (λ p. earlier p || row.enabled p) rows k.1)
 

@@ -52,7 +52,6 @@ module _ (R : Assignment → Assignment → Type 0) (k : Turning R) where
       → R (assignment_of old agg conv) state → Turns old new
   sets_turn agg conv state old new h r g c = grind (arith, nat_tests)
 
-  pub gives_turn : (agg : AggId) (conv : ℕ) (what : Result Assignment SystemFault) (old : SystemState) (a : Result Unit SystemFault)
-      (new : SystemState) → ((s : Assignment) → what ≡ Ok s → R (assignment_of old.table agg.0 conv) s)
-      → GivesOrRefuses agg conv what old a new → Turns old.table new.table
+  pub gives_turn : (agg : AggId) (conv : ℕ) (what : Result Assignment SystemFault) (old : SystemState) (a : Result Unit SystemFault) (new : SystemState)
+      → ((s : Assignment) → what ≡ Ok s → R (assignment_of old.table agg.0 conv) s) → GivesOrRefuses agg conv what old a new → Turns old.table new.table
   gives_turn agg conv what old a new r h = grind (arith, nat_tests)

@@ -19,8 +19,7 @@ pub fires_keep : (P : Machines → Type 0) (rows : List Row) → RowsKeep P rows
 fires_keep P [] k p q h a = absurd h
 fires_keep P (row ∷ rows) k p q h a = elim h [ inl f ↦ subst P (sym f.1) (k.0 p a) | inr f ↦ fires_keep P rows k.1 p q f a ]
 
-times_keep : (P : Machines → Type 0) (rows : List Row) → RowsKeep P rows → (n : ℕ) (p q : Machines) → FiresTimes rows n p q
-    → P p → P q
+times_keep : (P : Machines → Type 0) (rows : List Row) → RowsKeep P rows → (n : ℕ) (p q : Machines) → FiresTimes rows n p q → P p → P q
 times_keep P rows k zero p q h a = subst P (sym h) a
 times_keep P rows k (suc n) p q h a = fires_keep P rows k h.0 q h.2 (times_keep P rows k n p h.0 h.1 a)
 
@@ -62,8 +61,7 @@ mux_keeps ready = grind (arith, nat_tests)
 
 -- the ages
 
-kept_age : (b : Bool) (n : ℕ) (rest : List ℕ) → nat_lt n 11 ≡ b → AllByRecursion (λ a. a < 11) rest
-    → AllByRecursion (λ a. a < 11) (cond b (n ∷ rest) rest)
+kept_age : (b : Bool) (n : ℕ) (rest : List ℕ) → nat_lt n 11 ≡ b → AllByRecursion (λ a. a < 11) rest → AllByRecursion (λ a. a < 11) (cond b (n ∷ rest) rest)
 kept_age b n rest e h = grind (arith, nat_tests)
 
 recent : (ages : List ℕ) → AllByRecursion (λ a. a < 11) (aged ages)
@@ -78,8 +76,7 @@ counts : (p : Machines) → IsTimed p → IsTimed (count_down p)
 counts p a = (omega (arith, a.0), omega (arith, a.1), omega (arith, a.2), recent p.ages)
 
 starts : (p q : Machines) → Starts p q → IsTimed p → IsTimed q
-starts p q h a =
-    subst IsTimed (sym h.2) (runs_keep IsTimed receive_rows receive_keeps (start_receive p) h.0 h.1
+starts p q h a = subst IsTimed (sym h.2) (runs_keep IsTimed receive_rows receive_keeps (start_receive p) h.0 h.1
     ((rises p.receive p.current_while a.0).0, a.1, a.2, a.3))
 
 abbrev pub TimedAt : ℕ → Machines → Type 0
@@ -158,11 +155,10 @@ within_kept call answer = tt
 -- a setting keeps the bounds
 
 -- what each settling keeps, whatever the choice and the mode of the port, each setting keeps
-pub setting_each : (P : ℕ → Machines → Type 0) → KeptBySettling P
-    → ((n : ℕ) (p : Machines) (choice : Choice) → P n p → P n (record p { choice = choice }))
+pub setting_each : (P : ℕ → Machines → Type 0) → KeptBySettling P → ((n : ℕ) (p : Machines) (choice : Choice) → P n p → P n (record p { choice = choice }))
     → ((n : ℕ) (p : Machines) (active short : Bool) → P n p → P n (with_mode active short p))
-    → (old new : SystemState) (setting : Setting) (answer : Result Unit SystemFault) → SettingStep old setting answer new
-    → OfEach P old.system_ports → OfEach P new.system_ports
+    → (old new : SystemState) (setting : Setting) (answer : Result Unit SystemFault) → SettingStep old setting answer new → OfEach P old.system_ports
+    → OfEach P new.system_ports
 setting_each P k chosen moded old new setting answer = Setting-each P k old new setting answer (kept setting)
   where
     kept : (setting : Setting) → KeptBySetting P setting

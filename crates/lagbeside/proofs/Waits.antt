@@ -34,8 +34,7 @@ held ports a h = grind (arith, nat_tests)
 pub stays : Turning Stays
 stays = record { same = λ a h. h; through = λ a b c f g h. g (f h); tick = ticked; mark = marked; release = released; held = held }
 
-frees : (up : Bool) (n : ℕ) (old mid new : SystemState) → FreesIfDown up n old.table mid.table → Settling mid new
-    → Turns Stays stays old.table new.table
+frees : (up : Bool) (n : ℕ) (old mid new : SystemState) → FreesIfDown up n old.table mid.table → Settling mid new → Turns Stays stays old.table new.table
 frees up n old mid new h s = grind (arith, nat_tests)
 
 offers : (gives : ℕ → ℕ → ℕ → Type 0) (agg : AggId) (octets : List ℕ) (old : SystemState) (answer : Result ℕ SystemFault)

@@ -38,12 +38,12 @@ LeavesUpAndSilent n call reply = (takes_down n call ≡ false) × (reply_has_lac
 abbrev pub IsHeard : (ℕ → ℕ → ℕ → Type 0) → Type 0
 IsHeard gives = (old new : SystemState) (calls : List Call) (replies : List Reply) (states : List SystemState) (i : ℕ) (x y : SystemPort)
     → IsSound old → PortsAreTimed old → slice_get old.system_ports i ≡ Some x → IsLoud x.port
-    → Runs (LeavesPort x.number) gives old calls replies states new → EachCall (LeavesUpAndSilent x.number) calls replies → 309 ≤ tick_count calls → slice_get new.system_ports i ≡ Some y
-    → is_due y.port ≡ true
+    → Runs (LeavesPort x.number) gives old calls replies states new → EachCall (LeavesUpAndSilent x.number) calls replies
+    → 309 ≤ tick_count calls → slice_get new.system_ports i ≡ Some y → is_due y.port ≡ true
 
 -- So while no LACPDU is due on it, after such calls, at most 308 ticks are among them.
 abbrev pub IsSilentShortly : (ℕ → ℕ → ℕ → Type 0) → Type 0
 IsSilentShortly gives = (old new : SystemState) (calls : List Call) (replies : List Reply) (states : List SystemState) (i : ℕ) (x y : SystemPort)
     → IsSound old → PortsAreTimed old → slice_get old.system_ports i ≡ Some x → IsLoud x.port
-    → Runs (LeavesPort x.number) gives old calls replies states new → EachCall (LeavesUpAndSilent x.number) calls replies → slice_get new.system_ports i ≡ Some y → is_due y.port ≡ false
-    → tick_count calls ≤ 308
+    → Runs (LeavesPort x.number) gives old calls replies states new → EachCall (LeavesUpAndSilent x.number) calls replies
+    → slice_get new.system_ports i ≡ Some y → is_due y.port ≡ false → tick_count calls ≤ 308

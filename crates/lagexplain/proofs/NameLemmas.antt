@@ -66,8 +66,7 @@ moved cables kind kinds place (w ∷ ws) =
     (subst (λ n. first_wrong cables (kind ∷ kinds) n ws ≡ option_map suc (first_wrong cables kinds (place + 1) ws)) (omega arith)
     (moved cables kind kinds (place + 1) ws))
   where
-    by : (b : Bool) (x y : Option ℕ) → x ≡ option_map suc y
-        → (if b then Some (suc place) else x) ≡ option_map suc (if b then Some place else y)
+    by : (b : Bool) (x y : Option ℕ) → x ≡ option_map suc y → (if b then Some (suc place) else x) ≡ option_map suc (if b then Some place else y)
     by true x y e = refl
     by false x y e = e
 
@@ -82,8 +81,7 @@ fault_of_words : (cables : ℕ) (kinds : List WordKind) (ws : List (List ℕ)) �
 fault_of_words cables [] [] same = refl
 fault_of_words cables [] (w ∷ ws) same = absurd (omega (arith, same))
 fault_of_words cables (kind ∷ kinds) [] same = absurd (omega (arith, same))
-fault_of_words cables (kind ∷ kinds) (w ∷ ws) same =
-    let at = fault_at cables (kind ∷ kinds) (w ∷ ws) in
+fault_of_words cables (kind ∷ kinds) (w ∷ ws) same = let at = fault_at cables (kind ∷ kinds) (w ∷ ws) in
     one_more (word_value cables kind w) _ (word_fault cables kind w) at 0 (first_wrong cables (kind ∷ kinds) 1 ws)
     (fault_of_word cables kind w) refl
     (λ said. sym (made_err (words_said cables kinds ws) _)

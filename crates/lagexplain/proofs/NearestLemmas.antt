@@ -11,8 +11,7 @@ abbrev pub NearestSoFar : List ℕ → List (List ℕ) → ℕ → Option (List 
 NearestSoFar word names fewest None = (fewest ≡ 3) × All (λ name. 3 ≤ edits_between word name) names
 NearestSoFar word names fewest (Some found) = (fewest ≡ edits_between word found) × IsNearest word names found
 
-fewest_at_most_3 : (word : List ℕ) (names : List (List ℕ)) (fewest : ℕ) (found : Option (List ℕ)) → NearestSoFar word names fewest found
-    → fewest ≤ 3
+fewest_at_most_3 : (word : List ℕ) (names : List (List ℕ)) (fewest : ℕ) (found : Option (List ℕ)) → NearestSoFar word names fewest found → fewest ≤ 3
 fewest_at_most_3 word names fewest None h = omega (arith, h.0)
 fewest_at_most_3 word names fewest (Some found) h = let near = h.1.near in omega (arith, h.0, near)
 
@@ -28,11 +27,9 @@ least_so_far word names fewest (Some found) h = let found_is = h.0 in
     (All-weaker (λ other. edits_between word found ≤ edits_between word other) (λ other. fewest ≤ edits_between word other)
     (λ other k. omega (arith, k, found_is)) h.1.behind h.1.least)))
 
-nearer : (word : List ℕ) (names : List (List ℕ)) (fewest : ℕ) (found : Option (List ℕ)) (name : List ℕ)
-    → NearestSoFar word names fewest found → edits_between word name < fewest
-    → NearestSoFar word (names ++ name ∷ []) (edits_between word name) (Some name)
-nearer word names fewest found name h less =
-    let high = fewest_at_most_3 word names fewest found h in
+nearer : (word : List ℕ) (names : List (List ℕ)) (fewest : ℕ) (found : Option (List ℕ)) (name : List ℕ) → NearestSoFar word names fewest found
+    → edits_between word name < fewest → NearestSoFar word (names ++ name ∷ []) (edits_between word name) (Some name)
+nearer word names fewest found name h less = let high = fewest_at_most_3 word names fewest found h in
     let few : edits_between word name ≤ 2 = omega (arith, high, less) in (
       refl,
       record {
@@ -48,12 +45,8 @@ nearer word names fewest found name h less =
 
 no_nearer : (word : List ℕ) (names : List (List ℕ)) (fewest : ℕ) (found : Option (List ℕ)) (name : List ℕ)
     → NearestSoFar word names fewest found → fewest ≤ edits_between word name → NearestSoFar word (names ++ name ∷ []) fewest found
-no_nearer word names fewest None name h far = (
-  h.0,
-  All-push (λ other. 3 ≤ edits_between word other) names name h.1 (omega (arith, h.0, far)),
-)
-no_nearer word names fewest (Some found) name h far =
-    let found_is = h.0 in
+no_nearer word names fewest None name h far = (h.0, All-push (λ other. 3 ≤ edits_between word other) names name h.1 (omega (arith, h.0, far)))
+no_nearer word names fewest (Some found) name h far = let found_is = h.0 in
     let more : edits_between word found ≤ edits_between word name = omega (arith, found_is, far) in (
       h.0,
       record {
@@ -72,22 +65,18 @@ one_more names i d lt = ap (map word_octets) (take_more names i d lt) ∙ map-ap
 
 -- one more name, which is nearer
 pub nearer_next : (word : List ℕ) (names : List Word) (i : ℕ) (d : Word) (fewest edits : ℕ) (found : Option Word) → i < length names
-    → NearestSoFar word (map word_octets (take i names)) fewest (option_map word_octets found)
-    → edits ≡ edits_between word (word_octets (get_or names i d)) → edits < fewest
-    → NearestSoFar word (map word_octets (take (i + 1) names)) edits (Some (word_octets (get_or names i d)))
-nearer_next word names i d fewest edits found lt h e less =
-    let x = word_octets (get_or names i d) in
+    → NearestSoFar word (map word_octets (take i names)) fewest (option_map word_octets found) → edits ≡ edits_between word (word_octets (get_or names i d))
+    → edits < fewest → NearestSoFar word (map word_octets (take (i + 1) names)) edits (Some (word_octets (get_or names i d)))
+nearer_next word names i d fewest edits found lt h e less = let x = word_octets (get_or names i d) in
     let grown = nearer word (map word_octets (take i names)) fewest (option_map word_octets found) x h (omega (arith, e, less)) in
     subst (λ n. NearestSoFar word (map word_octets (take (i + 1) names)) n (Some x)) (sym e)
     (subst (λ ns. NearestSoFar word ns (edits_between word x) (Some x)) (sym (one_more names i d lt)) grown)
 
 -- one more name, which is no nearer
 pub no_nearer_next : (word : List ℕ) (names : List Word) (i : ℕ) (d : Word) (fewest edits : ℕ) (found : Option Word) → i < length names
-    → NearestSoFar word (map word_octets (take i names)) fewest (option_map word_octets found)
-    → edits ≡ edits_between word (word_octets (get_or names i d)) → fewest ≤ edits
-    → NearestSoFar word (map word_octets (take (i + 1) names)) fewest (option_map word_octets found)
-no_nearer_next word names i d fewest edits found lt h e far =
-    let x = word_octets (get_or names i d) in
+    → NearestSoFar word (map word_octets (take i names)) fewest (option_map word_octets found) → edits ≡ edits_between word (word_octets (get_or names i d))
+    → fewest ≤ edits → NearestSoFar word (map word_octets (take (i + 1) names)) fewest (option_map word_octets found)
+no_nearer_next word names i d fewest edits found lt h e far = let x = word_octets (get_or names i d) in
     let grown = no_nearer word (map word_octets (take i names)) fewest (option_map word_octets found) x h (omega (arith, e, far)) in
     subst (λ ns. NearestSoFar word ns fewest (option_map word_octets found)) (sym (one_more names i d lt)) grown
 

@@ -32,9 +32,8 @@ colons_joined a b c = sym (ap (λ t. 58 ∷ t) (append_assoc a (58 ∷ (b ++ 58 
     ∙ ap (λ t. a ++ 58 ∷ t) (append_assoc b (58 ∷ 32 ∷ []) c)))
 
 -- what is formed of a place and a message tells the place
-pub tells_place : (r : Result (String Global) AllocError) (text octets message : List ℕ) (start line column : ℕ)
-    → octets ≡ text → start ≤ length text → length text < 2 ^ 32
-    → (length (take start octets) < 2 ^ 32 → line ≡ line_behind (take start octets))
+pub tells_place : (r : Result (String Global) AllocError) (text octets message : List ℕ) (start line column : ℕ) → octets ≡ text → start ≤ length text
+    → length text < 2 ^ 32 → (length (take start octets) < 2 ^ 32 → line ≡ line_behind (take start octets))
     → (length (take start octets) < 2 ^ 32 → column ≡ column_behind (take start octets))
     → IfOk r (λ why. string_bytes why ≡ 58 ∷ (decimal line ++ 58 ∷ (decimal column ++ 58 ∷ 32 ∷ message)))
     → IfOk r (λ why. StartsWith (string_bytes why) (place_text (take start text)))

@@ -38,8 +38,7 @@ told_lawful u seen law old new acts h m = elim h [
 ]
 
 moved : {c d : ModelCall} {seen shown : List Act} (old new : SystemState) → d ≡ c → shown ≡ seen
-    → LawfulMoves (model_setup old) d (model_view old) shown (model_view new)
-    → LawfulMoves (model_setup old) c (model_view old) seen (model_view new)
+    → LawfulMoves (model_setup old) d (model_view old) shown (model_view new) → LawfulMoves (model_setup old) c (model_view old) seen (model_view new)
 moved {c} {d} {seen} {shown} old new e f h = grind (arith, nat_tests)
 
 abbrev IsLawful : ModelCall → List Act → SystemState → SystemState → Type 0
@@ -65,14 +64,12 @@ offer_lawful gives agg conv (Ok port) old new h asked =
     (moved old new m.2 (m.3 ∙ ap (λ n. Sends_frame port agg.0 n ∷ []) named.1) m.4, promise.configured)
 offer_lawful gives agg conv (Err fault) old new h asked = grind (arith, nat_tests)
 
-pub does_lawfully : (gives : ℕ → ℕ → ℕ → Type 0) (doing : Doing) (law : ModelCall) (acts : List Act) (old new : SystemState)
-    → Does gives doing law acts old new
+pub does_lawfully : (gives : ℕ → ℕ → ℕ → Type 0) (doing : Doing) (law : ModelCall) (acts : List Act) (old new : SystemState) → Does gives doing law acts old new
     → LawfulMoves (model_setup old) law (model_view old) acts (model_view new) × (model_setup new ≡ model_setup old)
-does_lawfully gives (Makes call answer) law acts old new x =
-    let m = x.0.moves in (
-      told_lawful (model_setup old) m.0 law (model_view old) (model_view new) acts x.1 (moved old new refl x.2 m.4),
-      x.0.configured,
-    )
+does_lawfully gives (Makes call answer) law acts old new x = let m = x.0.moves in (
+  told_lawful (model_setup old) m.0 law (model_view old) (model_view new) acts x.1 (moved old new refl x.2 m.4),
+  x.0.configured,
+)
 does_lawfully gives (Forces agg conv) law acts old new x = grind (arith, nat_tests)
 does_lawfully gives (Offers agg conv answer) law acts old new x = grind (arith, nat_tests, offer_lawful, moved)
 does_lawfully gives (Leaves agg conv answer) law acts old new x = (moved old new (sym x.1) (sym x.2) x.0.1.moves, x.0.1.configured)

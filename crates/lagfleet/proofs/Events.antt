@@ -38,8 +38,7 @@ module _ (gives : FleetAlgorithms) (far : ℕ → ℕ → Option Place) (s : ℕ
       let w : Network = network_after_acts (fleet_setup far old.systems) s stamp accepts acts (model_view (systems s)) before in
       record w { count = counted old.net w }
 
-  answers : (doing : Doing) (law : ModelCall) (stamp : ℕ) (acts : List Act) (before : Network)
-      → Does (gives s) doing law acts (old.systems s) after
+  answers : (doing : Doing) (law : ModelCall) (stamp : ℕ) (acts : List Act) (before : Network) → Does (gives s) doing law acts (old.systems s) after
       → Answers gives far s doing law stamp accepts old before systems (left stamp acts before)
   answers doing law stamp acts before does = record {
     acts = acts;
@@ -58,9 +57,8 @@ module _ (gives : FleetAlgorithms) (far : ℕ → ℕ → Option Place) (s : ℕ
   same_again e = (λ i t. itself old.systems s t i) ∙ ap (at_system old.systems s) (sym e)
 
   -- a call of `drive` of which the law is told so
-  called : (call : Call) (answer : Reply) (law : ModelCall) (stamp : ℕ) (before : Network)
-      → (promise : CallPromise (gives s) (old.systems s) call answer after) → IsTold promise.moves.0 law
-      → (net : Network) × Answers gives far s (Makes call answer) law stamp accepts old before systems net
+  called : (call : Call) (answer : Reply) (law : ModelCall) (stamp : ℕ) (before : Network) → (promise : CallPromise (gives s) (old.systems s) call answer after)
+      → IsTold promise.moves.0 law → (net : Network) × Answers gives far s (Makes call answer) law stamp accepts old before systems net
   called call answer law stamp before promise t =
       (left stamp promise.moves.1 before, answers (Makes call answer) law stamp promise.moves.1 before (promise, t, refl))
 
@@ -77,20 +75,17 @@ module _ (gives : FleetAlgorithms) (far : ℕ → ℕ → Option Place) (s : ℕ
   done doing law acts before does = (fleet_after (left 0 acts before), answers doing law 0 acts before does, refl)
 
   -- of one that is refused
-  refused : (P : SystemState → Type 0) → after ≡ old.systems s → P after
-      → (new : Fleet) × (P (old.systems s) × (new ≡ old)) × (new.systems ≡ systems)
+  refused : (P : SystemState → Type 0) → after ≡ old.systems s → P after → (new : Fleet) × (P (old.systems s) × (new ≡ old)) × (new.systems ≡ systems)
   refused P same h = (old, (subst P same h, refl), same_again same)
 
   received : (p : ℕ) (octets : List ℕ) (answer : Reply) (o : Option Place) (line : List Message)
       → CarriesFirst o line octets → CallPromise (gives s) (old.systems s) (Call.Receive p octets) answer after
       → (new : Fleet) × FleetReceives gives far s p octets answer accepts o line old new × (new.systems ≡ systems)
-  received p octets answer None line h promise =
-      let m = promise.moves.2 in
+  received p octets answer None line h promise = let m = promise.moves.2 in
       let a = called (Call.Receive p octets) answer (ModelCall.Receive p m.0) 0 old.net promise (inl m.2) in
       (fleet_after a.0, (m.0, 0, m.1, a.1), refl)
   received p octets answer (Some place) [] h promise = absurd h
-  received p octets answer (Some place) (Control pdu stamp ∷ ms) h promise =
-      let m = promise.moves.2 in
+  received p octets answer (Some place) (Control pdu stamp ∷ ms) h promise = let m = promise.moves.2 in
       let a = called (Call.Receive p octets) answer (ModelCall.Receive p (Some pdu)) stamp old.net promise
       (told_received p octets promise.moves.0 m.0 pdu m.1 m.2 h) in
       (fleet_after (without_first s p a.0), (a.0, h, a.1, refl), refl)
@@ -99,8 +94,7 @@ module _ (gives : FleetAlgorithms) (far : ℕ → ℕ → Option Place) (s : ℕ
       (nothing promise.moves.2.0 promise.moves.2.1 promise.moves.2.2) in
       (fleet_after (handed_up_from s (Some place) (handed_up_in answer) g k serial (without_first s p a.0)), (a.0, a.1, refl), refl)
     where
-      nothing : (o : Option ControlMessage) → FrameSeenAs octets o → promise.moves.0 ≡ ModelCall.Receive p o
-          → IsTold promise.moves.0 (ModelCall.Receive p None)
+      nothing : (o : Option ControlMessage) → FrameSeenAs octets o → promise.moves.0 ≡ ModelCall.Receive p o → IsTold promise.moves.0 (ModelCall.Receive p None)
       nothing None x e = inl e
       nothing (Some message) x e = absurd (h message x)
 
@@ -113,21 +107,20 @@ module _ (gives : FleetAlgorithms) (far : ℕ → ℕ → Option Place) (s : ℕ
       (fleet_after a.0, (h, a.1), refl)
   each_call (Call.Receive p octets) answer h promise = received p octets answer (far s p) (old.net.towards s p) h promise
   each_call (Call.Configure p to) answer h promise = made (Call.Configure p to) answer ModelCall.Configure promise promise.moves.2
-  each_call Call.Restart reply.Restart h promise =
-      let emptied : Network = record old.net {
-        view = at_system old.net.view s (model_view (systems s));
-        towards = λ t q. cond (ends_at (fleet_setup far old.systems) s t q) [] (old.net.towards t q);
-      } in (
-        fleet_after (record emptied { count = counted old.net emptied }),
-        record {
-          promise = subst (CallPromise (gives s) (old.systems s) Call.Restart reply.Restart) (sym is_after) promise;
-          others = ap (at_system old.systems s) (sym is_after);
-          count = counted old.net emptied;
-          counts = counts old.net emptied;
-          leaves = refl;
-        },
-        refl,
-      )
+  each_call Call.Restart reply.Restart h promise = let emptied : Network = record old.net {
+    view = at_system old.net.view s (model_view (systems s));
+    towards = λ t q. cond (ends_at (fleet_setup far old.systems) s t q) [] (old.net.towards t q);
+  } in (
+    fleet_after (record emptied { count = counted old.net emptied }),
+    record {
+      promise = subst (CallPromise (gives s) (old.systems s) Call.Restart reply.Restart) (sym is_after) promise;
+      others = ap (at_system old.systems s) (sym is_after);
+      count = counted old.net emptied;
+      counts = counts old.net emptied;
+      leaves = refl;
+    },
+    refl,
+  )
   each_call Call.Restart answer h promise = absurd (let x = promise.step in x)
   each_call (Call.Offer agg frame) answer h promise = made (Call.Offer agg frame) answer ModelCall.Offer promise promise.moves.2
   each_call (Call.Move_conversation agg k p) answer h promise = made (Call.Move_conversation agg k p) answer ModelCall.Move_conversation promise promise.moves.2

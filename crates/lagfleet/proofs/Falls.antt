@@ -38,8 +38,7 @@ record Falling (p : Machines) : Type 0 where
   pub link : p.enabled ≡ false
   pub out : p.receive ≡ PortDisabled → partner_synchronized p ≡ false
 
-disabled_now : (p q : Machines)
-    → q ≡ record p { receive = PortDisabled; partner = record p.partner { state = with_synchronization false p.partner.state } }
+disabled_now : (p q : Machines) → q ≡ record p { receive = PortDisabled; partner = record p.partner { state = with_synchronization false p.partner.state } }
     → Falling p → Falling q
 disabled_now p q e x = record {
   link = ap (λ (y : Machines). y.enabled) e ∙ x.link;
@@ -95,11 +94,10 @@ down_zip : (R : Machines → Machines → Type 0) → ((m n : Machines) → R m 
 down_zip R same p [] [] h d = tt
 down_zip R same p [] (y ∷ ys) h d = absurd h
 down_zip R same p (x ∷ xs) [] h d = absurd h
-down_zip R same p (x ∷ xs) (y ∷ ys) h d =
-    let number : y.number ≡ x.number = ap (λ (s : SystemPort). s.number) h.0.0 in (
-      (λ e. same x.port y.port h.0.1 ∙ d.0 (ap (eqb p) (sym number) ∙ e)),
-      (λ e. down_zip R same p xs ys h.1 (d.1 (ap (eqb p) (sym number) ∙ e))),
-    )
+down_zip R same p (x ∷ xs) (y ∷ ys) h d = let number : y.number ≡ x.number = ap (λ (s : SystemPort). s.number) h.0.0 in (
+  (λ e. same x.port y.port h.0.1 ∙ d.0 (ap (eqb p) (sym number) ∙ e)),
+  (λ e. down_zip R same p xs ys h.1 (d.1 (ap (eqb p) (sym number) ∙ e))),
+)
 
 down_set : (p : ℕ) (xs : List SystemPort) (i : ℕ) (s t : SystemPort) → slice_get xs i ≡ Some s → t.number ≡ s.number
     → partner_synchronized t.port ≡ partner_synchronized s.port → DownIn p xs → DownIn p (slice_set xs i t)
@@ -111,8 +109,7 @@ given_partner : (s : SystemPort) (o : Option Choice) → partner_synchronized (w
 given_partner s o = grind arith
 
 down_settled : (p : ℕ) (old new : SystemState) → Settling old new → DownIn p old.system_ports → DownIn p new.system_ports
-down_settled p old new h d =
-    let s = settling_in old new h in
+down_settled p old new h d = let s = settling_in old new h in
     down_zip RunsPeriodic periodic_same p s.four new.system_ports s.paces
     (down_zip (RunsReady old.keys (views s.two)) (λ m n r. mux_same (ready_of old.keys (views s.two) m.choice) m n r) p s.two s.four s.runs
     (choosing_keeps (DownIn p) (λ l i s o e d. down_set p l i s (with_choice s o) e (given_number s o) (given_partner s o) d)
@@ -120,9 +117,8 @@ down_settled p old new h d =
     (down_zip (RunsToRest (mux_rows false)) (mux_same false) p old.system_ports s.one s.stops d)))
 
 -- the first port with the number is set
-first_set : (p : ℕ) (xs : List SystemPort) (i : ℕ) (s t : SystemPort) → slice_get xs i ≡ Some s
-    → ((k : ℕ) → k < i → ((get_or xs k s).number == p) ≡ false) → (t.number == p) ≡ true → partner_synchronized t.port ≡ false
-    → DownIn p (slice_set xs i t)
+first_set : (p : ℕ) (xs : List SystemPort) (i : ℕ) (s t : SystemPort) → slice_get xs i ≡ Some s → ((k : ℕ) → k < i → ((get_or xs k s).number == p) ≡ false)
+    → (t.number == p) ≡ true → partner_synchronized t.port ≡ false → DownIn p (slice_set xs i t)
 first_set p [] i s t e before n d = tt
 first_set p (x ∷ xs) zero s t e before n d = grind arith
 first_set p (x ∷ xs) (suc i) s t e before n d = (
@@ -134,8 +130,7 @@ down_made : (most : Option ℕ) (p : ℕ) (xs ys : List SystemPort) (o : Option 
     → ReceivesAtRest xs → option_map (λ (x : SystemPort). x.port) (system_port_at o xs) ≡ Some x → x.enabled ≡ true
     → PortAtChangesBy (SetsPortEnabled most false) o xs ys → DownIn p ys
 down_made most p xs ys None x e rest at up z = absurd z
-down_made most p xs ys (Some i) x e rest at up z =
-    let s = z.0 in
+down_made most p xs ys (Some i) x e rest at up z = let s = z.0 in
     let same : s.port ≡ x = same_Some s.port x (sym (ap (option_map (λ (x : SystemPort). x.port)) z.2) ∙ at) in
     let first = position-Some (λ (s : SystemPort). s.number == p) xs i s e in
     let numbered : (s.number == p) ≡ true =
@@ -160,7 +155,6 @@ shows_down p (x ∷ xs) d = elim (cases_Bool (eqb p x.number)) [
 ]
 
 pub falls_seen : (gives : ℕ → ℕ → ℕ → Type 0) → EachFallIsSeen gives
-falls_seen gives old new p x agrees at up promise =
-    let z = promise.step in
+falls_seen gives old new p x agrees at up promise = let z = promise.step in
     shows_down p new.system_ports (down_settled p z.0 new z.2
     (down_made old.max_links p old.system_ports z.0.system_ports (port_index p old.system_ports) x refl agrees.rested at up z.1.0))

@@ -81,8 +81,7 @@ module _ (gives : FleetAlgorithms) (x : NetworkSetup) where
             ∙ ap (λ (v : ℕ → View). at_system v s shown) same) (both.1 ∙ i.setup s) (λ t ne. refl),
       )
 
-  still : (old new : Fleet) → Shown x.setup old.systems old.net → new.systems ≡ old.systems → new.net.view ≡ old.net.view
-      → Shown x.setup new.systems new.net
+  still : (old new : Fleet) → Shown x.setup old.systems old.net → new.systems ≡ old.systems → new.net.view ≡ old.net.view → Shown x.setup new.systems new.net
   still old new i e f = record {
     setup = λ t. ap (λ (y : ℕ → SystemState). model_setup (y t)) e ∙ i.setup t;
     view = λ t. ap (λ (y : ℕ → View). y t) f ∙ i.view t ∙ ap (λ (y : ℕ → SystemState). model_view (y t)) (sym e);
@@ -103,17 +102,15 @@ module _ (gives : FleetAlgorithms) (x : NetworkSetup) where
   abbrev IsPlayed : Fleet → Fleet → Type 0
   IsPlayed old new = PlaysTo (Unit {0}) x old new
 
-  one : (e : NetworkEvent) (old new : Fleet)
-      → NetworkHappens x e old.net new.net × Shown (recabled x e).setup new.systems new.net
+  one : (e : NetworkEvent) (old new : Fleet) → NetworkHappens x e old.net new.net × Shown (recabled x e).setup new.systems new.net
       → PlaysTo (CablesStay (e ∷ [])) (recabled x e) old new
   one e old new h = (e ∷ [], (new.net, h.0, refl), refl, h.1, λ c. c)
 
   nothing : (old new : Fleet) → Shown x.setup old.systems old.net → new ≡ old → IsPlayed old new
   nothing old new i e = ([], ap (λ (f : Fleet). f.net) e, refl, alike old new e i, λ c. c)
 
-  received : (s p : ℕ) (octets : List ℕ) (answer : Reply) (accepts : Act → Bool) (o : Option Place) (line : List Message) (old new : Fleet)
-      → x.far s p ≡ o → old.net.towards s p ≡ line → Shown x.setup old.systems old.net
-      → FleetReceives gives x.far s p octets answer accepts o line old new → IsPlayed old new
+  received : (s p : ℕ) (octets : List ℕ) (answer : Reply) (accepts : Act → Bool) (o : Option Place) (line : List Message) (old new : Fleet) → x.far s p ≡ o
+      → old.net.towards s p ≡ line → Shown x.setup old.systems old.net → FleetReceives gives x.far s p octets answer accepts o line old new → IsPlayed old new
   received s p octets answer accepts None line old new e f i z =
       let a = answered s (Makes (Call.Receive p octets) answer) (ModelCall.Receive p z.0) z.1 accepts old old.net new.systems new.net i refl
       z.3 in
@@ -142,9 +139,8 @@ module _ (gives : FleetAlgorithms) (x : NetworkSetup) where
       same (Some h) = refl
       same None = refl
 
-  repeated : (s p : ℕ) (octets : List ℕ) (answer : Reply) (accepts : Act → Bool) (line : List Message) (old new : Fleet)
-      → old.net.towards s p ≡ line → Shown x.setup old.systems old.net
-      → FleetRepeats gives x.far s p octets answer accepts line old new → IsPlayed old new
+  repeated : (s p : ℕ) (octets : List ℕ) (answer : Reply) (accepts : Act → Bool) (line : List Message) (old new : Fleet) → old.net.towards s p ≡ line
+      → Shown x.setup old.systems old.net → FleetRepeats gives x.far s p octets answer accepts line old new → IsPlayed old new
   repeated s p octets answer accepts [] old new f i z = absurd z
   repeated s p octets answer accepts (Data origin g k serial ∷ ms) old new f i z = absurd z
   repeated s p octets answer accepts (Control pdu stamp ∷ ms) old new f i z =
@@ -154,14 +150,12 @@ module _ (gives : FleetAlgorithms) (x : NetworkSetup) where
 
   forces : (s : ℕ) (agg : AggId) (k : ℕ) (doing : Doing) (accepts : Act → Bool) (old new : Fleet) → Shown x.setup old.systems old.net
       → FleetForces gives x.far s agg k doing accepts old new → IsPlayed old new
-  forces s agg k doing accepts old new i z =
-      let a = answered s doing (ModelCall.Force agg.0 k) 0 accepts old
+  forces s agg k doing accepts old new i z = let a = answered s doing (ModelCall.Force agg.0 k) 0 accepts old
       (record old.net { forced = at_system old.net.forced s (at_two (old.net.forced s) agg.0 k true) }) new.systems new.net i refl z in
       one (Force s agg.0 k) old new (inr a.0, a.1)
 
   restarts : (s : ℕ) (old new : Fleet) → Shown x.setup old.systems old.net → Restarts gives x.far s old new → IsPlayed old new
-  restarts s old new i z =
-      let first : model_view (new.systems s) ≡ first_view (x.setup s) =
+  restarts s old new i z = let first : model_view (new.systems s) ≡ first_view (x.setup s) =
       first_shows (new.systems s) z.promise.step.1 ∙ ap first_view (z.promise.configured ∙ i.setup s) in
       one (Restart s) old new (
         (
@@ -215,8 +209,7 @@ module _ (gives : FleetAlgorithms) (x : NetworkSetup) where
   calls s (Call.Force agg k) answer accepts old new i z = absurd z
 
   held : (s port count : ℕ) (old new : Fleet) → Shown x.setup old.systems old.net → ForcesHeld gives s port count old new → IsPlayed old new
-  held s port count old new i z =
-      let test = is_held port (old.systems s) in
+  held s port count old new i z = let test = is_held port (old.systems s) in
       let both = held_freed port (old.systems s) (new.systems s) z.promise.0 z.promise.2 in
       let seen : model_view (new.systems s) ≡ freed_view test (old.net.view s) = both.0 ∙ ap (freed_view test) (sym (i.view s)) in
       one (Frees s test) old new (
@@ -242,8 +235,7 @@ module _ (gives : FleetAlgorithms) (x : NetworkSetup) where
   asks s call answer accepts old new i z = absurd z
 
   -- what happens on cables leaves views and configurations, and its law knows no configuration
-  on_cables : (e : NetworkEvent) (old new : Network) (systems : ℕ → SystemState) → IsOnCables e
-      → NetworkHappens (fleet_setup x.far systems) e old new
+  on_cables : (e : NetworkEvent) (old new : Network) (systems : ℕ → SystemState) → IsOnCables e → NetworkHappens (fleet_setup x.far systems) e old new
       → (new.view ≡ old.view) × (x.setup ≡ (recabled x e).setup) × NetworkHappens x e old new
   on_cables (Lose s p) old new systems h z = (ap (λ (w : Network). w.view) z, refl, z)
   on_cables (Cut s p) old new systems h z = (ap (λ (w : Network). w.view) z, refl, z)
@@ -261,8 +253,7 @@ module _ (gives : FleetAlgorithms) (x : NetworkSetup) where
       (plain s (Sets setting answer) ModelCall.Tick ModelCall.Tick (λ a. true) old new i refl z)
   steps (Hears_again s p octets answer accepts) old new i z =
       repeated s p octets answer accepts (old.net.towards s p) old new refl i z
-  steps (Gives_way s setup) old new i z =
-      let y = z.2.1 in
+  steps (Gives_way s setup) old new i z = let y = z.2.1 in
       one (Succeed s setup (model_view (new.systems s))) old new (
         (
           subst (λ (u : SystemSetup). IsAlikeSetup u setup) (i.setup s) z.2.0,
@@ -277,8 +268,7 @@ module _ (gives : FleetAlgorithms) (x : NetworkSetup) where
         placed s old new.systems new.net (at_system x.setup s setup) i z.1 (ap (λ (w : Network). w.view) z.2.2)
             (z.0 ∙ sym (there x.setup s setup)) (λ t ne. sym (elsewhere x.setup s setup t ne)),
       )
-  steps (Befalls e) old new i z =
-      let r = on_cables e old.net new.net old.systems z.0 z.2 in
+  steps (Befalls e) old new i z = let r = on_cables e old.net new.net old.systems z.0 z.2 in
       one e old new (r.2, subst (λ (setups : ℕ → SystemSetup). Shown setups new.systems new.net) r.1 (still old new i z.1 r.0))
 
 stay_joined : (es fs : List NetworkEvent) → CablesStay es → CablesStay fs → CablesStay (es ++ fs)
@@ -290,8 +280,7 @@ stay_joined (e ∷ es) fs c d = stay_joined es fs c d
 runs : (gives : FleetAlgorithms) (x : NetworkSetup) (es : List FleetEvent) (old new : Fleet) → Shown x.setup old.systems old.net
     → FleetRun gives x es old new → PlaysTo gives x (FleetCablesStay es) (recabled_by_all x es) old new
 runs gives x [] old new i z = nothing gives x old new i z
-runs gives x (e ∷ es) old new i z =
-    let a = steps gives x e old z.0 i z.1 in
+runs gives x (e ∷ es) old new i z = let a = steps gives x e old z.0 i z.1 in
     let b = runs gives (recabled_by x e) es z.0 new a.3 z.2 in (
       a.0 ++ b.0,
       runs_joined x a.0 b.0 old.net z.0.net new.net a.1 (subst (λ y. NetworkRun y b.0 z.0.net new.net) (sym a.2) b.1),
@@ -308,11 +297,10 @@ fleet_runs : (gives : FleetAlgorithms) (far : ℕ → ℕ → Option Place) (es 
     × (recabled_all (fleet_setup far start.systems) events ≡ recabled_by_all (fleet_setup far start.systems) es)
     × (FleetCablesStay es → CablesStay events)
     × ((s : ℕ) → end.net.view s ≡ model_view (end.systems s))
-fleet_runs gives far es start end f z =
-    let i : Shown (fleet_setup far start.systems).setup start.systems start.net = record {
-      setup = λ t. refl;
-      view = λ t. ap (λ (w : Network). w.view t) f.1 ∙ sym (first_shows (start.systems t) (f.0 t));
-    } in
+fleet_runs gives far es start end f z = let i : Shown (fleet_setup far start.systems).setup start.systems start.net = record {
+  setup = λ t. refl;
+  view = λ t. ap (λ (w : Network). w.view t) f.1 ∙ sym (first_shows (start.systems t) (f.0 t));
+} in
     grind (arith, runs, fleet_setup)
 
 fleet_setup_is : (far : ℕ → ℕ → Option Place) (systems : ℕ → SystemState) → IsCabled far → IsNetworkSetup (fleet_setup far systems)

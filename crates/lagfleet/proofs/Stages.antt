@@ -62,8 +62,7 @@ acts_view ends stamp accepts (a ∷ more) v w = acts_view ends stamp accepts mor
 })
 
 -- what happens outside leaves the view
-outside_view : (u : SystemSetup) (ends : ℕ → Option ℕ) (e : Happening) (old new : Scene) → IsOutside e → Comes u ends e old new
-    → new.view ≡ old.view
+outside_view : (u : SystemSetup) (ends : ℕ → Option ℕ) (e : Happening) (old new : Scene) → IsOutside e → Comes u ends e old new → new.view ≡ old.view
 outside_view u ends e old new h z = grind arith
 
 module _ (gives : ℕ → ℕ → ℕ → Type 0) (u : SystemSetup) (ends : ℕ → Option ℕ) (f : IsSystemSetup u)
@@ -97,8 +96,7 @@ module _ (gives : ℕ → ℕ → ℕ → Type 0) (u : SystemSetup) (ends : ℕ 
       (comes_kept u ends (Forces agg.0 conv) old.scene before f one i.kept refl) refl refl z
 
   held : (port count : ℕ) (old new : Stage) → Standing u ends old → StageForcesHeld gives port count old new → Standing u ends new
-  held port count old new i z =
-      let test = is_held port old.system in
+  held port count old new i z = let test = is_held port old.system in
       let both = held_freed port old.system new.system z.promise.0 z.promise.2 in
       let seen : model_view new.system ≡ freed_view test old.scene.view = both.0 ∙ ap (freed_view test) (sym i.view) in
       record {
@@ -140,8 +138,7 @@ module _ (gives : ℕ → ℕ → ℕ → Type 0) (u : SystemSetup) (ends : ℕ 
   keeps (Forces_port port (Err fault)) old new n i z = stays old new z.1 i
   keeps (Changes_setting setting answer) old new n i z = plain (Doing.Sets setting answer) ModelCall.Tick 0 takes_all old new i z
   keeps Gives_way old new n i z = absurd (n refl)
-  keeps (Befalls e) old new n i z =
-      let comes = subst (λ (u : SystemSetup). Comes u ends e old.scene new.scene) i.setup z.2 in
+  keeps (Befalls e) old new n i z = let comes = subst (λ (u : SystemSetup). Comes u ends e old.scene new.scene) i.setup z.2 in
       record {
         kept = comes_kept u ends e old.scene new.scene f one i.kept comes;
         counts = counted_comes u ends e old.scene new.scene i.counts comes;
@@ -171,14 +168,12 @@ module _ (gives : ℕ → ℕ → ℕ → Type 0) (u : SystemSetup) (ends : ℕ 
 runs : (gives : ℕ → ℕ → ℕ → Type 0) (ends : ℕ → Option ℕ) → ((c d p : ℕ) → ends c ≡ Some p → ends d ≡ Some p → c ≡ d) → (es : List StageEvent)
     (old new : Stage) → Stood ends old → StageRun gives ends es old new → Stood ends new
 runs gives ends one [] old new i z = subst (Stood ends) (sym z) i
-runs gives ends one (e ∷ es) old new i z =
-    runs gives ends one es z.0 new (steps gives i.0 ends i.1 one e old z.0 i.2 z.1) z.2
+runs gives ends one (e ∷ es) old new i z = runs gives ends one es z.0 new (steps gives i.0 ends i.1 one e old z.0 i.2 z.1) z.2
 
 stood : (gives : ℕ → ℕ → ℕ → Type 0) (ends : ℕ → Option ℕ) (events : List StageEvent) (start end : Stage)
     → ((c d p : ℕ) → ends c ≡ Some p → ends d ≡ Some p → c ≡ d) → IsFirst start.system
     → start.scene ≡ first_scene (model_setup start.system) → StageRun gives ends events start end → Stood ends end
-stood gives ends events start end one first e z =
-    let u = model_setup start.system in
+stood gives ends events start end one first e z = let u = model_setup start.system in
     let f = configured_setup start.system in
     runs gives ends one events start end (
       u,
@@ -192,13 +187,11 @@ stood gives ends events start end one first e z =
     ) z
 
 pub partner_beside : (gives : ℕ → ℕ → ℕ → Type 0) → HoldsBesideAnyPeer gives (λ w. OnePartner w.view)
-partner_beside gives ends events start end one first e z =
-    let i = stood gives ends events start end one first e z in
+partner_beside gives ends events start end one first e z = let i = stood gives ends events start end one first e z in
     (one_partner i.0 end.scene.view i.2.kept.members, i.2.view)
 
 pub order_beside : (gives : ℕ → ℕ → ℕ → Type 0) → HoldsBesideAnyPeer gives OrderHolds
-order_beside gives ends events start end one first e z =
-    let i = stood gives ends events start end one first e z in
+order_beside gives ends events start end one first e z = let i = stood gives ends events start end one first e z in
     (λ g k h. handed_front (i.2.kept.lanes.orderly g k 0 h), i.2.view)
 
 pub took_beside : (gives : ℕ → ℕ → ℕ → Type 0) → HoldsBesideAnyPeer gives TookInSync
@@ -212,11 +205,7 @@ counts_beside gives ends events start end one first e z = grind (arith, stood)
 pub calls_beside : (gives : ℕ → ℕ → ℕ → Type 0) → EachCallBesideAnyPeer gives
 calls_beside gives ends old call answer accepts after stamp promise fits = (
   record { system = after; scene = scene_after_acts ends stamp accepts promise.moves.1 (model_view after) old.scene },
-  (
-    promise.moves.0,
-    promise.moves.2,
-    record { acts = promise.moves.1; does = (promise, inl refl, refl); fits = fits; leaves = refl },
-  ),
+  (promise.moves.0, promise.moves.2, record { acts = promise.moves.1; does = (promise, inl refl, refl); fits = fits; leaves = refl }),
   refl,
   refl,
 )
@@ -252,8 +241,7 @@ module _ (gives : ℕ → ℕ → ℕ → Type 0) (ends : ℕ → Option ℕ) (o
   unchanged : after ≡ old.system → stage after old.scene ≡ old
   unchanged same = ap (λ (s : SystemState). stage s old.scene) same
 
-  each_force : (agg : AggId) (conv : ℕ) (answer : Result Unit SystemFault)
-      → CallPromise gives old.system (Call.Force agg conv) (reply.Force answer) after
+  each_force : (agg : AggId) (conv : ℕ) (answer : Result Unit SystemFault) → CallPromise gives old.system (Call.Force agg conv) (reply.Force answer) after
       → LeadsTo gives ends old (Forces_conversation agg conv answer) after (scene_after_force agg conv answer after old.scene)
   each_force agg conv (Ok done) promise = forced agg conv (Doing.Forces agg conv) done (promise, refl, refl)
   each_force agg conv (Err fault) promise =
@@ -277,8 +265,7 @@ module _ (gives : ℕ → ℕ → ℕ → Type 0) (ends : ℕ → Option ℕ) (o
       let same = refused_same agg conv (system_rest_result old.system agg conv) fault old.system after promise.0 in
       (subst (HostPromise gives old.system (host.Rest agg conv) (told.Rest (Err fault))) same promise, unchanged same)
   each_host_call (host.ForcePort port) (told.ForcePort (Ok count)) accepts h promise = record { promise = promise; leaves = refl }
-  each_host_call (host.ForcePort port) (told.ForcePort (Err fault)) accepts h promise =
-      let same = promise.1.same in
+  each_host_call (host.ForcePort port) (told.ForcePort (Err fault)) accepts h promise = let same = promise.1.same in
       (subst (HostPromise gives old.system (host.ForcePort port) (told.ForcePort (Err fault))) same promise, unchanged same)
   each_host_call (host.Call call) answer accepts h promise = absurd h
   each_host_call call answer accepts h promise = absurd promise
@@ -303,8 +290,7 @@ waits_not_on : (p q n : ℕ) → Flushing p n ≡ On q → ⊥
 waits_not_on p q n e = cc
 
 pub gives_way_beside : (gives : ℕ → ℕ → ℕ → Type 0) → MayGiveWayToItself gives
-gives_way_beside gives ends events start end one first e z on =
-    let i = stood gives ends events start end one first e z in
+gives_way_beside gives ends events start end one first e z on = let i = stood gives ends events start end one first e z in
     let own : IsSuccessor i.0 end.scene.view end.scene.taken end.scene.view = record {
       members = i.2.kept.members;
       heard = i.2.kept.heard;

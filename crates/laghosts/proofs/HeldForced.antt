@@ -37,13 +37,8 @@ once_more true false u c x = refl
 once_more false b u c x = refl
 
 -- one more is forced
-one_more : (x : WorldSetup) (s : Side) (p : ℕ × ℕ) (xs : List (ℕ × ℕ)) (w : World)
-    → Happens x (Event.Force s p.0 p.1) (freed s xs w) (freed s (p ∷ xs) w)
-one_more x s p xs w = inr (
-  (Flow (Become p.0 p.1 Forced), true) ∷ [],
-  (refl, tt),
-  (w.count, counts s, same s),
-)
+one_more : (x : WorldSetup) (s : Side) (p : ℕ × ℕ) (xs : List (ℕ × ℕ)) (w : World) → Happens x (Event.Force s p.0 p.1) (freed s xs w) (freed s (p ∷ xs) w)
+one_more x s p xs w = inr ((Flow (Become p.0 p.1 Forced), true) ∷ [], (refl, tt), (w.count, counts s, same s))
   where
     after : Side → World
     after s = world_after_all x s 0 ((Flow (Become p.0 p.1 Forced), true) ∷ [])
@@ -56,15 +51,9 @@ one_more x s p xs w = inr (
     counts Two Two p = inl (refl, refl)
 
     view : (v : View) → freed_view (p ∷ xs) v ≡ record v {
-      flows = record (v.flows) {
-        state = at_conversation (λ g k. cond (among xs g k) Free (v.flows.state g k)) p.0 p.1 Free;
-      };
+      flows = record (v.flows) { state = at_conversation (λ g k. cond (among xs g k) Free (v.flows.state g k)) p.0 p.1 Free };
     }
-    view v = λ i. record v {
-      flows = record (v.flows) {
-        state = λ g k. once_more (eqb g p.0) (eqb k p.1) (among xs g k) Free (v.flows.state g k) i;
-      };
-    }
+    view v = λ i. record v { flows = record (v.flows) { state = λ g k. once_more (eqb g p.0) (eqb k p.1) (among xs g k) Free (v.flows.state g k) i } }
 
     views : (s t : Side) → (freed s (p ∷ xs) w).view t ≡ (after s).view t
     views One One = view (w.view One)
@@ -161,8 +150,7 @@ from_row test g (suc k) h j e = elim (from_first (test g k) (g, k) (row_of test 
   | inr x ↦ from_row test g k h j x
 ]
 
-in_passing : (test : ℕ → ℕ → Bool) (aggs count g k : ℕ) → 0 < g → g ≤ aggs → k < count → test g k ≡ true
-    → among (passing test aggs count) g k ≡ true
+in_passing : (test : ℕ → ℕ → Bool) (aggs count g k : ℕ) → 0 < g → g ≤ aggs → k < count → test g k ≡ true → among (passing test aggs count) g k ≡ true
 unfolding passing
 in_passing test zero count g k low high l h = absurd (omega (arith, low, high))
 in_passing test (suc a) count g k low high l h = elim (cases_Bool (eqb g (suc a))) [
@@ -182,8 +170,7 @@ in_passing test (suc a) count g k low high l h = elim (cases_Bool (eqb g (suc a)
 from_passing : (test : ℕ → ℕ → Bool) (aggs count g k : ℕ) → among (passing test aggs count) g k ≡ true → test g k ≡ true
 unfolding passing
 from_passing test zero count g k e = absurd (true≢false (sym e))
-from_passing test (suc a) count g k e =
-    elim (one_of (among (row_of test (suc a) count) g k) (among (passing test a count) g k)
+from_passing test (suc a) count g k e = elim (one_of (among (row_of test (suc a) count) g k) (among (passing test a count) g k)
     (sym (among_append (row_of test (suc a) count) (passing test a count) g k) ∙ e)) [
       | inl x ↦ from_row test (suc a) count g k x
       | inr x ↦ from_passing test a count g k x

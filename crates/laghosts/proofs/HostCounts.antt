@@ -28,12 +28,11 @@ held_parts port s g k h =
 
 in_range : (s : SystemState) (g k : ℕ) → has_aggregator s (aggregator_numbered g) ≡ true → nat_lt k (conversation_count s) ≡ true
     → (0 < g) × (g ≤ length s.keys) × (k < conversation_count s)
-in_range s g k a b =
-    let two = and_parts (nat_lt 0 g) (nat_le g (length s.keys)) a in (
-      let e = two.0 in grind (arith, nat_tests),
-      let e = two.1 in grind (arith, nat_tests),
-      grind (arith, nat_tests),
-    )
+in_range s g k a b = let two = and_parts (nat_lt 0 g) (nat_le g (length s.keys)) a in (
+  let e = two.0 in grind (arith, nat_tests),
+  let e = two.1 in grind (arith, nat_tests),
+  grind (arith, nat_tests),
+)
 
 pub among_held : (port : ℕ) (s : SystemState) (g k : ℕ) → among (held_in port s) g k ≡ is_held port s g k
 among_held port s g k = are_passing (is_held port s) (length s.keys) (conversation_count s)
@@ -55,14 +54,12 @@ not_held port (state.Flushing given id preferred age) h = rw h refl
 
 conversation_there : (s : SystemState) (g k : ℕ) → HasConversations s → has_aggregator s (aggregator_numbered g) ≡ true
     → nat_lt k (conversation_count s) ≡ true → IsConversation s.table g k
-conversation_there s g k c a b =
-    let r = in_range s g k a b in
+conversation_there s g k c a b = let r = in_range s g k a b in
     (r.0, subst (λ n. g ≤ n) (sym c.aggregators) r.1, subst (λ n. k < n) (sym c.conversations) r.2)
 
 there_both : (s : SystemState) (g k : ℕ) → HasConversations s → IsConversation s.table g k
     → (has_aggregator s (aggregator_numbered g) ≡ true) × (nat_lt k (conversation_count s) ≡ true)
-there_both s g k c h =
-    let high : g ≤ length s.keys = subst (λ n. g ≤ n) c.aggregators h.1 in
+there_both s g k c h = let high : g ≤ length s.keys = subst (λ n. g ≤ n) c.aggregators h.1 in
     let small : k < conversation_count s = subst (λ n. k < n) c.conversations h.2 in
     let low : 0 < g = h.0 in (grind (arith, nat_tests), grind (arith, nat_tests))
 
@@ -83,8 +80,7 @@ unforced port old new g k c f h = elim (cases_Bool (has_aggregator old (aggregat
 ]
 
 conversation_seen : (port : ℕ) (old new : SystemState) (g k : ℕ) → HasConversations old → FreesHeld port old new
-    → model_conversation (assignment_of new.table g k)
-    ≡ cond (among (held_in port old) g k) Free (model_conversation (assignment_of old.table g k))
+    → model_conversation (assignment_of new.table g k) ≡ cond (among (held_in port old) g k) Free (model_conversation (assignment_of old.table g k))
 conversation_seen port old new g k c f =
     subst (λ b. model_conversation (assignment_of new.table g k) ≡ cond b Free (model_conversation (assignment_of old.table g k)))
     (sym (among_held port old g k)) (elim (cases_Bool (is_held port old g k)) [
@@ -97,14 +93,8 @@ conversation_seen port old new g k c f =
 -- what the law sees of the system
 pub view_seen : (port : ℕ) (old new : SystemState) → HasConversations old → FreesHeld port old new
     → model_view new ≡ freed_view (held_in port old) (model_view old)
-view_seen port old new c f =
-    ap model_view f.others
-    ∙ (λ i. record (model_view old) {
-      flows = record {
-        state = λ g k. conversation_seen port old new g k c f i;
-        next = f.next i;
-      };
-    })
+view_seen port old new c f = ap model_view f.others
+    ∙ (λ i. record (model_view old) { flows = record { state = λ g k. conversation_seen port old new g k c f i; next = f.next i } })
 
 -- ---- the record of a conversation
 
@@ -127,8 +117,7 @@ forced_now (Some x) h = more x.forced
 flow_seen : (port : ℕ) (old : HalfState) (g k : ℕ) → IsHalfSound old
     → forced_in (option_map (forced_if (is_held port old.state g k)) (flow_at old.flows g k))
     ≡ cond (among (held_in port old.state) g k) true (forced_in (flow_at old.flows g k))
-flow_seen port old g k i =
-    subst (λ b. forced_in (option_map (forced_if (is_held port old.state g k)) (flow_at old.flows g k))
+flow_seen port old g k i = subst (λ b. forced_in (option_map (forced_if (is_held port old.state g k)) (flow_at old.flows g k))
     ≡ cond b true (forced_in (flow_at old.flows g k)))
     (sym (among_held port old.state g k)) (elim (cases_Bool (is_held port old.state g k)) [
       | inl h ↦ (let p = held_parts port old.state g k h in
@@ -150,12 +139,10 @@ still_there b (Some x) h = refl
 
 -- ---- the world
 
-pub held_world : (s : Side) (port : ℕ) (mid last : HalfState) (old : WorldState) → IsHalfSound (half s old)
-    → HasConversations (half s old).state → mid ≡ with_state mid.state (half s old) → FreesHeld port (half s old).state mid.state
-    → CountsHeld port (half s old).state mid last
+pub held_world : (s : Side) (port : ℕ) (mid last : HalfState) (old : WorldState) → IsHalfSound (half s old) → HasConversations (half s old).state
+    → mid ≡ with_state mid.state (half s old) → FreesHeld port (half s old).state mid.state → CountsHeld port (half s old).state mid last
     → model_world (with_half s last old) ≡ freed s (held_in port (half s old).state) (model_world old)
-held_world s port mid last old i c same f counts =
-    let xs = held_in port (half s old).state in
+held_world s port mid last old i c same f counts = let xs = held_in port (half s old).state in
     let histories : last.histories ≡ (half s old).histories = counts.histories ∙ ap (λ (h : HalfState). h.histories) same in
     let flows : (g k : ℕ) → flow_at last.flows g k
     ≡ option_map (forced_if (is_held port (half s old).state g k)) (flow_at (half s old).flows g k) =
@@ -177,11 +164,9 @@ held_world s port mid last old i c same f counts =
     (λ t g k. ap (λ (f : ℕ → ℕ → Bool). f g k) (half_after (λ x g k. forced_in (flow_at x.flows g k)) s last old t
     ∙ ap (λ v. at_side (model_world old).forced s v t) now))
 
-pub held_happen : (s : Side) (port : ℕ) (mid last : HalfState) (old : WorldState) → IsHalfSound (half s old)
-    → HasConversations (half s old).state → mid ≡ with_state mid.state (half s old) → FreesHeld port (half s old).state mid.state
-    → CountsHeld port (half s old).state mid last
+pub held_happen : (s : Side) (port : ℕ) (mid last : HalfState) (old : WorldState) → IsHalfSound (half s old) → HasConversations (half s old).state
+    → mid ≡ with_state mid.state (half s old) → FreesHeld port (half s old).state mid.state → CountsHeld port (half s old).state mid last
     → Run (world_setup old) (forcing s (held_in port (half s old).state)) (model_world old) (model_world (with_half s last old))
-held_happen s port mid last old i c same f counts =
-    let xs = held_in port (half s old).state in
+held_happen s port mid last old i c same f counts = let xs = held_in port (half s old).state in
     subst (Run (world_setup old) (forcing s xs) (model_world old)) (sym (held_world s port mid last old i c same f counts))
     (all_forced (world_setup old) s xs (model_world old))

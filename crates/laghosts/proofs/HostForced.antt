@@ -16,8 +16,7 @@ use Rattle.laghosts.proofs.HostHappens.{offered_joint}
 
 -- ---- the events of the law
 
-moves_keep : (x : WorldSetup) (s : Side) (stamp : ℕ) (ms : List (Move × Bool)) (w : World)
-    → (world_after_all x s stamp ms w).forced ≡ w.forced
+moves_keep : (x : WorldSetup) (s : Side) (stamp : ℕ) (ms : List (Move × Bool)) (w : World) → (world_after_all x s stamp ms w).forced ≡ w.forced
 moves_keep x s stamp [] w = refl
 moves_keep x s stamp (m ∷ ms) w = moves_keep x s stamp ms (world_after x s stamp m w)
 
@@ -30,8 +29,7 @@ handed_keeps up (Control pdu stamp) w = refl
 handed_keeps true (Data origin g k serial) w = refl
 handed_keeps false (Data origin g k serial) w = refl
 
-receives_keep : (x : WorldSetup) (s : Side) (p : ℕ) (m : Message) (old mid new : World) → Receives x s p m old mid new
-    → new.forced ≡ mid.forced
+receives_keep : (x : WorldSetup) (s : Side) (p : ℕ) (m : Message) (old mid new : World) → Receives x s p m old mid new → new.forced ≡ mid.forced
 receives_keep x s p (Control pdu stamp) old mid new h = call_keeps x s (ModelEvent.Receive p (Some pdu)) stamp old mid new h
 receives_keep x s p (Data origin g k serial) old mid new h =
     call_keeps x s (ModelEvent.Receive p None) 0 old (handed_up h.0 (Data origin g k serial) mid) new h.1
@@ -54,8 +52,7 @@ loses_keep : (c : ℕ) (to : Side) (ms : List Message) (old new : World) → Los
 loses_keep c to [] old new h = ap (λ (w : World). w.forced) h
 loses_keep c to (m ∷ ms) old new h = ap (λ (w : World). w.forced) h
 
-senses_keep : (x : WorldSetup) (s : Side) (o : Option ℕ) (up : Bool) (old new : World) → Told_senses x s o up old new
-    → new.forced ≡ old.forced
+senses_keep : (x : WorldSetup) (s : Side) (o : Option ℕ) (up : Bool) (old new : World) → Told_senses x s o up old new → new.forced ≡ old.forced
 senses_keep x s None up old new h = absurd h
 senses_keep x s (Some p) up old new h = call_keeps x s (ModelEvent.Set_link p up) 0 old old new h
 
@@ -81,10 +78,7 @@ others_keep x (Happening.Force s g k) old new never h = absurd (never tt)
 
 at_one : (f : ℕ → ℕ → Bool) (g k h j : ℕ) → at_two f g k true h j ≡ true → (f h j ≡ true) ⊎ ((g ≡ h) × (k ≡ j))
 at_one f g k h j e = elim (cases_Bool (eqb h g)) [
-  | inl a ↦ elim (cases_Bool (eqb j k)) [
-    | inl b ↦ inr (sym (eqb-true h g a), sym (eqb-true j k b))
-    | inr b ↦ inl (rw (a, b) at e)
-  ]
+  | inl a ↦ elim (cases_Bool (eqb j k)) [ inl b ↦ inr (sym (eqb-true h g a), sym (eqb-true j k b)) | inr b ↦ inl (rw (a, b) at e) ]
   | inr a ↦ inl (rw a at e)
 ]
 
@@ -107,8 +101,7 @@ same_forced : (old new : World) (s : Side) (g k : ℕ) → new.forced ≡ old.fo
 same_forced old new s g k e f = sym (ap (λ (f : Side → ℕ → ℕ → Bool). f s g k) e) ∙ f
 
 played : (gives : Algorithms) (e : Event) (r : Reply) (old new : WorldState) (s : Side) (g k : ℕ) → WorldSteps gives old e r new → IsSound old
-    → forced_in (flow_at (half s new).flows g k) ≡ true
-    → (forced_in (flow_at (half s old).flows g k) ≡ true) ⊎ MayForce (Plays e) s g k old
+    → forced_in (flow_at (half s new).flows g k) ≡ true → (forced_in (flow_at (half s old).flows g k) ≡ true) ⊎ MayForce (Plays e) s g k old
 played gives (event.Force n agg conv) r old new s g k x i f =
     let there : side_of n ≡ Some (side_numbered n) = side_there n (some_there (side_of n) _ x.0) in
     elim (force_keeps (world_setup old) (side_numbered n) agg.0 conv (model_world old) (model_world new) s g k
@@ -140,16 +133,14 @@ beside_forced s h old t g k e f = sym (kept_at (is_forced g k) s h old e t) ∙ 
 offer_forced : (s : Side) (agg : AggId) (conv : ℕ) (octets : List ℕ) (a : Result ℕ SystemFault) (mid : HalfState) (old new : WorldState)
     (t : Side) (g k : ℕ) → mid.flows ≡ (half s old).flows → AfterNumberedOffer s agg conv octets a (with_half s mid old) new
     → is_forced g k (half t new) ≡ true → is_forced g k (half t old) ≡ true
-offer_forced s agg conv octets (Ok port) mid old new t g k same y f =
-    beside_forced s (with_sent_in agg.0 conv mid) old t g k
+offer_forced s agg conv octets (Ok port) mid old new t g k same y f = beside_forced s (with_sent_in agg.0 conv mid) old t g k
     (read_same forced_in with_sent agg.0 conv mid.flows (λ x. refl) g k ∙ ap (λ l. forced_in (flow_at l g k)) same)
     (sym (ap (λ j. is_forced g k (half t j)) (y ∙ offered_joint s agg conv octets port mid old)) ∙ f)
 offer_forced s agg conv octets (Err fault) mid old new t g k same y f =
     beside_forced s mid old t g k (ap (λ l. forced_in (flow_at l g k)) same) (sym (ap (λ j. is_forced g k (half t j)) y) ∙ f)
 
-probe_forced : (s : Side) (port : ℕ) (a : Result (Option (List ℕ)) SystemFault) (mid : HalfState) (old new : WorldState)
-    (t : Side) (g k : ℕ) → mid.flows ≡ (half s old).flows → AfterProbe s port a (with_half s mid old) new
-    → is_forced g k (half t new) ≡ true → is_forced g k (half t old) ≡ true
+probe_forced : (s : Side) (port : ℕ) (a : Result (Option (List ℕ)) SystemFault) (mid : HalfState) (old new : WorldState) (t : Side) (g k : ℕ)
+    → mid.flows ≡ (half s old).flows → AfterProbe s port a (with_half s mid old) new → is_forced g k (half t new) ≡ true → is_forced g k (half t old) ≡ true
 probe_forced s port (Ok (Some frame)) mid old new t g k same y f =
     beside_forced s mid old t g k (ap (λ l. forced_in (flow_at l g k)) same) (sym (ap (λ j. is_forced g k (half t j)) y) ∙ f)
 probe_forced s port (Ok None) mid old new t g k same y f =

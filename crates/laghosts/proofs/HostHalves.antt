@@ -36,8 +36,7 @@ beside_on old new e same k = table_on old new e (ap (λ (h : HalfState). h.histo
 -- a conversation that there is has its record
 pub flow_there : (h : HalfState) (agg : AggId) (conv : ℕ) → IsHalfSound h → has_aggregator h.state agg ≡ true
     → nat_lt conv (conversation_count h.state) ≡ true → IsSome (flow_at h.flows agg.0 conv)
-flow_there h agg conv k a b =
-    let two = and_parts (nat_lt 0 agg.0) (nat_le agg.0 (length h.state.keys)) a in
+flow_there h agg conv k a b = let two = and_parts (nat_lt 0 agg.0) (nat_le agg.0 (length h.state.keys)) a in
     k.flows agg.0 conv (let e = two.0 in grind (arith, nat_tests)) (let e = two.1 in grind (arith, nat_tests)) (grind (arith, nat_tests))
 
 -- an offer that is answered with a port names an aggregator and a conversation that there are
@@ -66,8 +65,7 @@ port_keys (Some i) already change old new h = elim h [
   | inr settled ↦ settled_keys settled.0 new settled.2 ∙ ap (λ (s : SystemState). s.keys) settled.1.1
 ]
 
-setting_keys : (old : SystemState) (setting : Setting) (a : Result Unit SystemFault) (new : SystemState) → SettingStep old setting a new
-    → new.keys ≡ old.keys
+setting_keys : (old : SystemState) (setting : Setting) (a : Result Unit SystemFault) (new : SystemState) → SettingStep old setting a new → new.keys ≡ old.keys
 setting_keys old (Setting.Hold_port n held) (Ok done) new h =
     port_keys (port_index n old.system_ports) (is_held_so held) (with_held held) old new h
 setting_keys old (Setting.Hold_port n held) (Err fault) new h = ap (λ (s : SystemState). s.keys) h.same
@@ -87,10 +85,8 @@ setting_party setting a old new x p = sym (party_seen new p)
     ∙ parties_same (model_setup old) ModelCall.Tick (model_view old) (model_view new) [] (λ e. cc) refl x.moves p ∙ party_seen old p
 
 -- so a setting leaves the histories and the records
-pub setting_on : (setting : Setting) (a : Result Unit SystemFault) (old new : HalfState) → HalfSets setting a old new → IsHalfSound old
-    → GoesOn 0 old new
-setting_on setting a old new x k =
-    let logs : new.histories ≡ old.histories = ap (λ (h : HalfState). h.histories) x.same in
+pub setting_on : (setting : Setting) (a : Result Unit SystemFault) (old new : HalfState) → HalfSets setting a old new → IsHalfSound old → GoesOn 0 old new
+setting_on setting a old new x k = let logs : new.histories ≡ old.histories = ap (λ (h : HalfState). h.histories) x.same in
     let flows : new.flows ≡ old.flows = ap (λ (h : HalfState). h.flows) x.same in
     let party = setting_party setting a old.state new.state x.answers in record {
       kept = record {

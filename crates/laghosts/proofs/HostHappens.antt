@@ -33,8 +33,7 @@ pub record IsFollowed (old new : WorldState) : Type 0 where
   pub events : List Event
   pub run : Run (world_setup old) events (model_world old) (model_world new)
 
-one_event : (e : Event) (old new : WorldState) → Follows 0 old new → Happens (world_setup old) e (model_world old) (model_world new)
-    → IsFollowed old new
+one_event : (e : Event) (old new : WorldState) → Follows 0 old new → Happens (world_setup old) e (model_world old) (model_world new) → IsFollowed old new
 one_event e old new f h = record { follows = f; events = e ∷ []; run = (model_world new, h, refl) }
 
 -- a refusal leaves the world as it was
@@ -42,8 +41,7 @@ half_same : (old mid : HalfState) → mid ≡ with_state mid.state old → mid.s
 half_same old mid same e = same ∙ ap (λ (s : SystemState). with_state s old) e
 
 no_event : (s : Side) (mid : HalfState) (old new : WorldState) → IsShaped old → mid ≡ half s old → new ≡ with_half s mid old → IsFollowed old new
-no_event s mid old new i e y =
-    let same : new ≡ old = y ∙ ap (λ h. with_half s h old) e ∙ with_itself s old in
+no_event s mid old new i e y = let same : new ≡ old = y ∙ ap (λ h. with_half s h old) e ∙ with_itself s old in
     record { follows = follows_same old new i same; events = []; run = ap model_world same }
 
 -- ---- a frame is offered by the number of its conversation
@@ -93,12 +91,10 @@ offer_happens gives s agg conv octets port mid old new one k x y =
     (told_moves (half s old).state mid.state m.2 (m.3 ∙ ap (λ n. Sends_frame port agg.0 n ∷ []) named.1) m.4)
     (λ q. ap change_count_in (history_kept asked q))
 
-offer_follows : (gives : ℕ → ℕ → ℕ → Type 0) (s : Side) (agg : AggId) (conv : ℕ) (octets : List ℕ) (port : ℕ) (mid : HalfState)
-    (old new : WorldState) → IsShaped old → (IsSlowProtocolsFrame octets → ⊥)
-    → HalfTells gives (host.OfferConversation agg conv) (told.OfferConversation (Ok port)) (half s old) mid
+offer_follows : (gives : ℕ → ℕ → ℕ → Type 0) (s : Side) (agg : AggId) (conv : ℕ) (octets : List ℕ) (port : ℕ) (mid : HalfState) (old new : WorldState)
+    → IsShaped old → (IsSlowProtocolsFrame octets → ⊥) → HalfTells gives (host.OfferConversation agg conv) (told.OfferConversation (Ok port)) (half s old) mid
     → AfterNumberedOffer s agg conv octets (Ok port) (with_half s mid old) new → Follows 0 old new
-offer_follows gives s agg conv octets port mid old new i fast x y =
-    let k = i.kept s in
+offer_follows gives s agg conv octets port mid old new i fast x y = let k = i.kept s in
     let known = offered_there (has_aggregator (half s old).state agg) (nat_lt conv (conversation_count (half s old).state)) gives agg conv
     (half s old).state port mid.state x.answers.0 in
     let alone = host_alone gives (half s old).state (host.OfferConversation agg conv) (told.OfferConversation (Ok port)) mid.state x.answers tt in
@@ -157,8 +153,7 @@ silent_probe gives s port a mid old new i x none y = one_event (Event.Emit s por
 marker_probe : (gives : ℕ → ℕ → ℕ → Type 0) (s : Side) (port : ℕ) (frame : List ℕ) (mid : HalfState) (old new : WorldState) → IsShaped old
     → IsCabling (world_setup old).cables → HalfTells gives (host.Probe port) (told.Probe (Ok (Some frame))) (half s old) mid
     → AfterProbe s port (Ok (Some frame)) (with_half s mid old) new → IsFollowed old new
-marker_probe gives s port frame mid old new i one x y =
-    let v = pdu_in (payload_in frame) in
+marker_probe gives s port frame mid old new i one x y = let v = pdu_in (payload_in frame) in
     let j = with_half s mid old in
     let h = half s j in
     let item = transmitted_item s port frame h in
@@ -196,8 +191,7 @@ rest_followed gives s agg conv (Ok done) mid old new i x y =
     (subst (Follows 0 old) (sym y) (forces s agg conv (Ok done) mid old i on))
     (subst (λ j. Happens (world_setup old) (Event.Force s agg.0 conv) (model_world old) (model_world j)) (sym y)
     (forced_by gives s agg conv (Ok tt) mid old (λ done e. forced_there (half s old) agg conv tt mid.state (i.kept s) asked.answers.step) asked))
-rest_followed gives s agg conv (Err fault) mid old new i x y =
-    no_event s mid old new i (half_same (half s old) mid x.same
+rest_followed gives s agg conv (Err fault) mid old new i x y = no_event s mid old new i (half_same (half s old) mid x.same
     (refused_same agg conv (system_rest_result (half s old).state agg conv) fault (half s old).state mid.state x.answers.0)) y
 
 -- ---- what is held on a port is forced
@@ -205,8 +199,7 @@ rest_followed gives s agg conv (Err fault) mid old new i x y =
 pub force_port_followed : (gives : ℕ → ℕ → ℕ → Type 0) (s : Side) (port : ℕ) (a : Result ℕ SystemFault) (mid last : HalfState)
     (old new : WorldState) → IsShaped old → HalfTells gives (host.ForcePort port) (told.ForcePort a) (half s old) mid
     → CountsHeldIfOk a port (half s old).state mid last → new ≡ with_half s last old → IsFollowed old new
-force_port_followed gives s port (Ok count) mid last old new i x c y =
-    let frees = x.answers.2 in
+force_port_followed gives s port (Ok count) mid last old new i x c y = let frees = x.answers.2 in
     let flows : (g k : ℕ) → IsSome (flow_at (half s old).flows g k) → IsSome (flow_at last.flows g k) =
     λ g k h. subst IsSome (sym (c.flows g k
     ∙ ap (λ (h : HalfState). option_map (forced_if (is_held port (half s old).state g k)) (flow_at h.flows g k)) x.same))

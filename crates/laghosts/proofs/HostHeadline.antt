@@ -16,8 +16,7 @@ offer_acted : (s : Side) (agg : AggId) (conv : ℕ) (octets : List ℕ) (a : Res
 offer_acted s agg conv octets (Ok port) j new y = ap (λ (j : WorldState). j.acted) y
 offer_acted s agg conv octets (Err fault) j new y = ap (λ (j : WorldState). j.acted) y
 
-probe_acted : (s : Side) (port : ℕ) (a : Result (Option (List ℕ)) SystemFault) (j new : WorldState) → AfterProbe s port a j new
-    → new.acted ≡ j.acted
+probe_acted : (s : Side) (port : ℕ) (a : Result (Option (List ℕ)) SystemFault) (j new : WorldState) → AfterProbe s port a j new → new.acted ≡ j.acted
 probe_acted s port (Ok (Some frame)) j new y = ap (λ (j : WorldState). j.acted) y
 probe_acted s port (Ok None) j new y = ap (λ (j : WorldState). j.acted) y
 probe_acted s port (Err fault) j new y = ap (λ (j : WorldState). j.acted) y
@@ -36,22 +35,20 @@ reached_by events old new f h r =
     )
 
 followed_kept : (old new : WorldState) → IsSound old → IsFollowed old new → new.acted ≡ old.acted → Kept old new
-followed_kept old new i x same =
-    let f = x.follows in record {
-      sound = record {
-        kept = f.shaped.kept;
-        cabling = subst (λ (y : WorldSetup). IsCabling y.cables) (sym f.fixed) i.cabling;
-        items = f.shaped.items;
-        ends = f.shaped.ends;
-        few = subst (λ n. n ≤ most_events) (sym same) i.few;
-        counts = λ s. f.counts s old.acted new.acted (omega (arith, same)) (i.counts s);
-        reached = reached_by x.events old new f.fixed x.run i.reached;
-      };
-      fixed = f.fixed;
-    }
+followed_kept old new i x same = let f = x.follows in record {
+  sound = record {
+    kept = f.shaped.kept;
+    cabling = subst (λ (y : WorldSetup). IsCabling y.cables) (sym f.fixed) i.cabling;
+    items = f.shaped.items;
+    ends = f.shaped.ends;
+    few = subst (λ n. n ≤ most_events) (sym same) i.few;
+    counts = λ s. f.counts s old.acted new.acted (omega (arith, same)) (i.counts s);
+    reached = reached_by x.events old new f.fixed x.run i.reached;
+  };
+  fixed = f.fixed;
+}
 
-step_kept : (gives : Algorithms) (e : HostEvent) (old new : WorldState) → IsSound old → new.acted ≤ most_events → HostSteps gives old e new
-    → Kept old new
+step_kept : (gives : Algorithms) (e : HostEvent) (old new : WorldState) → IsSound old → new.acted ≤ most_events → HostSteps gives old e new → Kept old new
 step_kept gives (Plays e) old new i few x = record {
   sound = steps_sound gives e x.0 old new i (accepted gives e x.0 old new x.1 few) x.1;
   fixed = steps_fixed gives e x.0 old new i x.1;
@@ -86,19 +83,15 @@ step_rises gives (Sets s setting) old new x = same_count old.acted new.acted (ap
 
 run_rises : (gives : Algorithms) (es : List HostEvent) (old new : WorldState) → HostRuns gives old es new → old.acted ≤ new.acted
 run_rises gives [] old new h = same_count old.acted new.acted (ap (λ (j : WorldState). j.acted) h)
-run_rises gives (e ∷ es) old new h =
-    let first = step_rises gives e old h.0 h.1 in
+run_rises gives (e ∷ es) old new h = let first = step_rises gives e old h.0 h.1 in
     let rest = run_rises gives es h.0 new h.2 in omega (arith, first, rest)
 
-run_kept : (gives : Algorithms) (es : List HostEvent) (old new : WorldState) → HostRuns gives old es new → IsSound old
-    → new.acted ≤ most_events → Kept old new
+run_kept : (gives : Algorithms) (es : List HostEvent) (old new : WorldState) → HostRuns gives old es new → IsSound old → new.acted ≤ most_events → Kept old new
 run_kept gives [] old new h i few = record { sound = subst IsSound (sym h) i; fixed = ap world_setup h }
-run_kept gives (e ∷ es) old new h i few =
-    let above = run_rises gives es h.0 new h.2 in
+run_kept gives (e ∷ es) old new h i few = let above = run_rises gives es h.0 new h.2 in
     let one = step_kept gives e old h.0 i (omega (arith, above, few)) h.1 in
     let more = run_kept gives es h.0 new h.2 one.sound few in record { sound = more.sound; fixed = more.fixed ∙ one.fixed }
 
 pub hosts_keep_headline : (gives : Algorithms) → HostsKeepHeadline gives
-hosts_keep_headline gives es old new h i few =
-    let k = run_kept gives es old new h i few in
+hosts_keep_headline gives es old new h i few = let k = run_kept gives es old new h i few in
     record { sound = k.sound; fixed = k.fixed; headline = headline_of new k.sound; carries = carries_of new k.sound }

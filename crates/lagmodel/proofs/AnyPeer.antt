@@ -30,8 +30,7 @@ lanes_kept u ends w i v e f l = grind arith
 moves_kept : (u : SystemSetup) (ends : ℕ → Option ℕ) (call : ModelCall) (stamp : ℕ) (ms : List (Move × Bool)) (old new : Scene)
     → Within call stamp ends old.back old.whole old.forced → Kept u ends old → Moves u ends call stamp ms old new → Kept u ends new
 moves_kept u ends call stamp [] old new w i z = subst (Kept u ends) (sym z) i
-moves_kept u ends call stamp (m ∷ ms) old new w i z =
-    moves_kept u ends call stamp ms (scene_after u ends stamp m old) new w
+moves_kept u ends call stamp (m ∷ ms) old new w i z = moves_kept u ends call stamp ms (scene_after u ends stamp m old) new w
     (record {
       lanes = lanes_own One ends old.whole old.collected old.forced old.back u call stamp (λ p. 0) m.1 old.view m.0 old.out old.sent z.0 w
           i.lanes;
@@ -88,16 +87,9 @@ pub partner_with_any_peer : HoldsWithAnyPeer (λ w. OnePartner w.view)
 partner_with_any_peer u ends es w f one z = one_partner u w.view (kept u ends es w f one z).members
 
 pub took_from_any_peer : HoldsWithAnyPeer TookInSync
-took_from_any_peer u ends es w f one z p a h d n =
-    let i = kept u ends es w f one z in
+took_from_any_peer u ends es w f one z p a h d n = let i = kept u ends es w f one z in
     let r = i.heard p a h n in
-    let y = r.3 ((i.members.member p a h d).1) in (
-      r.0,
-      r.1,
-      r.2,
-      y.0,
-      y.1,
-    )
+    let y = r.3 ((i.members.member p a h d).1) in (r.0, r.1, r.2, y.0, y.1)
 
 -- ---- each lawful call is a happening that leaves what its visible acts leave
 
@@ -127,8 +119,7 @@ module _ (u : SystemSetup) (ends : ℕ → Option ℕ) (call : ModelCall) (stamp
   all_moves : (ms : List Move) (w : Scene) → AllAllowed u call w.view ms → (moves : List (Move × Bool))
       × Moves u ends call stamp moves w (scene_after_acts ends stamp accepts (acts u ms w.view) (view_after_all u ms w.view) w)
   all_moves [] w h = ([], refl)
-  all_moves (m ∷ ms) w h =
-      let o = act u m w.view in
+  all_moves (m ∷ ms) w h = let o = act u m w.view in
       let r = all_moves ms (shown o (view_after u m w.view) w) h.1 in (
         (m, accepted accepts o) ∷ r.0,
         (
@@ -139,16 +130,15 @@ module _ (u : SystemSetup) (ends : ℕ → Option ℕ) (call : ModelCall) (stamp
       )
 
 pub each_call_is_one : EachCallIsOne
-each_call_is_one u ends call stamp accepts seen old v h fits =
-    let r = all_moves u ends call stamp accepts h.0 old h.1 in (
-      r.0,
-      (
-        fits,
-        subst (λ (seen : List Act). Moves u ends call stamp r.0 old (scene_after_acts ends stamp accepts seen v old)) h.2
-            (subst (λ (v : View). Moves u ends call stamp r.0 old (scene_after_acts ends stamp accepts (acts u h.0 old.view) v old)) (sym h.3)
-            r.1),
-      ),
-    )
+each_call_is_one u ends call stamp accepts seen old v h fits = let r = all_moves u ends call stamp accepts h.0 old h.1 in (
+  r.0,
+  (
+    fits,
+    subst (λ (seen : List Act). Moves u ends call stamp r.0 old (scene_after_acts ends stamp accepts seen v old)) h.2
+        (subst (λ (v : View). Moves u ends call stamp r.0 old (scene_after_acts ends stamp accepts (acts u h.0 old.view) v old)) (sym h.3)
+        r.1),
+  ),
+)
 
 -- ---- serials count from zero
 

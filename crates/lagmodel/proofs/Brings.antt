@@ -8,8 +8,7 @@ abbrev brought : ModelCall → Option ControlMessage
 brought (Receive p pdu) = pdu
 brought _ = None
 
-there : (u : SystemSetup) (n : ℕ) (came : Option ControlMessage) (ports : ℕ → Option PortFacts) (p : ℕ)
-    (m : PortMove) (o : Option PortFacts)
+there : (u : SystemSetup) (n : ℕ) (came : Option ControlMessage) (ports : ℕ → Option PortFacts) (p : ℕ) (m : PortMove) (o : Option PortFacts)
     → IsSomeAnd o (PortAllowed u (Receive n None) ports p m) → IsSomeAnd o (PortAllowed u (Receive n came) ports p m)
 there u n came ports p m o h = grind arith
 

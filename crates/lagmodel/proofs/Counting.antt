@@ -15,12 +15,10 @@ one_more xs h i lt = grind (arith, cases_lt, get_or_append_left, length-append, 
 pub counted_act : (o : Option Act) (sent : ℕ → ℕ → List ℕ) → ((g k : ℕ) → IsCount (sent g k)) → (g k : ℕ) → IsCount (sent_after o sent g k)
 counted_act o sent h g k = grind (arith, two_cases, IsCount, one_more)
 
-counted_move : (x : WorldSetup) (s : Side) (stamp : ℕ) (m : Move × Bool) (w : World) → CountsFromZero w
-    → CountsFromZero (world_after x s stamp m w)
+counted_move : (x : WorldSetup) (s : Side) (stamp : ℕ) (m : Move × Bool) (w : World) → CountsFromZero w → CountsFromZero (world_after x s stamp m w)
 counted_move x s stamp m w h i g k = grind (arith, counted_act, act)
 
-counted_all : (x : WorldSetup) (s : Side) (stamp : ℕ) (ms : List (Move × Bool)) (w : World) → CountsFromZero w
-    → CountsFromZero (world_after_all x s stamp ms w)
+counted_all : (x : WorldSetup) (s : Side) (stamp : ℕ) (ms : List (Move × Bool)) (w : World) → CountsFromZero w → CountsFromZero (world_after_all x s stamp ms w)
 counted_all x s stamp [] w h = h
 counted_all x s stamp (m ∷ ms) w h = counted_all x s stamp ms (world_after x s stamp m w) (counted_move x s stamp m w h)
 
@@ -36,8 +34,7 @@ counted_comes x c to (Some p) (Control pdu stamp ∷ ms) old new h z = counted_c
     (with_messages old c to ms) new h z
 counted_comes x c to (Some p) (Data origin g k n ∷ ms) old new h z = go z.0 z.1
   where
-    go : (up : Bool) → CallHappens x to (Receive p None) 0 old (handed_up up (Data origin g k n) (with_messages old c to ms)) new
-        → CountsFromZero new
+    go : (up : Bool) → CallHappens x to (Receive p None) 0 old (handed_up up (Data origin g k n) (with_messages old c to ms)) new → CountsFromZero new
     go true y = counted_call x to (Receive p None) 0 old (handed_up true (Data origin g k n) (with_messages old c to ms)) new h y
     go false y = counted_call x to (Receive p None) 0 old (with_messages old c to ms) new h y
 
@@ -48,8 +45,7 @@ counted_again x c to port (Data origin g k n ∷ ms) old new h z = subst CountsF
 counted_again x c to None (Control pdu stamp ∷ ms) old new h z = absurd z
 counted_again x c to (Some p) (Control pdu stamp ∷ ms) old new h z = counted_call x to (Receive p (Some pdu)) stamp old old new h z
 
-counted_lost : (c : ℕ) (to : Side) (on_cable : List Message) (old new : World) → CountsFromZero old
-    → LosesFirst c to on_cable old new → CountsFromZero new
+counted_lost : (c : ℕ) (to : Side) (on_cable : List Message) (old new : World) → CountsFromZero old → LosesFirst c to on_cable old new → CountsFromZero new
 counted_lost c to on_cable old new h z = grind arith
 
 counted_senses : (x : WorldSetup) (s : Side) (port : Option ℕ) (up : Bool) (old new : World) → CountsFromZero old

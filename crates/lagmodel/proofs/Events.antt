@@ -24,8 +24,7 @@ module _ {u : SystemSetup} {me : Side} {ends theirs : ℕ → Option ℕ} {v : V
     {out back : ℕ → List Message} {whole : ℕ → Bool} {sent collected : ℕ → ℕ → List ℕ} {forced : ℕ → ℕ → Bool}
     {taken their_taken : ℕ → Option TakenLacpdu}
     (i : Half u me ends theirs v party count out back whole sent collected forced taken their_taken) where
-  half_back : (base : ℕ → List Message) → Popped back base
-      → Half u me ends theirs v party count out base whole sent collected forced taken their_taken
+  half_back : (base : ℕ → List Message) → Popped back base → Half u me ends theirs v party count out base whole sent collected forced taken their_taken
   half_back base p = record {
     members = i.members;
     stamps = i.stamps;
@@ -36,8 +35,7 @@ module _ {u : SystemSetup} {me : Side} {ends theirs : ℕ → Option ℕ} {v : V
     ];
   }
 
-  half_out : (base : ℕ → List Message) → Popped out base
-      → Half u me ends theirs v party count base back whole sent collected forced taken their_taken
+  half_out : (base : ℕ → List Message) → Popped out base → Half u me ends theirs v party count base back whole sent collected forced taken their_taken
   half_out base p = record {
     members = i.members;
     heard = i.heard;
@@ -52,8 +50,7 @@ module _ {u : SystemSetup} {me : Side} {ends theirs : ℕ → Option ℕ} {v : V
   }
 
   -- the change counts at the end of an event
-  half_counted : (new : ℕ → ℕ)
-      → ((p : ℕ) → ((party_at v p ≡ party p) × (new p ≡ count p)) ⊎ ((party_at v p ≢ party p) × (new p ≡ suc (count p))))
+  half_counted : (new : ℕ → ℕ) → ((p : ℕ) → ((party_at v p ≡ party p) × (new p ≡ count p)) ⊎ ((party_at v p ≢ party p) × (new p ≡ suc (count p))))
       → Half u me ends theirs v (party_at v) new out back whole sent collected forced taken their_taken
   half_counted new h = record {
     members = i.members;
@@ -63,10 +60,8 @@ module _ {u : SystemSetup} {me : Side} {ends theirs : ℕ → Option ℕ} {v : V
   }
 
   -- the first message is taken away, and handed up
-  half_handed : (c g k n : ℕ) (ms : List Message) → ((c d p : ℕ) → ends c ≡ Some p → ends d ≡ Some p → c ≡ d)
-      → out c ≡ Data me g k n ∷ ms
-      → Half u me ends theirs v party count (at_cable out c ms) back whole sent (at_two collected g k (collected g k ++ n ∷ []))
-      forced taken their_taken
+  half_handed : (c g k n : ℕ) (ms : List Message) → ((c d p : ℕ) → ends c ≡ Some p → ends d ≡ Some p → c ≡ d) → out c ≡ Data me g k n ∷ ms
+      → Half u me ends theirs v party count (at_cable out c ms) back whole sent (at_two collected g k (collected g k ++ n ∷ [])) forced taken their_taken
   half_handed c g k n ms one e = record {
     members = i.members;
     heard = i.heard;
@@ -75,8 +70,7 @@ module _ {u : SystemSetup} {me : Side} {ends theirs : ℕ → Option ℕ} {v : V
   }
 
   -- a restart, and the change counts after it
-  half_restarted : IsSystemSetup u
-      → Half u me ends theirs (first_view u) party count (λ c. []) (λ c. []) whole sent collected forced taken their_taken
+  half_restarted : IsSystemSetup u → Half u me ends theirs (first_view u) party count (λ c. []) (λ c. []) whole sent collected forced taken their_taken
   half_restarted f = record {
     members = members_first u f;
     lanes = lanes_restarted i.lanes u.first_marker;
@@ -87,8 +81,7 @@ module _ {u : SystemSetup} {me : Side} {ends theirs : ℕ → Option ℕ} {v : V
   half_emptied : Half u me ends theirs v party count (λ c. []) (λ c. []) whole sent collected forced taken their_taken
   half_emptied = record { members = i.members; heard = i.heard; lanes = lanes_emptied i.lanes; stamps = stamps_emptied i.stamps }
 
-  half_forced : (g k : ℕ)
-      → Half u me ends theirs v party count out back whole sent collected (at_two forced g k true) taken their_taken
+  half_forced : (g k : ℕ) → Half u me ends theirs v party count out back whole sent collected (at_two forced g k true) taken their_taken
   half_forced g k = record { members = i.members; stamps = i.stamps; heard = i.heard; lanes = lanes_forced i.lanes g k }
 
 -- the halves of a system and of its peer
@@ -192,25 +185,21 @@ within_receive p pdu stamp ends back whole forced c ms one there first = record 
 -- the first message of a list is taken away
 lawful_popped : (x : WorldSetup) (w : World) (c : ℕ) (to : Side) (m : Message) (ms : List Message) → w.on_cable to c ≡ m ∷ ms → Lawful x w
     → Lawful x (with_messages w c to ms)
-lawful_popped x w c One m ms e i =
-    let p = inr (c, m, ms, e, refl) in
+lawful_popped x w c One m ms e i = let p = inr (c, m, ms, e, refl) in
     both x One (with_messages w c One ms) (half_back (i One) _ p) (half_out (i Two) _ p)
-lawful_popped x w c Two m ms e i =
-    let p = inr (c, m, ms, e, refl) in
+lawful_popped x w c Two m ms e i = let p = inr (c, m, ms, e, refl) in
     both x Two (with_messages w c Two ms) (half_back (i Two) _ p) (half_out (i One) _ p)
 
 -- and handed up
-lawful_handed : (x : WorldSetup) (w : World) (c : ℕ) (to : Side) (g k n : ℕ) (ms : List Message) → IsWorldSetup x
-    → w.on_cable to c ≡ Data (peer to) g k n ∷ ms → Lawful x w
-    → Lawful x (handed_up true (Data (peer to) g k n) (with_messages w c to ms))
+lawful_handed : (x : WorldSetup) (w : World) (c : ℕ) (to : Side) (g k n : ℕ) (ms : List Message) → IsWorldSetup x → w.on_cable to c ≡ Data (peer to) g k n ∷ ms
+    → Lawful x w → Lawful x (handed_up true (Data (peer to) g k n) (with_messages w c to ms))
 lawful_handed x w c One g k n ms f e i = both x One (handed_up true (Data Two g k n) (with_messages w c One ms))
     (half_back (i One) _ (inr (c, Data Two g k n, ms, e, refl))) (half_handed (i Two) c g k n ms (f.cables Two) e)
 lawful_handed x w c Two g k n ms f e i = both x Two (handed_up true (Data One g k n) (with_messages w c Two ms))
     (half_back (i Two) _ (inr (c, Data One g k n, ms, e, refl))) (half_handed (i One) c g k n ms (f.cables One) e)
 
 lawful_up : (x : WorldSetup) (w : World) (c : ℕ) (to origin : Side) (g k n : ℕ) (ms : List Message) → IsWorldSetup x → origin ≡ peer to
-    → w.on_cable to c ≡ Data origin g k n ∷ ms → Lawful x w
-    → Lawful x (handed_up true (Data origin g k n) (with_messages w c to ms))
+    → w.on_cable to c ≡ Data origin g k n ∷ ms → Lawful x w → Lawful x (handed_up true (Data origin g k n) (with_messages w c to ms))
 lawful_up x w c to origin g k n ms f o e i = grind (arith, handed_up, with_messages, lawful_handed)
 
 -- frames come from the peer
@@ -219,10 +208,9 @@ from_peer : (x : WorldSetup) (w : World) (c : ℕ) (to origin : Side) (g k n : �
 from_peer x w c to origin g k n ms e i = grind arith
 
 -- a control PDU comes, and is taken from its list first
-started_popped : (x : WorldSetup) (w : World) (c : ℕ) (to : Side) (p : ℕ) (pdu : ControlMessage) (stamp : ℕ) (ms : List Message)
-    → IsWorldSetup x → end_at x.cables to c ≡ Some p → w.on_cable to c ≡ Control pdu stamp ∷ ms → Lawful x w
-    → Calling x to (Receive p (Some pdu)) stamp (λ t. party_at (w.view t)) w.count (w.on_cable to) (at_cable (w.on_cable to) c ms)
-    (with_messages w c to ms)
+started_popped : (x : WorldSetup) (w : World) (c : ℕ) (to : Side) (p : ℕ) (pdu : ControlMessage) (stamp : ℕ) (ms : List Message) → IsWorldSetup x
+    → end_at x.cables to c ≡ Some p → w.on_cable to c ≡ Control pdu stamp ∷ ms → Lawful x w
+    → Calling x to (Receive p (Some pdu)) stamp (λ t. party_at (w.view t)) w.count (w.on_cable to) (at_cable (w.on_cable to) c ms) (with_messages w c to ms)
 started_popped x w c One p pdu stamp ms f h e i = record {
   within = within_receive p pdu stamp _ _ _ _ c ms (f.cables One) h e;
   parties = λ r p. refl;
@@ -250,16 +238,13 @@ comes_kept x c to (Some p) (Control pdu stamp ∷ ms) old new f i h e z =
     (inr (c, Control pdu stamp, ms, e, refl)) (started_popped x old c to p pdu stamp ms f h e i) z.0 z.1 z.2.0 z.2.1 z.2.2
 comes_kept x c to (Some p) (Data origin g k n ∷ ms) old new f i h e z = go z.0 z.1
   where
-    go : (up : Bool) → CallHappens x to (Receive p None) 0 old (handed_up up (Data origin g k n) (with_messages old c to ms)) new
-        → Lawful x new
-    go true y =
-        call_kept x to (Receive p None) 0 (λ t. party_at (old.view t)) old.count _ _
+    go : (up : Bool) → CallHappens x to (Receive p None) 0 old (handed_up up (Data origin g k n) (with_messages old c to ms)) new → Lawful x new
+    go true y = call_kept x to (Receive p None) 0 (λ t. party_at (old.view t)) old.count _ _
         (handed_up true (Data origin g k n) (with_messages old c to ms)) new
         (inl refl) (started x to (Receive p None) 0 (handed_up true (Data origin g k n) (with_messages old c to ms))
         (lawful_up x old c to origin g k n ms f (from_peer x old c to origin g k n ms e i) e i) (within_quiet _ 0 _ _ _ _ refl))
         y.0 y.1 y.2.0 y.2.1 y.2.2
-    go false y =
-        call_kept x to (Receive p None) 0 (λ t. party_at (old.view t)) old.count _ _ (with_messages old c to ms) new
+    go false y = call_kept x to (Receive p None) 0 (λ t. party_at (old.view t)) old.count _ _ (with_messages old c to ms) new
         (inl refl) (started x to (Receive p None) 0 (with_messages old c to ms) (lawful_popped x old c to (Data origin g k n) ms e i)
         (within_quiet _ 0 _ _ _ _ refl)) y.0 y.1 y.2.0 y.2.1 y.2.2
 

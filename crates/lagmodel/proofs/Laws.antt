@@ -23,10 +23,9 @@ pub one_partner_holds : (x : WorldSetup) (w : World) → Lawful x w → (s : Sid
 one_partner_holds x w i s = one_partner (x.setup s) (w.view s) (i s).members
 
 -- the partner that a port records is the party of the other end, if that did not change
-named : (x : WorldSetup) (w : World) → Lawful x w → (s : Side) (c p q : ℕ) (a b : PortFacts) (m : TakenLacpdu)
-    → end_at x.cables s c ≡ Some p → end_at x.cables (peer s) c ≡ Some q → (w.view s).port p ≡ Some a → (w.view (peer s)).port q ≡ Some b
-    → a.defaulted ≡ false → w.taken s p ≡ Some m → m.stamp ≡ w.count (peer s) q
-    → FreshPdu (w.count (peer s) q) (party_at (w.view (peer s)) q) m.pdu m.stamp → a.partner ≡ b.party
+named : (x : WorldSetup) (w : World) → Lawful x w → (s : Side) (c p q : ℕ) (a b : PortFacts) (m : TakenLacpdu) → end_at x.cables s c ≡ Some p
+    → end_at x.cables (peer s) c ≡ Some q → (w.view s).port p ≡ Some a → (w.view (peer s)).port q ≡ Some b → a.defaulted ≡ false → w.taken s p ≡ Some m
+    → m.stamp ≡ w.count (peer s) q → FreshPdu (w.count (peer s) q) (party_at (w.view (peer s)) q) m.pdu m.stamp → a.partner ≡ b.party
 named x w i s c p q a b m ep eq ha hb d t e f = grind arith
 
 pub agree_holds : (x : WorldSetup) (w : World) → Lawful x w → EndsAgree x w
@@ -36,16 +35,12 @@ pub in_order_holds : (x : WorldSetup) (w : World) → Lawful x w → InOrder w
 in_order_holds x w i s g k u = handed_front ((i s).lanes.orderly g k 0 u)
 
 pub last_lacpdu_in_sync : (x : WorldSetup) (w : World) → Lawful x w → LastLacpduSaysInSync w
-last_lacpdu_in_sync x w i s p a h d f =
-    let r = (i s).heard p a h f in
+last_lacpdu_in_sync x w i s p a h d f = let r = (i s).heard p a h f in
     let y = r.3 (((i s).members.member p a h d).1) in (
       r.0,
       r.1,
       y.0,
-      λ g. elim y.1 [
-        | inl e ↦ crossed r.0.pdu.actor r.0.pdu.partner a.party a.partner (sym r.2) e
-        | inr n ↦ absurd (true≢false (sym g ∙ n))
-      ],
+      λ g. elim y.1 [ inl e ↦ crossed r.0.pdu.actor r.0.pdu.partner a.party a.partner (sym r.2) e | inr n ↦ absurd (true≢false (sym g ∙ n)) ],
     )
 
 pub names_present_holds : (x : WorldSetup) (w : World) → Lawful x w → UpToDateLacpdusNameSender x w
@@ -73,19 +68,18 @@ on_its_cable_holds x w i Two g k c u =
     (((i Two).lanes.orderly g k c u).place, none_from Two One g k (w.on_cable Two c) (side_not_peer Two) ((i One).lanes.origin c))
 
 pub flushed_by_marker_holds : (x : WorldSetup) (w : World) → IsWorldSetup x → Lawful x w → FlushedByMarker x w
-flushed_by_marker_holds x w f i s g k p n c u st e =
-    let o = (i s).lanes.orderly g k c u in (
-      (λ front back stamp h.
-          behind_split s g k n front (Control (Marker (x.setup s).system.mac p n) stamp) back (eq-eqb n n refl)
-          (subst (NoneBehind s g k n) h (o.behind p n st e))),
-      (λ d stamp h. elim (((i s).lanes.orderly g k d u).place) [
-        | inl y ↦ y
-        | inr y ↦ (let same : c ≡ d = f.cables s c d p e (y.1 ∙ sym y.2 ∙ ap conversation_port st) in
-            let here = every_contains (λ m. answers n m ≡ true → serials s g k (w.on_cable (peer s) c) ≡ []) (w.on_cable s c)
-            (Control (Response (x.setup s).system.mac p n) stamp) (o.answered p n st e) h in
-            subst (λ d. serials s g k (w.on_cable (peer s) d) ≡ []) same (here (eq-eqb n n refl)))
-      ]),
-    )
+flushed_by_marker_holds x w f i s g k p n c u st e = let o = (i s).lanes.orderly g k c u in (
+  (λ front back stamp h.
+      behind_split s g k n front (Control (Marker (x.setup s).system.mac p n) stamp) back (eq-eqb n n refl)
+      (subst (NoneBehind s g k n) h (o.behind p n st e))),
+  (λ d stamp h. elim (((i s).lanes.orderly g k d u).place) [
+    | inl y ↦ y
+    | inr y ↦ (let same : c ≡ d = f.cables s c d p e (y.1 ∙ sym y.2 ∙ ap conversation_port st) in
+        let here = every_contains (λ m. answers n m ≡ true → serials s g k (w.on_cable (peer s) c) ≡ []) (w.on_cable s c)
+        (Control (Response (x.setup s).system.mac p n) stamp) (o.answered p n st e) h in
+        subst (λ d. serials s g k (w.on_cable (peer s) d) ≡ []) same (here (eq-eqb n n refl)))
+  ]),
+)
 
 pub below_next_holds : (x : WorldSetup) (w : World) → Lawful x w → BelowNext w
 below_next_holds x w i s c p n stamp mac = (

@@ -15,8 +15,7 @@ every_swapped P [] a b back h = (h.1.0, (h.0, h.1.1))
 every_swapped P (m ∷ front) a b back h = (h.0, every_swapped P front a b back h.1)
 
 -- an LACPDU is no frame
-serials_by : (s : Side) (g k : ℕ) (a b : Message) (back : List Message) → IsLacpdu b
-    → serials s g k (b ∷ a ∷ back) ≡ serials s g k (a ∷ b ∷ back)
+serials_by : (s : Side) (g k : ℕ) (a b : Message) (back : List Message) → IsLacpdu b → serials s g k (b ∷ a ∷ back) ≡ serials s g k (a ∷ b ∷ back)
 serials_by s g k a b back is = grind arith
 
 serials_swapped : (s : Side) (g k : ℕ) (front : List Message) (a b : Message) (back : List Message) → IsLacpdu b
@@ -53,8 +52,7 @@ module _ {old new : List Message} (o : Overtakes old new) where
 
   orderly_out : (me : Side) (g k : ℕ) (e : Option ℕ) (c : Conversation) (back : List Message) (sent collected : List ℕ)
       → Orderly me g k e c old back sent collected → Orderly me g k e c new back sent collected
-  orderly_out me g k e c back sent collected i =
-      let same = sym (serials_overtaken me g k) in
+  orderly_out me g k e c back sent collected i = let same = sym (serials_overtaken me g k) in
       record {
         place = subst (λ l. (l ≡ []) ⊎ ((p : ℕ) × (e ≡ Some p) × (conversation_port c ≡ Some p))) same i.place;
         behind = λ p n f x. behind_overtaken me g k n (i.behind p n f x);

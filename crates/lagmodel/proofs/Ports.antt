@@ -14,8 +14,7 @@ pub individual_along : (a b c d : Party) → SamePair (pair_of a b) (pair_of c d
 individual_along a b c d e h = grind arith
 
 -- a port after a change of port p is the changed one, or was there before
-pub changed_port : (ports : ℕ → Option PortFacts) (p q : ℕ) (f : PortFacts → PortFacts) (a b : PortFacts) → ports p ≡ Some a
-    → at_port ports p f q ≡ Some b
+pub changed_port : (ports : ℕ → Option PortFacts) (p q : ℕ) (f : PortFacts → PortFacts) (a b : PortFacts) → ports p ≡ Some a → at_port ports p f q ≡ Some b
     → ((q ≡ p) × (f a ≡ b)) ⊎ ((q ≡ p → ⊥) × (ports q ≡ Some b))
 changed_port ports p q f a b h e = grind arith
 
@@ -69,9 +68,8 @@ changed u ports p f a h i o = record {
 }
 
 -- a port that keeps its aggregator, its party and its partner
-steady : (u : SystemSetup) (ports : ℕ → Option PortFacts) (p : ℕ) (a b : PortFacts) → ports p ≡ Some a → Members u ports
-    → b.aggregator ≡ a.aggregator → b.party ≡ a.party → b.partner ≡ a.partner
-    → (b.distributes ≡ true → IsSome b.aggregator × (b.synchronized ≡ true)) → Owes u ports p a b
+steady : (u : SystemSetup) (ports : ℕ → Option PortFacts) (p : ℕ) (a b : PortFacts) → ports p ≡ Some a → Members u ports → b.aggregator ≡ a.aggregator
+    → b.party ≡ a.party → b.partner ≡ a.partner → (b.distributes ≡ true → IsSome b.aggregator × (b.synchronized ≡ true)) → Owes u ports p a b
 steady u ports p a b h i e1 e2 e3 m = record {
   number = ap (λ (x : Party). x.port.number) e2;
   own = ap (λ (x : Party). x.system) e2;
@@ -123,8 +121,7 @@ owed u call ports p (Respond mac port identifier) a h i x = steady u ports p a _
 -- a move of a port keeps the facts
 pub members_kept : (u : SystemSetup) (call : ModelCall) (ports : ℕ → Option PortFacts) (p : ℕ) (m : PortMove)
     → IsSomeAnd (ports p) (PortAllowed u call ports p m) → Members u ports → Members u (at_port ports p (port_after m))
-members_kept u call ports p m x i =
-    let v = value_of (ports p) (PortAllowed u call ports p m) x in
+members_kept u call ports p m x i = let v = value_of (ports p) (PortAllowed u call ports p m) x in
     changed u ports p (port_after m) v.0 v.1 i (owed u call ports p m v.0 v.1 i v.2)
 
 -- they hold at first

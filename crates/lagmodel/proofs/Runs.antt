@@ -44,8 +44,7 @@ called_step : (x : WorldSetup) (s : Side) (stamp : ℕ) (kept : Bool) (m : Move)
     (view_after_all (x.setup s) ms (view_after (x.setup s) m (w.view s))) w
 called_step x s stamp kept m ms w o None h ih e = grind arith
 called_step x s stamp kept m ms w None (Some y) h ih e = grind arith
-called_step x s stamp kept m ms w (Some z) (Some y) h ih e =
-    let v : View = view_after (x.setup s) m (w.view s) in
+called_step x s stamp kept m ms w (Some z) (Some y) h ih e = let v : View = view_after (x.setup s) m (w.view s) in
     let there = self w.view s v in
     let parts = one_seen y z (acts (x.setup s) ms v) e in
     ih None (ap (acts (x.setup s) ms) there ∙ parts.1)
@@ -57,12 +56,10 @@ called_step x s stamp kept m ms w (Some z) (Some y) h ih e =
 
 called_moves : (x : WorldSetup) (s : Side) (stamp : ℕ) (kept : Bool) (ms : List Move) (w : World) (o : Option Act)
     → acts (x.setup s) ms (w.view s) ≡ option_to_list o
-    → world_after_all x s stamp (map (λ (m : Move). (m, kept)) ms) w ≡ world_after_call x s stamp kept o
-    (view_after_all (x.setup s) ms (w.view s)) w
+    → world_after_all x s stamp (map (λ (m : Move). (m, kept)) ms) w ≡ world_after_call x s stamp kept o (view_after_all (x.setup s) ms (w.view s)) w
 called_moves x s stamp kept [] w None e = none_called x s stamp kept w
 called_moves x s stamp kept [] w (Some y) e = absurd (nothing_seen y [] (sym e))
-called_moves x s stamp kept (m ∷ ms) w o e =
-    called_step x s stamp kept m ms w o (act (x.setup s) m (w.view s)) refl
+called_moves x s stamp kept (m ∷ ms) w o e = called_step x s stamp kept m ms w o (act (x.setup s) m (w.view s)) refl
     (λ o. called_moves x s stamp kept ms (world_after x s stamp (m, kept) w) o) e
 
 moves_of_world : (x : WorldSetup) (s : Side) (call : ModelCall) (stamp : ℕ) (kept : Bool) (ms : List Move) (w : World)
@@ -107,21 +104,16 @@ pub put_nowhere : (ends : ℕ → Option ℕ) (whole : ℕ → Bool) (kept : Boo
 put_nowhere ends whole kept p m lines none d = grind arith
 
 -- worlds that are alike at each place are the same
-pub same_world : (v w : World)
-    → ((s : Side) → v.view s ≡ w.view s) → ((c : ℕ) → v.whole c ≡ w.whole c) → ((s : Side) (c : ℕ) → v.on_cable s c ≡ w.on_cable s c)
-    → ((s : Side) (p : ℕ) → v.count s p ≡ w.count s p)
-    → ((s : Side) (p : ℕ) → v.taken s p ≡ w.taken s p) → ((s : Side) (g k : ℕ) → v.sent s g k ≡ w.sent s g k)
-    → ((s : Side) (g k : ℕ) → v.collected s g k ≡ w.collected s g k)
-    → ((s : Side) (g k : ℕ) → v.forced s g k ≡ w.forced s g k) → v ≡ w
+pub same_world : (v w : World) → ((s : Side) → v.view s ≡ w.view s) → ((c : ℕ) → v.whole c ≡ w.whole c) → ((s : Side) (c : ℕ) → v.on_cable s c ≡ w.on_cable s c)
+    → ((s : Side) (p : ℕ) → v.count s p ≡ w.count s p) → ((s : Side) (p : ℕ) → v.taken s p ≡ w.taken s p) → ((s : Side) (g k : ℕ) → v.sent s g k ≡ w.sent s g k)
+    → ((s : Side) (g k : ℕ) → v.collected s g k ≡ w.collected s g k) → ((s : Side) (g k : ℕ) → v.forced s g k ≡ w.forced s g k) → v ≡ w
 same_world v w a b c d e f g h = grind arith
 
 -- views that are alike at each place are the same
-pub same_view : (v w : View) → ((p : ℕ) → v.port p ≡ w.port p) → ((g k : ℕ) → v.flows.state g k ≡ w.flows.state g k)
-    → v.flows.next ≡ w.flows.next → v ≡ w
+pub same_view : (v w : View) → ((p : ℕ) → v.port p ≡ w.port p) → ((g k : ℕ) → v.flows.state g k ≡ w.flows.state g k) → v.flows.next ≡ w.flows.next → v ≡ w
 same_view v w a b c = λ i. record { port = λ p. a p i; flows = record { state = λ g k. b g k i; next = c i } }
 
 -- runs one after another
-pub runs_joined : (x : WorldSetup) (es fs : List Event) (old mid new : World) → Run x es old mid → Run x fs mid new
-    → Run x (es ++ fs) old new
+pub runs_joined : (x : WorldSetup) (es fs : List Event) (old mid new : World) → Run x es old mid → Run x fs mid new → Run x (es ++ fs) old new
 runs_joined x [] fs old mid new h i = subst (λ w. Run x fs w new) h i
 runs_joined x (e ∷ es) fs old mid new h i = (h.0, h.1, runs_joined x es fs h.0 mid new h.2 i)

@@ -24,22 +24,19 @@ Fresh count party (Data origin g k serial) = Unit {0}
 pub record Stamps (ends theirs : ℕ → Option ℕ) (party : ℕ → Option Party) (count : ℕ → ℕ) (out : ℕ → List Message) (taken : ℕ
     → Option TakenLacpdu) : Type 0 where
   pub flight : (c p : ℕ) → ends c ≡ Some p → Every (Fresh (count p) (party p)) (out c)
-  pub last : (c p q : ℕ) (m : TakenLacpdu) → ends c ≡ Some p → theirs c ≡ Some q → taken q ≡ Some m
-      → FreshPdu (count p) (party p) m.pdu m.stamp
+  pub last : (c p q : ℕ) (m : TakenLacpdu) → ends c ≡ Some p → theirs c ≡ Some q → taken q ≡ Some m → FreshPdu (count p) (party p) m.pdu m.stamp
 
 -- A port that is not on defaults took an LACPDU from the partner that it records. It records it as synchronized only
 -- if that LACPDU said so, and named the port's party or has an individual actor.
 abbrev pub Heard : PortFacts → Option TakenLacpdu → Type 0
-Heard a o =
-    a.defaulted ≡ false
+Heard a o = a.defaulted ≡ false
     → (m : TakenLacpdu) × (o ≡ Some m) × (a.partner ≡ m.pdu.actor)
     × (a.synchronized ≡ true → (m.pdu.synchronized ≡ true) × ((m.pdu.partner ≡ a.party) ⊎ (m.pdu.actor.aggregatable ≡ false)))
 
 abbrev pub AllHeard : (ℕ → Option PortFacts) → (ℕ → Option TakenLacpdu) → Type 0
 AllHeard ports taken = (p : ℕ) (a : PortFacts) → ports p ≡ Some a → Heard a (taken p)
 
-heard_changed : (ports : ℕ → Option PortFacts) (taken taken' : ℕ → Option TakenLacpdu) (p : ℕ) (f : PortFacts → PortFacts) (a : PortFacts)
-    → ports p ≡ Some a
+heard_changed : (ports : ℕ → Option PortFacts) (taken taken' : ℕ → Option TakenLacpdu) (p : ℕ) (f : PortFacts → PortFacts) (a : PortFacts) → ports p ≡ Some a
     → Heard (f a) (taken' p) → ((q : ℕ) → (q ≡ p → ⊥) → taken' q ≡ taken q) → AllHeard ports taken → AllHeard (at_port ports p f) taken'
 heard_changed ports taken taken' p f a h new same i q b e = grind arith
 
@@ -66,11 +63,9 @@ heard_flow : (ports : ℕ → Option PortFacts) (mac : List ℕ) (stamp : ℕ) (
 heard_flow ports mac stamp taken f m i = grind arith
 
 -- a move of this system
-pub heard_own : (u : SystemSetup) (call : ModelCall) (stamp : ℕ) (v : View) (m : Move) (taken : ℕ → Option TakenLacpdu)
-    → MoveAllowed u call v m → is_restart call ≡ false → AllHeard v.port taken
-    → AllHeard ((view_after u m v).port) (taken_after stamp (act u m v) taken)
-heard_own u call stamp v (Port p m) taken x r i =
-    let s = value_of (v.port p) (PortAllowed u call v.port p m) x in
+pub heard_own : (u : SystemSetup) (call : ModelCall) (stamp : ℕ) (v : View) (m : Move) (taken : ℕ → Option TakenLacpdu) → MoveAllowed u call v m
+    → is_restart call ≡ false → AllHeard v.port taken → AllHeard ((view_after u m v).port) (taken_after stamp (act u m v) taken)
+heard_own u call stamp v (Port p m) taken x r i = let s = value_of (v.port p) (PortAllowed u call v.port p m) x in
     subst (λ o. AllHeard (at_port v.port p (port_after m)) (taken_after stamp (act_of_port p m o) taken)) (sym s.1)
     (heard_port u call v.port p stamp taken m s.0 s.1 s.2 i)
 heard_own u call stamp v (Flow m) taken x r i = heard_flow v.port u.system.mac stamp taken v.flows m i
@@ -92,8 +87,7 @@ module _ {ends theirs : ℕ → Option ℕ} {party : ℕ → Option Party} {coun
   }
 
   -- a port of the peer takes an LACPDU that stands first on its cable
-  stamps_taken : (p : ℕ) (pdu : LacpMessage) (stamp : ℕ)
-      → ((c : ℕ) → theirs c ≡ Some p → (ms : List Message) × (out c ≡ Control (Lacp pdu) stamp ∷ ms))
+  stamps_taken : (p : ℕ) (pdu : LacpMessage) (stamp : ℕ) → ((c : ℕ) → theirs c ≡ Some p → (ms : List Message) × (out c ≡ Control (Lacp pdu) stamp ∷ ms))
       → Stamps ends theirs party count out (taken_after stamp (Some (Took p pdu)) taken)
   stamps_taken p pdu stamp came = record {
     flight = i.flight;
@@ -109,8 +103,7 @@ module _ {ends theirs : ℕ → Option ℕ} {party : ℕ → Option Party} {coun
   }
 
   -- the first message that the system sent is taken away
-  pub stamps_out_taken : (c : ℕ) (m : Message) (ms : List Message) → out c ≡ m ∷ ms
-      → Stamps ends theirs party count (at_cable out c ms) taken
+  pub stamps_out_taken : (c : ℕ) (m : Message) (ms : List Message) → out c ≡ m ∷ ms → Stamps ends theirs party count (at_cable out c ms) taken
   stamps_out_taken c m ms e = record {
     flight = at_cable_each (λ d l. (p : ℕ) → ends d ≡ Some p → Every (Fresh (count p) (party p)) l) out c ms
         (λ p h. (subst (Every (Fresh (count p) (party p))) e (i.flight c p h)).1) (λ d n. i.flight d);
@@ -191,10 +184,9 @@ every_counted : (old new : ℕ) (was is : Option Party) → ((is ≡ was) × (ne
     → Fresh old was m → Fresh new is m
 every_counted old new was is h m f = grind arith
 
-pub stamps_counted : (ends theirs : ℕ → Option ℕ) (was is : ℕ → Option Party) (old new : ℕ → ℕ) (out : ℕ → List Message)
-    (taken : ℕ → Option TakenLacpdu)
-    → ((p : ℕ) → ((is p ≡ was p) × (new p ≡ old p)) ⊎ ((is p ≢ was p) × (new p ≡ suc (old p))))
-    → Stamps ends theirs was old out taken → Stamps ends theirs is new out taken
+pub stamps_counted : (ends theirs : ℕ → Option ℕ) (was is : ℕ → Option Party) (old new : ℕ → ℕ) (out : ℕ → List Message) (taken : ℕ → Option TakenLacpdu)
+    → ((p : ℕ) → ((is p ≡ was p) × (new p ≡ old p)) ⊎ ((is p ≢ was p) × (new p ≡ suc (old p)))) → Stamps ends theirs was old out taken
+    → Stamps ends theirs is new out taken
 stamps_counted ends theirs was is old new out taken h i = grind (arith, every_weaker, Fresh, every_counted)
 
 pub stamps_first : (ends theirs : ℕ → Option ℕ) (party : ℕ → Option Party) → Stamps ends theirs party (λ p. 0) (λ c. []) (λ q. None)

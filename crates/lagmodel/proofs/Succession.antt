@@ -39,23 +39,19 @@ succeeds_kept x One after w y same i Two = i Two
 succeeds_kept x Two after w y same i Two = half_succeeded x w Two after _ _ _ _ _ y same (i Two)
 succeeds_kept x Two after w y same i One = i One
 
-all_kept : (x : WorldSetup) (es : List (Option Event)) (old new : World) → IsWorldSetup x → Lawful x old → SuccessionRun x es old new
-    → Lawful x new
+all_kept : (x : WorldSetup) (es : List (Option Event)) (old new : World) → IsWorldSetup x → Lawful x old → SuccessionRun x es old new → Lawful x new
 all_kept x [] old new f i z = subst (Lawful x) (sym z) i
 all_kept x (Some e ∷ es) old new f i z = all_kept x es z.0 new f (happens_kept x e old z.0 f i z.1) z.2
 all_kept x (None ∷ es) old new f i z =
     all_kept x es z.0 new f (subst (Lawful x) (sym z.1.4) (succeeds_kept x z.1.0 z.1.1 old z.1.2 z.1.3 i)) z.2
 
-pub lawful_through_succession : (x : WorldSetup) (es : List (Option Event)) (w : World) → IsWorldSetup x
-    → SuccessionRun x es (first_world x) w → Lawful x w
+pub lawful_through_succession : (x : WorldSetup) (es : List (Option Event)) (w : World) → IsWorldSetup x → SuccessionRun x es (first_world x) w → Lawful x w
 lawful_through_succession x es w f z = all_kept x es (first_world x) w f (lawful_first x f) z
 
-counted_through : (x : WorldSetup) (es : List (Option Event)) (old new : World) → CountsFromZero old → SuccessionRun x es old new
-    → CountsFromZero new
+counted_through : (x : WorldSetup) (es : List (Option Event)) (old new : World) → CountsFromZero old → SuccessionRun x es old new → CountsFromZero new
 counted_through x [] old new h z = subst CountsFromZero (sym z) h
 counted_through x (Some e ∷ es) old new h z = counted_through x es z.0 new (counted_happens x e old z.0 h z.1) z.2
 counted_through x (None ∷ es) old new h z = counted_through x es z.0 new (subst CountsFromZero (sym z.1.4) h) z.2
 
-pub counts_through_succession : (x : WorldSetup) (es : List (Option Event)) (w : World) → SuccessionRun x es (first_world x) w
-    → CountsFromZero w
+pub counts_through_succession : (x : WorldSetup) (es : List (Option Event)) (w : World) → SuccessionRun x es (first_world x) w → CountsFromZero w
 counts_through_succession x es w z = counted_through x es (first_world x) w (λ s g k i lt. absurd (none_sent i lt)) z

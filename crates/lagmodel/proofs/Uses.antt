@@ -19,15 +19,13 @@ all_joined : (u : SystemSetup) (call : ModelCall) (xs ys : List Move) (v : View)
 all_joined u call [] ys v h i = i
 all_joined u call (m ∷ xs) ys v h i = (h.0, all_joined u call xs ys (view_after u m v) h.1 i)
 
-after_joined : (u : SystemSetup) (xs ys : List Move) (v : View)
-    → view_after_all u (xs ++ ys) v ≡ view_after_all u ys (view_after_all u xs v)
+after_joined : (u : SystemSetup) (xs ys : List Move) (v : View) → view_after_all u (xs ++ ys) v ≡ view_after_all u ys (view_after_all u xs v)
 after_joined u [] ys v = refl
 after_joined u (m ∷ xs) ys v = after_joined u xs ys (view_after u m v)
 
 acts_joined : (u : SystemSetup) (xs ys : List Move) (v : View) → acts u (xs ++ ys) v ≡ acts u xs v ++ acts u ys (view_after_all u xs v)
 acts_joined u [] ys v = refl
-acts_joined u (m ∷ xs) ys v =
-    ap (λ (l : List Act). option_to_list (act u m v) ++ l) (acts_joined u xs ys (view_after u m v))
+acts_joined u (m ∷ xs) ys v = ap (λ (l : List Act). option_to_list (act u m v) ++ l) (acts_joined u xs ys (view_after u m v))
     ∙ sym (append_assoc (option_to_list (act u m v)) (acts u xs (view_after u m v)) (acts u ys (view_after_all u xs (view_after u m v))))
 
 pub moves_joined : (u : SystemSetup) (call : ModelCall) (old mid new : View) (seen more : List Act) → LawfulMoves u call old seen mid
@@ -35,8 +33,7 @@ pub moves_joined : (u : SystemSetup) (call : ModelCall) (old mid new : View) (se
 moves_joined u call old mid new seen more a b = grind (arith, all_joined, acts_joined, acts, view_after_all, after_joined)
 
 -- one move of a port, by its view before it
-pub moves_port : (u : SystemSetup) (call : ModelCall) (v : View) (p : ℕ) (m : PortMove) (a : PortFacts) → v.port p ≡ Some a
-    → PortAllowed u call v.port p m a
+pub moves_port : (u : SystemSetup) (call : ModelCall) (v : View) (p : ℕ) (m : PortMove) (a : PortFacts) → v.port p ≡ Some a → PortAllowed u call v.port p m a
     → LawfulMoves u call v (option_to_list (port_act p m a)) (record v { port = at_port v.port p (port_after m) })
 moves_port u call v p m a h x = (
   Port p m ∷ [],
@@ -67,8 +64,7 @@ moves_flows u call v seen f x = (
     allowed [] v h = tt
     allowed (m ∷ ms) v h = (h.0, allowed ms (record v { flows = distributor_after m v.flows }) h.1)
 
-    same_acts : (ms : List DistributorMove) (v : View)
-        → acts u (map (λ (m : DistributorMove). Flow m) ms) v ≡ distributor_acts u.system.mac ms v.flows
+    same_acts : (ms : List DistributorMove) (v : View) → acts u (map (λ (m : DistributorMove). Flow m) ms) v ≡ distributor_acts u.system.mac ms v.flows
     same_acts [] v = refl
     same_acts (m ∷ ms) v = ap (λ (l : List Act). option_to_list (distributor_act u.system.mac m v.flows)
         ++ l) (same_acts ms (record v { flows = distributor_after m v.flows }))
@@ -116,8 +112,7 @@ flows_weaker mac call D E old new seen h x = (x.0, all x.0 old x.1, x.2, x.3)
     one (DistributorMove.Send g k p) f y = (y.0, elim y.1 [ inl z ↦ inl (z.0, h g p z.1) | inr z ↦ inr z ])
     one m f y = y
 
-    all : (ms : List DistributorMove) (f : DistributorFacts) → DistributorMovesAllowed mac call D f ms
-        → DistributorMovesAllowed mac call E f ms
+    all : (ms : List DistributorMove) (f : DistributorFacts) → DistributorMovesAllowed mac call D f ms → DistributorMovesAllowed mac call E f ms
     all [] f y = tt
     all (m ∷ ms) f y = (one m f y.0, all ms (distributor_after m f) y.1)
 

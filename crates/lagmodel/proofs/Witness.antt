@@ -20,17 +20,15 @@ same_parties x Two call stamp (m ∷ ms) w r f a Two p = same_parties x Two call
     ∙ parties_kept (x.setup Two) call (w.view Two) m.0 a.0 r f p
 
 made : (x : WorldSetup) (s : Side) (call : ModelCall) (stamp : ℕ) (ms : List (Move × Bool)) (old mid : World)
-    → ((t : Side) (p : ℕ) → party_at (mid.view t) p ≡ party_at (old.view t) p) → mid.count ≡ old.count → is_restart call ≡ false
-    → replies_frame call ≡ true → AllMoves x s call stamp ms mid
-    → CallHappens x s call stamp old mid (record (world_after_all x s stamp ms mid) { count = mid.count })
+    → ((t : Side) (p : ℕ) → party_at (mid.view t) p ≡ party_at (old.view t) p) → mid.count ≡ old.count → is_restart call ≡ false → replies_frame call ≡ true
+    → AllMoves x s call stamp ms mid → CallHappens x s call stamp old mid (record (world_after_all x s stamp ms mid) { count = mid.count })
 made x s call stamp ms old mid h c r f a = grind (arith, same_parties)
 
 abbrev pub party_of : ℕ → Party
 party_of n = record {
   system = record { priority = n; mac = [] };
   key = record { 0 = 1 };
-  port =
-      record { priority = 128; number = 1 };
+  port = record { priority = 128; number = 1 };
   aggregatable = true;
 }
 
@@ -174,11 +172,7 @@ e₇ : Happens x₀ (Event.Offer One 1 frame) w₆ w₇
 e₇ = made x₀ One ModelCall.Offer 0 ms₇ w₆ w₆ (λ t p. refl) refl refl refl ((refl, inl (refl, (refl, refl))), tt)
 
 e₈ : Happens x₀ (Event.Deliver 1 Two) w₇ w₈
-e₈ = (
-  true,
-  made x₀ Two (Receive 1 None) 0 [] w₇ (handed_up true (Data One 1 48 0) (with_messages w₇ 1 Two []))
-      (λ t p. refl) refl refl refl tt,
-)
+e₈ = (true, made x₀ Two (Receive 1 None) 0 [] w₇ (handed_up true (Data One 1 48 0) (with_messages w₇ 1 Two [])) (λ t p. refl) refl refl refl tt)
 
 pub fixed₀ : IsWorldSetup x₀
 fixed₀ = grind arith
@@ -190,22 +184,8 @@ something_arrives = (
   Event.Emit Two 1 ∷ Event.Deliver 1 One ∷ Event.Emit One 1 ∷ Event.Deliver 1 Two ∷ Event.Emit Two 1 ∷ Event.Deliver 1 One
       ∷ Event.Offer One 1 frame ∷ Event.Deliver 1 Two ∷ [],
   w₈,
-  record (first_port (party_of 1)) {
-    partner = party_of 2;
-    synchronized = true;
-    defaulted = false;
-    aggregator =
-        Some 1;
-    distributes = true;
-  },
-  record (first_port (party_of 2)) {
-    partner = party_of 1;
-    synchronized = true;
-    defaulted = false;
-    aggregator =
-        Some 1;
-    distributes = true;
-  },
+  record (first_port (party_of 1)) { partner = party_of 2; synchronized = true; defaulted = false; aggregator = Some 1; distributes = true },
+  record (first_port (party_of 2)) { partner = party_of 1; synchronized = true; defaulted = false; aggregator = Some 1; distributes = true },
   fixed₀,
   (w₁, e₁, (w₂, e₂, (w₃, e₃, (w₄, e₄, (w₅, e₅, (w₆, e₆, (w₇, e₇, (w₈, e₈, refl)))))))),
   refl,

@@ -19,14 +19,12 @@ module _ (x : NetworkSetup) (s : ℕ) (call : ModelCall) (stamp : ℕ) (accepts 
 
   -- the view on the way does not matter
   view_over : (seen : List Act) (v on_the_way : View) (w : Network)
-      → network_after_acts x s stamp accepts seen v (record w { view = at_system w.view s on_the_way })
-      ≡ network_after_acts x s stamp accepts seen v w
+      → network_after_acts x s stamp accepts seen v (record w { view = at_system w.view s on_the_way }) ≡ network_after_acts x s stamp accepts seen v w
   view_over [] v on_the_way w = λ i. record w { view = λ t. twice w.view s on_the_way v t i }
   view_over (a ∷ more) v on_the_way w = view_over more v on_the_way (network_after_act x s stamp (accepts a) (Some a) w)
 
   one_shown : (o : Option Act) (seen : List Act) (v on_the_way : View) (w : Network)
-      → network_after_acts x s stamp accepts seen v (shown o on_the_way w)
-      ≡ network_after_acts x s stamp accepts (option_to_list o ++ seen) v w
+      → network_after_acts x s stamp accepts seen v (shown o on_the_way w) ≡ network_after_acts x s stamp accepts (option_to_list o ++ seen) v w
   one_shown None seen v on_the_way w = ap (network_after_acts x s stamp accepts seen v) (λ i. record w {
     view = at_system w.view s on_the_way;
     sent = λ t. sym (itself w.sent s t) i;
@@ -40,8 +38,7 @@ module _ (x : NetworkSetup) (s : ℕ) (call : ModelCall) (stamp : ℕ) (accepts 
       × (network_after_all x s stamp moves w
       ≡ network_after_acts x s stamp accepts (acts (x.setup s) ms (w.view s)) (view_after_all (x.setup s) ms (w.view s)) w)
   all_moves [] w h = ([], tt, λ i. record w { view = λ t. itself w.view s t i })
-  all_moves (m ∷ ms) w h =
-      let o = act (x.setup s) m (w.view s) in
+  all_moves (m ∷ ms) w h = let o = act (x.setup s) m (w.view s) in
       let v : View = view_after (x.setup s) m (w.view s) in
       let here = there w.view s v in
       let r = all_moves ms (shown o v w) (subst (λ (v : View). AllAllowed (x.setup s) call v ms) (sym here) h.1) in (
@@ -56,6 +53,5 @@ pub calls_from : (x : NetworkSetup) (s : ℕ) (call : ModelCall) (stamp : ℕ) (
     (accepts : Act → Bool) (count : ℕ → ℕ → ℕ)
     → LawfulMoves (x.setup s) call (mid.view s) seen v → CountsNetworkChanges old (network_after_acts x s stamp accepts seen v mid) count
     → new ≡ record (network_after_acts x s stamp accepts seen v mid) { count = count } → NetworkCall x s call stamp old mid new
-calls_from x s call stamp old mid new v seen accepts count h c e =
-    let r = all_moves x s call stamp accepts h.0 mid h.1 in
+calls_from x s call stamp old mid new v seen accepts count h c e = let r = all_moves x s call stamp accepts h.0 mid h.1 in
     grind (arith, network_after_all, network_after_acts, view_after_all)

@@ -61,8 +61,7 @@ out_less : (x : NetworkSetup) (towards towards' : ℕ → ℕ → List Message) 
 out_less x towards towards' h r c = grind arith
 
 -- a cut cable holds nothing, nor does it when less is on it
-still_nothing : (x : NetworkSetup) (w : Network) → AllFine x w → (towards' : ℕ → ℕ → List Message)
-    → ((t q : ℕ) → IsLess (towards' t q) (w.towards t q))
+still_nothing : (x : NetworkSetup) (w : Network) → AllFine x w → (towards' : ℕ → ℕ → List Message) → ((t q : ℕ) → IsLess (towards' t q) (w.towards t q))
     → (r c : ℕ) → w.whole r c ≡ false → out_of x towards' r c ≡ []
 still_nothing x w i towards' h r c e = grind (arith, less_nothing, out_of, out_less)
 
@@ -85,8 +84,7 @@ place_less towards s p line h t q = grind arith
 -- one line has less on it
 line_kept : (x : NetworkSetup) (w : Network) (s p : ℕ) (line : List Message) → IsLess line (w.towards s p) → AllFine x w
     → AllFine x (record w { towards = at_place w.towards s p line })
-line_kept x w s p line h i =
-    let less = place_less w.towards s p line h in
+line_kept x w s p line h i = let less = place_less w.towards s p line h in
     less_kept x w i (at_place w.towards s p line) w.whole i.alike less (still_nothing x w i (at_place w.towards s p line) less)
 
 popped_kept : (x : NetworkSetup) (w : Network) (s p : ℕ) → AllFine x w → AllFine x (without_first s p w)
@@ -95,10 +93,11 @@ popped_kept x w s p i = line_kept x w s p (drop 1 (w.towards s p)) (first_less (
 blank_less : (b : Bool) (l : List Message) → IsLess (cond b [] l) l
 blank_less b l = grind arith
 
-cut_kept : (x : NetworkSetup) → IsNetworkSetup x → (w : Network) (s p : ℕ) → AllFine x w → AllFine x (record w {
-  whole = λ t q. cond (is_end x s p t q) false (w.whole t q);
-  towards = λ t q. cond (is_end x s p t q) [] (w.towards t q);
-})
+cut_kept : (x : NetworkSetup) → IsNetworkSetup x → (w : Network) (s p : ℕ) → AllFine x w
+    → AllFine x (record w {
+      whole = λ t q. cond (is_end x s p t q) false (w.whole t q);
+      towards = λ t q. cond (is_end x s p t q) [] (w.towards t q);
+    })
 cut_kept x f w s p i =
     less_kept x w i (λ t q. cond (is_end x s p t q) [] (w.towards t q)) (λ t q. cond (is_end x s p t q) false (w.whole t q)) alike
     (λ t q. blank_less (is_end x s p t q) (w.towards t q)) cut
@@ -107,8 +106,7 @@ cut_kept x f w s p i =
     alike t q r c h = ap (λ (b : Bool). cond b false (w.whole t q)) (end_alike x f s p t q r c h)
         ∙ ap (λ (v : Bool). cond (is_end x s p r c) false v) (i.alike t q r c h)
 
-    cut : (r c : ℕ) → cond (is_end x s p r c) false (w.whole r c) ≡ false
-        → out_of x (λ t q. cond (is_end x s p t q) [] (w.towards t q)) r c ≡ []
+    cut : (r c : ℕ) → cond (is_end x s p r c) false (w.whole r c) ≡ false → out_of x (λ t q. cond (is_end x s p t q) [] (w.towards t q)) r c ≡ []
     cut r c e = go (x.far r c) refl
       where
         go : (o : Option Place) → x.far r c ≡ o → at_far (λ t q. cond (is_end x s p t q) [] (w.towards t q)) o ≡ []
@@ -152,10 +150,7 @@ restarted_kept : (x : NetworkSetup) → IsNetworkSetup x → (w : Network) (s : 
       towards = λ t q. cond (ends_at x s t q) [] (w.towards t q);
       count = count;
     })
-restarted_kept x f w s count i h = record {
-  alike = i.alike;
-  each = λ r. counted_part (before r) (count r) (h r);
-}
+restarted_kept x f w s count i h = record { alike = i.alike; each = λ r. counted_part (before r) (count r) (h r) }
   where
     towards' : ℕ → ℕ → List Message
     towards' = λ t q. cond (ends_at x s t q) [] (w.towards t q)
@@ -261,8 +256,7 @@ from_far x f w s p a origin g k n ms i e h =
     (subst (Every (IsFrom One)) (ap (at_far w.towards) (f.cables s p a.system a.port e) ∙ h) ((i.each a.system).lanes.origin a.port)).0
 
 up_kept : (x : NetworkSetup) → IsNetworkSetup x → (w : Network) (s p : ℕ) (origin : Side) (g k n : ℕ) (up : Option ℕ)
-    → BeginsWith (Data origin g k n) (w.towards s p) → AllFine x w
-    → AllFine x (handed_up_from s (x.far s p) up g k n (without_first s p w))
+    → BeginsWith (Data origin g k n) (w.towards s p) → AllFine x w → AllFine x (handed_up_from s (x.far s p) up g k n (without_first s p w))
 up_kept x f w s p origin g k n up b i = go (x.far s p) refl up
   where
     go : (o : Option Place) → x.far s p ≡ o → (up : Option ℕ) → AllFine x (handed_up_from s o up g k n (without_first s p w))
@@ -294,8 +288,7 @@ senses_kept x f s p old new i z = call_kept x f s (Set_link p (old.whole s p)) 0
     (started x s (Set_link p (old.whole s p)) 0 old i (amid_link x s p old.towards old.whole (old.forced s))) z
 
 -- a conversation is forced
-forced_kept : (x : NetworkSetup) (s g k : ℕ) (w : Network) → AllFine x w
-    → AllFine x (record w { forced = at_system w.forced s (at_two (w.forced s) g k true) })
+forced_kept : (x : NetworkSetup) (s g k : ℕ) (w : Network) → AllFine x w → AllFine x (record w { forced = at_system w.forced s (at_two (w.forced s) g k true) })
 forced_kept x s g k w i = record {
   alike = i.alike;
   each = by_system s (λ r b. Fine x r (w.view r) (party_at (w.view r)) (w.count r) (out_of x w.towards r) (w.towards r) (w.whole r) (w.sent r)
@@ -317,10 +310,11 @@ force_kept x f s g k old new i z = elim z [
 ]
 
 -- conversations are forced
-freed_kept : (x : NetworkSetup) (s : ℕ) (test : ℕ → ℕ → Bool) (w : Network) → AllFine x w → AllFine x (record w {
-  view = at_system w.view s (freed_view test (w.view s));
-  forced = at_system w.forced s (also_forced test (w.forced s));
-})
+freed_kept : (x : NetworkSetup) (s : ℕ) (test : ℕ → ℕ → Bool) (w : Network) → AllFine x w
+    → AllFine x (record w {
+      view = at_system w.view s (freed_view test (w.view s));
+      forced = at_system w.forced s (also_forced test (w.forced s));
+    })
 freed_kept x s test w i = record {
   alike = i.alike;
   each = by_system s (λ r b. Fine x r (cond b (freed_view test (w.view s)) (w.view r))
@@ -332,10 +326,7 @@ freed_kept x s test w i = record {
 -- another system takes the place of one
 succeeded_kept : (x : NetworkSetup) (s : ℕ) (after : View) (w : Network) → IsNetworkSuccessor x w s after → AllFine x w
     → AllFine x (record w { view = at_system w.view s after; moved = at_system w.moved s (λ p. moved_again (w.moved s p) ((w.view s).port p) (after.port p)) })
-succeeded_kept x s after w y i = record {
-  alike = i.alike;
-  each = by_system s (λ r b. With (cond b after (w.view r)) r) here (λ r ne. i.each r);
-}
+succeeded_kept x s after w y i = record { alike = i.alike; each = by_system s (λ r b. With (cond b after (w.view r)) r) here (λ r ne. i.each r) }
   where
     With : View → ℕ → Type 0
     With v r = Fine x r v (party_at v) (w.count r) (out_of x w.towards r) (w.towards r) (w.whole r) (w.sent r) (w.collected r) (w.forced r)
@@ -420,8 +411,7 @@ happens_kept x f (NetworkEvent.Plug s p t q) old new i z =
     subst (AllFine (recabled x (NetworkEvent.Plug s p t q))) (sym z.2) (plugged_kept x f s p t q z.0 z.1 old i)
 
 -- cables join two ports, still
-pub setup_kept : (x : NetworkSetup) → IsNetworkSetup x → (e : NetworkEvent) (old new : Network) → NetworkHappens x e old new
-    → IsNetworkSetup (recabled x e)
+pub setup_kept : (x : NetworkSetup) → IsNetworkSetup x → (e : NetworkEvent) (old new : Network) → NetworkHappens x e old new → IsNetworkSetup (recabled x e)
 setup_kept x f e old new z = grind (arith, pull_setup, plug_setup, is_or_not, at_system, there, elsewhere)
 
 -- every run

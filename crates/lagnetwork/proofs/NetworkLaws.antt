@@ -29,8 +29,7 @@ pub in_order_each : (x : NetworkSetup) (w : Network) → AllFine x w → Network
 in_order_each x w i s g k u = handed_front ((i.each s).lanes.orderly g k 0 u)
 
 pub names_far_end : (x : NetworkSetup) (w : Network) → AllFine x w → NamesFarEnd x w
-names_far_end x w i s p t q a e h d =
-    let r = (i.each s).heard p a h d in
+names_far_end x w i s p t q a e h d = let r = (i.each s).heard p a h d in
     let own = ((i.each t).last s p q r.0 e r.1).1 in
     (ap (λ (y : Party). y.system) r.2 ∙ own.0, ap (λ (y : Party). y.port.number) r.2 ∙ own.1)
 
@@ -52,16 +51,14 @@ pub not_with_itself : (x : NetworkSetup) (w : Network) → AllFine x w → NotWi
 not_with_itself x w i s p t q a e h inside d same = grind (arith, names_far_end)
 
 -- what is on the cable of a port, away from it
-there_out : (x : NetworkSetup) (w : Network) (s p t q : ℕ) → x.far s p ≡ Some (record { system = t; port = q })
-    → out_of x w.towards s p ≡ w.towards t q
+there_out : (x : NetworkSetup) (w : Network) (s p t q : ℕ) → x.far s p ≡ Some (record { system = t; port = q }) → out_of x w.towards s p ≡ w.towards t q
 there_out x w s p t q e = ap (at_far w.towards) e
 
 pub fly_on_its_cable : (x : NetworkSetup) (w : Network) → AllFine x w → FlyOnItsCable x w
 fly_on_its_cable x w i s g k p t q u e = grind arith
 
 pub flushed_behind_marker : (x : NetworkSetup) (w : Network) → AllFine x w → FlushedBehindMarker x w
-flushed_behind_marker x w i s g k p n t q u st e =
-    let o = (i.each s).lanes.orderly g k p u in
+flushed_behind_marker x w i s g k p n t q u st e = let o = (i.each s).lanes.orderly g k p u in
     let here = ends_there x s p (record { system = t; port = q }) e in
     let out = there_out x w s p t q e in (
       (λ front back stamp h.
@@ -85,15 +82,8 @@ collected_then_flying x w i s g k p t q u e = grind arith
 
 -- what a system took last, by what holds of its ports
 pub took_in_sync : (u : SystemSetup) (w : Scene) → Members u w.view.port → AllHeard w.view.port w.taken → TookInSync w
-took_in_sync u w members heard p a h d n =
-    let r = heard p a h n in
-    let y = r.3 ((members.member p a h d).1) in (
-      r.0,
-      r.1,
-      r.2,
-      y.0,
-      y.1,
-    )
+took_in_sync u w members heard p a h d n = let r = heard p a h n in
+    let y = r.3 ((members.member p a h d).1) in (r.0, r.1, r.2, y.0, y.1)
 
 pub each_took_in_sync : (x : NetworkSetup) (w : Network) → AllFine x w → EachTookInSync x w
 each_took_in_sync x w i s = took_in_sync (x.setup s) (scene_of x w s) (i.each s).members (i.each s).heard

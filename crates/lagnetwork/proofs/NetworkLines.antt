@@ -73,8 +73,7 @@ pub place_parts : (a b : Place) → Some a ≡ Some b → (a.system ≡ b.system
 place_parts a b h = let e : a ≡ b = same_Some a b h in (ap (λ (a : Place). a.system) e, ap (λ (a : Place). a.port) e)
 
 -- two ports whose cables end at one port are one
-pub same_near : (x : NetworkSetup) → IsNetworkSetup x → (s p t q : ℕ) (a : Place) → x.far s p ≡ Some a → x.far t q ≡ Some a
-    → (s ≡ t) × (p ≡ q)
+pub same_near : (x : NetworkSetup) → IsNetworkSetup x → (s p t q : ℕ) (a : Place) → x.far s p ≡ Some a → x.far t q ≡ Some a → (s ≡ t) × (p ≡ q)
 same_near x f s p t q a h k = place_parts (record { system = s; port = p }) (record { system = t; port = q }) (sym (f.cables s p a.system a.port h) ∙ f.cables t q a.system a.port k)
 
 -- the cable of a port is whole as seen from either end
@@ -84,8 +83,7 @@ SeenAlike x whole = (s p t q : ℕ) → x.far s p ≡ Some (record { system = t;
 -- what system s sends is on its own cable
 module _ (x : NetworkSetup) (f : IsNetworkSetup x) (whole : ℕ → ℕ → Bool) (alike : SeenAlike x whole) (kept : Bool) (s p : ℕ) (m : Message)
     (towards : ℕ → ℕ → List Message) where
-  own_put : (c : ℕ) → out_of x (put_on_line x whole kept s p m towards) s c
-      ≡ put_on_cable (ends_of x s) (whole s) kept p m (out_of x towards s) c
+  own_put : (c : ℕ) → out_of x (put_on_line x whole kept s p m towards) s c ≡ put_on_cable (ends_of x s) (whole s) kept p m (out_of x towards s) c
   own_put c = go (x.far s c) refl
     where
       go : (o : Option Place) → x.far s c ≡ o → at_far (put_on_line x whole kept s p m towards) o
@@ -129,8 +127,7 @@ module _ (x : NetworkSetup) (f : IsNetworkSetup x) (whole : ℕ → ℕ → Bool
   own_after (Some (Sends_frame p g k)) = λ i c. own_put x f whole alike kept s p (Data One g k (length (sent g k))) towards c i
   own_after (Some (Took p pdu)) = refl
 
-  pub other_after : (o : Option Act) (r : ℕ) → (r ≡ s → ⊥) → out_of x (towards_after x s whole count sent kept o towards) r
-      ≡ out_of x towards r
+  pub other_after : (o : Option Act) (r : ℕ) → (r ≡ s → ⊥) → out_of x (towards_after x s whole count sent kept o towards) r ≡ out_of x towards r
   other_after None r ne = refl
   other_after (Some (Sends p pdu)) r ne = λ i c.
       other_put x f whole alike kept s p (Control pdu (stamp_of pdu (count p))) towards r ne c i
@@ -164,8 +161,7 @@ begins_after x s whole count sent kept (Some (Took p pdu)) towards m t q h = h
 pub record Amid (x : NetworkSetup) (call : ModelCall) (stamp : ℕ) (s : ℕ) (towards : ℕ → ℕ → List Message) (whole : ℕ → ℕ → Bool)
     (forced : ℕ → ℕ → Bool) : Type 0 where
   pub running : is_restart call ≡ false
-  pub came : (p : ℕ) (pdu : ControlMessage) (a : Place) → call ≡ Receive p (Some pdu) → x.far s p ≡ Some a
-      → BeginsWith (Control pdu stamp) (towards s p)
+  pub came : (p : ℕ) (pdu : ControlMessage) (a : Place) → call ≡ Receive p (Some pdu) → x.far s p ≡ Some a → BeginsWith (Control pdu stamp) (towards s p)
   pub downed : (p : ℕ) → call ≡ Set_link p false → whole s p ≡ false
   pub forcing : (g k : ℕ) → call ≡ Force g k → forced g k ≡ true
 
@@ -216,10 +212,7 @@ pub by_less : (Q : List Message → Type 0) (new old : List Message) → IsLess 
     → (Overtakes old new → Q new) → Q new
 by_less Q new old h same none without over = elim h [
   | inl x ↦ subst Q (sym x) same
-  | inr y ↦ elim y [
-    | inl x ↦ subst Q (sym x) none
-    | inr z ↦ elim z [ inl x ↦ without x.0 (subst Q x.1 same) | inr o ↦ over o ]
-  ]
+  | inr y ↦ elim y [ inl x ↦ subst Q (sym x) none | inr z ↦ elim z [ inl x ↦ without x.0 (subst Q x.1 same) | inr o ↦ over o ] ]
 ]
 
 pub every_less : (P : Message → Type 0) (new old : List Message) → IsLess new old → Every P old → Every P new
@@ -241,33 +234,31 @@ back_blank i = record { place = i.place; behind = i.behind; answered = λ p n f 
 module _ {me : Side} {ends : ℕ → Option ℕ} {f : DistributorFacts} {out back : ℕ → List Message} {whole : ℕ → Bool}
     {sent collected : ℕ → ℕ → List ℕ} {forced : ℕ → ℕ → Bool} (i : Lanes me ends f out back whole sent collected forced) where
   -- less is on the cables
-  pub lanes_less : (out' back' : ℕ → List Message) (whole' : ℕ → Bool) → ((c : ℕ) → IsLess (out' c) (out c))
-      → ((c : ℕ) → IsLess (back' c) (back c)) → ((c : ℕ) → whole' c ≡ false → out' c ≡ [])
-      → Lanes me ends f out' back' whole' sent collected forced
-  lanes_less out' back' whole' lo lb cut =
-      let first : Lanes me ends f out' back whole' sent collected forced = record {
-        waits = i.waits;
-        markers = λ c. every_less (MarkerBelow f.next) (out' c) (out c) (lo c) (i.markers c);
-        responses = i.responses;
-        origin = λ c. every_less (IsFrom me) (out' c) (out c) (lo c) (i.origin c);
-        cut = cut;
-        orderly = λ g k c u. let o = i.orderly g k c u in
-            by_less (λ l. Orderly me g k (ends c) (f.state g k) l (back c) (sent g k) (collected g k)) (out' c) (out c) (lo c) o (out_blank o)
-            (λ m x. taken_away x) (λ y. subst (λ l. Orderly me g k (ends c) (f.state g k) l (back c) (sent g k) (collected g k))
-            (cond_true (eqb c c) (out' c) (out c) (eq-eqb c c refl))
-            ((lanes_out_overtaken me ends f whole sent collected forced out back c (out' c) y i).orderly g k c u));
-      } in record {
-        waits = i.waits;
-        markers = first.markers;
-        responses = λ c. every_less (ResponseBelow f.next) (back' c) (back c) (lb c) (i.responses c);
-        origin = first.origin;
-        cut = cut;
-        orderly = λ g k c u. let o = first.orderly g k c u in
-            by_less (λ l. Orderly me g k (ends c) (f.state g k) (out' c) l (sent g k) (collected g k)) (back' c) (back c) (lb c) o (back_blank o)
-            (λ m x. answer_taken x) (λ y. subst (λ l. Orderly me g k (ends c) (f.state g k) (out' c) l (sent g k) (collected g k))
-            (cond_true (eqb c c) (back' c) (back c) (eq-eqb c c refl))
-            ((lanes_back_overtaken me ends f whole' sent collected forced out' back c (back' c) y first).orderly g k c u));
-      }
+  pub lanes_less : (out' back' : ℕ → List Message) (whole' : ℕ → Bool) → ((c : ℕ) → IsLess (out' c) (out c)) → ((c : ℕ) → IsLess (back' c) (back c))
+      → ((c : ℕ) → whole' c ≡ false → out' c ≡ []) → Lanes me ends f out' back' whole' sent collected forced
+  lanes_less out' back' whole' lo lb cut = let first : Lanes me ends f out' back whole' sent collected forced = record {
+    waits = i.waits;
+    markers = λ c. every_less (MarkerBelow f.next) (out' c) (out c) (lo c) (i.markers c);
+    responses = i.responses;
+    origin = λ c. every_less (IsFrom me) (out' c) (out c) (lo c) (i.origin c);
+    cut = cut;
+    orderly = λ g k c u. let o = i.orderly g k c u in
+        by_less (λ l. Orderly me g k (ends c) (f.state g k) l (back c) (sent g k) (collected g k)) (out' c) (out c) (lo c) o (out_blank o)
+        (λ m x. taken_away x) (λ y. subst (λ l. Orderly me g k (ends c) (f.state g k) l (back c) (sent g k) (collected g k))
+        (cond_true (eqb c c) (out' c) (out c) (eq-eqb c c refl))
+        ((lanes_out_overtaken me ends f whole sent collected forced out back c (out' c) y i).orderly g k c u));
+  } in record {
+    waits = i.waits;
+    markers = first.markers;
+    responses = λ c. every_less (ResponseBelow f.next) (back' c) (back c) (lb c) (i.responses c);
+    origin = first.origin;
+    cut = cut;
+    orderly = λ g k c u. let o = first.orderly g k c u in
+        by_less (λ l. Orderly me g k (ends c) (f.state g k) (out' c) l (sent g k) (collected g k)) (back' c) (back c) (lb c) o (back_blank o)
+        (λ m x. answer_taken x) (λ y. subst (λ l. Orderly me g k (ends c) (f.state g k) (out' c) l (sent g k) (collected g k))
+        (cond_true (eqb c c) (back' c) (back c) (eq-eqb c c refl))
+        ((lanes_back_overtaken me ends f whole' sent collected forced out' back c (back' c) y first).orderly g k c u));
+  }
 
   -- the conversations that pass a test are free, and count as forced
   pub lanes_freed : (test : ℕ → ℕ → Bool) → Lanes me ends (record f { state = λ g k. cond (test g k) Free (f.state g k) }) out back whole sent
@@ -286,8 +277,7 @@ module _ {me : Side} {ends : ℕ → Option ℕ} {f : DistributorFacts} {out bac
       waits true d p n h e = absurd (let none : Free ≡ Flushing p n = e in cc)
       waits false d p n h e = h e
 
-      still : (b forced : Bool) (d : Conversation) (P : Conversation → Type 0) → (forced ≡ false → P d) → cond b true forced ≡ false
-          → P (cond b Free d)
+      still : (b forced : Bool) (d : Conversation) (P : Conversation → Type 0) → (forced ≡ false → P d) → cond b true forced ≡ false → P (cond b Free d)
       still true forced d P h u = absurd (true≢false u)
       still false forced d P h u = h u
 
@@ -301,17 +291,13 @@ module _ {me : Side} {ends : ℕ → Option ℕ} {f : DistributorFacts} {out bac
     origin = i.origin;
     cut = i.cut;
     orderly = λ h k c u. let o = i.orderly h k c u in record {
-      place = elim o.place [
-        | inl e ↦ inl e
-        | inr y ↦ inr (y.0, y.1, subst (λ d. conversation_port d ≡ Some y.0) (sym (on h k y.0 y.2)) refl)
-      ];
+      place = elim o.place [ inl e ↦ inl e | inr y ↦ inr (y.0, y.1, subst (λ d. conversation_port d ≡ Some y.0) (sym (on h k y.0 y.2)) refl) ];
       behind = λ p n e. absurd (waits h k p n e);
       answered = λ p n e. absurd (waits h k p n e);
       in_order = o.in_order;
     };
   }
 
-pub stamps_less : {ends theirs : ℕ → Option ℕ} {party : ℕ → Option Party} {count : ℕ → ℕ} {out : ℕ → List Message} {taken : ℕ
-    → Option TakenLacpdu} → Stamps ends theirs party count out taken → (out' : ℕ → List Message) → ((c : ℕ) → IsLess (out' c) (out c))
-    → Stamps ends theirs party count out' taken
+pub stamps_less : {ends theirs : ℕ → Option ℕ} {party : ℕ → Option Party} {count : ℕ → ℕ} {out : ℕ → List Message} {taken : ℕ → Option TakenLacpdu}
+    → Stamps ends theirs party count out taken → (out' : ℕ → List Message) → ((c : ℕ) → IsLess (out' c) (out c)) → Stamps ends theirs party count out' taken
 stamps_less {party = party} {count = count} {out = out} i out' less = grind (arith, every_less)

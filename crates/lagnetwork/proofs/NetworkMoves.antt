@@ -83,8 +83,7 @@ module _ (x : NetworkSetup) (far' : ℕ → ℕ → Option Place) (ends : ℕ �
       same (Some a) h e = cond_false (ends a.system a.port) [] (w.towards a.system a.port) (apart r c a.system a.port e h)
 
   each_moved : (r : ℕ) → FineIn x' (λ s. party_at (w.view s)) (record w { whole = whole'; towards = towards'; moved = moved }) r
-  each_moved r =
-      let f = less_part (i.each r) (out_of x' towards' r) (towards' r) (whole' r)
+  each_moved r = let f = less_part (i.each r) (out_of x' towards' r) (towards' r) (whole' r)
       (λ c. elim (parts r c) [ inl y ↦ inr (inl y.0) | inr y ↦ inl y.1 ]) (λ c. elim (parts r c) [ inl y ↦ inr (inl y.1) | inr y ↦ inl y.2 ])
       (λ c n. elim (parts r c) [ inl y ↦ y.0 | inr y ↦ y.1 ∙ (i.each r).lanes.cut c (sym y.3 ∙ n) ]) in record {
         members = f.members;
@@ -154,10 +153,7 @@ module _ (x : NetworkSetup) (f : IsNetworkSetup x) (s p t q : ℕ) (none : x.far
   plug_there : after.far s p ≡ Some (record { system = t; port = q })
   plug_there = elim (place_cases (at_place x.far s p (Some (record { system = t; port = q }))) t q (Some (record { system = s; port = p })) s p) [
     | inl y ↦ y.2 ∙ place_at s p t q y.0 y.1
-    | inr y ↦ y.1 ∙ elim (place_cases x.far s p (Some (record { system = t; port = q })) s p) [
-      | inl z ↦ z.2
-      | inr z ↦ absurd (z.0 (refl, refl))
-    ]
+    | inr y ↦ y.1 ∙ elim (place_cases x.far s p (Some (record { system = t; port = q })) s p) [ inl z ↦ z.2 | inr z ↦ absurd (z.0 (refl, refl)) ]
   ]
 
   plug_cases : (a b : ℕ) → ((a ≡ t) × (b ≡ q) × (after.far a b ≡ Some (record { system = s; port = p })))
@@ -193,16 +189,12 @@ module _ (x : NetworkSetup) (f : IsNetworkSetup x) (s p t q : ℕ) (none : x.far
   pub plug_away : (a b : ℕ) → is_end after s p a b ≡ false → after.far a b ≡ x.far a b
   plug_away a b e = elim (plug_cases a b) [
     | inl y ↦ absurd (true≢false (sym (is_one_end a b (inr (y.0, y.1))) ∙ e))
-    | inr y ↦ elim y [
-      | inl z ↦ absurd (true≢false (sym (is_one_end a b (inl (z.0, z.1))) ∙ e))
-      | inr z ↦ z.2
-    ]
+    | inr y ↦ elim y [ inl z ↦ absurd (true≢false (sym (is_one_end a b (inl (z.0, z.1))) ∙ e)) | inr z ↦ z.2 ]
   ]
 
   -- neither of the two had a cable
   bare : (a b r c : ℕ) → x.far a b ≡ Some (record { system = r; port = c }) → ((r ≡ s) × (c ≡ p)) ⊎ ((r ≡ t) × (c ≡ q)) → ⊥
-  bare a b r c h o =
-      let back = f.cables a b r c h in
+  bare a b r c h o = let back = f.cables a b r c h in
       elim o [
         | inl y ↦ none-some (record { system = a; port = b }) (sym none ∙ (λ i. x.far (sym y.0 i) (sym y.1 i)) ∙ back)
         | inr y ↦ none-some (record { system = a; port = b }) (sym free ∙ (λ i. x.far (sym y.0 i) (sym y.1 i)) ∙ back)
@@ -211,25 +203,18 @@ module _ (x : NetworkSetup) (f : IsNetworkSetup x) (s p t q : ℕ) (none : x.far
   pub plug_setup : IsNetworkSetup after
   plug_setup = record { setup = f.setup; cables = cables }
     where
-      cables : (a b r c : ℕ) → after.far a b ≡ Some (record { system = r; port = c })
-          → after.far r c ≡ Some (record { system = a; port = b })
+      cables : (a b r c : ℕ) → after.far a b ≡ Some (record { system = r; port = c }) → after.far r c ≡ Some (record { system = a; port = b })
       cables a b r c h = elim (plug_cases a b) [
         | inl y ↦ (let m = place_parts (record { system = s; port = p }) (record { system = r; port = c }) (sym y.2 ∙ h) in
             (λ i. after.far (sym m.0 i) (sym m.1 i)) ∙ plug_there ∙ place_at t q a b (sym y.0) (sym y.1))
         | inr y ↦ elim y [
           | inl z ↦ (let m = place_parts (record { system = t; port = q }) (record { system = r; port = c }) (sym z.2 ∙ h) in elim (plug_cases r c) [
             | inl k ↦ k.2 ∙ place_at s p a b (sym z.0) (sym z.1)
-            | inr k ↦ elim k [
-              | inl n ↦ n.2 ∙ place_at t q a b (m.0 ∙ n.0 ∙ sym z.0) (m.1 ∙ n.1 ∙ sym z.1)
-              | inr n ↦ absurd (n.0 (sym m.0, sym m.1))
-            ]
+            | inr k ↦ elim k [ inl n ↦ n.2 ∙ place_at t q a b (m.0 ∙ n.0 ∙ sym z.0) (m.1 ∙ n.1 ∙ sym z.1) | inr n ↦ absurd (n.0 (sym m.0, sym m.1)) ]
           ])
           | inr z ↦ (let there : x.far a b ≡ Some (record { system = r; port = c }) = sym z.2 ∙ h in elim (plug_cases r c) [
             | inl k ↦ absurd (bare a b r c there (inr (k.0, k.1)))
-            | inr k ↦ elim k [
-              | inl n ↦ absurd (bare a b r c there (inl (n.0, n.1)))
-              | inr n ↦ n.2 ∙ f.cables a b r c there
-            ]
+            | inr k ↦ elim k [ inl n ↦ absurd (bare a b r c there (inl (n.0, n.1))) | inr n ↦ n.2 ∙ f.cables a b r c there ]
           ])
         ]
       ]

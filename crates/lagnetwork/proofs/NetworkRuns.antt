@@ -17,8 +17,7 @@ pub record IsKept (Is : NetworkEvent → Type 0) (P : NetworkSetup → Network �
       → MoveAllowed (x.setup s) call (w.view s) m.0 → P x w → P x (network_after x s stamp m w)
   pub apart : (x : NetworkSetup) (w : Network) (whole : ℕ → ℕ → Bool) (towards : ℕ → ℕ → List Message) (count : ℕ → ℕ → ℕ)
       (forced : ℕ → ℕ → ℕ → Bool) → P x w → P x (record w { whole = whole; towards = towards; count = count; forced = forced })
-  pub handed : (x : NetworkSetup) (t : ℕ) (a : Place) (h g k n : ℕ) (w : Network) → P x w
-      → P x (handed_up_from t (Some a) (Some h) g k n w)
+  pub handed : (x : NetworkSetup) (t : ℕ) (a : Place) (h g k n : ℕ) (w : Network) → P x w → P x (handed_up_from t (Some a) (Some h) g k n w)
   pub viewed : (x : NetworkSetup) (s : ℕ) (v : View) (w : Network) → (v ≡ first_view (x.setup s)) ⊎ (v.port ≡ (w.view s).port) → P x w
       → P x (record w { view = at_system w.view s v })
   pub succeeded : (x : NetworkSetup) (s : ℕ) (setup : SystemSetup) (after : View) (w : Network) → P x w
@@ -28,9 +27,8 @@ pub record IsKept (Is : NetworkEvent → Type 0) (P : NetworkSetup → Network �
       })
   pub pulled : (x : NetworkSetup) (s p : ℕ) (w : Network) → Is (NetworkEvent.Pull s p) → P x w
       → P (recabled x (NetworkEvent.Pull s p)) (with_cable_moved x false s p w)
-  pub plugged : (x : NetworkSetup) → IsNetworkSetup x → (s p t q : ℕ) (w : Network) → Is (NetworkEvent.Plug s p t q) → x.far s p ≡ None
-      → x.far t q ≡ None → P x w
-      → P (recabled x (NetworkEvent.Plug s p t q)) (with_cable_moved (recabled x (NetworkEvent.Plug s p t q)) true s p w)
+  pub plugged : (x : NetworkSetup) → IsNetworkSetup x → (s p t q : ℕ) (w : Network) → Is (NetworkEvent.Plug s p t q) → x.far s p ≡ None → x.far t q ≡ None
+      → P x w → P (recabled x (NetworkEvent.Plug s p t q)) (with_cable_moved (recabled x (NetworkEvent.Plug s p t q)) true s p w)
 
 module _ (Is : NetworkEvent → Type 0) (P : NetworkSetup → Network → Type 0) (i : IsKept Is P) where
   moved : (x : NetworkSetup) (s : ℕ) (call : ModelCall) (stamp : ℕ) (ms : List (Move × Bool)) (w : Network)
@@ -38,10 +36,8 @@ module _ (Is : NetworkEvent → Type 0) (P : NetworkSetup → Network → Type 0
   moved x s call stamp [] w a h = h
   moved x s call stamp (m ∷ ms) w a h = moved x s call stamp ms (network_after x s stamp m w) a.1 (i.moves x s call stamp m w a.0 h)
 
-  called : (x : NetworkSetup) (s : ℕ) (call : ModelCall) (stamp : ℕ) (old mid new : Network) → P x mid
-      → NetworkCall x s call stamp old mid new → P x new
-  called x s call stamp old mid new h z =
-      let w = network_after_all x s stamp z.0 mid in
+  called : (x : NetworkSetup) (s : ℕ) (call : ModelCall) (stamp : ℕ) (old mid new : Network) → P x mid → NetworkCall x s call stamp old mid new → P x new
+  called x s call stamp old mid new h z = let w = network_after_all x s stamp z.0 mid in
       subst (P x) (sym z.2.2) (i.apart x w w.whole w.towards z.2.0 w.forced (moved x s call stamp z.0 mid z.1 h))
 
   -- where only the cables are others
@@ -52,8 +48,7 @@ module _ (Is : NetworkEvent → Type 0) (P : NetworkSetup → Network → Type 0
   popped : (x : NetworkSetup) (s p : ℕ) (w : Network) → P x w → P x (without_first s p w)
   popped x s p w h = cabled x w w.whole (without_first s p w).towards h
 
-  handed_up : (x : NetworkSetup) (t : ℕ) (o : Option Place) (up : Option ℕ) (g k n : ℕ) (w : Network) → P x w
-      → P x (handed_up_from t o up g k n w)
+  handed_up : (x : NetworkSetup) (t : ℕ) (o : Option Place) (up : Option ℕ) (g k n : ℕ) (w : Network) → P x w → P x (handed_up_from t o up g k n w)
   handed_up x t None up g k n w h = h
   handed_up x t (Some a) None g k n w h = h
   handed_up x t (Some a) (Some up) g k n w h = i.handed x t a up g k n w h
@@ -70,8 +65,7 @@ module _ (Is : NetworkEvent → Type 0) (P : NetworkSetup → Network → Type 0
   again x s p (Data origin g k n ∷ ms) old new h z = subst (P x) (sym z) h
   again x s p (Control pdu stamp ∷ ms) old new h z = called x s (ModelCall.Receive p (Some pdu)) stamp old old new h z
 
-  happens : (x : NetworkSetup) → IsNetworkSetup x → (e : NetworkEvent) (old new : Network) → Is e → P x old → NetworkHappens x e old new
-      → P (recabled x e) new
+  happens : (x : NetworkSetup) → IsNetworkSetup x → (e : NetworkEvent) (old new : Network) → Is e → P x old → NetworkHappens x e old new → P (recabled x e) new
   happens x f (NetworkEvent.Tick s n) old new is h z = called x s ModelCall.Tick 0 old old new h z
   happens x f (NetworkEvent.Emit s p) old new is h z = called x s ModelCall.Transmit 0 old old new h z
   happens x f (NetworkEvent.Deliver s p) old new is h z = comes x s p (old.towards s p) old new h z

@@ -14,8 +14,7 @@ use Rattle.lagnetwork.proofs.Networks.{by_system}
 pub record SourcedAt (far : ℕ → Option Place) (moved : ℕ → Moved) (ports : ℕ → Option PortFacts) (taken : ℕ → Option TakenLacpdu)
     (source : ℕ → Option Place) : Type 0 where
   pub start : (p : ℕ) (m : TakenLacpdu) → moved p ≡ Unmoved → taken p ≡ Some m → source p ≡ far p
-  pub down : (p : ℕ) (a : PortFacts) → moved p ≡ Moved_down → ports p ≡ Some a → a.synchronized ≡ true → a.defaulted ≡ false
-      → source p ≡ far p
+  pub down : (p : ℕ) (a : PortFacts) → moved p ≡ Moved_down → ports p ≡ Some a → a.synchronized ≡ true → a.defaulted ≡ false → source p ≡ far p
 
 abbrev pub Sourced : NetworkSetup → Network → Type 0
 Sourced x w = (s : ℕ) → SourcedAt (x.far s) (w.moved s) (w.view s).port (w.taken s) (w.source s)
@@ -86,16 +85,12 @@ sourced_kept = record {
           | inr e ↦ subst (λ (ports : ℕ → Option PortFacts). SourcedAt (x.far s) (w.moved s) ports (w.taken s) (w.source s)) (sym e) (i s)
         ]) (λ t ne. i t) t
 
-    again : (far : ℕ → Option Place) (moved : ℕ → Moved) (now next : ℕ → Option PortFacts) (taken : ℕ → Option TakenLacpdu)
-        (source : ℕ → Option Place) → SourcedAt far moved now taken source
-        → SourcedAt far (λ p. moved_again (moved p) (now p) (next p)) next taken source
+    again : (far : ℕ → Option Place) (moved : ℕ → Moved) (now next : ℕ → Option PortFacts) (taken : ℕ → Option TakenLacpdu) (source : ℕ → Option Place)
+        → SourcedAt far moved now taken source → SourcedAt far (λ p. moved_again (moved p) (now p) (next p)) next taken source
     again far moved now next taken source i = grind arith
 
 pub sourced : IsNetworkInvariant Sourced
-sourced = always Sourced sourced_kept (λ x s. record {
-  start = λ p m u taken. absurd (none-some m taken);
-  down = λ p a u. absurd (unmoved-down u);
-})
+sourced = always Sourced sourced_kept (λ x s. record { start = λ p m u taken. absurd (none-some m taken); down = λ p a u. absurd (unmoved-down u) })
 
 -- ---- where no cable is moved
 

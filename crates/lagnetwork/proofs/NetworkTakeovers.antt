@@ -68,10 +68,7 @@ first_markers_are_alike x f s n = grind arith
 -- restarts
 
 abbrev restarted : NetworkSetup → ℕ → Network → Network
-restarted x s w = record w {
-  view = at_system w.view s (first_view (x.setup s));
-  towards = λ t q. cond (ends_at x s t q) [] (w.towards t q);
-}
+restarted x s w = record w { view = at_system w.view s (first_view (x.setup s)); towards = λ t q. cond (ends_at x s t q) [] (w.towards t q) }
 
 abbrev after_restart : NetworkSetup → ℕ → Network → Network
 after_restart x s w = record (restarted x s w) { count = counted w (restarted x s w) }
@@ -80,8 +77,7 @@ restarts : (x : NetworkSetup) (s : ℕ) (w : Network) → NetworkHappens x (Netw
 restarts x s w = (counted w (restarted x s w), counts w (restarted x s w), refl)
 
 pub may_begin_anew : (x : NetworkSetup) (w : Network) → IsNetworkSetup x → AllFine x w → MayBeginAnew x w
-may_begin_anew x w f i s setup alike =
-    let mid = after_restart x s w in
+may_begin_anew x w f i s setup alike = let mid = after_restart x s w in
     let fine = happens_kept x f (NetworkEvent.Restart s) w mid i (restarts x s w) in
     let first : mid.view s ≡ first_view (x.setup s) = there w.view s (first_view (x.setup s)) in
     let follows = subst (IsNetworkSuccessor x mid s) first

@@ -101,8 +101,7 @@ abbrev place : ℕ → ℕ → Place
 place s p = record { system = s; port = p }
 
 abbrev far_of : ℕ → ℕ → Option Place
-far_of s p =
-    cond (eqb s 1) (cond (eqb p 1) (Some (place 2 1)) (cond (eqb p 2) (Some (place 3 2)) None))
+far_of s p = cond (eqb s 1) (cond (eqb p 1) (Some (place 2 1)) (cond (eqb p 2) (Some (place 3 2)) None))
     (cond (eqb s 2) (cond (eqb p 1) (Some (place 1 1)) None) (cond (eqb s 3) (cond (eqb p 2) (Some (place 1 2)) None) None))
 
 abbrev x₀ : NetworkSetup

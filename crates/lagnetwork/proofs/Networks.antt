@@ -76,11 +76,9 @@ last_peer x f r s u call stamp v (Flow m) party count out whole forced taken sou
 last_peer x f r s u call stamp v Restart party count out whole forced taken source a w stamps names i = i
 
 -- the end of an event, at which the counts rise if the parties differ
-last_counted : (x : NetworkSetup) (r : ℕ) (was is : ℕ → Option Party) (old new : ℕ → ℕ) (taken : ℕ → Option TakenLacpdu)
-    (source : ℕ → Option Place) → ((p : ℕ) → ((is p ≡ was p) × (new p ≡ old p)) ⊎ ((is p ≢ was p) × (new p ≡ suc (old p))))
-    → Last x r was old taken source → Last x r is new taken source
-last_counted x r was is old new taken source h i p c l e t =
-    let f = i p c l e t in
+last_counted : (x : NetworkSetup) (r : ℕ) (was is : ℕ → Option Party) (old new : ℕ → ℕ) (taken : ℕ → Option TakenLacpdu) (source : ℕ → Option Place)
+    → ((p : ℕ) → ((is p ≡ was p) × (new p ≡ old p)) ⊎ ((is p ≢ was p) × (new p ≡ suc (old p)))) → Last x r was old taken source → Last x r is new taken source
+last_counted x r was is old new taken source h i p c l e t = let f = i p c l e t in
     grind (arith, same_Some, stamps_counted)
 
 -- what holds of system r: out is what is on the cable of each of its ports, away from it, back what is on it towards it
@@ -162,9 +160,8 @@ module _ {x : NetworkSetup} {r : ℕ} {v : View} {party : ℕ → Option Party} 
           (subst (λ (k : ℕ → Option Place). Last x r party count taken k) c h)
 
   -- less is on the cables
-  pub less_part : (out' back' : ℕ → List Message) (whole' : ℕ → Bool) → ((c : ℕ) → IsLess (out' c) (out c))
-      → ((c : ℕ) → IsLess (back' c) (back c)) → ((c : ℕ) → whole' c ≡ false → out' c ≡ [])
-      → Fine x r v party count out' back' whole' sent collected forced mine taken source
+  pub less_part : (out' back' : ℕ → List Message) (whole' : ℕ → Bool) → ((c : ℕ) → IsLess (out' c) (out c)) → ((c : ℕ) → IsLess (back' c) (back c))
+      → ((c : ℕ) → whole' c ≡ false → out' c ≡ []) → Fine x r v party count out' back' whole' sent collected forced mine taken source
   less_part out' back' whole' lo lb cut = record {
     members = i.members;
     heard = i.heard;
@@ -176,8 +173,7 @@ module _ {x : NetworkSetup} {r : ℕ} {v : View} {party : ℕ → Option Party} 
   }
 
   -- the change counts at the end of an event
-  pub counted_part : (new : ℕ → ℕ)
-      → ((p : ℕ) → ((party_at v p ≡ party p) × (new p ≡ count p)) ⊎ ((party_at v p ≢ party p) × (new p ≡ suc (count p))))
+  pub counted_part : (new : ℕ → ℕ) → ((p : ℕ) → ((party_at v p ≡ party p) × (new p ≡ count p)) ⊎ ((party_at v p ≢ party p) × (new p ≡ suc (count p))))
       → Fine x r v (party_at v) new out back whole sent collected forced mine taken source
   counted_part new h = record {
     members = i.members;
@@ -189,8 +185,7 @@ module _ {x : NetworkSetup} {r : ℕ} {v : View} {party : ℕ → Option Party} 
     last = λ s. last_counted x r party (party_at v) count new (taken s) (source s) h (i.last s);
   }
 
-  pub freed_part : (test : ℕ → ℕ → Bool)
-      → Fine x r (freed_view test v) party count out back whole sent collected (also_forced test forced) mine taken source
+  pub freed_part : (test : ℕ → ℕ → Bool) → Fine x r (freed_view test v) party count out back whole sent collected (also_forced test forced) mine taken source
   freed_part test = record {
     members = i.members;
     heard = i.heard;
@@ -248,8 +243,7 @@ module _ (x : NetworkSetup) (f : IsNetworkSetup x) (s : ℕ) (call : ModelCall) 
   }
 
   at_mover : FineIn x party (network_after x s stamp m w) s
-  at_mover =
-      let o = act (x.setup s) m.0 (w.view s) in
+  at_mover = let o = act (x.setup s) m.0 (w.view s) in
       let own = own_part (i.each s) call stamp m.1 m.0 a (within_own x call stamp s w.towards w.whole (w.forced s) i.amid) i.parties in
       let sent_out = fine_along x s (party s) (w.count s) (w.whole s) (w.collected s) (w.forced s)
       _ _ _ _ _ _ _ _ _ _ w.taken w.source refl (sym (own_after x f w.whole i.alike m.1 s (w.count s) (w.sent s) w.towards o)) refl refl refl own in
@@ -262,8 +256,7 @@ module _ (x : NetworkSetup) (f : IsNetworkSetup x) (s : ℕ) (call : ModelCall) 
       (within_far x f call stamp s ((network_after x s stamp m w).towards) w.whole (w.forced s) i.alike amid_after s))
 
   at_other : (r : ℕ) → (r ≡ s → ⊥) → FineIn x party (network_after x s stamp m w) r
-  at_other r ne =
-      let o = act (x.setup s) m.0 (w.view s) in
+  at_other r ne = let o = act (x.setup s) m.0 (w.view s) in
       fine_along x r (party r) (w.count r) (w.whole r) (w.collected r) (w.forced r)
       _ _ _ _ _ _ _ _ _ _ (at_system w.taken s (taken_after stamp o (w.taken s))) (at_system w.source s (source_after (x.far s) o (w.source s)))
       (sym (elsewhere w.view s (view_after (x.setup s) m.0 (w.view s)) r ne))
@@ -291,8 +284,7 @@ calling_all x f s call stamp party (m ∷ ms) w a i = calling_all x f s call sta
     (calling_moved x f s call stamp party m w a.0 i)
 
 -- a whole call, within an event that began in the network old; what began a list of messages still does
-pub call_kept : (x : NetworkSetup) → IsNetworkSetup x → (s : ℕ) (call : ModelCall) (stamp : ℕ) (old mid new : Network)
-    → mid.count ≡ old.count
+pub call_kept : (x : NetworkSetup) → IsNetworkSetup x → (s : ℕ) (call : ModelCall) (stamp : ℕ) (old mid new : Network) → mid.count ≡ old.count
     → Calling x s call stamp (λ t. party_at (old.view t)) mid → NetworkCall x s call stamp old mid new → AllFine x new
 call_kept x f s call stamp old mid new same i z =
     let end = calling_all x f s call stamp (λ t. party_at (old.view t)) z.0 mid z.1 i in

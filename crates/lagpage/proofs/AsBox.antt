@@ -15,8 +15,7 @@ abbrev pub E : Bx
 E = record {
   row = Pieces.the_row;
   laws = kept.the_row_laws;
-  al =
-      record { row = Heap.the_row; laws = heap.the_row_laws; g = ghosts; d = dict; drops = impl [] tnil dnil };
+  al = record { row = Heap.the_row; laws = heap.the_row_laws; g = ghosts; d = dict; drops = impl [] tnil dnil };
 }
 
 abbrev pub FromParts : Slot 0

@@ -20,8 +20,7 @@ begins settings w before = record { ended = refl; explains = stands_first settin
 pub fed_refused : (piece : List ℕ) (p : Pieces) → p.is_ended ≡ false → is_read_on p.reading ≡ false → Turns (fed_with piece) p p
 fed_refused piece p e off h by = record { ended = by.ended; explains = so h.ended (sym by.ended ∙ e) by.explains }
   where
-    so : (b : Bool) → b ≡ false → Explains b h.settings h.fed h.out p.reading
-        → Explains b h.settings (cond b h.fed (h.fed ++ piece)) h.out p.reading
+    so : (b : Bool) → b ≡ false → Explains b h.settings h.fed h.out p.reading → Explains b h.settings (cond b h.fed (h.fed ++ piece)) h.out p.reading
     so true is x = absurd (false≢true (sym is))
     so false is x = let (f, z) = fault_is p.reading.fault off in stands_refused h.settings h.fed h.out piece p.reading f x z
 
@@ -30,8 +29,7 @@ pub fed_read : (piece : List ℕ) (p q : Pieces) → p.is_ended ≡ false → is
     → Feeds piece p.reading q.reading → Turns (fed_with piece) p q
 fed_read piece p q e on same feeds h by = record { ended = same ∙ by.ended; explains = so h.ended (sym by.ended ∙ e) by.explains }
   where
-    so : (b : Bool) → b ≡ false → Explains b h.settings h.fed h.out p.reading
-        → Explains b h.settings (cond b h.fed (h.fed ++ piece)) h.out q.reading
+    so : (b : Bool) → b ≡ false → Explains b h.settings h.fed h.out p.reading → Explains b h.settings (cond b h.fed (h.fed ++ piece)) h.out q.reading
     so true is x = absurd (false≢true (sym is))
     so false is x = stands_fed h.settings h.fed h.out piece p.reading q.reading x (free_is p.reading.fault on) feeds
 
@@ -47,13 +45,11 @@ ends p q e closes is_ended h by = record { ended = is_ended; explains = so h.end
           refl,
     )
 
-pub handed_out : (p q : Pieces) → q.is_ended ≡ p.is_ended
-    → q.reading ≡ record p.reading { report = record p.reading.report { to_write = [] } }
-    → (h : History) → IsBy h p → IsBy (record h { out = h.out ++ p.reading.report.to_write }) q
+pub handed_out : (p q : Pieces) → q.is_ended ≡ p.is_ended → q.reading ≡ record p.reading { report = record p.reading.report { to_write = [] } } → (h : History)
+    → IsBy h p → IsBy (record h { out = h.out ++ p.reading.report.to_write }) q
 handed_out p q same cleared h by = record { ended = same ∙ by.ended; explains = so h.ended by.explains }
   where
-    so : (b : Bool) → Explains b h.settings h.fed h.out p.reading
-        → Explains b h.settings h.fed (h.out ++ p.reading.report.to_write) q.reading
+    so : (b : Bool) → Explains b h.settings h.fed h.out p.reading → Explains b h.settings h.fed (h.out ++ p.reading.report.to_write) q.reading
     so false x = stands_written h.settings h.fed h.out p.reading q.reading x cleared
     so true (all, counts) = (
       all ∙ sym (append-nil (h.out ++ p.reading.report.to_write))
@@ -82,14 +78,13 @@ TellsOf p t = Tells (status_at p.is_ended (summary_of p.reading)) p.reading.repo
 
 tells_by : (h : History) (p : Pieces) (t : Told) → IsBy h p → TellsOf p t
     → Tells (status_at h.ended (summary h.settings h.fed)) p.reading.report.to_write (said_at h.ended (summary h.settings h.fed)) t
-tells_by h p t by tells =
-    let b = by.ended in record {
-      octets = tells.octets ∙ ap (λ (k : Bool). p.reading.report.to_write ++ said_at k (summary_of p.reading)) b
-          ∙ ap (λ l. p.reading.report.to_write ++ l) (said_is h.ended h.settings h.fed h.out p.reading by.explains);
-      printed_is = tells.printed_is;
-      status_is = tells.status_is ∙ ap (λ (k : Bool). status_at k (summary_of p.reading)) b
-          ∙ status_is h.ended h.settings h.fed h.out p.reading by.explains;
-    }
+tells_by h p t by tells = let b = by.ended in record {
+  octets = tells.octets ∙ ap (λ (k : Bool). p.reading.report.to_write ++ said_at k (summary_of p.reading)) b
+      ∙ ap (λ l. p.reading.report.to_write ++ l) (said_is h.ended h.settings h.fed h.out p.reading by.explains);
+  printed_is = tells.printed_is;
+  status_is = tells.status_is ∙ ap (λ (k : Bool). status_at k (summary_of p.reading)) b
+      ∙ status_is h.ended h.settings h.fed h.out p.reading by.explains;
+}
 
 -- a text that waits for more room
 pub waits : (room count : ℕ) (p : Pieces) (t : Told) → count ≡ length t.octets.items → room < count → TellsOf p t
@@ -104,8 +99,7 @@ waits room count p t counts short tells h by = record {
 
 -- a text that is handed out
 pub goes_out : (room count : ℕ) (p q : Pieces) (t : Told) → count ≡ length t.octets.items → count ≤ room → TellsOf p t
-    → ((h : History) → IsBy h p → IsBy (record h { out = h.out ++ p.reading.report.to_write }) q)
-    → (h : History) → IsBy h p → Continues h room (Some q) t
+    → ((h : History) → IsBy h p → IsBy (record h { out = h.out ++ p.reading.report.to_write }) q) → (h : History) → IsBy h p → Continues h room (Some q) t
 goes_out room count p q t counts fits tells out h by = record {
   rest = p.reading.report.to_write;
   all = printed_is h.ended h.settings h.fed h.out p.reading by.explains;

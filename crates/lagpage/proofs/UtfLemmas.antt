@@ -20,18 +20,15 @@ pub tells_report : (text printed report : List ℕ) (r : Result Told AllocError)
 tells_report text printed report (Ok t) is e p = inl (record { report = report; is_report = is; told = subst (λ l. Tells 0 l [] t) e p })
 tells_report text printed report (Err x) is e p = tt
 
-pub replays : {octets text : List ℕ} (r : Result Told AllocError) → text ≡ octets → IsUtf8 octets → IfOk r (TellsScript text)
-    → IfOk r (TellsReplay octets)
+pub replays : {octets text : List ℕ} (r : Result Told AllocError) → text ≡ octets → IsUtf8 octets → IfOk r (TellsScript text) → IfOk r (TellsReplay octets)
 replays (Ok t) e u p = inl (u, subst (λ l. TellsScript l t) e p)
 replays (Err x) e u p = tt
 
-pub replays_no_text : {octets : List ℕ} (r : Result Told AllocError) → (IsUtf8 octets → ⊥) → IfOk r (TellsNoUtf8 octets)
-    → IfOk r (TellsReplay octets)
+pub replays_no_text : {octets : List ℕ} (r : Result Told AllocError) → (IsUtf8 octets → ⊥) → IfOk r (TellsNoUtf8 octets) → IfOk r (TellsReplay octets)
 replays_no_text (Ok t) n p = inr (n, p)
 replays_no_text (Err x) n p = tt
 
-pub decodes : {octets text : List ℕ} (r : Result Told AllocError) → text ≡ octets → IsUtf8 octets → IfOk r (TellsDecodeOf text)
-    → IfOk r (TellsDecode octets)
+pub decodes : {octets text : List ℕ} (r : Result Told AllocError) → text ≡ octets → IsUtf8 octets → IfOk r (TellsDecodeOf text) → IfOk r (TellsDecode octets)
 decodes (Ok t) e u p = inl (u, subst (λ l. TellsDecodeOf l t) e p)
 decodes (Err x) e u p = tt
 

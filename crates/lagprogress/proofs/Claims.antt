@@ -67,10 +67,7 @@ wakeful_along v u c d there = record {
     | inl f ↦ fires_keep (Wakeful v u) (lacpdu_rows x) (
       λ p b. elim b [
         | inl on ↦ inl on
-        | inr r ↦ inr (
-          r.0,
-          λ same. ap (λ (b : StateBits). b.activity) (decoded (recorded_synchronization x p) x.actor) ∙ ((e.0 there).1 ∙ r.0),
-        )
+        | inr r ↦ inr (r.0, λ same. ap (λ (b : StateBits). b.activity) (decoded (recorded_synchronization x p) x.actor) ∙ ((e.0 there).1 ∙ r.0))
       ],
       tt,
     ) p q f y
@@ -83,8 +80,7 @@ abbrev pub Owing : ℕ → Lacpdu → Lacpdu → ℕ → Machines → Type 0
 Owing d v u c p = IsEnd d v u c p × Wakeful v u p × Owes u p
 
 pub owing_settles : (d : ℕ) (v u : Lacpdu) (c n : ℕ) → 1 ≤ d → KeptBySettling (AtPort n (Owing d v u c))
-owing_settles d v u c n there =
-    let e = end_settles (Wakeful v u) v u c d n (wakeful_along v u c d there) in
+owing_settles d v u c n there = let e = end_settles (Wakeful v u) v u c d n (wakeful_along v u c d there) in
     record {
       mux = λ m ready p q h a f. (let r = e.mux m ready p q h (λ g. ((a g).0, (a g).1)) f in
           (r.0, r.1, runs_keep (Owes u) (mux_rows ready) (owes_mux u ready) p q h (a f).2));
@@ -120,8 +116,7 @@ desync : (i : Info) → party_of (record i { state = with_synchronization false 
 desync i = ap (named i) (decoded false i)
 
 expire : (i : Info) → party_of (record i { state = with_timeout true (with_synchronization false i.state) }) ≡ party_of i
-expire i =
-    let s = with_synchronization false i.state in
+expire i = let s = with_synchronization false i.state in
     ap (named i) (encode_then_decode (record (bits_of s) { timeout = true })) ∙ desync i
 
 owes_receive : (u : Lacpdu) → RowsKeep (Owes u) receive_rows
@@ -163,8 +158,7 @@ wakeful_receive v u it = each_row
     lapsed p a = still p (record p.partner { state = with_timeout true (with_synchronization false p.partner.state) }) a (expire p.partner)
         (expired_active p.partner.state)
 
-pub wakeful_ticks : (v u : Lacpdu) (p q : Machines) → (activity v ≡ true) ⊎ IsNamed u → RunsToRest receive_rows (count_down p) q
-    → Wakeful v u p → Wakeful v u q
+pub wakeful_ticks : (v u : Lacpdu) (p q : Machines) → (activity v ≡ true) ⊎ IsNamed u → RunsToRest receive_rows (count_down p) q → Wakeful v u p → Wakeful v u q
 wakeful_ticks v u p q named h a = runs_keep (Wakeful v u) receive_rows (wakeful_receive v u named) (count_down p) q h a
 
 pub owes_ticks : (u : Lacpdu) (p q : Machines) → RunsToRest receive_rows (count_down p) q → Owes u p → Owes u q
@@ -179,12 +173,11 @@ SaysSynced u v x = ((bits_of x.actor.state).synchronization ≡ true) × (party_
     × ((activity v ≡ true) ⊎ ((activity u ≡ true) × ((bits_of x.partner.state).activity ≡ true)))
 
 pub claim_said : (v u : Lacpdu) (dl : ℕ) (p : Machines) → Wakeful v u p → Claims u p → SaysSynced u v (pdu_of p dl)
-claim_said v u dl p wakes claim =
-    let bits = said_bits p in (
-      ap (λ (b : StateBits). b.synchronization) bits ∙ claim.0.1,
-      claim.1,
-      elim wakes [ inl on ↦ inl on | inr r ↦ inr (r.0, r.1 claim.1) ],
-    )
+claim_said v u dl p wakes claim = let bits = said_bits p in (
+  ap (λ (b : StateBits). b.synchronization) bits ∙ claim.0.1,
+  claim.1,
+  elim wakes [ inl on ↦ inl on | inr r ↦ inr (r.0, r.1 claim.1) ],
+)
 
 -- it is recorded; the first LACPDU is of the port that takes it
 pub takes_claim : (u v x : Lacpdu) (p q : Machines) → SameActor x v → SaysSynced u v x → can_receive p ≡ true → ProcessesLacpdu x p q

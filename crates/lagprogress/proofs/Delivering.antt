@@ -20,8 +20,7 @@ use Rattle.lagprogress.proofs.Linked.{put_other, put_there, gains_has, gains_goo
 pub responds_none : (gives : ℕ → ℕ → ℕ → Type 0) (n : ℕ) (octets : List ℕ) (a : Result Received SystemFault) (old new : SystemState)
     → CallPromise gives old (Receive n octets) (answer.Receive a) new → (frame : List ℕ) → response a ≡ Some frame → (x : Lacpdu)
     → IsFrame frame (Carries (pdu.Lacpdu x)) → ⊥
-responds_none gives n octets (Ok (received.Respond sent)) old new k frame e x c =
-    let m = k.moves.3 in
+responds_none gives n octets (Ok (received.Respond sent)) old new k frame e x c = let m = k.moves.3 in
     marker_carries_none sent x m.0 (subst (λ o. IsFrame o (Carries (pdu.Lacpdu x))) (sym (same_Some sent frame e)) c) m.1
 responds_none gives n octets a old new k frame e x c = none-some frame e
 
@@ -44,8 +43,7 @@ pub arrived_ports : (d : ℕ) (at : Side → ℕ) (w : Side → Lacpdu) (c : Sid
     → OfEach (AtPort (at s) (EndIs d w c x Y s)) (half s new).state.system_ports
     × ((((v : Lacpdu) → IsFrame octets (Carries (pdu.Lacpdu v)) → ⊥)) ⊎ (1 ≤ d → Heard d at w s new))
 arrived_ports d at w c x Y s k z octets old new fits along l there numbered good (inr h) = grind arith
-arrived_ports d at w c x Y s k z octets old new fits along l there numbered good (inl h) =
-    let v = h.0 in
+arrived_ports d at w c x Y s k z octets old new fits along l there numbered good (inl h) = let v = h.0 in
     let P = EndIs d w c x Y s in
     let Late : Machines → Type 0 = λ q. 1 ≤ d → Learnt d (w (peer s)) (wait_of (w s)) q in
     let Q : Machines → Type 0 = λ q. IsEnd d (w s) (w (peer s)) (c s) q × ((s ≡ x → Y q) × Late q) in

@@ -66,8 +66,7 @@ pub record Along (Y : Machines → Type 0) (v u : Lacpdu) (c d : ℕ) : Type 0 w
   pub mux : (ready : Bool) (p q : Machines) → RunsToRest (mux_rows ready) p q → Y p → Y q
   pub periodic : (p q : Machines) → RunsPeriodic p q → IsEnd d v u c p → Y p → Y q
   pub select : (choice : Choice) (p : Machines) → is_selected p.choice ≡ false → Y p → Y (record p { choice = choice })
-  pub takes : (x : Lacpdu) (p q : Machines) → Suits d v u x → can_receive p ≡ true → ProcessesLacpdu x p q → IsEnd d v u c p
-      → Y p → Y q
+  pub takes : (x : Lacpdu) (p q : Machines) → Suits d v u x → can_receive p ≡ true → ProcessesLacpdu x p q → IsEnd d v u c p → Y p → Y q
 
 -- settling
 
@@ -87,18 +86,12 @@ end_periodic d v u c = (λ p a. a, (λ p a. a, (λ p a. a, (λ p a. a, (λ p a. 
 
 pub end_settles : (Y : Machines → Type 0) (v u : Lacpdu) (c d n : ℕ) → Along Y v u c d → KeptBySettling (AtPort n (λ p. IsEnd d v u c p × Y p))
 end_settles Y v u c d n k = record {
-  mux = λ m ready p q h a e. (
-    times_keep (IsEnd d v u c) (mux_rows ready) (end_mux d v u c ready) h.0 p q h.1 (a e).0,
-    k.mux ready p q h (a e).1,
-  );
+  mux = λ m ready p q h a e. (times_keep (IsEnd d v u c) (mux_rows ready) (end_mux d v u c ready) h.0 p q h.1 (a e).0, k.mux ready p q h (a e).1);
   periodic = λ m p q h a e. (
     subst (IsEnd d v u c) (sym h.2) (runs_keep (IsEnd d v u c) periodic_rows (end_periodic d v u c) p h.0 h.1 (a e).0),
     k.periodic p q h (a e).0 (a e).1,
   );
-  select = λ m choice p none may a e. (
-    ((a e).0.0, (a e).0.1, λ f. absurd (no (sym none ∙ ((a e).0.2 f).0))),
-    k.select choice p none (a e).1,
-  );
+  select = λ m choice p none may a e. (((a e).0.0, (a e).0.1, λ f. absurd (no (sym none ∙ ((a e).0.2 f).0))), k.select choice p none (a e).1);
 }
 
 -- what holds of each of the five rows of the receive machine
@@ -115,8 +108,7 @@ same_recorded x u p hyp1 hyp2 = grind (arith, nat_tests)
 
 pub takes_known : (v u x : Lacpdu) (p q : Machines) → SameActor x u → can_receive p ≡ true → ProcessesLacpdu x p q → Says v p
     → p.enabled ≡ true → Known u (wait_of v) 0 q
-takes_known v u x p q e awake h a up =
-    let r = recorded x p q up awake h in
+takes_known v u x p q e awake h a up = let r = recorded x p q up awake h in
     grind (arith, nat_tests, says_kept, same_recorded, timeout_time)
 
 -- an LACPDU of the partner that is recorded leaves Selected

@@ -88,8 +88,7 @@ pub tick_one : (gives : Algorithms) (n : ℕ) (t : Side) (d : ℕ) (at : Side �
     → ((p q : Machines) → RunsToRest receive_rows (count_down p) q → AtRest periodic_rows p → IsEnd d (w x) (w (peer x)) (c x) p → t ≡ x → Y p → Z q)
     → ((p : Machines) → peer t ≡ x → Y p → Z p)
     → WorldSteps gives old (event.Tick n 1) r new → (l : Link d at w c x Y old) → Left d at w b x Z l.flying new
-tick_one gives n t d at w c b x Y Z r old new named k along moves stays h l =
-    let tick = ticks gives n t r old new named h in
+tick_one gives n t d at w c b x Y Z r old new named k along moves stays h l = let tick = ticks gives n t r old new named h in
     let steady = keeps_timely gives (event.Tick n 1) r old new h l.steady in
     let was : Side → Machines → Type 0 = EndIs d w c x Y in
     let now : Side → Machines → Type 0 = EndIs d w b x Z in

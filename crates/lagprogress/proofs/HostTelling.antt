@@ -99,8 +99,7 @@ module _ (gives : Algorithms) (d : ℕ) (at : Side → ℕ) (w : Side → Lacpdu
       (takes : (p : Machines) → partner_synchronized p ≡ true → X p) where
     leaves_on : (c : Side → ℕ) → Fits d w c → (e : HostEvent) (r : Reply) (i j : WorldState) → LeavesEnds at e → StepReplies gives i e r j → OnWay c X i
         → OnWay c X j
-    leaves_on c fits e r i j b h (l, m) =
-        let k = leaves_link gives e d at w c s Wakes r i j b h (along_wakes (c s)) l in
+    leaves_on c fits e r i j b h (l, m) = let k = leaves_link gives e d at w c s Wakes r i j b h (along_wakes (c s)) l in
         let up = ends_up d at w c s Wakes i l in
         left_by gives d at w c s X there fits keeps sends takes i j l k.link
         (leaves_each gives e at r i j b h (Owing d v u (c s)) s (owing_settles d v u (c s) (at s) there) (up s))
@@ -125,8 +124,7 @@ module _ (gives : Algorithms) (d : ℕ) (at : Side → ℕ) (w : Side → Lacpdu
 
   -- an Emit event: the end of s sends an LACPDU that is due, or Z still holds of it
   ask_sends : (c : Side → ℕ) (Z : Machines → Type 0) → Fits d w c → Along Z (w s) (w (peer s)) (c s) d → (n p : ℕ) (r : Reply) (i j : WorldState)
-      → Link d at w c s (And Z) i → WorldSteps gives i (event.Emit n p) r j
-      → Link d at w c s (And Z) j ⊎ ((o : OnWay c Any j) × Flying (o.0.flying (peer s)))
+      → Link d at w c s (And Z) i → WorldSteps gives i (event.Emit n p) r j → Link d at w c s (And Z) j ⊎ ((o : OnWay c Any j) × Flying (o.0.flying (peer s)))
   ask_sends c Z fits along n p r i j l h = elim (asked_which gives n p l.index at l.flying r i j l.links h) [
     | inl (t, numbered, is) ↦ asked t numbered (subst (λ q. WorldSteps gives i (event.Emit n q) r j) is h)
     | inr b ↦ inl (beside_link gives (event.Emit n p) d at w c s (And Z) r i j (along_both Z (c s) along) l h b).link
@@ -186,8 +184,7 @@ module _ (gives : Algorithms) (d : ℕ) (at : Side → ℕ) (w : Side → Lacpdu
         took : (v1 : Lacpdu) → IsFrame k.item.octets (Carries (pdu.Lacpdu v1))
             → ThenSettles (OnlyPortChangesBy (Some (end_here at w d c s Wakes i l (peer s)).index) (ProcessesLacpdu v1)) (half (peer s) i).state
             (half (peer s) j).state → HasTold c most j
-        took v1 carries settles =
-            let z = end_here at w d c s Wakes i l (peer s) in
+        took v1 carries settles = let z = end_here at w d c s Wakes i l (peer s) in
             let good = subst (AllByRecursion (IsGood d w (peer s))) k.first (l.good (peer s)) in
             let own = arrived_ports d at w c s Wakes (peer s) z.index z.port k.item.octets i j fits (along_wakes (c s)) l z.there z.number good.0
             (inl (v1, carries, settles)) in (
@@ -269,8 +266,7 @@ module _ (gives : Algorithms) (d : ℕ) (at : Side → ℕ) (w : Side → Lacpdu
         )
 
     told_own : (c b : Side → ℕ) (most : ℕ) → Counts d s c b → most ≤ W → Fits d w b → MadeByTick gives s (HasTold c most) (HasTold b most)
-    told_own c b most known less fits =
-        let L = Learnt d (w (peer (peer s))) most in
+    told_own c b most known less fits = let L = Learnt d (w (peer (peer s))) most in
         both_made gives s (both_made gives s (λ n r i j numbered h l. (tick_one gives n s d at w c b (peer s) L L r i j numbered known
         (learnt_along (w (peer s)) (w (peer (peer s))) (b (peer s)) d most less there (fits (peer s)).3)
         (λ p q run rest a f y. absurd (other_side s (sym f))) (λ p f y. y) h l).link)
@@ -279,8 +275,7 @@ module _ (gives : Algorithms) (d : ℕ) (at : Side → ℕ) (w : Side → Lacpdu
     -- where the peer knows the end for longer, a tick leaves it told
     still_told : (m : ℕ) → 1 ≤ m - 1 → (n : ℕ) (r : Reply) (i j : WorldState) → side_of n ≡ Some (peer s) → WorldSteps gives i (event.Tick n 1) r j
         → PeerIs (IsEnd d (w (peer s)) (w (peer (peer s))) m) i → PeerIs PartnerInSync i → PeerIs PartnerInSync j
-    still_told m some n r i j numbered h known y =
-        let P = AtPort (at (peer s)) (IsEnd d (w (peer s)) (w (peer (peer s))) m) in
+    still_told m some n r i j numbered h known y = let P = AtPort (at (peer s)) (IsEnd d (w (peer s)) (w (peer (peer s))) m) in
         let Q = AtPort (at (peer s)) PartnerInSync in
         Tick-each (λ q p. P q p × Q q p) Q (sync_settles (at (peer s)))
         (λ q p z run e f. ticks_partner d (w (peer s)) (w (peer (peer s))) m p z some run (e.0 f) (e.1 f)) (gives (peer s)) (half (peer s) i).state
@@ -288,18 +283,17 @@ module _ (gives : Algorithms) (d : ℕ) (at : Side → ℕ) (w : Side → Lacpdu
 
     told_other : (c b : Side → ℕ) (most : ℕ) → Counts d (peer s) c b → 2 ≤ most → most ≤ W → Fits d w b
         → MadeByTick gives (peer s) (HasTold c most) (HasTold b (most - 1))
-    told_other c b most known some less fits n r i j numbered h ((l, o), ea) =
-        let q = w (peer (peer s)) in (
-          (
-            (tick_one gives n (peer s) d at w c b (peer s) (Learnt d q most) (Learnt d q (most - 1)) r i j numbered known
-                (learnt_along (w (peer s)) q (b (peer s)) d (most - 1) (omega (arith, less)) there (fits (peer s)).3)
-                (λ p z run rest a f y. (subst (Learnt d q (most - 1)) (sym (known_still q (most - 1) (count_down p) z (omega (arith, some))
-                (counts q most 0 p y.0) run)) (counts q most 0 p y.0, y.1))) (λ p f y. absurd (other_side (peer s) f)) h l).link,
-            on_tick PartnerInSync (peer s) c b known n r i j numbered h (still_told most (omega (arith, some)) n r i j numbered h
-                (of_end l (peer s) (IsEnd d (w (peer s)) q most) (λ p rest timed a. (a.0.0, (a.1 refl).0, a.0.2)))) o,
-          ),
-          x.ticks_second (peer s) n r i j numbered h ea,
-        )
+    told_other c b most known some less fits n r i j numbered h ((l, o), ea) = let q = w (peer (peer s)) in (
+      (
+        (tick_one gives n (peer s) d at w c b (peer s) (Learnt d q most) (Learnt d q (most - 1)) r i j numbered known
+            (learnt_along (w (peer s)) q (b (peer s)) d (most - 1) (omega (arith, less)) there (fits (peer s)).3)
+            (λ p z run rest a f y. (subst (Learnt d q (most - 1)) (sym (known_still q (most - 1) (count_down p) z (omega (arith, some))
+            (counts q most 0 p y.0) run)) (counts q most 0 p y.0, y.1))) (λ p f y. absurd (other_side (peer s) f)) h l).link,
+        on_tick PartnerInSync (peer s) c b known n r i j numbered h (still_told most (omega (arith, some)) n r i j numbered h
+            (of_end l (peer s) (IsEnd d (w (peer s)) q most) (λ p rest timed a. (a.0.0, (a.1 refl).0, a.0.2)))) o,
+      ),
+      x.ticks_second (peer s) n r i j numbered h ea,
+    )
 
     module _ (n : ℕ) (few : n + 1 ≤ 30) (c : Side → ℕ) (fits : Fits d w c) (then : Fits d w (ticked_by n c)) where
       abbrev kn : ℕ → ℕ → Side → ℕ
@@ -337,8 +331,7 @@ module _ (gives : Algorithms) (d : ℕ) (at : Side → ℕ) (w : Side → Lacpdu
           next = subst (λ q. Along Z v u q d) (sym (two_there s (c s - a) (c (peer s) - b))) along
 
           by_event : (e : HostEvent) → LeavesPorts at e → StepReplies gives i e r j → Turn a b Z j
-          by_event (Plays (event.Emit n p)) q h =
-              let db = x.first (Plays (event.Emit n p)) r i j q h da in
+          by_event (Plays (event.Emit n p)) q h = let db = x.first (Plays (event.Emit n p)) r i j q h da in
               elim (ask_sends (kn a b) Z (fit_at a b l) next n p r i j y h) [
                 | inl k ↦ inl (k, db)
                 | inr (o, f) ↦ inr (length (o.0.flying (peer s)), inl ((o, flying_first (o.0.flying (peer s)) f), db))
@@ -379,8 +372,7 @@ module _ (gives : Algorithms) (d : ℕ) (at : Side → ℕ) (w : Side → Lacpdu
 
         rests : (b : ℕ) → b ≤ n → (j : WorldState) → NoneDue j → A n b j → C b j
         rests b few j none (inr z) = inr z
-        rests b few j none (inl (l, da)) =
-            let cc : Side → ℕ = kn n b in
+        rests b few j none (inl (l, da)) = let cc : Side → ℕ = kn n b in
             let e = end_here at w d cc s (And (X n)) j l s in
             let not : is_due e.port.port ≡ false = subst (OfPort (λ p. is_due p ≡ false)) e.found none in
             let now = of_end l s (λ p. is_due p ≡ false → EndIs d w cc s (And Z) s p) (λ p rest timed a free. (

@@ -40,18 +40,15 @@ module _ (at : Side → ℕ) (w : Side → Lacpdu) where
   AtIt s P j = OfEach (AtPort (at s) P) (half s j).state.system_ports
 
   pub lower : (c b : Side → ℕ) (x : Side) (Y : Machines → Type 0) (j : WorldState) → ((s : Side) → b s ≤ c s) → Link 1 at w c x Y j → Link 1 at w b x Y j
-  lower c b x Y j less l =
-      other_ports l (λ s p rest timed a. (less_known 1 (w s) (w (peer s)) (c s) (b s) p (less s) a.0, a.1))
+  lower c b x Y j less l = other_ports l (λ s p rest timed a. (less_known 1 (w s) (w (peer s)) (c s) (b s) p (less s) a.0, a.1))
 
   pub beside : (d : ℕ) (c : Side → ℕ) (x : Side) (Y : Machines → Type 0) (j : WorldState) → Link d at w c x Y j → AtIt x Y j
   beside d c x Y j l = of_end l x Y (λ p rest timed a. a.1 refl)
 
   -- of the end of s alone it is kept that it knows its partner, for so many ticks more, as what stands beside it says
   pub known_by : (m d : ℕ) (c : Side → ℕ) (s : Side) (Y : Machines → Type 0) (j : WorldState)
-      → ((p : Machines) → IsEnd d (w s) (w (peer s)) (c s) p → Y p → IsEnd d (w s) (w (peer s)) m p) → Link d at w c s Y j
-      → Link d at w (two s m 0) s Nothing j
-  known_by m d c s Y j known l =
-      let P : Side → Machines → Type 0 = EndIs d w c s Y in
+      → ((p : Machines) → IsEnd d (w s) (w (peer s)) (c s) p → Y p → IsEnd d (w s) (w (peer s)) m p) → Link d at w c s Y j → Link d at w (two s m 0) s Nothing j
+  known_by m d c s Y j known l = let P : Side → Machines → Type 0 = EndIs d w c s Y in
       let Q : Side → Machines → Type 0 = EndIs d w (two s m 0) s Nothing in
       other_ports l (each_side (λ u. (p : Machines) → AtRest periodic_rows p → IsTimed p → P u p → Q u p) s
       (λ p rest timed a. (subst (λ n. IsEnd d (w s) (w (peer s)) n p) (sym (two_there s m 0)) (known p a.0 (a.1 refl)), λ f. tt))
@@ -80,8 +77,7 @@ module _ (at : Side → ℕ) (w : Side → Lacpdu) where
   soon ticks more s fast j y = let some = some_silence fast in
       inl (omega (arith, some), subst (λ m. AtIt s (Sounds fast m) j) (sym (one_more ticks (silence_of fast) more)) y)
 
-  pub can_known : (s : Side) (c : ℕ) → 1 ≤ c → (activity (w s) ≡ true) ⊎ (activity (w (peer s)) ≡ true)
-      → CanSound (w s) (w (peer s)) (mode s) c
+  pub can_known : (s : Side) (c : ℕ) → 1 ≤ c → (activity (w s) ≡ true) ⊎ (activity (w (peer s)) ≡ true) → CanSound (w s) (w (peer s)) (mode s) c
   can_known s c l a = grind (arith, nat_tests)
 
   pub ends_of : (d : ℕ) (c : Side → ℕ) (x : Side) (Y : Machines → Type 0) (s : Side) (j : WorldState) → Link d at w c x Y j
@@ -144,8 +140,7 @@ module _ (at : Side → ℕ) (w : Side → Lacpdu) (counts : Side → ℕ) (kept
       → g.next s + slack ≤ g.known (peer s)
   known_long ticks slack spare d most n j g some l s = let m = g.longer s in let o = g.later s in grind (arith, nat_tests)
 
-  pub knows_in : {most n : ℕ} (ticks slack d : ℕ) (j : WorldState) (g : GoingIn ticks slack 0 d most n j) → 1 ≤ slack → (s : Side)
-      → ticks + 1 ≤ g.known s
+  pub knows_in : {most n : ℕ} (ticks slack d : ℕ) (j : WorldState) (g : GoingIn ticks slack 0 d most n j) → 1 ≤ slack → (s : Side) → ticks + 1 ≤ g.known s
   knows_in ticks slack d j g more s = let o = g.later (peer s) in let l = g.longer (peer s) in grind (arith, nat_tests, peer_twice)
 
   pub knows_late : {most n : ℕ} (d : ℕ) (j : WorldState) (g : GoingIn 1 11 0 d most n j) (s : Side) → 2 ≤ g.known s
@@ -184,10 +179,7 @@ module _ (at : Side → ℕ) (w : Side → Lacpdu) (counts : Side → ℕ) (kept
     longer = λ s. inl (let l = known_long 1 11 0 d 0 0 j g (omega arith) (omega arith) s in
         let o = g.later s in omega (arith, l, few, o));
     ahead = λ s. elim (g.ahead s) [
-      | inl (two, sounds) ↦ inl (
-        omega (arith, two, some),
-        subst (λ m. AtIt at w s (Sounds (mode at w s) m) j) (omega (arith, two, some)) sounds,
-      )
+      | inl (two, sounds) ↦ inl (omega (arith, two, some), subst (λ m. AtIt at w s (Sounds (mode at w s) m) j) (omega (arith, two, some)) sounds)
       | inr (one, said, flies) ↦ inr (omega (arith, one, some), said, flies)
     ];
     told = g.told;
@@ -228,8 +220,7 @@ module _ (at : Side → ℕ) (w : Side → Lacpdu) (counts : Side → ℕ) (kept
   -- both ends know each other: as a contract has it
   pub met_knows : {most n : ℕ} (ticks slack : ℕ) → 1 ≤ slack → (l : LinkState) → ((s : Side) → port_at s l ≡ at s) → (j : WorldState)
       → GoingIn ticks slack 0 1 most n j → (s : Side) → EndKnows s l j
-  met_knows ticks slack more l joins j g s =
-      let one = end_here at w 1 g.known One Nothing j g.link s in
+  met_knows ticks slack more l joins j g s = let one = end_here at w 1 g.known One Nothing j g.link s in
       let other = end_here at w 1 g.known One Nothing j g.link (peer s) in
       let r = (one.is.1.1 (let m = knows_in ticks slack 1 j g more s in omega (arith, m))).0 in
       let knows : Knows one.port.port other.port.port = record {
@@ -337,8 +328,7 @@ module _ (at : Side → ℕ) (w : Side → Lacpdu) (counts : Side → ℕ) (kept
       }
 
       pub goes_in : (spare d most n : ℕ) (old new : WorldState) (g : GoingIn ticks slack spare d most n old) → 1 ≤ d → Fits d w g.known
-          → Fits d w (ticked_by k g.known) → AbleIn at w k g.known → TicksBeside k at OldArrive gives old new
-          → GoingIn ticks slack spare d most (n + 1) new
+          → Fits d w (ticked_by k g.known) → AbleIn at w k g.known → TicksBeside k at OldArrive gives old new → GoingIn ticks slack spare d most (n + 1) new
       goes_in spare d most n old new g there fit then can h = both_went ticks slack spare d most (n + 1) (ticked_by k g.known) new base
           (ticks_stamp 1 gives at counts kept k old new h g.rest) went
         where

@@ -68,13 +68,9 @@ slow_calm : (T : Machines → Type 0) (p : Machines) → Kept T → p.enabled �
 slow_calm T p k up y = grind (arith, nat_tests, not_silent, no)
 
 phase_along : (v u : Lacpdu) (T : Machines → Type 0) (d k : ℕ) → activity u ≡ true → 1 ≤ d → Kept T → Along (Phase u T k) v u 0 d
-phase_along v u T d k on there kept =
-    let both = either_kept (Recorded u 1) T (recorded_kept u on) kept in
+phase_along v u T d k on there kept = let both = either_kept (Recorded u 1) T (recorded_kept u on) kept in
     record {
-      mux = λ ready p q h y. (
-        runs_keep (Sounds false k) (mux_rows ready) (mux_sounds false k ready) p q h y.0,
-        both.mux ready p q h y.1,
-      );
+      mux = λ ready p q h y. (runs_keep (Sounds false k) (mux_rows ready) (mux_sounds false k ready) p q h y.0, both.mux ready p q h y.1);
       periodic = λ p q h a y. (
         periodic_runs false k p q h (slow_calm (λ r. Recorded u 1 r ⊎ T r) p both a.1.0 y.1) y.0,
         both.periodic p q h a.1.0 y.1,
@@ -172,8 +168,7 @@ tick_recorded u p q on up h r =
 
 tick_tail : (N a : ℕ) (p q : Machines) → suc a ≤ N → p.enabled ≡ true → RunsToRest receive_rows (count_down p) q → AtRest periodic_rows p → Tail N a p
     → Tail N (suc a) q
-tick_tail N a p q l up h rest (i, (lapsed, sounds)) =
-    let e : ℕ = i + (N + 1) - suc a in
+tick_tail N a p q l up h rest (i, (lapsed, sounds)) = let e : ℕ = i + (N + 1) - suc a in
     let less : Lapsed e (count_down p) = (let m = lapsed.3 in (lapsed.0, lapsed.1, lapsed.2, omega (arith, m))) in
     let end = times_keep (UpAnd (Lapsed e)) receive_rows (lapsed_rows e (omega (arith, l))) h.0 (count_down p) q h.1 (up, less) in (
       i,
@@ -226,10 +221,7 @@ lasting_ticks v u d N n k small few on there = record {
         | inr (i, (lapsed, sounds)) ↦ (let more = still_sounds true (i - n) p rest (lapsed_calm (i + (N + 1) - n) p f.1.0 lapsed).0 not sounds in
             inr (
               i - n,
-              (
-                subst (λ e. Lapsed e p) (omega (arith, more)) lapsed,
-                subst (λ m. Sounds true m p) (sym (no_less (i - n))) sounds,
-              ),
+              (subst (λ e. Lapsed e p) (omega (arith, more)) lapsed, subst (λ m. Sounds true m p) (sym (no_less (i - n))) sounds),
             ))
       ],
     ),
@@ -274,11 +266,10 @@ keen_calm u e p quick up y = (
 
 pub keen_ticks : (u : Lacpdu) (e : ℕ) (p q : Machines) → IsQuick u → 2 ≤ e → p.enabled ≡ true → RunsToRest receive_rows (count_down p) q → Keen u e p
     → Keen u (e - 1) q
-keen_ticks u e p q quick more up h y =
-    let less : Keen u (e - 1) (count_down p) = elim y [
-      | inl r ↦ (let l = r.1 in inl (r.0, omega (arith, l)))
-      | inr l ↦ (let m = l.3 in inr (l.0, l.1, l.2, omega (arith, m)))
-    ] in
+keen_ticks u e p q quick more up h y = let less : Keen u (e - 1) (count_down p) = elim y [
+  | inl r ↦ (let l = r.1 in inl (r.0, omega (arith, l)))
+  | inr l ↦ (let m = l.3 in inr (l.0, l.1, l.2, omega (arith, m)))
+] in
     (times_keep (UpAnd (Keen u (e - 1))) receive_rows (keen_rows u (e - 1) quick.0 (omega (arith, more))) h.0 (count_down p) q h.1 (up, less)).1
 
 -- beside what is known

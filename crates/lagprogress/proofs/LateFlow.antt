@@ -71,11 +71,9 @@ abbrev pub IsPlain : ItemValue → Type 0
 IsPlain item = HasLacpdu item → ⊥
 
 -- the first item towards the end of t comes, or there is none
-pub comes_in : (gives : Algorithms) (n i : ℕ) (t : Side) (at : Side → ℕ) (fl : Side → List ItemValue) (r : Reply) (old new : WorldState)
-    → side_of n ≡ Some t → OnCable i at fl old.links → WorldSteps gives old (event.Deliver (suc i) n) r new
-    → ((fl t ≡ []) × Stays old new) ⊎ Arrives gives t at fl old new
-comes_in gives n i t at fl r old new named c h =
-    let v = value_of (side_of n) _ h.0 in
+pub comes_in : (gives : Algorithms) (n i : ℕ) (t : Side) (at : Side → ℕ) (fl : Side → List ItemValue) (r : Reply) (old new : WorldState) → side_of n ≡ Some t
+    → OnCable i at fl old.links → WorldSteps gives old (event.Deliver (suc i) n) r new → ((fl t ≡ []) × Stays old new) ⊎ Arrives gives t at fl old new
+comes_in gives n i t at fl r old new named c h = let v = value_of (side_of n) _ h.0 in
     let same : v.0 ≡ t = same_Some v.0 t (sym v.1 ∙ named) in
     let m = value_of (slice_get old.links i) _ v.2 in
     let is : m.0 ≡ cable at fl = same_Some m.0 (cable at fl) (sym m.1 ∙ c.there) in
@@ -182,8 +180,7 @@ module _ (gives : Algorithms) (t : Side) (x : ℕ) (at : Side → ℕ) (fl : Sid
   ]
 
   quiet_flows : (e : HostEvent) → LeavesEnds at e → StepReplies gives old e r new → Flows gives t x at fl e old new
-  quiet_flows e q h =
-      let g = leaves_cable gives e x at fl r old new q h c in
+  quiet_flows e q h = let g = leaves_cable gives e x at fl r old new q h c in
       record {
         index = x;
         now = g.flying;
@@ -258,8 +255,7 @@ module _ (gives : Algorithms) (n : ℕ) (s t : Side) (x : ℕ) (at : Side → �
   A k a b j = M a b j × Past t x at P k j
 
   kept_past : (k a b : ℕ) → Within n a b → KeptBeside at gives (A k a b)
-  kept_past k a b l e r i j q h (m, p) =
-      let f = flows gives t x at p.flying r i j p.on e q h in
+  kept_past k a b l e r i j q h (m, p) = let f = flows gives t x at p.flying r i j p.on e q h in
       let same = stays_there x f.index at p.flying f.now i j p.on f.on (joins_kept at gives i.links e r i j q h refl) in (
         kept a b l e r i j q h m,
         record {
@@ -301,8 +297,7 @@ module _ (gives : Algorithms) (n : ℕ) (s t : Side) (x : ℕ) (at : Side → �
   past_tick u k a b c d made number r i j named h (m, p) = grind (arith, nat_tests, ticks)
 
   pub cleared_on : (es : List HostEvent) (rs : List Reply) (fl : Side → List ItemValue) (i j : WorldState) → OnCable x at fl i.links
-      → TicksAmong (LeavesPorts at) n s 0 0 es → ArriveIn (length (fl t)) t x es → RunReplies gives i es rs j → M 0 0 i
-      → M n n j × Past t x at P 0 j
+      → TicksAmong (LeavesPorts at) n s 0 0 es → ArriveIn (length (fl t)) t x es → RunReplies gives i es rs j → M 0 0 i → M n n j × Past t x at P 0 j
   cleared_on es rs fl i j c h come run m = counted_on gives n s t x at A kept_past comes_past
       (λ k a b l. past_tick s k a b (suc a) b (own a b l)) (λ k a b l. past_tick (peer s) k a b a (suc b) (other a b l))
       es rs i j (length (fl t)) 0 0 h come run (m, record { flying = fl; on = c; items = beyond_first P (fl t) })

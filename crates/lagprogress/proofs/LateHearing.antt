@@ -46,10 +46,7 @@ module _ (gives : Algorithms) (n d e : ℕ) (at : Side → ℕ) (w : Side → La
 
   sent : (a b : ℕ) → Within n a b → (fl : Side → List ItemValue) (i j : WorldState) (x : ℕ) → M a b i → OnCable x at fl i.links
       → (k : Asks gives (peer t) at fl i j) → (k.now t ≡ fl t) ⊎ Adds (IsGood e w t) (fl t) (k.now t)
-  sent a b l fl i j x m on k = elim (gain_at t (sent_frame k.a) fl k.now k.went) [
-    | inl y ↦ inl y
-    | inr (item, is, y) ↦ inr (item, good item is, y)
-  ]
+  sent a b l fl i j x m on k = elim (gain_at t (sent_frame k.a) fl k.now k.went) [ inl y ↦ inl y | inr (item, is, y) ↦ inr (item, good item is, y) ]
     where
       cc : ℕ
       cc = known_at c (peer t) a b (peer t)
@@ -72,8 +69,7 @@ module _ (gives : Algorithms) (n d e : ℕ) (at : Side → ℕ) (w : Side → La
   -- so it is after a late round
   pub flush : (old new : WorldState) (l : Link d at w c (peer t) Y old) → TicksBeside n at OldArrive gives old new
       → Link d at w (ticked_by n c) (peer t) Y new × (x : ℕ) × Past t x at (IsGood e w t) 0 new
-  flush old new l h =
-      let come = arriving n gives at l.index l.flying old new (healthy_link d at w c (peer t) Y old l) h t in
+  flush old new l h = let come = arriving n gives at l.index l.flying old new (healthy_link d at w c (peer t) Y old l) h t in
       let r = cleared_on gives n (peer t) t l.index at (IsGood e w t) M (λ item plain v carries. absurd (plain (v, carries)))
       (λ a b k fl i j m on q. sent a b k fl i j l.index m on q) kept made
       (λ a b k. peer_at gives (peer t) d at w c n Y then a b k (along a k.0))
@@ -269,8 +265,7 @@ module _ (gives : Algorithms) (d : ℕ) (at : Side → ℕ) (w : Side → Lacpdu
   said_of c X j o = grind (arith, nat_tests)
 
   module _ (n : ℕ) (few : n + 1 ≤ 30) (c : Side → ℕ) (fits : Fits d w c) (then : Fits d w (ticked_by n c)) where
-    woken : (x : Side) (j : WorldState) → Link d at w c x Nothing j → Wakes at w s j
-        → Link d at w (known_at c s 0 0) s (Wakeful (w s) (w (peer s))) j
+    woken : (x : Side) (j : WorldState) → Link d at w c x Nothing j → Wakes at w s j → Link d at w (known_at c s 0 0) s (Wakeful (w s) (w (peer s))) j
     woken x j l wakes = none_counted d at w c s s (Wakeful (w s) (w (peer s))) j (join d at w c x s (Wakeful (w s) (w (peer s))) j l wakes)
 
     of_told : (new : WorldState) → HasTold gives d at w s there named Counted (Took-it gives 1 at k kept (peer s)) extra (known_at c s n n)
@@ -283,10 +278,9 @@ module _ (gives : Algorithms) (d : ℕ) (at : Side → ℕ) (w : Side → Lacpdu
     }
 
     -- a round in which the end may send: Z holds of it in the end, or an LACPDU is on the cable, or the other end has heard one
-    pub ticks_pass : (X V : ℕ → Machines → Type 0) (Z : Machines → Type 0) → TickPasses n X V Z (w s) (w (peer s)) (c s) d
-        → (old new : WorldState) → Link d at w c s (X 0) old → Wakes at w s old → Counted old → TicksBeside n at OldArrive gives old new
-        → Link d at w (ticked_by n c) s Z new
-        ⊎ ((Wakes at w s new × Said at w s Whoever new × Flies at s new) ⊎ HearsIn n d at w k kept c s new)
+    pub ticks_pass : (X V : ℕ → Machines → Type 0) (Z : Machines → Type 0) → TickPasses n X V Z (w s) (w (peer s)) (c s) d → (old new : WorldState)
+        → Link d at w c s (X 0) old → Wakes at w s old → Counted old → TicksBeside n at OldArrive gives old new
+        → Link d at w (ticked_by n c) s Z new ⊎ ((Wakes at w s new × Said at w s Whoever new × Flies at s new) ⊎ HearsIn n d at w k kept c s new)
     ticks_pass X V Z p old new l wakes stamped h = elim (turns gives d at w s there named Counted (Took-it gives 1 at k kept (peer s)) extra
         n few c fits then X V Z p old new l wakes h stamped) [
           | inl y ↦ inl (all_counted d at w c s s n Z new (other_ports y.0 (λ t p rest timed a. (a.0, λ f. (a.1 f).0))))
@@ -335,12 +329,10 @@ module _ (gives : Algorithms) (d : ℕ) (at : Side → ℕ) (w : Side → Lacpdu
         nearer more = omega (arith, more)
 
     -- so it is with an end that may sound
-    pub ticks_near : (most : ℕ) (fast : Bool) (m : ℕ) (old new : WorldState) → n ≤ most
-        → ((a : ℕ) → a ≤ n → CanSound (w s) (w (peer s)) fast (c s - a)) → Link d at w c One Nothing old → Wakes at w s old → Counted old
-        → AheadIn most at w s fast m old → TicksBeside n at OldArrive gives old new
+    pub ticks_near : (most : ℕ) (fast : Bool) (m : ℕ) (old new : WorldState) → n ≤ most → ((a : ℕ) → a ≤ n → CanSound (w s) (w (peer s)) fast (c s - a))
+        → Link d at w c One Nothing old → Wakes at w s old → Counted old → AheadIn most at w s fast m old → TicksBeside n at OldArrive gives old new
         → ((most ≤ m - n) × AheadIn most at w s fast (m - n) new) ⊎ HearsIn n d at w k kept c s new
-    ticks_near most fast m old new less can l wakes stamped ahead h =
-        let far : ℕ = m + 1 - (most + most) in
+    ticks_near most fast m old new less can l wakes stamped ahead h = let far : ℕ = m + 1 - (most + most) in
         near_by most fast m (λ a. Sounds fast (far - a)) (λ a. Sounds fast (far - a)) (Later fast (far - n))
         (sounds_by_ticks (w s) (w (peer s)) fast n (c s) d far can) (λ p y. y) old new less
         (λ y. subst (λ q. OfEach (AtPort (at s) (Sounds fast q)) (half s old).state.system_ports) (sym (no_less far)) y) l wakes stamped ahead h

@@ -22,8 +22,7 @@ pub use Rattle.lagprogress.proofs.OneCable.{each_side}
 
 -- the place of a port depends on the numbers alone
 
-lens : (n : ℕ) (xs : List SystemPort)
-    → position_or_len (λ (x : SystemPort). x.number == n) xs ≡ position_or_len (λ m. m == n) (port_numbers xs)
+lens : (n : ℕ) (xs : List SystemPort) → position_or_len (λ (x : SystemPort). x.number == n) xs ≡ position_or_len (λ m. m == n) (port_numbers xs)
 lens n [] = refl
 lens n (x ∷ xs) = ap (λ k. cond (not (x.number == n)) (1 + k) 0) (lens n xs)
 
@@ -34,8 +33,7 @@ many (x ∷ xs) = ap (λ k. suc k) (many xs)
 abbrev place_in : ℕ → ℕ → Option ℕ
 place_in i l = cond (nat_lt i l) (Some i) None
 
-index_of : (n : ℕ) (xs : List SystemPort)
-    → port_index n xs ≡ place_in (position_or_len (λ m. m == n) (port_numbers xs)) (length (port_numbers xs))
+index_of : (n : ℕ) (xs : List SystemPort) → port_index n xs ≡ place_in (position_or_len (λ m. m == n) (port_numbers xs)) (length (port_numbers xs))
 index_of n xs = ap (λ i. place_in i (length xs)) (lens n xs) ∙ ap (place_in (position_or_len (λ m. m == n) (port_numbers xs))) (many xs)
 
 pub same_index : (n : ℕ) (xs ys : List SystemPort) → port_numbers ys ≡ port_numbers xs → port_index n ys ≡ port_index n xs
@@ -43,8 +41,7 @@ same_index n xs ys e = grind (arith, nat_tests, index_of, place_in, position_or_
 
 pub place_kept : (gives : Algorithms) (e : Event) (r : Reply) (old new : WorldState) → WorldSteps gives old e r new → AreTimely old
     → AreTimely new → (s : Side) (n : ℕ) → port_index n (half s new).state.system_ports ≡ port_index n (half s old).state.system_ports
-place_kept gives e r old new x a b s n =
-    let g = each_is_calls gives e r old new x s in
+place_kept gives e r old new x a b s n = let g = each_is_calls gives e r old new x s in
     grind (arith, nat_tests, same_ports, half, same_index, configured_numbers)
 
 -- what each event keeps that is so, a list of them keeps
@@ -58,8 +55,7 @@ runs_all gives Is M k es rs old new a h m = absurd h
 -- what each call of a system keeps, all events keep
 pub events_each : (gives : Algorithms) (s : Side) (P : SystemState → Type 0)
     → ((old new : SystemState) (call : Call) (a : Answer) → Step (gives s) old call a new → P old → P new)
-    → (es : List Event) (rs : List Reply) (old new : WorldState) → WorldRuns gives old es rs new
-    → P (half s old).state → P (half s new).state
+    → (es : List Event) (rs : List Reply) (old new : WorldState) → WorldRuns gives old es rs new → P (half s old).state → P (half s new).state
 events_each gives s P k es rs old new h p = runs_all gives (λ e. Unit {0}) (λ j. P (half s j).state)
     (λ e r i j d step q. let c = each_is_calls gives e r i j step s in
     calls_each (gives s) P k (half s i).state (half s j).state c.0 c.1 c.2 q) es rs old new (any es) h p
@@ -124,8 +120,7 @@ own_suits p dl d v u c known a = let bits = said_bits p in grind (arith, nat_tes
 pub sent_is : (up due : Bool) (i : ℕ) (z : SystemPort) (old : SystemState) (frame : List ℕ) (new : SystemState)
     → TransmitsIf up due i z old (Some frame) new → (x : Lacpdu) → IsFrame frame (Carries (pdu.Lacpdu x)) → pdu_of z.port old.max_delay ≡ x
 sent_is false due i z old frame new h x k = absurd (none-some frame (sym h.0))
-sent_is true true i z old frame new h x k =
-    let is : frame ≡ h.0 = same_Some frame h.0 h.2 in
+sent_is true true i z old frame new h x k = let is : frame ≡ h.0 = same_Some frame h.0 h.2 in
     let sent = subst (IsLacpduOf old.max_delay z) (sym is) h.1 in
     carries_one frame x (pdu_of z.port old.max_delay) k
     (sent_carries frame (pdu.Lacpdu (pdu_of z.port old.max_delay)) (lacpdu_is_sent old.max_delay z frame sent))
@@ -152,18 +147,11 @@ pub arrival : (gives : ℕ → ℕ → ℕ → Type 0) (n k : ℕ) (z : SystemPo
 arrival gives n k z octets o old new place at up h = elim (is_took o) [
   | inl e ↦ (let m = (subst (λ a. CallPromise gives old (Receive n octets) (answer.Receive (Ok a)) new) e h).moves.3 in
       inl (m.0, m.1, (receives_lacpdu n k z octets m.0 old o new place at up m.1 h.step).1))
-  | inr not ↦ inr (
-    λ x c. not (receives_lacpdu n k z octets x old o new place at up c h.step).0,
-    ports not h.step,
-  )
+  | inr not ↦ inr (λ x c. not (receives_lacpdu n k z octets x old o new place at up c h.step).0, ports not h.step)
 ]
   where
-    ports : (o ≡ received.TookLacpdu → ⊥) → ReceivesAt (port_index n old.system_ports) octets old o new
-        → new.system_ports ≡ old.system_ports
-    ports not s = elim (processes_or_stays s.1 s.0.number (port_index n old.system_ports) old o new s.4) [
-      | inl x ↦ absurd (not x.1)
-      | inr e ↦ e
-    ]
+    ports : (o ≡ received.TookLacpdu → ⊥) → ReceivesAt (port_index n old.system_ports) octets old o new → new.system_ports ≡ old.system_ports
+    ports not s = elim (processes_or_stays s.1 s.0.number (port_index n old.system_ports) old o new s.4) [ inl x ↦ absurd (not x.1) | inr e ↦ e ]
 
 pub found : (n : ℕ) (k : ℕ) (ports : List SystemPort) → port_index n ports ≡ Some k → (z : SystemPort) × (slice_get ports k ≡ Some z)
 found n k [] e = absurd (none-some k e)
@@ -174,8 +162,7 @@ found n k (x ∷ xs) e = at k (x ∷ xs) (position-Some (λ (y : SystemPort). y.
     at zero (x ∷ xs) l = (x, refl)
     at (suc k) (x ∷ xs) l = at k xs (omega (arith, l))
 
-pub each_map : (P Q : ℕ → Machines → Type 0) → ((m : ℕ) (p : Machines) → P m p → Q m p) → (xs : List SystemPort) → OfEach P xs
-    → OfEach Q xs
+pub each_map : (P Q : ℕ → Machines → Type 0) → ((m : ℕ) (p : Machines) → P m p → Q m p) → (xs : List SystemPort) → OfEach P xs → OfEach Q xs
 each_map P Q k [] a = tt
 each_map P Q k (x ∷ xs) a = (k x.number x.port a.0, each_map P Q k xs a.1)
 
@@ -225,8 +212,7 @@ with_ports l ports = grind (arith, nat_tests)
 -- what is on one cable
 pub same_items : (i k : ℕ) (at : Side → ℕ) (fl now : Side → List ItemValue) (j : WorldState) → OnCable i at fl j.links → OnCable k at now j.links
     → (t : Side) → now t ≡ fl t
-same_items i k at fl now j c e t =
-    let place : k ≡ i = alone t i k at fl j.links (cable at now) c e.there (port_there t at now) in
+same_items i k at fl now j c e t = let place : k ≡ i = alone t i k at fl j.links (cable at now) c e.there (port_there t at now) in
     grind (arith, nat_tests, cable, same_Some, slice_get, towards_there, towards)
 
 -- so it is of two links
@@ -244,8 +230,7 @@ of_end {d} {at} {w} {c} {x} {Y} {j} l s P k =
     (λ m p a e. k p a.1 a.2 (a.0 e)) (half s j).state.system_ports
     (timed_ends (AtPort (at s) (EndIs d w c x Y s)) (half s j).state.system_ports (l.steady s).0.quiet.1 (l.steady s).1 (l.ports s))
 
-pub other_ports : {d : ℕ} {at : Side → ℕ} {w : Side → Lacpdu} {c b : Side → ℕ} {x y : Side} {Y Z : Machines → Type 0} {j : WorldState}
-    → Link d at w c x Y j
+pub other_ports : {d : ℕ} {at : Side → ℕ} {w : Side → Lacpdu} {c b : Side → ℕ} {x y : Side} {Y Z : Machines → Type 0} {j : WorldState} → Link d at w c x Y j
     → ((s : Side) (p : Machines) → AtRest periodic_rows p → IsTimed p → EndIs d w c x Y s p → EndIs d w b y Z s p) → Link d at w b y Z j
 other_ports {d} {at} {w} {c} {b} {x} {y} {Y} {Z} {j} l k = with_ports l (λ s. of_end l s (EndIs d w b y Z s) (k s))
 
@@ -265,8 +250,7 @@ module _ (at : Side → ℕ) (w : Side → Lacpdu) where
     pub found : machines_of (at s) (half s j).state ≡ Some port.port
 
   pub end_here : (d : ℕ) (c : Side → ℕ) (x : Side) (Y : Machines → Type 0) (j : WorldState) → Link d at w c x Y j → (s : Side) → EndPort d c s j
-  end_here d c x Y j l s =
-      let st = (half s j).state in
+  end_here d c x Y j l s = let st = (half s j).state in
       let place = l.place s in
       let it = found (at s) place.0 st.system_ports place.1 in
       let numbered = found_place (at s) st.system_ports place.0 it.0 place.1 it.1 in
@@ -283,8 +267,7 @@ module _ (at : Side → ℕ) (w : Side → Lacpdu) where
 
   pub at_end : (d : ℕ) (c : Side → ℕ) (s : Side) (j : WorldState) (e : EndPort d c s j) → AreTimely j → (P : Machines → Type 0)
       → P e.port.port → OfEach (AtPort (at s) P) (half s j).state.system_ports
-  at_end d c s j e steady P p =
-      subst (λ n. OfEach (AtPort n P) (half s j).state.system_ports) e.number
+  at_end d c s j e steady P p = subst (λ n. OfEach (AtPort n P) (half s j).state.system_ports) e.number
       (at_number P 0 (half s j).state.system_ports e.index e.port (ports_rise (half s j).state (steady s).0.ports) e.there p)
 
   pub end_with : (d : ℕ) (c : Side → ℕ) (s : Side) (j : WorldState) (e : EndPort d c s j) (P : Machines → Type 0)
@@ -318,27 +301,24 @@ abbrev pub AllGood : ℕ → (Side → Lacpdu) → (Side → List ItemValue) →
 AllGood d w fl = (t : Side) → AllByRecursion (IsGood d w t) (fl t)
 
 pub gains_good : (d : ℕ) (w : Side → Lacpdu) (s : Side) (o : Option (List ℕ)) (fl now : Side → List ItemValue) → Gains s o fl now
-    → ((frame : List ℕ) → o ≡ Some frame → (x : Lacpdu) → IsFrame frame (Carries (pdu.Lacpdu x))
-    → Suits d (w (peer s)) (w (peer (peer s))) x)
-    → AllGood d w fl → AllGood d w now
+    → ((frame : List ℕ) → o ≡ Some frame → (x : Lacpdu) → IsFrame frame (Carries (pdu.Lacpdu x)) → Suits d (w (peer s)) (w (peer (peer s))) x) → AllGood d w fl
+    → AllGood d w now
 gains_good d w s None fl now h k g = subst (AllGood d w) (sym h) g
 gains_good d w s (Some frame) fl now h k g = subst (AllGood d w) (sym h.2)
     (push_each (IsGood d w) (peer s) h.0 fl (λ x c. k frame refl x (subst (λ o. IsFrame o (Carries (pdu.Lacpdu x))) h.1 c)) g)
 
-transmits_good : (d : ℕ) (v u : Lacpdu) (c n : ℕ) (o : Option ℕ) (old : SystemState) (frame : List ℕ) (new : SystemState)
-    → (2 ≤ d → 1 ≤ c) → port_index n old.system_ports ≡ o → TransmitsAt o old (Some frame) new
-    → OfEach (AtPort n (IsEnd d v u c)) old.system_ports
-    → (x : Lacpdu) → IsFrame frame (Carries (pdu.Lacpdu x)) → Suits d u v x
+transmits_good : (d : ℕ) (v u : Lacpdu) (c n : ℕ) (o : Option ℕ) (old : SystemState) (frame : List ℕ) (new : SystemState) → (2 ≤ d → 1 ≤ c)
+    → port_index n old.system_ports ≡ o → TransmitsAt o old (Some frame) new → OfEach (AtPort n (IsEnd d v u c)) old.system_ports → (x : Lacpdu)
+    → IsFrame frame (Carries (pdu.Lacpdu x)) → Suits d u v x
 transmits_good d v u c n None old frame new known e h a x k = absurd h
 transmits_good d v u c n (Some i) old frame new known e h a x k =
     subst (Suits d u v) (sent_is h.0.port.enabled (is_due h.0.port) i h.0 old frame new h.2 x k) (own_suits h.0.port old.max_delay d v u c known
     (all-get (λ (y : SystemPort). AtPort n (IsEnd d v u c) y.number y.port) old.system_ports i h.0 h.1 a
     (found_place n old.system_ports i h.0 e h.1)))
 
-pub told_good : (d : ℕ) (v u : Lacpdu) (c : ℕ) (gives : ℕ → ℕ → ℕ → Type 0) (n : ℕ) (a : Result (Option (List ℕ)) SystemFault)
-    (old new : SystemState) → (2 ≤ d → 1 ≤ c) → CallPromise gives old (Transmit n) (answer.Transmit a) new
-    → OfEach (AtPort n (IsEnd d v u c)) old.system_ports
-    → (frame : List ℕ) → sent_frame a ≡ Some frame → (x : Lacpdu) → IsFrame frame (Carries (pdu.Lacpdu x)) → Suits d u v x
+pub told_good : (d : ℕ) (v u : Lacpdu) (c : ℕ) (gives : ℕ → ℕ → ℕ → Type 0) (n : ℕ) (a : Result (Option (List ℕ)) SystemFault) (old new : SystemState)
+    → (2 ≤ d → 1 ≤ c) → CallPromise gives old (Transmit n) (answer.Transmit a) new → OfEach (AtPort n (IsEnd d v u c)) old.system_ports → (frame : List ℕ)
+    → sent_frame a ≡ Some frame → (x : Lacpdu) → IsFrame frame (Carries (pdu.Lacpdu x)) → Suits d u v x
 told_good d v u c gives n (Err fault) old new known h ports frame e = absurd (none-some frame e)
 told_good d v u c gives n (Ok o) old new known h ports frame e = transmits_good d v u c n (port_index n old.system_ports) old frame new
     known refl (subst (λ b. TransmitsAt (port_index n old.system_ports) old b new) e h.step) ports
@@ -402,8 +382,7 @@ pub record Left (d : ℕ) (at : Side → ℕ) (w : Side → Lacpdu) (c : Side �
 pub beside_link : (gives : Algorithms) (e : Event) (d : ℕ) (at : Side → ℕ) (w : Side → Lacpdu) (c : Side → ℕ) (x : Side)
     (Y : Machines → Type 0) (r : Reply) (old new : WorldState) → Along Y (w x) (w (peer x)) (c x) d → (l : Link d at w c x Y old)
     → WorldSteps gives old e r new → Beside gives at l.flying old new → Left d at w c x Y l.flying new
-beside_link gives e d at w c x Y r old new along l h b =
-    let steady = keeps_timely gives e r old new h l.steady in
+beside_link gives e d at w c x Y r old new along l h b = let steady = keeps_timely gives e r old new h l.steady in
     record {
       link = record {
         steady = steady;
@@ -419,11 +398,9 @@ beside_link gives e d at w c x Y r old new along l h b =
     }
 
 -- an Emit event asks an end of the cable, or leaves the cable to itself
-pub asked_which : (gives : Algorithms) (n p i : ℕ) (at : Side → ℕ) (fl : Side → List ItemValue) (r : Reply) (old new : WorldState)
-    → OnCable i at fl old.links → WorldSteps gives old (event.Emit n p) r new
-    → ((s : Side) × (side_of n ≡ Some s) × (p ≡ at s)) ⊎ Beside gives at fl old new
-asked_which gives n p i at fl r old new c h =
-    let m = emits gives n p r old new h in
+pub asked_which : (gives : Algorithms) (n p i : ℕ) (at : Side → ℕ) (fl : Side → List ItemValue) (r : Reply) (old new : WorldState) → OnCable i at fl old.links
+    → WorldSteps gives old (event.Emit n p) r new → ((s : Side) × (side_of n ≡ Some s) × (p ≡ at s)) ⊎ Beside gives at fl old new
+asked_which gives n p i at fl r old new c h = let m = emits gives n p r old new h in
     elim (cases_Bool (at m.0 == p)) [
       | inl t ↦ (let same : p ≡ at m.0 = grind (arith, nat_tests) in inl (m.0, m.1, same))
       | inr f ↦ (let other : at m.0 ≡ p → ⊥ = grind (arith, nat_tests) in

@@ -42,12 +42,10 @@ module _ (at : Side → ℕ) (w : Side → Lacpdu) (s : Side) (quick : IsQuick (
         (λ a p z. z) (join 1 at w c One s (Keen (w (peer s)) (e - 0)) old l (subst (λ i. AtIt at w s (Keen (w (peer s)) i) old) (sym (no_less e)) y)) h)
 
     -- an LACPDU of such an end is nearer, or the other end has heard one
-    keen_near : (counts : Side → ℕ) (kept : Side → Bool) (named : (activity (w s) ≡ true) ⊎ IsNamed (w (peer s))) (most m : ℕ) (old new : WorldState)
-        → k ≤ most → Link 1 at w c One Nothing old → Stamped 1 at counts kept old → AtIt at w s (Keen (w (peer s)) e) old
-        → AheadIn most at w s true m old → TicksBeside k at OldArrive gives old new
-        → ((most ≤ m - k) × AheadIn most at w s true (m - k) new) ⊎ HearsIn k 1 at w counts kept c s new
-    keen_near counts kept named most m old new short l stamped keen ahead h =
-        let u = w (peer s) in
+    keen_near : (counts : Side → ℕ) (kept : Side → Bool) (named : (activity (w s) ≡ true) ⊎ IsNamed (w (peer s))) (most m : ℕ) (old new : WorldState) → k ≤ most
+        → Link 1 at w c One Nothing old → Stamped 1 at counts kept old → AtIt at w s (Keen (w (peer s)) e) old → AheadIn most at w s true m old
+        → TicksBeside k at OldArrive gives old new → ((most ≤ m - k) × AheadIn most at w s true (m - k) new) ⊎ HearsIn k 1 at w counts kept c s new
+    keen_near counts kept named most m old new short l stamped keen ahead h = let u = w (peer s) in
         let far : ℕ = m + 1 - (most + most) in
         near_by gives 1 at w counts kept s (omega arith) named k few c fits then most true m (λ a. Brisk u (far - a) (e - a))
         (λ a. Brisk u (far - a) (e - a)) (λ p. (1 ≤ far - k) × Brisk u (far - k) (e - k) p)
@@ -109,8 +107,7 @@ module _ (at : Side → ℕ) (w : Side → Lacpdu) (counts : Side → ℕ) (kept
       (soon at w N some s (mode at w s) j sounds)
 
   -- what is left of the time that an end is known does, if there was room for two gaps in it
-  longer_left : (b c : Bool) (m : ℕ) → gap b + 1 + gap c + N ≤ timeout_time b → timeout_time b ≤ m + N + gap c
-      → Longer slack 0 (gap true) 0 (gap b) m
+  longer_left : (b c : Bool) (m : ℕ) → gap b + 1 + gap c + N ≤ timeout_time b → timeout_time b ≤ m + N + gap c → Longer slack 0 (gap true) 0 (gap b) m
   longer_left b c m room l = grind (arith, nat_tests)
 
   -- what a round leaves of what is known
@@ -122,8 +119,7 @@ module _ (at : Side → ℕ) (w : Side → Lacpdu) (counts : Side → ℕ) (kept
 
   carried : (k : ℕ) (c : Side → ℕ) (old new : WorldState) → TicksBeside k at OldArrive gives old new → ((t : Side) → c t ≤ wait at w t)
       → Link 1 at w c One Nothing old → Rest old → Carried k c new
-  carried k c old new h short link rest =
-      let fits = fits_first at w c short in
+  carried k c old new h short link rest = let fits = fits_first at w c short in
       let then = fits_first at w (ticked_by k c) (λ t. let l = short t in omega (arith, l)) in
       record {
         fits = fits;
@@ -135,8 +131,7 @@ module _ (at : Side → ℕ) (w : Side → Lacpdu) (counts : Side → ℕ) (kept
   -- the other end has just heard it, and may sound
   answers_now : (s : Side) (k : ℕ) (c : Side → ℕ) (new : WorldState) → k ≤ N → (activity (w (peer s)) ≡ true) ⊎ (activity (w (peer (peer s))) ≡ true)
       → HearsIn k 1 at w counts kept c s new → Sounding (peer s) new
-  answers_now s k c new less awake q =
-      let m = wait_of (w (peer s)) - k in
+  answers_now s k c new less awake q = let m = wait_of (w (peer s)) - k in
       let enough = leaves (mode at w s) in
       sounds_now at w 1 (two (peer s) m 0) (peer s) Nothing (peer s) (mode at w (peer s)) new (can_known at w (peer s) (two (peer s) m 0 (peer s))
       (subst (λ n. 1 ≤ n) (sym (two_there (peer s) m 0)) (omega (arith, enough, less, loose))) awake)
@@ -199,8 +194,7 @@ module _ (at : Side → ℕ) (w : Side → Lacpdu) (counts : Side → ℕ) (kept
 
   begins_answers : (s : Side) (most n k : ℕ) (c : Side → ℕ) (j : WorldState) → (activity (w (peer s)) ≡ true) ⊎ (activity (w (peer (peer s))) ≡ true)
       → 1 ≤ k → k ≤ N → n ≤ most → HearsIn k 1 at w counts kept c s j → Rest j → Sounding (peer s) j → Answers s most n j
-  begins_answers s most n k c j awake one less l q rest sounds =
-      let t = peer s in
+  begins_answers s most n k c j awake one less l q rest sounds = let t = peer s in
       let m = wait_of (w t) - k in
       let some_left = leaves (mode at w s) in
       record {
@@ -509,8 +503,7 @@ module _ (at : Side → ℕ) (w : Side → Lacpdu) (counts : Side → ℕ) (kept
       ahead : ((m : ℕ) × (left ≡ m + N) × AtIt at w s (LastingIn N u m) j) ⊎ ((1 ≤ left) × Said at w s Whoever j × Flies at s j)
 
     begins_waits : (n k : ℕ) (j : WorldState) → k ≤ N → n ≤ 1 + gap false → HearsIn k 1 at w counts kept none (peer s) j → Rest j → Waits n j
-    begins_waits n k j less l q rest =
-        let c = ticked_by k none in
+    begins_waits n k j less l q rest = let c = ticked_by k none in
         let learnt : Link 1 at w c s (Learnt 1 u (wait_of (w s) - k)) j =
         subst (λ x. Link 1 at w c x (Learnt 1 (w (peer x)) (wait_of (w x) - k)) j) (peer_twice s) q.link in
         let more = leaves (short_timeout (w s)) in
@@ -546,8 +539,7 @@ module _ (at : Side → ℕ) (w : Side → Lacpdu) (counts : Side → ℕ) (kept
               omega (arith, l, more),
               r.rest,
             )
-        by_case (inl (m, same, lasting)) =
-            let l = a.in_time in
+        by_case (inl (m, same, lasting)) = let l = a.in_time in
             let before = join 1 at w none One s (LastingIn N u m) old a.link lasting in
             let more = (beside_here 1 at w none s (LastingIn N u m) old before).0 in
             elim (ticks_pass gives 1 at w counts kept s (omega arith) (inr (named (peer s))) k (few_ticks k less) none r.fits r.then

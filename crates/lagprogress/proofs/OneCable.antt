@@ -38,8 +38,7 @@ put Two xs fl One = fl One
 put Two xs fl Two = xs
 
 -- the link state is that cable
-pub as_cable : (l : LinkState) → l.whole ≡ true → ((s : Side) → limit_towards s l ≡ None)
-    → l ≡ cable (λ s. port_at s l) (λ s. towards s l)
+pub as_cable : (l : LinkState) → l.whole ≡ true → ((s : Side) → limit_towards s l ≡ None) → l ≡ cable (λ s. port_at s l) (λ s. towards s l)
 as_cable l whole none = λ i. record {
   one = l.one;
   two = l.two;
@@ -68,8 +67,7 @@ alone s i k at fl links l c h e =
     let same : suc k ≡ suc i = c.cabling s (suc k) (suc i) (at s) there here in omega (arith, same)
 
 -- where an element passes, one is found
-is_found : {X : Type 0} (q : X → Bool) (xs : List X) (i : ℕ) (x : X) → slice_get xs i ≡ Some x → q x ≡ true
-    → position q xs ≡ Some (position_or_len q xs)
+is_found : {X : Type 0} (q : X → Bool) (xs : List X) (i : ℕ) (x : X) → slice_get xs i ≡ Some x → q x ≡ true → position q xs ≡ Some (position_or_len q xs)
 is_found q xs i x e h = elim (cases_Bool (nat_lt (position_or_len q xs) (length xs))) [
   | inl t ↦ ap (λ b. cond b (Some (position_or_len q xs)) None) t
   | inr f ↦ (let within = slice_get_within xs i x e in
@@ -80,8 +78,7 @@ is_found q xs i x e h = elim (cases_Bool (nat_lt (position_or_len q xs) (length 
 
 pub placed : (s : Side) (i : ℕ) (at : Side → ℕ) (fl : Side → List ItemValue) (links : List LinkState) → OnCable i at fl links
     → link_index s (at s) links ≡ Some i
-placed s i at fl links c =
-    let q : LinkState → Bool = λ l. port_at s l == at s in
+placed s i at fl links c = let q : LinkState → Bool = λ l. port_at s l == at s in
     let k = position_or_len q links in
     let found : link_index s (at s) links ≡ Some k = is_found q links i (cable at fl) c.there
     (subst (λ n. (n == at s) ≡ true) (sym (port_there s at fl)) (itself (at s))) in
@@ -236,8 +233,7 @@ pub record Asks (gives : Algorithms) (s : Side) (at : Side → ℕ) (fl : Side �
 
 pub asks : (gives : Algorithms) (n : ℕ) (s : Side) (i : ℕ) (at : Side → ℕ) (fl : Side → List ItemValue) (r : Reply) (old new : WorldState)
     → side_of n ≡ Some s → OnCable i at fl old.links → WorldSteps gives old (event.Emit n (at s)) r new → Asks gives s at fl old new
-asks gives n s i at fl r old new named c h =
-    let m = emits gives n (at s) r old new h in
+asks gives n s i at fl r old new named c h = let m = emits gives n (at s) r old new h in
     let k = subst (λ t. Emits gives t (at s) old new) (same_Some m.0 s (sym m.1 ∙ named)) m.2 in
     let as_item = sent_item (at s) (half s old).histories in
     let item = option_map as_item (sent_frame k.a) in
@@ -319,8 +315,7 @@ after : (s : Side) (p : ℕ) (item : ItemValue) (a : Result Received SystemFault
     → AfterReceive s p item a j r new → After s p item a j new
 after s p item a j new r x = grind (arith, nat_tests)
 
-without : (s : Side) (at : Side → ℕ) (fl : Side → List ItemValue) (rest : List ItemValue)
-    → with_towards s rest (cable at fl) ≡ cable at (put s rest fl)
+without : (s : Side) (at : Side → ℕ) (fl : Side → List ItemValue) (rest : List ItemValue) → with_towards s rest (cable at fl) ≡ cable at (put s rest fl)
 without s at fl rest = grind (arith, nat_tests)
 
 pub towards_there : (s : Side) (at : Side → ℕ) (fl : Side → List ItemValue) → towards s (cable at fl) ≡ fl s
@@ -339,8 +334,7 @@ pub record Comes (gives : Algorithms) (s : Side) (k : ℕ) (l : LinkState) (old 
   pub peer_log : (half (peer s) new).histories ≡ (half (peer s) old).histories
 
 pub came : (gives : Algorithms) (s : Side) (k : ℕ) (l : LinkState) (item : ItemValue) (rest : List ItemValue) (r : Reply) (old new : WorldState)
-    → towards s l ≡ item ∷ rest
-    → WorldReceives gives s (port_at s l) item (with_link_at k (with_towards s rest l) old) r (record new { acted = old.acted })
+    → towards s l ≡ item ∷ rest → WorldReceives gives s (port_at s l) item (with_link_at k (with_towards s rest l) old) r (record new { acted = old.acted })
     → Comes gives s k l old new
 came gives s k l item rest r old new first (a, mid, h, x) = grind (arith, nat_tests, after, half_there, peer_there, peer_logs)
 
@@ -398,8 +392,7 @@ log_beside a p item logs q not = refl
 
 pub arrived : (gives : Algorithms) (s : Side) (i : ℕ) (at : Side → ℕ) (fl : Side → List ItemValue) (l : LinkState) (old new : WorldState)
     → OnCable i at fl old.links → l ≡ cable at fl → Comes gives s i l old new → Arrives gives s at fl old new
-arrived gives s i at fl l old new c is m =
-    let port : port_at s l ≡ at s = ap (port_at s) is ∙ port_there s at fl in
+arrived gives s i at fl l old new c is m = let port : port_at s l ≡ at s = ap (port_at s) is ∙ port_there s at fl in
     let links = slice_set old.links i (with_towards s m.rest l) in
     let less : OnCable i at (put s m.rest fl) links =
     subst (OnCable i at (put s m.rest fl)) (ap (slice_set old.links i) (sym (ap (with_towards s m.rest) is ∙ without s at fl m.rest)))
@@ -443,9 +436,8 @@ pub stays_beside : (gives : Algorithms) (i : ℕ) (at : Side → ℕ) (fl : Side
 stays_beside gives i at fl old new hyp1 hyp2 = grind (arith, nat_tests)
 
 -- a Deliver event brings the first item of the cable, or leaves the cable to itself
-pub delivers : (gives : Algorithms) (c n i : ℕ) (at : Side → ℕ) (fl : Side → List ItemValue) (r : Reply) (old new : WorldState)
-    → OnCable i at fl old.links → WorldSteps gives old (event.Deliver c n) r new
-    → ((s : Side) × Arrives gives s at fl old new) ⊎ Beside gives at fl old new
+pub delivers : (gives : Algorithms) (c n i : ℕ) (at : Side → ℕ) (fl : Side → List ItemValue) (r : Reply) (old new : WorldState) → OnCable i at fl old.links
+    → WorldSteps gives old (event.Deliver c n) r new → ((s : Side) × Arrives gives s at fl old new) ⊎ Beside gives at fl old new
 delivers gives c n i at fl r old new e h = elim (came_off gives c n r old new h) [
   | inl m ↦ elim (cases_Bool (m.index == i)) [
     | inl t ↦ (let same : m.index ≡ i = grind (arith, nat_tests) in

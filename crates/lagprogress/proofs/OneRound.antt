@@ -95,15 +95,13 @@ IsAsk (event.Emit n p) = Unit {0}
 IsAsk _ = ⊥
 
 pub at_rest : (d : ℕ) (at : Side → ℕ) (w : Side → Lacpdu) (c : Side → ℕ) (s : Side) (V Y : Machines → Type 0) (j : WorldState)
-    → ((p : Machines) → AtRest periodic_rows p → IsTimed p → IsEnd d (w s) (w (peer s)) (c s) p → V p → Y p)
-    → Link d at w c s V j → Link d at w c s Y j
+    → ((p : Machines) → AtRest periodic_rows p → IsTimed p → IsEnd d (w s) (w (peer s)) (c s) p → V p → Y p) → Link d at w c s V j → Link d at w c s Y j
 at_rest d at w c s V Y j k l = other_ports l (λ t p rest timed a. (
   a.0,
   λ f. k p rest timed (subst (λ t. IsEnd d (w t) (w (peer t)) (c t) p) f a.0) (a.1 f),
 ))
 
-pub still_sounds : (fast : Bool) (most : ℕ) (p : Machines) → AtRest periodic_rows p → is_silent p ≡ false → is_due p ≡ false
-    → Sounds fast most p → 1 ≤ most
+pub still_sounds : (fast : Bool) (most : ℕ) (p : Machines) → AtRest periodic_rows p → is_silent p ≡ false → is_due p ≡ false → Sounds fast most p → 1 ≤ most
 still_sounds fast zero p rest silent not y = absurd (no (sym not ∙ now_due fast p rest silent y))
 still_sounds fast (suc m) p rest silent not y = omega arith
 

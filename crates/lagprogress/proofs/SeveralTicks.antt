@@ -26,8 +26,7 @@ abbrev pub done : Bool → ℕ
 done true = 0
 done false = 1
 
-pub once_turns : (May : HostEvent → Type 0) (s : Side) (es : List HostEvent) (a b : Bool) → TickOnceAmong May s a b es
-    → TicksAmong May 1 s (done a) (done b) es
+pub once_turns : (May : HostEvent → Type 0) (s : Side) (es : List HostEvent) (a b : Bool) → TickOnceAmong May s a b es → TicksAmong May 1 s (done a) (done b) es
 once_turns May s [] false false h = (refl, refl)
 once_turns May s [] a b h = grind (arith, nat_tests, no)
 once_turns May s (e ∷ es) a b h = grind (arith, nat_tests, no, once_turns May s es false b, once_turns May s es a false, once_turns May s es a b)
@@ -94,8 +93,7 @@ pub turned : (May : HostEvent → Type 0) (n : ℕ) (es : List HostEvent) (a b :
 turned May n [] a b h = (h.1, h.0)
 turned May n (e ∷ es) a b h = grind (arith, nat_tests, turned May n es (suc a) b, turned May n es a (suc b), turned May n es a b)
 
-pub side_turns : (at : Side → ℕ) (n : ℕ) (s : Side) (es : List HostEvent) → TicksAmong (LeavesPorts at) n One 0 0 es
-    → TicksAmong (LeavesPorts at) n s 0 0 es
+pub side_turns : (at : Side → ℕ) (n : ℕ) (s : Side) (es : List HostEvent) → TicksAmong (LeavesPorts at) n One 0 0 es → TicksAmong (LeavesPorts at) n s 0 0 es
 side_turns at n One es h = h
 side_turns at n Two es h = turned (LeavesPorts at) n es 0 0 h
 
@@ -110,16 +108,14 @@ module _ (May : HostEvent → Type 0) (gives : Algorithms) (n : ℕ) (s : Side) 
     (other : (a b : ℕ) → Within n a (suc b) → MadeByTick gives (peer s) (A a b) (A a (suc b))) where
   pub holds_turns : (es : List HostEvent) (rs : List Reply) (i j : WorldState) (a b : ℕ) → TicksAmong May n s a b es → RunReplies gives i es rs j
       → A a b i → A n n j
-  holds_turns [] [] i j a b h run m =
-      subst (λ x. A n n x) (sym run) (subst (λ x. A n x i) h.1 (subst (λ x. A x b i) h.0 m))
+  holds_turns [] [] i j a b h run m = subst (λ x. A n n x) (sym run) (subst (λ x. A n x i) h.1 (subst (λ x. A x b i) h.0 m))
   holds_turns (e ∷ es) (r ∷ rs) i j a b h run m = grind (arith, nat_tests, own, other, kept, within, holds_turns es rs run.0 j)
   holds_turns es rs i j a b h run m = absurd run
 
 pub holds_ticks : (E : Clearing) (at : Side → ℕ) (gives : Algorithms) (n : ℕ) (s : Side) (A : ℕ → ℕ → WorldState → Type 0)
-    → ((a b : ℕ) → Within n a b → KeptBeside at gives (A a b))
-    → ((a b : ℕ) → Within n (suc a) b → MadeByTick gives s (A a b) (A (suc a) b))
-    → ((a b : ℕ) → Within n a (suc b) → MadeByTick gives (peer s) (A a b) (A a (suc b)))
-    → (old new : WorldState) → TicksBeside n at E gives old new → A 0 0 old → A n n new
+    → ((a b : ℕ) → Within n a b → KeptBeside at gives (A a b)) → ((a b : ℕ) → Within n (suc a) b → MadeByTick gives s (A a b) (A (suc a) b))
+    → ((a b : ℕ) → Within n a (suc b) → MadeByTick gives (peer s) (A a b) (A a (suc b))) → (old new : WorldState) → TicksBeside n at E gives old new → A 0 0 old
+    → A n n new
 holds_ticks E at gives n s A kept own other old new h m = holds_turns (LeavesPorts at) gives n s A kept own other h.events h.replies old new 0 0
     (side_turns at n s h.events h.turns) h.acts m
 
@@ -184,8 +180,7 @@ module _ (May : HostEvent → Type 0) (gives : Algorithms) (n : ℕ) (s : Side) 
 
   pub ticks_on : (es : List HostEvent) (rs : List Reply) (i j : WorldState) (a b m : ℕ) → a + m ≡ n → TicksAmong May n s a b es
       → (run : RunReplies gives i es rs j) → AfterTicks s P m gives es rs i j run → A a b i → C n j
-  ticks_on es rs i j a b zero e h run y x =
-      let all : a ≡ n = omega (arith, e) in
+  ticks_on es rs i j a b zero e h run y x = let all : a ≡ n = omega (arith, e) in
       second_on es rs i j b (subst (λ q. TicksAmong May n s q b es) all h) run y (subst (λ q. A q b i) all x)
   ticks_on (f ∷ es) (r ∷ rs) i j a b (suc m) e (inl h) run (inl y) x = ticks_on es rs run.0 j (suc a) b m (omega (arith, e)) h.1 run.2 y.1
       (tick_of s (A a b) (A (suc a) b) (k.own a b (within May n s es (suc a) b h.1)) f r i run.0 h.0 run.1 x)
@@ -277,9 +272,8 @@ ticks_hold {E} gives n x d at w c Y old new fits then along moves sends l h =
     (λ a b k. peer_at gives x d at w c n (Y a) then a b k (along a k.0)) old new h (none_counted d at w c x x (Y 0) old l))
 
 -- and with nothing beside it, even if nothing is known of what comes
-pub ticks_keep : {E : Clearing} (gives : Algorithms) (n : ℕ) (x : Side) (d : ℕ) (at : Side → ℕ) (w : Side → Lacpdu) (c : Side → ℕ)
-    (old new : WorldState) → Fits d w c → Fits d w (ticked_by n c) → Link d at w c x Nothing old → TicksBeside n at E gives old new
-    → Link d at w (ticked_by n c) x Nothing new
+pub ticks_keep : {E : Clearing} (gives : Algorithms) (n : ℕ) (x : Side) (d : ℕ) (at : Side → ℕ) (w : Side → Lacpdu) (c : Side → ℕ) (old new : WorldState)
+    → Fits d w c → Fits d w (ticked_by n c) → Link d at w c x Nothing old → TicksBeside n at E gives old new → Link d at w (ticked_by n c) x Nothing new
 ticks_keep gives n x d at w c old new fits then l h = ticks_hold gives n x d at w c (λ a. Nothing) old new fits then
     (λ a k. nothing_along (w x) (w (peer x)) (c x - a) d) (λ a k p q r rest e y. y) (λ a p y. y) l h
 

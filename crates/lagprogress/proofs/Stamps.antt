@@ -67,8 +67,7 @@ took_same at k kept t old new e h there = subst (λ l. is_stamp (k (peer t)) (ta
 
 pub stamps_emit : (gives : Algorithms) (n : ℕ) (s : Side) (b : ℕ) (at k : Side → ℕ) (kept : Side → Bool) (r : Reply) (old new : WorldState) → side_of n ≡ Some s
     → Stamped b at k kept old → WorldSteps gives old (event.Emit n (at s)) r new → Stamping b at k kept old new
-stamps_emit gives n s b at k kept r old new told l h =
-    let a = asks gives n s l.index at l.flying r old new told l.links h in
+stamps_emit gives n s b at k kept r old new told l h = let a = asks gives n s l.index at l.flying r old new told l.links h in
     record {
       world = record {
         flying = a.now;
@@ -110,8 +109,7 @@ back_all : (P : Side → ItemValue → Type 0) (gives : ℕ → ℕ → ℕ → 
     → ((t : Side) (item : ItemValue) → ((x : Lacpdu) → IsFrame item.octets (Carries (pdu.Lacpdu x)) → ⊥) → P t item)
     → CallPromise gives old (Receive n octets) (answer.Receive a) new → Back s a fl now
     → ((t : Side) → AllByRecursion (P t) (fl t)) → (t : Side) → AllByRecursion (P t) (now t)
-back_all P gives s n octets (Ok (received.Respond frame)) old new fl now z k h g =
-    let m = k.moves.3 in
+back_all P gives s n octets (Ok (received.Respond frame)) old new fl now z k h g = let m = k.moves.3 in
     let one = z (peer s) h.0 (λ x c. marker_carries_none frame x m.0 (subst (λ o. IsFrame o (Carries (pdu.Lacpdu x))) h.1 c) m.1) in
     subst (λ (f : Side → List ItemValue). (t : Side) → AllByRecursion (P t) (f t)) (sym h.2) (push_each P (peer s) h.0 fl one g)
 back_all P gives s n octets a old new fl now z k h g = subst (λ (f : Side → List ItemValue). (t : Side) → AllByRecursion (P t) (f t)) (sym h) g
@@ -195,8 +193,7 @@ module _ (gives : Algorithms) (b : ℕ) (at k : Side → ℕ) (kept : Side → B
   stamps_step : (e : HostEvent) (r : Reply) (i j : WorldState) → LeavesPorts at e → StepReplies gives i e r j → St i → Stamping b at k kept i j
   stamps_step (Plays (event.Emit n p)) r i j q h l = stamps_ask gives n p b at k kept r i j l h
   stamps_step (Plays (event.Deliver cn n)) r i j q h l = stamps_deliver gives cn n b at k kept r i j l h
-  stamps_step e r i j q h l =
-      let g = leaves_cable gives e l.index at l.flying r i j q h l.links in
+  stamps_step e r i j q h l = let g = leaves_cable gives e l.index at l.flying r i j q h l.links in
       let logs = leaves_logs gives e at r i j q h in
       record {
         world = record {
@@ -236,11 +233,9 @@ module _ (gives : Algorithms) (b : ℕ) (at k : Side → ℕ) (kept : Side → B
       stamped = (subst (AllByRecursion (IsStamped (k (peer t)))) (same_items l.index st.index at l.flying st.flying i l.links st.links t ∙ a.first)
           (st.items some t)).0
 
-      by_answer : (o : Result Received SystemFault)
-          → CallPromise (gives t) (half t i).state (Receive (at t) a.item.octets) (answer.Receive o) (half t j).state
+      by_answer : (o : Result Received SystemFault) → CallPromise (gives t) (half t i).state (Receive (at t) a.item.octets) (answer.Receive o) (half t j).state
           → (half t j).histories ≡ logged o (at t) a.item (half t i).histories → Took at k kept t j
       by_answer (Err fault) p log = absurd (none-some (l.place t).0 (sym p.step.cause ∙ (l.place t).1))
-      by_answer (Ok o) p log =
-          let z = end_here at w d c x Y i l t in
+      by_answer (Ok o) p log = let z = end_here at w d c x Y i l t in
           let took = (receives_lacpdu (at t) z.index z.port a.item.octets v (half t i).state o (half t j).state z.place z.there z.is.1.0 carries p.step).0 in
           took_in (gives t) at k kept t a.item (Ok o) i j (ap (λ q. Ok q) took) (st.there t) stamped p log

@@ -87,8 +87,7 @@ back_other s a fl now h = grind (arith, nat_tests, push_other)
 back_tells : (u v : Lacpdu) (H : Type 0) (gives : ℕ → ℕ → ℕ → Type 0) (s : Side) (n : ℕ) (octets : List ℕ) (a : Result Received SystemFault)
     (old new : SystemState) (fl now : Side → List ItemValue) → CallPromise gives old (Receive n octets) (answer.Receive a) new
     → Back s a fl now → Tells u v (fl (peer s)) H → Tells u v (now (peer s)) H
-back_tells u v H gives s n octets (Ok (received.Respond frame)) old new fl now k h m =
-    let g = k.moves.3 in
+back_tells u v H gives s n octets (Ok (received.Respond frame)) old new fl now k h m = let g = k.moves.3 in
     said_more u v H s h.0 fl now h.2
     (λ x c. absurd (marker_carries_none frame x g.0 (subst (λ o. IsFrame o (Carries (pdu.Lacpdu x))) h.1 c) g.1)) (inl m)
 back_tells u v H gives s n octets a old new fl now k h m = subst (λ (f : Side → List ItemValue). Tells u v (f (peer s)) H) (sym h) m
@@ -133,10 +132,8 @@ module _ (gives : Algorithms) (d : ℕ) (at : Side → ℕ) (w : Side → Lacpdu
   -- the end itself is asked
 
   -- one that does not claim it owes nothing
-  none_claimed : (old new : WorldState) (l : Held old) → Asks gives s at l.flying old new → (Claims (w (peer s)) (here s old l).port.port → ⊥)
-      → OwesAt new
-  none_claimed old new l k not =
-      let P : Machines → Type 0 = λ p. Claims (w (peer s)) p → ⊥ in
+  none_claimed : (old new : WorldState) (l : Held old) → Asks gives s at l.flying old new → (Claims (w (peer s)) (here s old l).port.port → ⊥) → OwesAt new
+  none_claimed old new l k not = let P : Machines → Type 0 = λ p. Claims (w (peer s)) p → ⊥ in
       each_map (AtPort (at s) P) (AtPort (at s) (Owes (w (peer s)))) (λ q p b f c. absurd (b f c)) (half s new).state.system_ports
       (asked_each (AtPort (at s) P) (λ m p b. b) (gives s) (at s) k.a (half s old).state (half s new).state k.promise.step
       (at_end at w d c s old (here s old l) l.steady P not))
@@ -144,15 +141,13 @@ module _ (gives : Algorithms) (d : ℕ) (at : Side → ℕ) (w : Side → Lacpdu
   -- one that does, and has an LACPDU due, says so
   due_claimed : (old new : WorldState) (l : Held old) (k : Asks gives s at l.flying old new) → Claims (w (peer s)) (here s old l).port.port
       → is_due (here s old l).port.port ≡ true → Tells (w (peer s)) (w s) (k.now (peer s)) (HoldsAt new)
-  due_claimed old new l k claim due =
-      let z = here s old l in
+  due_claimed old new l k claim due = let z = here s old l in
       due_tells (w (peer s)) (w s) (HoldsAt new) (gives s) s (at s) z.index z.port k.a (half s old).state (half s new).state l.flying k.now
       (claim_said (w s) (w (peer s)) (half s old).state.max_delay z.port.port (beside_here d at w c s Wake old l) claim) z.place z.there z.is.1.0 due
       k.promise.step k.went
 
   ask_own : (n : ℕ) (r : Reply) (old new : WorldState) → side_of n ≡ Some s → On old → WorldSteps gives old (event.Emit n (at s)) r new → On new
-  ask_own n r old new named (l, m) h =
-      let e = emit_link gives n s d at w c s Wake r old new fits named along (λ f p y. y) l h in
+  ask_own n r old new named (l, m) h = let e = emit_link gives n s d at w c s Wake r old new fits named along (λ f p y. y) l h in
       let z = here s old l in
       let said : Tells (w (peer s)) (w s) (e.asks.now (peer s)) (HoldsAt new) → Tells (w (peer s)) (w s) (e.link.flying (peer s)) (HoldsAt new) =
       subst (λ (f : Side → List ItemValue). Tells (w (peer s)) (w s) (f (peer s)) (HoldsAt new)) (sym e.same) in (
@@ -176,10 +171,8 @@ module _ (gives : Algorithms) (d : ℕ) (at : Side → ℕ) (w : Side → Lacpdu
       )
     where
       says : Claims (w (peer s)) (here s old l).port.port → (frame : List ℕ) (x : Lacpdu) → IsFrame frame (Carries (pdu.Lacpdu x))
-          → Step (gives s) (half s old).state (Transmit (at s)) (answer.Transmit (Ok (Some frame))) (half s new).state
-          → SaysSynced (w (peer s)) (w s) x
-      says claim frame x carried step =
-          let st = (half s old).state in
+          → Step (gives s) (half s old).state (Transmit (at s)) (answer.Transmit (Ok (Some frame))) (half s new).state → SaysSynced (w (peer s)) (w s) x
+      says claim frame x carried step = let st = (half s old).state in
           let z = here s old l in
           let t = subst (λ i. TransmitsAt i st (Some frame) (half s new).state) z.place step in
           let same : t.0 ≡ z.port = same_Some t.0 z.port (sym t.1 ∙ z.there) in
@@ -191,8 +184,7 @@ module _ (gives : Algorithms) (d : ℕ) (at : Side → ℕ) (w : Side → Lacpdu
   pub due_on : (n : ℕ) (r : Reply) (old new : WorldState) → side_of n ≡ Some s → Held old
       → OfEach (AtPort (at s) (λ p. is_due p ≡ true)) (half s old).state.system_ports → WorldSteps gives old (event.Emit n (at s)) r new
       → (o : On new) × Flying (o.0.flying (peer s))
-  due_on n r old new named l dues h =
-      let e = emit_link gives n s d at w c s Wake r old new fits named along (λ f p y. y) l h in
+  due_on n r old new named l dues h = let e = emit_link gives n s d at w c s Wake r old new fits named along (λ f p y. y) l h in
       let z = here s old l in
       let due = end_with at w d c s old z (λ p. is_due p ≡ true) dues in (
         (
@@ -209,8 +201,7 @@ module _ (gives : Algorithms) (d : ℕ) (at : Side → ℕ) (w : Side → Lacpdu
       )
 
   -- its peer is asked
-  ask_peer : (n : ℕ) (r : Reply) (old new : WorldState) → side_of n ≡ Some (peer s) → On old
-      → WorldSteps gives old (event.Emit n (at (peer s))) r new → On new
+  ask_peer : (n : ℕ) (r : Reply) (old new : WorldState) → side_of n ≡ Some (peer s) → On old → WorldSteps gives old (event.Emit n (at (peer s))) r new → On new
   ask_peer n r old new named (l, m) h =
       let e = emit_link gives n (peer s) d at w c s Wake r old new fits named along (λ f p y. y) l h in
       let same : (half s new).state ≡ (half s old).state =
@@ -234,8 +225,7 @@ module _ (gives : Algorithms) (d : ℕ) (at : Side → ℕ) (w : Side → Lacpdu
       → (k.flying (peer s) ≡ l.flying (peer s))
       ⊎ ((item : ItemValue) × ((x : Lacpdu) → IsFrame item.octets (Carries (pdu.Lacpdu x)) → ⊥) × (k.flying (peer s) ≡ l.flying (peer s) ++ item ∷ []))
       → OwesAt old ⊎ Tells (w (peer s)) (w s) (l.flying (peer s)) (HoldsAt old) → On new
-  left_by old new l k own other grew m =
-      let u = w (peer s) in
+  left_by old new l k own other grew m = let u = w (peer s) in
       let v = w s in
       let fl = l.flying (peer s) in (
         k,
@@ -288,10 +278,8 @@ module _ (gives : Algorithms) (d : ℕ) (at : Side → ℕ) (w : Side → Lacpdu
   )
     where
       takes_own : (x : Lacpdu) → IsFrame k.item.octets (Carries (pdu.Lacpdu x))
-          → ThenSettles (OnlyPortChangesBy (Some (here s old l).index) (ProcessesLacpdu x)) (half s old).state (half s new).state → OwesAt old
-          → OwesAt new
-      takes_own x carries settles owes =
-          let z = here s old l in
+          → ThenSettles (OnlyPortChangesBy (Some (here s old l).index) (ProcessesLacpdu x)) (half s old).state (half s new).state → OwesAt old → OwesAt new
+      takes_own x carries settles owes = let z = here s old l in
           let good = subst (AllByRecursion (IsGood d w s)) k.first (l.good s) in
           let suits = good.0 x carries in
           let P = Owing d (w s) (w (peer s)) (c s) in
@@ -327,15 +315,11 @@ module _ (gives : Algorithms) (d : ℕ) (at : Side → ℕ) (w : Side → Lacpdu
             (takes_each X (half (peer s) old).state (half (peer s) new).state x z.index z.port (l.steady (peer s)).0 z.there
             (λ q awake does. takes q (takes_claim (w (peer s)) (w s) x z.port.port q actor (says x carries) awake does z.is.0 z.is.1.0))
             (subst (λ n. KeptBySettling (AtPort n X)) (sym z.number) keeps) settles))
-        | inr none ↦ elim was [
-          | inl y ↦ subst (OfEach (AtPort (at (peer s)) X)) (sym none.1) y
-          | inr b ↦ absurd (none.0 b.0 b.1)
-        ]
+        | inr none ↦ elim was [ inl y ↦ subst (OfEach (AtPort (at (peer s)) X)) (sym none.1) y | inr b ↦ absurd (none.0 b.0 b.1) ]
       ]
 
   pub deliver_on : (cn n : ℕ) (r : Reply) (old new : WorldState) → WorldSteps gives old (event.Deliver cn n) r new → On old → On new
-  deliver_on cn n r old new h (l, m) =
-      let e = deliver_moves gives cn n d at w c s Wake r old new fits along l h in
+  deliver_on cn n r old new h (l, m) = let e = deliver_moves gives cn n d at w c s Wake r old new fits along l h in
       elim e.1 [
         | inl (q, k, same) ↦ each_side (λ t. (k : Arrives gives t at l.flying old new) → e.0.link.flying ≡ k.now → On new) s
             (λ k same. arrive_own old new l k e.0.link same m) (λ k same. arrive_peer old new l k e.0.link same m) q k same

@@ -24,8 +24,7 @@ may_send s agg conv port a e = grind (arith, nat_tests)
 adopted : (s t : SystemState) (agg : AggId) (conv port : ℕ) (r : Result Assignment SystemFault) → adopt_result s agg conv port ≡ r
     → GivesOrRefuses agg conv r s (Ok tt) t → IsSteadySystem s → IsSteadySystem t
 adopted s t agg conv port (Err fault) e h k = absurd cc
-adopted s t agg conv port (Ok a) e (accepted, is) k =
-    let set = is.0 in
+adopted s t agg conv port (Ok a) e (accepted, is) k = let set = is.0 in
     let same = is.1 in
     let may = may_send s agg conv port a e in (
       table_sound s t same set.aggs set.conversations (sets_carried agg conv a s t set same k.0.carried
@@ -39,7 +38,6 @@ adopts s t [] h k = subst IsSteadySystem (sym h) k
 adopts s t (a ∷ more) h k = adopts h.0 t more h.2 (adopted s h.0 a.agg a.conv a.port (adopt_result s a.agg a.conv a.port) refl h.1 k)
 
 pub warm_start_is_steady : (gives : ℕ → ℕ → ℕ → Type 0) → WarmStartIsSteady gives
-warm_start_is_steady gives config saved adoptions s t r h =
-    let made = r.made in
+warm_start_is_steady gives config saved adoptions s t r h = let made = r.made in
     let d = driven gives r.first s _ r.warmed.run.0 r.warmed.run.1 (first_each TimedAt timed_settles timed_starts r.first made, first_free r.first made) in
     adopts s t adoptions h (sound gives config saved s r, d.0, d.1)

@@ -23,28 +23,23 @@ Fine r = r ≡ Err fault.NotToml → ⊥
 
 then_fine : {A B : Type 0} (r : Result A ScriptFault) (f : A → Result B ScriptFault) → Fine r → ((x : A) → Fine (f x)) → Fine (r >>= f)
 then_fine (Ok x) f h g e = g x e
-then_fine (Err w) f h g e =
-    let same : w ≡ fault.NotToml = cc in
+then_fine (Err w) f h g e = let same : w ≡ fault.NotToml = cc in
     h (ap Err same)
 
 or_fine : {A : Type 0} (w : ScriptFault) (o : Option A) → (w ≡ fault.NotToml → ⊥) → Fine (or_fault w o)
-or_fine w None h e =
-    let same : w ≡ fault.NotToml = cc in
+or_fine w None h e = let same : w ≡ fault.NotToml = cc in
     h same
 or_fine w (Some x) h e = cc
 
-unless_fine : {A : Type 0} (b : Bool) (w : ScriptFault) (r : Result A ScriptFault) → (w ≡ fault.NotToml → ⊥) → Fine r
-    → Fine (if_or_fault b w r)
+unless_fine : {A : Type 0} (b : Bool) (w : ScriptFault) (r : Result A ScriptFault) → (w ≡ fault.NotToml → ⊥) → Fine r → Fine (if_or_fault b w r)
 unless_fine true w r h g e = g e
-unless_fine false w r h g e =
-    let same : w ≡ fault.NotToml = cc in
+unless_fine false w r h g e = let same : w ≡ fault.NotToml = cc in
     h same
 
 in_place_fine : {A X : Type 0} (f : ℕ → X → Result A ScriptFault) → ((place : ℕ) (x : X) → Fine (f place x)) → (place : ℕ) (xs : List X)
     → Fine (each_at_place f place xs)
 in_place_fine f h place [] e = cc
-in_place_fine f h place (x ∷ xs) e =
-    then_fine (f place x) (λ y. each_at_place f (place + 1) xs >>= λ ys. Ok (y ∷ ys)) (h place x)
+in_place_fine f h place (x ∷ xs) e = then_fine (f place x) (λ y. each_at_place f (place + 1) xs >>= λ ys. Ok (y ∷ ys)) (h place x)
     (λ y. then_fine (each_at_place f (place + 1) xs) (λ ys. Ok (y ∷ ys)) (in_place_fine f h (place + 1) xs) (λ ys d. cc)) e
 
 -- three steps, one after another
@@ -53,8 +48,7 @@ three_fine : {A B C D : Type 0} (r : Result A ScriptFault) (s : A → Result B S
     → ((x : A) (y : B) (z : C) → Fine (last x y z)) → Fine (r >>= λ x. s x >>= λ y. t x y >>= λ z. last x y z)
 three_fine (Ok x) s t last hr hs ht hl e = then_fine (s x) (λ y. t x y >>= λ z. last x y z) (hs x)
     (λ y. then_fine (t x y) (last x y) (ht x y) (hl x y)) e
-three_fine (Err w) s t last hr hs ht hl e =
-    let same : w ≡ fault.NotToml = cc in
+three_fine (Err w) s t last hr hs ht hl e = let same : w ≡ fault.NotToml = cc in
     hr (ap Err same)
 
 -- ---- ports
@@ -86,8 +80,7 @@ port_fine system own place ms =
       number = number;
       priority = priority;
       mac = mac;
-      key =
-          record { 0 = key };
+      key = record { 0 = key };
       aggregatable = aggregatable;
       active = active;
       short = short;
@@ -116,8 +109,7 @@ numbers_fine system ms =
     (value_at (codes "first_marker") (integer_in 4294967296) (Some 1) ms)
     (λ priority mac max_delay first_marker. record {
       id = record { priority = priority; mac = mac };
-      max_delay =
-          max_delay;
+      max_delay = max_delay;
       first_marker = first_marker;
     })
 
@@ -139,33 +131,29 @@ ports_fine system own ms =
     (in_place_fine (port_config_of system own) (port_fine system own) 1)
 
 abbrev configured : SystemValues → List Key → Option ℕ → ℕ → List PortConfig → ConfigValue
-configured n aggregators max_links conversations ports =
-    record {
-      system = n.id;
-      max_delay = n.max_delay;
-      first_marker = n.first_marker;
-      conversations = conversations;
-      aggregators = aggregators;
-      max_links = max_links;
-      ports = ports;
-    }
+configured n aggregators max_links conversations ports = record {
+  system = n.id;
+  max_delay = n.max_delay;
+  first_marker = n.first_marker;
+  conversations = conversations;
+  aggregators = aggregators;
+  max_links = max_links;
+  ports = ports;
+}
 
 system_fine : (system : ℕ) (ms : Members) → Fine (system_of system ms)
-system_fine system ms =
-    three_fine _ _ _ _
+system_fine system ms = three_fine _ _ _ _
     (numbers_fine system ms) (λ n. aggregators_fine system ms) (λ n a. max_links_fine system ms)
     (λ n a most. then_fine (conversations_in system ms) (λ c. ports_in system n.id.mac ms >>= λ ports. Ok (configured n a most c ports))
     (conversations_fine system ms)
     (λ c. then_fine (ports_in system n.id.mac ms) (λ ports. Ok (configured n a most c ports)) (ports_fine system n.id.mac ms) (λ p e. cc)))
 
 two_fine : (mss : List Members) → Fine (two_systems mss)
-two_fine mss =
-    three_fine _ _ _ _ (or_fine fault.Systems (just_two (Some mss)) (λ e. cc))
+two_fine mss = three_fine _ _ _ _ (or_fine fault.Systems (just_two (Some mss)) (λ e. cc))
     (λ p. system_fine 1 p.0) (λ p first. system_fine 2 p.1) (λ p first second e. cc)
 
 systems_fine : (ms : Members) → Fine (systems_in ms)
-systems_fine ms =
-    then_fine _ _ (or_fine fault.Systems (value_at (codes "system") (list_in as_table) None ms) (λ e. cc)) two_fine
+systems_fine ms = then_fine _ _ (or_fine fault.Systems (value_at (codes "system") (list_in as_table) None ms) (λ e. cc)) two_fine
 
 -- ---- cables and entries
 
@@ -177,14 +165,12 @@ abbrev joined : ℕ × ℕ → Option ℕ → CablePlan
 joined ends limit = record { ends = ends; limit = limit }
 
 cable_fine : (place : ℕ) (ms : Members) → Fine (cable_of place ms)
-cable_fine place ms =
-    unless_fine _ (fault.CableExtraKey place) _ (λ e. cc)
+cable_fine place ms = unless_fine _ (fault.CableExtraKey place) _ (λ e. cc)
     (then_fine _ _ (or_fine (fault.CableEnds place) (value_at (codes "ends") ends_in None ms) (λ e. cc))
     (λ ends. then_fine (limit_of place ms) (λ limit. Ok (joined ends limit)) (limit_fine place ms) (λ limit e. cc)))
 
 cables_fine : (ms : Members) → Fine (cables_in ms)
-cables_fine ms =
-    then_fine _ _ (or_fine fault.Cables (value_at (codes "cable") (list_in as_table) (Some []) ms) (λ e. cc))
+cables_fine ms = then_fine _ _ (or_fine fault.Cables (value_at (codes "cable") (list_in as_table) (Some []) ms) (λ e. cc))
     (in_place_fine cable_of cable_fine 1)
 
 entry_fine : {A : Type 0} (place : ℕ) (r : Result A EntryFault) → Fine (at_entry place r)
@@ -192,8 +178,7 @@ entry_fine place (Ok x) e = cc
 entry_fine place (Err w) e = cc
 
 acts_fine : (cables : ℕ) (ms : Members) → Fine (events_in cables ms)
-acts_fine cables ms =
-    then_fine _ _ (or_fine fault.Events (value_at (codes "events") entries_in (Some []) ms) (λ e. cc))
+acts_fine cables ms = then_fine _ _ (or_fine fault.Events (value_at (codes "events") entries_in (Some []) ms) (λ e. cc))
     (in_place_fine (event_at cables) (λ place text. entry_fine place (event_in cables text)) 1)
 
 -- ---- the configuration and the whole
@@ -203,8 +188,7 @@ config_fine (Some (refused.System side bad.Ports)) x e = cc
 config_fine refusal x e = cc
 
 pub plan_fine : (ms : Members) → plan_in ms ≡ Err fault.NotToml → ⊥
-plan_fine ms =
-    unless_fine _ fault.ExtraKey _ (λ e. cc)
+plan_fine ms = unless_fine _ fault.ExtraKey _ (λ e. cc)
     (three_fine _ _ _ _ (systems_fine ms) (λ systems. cables_fine ms)
     (λ systems cables. acts_fine (length cables) ms)
     (λ systems cables events. config_fine {A = PlanValue} (refusal_of_all systems (ends_of cables)) (planned systems cables events)))

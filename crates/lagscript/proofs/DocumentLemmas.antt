@@ -6,15 +6,13 @@ use Rattle.std.specs.List.{list_all, list_any}
 use Rattle.toml.specs.declared.value.Value.{Value}
 
 -- a test of what the references point to
-any_of : (k : List ℕ) (known : List (Bor (List ℕ))) → list_any (λ name. bytes_eq name.now k) known ≡ list_any (λ name. bytes_eq name k)
-    (map (λ n. n.now) known)
+any_of : (k : List ℕ) (known : List (Bor (List ℕ))) → list_any (λ name. bytes_eq name.now k) known ≡ list_any (λ name. bytes_eq name k) (map (λ n. n.now) known)
 any_of k [] = refl
 any_of k (n ∷ ns) = ap (λ b. bytes_eq n.now k || b) (any_of k ns)
 
 -- the keys of a map are those of its members
 pub among : (known : List (Bor (List ℕ))) (es : List (String Global × Value))
-    → list_all (λ k. list_any (λ name. bytes_eq name.now (string_bytes k)) known) (map (λ e. e.0) es) ≡ keys_among
-    (map (λ n. n.now) known) (members_view es)
+    → list_all (λ k. list_any (λ name. bytes_eq name.now (string_bytes k)) known) (map (λ e. e.0) es) ≡ keys_among (map (λ n. n.now) known) (members_view es)
 among known [] = refl
 among known (e ∷ es) = ap₂ (λ a b. a && b) (any_of (string_bytes e.0) known) (among known es)
 

@@ -14,8 +14,7 @@ use Rattle.lagscript.proofs.DocumentFaults.{plan_fine}
 
 -- the reasons of two systems and their cables, in their order
 abbrev first_reason : Option BadConfig → Option BadConfig → Bool → Option ℕ → Option BadWorld
-first_reason one two same place =
-    or_first (option_map (System 1) one)
+first_reason one two same place = or_first (option_map (System 1) one)
     (or_first (option_map (System 2) two) (or_first (cond same (Some SameSystem) None) (option_map CableEnd place)))
 
 no_reason : (one two : Option BadConfig) (same : Bool) (place : Option ℕ)
@@ -35,8 +34,7 @@ not_refused systems cables h = refl
 -- the steps of a plan
 abbrev pub plan_steps : Bool → Result (List ConfigValue) ScriptFault → Result (List CablePlan) ScriptFault
     → (ℕ → Result (List EventValue) ScriptFault) → Result PlanValue ScriptFault
-plan_steps known systems_read cables_read acts_read =
-    if_or_fault known fault.ExtraKey (
+plan_steps known systems_read cables_read acts_read = if_or_fault known fault.ExtraKey (
     systems_read >>= λ systems.
     cables_read >>= λ cables.
     acts_read (length cables) >>= λ events.

@@ -8,8 +8,7 @@ use Rattle.std.proofs.KnownBytes.{Appends-kept, Appends-nil, Appends-trans}
 use Rattle.lagstreams.specs.Sinks.{WritesPart, Flushes, WritesAndFlushes, SinkState, WritesWhole}
 
 module _ {W : Type 0} (contents : W → Option (List ℕ)) where
-  pub takes_more : (a b c : SinkState W) (xs ys : List ℕ) → WritesWhole contents a b xs → WritesWhole contents b c ys
-      → WritesWhole contents a c (xs ++ ys)
+  pub takes_more : (a b c : SinkState W) (xs ys : List ℕ) → WritesWhole contents a b xs → WritesWhole contents b c ys → WritesWhole contents a c (xs ++ ys)
   takes_more a b c xs ys first second =
       record { written = Appends-trans _ _ _ _ _ first.written second.written; failed = second.failed ∙ first.failed }
 

@@ -48,8 +48,7 @@ periodic_ages p q h = ap ages_of h.2
     ) h.1.0 p h.0 h.1.1
 
 pub settling_ages : (old new : SystemState) → Settling old new → ages_in new.system_ports ≡ ages_in old.system_ports
-settling_ages old new h =
-    let s = settling_in old new h in
+settling_ages old new h = let s = settling_in old new h in
     zip_ages RunsPeriodic periodic_ages s.four new.system_ports s.paces
     ∙ zip_ages (RunsReady old.keys (views s.two)) (λ p q x. mux_ages (ready_of old.keys (views s.two) p.choice) p q x) s.two s.four s.runs
     ∙ choosing_ages (aggregators_value old) s.one s.two s.chooses
@@ -67,8 +66,7 @@ ages_found : (n : ℕ) (xs ys : List SystemPort) → port_numbers ys ≡ port_nu
 ages_found n [] [] e a = refl
 ages_found n [] (y ∷ ys) e a = absurd cc
 ages_found n (x ∷ xs) [] e a = absurd cc
-ages_found n (x ∷ xs) (y ∷ ys) e a =
-    let number : y.number ≡ x.number = cc in
+ages_found n (x ∷ xs) (y ∷ ys) e a = let number : y.number ≡ x.number = cc in
     let numbers : port_numbers ys ≡ port_numbers xs = cc in
     let here : y.port.ages ≡ x.port.ages = cc in
     let rest : ages_in ys ≡ ages_in xs = cc in

@@ -22,8 +22,7 @@ offered_alike gives agg octets old answer new c may h = grind (arith, nat_tests)
 -- the invariant stays
 takes_sound : (gives : ℕ → ℕ → ℕ → Type 0) (agg : AggId) (conv : ℕ) (old : SystemState) (answer : Result ℕ SystemFault)
     (new : SystemState) → TakesPort gives agg conv old answer new → IsSound old → IsSound new
-takes_sound gives agg conv old (Ok port) new h s =
-    let was = assignment_of old.table agg.0 conv in
+takes_sound gives agg conv old (Ok port) new h s = let was = assignment_of old.table agg.0 conv in
     let may = assigned_may gives conv (distributing agg old.system_ports) was port h.0 in
     table_sound old new h.1.1 h.1.0.aggs h.1.0.conversations
     (sets_carried agg conv (On port) old new h.1.0 h.1.1 s.carried (λ p e. may_carry old agg.0 p port was may e)) s
@@ -40,8 +39,7 @@ offers_sound gives agg conv old answer new h s = grind (arith, nat_tests, if_sou
 pub offers_promise : (gives : ℕ → ℕ → ℕ → Type 0) (agg : AggId) (conv : ℕ) (old : SystemState) (answer : Result ℕ SystemFault)
     (new : SystemState) → OffersConversation gives agg conv old answer new → IsSound old → (octets : List ℕ) → MayBeOffered octets
     → number_of_conversation old octets ≡ conv → CallPromise gives old (Offer agg octets) (reply.Offer answer) new
-offers_promise gives agg conv old answer new h s octets may e =
-    answers gives old (Offer agg octets) (reply.Offer answer) new
+offers_promise gives agg conv old answer new h s octets may e = answers gives old (Offer agg octets) (reply.Offer answer) new
     (offered_alike gives agg octets old answer new
     (accepted_count old.keys old.ports old.max_links old.conversations s.ports.accepted) may
     (subst (λ c. OffersConversation gives agg c old answer new) (sym e) h)) s

@@ -34,10 +34,9 @@ all_shown P system_ports all q b e = grind (arith, nat_tests, mapped_some, all_f
 given_there : (agg : AggId) (c : Choice) → selected_number c ≡ Some agg.0 → c ≡ Selected agg
 given_there agg c e = grind (arith, nat_tests)
 
-join_allowed : (u : SystemSetup) (call : ModelCall) (keys : List Key) (system_ports : List SystemPort) (system_port : SystemPort)
-    (agg : AggId) → Fits u keys → MayJoin keys (views system_ports) agg (selection_view system_port)
-    → PortAllowed u call (ports_of number_of_port model_port_of system_ports) system_port.number (PortMove.Join agg.0)
-    (model_port_of system_port)
+join_allowed : (u : SystemSetup) (call : ModelCall) (keys : List Key) (system_ports : List SystemPort) (system_port : SystemPort) (agg : AggId) → Fits u keys
+    → MayJoin keys (views system_ports) agg (selection_view system_port)
+    → PortAllowed u call (ports_of number_of_port model_port_of system_ports) system_port.number (PortMove.Join agg.0) (model_port_of system_port)
 join_allowed u call keys system_ports system_port agg fits j = (
   ap selected_number j.outside,
   j.apart,
@@ -73,8 +72,7 @@ joined : (s : SystemPort) (agg : AggId) → is_eligible (selection_view s) ≡ t
 joined s agg ok = grind (arith, nat_tests)
 
 -- a STANDBY port is seen as one outside every aggregator
-standby_stays : (s : SystemPort) (agg : AggId) → s.port.choice ≡ Unselected
-    → model_port_of (with_choice s (Some (Standby agg))) ≡ model_port_of s
+standby_stays : (s : SystemPort) (agg : AggId) → s.port.choice ≡ Unselected → model_port_of (with_choice s (Some (Standby agg))) ≡ model_port_of s
 standby_stays s agg e = ap (λ c. model_port (record s.port { choice = c })) (sym e)
 
 taken_moves : (u : SystemSetup) (call : ModelCall) (f : DistributorFacts) (keys : List Key) (system_ports : List SystemPort) (i : ℕ)
@@ -106,8 +104,7 @@ given_moves : (u : SystemSetup) (call : ModelCall) (f : DistributorFacts) (aggs 
     → LawfulMoves u call (model_view_at f system_ports) []
     (model_view_at f (slice_set system_ports i (with_choice s (option_map (choice_in aggs (views system_ports)) o))))
 given_moves u call f aggs system_ports i s None fits r h k = ([], tt, refl, ap (model_view_at f) (set_same system_ports i s h))
-given_moves u call f aggs system_ports i s (Some agg) fits r h k =
-    let x = taken_joins aggs.keys system_ports i s agg r h k in
+given_moves u call f aggs system_ports i s (Some agg) fits r h k = let x = taken_joins aggs.keys system_ports i s agg r h k in
     taken_moves u call f aggs.keys system_ports i s agg (has_room aggs (views system_ports) agg) fits r h x.0 x.1
 
 -- the choices of step 2 of settling
@@ -116,8 +113,7 @@ MovedSoFar u call f start l = LawfulMoves u call (model_view_at f start) [] (mod
 
 chosen_moves : (u : SystemSetup) (call : ModelCall) (f : DistributorFacts) (aggs : AggregatorsValue) (start : List SystemPort) (n : ℕ)
     → Fits u aggs.keys → (l : List SystemPort) → MovedSoFar u call f start l → MovedSoFar u call f start (after_choices aggs n l)
-chosen_moves u call f aggs start n fits l h =
-    choices_keep aggs (MovedSoFar u call f start)
+chosen_moves u call f aggs start n fits l h = choices_keep aggs (MovedSoFar u call f start)
     (λ l i s e m. (
       moves_joined u call (model_view_at f start) (model_view_at f l)
           (model_view_at f (slice_set l i (with_choice s (choice_for aggs l s)))) [] [] m.0
@@ -134,9 +130,8 @@ occupied_by : (agg : AggId) (c : Choice) → c ≡ Selected agg → occupied c �
 occupied_by agg c e = ap occupied e
 
 -- other members have its group, as occupants
-others_share : (keys : List Key) (l : List SystemPort) (i : ℕ) (s : SystemPort) (agg : AggId) → OccupantsAgree keys l
-    → slice_get l i ≡ Some s → s.port.choice ≡ Standby agg → (j : ℕ) (t : SystemPort) → slice_get l j ≡ Some t
-    → (model_port_of t).aggregator ≡ Some agg.0
+others_share : (keys : List Key) (l : List SystemPort) (i : ℕ) (s : SystemPort) (agg : AggId) → OccupantsAgree keys l → slice_get l i ≡ Some s
+    → s.port.choice ≡ Standby agg → (j : ℕ) (t : SystemPort) → slice_get l j ≡ Some t → (model_port_of t).aggregator ≡ Some agg.0
     → SamePair (pair_at (model_port_of t)) (pair_at (model_port_of s)) × (individual s.port.party (party_of s.port.partner) ≡ false)
 others_share keys l i s agg a g e j t h m = elim (cases_eq j i) [
   | inl same ↦ (let is : t ≡ s = same_Some t s (sym h ∙ ap (slice_get l) same ∙ g) in
@@ -146,31 +141,28 @@ others_share keys l i s agg a g e j t h m = elim (cases_eq j i) [
       ((a.group agg.0 j i t s ne h g its mine).0, (a.group agg.0 i j s t (λ x. ne (sym x)) g h mine its).1))
 ]
 
-promote_allowed : (u : SystemSetup) (call : ModelCall) (keys : List Key) (l : List SystemPort) (i : ℕ) (s : SystemPort) (agg : AggId)
-    (b : Bool) → individual s.port.party (party_of s.port.partner) ≡ b → Fits u keys → OccupantsAgree keys l → slice_get l i ≡ Some s
-    → s.port.choice ≡ Standby agg
+promote_allowed : (u : SystemSetup) (call : ModelCall) (keys : List Key) (l : List SystemPort) (i : ℕ) (s : SystemPort) (agg : AggId) (b : Bool)
+    → individual s.port.party (party_of s.port.partner) ≡ b → Fits u keys → OccupantsAgree keys l → slice_get l i ≡ Some s → s.port.choice ≡ Standby agg
     → PortAllowed u call (ports_of number_of_port model_port_of l) s.number (PortMove.Join agg.0) (model_port_of s)
-promote_allowed u call keys l i s agg false is fits a g e =
-    let mine : occupied s.port.choice ≡ Some agg.0 = ap occupied e in (
-      ap selected_number e,
-      a.apart i agg.0 s g mine,
-      fits agg.0 ∙ a.key i agg.0 s g mine,
-      inr (
-        all_shown (λ b. b.aggregator ≡ Some agg.0 → SamePair (pair_at b) (pair_at (model_port_of s))) l
-            (each_place (λ t. (model_port_of t).aggregator ≡ Some agg.0 → SamePair (pair_at (model_port_of t)) (pair_at (model_port_of s))) l
-            (λ j t h m. (others_share keys l i s agg a g e j t h m).0)),
-        is,
-      ),
-    )
-promote_allowed u call keys l i s agg true is fits a g e =
-    let mine : occupied s.port.choice ≡ Some agg.0 = ap occupied e in (
-      ap selected_number e,
-      a.apart i agg.0 s g mine,
-      fits agg.0 ∙ a.key i agg.0 s g mine,
-      inl (all_shown (λ b. b.aggregator ≢ Some agg.0) l
-          (each_place (λ t. (model_port_of t).aggregator ≢ Some agg.0) l
-          (λ j t h m. false≢true (sym (others_share keys l i s agg a g e j t h m).1 ∙ is)))),
-    )
+promote_allowed u call keys l i s agg false is fits a g e = let mine : occupied s.port.choice ≡ Some agg.0 = ap occupied e in (
+  ap selected_number e,
+  a.apart i agg.0 s g mine,
+  fits agg.0 ∙ a.key i agg.0 s g mine,
+  inr (
+    all_shown (λ b. b.aggregator ≡ Some agg.0 → SamePair (pair_at b) (pair_at (model_port_of s))) l
+        (each_place (λ t. (model_port_of t).aggregator ≡ Some agg.0 → SamePair (pair_at (model_port_of t)) (pair_at (model_port_of s))) l
+        (λ j t h m. (others_share keys l i s agg a g e j t h m).0)),
+    is,
+  ),
+)
+promote_allowed u call keys l i s agg true is fits a g e = let mine : occupied s.port.choice ≡ Some agg.0 = ap occupied e in (
+  ap selected_number e,
+  a.apart i agg.0 s g mine,
+  fits agg.0 ∙ a.key i agg.0 s g mine,
+  inl (all_shown (λ b. b.aggregator ≢ Some agg.0) l
+      (each_place (λ t. (model_port_of t).aggregator ≢ Some agg.0) l
+      (λ j t h m. false≢true (sym (others_share keys l i s agg a g e j t h m).1 ∙ is)))),
+)
 
 -- its mux machine does not distribute
 abbrev pub StandbyIsIdle : SystemPort → Type 0
@@ -184,11 +176,9 @@ promoted s agg e idle = grind (arith, nat_tests)
 abbrev PromotedSoFar : SystemSetup → ModelCall → DistributorFacts → List Key → List SystemPort → List SystemPort → Type 0
 PromotedSoFar u call f keys start l = MovedSoFar u call f start l × OccupantsAgree keys l × AllByRecursion StandbyIsIdle l
 
-promotes_on : (u : SystemSetup) (call : ModelCall) (f : DistributorFacts) (aggs : AggregatorsValue) (start : List SystemPort)
-    → Fits u aggs.keys → (agg : AggId) (l m : List SystemPort) → PromotesNext aggs agg l m → PromotedSoFar u call f aggs.keys start l
-    → PromotedSoFar u call f aggs.keys start m
-promotes_on u call f aggs start fits agg l m h p =
-    let s = h.1 in
+promotes_on : (u : SystemSetup) (call : ModelCall) (f : DistributorFacts) (aggs : AggregatorsValue) (start : List SystemPort) → Fits u aggs.keys
+    → (agg : AggId) (l m : List SystemPort) → PromotesNext aggs agg l m → PromotedSoFar u call f aggs.keys start l → PromotedSoFar u call f aggs.keys start m
+promotes_on u call f aggs start fits agg l m h p = let s = h.1 in
     let t : SystemPort = with_choice s (Some (Selected agg)) in
     let stands = next_stands aggs agg l m h in
     let move = moves_at number_of_port model_port_of u call f l h.0 s t (PortMove.Join agg.0) (are_numbered 0 l p.0.1) h.3 refl

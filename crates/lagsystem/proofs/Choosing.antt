@@ -16,10 +16,9 @@ seen_given (x ∷ xs) zero d t c l = refl
 seen_given (x ∷ xs) (suc i) d t c l = ap (λ vs. selection_view x ∷ vs) (seen_given xs i d t c (omega arith))
 
 -- if the port at a place gets this value of Selected, its view gets it too
-pub seen_taken : (seen : List PortView) (system_ports : List SystemPort) (i : ℕ) (d : PortView) (t : SystemPort) (c : Choice)
-    → seen ≡ views system_ports → i < length system_ports
-    → slice_set seen i (record (get_or seen i d) { choice = c }) ≡ views
-    (slice_set system_ports i (with_choice (get_or system_ports i t) (Some c)))
+pub seen_taken : (seen : List PortView) (system_ports : List SystemPort) (i : ℕ) (d : PortView) (t : SystemPort) (c : Choice) → seen ≡ views system_ports
+    → i < length system_ports
+    → slice_set seen i (record (get_or seen i d) { choice = c }) ≡ views (slice_set system_ports i (with_choice (get_or system_ports i t) (Some c)))
 seen_taken seen system_ports i d t c e l = grind (arith, nat_tests, seen_given)
 
 not_here : (system_ports : List SystemPort) (i : ℕ) (s : SystemPort) → one_may_choose system_ports ≡ false → slice_get system_ports i ≡ Some s

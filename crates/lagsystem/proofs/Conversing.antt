@@ -15,8 +15,7 @@ use Rattle.lagsystem.proofs.Rising.{Rises}
 pub table_moves : (u : SystemSetup) (call : Told) (system_ports : List SystemPort) (t new : Table) (seen : List Act)
     → DistributorMoves u.system.mac call NoneDistributes (model_distributor t) seen (model_distributor new)
     → LawfulMoves u call (model_view_at (model_distributor t) system_ports) seen (model_view_at (model_distributor new) system_ports)
-table_moves u call system_ports t new seen h =
-    let v = model_view_at (model_distributor t) system_ports in
+table_moves u call system_ports t new seen h = let v = model_view_at (model_distributor t) system_ports in
     moves_flows u call v seen (model_distributor new) (flows_weaker u.system.mac call NoneDistributes (Distributes v.port)
     (model_distributor t) (model_distributor new) seen (λ g p x. absurd x) h)
 
@@ -33,8 +32,7 @@ leaves_one mac call ports g k (On p) = either (is_among ports p)
 
 pub leaving_moves : (u : SystemSetup) (call : Told) (old new : SystemState) → HoldsConversations old new
     → LawfulMoves u call (model_view old) [] (model_view new)
-leaving_moves u call old new h =
-    let ports : ℕ → List ℕ = λ g. distributing (aggregator_numbered g) old.system_ports in
+leaving_moves u call old new h = let ports : ℕ → List ℕ = λ g. distributing (aggregator_numbered g) old.system_ports in
     let moves = each_moves u.system.mac call old.table new.table (λ g k. held_unless_on (ports g)) (λ g k. refl)
     (λ g k a. leaves_one u.system.mac call (ports g) g k a) h.next h.states in
     subst (λ l. LawfulMoves u call (model_view old) [] (model_view_at (model_distributor new.table) l))
@@ -50,8 +48,7 @@ given_number : (agg : AggId) (c : Choice) → has_chosen agg c ≡ true → sele
 given_number agg c h = grind (arith, nat_tests)
 
 seen_there : (agg : AggId) (s : SystemPort) → (mux_consistent_of s.port.mux (selected s.port) (partner_synchronized s.port) ≡ true)
-    → distributes_in agg s ≡ true
-    → ((model_port_of s).aggregator ≡ Some agg.0) × ((model_port_of s).distributes ≡ true)
+    → distributes_in agg s ≡ true → ((model_port_of s).aggregator ≡ Some agg.0) × ((model_port_of s).distributes ≡ true)
 seen_there agg s h d = grind (arith, nat_tests)
 
 flipped : (m n : ℕ) → eqb m n ≡ true → eqb n m ≡ true
@@ -81,11 +78,9 @@ seen_distributing agg p low (s ∷ system_ports) r a h = elim (cases_Bool (eqb s
 -- moves of the conversations, if a port may carry one that distributes in its aggregator
 pub carrying_moves : (u : SystemSetup) (call : Told) (agg : AggId) (system_ports : List SystemPort) (t new : Table) (seen : List Act)
     → Rises 0 (port_numbers system_ports) → MuxesConsistent system_ports
-    → DistributorMoves u.system.mac call (OnlyListedDistribute agg.0 (distributing agg system_ports)) (model_distributor t) seen
-    (model_distributor new) → LawfulMoves u call (model_view_at (model_distributor t) system_ports) seen
-    (model_view_at (model_distributor new) system_ports)
-carrying_moves u call agg system_ports t new seen r a h =
-    let v = model_view_at (model_distributor t) system_ports in
+    → DistributorMoves u.system.mac call (OnlyListedDistribute agg.0 (distributing agg system_ports)) (model_distributor t) seen (model_distributor new)
+    → LawfulMoves u call (model_view_at (model_distributor t) system_ports) seen (model_view_at (model_distributor new) system_ports)
+carrying_moves u call agg system_ports t new seen r a h = let v = model_view_at (model_distributor t) system_ports in
     moves_flows u call v seen (model_distributor new)
     (flows_weaker u.system.mac call (OnlyListedDistribute agg.0 (distributing agg system_ports)) (Distributes v.port) (model_distributor t)
     (model_distributor new) seen
@@ -106,8 +101,7 @@ same_Ok p q e = cc
 no_Ok : (p : ℕ) (fault : DistFault) → port_answer p ≡ Err fault → ⊥
 no_Ok p fault e = cc
 
-picked_may : (gives : ℕ → ℕ → ℕ → Type 0) (conv : ℕ) (ports : List ℕ) (port : ℕ) → PicksPort gives conv ports (Ok port)
-    → is_among ports port ≡ true
+picked_may : (gives : ℕ → ℕ → ℕ → Type 0) (conv : ℕ) (ports : List ℕ) (port : ℕ) → PicksPort gives conv ports (Ok port) → is_among ports port ≡ true
 picked_may gives conv ports port h = grind (arith, nat_tests, no_Ok, same_Ok, among)
 
 pub assigned_may : (gives : ℕ → ℕ → ℕ → Type 0) (conv : ℕ) (ports : List ℕ) (s : Assignment) (port : ℕ)

@@ -43,15 +43,13 @@ first_of p ps = ap (λ b. b || is_among ps p) (eq-eqb p p refl)
 there : (o : Option PortFacts) (P : PortFacts → Type 0) → IsSomeAnd o P → (a : PortFacts) × (o ≡ Some a) × P a
 there o P h = grind (arith, nat_tests)
 
-within : (keys : List Key) (n : ℕ) (k : Key) (b : Bool) → slice_get keys n ≡ Some k
-    → (nat_lt 0 (suc n) && nat_le (suc n) (length keys)) ≡ b → b ≡ true
+within : (keys : List Key) (n : ℕ) (k : Key) (b : Bool) → slice_get keys n ≡ Some k → (nat_lt 0 (suc n) && nat_le (suc n) (length keys)) ≡ b → b ≡ true
 within keys n k b e h = grind (arith, nat_tests, none-some, slice_get_past)
 
 has_key : (keys : List Key) (n : ℕ) (k : Key) → key_of keys n ≡ Some k → (nat_lt 0 n && nat_le n (length keys)) ≡ true
 has_key keys n k e = grind (arith, nat_tests, none-some, within, nat_lt, nat_le)
 
-none_there : (agg : AggId) (s : SystemState) (ports : List ℕ) → IsSound s → has_aggregator s agg ≡ false
-    → distributing agg s.system_ports ≡ ports → ports ≡ []
+none_there : (agg : AggId) (s : SystemState) (ports : List ℕ) → IsSound s → has_aggregator s agg ≡ false → distributing agg s.system_ports ≡ ports → ports ≡ []
 none_there agg s [] h unknown e = refl
 none_there agg s (p ∷ ports) h unknown e =
     let on : is_among (distributing agg s.system_ports) p ≡ true = subst (λ l. is_among l p ≡ true) (sym e) (first_of p ports) in

@@ -5,9 +5,8 @@ use native.Mathlib.Omega.{arith}
 use Rattle.lagsystem.specs.declared.drive.Call.{Call as Asked}
 
 -- one more call
-pub drives_more : (gives : ℕ → ℕ → ℕ → Type 0) (old mid new : SystemState) (calls : List Call) (answers : List Reply) (call : Call)
-    (answer : Reply) → Drives gives old calls answers mid
-    → CallPromise gives mid call answer new → Drives gives old (calls ++ call ∷ []) (answers ++ answer ∷ []) new
+pub drives_more : (gives : ℕ → ℕ → ℕ → Type 0) (old mid new : SystemState) (calls : List Call) (answers : List Reply) (call : Call) (answer : Reply)
+    → Drives gives old calls answers mid → CallPromise gives mid call answer new → Drives gives old (calls ++ call ∷ []) (answers ++ answer ∷ []) new
 drives_more gives old mid new [] [] call answer h made = (new, subst (λ s. CallPromise gives s call answer new) h made, refl)
 drives_more gives old mid new [] (a ∷ answers) call answer h made = absurd h
 drives_more gives old mid new (c ∷ calls) [] call answer h made = absurd h
@@ -23,9 +22,8 @@ driven_runs gives old new (c ∷ calls) [] h = absurd h
 driven_runs gives old new (c ∷ calls) (a ∷ answers) h = (h.0, h.1.step, driven_runs gives h.0 new calls answers h.2)
 
 -- one more call of a list
-pub drives_on : (gives : ℕ → ℕ → ℕ → Type 0) (old mid new : SystemState) (calls : List Asked) (answers : List Reply) (i : ℕ) (d : Asked)
-    (answer : Reply) → i < length calls → Drives gives old (map call_of (take i calls)) answers mid
-    → CallPromise gives mid (call_of (get_or calls i d)) answer new
+pub drives_on : (gives : ℕ → ℕ → ℕ → Type 0) (old mid new : SystemState) (calls : List Asked) (answers : List Reply) (i : ℕ) (d : Asked) (answer : Reply)
+    → i < length calls → Drives gives old (map call_of (take i calls)) answers mid → CallPromise gives mid (call_of (get_or calls i d)) answer new
     → Drives gives old (map call_of (take (i + 1) calls)) (answers ++ answer ∷ []) new
 drives_on gives old mid new calls answers i d answer l h made =
     let more : map call_of (take (i + 1) calls) ≡ map call_of (take i calls) ++ call_of (get_or calls i d) ∷ [] =

@@ -12,15 +12,7 @@ use Rattle.lagsystem.proofs.Rows.{quiet, QuietMoves, EachMoves, settles_moves}
 
 -- a stopped port, by the bits of its partner's state
 abbrev stopped : Party → Party → Bool → Bool → Option ℕ → PortFacts
-stopped party partner s d g = record {
-  party = party;
-  partner = partner;
-  synchronized = s;
-  defaulted = d;
-  aggregator =
-      g;
-  distributes = false;
-}
+stopped party partner s d g = record { party = party; partner = partner; synchronized = s; defaulted = d; aggregator = g; distributes = false }
 
 abbrev pub named : Info → StateBits → Party
 named info bits = record { system = info.system; key = info.key; port = info.port; aggregatable = bits.aggregation }
@@ -29,18 +21,10 @@ abbrev with_bits : Party → Info → Bool → Option ℕ → StateBits → Port
 with_bits party info d g bits = stopped party (named info bits) bits.synchronization d g
 
 -- update_Default_Selected and recordDefault
-defaulting : (u : SystemSetup) (call : ModelCall) (n : ℕ) (party partner : Party) (s d : Bool) (c : Choice) (b : Bool)
-    → (b ≡ true → zero_party ≡ partner)
-    → PortMoves u call n (stopped party partner s d (selected_number c)) []
-    (stopped party zero_party true true (selected_number (if b then c else Unselected)))
+defaulting : (u : SystemSetup) (call : ModelCall) (n : ℕ) (party partner : Party) (s d : Bool) (c : Choice) (b : Bool) → (b ≡ true → zero_party ≡ partner)
+    → PortMoves u call n (stopped party partner s d (selected_number c)) [] (stopped party zero_party true true (selected_number (if b then c else Unselected)))
 defaulting u call n party partner s d c true h = (PortMove.Default ∷ [], (λ ports. inr (sym (h refl)), tt), refl, refl)
-defaulting u call n party partner s d c false h = (
-  PortMove.Leave ∷ PortMove.Default
-      ∷ [],
-  (λ ports. tt, (λ ports. inl refl, tt)),
-  refl,
-  refl,
-)
+defaulting u call n party partner s d c false h = (PortMove.Leave ∷ PortMove.Default ∷ [], (λ ports. tt, (λ ports. inl refl, tt)), refl, refl)
 
 abbrev default_bits : StateBits
 default_bits = record {
@@ -49,8 +33,7 @@ default_bits = record {
   aggregation = false;
   synchronization = true;
   collecting = false;
-  distributing =
-      false;
+  distributing = false;
   defaulted = false;
   expired = false;
 }
@@ -90,17 +73,13 @@ receive_moves u call n = (
             (sym (on_defaults p.party true (selected_number (if same then p.choice else Unselected))))
             (defaulting u call n p.party (party_of p.partner) (partner_synchronized p) p.defaulted p.choice same (λ t. zero_named
             ∙ exact_party (party_of default_partner) (party_of p.partner) t)),
-        (
-          λ p h. (PortMove.Desynchronize ∷ [], (λ ports. tt, tt), refl, expiring p.party p.partner p.defaulted (selected_number p.choice)),
-          tt,
-        ),
+        (λ p h. (PortMove.Desynchronize ∷ [], (λ ports. tt, tt), refl, expiring p.party p.partner p.defaulted (selected_number p.choice)), tt),
       ),
     ),
   ),
 )
 
-pub tick_moves : (u : SystemSetup) (call : ModelCall) (n : ℕ) (p q : Machines) → RunsToRest receive_rows (count_down p) q
-    → QuietMoves u call n p [] q
+pub tick_moves : (u : SystemSetup) (call : ModelCall) (n : ℕ) (p q : Machines) → RunsToRest receive_rows (count_down p) q → QuietMoves u call n p [] q
 tick_moves u call n p q h = settles_moves u call n receive_rows (receive_moves u call n) (count_down p) q h
 
 -- with a limit of links, a port whose link goes down leaves its aggregator
@@ -161,10 +140,8 @@ taking_moves u n v p q h = elim h [
 ]
 
 -- a configure: the port leaves, takes another party, and starts again
-pub configures_moves : (u : SystemSetup) (n : ℕ) (c : PortChange) (p q : Machines) → ChangesParty c p q
-    → QuietMoves u ModelCall.Configure n p [] q
-configures_moves u n c p q h =
-    let again : Machines = start_receive (record p { party = changed_party c p.party }) in
+pub configures_moves : (u : SystemSetup) (n : ℕ) (c : PortChange) (p q : Machines) → ChangesParty c p q → QuietMoves u ModelCall.Configure n p [] q
+configures_moves u n c p q h = let again : Machines = start_receive (record p { party = changed_party c p.party }) in
     let begin : QuietMoves u ModelCall.Configure n p [] again = (
       PortMove.Leave ∷ PortMove.Reconfigure (changed_party c p.party) ∷ [],
       (λ ports. tt, (λ ports. (refl, refl, refl, refl), tt)),
@@ -190,12 +167,11 @@ own_bits p = record {
 }
 
 abbrev announced : ℕ → Machines → StateBits → List Act
-announced n p b =
-    Shows n (Lacp (record {
-      actor = record { system = p.party.system; key = p.party.key; port = p.party.port; aggregatable = b.aggregation };
-      partner = party_of p.partner;
-      synchronized = b.synchronization;
-    })) ∷ []
+announced n p b = Shows n (Lacp (record {
+  actor = record { system = p.party.system; key = p.party.key; port = p.party.port; aggregatable = b.aggregation };
+  partner = party_of p.partner;
+  synchronized = b.synchronization;
+})) ∷ []
 
 pub sending : (u : SystemSetup) (call : ModelCall) (n max_delay : ℕ) (p : Machines) → replies_frame call ≡ true
     → (is_synchronized p.mux ≡ true → IsSome (selected_number p.choice))

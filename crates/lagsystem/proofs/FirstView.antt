@@ -24,13 +24,11 @@ clash : (b : Bool) → b ≡ true → b ≡ false → ⊥
 clash b h k = grind (arith, nat_tests)
 
 -- lists that are alike in numbers and views show the same ports
-pushed : {X : Type 0} (v : X → PortFacts) (b : Bool) (x : X) (o : Option X)
-    → option_map v (cond b (Some x) o) ≡ cond b (Some (v x)) (option_map v o)
+pushed : {X : Type 0} (v : X → PortFacts) (b : Bool) (x : X) (o : Option X) → option_map v (cond b (Some x) o) ≡ cond b (Some (v x)) (option_map v o)
 pushed v b x o = grind (arith, nat_tests)
 
 zip_ports : {X Y : Type 0} (n : X → ℕ) (m : Y → ℕ) (v : X → PortFacts) (w : Y → PortFacts) (xs : List X) (ys : List Y)
-    → AllZip (λ x y. (m y ≡ n x) × (w y ≡ v x)) xs ys
-    → (q : ℕ) → ports_of m w ys q ≡ ports_of n v xs q
+    → AllZip (λ x y. (m y ≡ n x) × (w y ≡ v x)) xs ys → (q : ℕ) → ports_of m w ys q ≡ ports_of n v xs q
 zip_ports n m v w [] [] h q = refl
 zip_ports n m v w [] (y ∷ ys) h q = absurd h
 zip_ports n m v w (x ∷ xs) [] h q = absurd h
@@ -46,11 +44,9 @@ record Beginning (party : Party) (p : Machines) : Type 0 where
   pub nobody : p.choice ≡ Unselected
   pub where_ : (p.receive ≡ Initialize) ⊎ ((p.receive ≡ PortDisabled) × (partner_synchronized p ≡ false))
 
-disabled_looks : (p q : Machines)
-    → q ≡ record p { receive = PortDisabled; partner = record p.partner { state = with_synchronization false p.partner.state } }
+disabled_looks : (p q : Machines) → q ≡ record p { receive = PortDisabled; partner = record p.partner { state = with_synchronization false p.partner.state } }
     → hushed q ≡ hushed p
-disabled_looks p q e =
-    ap hushed e
+disabled_looks p q e = ap hushed e
     ∙ ap (λ b. record (hushed p) { partner = named p.partner b })
     (encode_then_decode (record (bits_of p.partner.state) { synchronization = false }))
 
@@ -100,16 +96,9 @@ record Idle (party : Party) (p : Machines) : Type 0 where
   pub nobody : p.choice ≡ Unselected
 
 starts_idle : (s : Start) (q : Machines) → Starts (before_start s) q → Idle s.party q
-starts_idle s q h =
-    let mid = h.0 in
+starts_idle s q h = let mid = h.0 in
     let begun : Beginning s.party (start_receive (before_start s)) =
-    record {
-      looks = ap (λ x. record (first_port s.party) { partner = x }) (sym zero_named);
-      down = refl;
-      nobody =
-          refl;
-      where_ = inl refl;
-    } in
+    record { looks = ap (λ x. record (first_port s.party) { partner = x }) (sym zero_named); down = refl; nobody = refl; where_ = inl refl } in
     let x = begins_all s.party h.1.0 (start_receive (before_start s)) mid h.1.1 begun in
     grind (arith, nat_tests, partner_synchronized, clash, same_receive_state, model_port, is_selected)
 
@@ -159,8 +148,7 @@ chosen_idle aggs (suc n) system_ports down = grind (arith, nat_tests, choose_idl
 abbrev pub AllUnselected : List SystemPort → Type 0
 AllUnselected l = AllByRecursion (λ s. s.port.choice ≡ Unselected) l
 
-promote_idle : (aggs : AggregatorsValue) (agg : AggId) (start l m : List SystemPort) → AllUnselected start → PromotesNext aggs agg l m
-    → l ≡ start → m ≡ start
+promote_idle : (aggs : AggregatorsValue) (agg : AggId) (start l m : List SystemPort) → AllUnselected start → PromotesNext aggs agg l m → l ≡ start → m ≡ start
 promote_idle aggs agg start l m a h e = absurd
     (standing (sym (all-get (λ s. s.port.choice ≡ Unselected) start h.0 h.1 (ap (λ x. slice_get x h.0) (sym e) ∙ h.3) a)
     ∙ next_stands aggs agg l m h))
@@ -168,8 +156,7 @@ promote_idle aggs agg start l m a h e = absurd
     standing : Unselected ≡ Standby agg → ⊥
     standing x = cc
 
-promoted_idle : (aggs : AggregatorsValue) (n : ℕ) (start new : List SystemPort) → AllUnselected start → PromotesFirst aggs n start new
-    → new ≡ start
+promoted_idle : (aggs : AggregatorsValue) (n : ℕ) (start new : List SystemPort) → AllUnselected start → PromotesFirst aggs n start new → new ≡ start
 promoted_idle aggs n start new a h =
     promotions_keep aggs (λ l. l ≡ start) (λ agg l m x e. promote_idle aggs agg start l m a x e) n start new h refl
 
@@ -184,8 +171,7 @@ periodic_shown p q h = ap model_port h.2
       ((λ p. refl), ((λ p. refl), ((λ p. refl), ((λ p. refl), ((λ p. refl), ((λ p. refl), tt)))))),
     ) h.1.0 p h.0 h.1.1
 
-zip_weaker : {X Y : Type 0} (R S : X → Y → Type 0) → ((x : X) (y : Y) → R x y → S x y) → (xs : List X) (ys : List Y)
-    → AllZip R xs ys → AllZip S xs ys
+zip_weaker : {X Y : Type 0} (R S : X → Y → Type 0) → ((x : X) (y : Y) → R x y → S x y) → (xs : List X) (ys : List Y) → AllZip R xs ys → AllZip S xs ys
 zip_weaker R S w [] [] h = tt
 zip_weaker R S w [] (y ∷ ys) h = absurd h
 zip_weaker R S w (x ∷ xs) [] h = absurd h
@@ -196,8 +182,7 @@ composed f g o = grind (arith, nat_tests)
 
 -- so the periodic rows alone change the ports
 pub first_periodic : (s : SystemState) (h : IsFirst s) → PortsChangeBy RunsPeriodic h.0 s.system_ports
-first_periodic s h =
-    let start = h.0 in
+first_periodic s h = let start = h.0 in
     let aggs = aggregators_value s in
     let run : SettlesIn aggs start s.system_ports = settling_in (with_system_ports s start) s h.2 in
     let idle : AllZip (Idles s.system) s.ports start = zip_weaker (HasJustStarted s.system) (Idles s.system)
@@ -213,8 +198,7 @@ first_periodic s h =
     subst (λ l. PortsChangeBy RunsPeriodic l s.system_ports) four run.paces
 
 pub first_shows : (s : SystemState) → IsFirst s → model_view s ≡ first_view (model_setup s)
-first_shows s h =
-    let start = h.0 in
+first_shows s h = let start = h.0 in
     let m5 = first_periodic s h in
     let idle : AllZip (Idles s.system) s.ports start = zip_weaker (HasJustStarted s.system) (Idles s.system)
     (λ c x m. (m.0, starts_idle (setup_of s.system c) x.port m.2)) s.ports start h.1 in

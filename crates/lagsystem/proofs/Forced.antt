@@ -57,8 +57,7 @@ abbrev IsOne : ℕ → ℕ → ℕ → ℕ → Type 0
 IsOne g k a c = (a ≡ g) × (c ≡ k)
 
 one_forced : (gives : ℕ → ℕ → ℕ → Type 0) (port : ℕ) (agg : AggId) (conv : ℕ) (old : SystemState) (b : Bool) (new : SystemState)
-    → ForcesIfHeld gives port agg conv old b new
-    → Forced port (IsOne agg.0 conv) old new × (b ≡ is_held_on port (assignment_of old.table agg.0 conv))
+    → ForcesIfHeld gives port agg conv old b new → Forced port (IsOne agg.0 conv) old new × (b ≡ is_held_on port (assignment_of old.table agg.0 conv))
 one_forced gives port agg conv old b new h = grind (arith, nat_tests, given_state, freed, through, at_place, not_at)
 
 -- how many of the first conversations of an aggregator are held on the port
@@ -75,8 +74,7 @@ in_forced : (gives : ℕ → ℕ → ℕ → Type 0) (port : ℕ) (agg : AggId) 
     → ForcesIn gives port agg k old n new → Forced port (IsBelow agg.0 k) old new × (n ≡ held_in port old.table agg.0 k)
 unfolding sum_below
 in_forced gives port agg zero old n new h = (none_forced port (IsBelow agg.0 0) old new (λ a c d. omega (arith, d.1)) h.0, h.1)
-in_forced gives port agg (suc k) old n new h =
-    let before = in_forced gives port agg k old h.1 h.0 h.3 in
+in_forced gives port agg (suc k) old n new h = let before = in_forced gives port agg k old h.1 h.0 h.3 in
     let one = one_forced gives port agg k h.0 h.2 new h.4 in
     let same : h.2 ≡ is_held_on port (assignment_of old.table agg.0 k) = one.1
     ∙ ap (is_held_on port) (before.0.rest agg.0 k (λ d. omega (arith, d.1))) in (
@@ -98,8 +96,7 @@ next_number : (g : ℕ) → suc g ≡ g + 1
 next_number g = omega arith
 
 first_forced : (gives : ℕ → ℕ → ℕ → Type 0) (port g : ℕ) (old : SystemState) (n : ℕ) (new : SystemState) → ForcesFirst gives port g old n new
-    → Forced port (IsAmongFirst old.conversations g) old new
-    × (n ≡ sum_below (λ a. held_in port old.table (a + 1) old.conversations) g)
+    → Forced port (IsAmongFirst old.conversations g) old new × (n ≡ sum_below (λ a. held_in port old.table (a + 1) old.conversations) g)
 unfolding sum_below
 first_forced gives port zero old n new h = grind (arith, nat_tests)
 first_forced gives port (suc g) old n new h =

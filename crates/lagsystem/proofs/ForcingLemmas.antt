@@ -9,7 +9,6 @@ pub one_conversation_more : (gives : ℕ → ℕ → ℕ → Type 0) (port : ℕ
 one_conversation_more gives port agg k old mid new before n forced h one count = grind (arith, nat_tests)
 
 -- one aggregator more
-pub one_aggregator_more : (gives : ℕ → ℕ → ℕ → Type 0) (port g : ℕ) (old mid new : SystemState) (before more n : ℕ)
-    → ForcesFirst gives port g old before mid → ForcesIn gives port (aggregator_numbered (g + 1)) mid.conversations mid more new
-    → n ≡ before + more → ForcesFirst gives port (g + 1) old n new
+pub one_aggregator_more : (gives : ℕ → ℕ → ℕ → Type 0) (port g : ℕ) (old mid new : SystemState) (before more n : ℕ) → ForcesFirst gives port g old before mid
+    → ForcesIn gives port (aggregator_numbered (g + 1)) mid.conversations mid more new → n ≡ before + more → ForcesFirst gives port (g + 1) old n new
 one_aggregator_more gives port g old mid new before more n h one count = grind (arith, nat_tests)

@@ -21,8 +21,7 @@ not_counted b e = grind (arith, nat_tests)
 abbrev NoneIn : ℕ → SystemState → ℕ → ℕ → Type 0
 NoneIn port s g count = (c : ℕ) → c < count → is_held_on port (assignment_of s.table g c) ≡ false
 
-none_in : (gives : ℕ → ℕ → ℕ → Type 0) (port : ℕ) (agg : AggId) (s : SystemState) (k : ℕ) → NoneIn port s agg.0 k
-    → ForcesIn gives port agg k s 0 s
+none_in : (gives : ℕ → ℕ → ℕ → Type 0) (port : ℕ) (agg : AggId) (s : SystemState) (k : ℕ) → NoneIn port s agg.0 k → ForcesIn gives port agg k s 0 s
 none_in gives port agg s zero h = (refl, refl)
 none_in gives port agg s (suc k) h = grind (arith, nat_tests, none_in gives port agg s k (λ c l. h c (omega (arith, l))))
 

@@ -60,8 +60,7 @@ module _ (P : SystemPort → Type 0) (k : IsKept P) where
 
   -- a settling
   pub settling_on : (old new : SystemState) → Settling old new → AllByRecursion P old.system_ports → AllByRecursion P new.system_ports
-  settling_on old new h a =
-      let s = settling_in old new h in
+  settling_on old new h a = let s = settling_in old new h in
       zip_on RunsPeriodic periodic_stays s.four new.system_ports s.paces
       (zip_on (RunsReady old.keys (views s.two)) (λ p q x. mux_stays (ready_of old.keys (views s.two) p.choice) p q x) s.two s.four s.runs
       (choosing_on (aggregators_value old) s.one s.two s.chooses

@@ -28,8 +28,7 @@ pub stopped_more : (before : List (Option AggId)) (system_ports : List SystemPor
 stopped_more before system_ports i d e p l same = rw add-one (stopped_suc before system_ports i d e p l same)
 
 -- one more port is left
-leave_more : (f g : ℕ → Bool) (n : ℕ) → ((p : ℕ) → g p ≡ (f p || (n == p))) → (s : Assignment)
-    → after_leave n (after_holding f s) ≡ after_holding g s
+leave_more : (f g : ℕ → Bool) (n : ℕ) → ((p : ℕ) → g p ≡ (f p || (n == p))) → (s : Assignment) → after_leave n (after_holding f s) ≡ after_holding g s
 leave_more f g n e s = grind (arith, nat_tests)
 
 -- the same ports are left
@@ -40,14 +39,11 @@ or_none : (a b : Bool) → (a || (b && false)) ≡ a
 or_none a b = grind (arith, nat_tests)
 
 -- the port at the place stopped, and is left
-pub left_more : (before : List (Option AggId)) (system_ports : List SystemPort) (i : ℕ) (d : Option AggId) (e : SystemPort)
-    (old mid new : Table) → i < length before → length before ≡ length system_ports
-    → ChangesAssignments old mid (after_holding (stopped (take i before) (take i system_ports)))
-    → has_stopped (get_or before i d) (get_or system_ports i e) ≡ true
-    → ChangesAssignments mid new (after_leave (get_or system_ports i e).number)
+pub left_more : (before : List (Option AggId)) (system_ports : List SystemPort) (i : ℕ) (d : Option AggId) (e : SystemPort) (old mid new : Table)
+    → i < length before → length before ≡ length system_ports → ChangesAssignments old mid (after_holding (stopped (take i before) (take i system_ports)))
+    → has_stopped (get_or before i d) (get_or system_ports i e) ≡ true → ChangesAssignments mid new (after_leave (get_or system_ports i e).number)
     → ChangesAssignments old new (after_holding (stopped (take (i + 1) before) (take (i + 1) system_ports)))
-left_more before system_ports i d e old mid new l same h stops k =
-    let n = (get_or system_ports i e).number in
+left_more before system_ports i d e old mid new l same h stops k = let n = (get_or system_ports i e).number in
     let f = stopped (take i before) (take i system_ports) in
     let g = stopped (take (i + 1) before) (take (i + 1) system_ports) in
     let more : (p : ℕ) → g p ≡ (f p || (n == p)) =
@@ -56,13 +52,11 @@ left_more before system_ports i d e old mid new l same h stops k =
     grind (arith, nat_tests, after_leave, leave_more, assignment_of)
 
 -- the port at the place did not stop
-pub left_same : (before : List (Option AggId)) (system_ports : List SystemPort) (i : ℕ) (d : Option AggId) (e : SystemPort)
-    (old new : Table) → i < length before → length before ≡ length system_ports
-    → ChangesAssignments old new (after_holding (stopped (take i before) (take i system_ports)))
+pub left_same : (before : List (Option AggId)) (system_ports : List SystemPort) (i : ℕ) (d : Option AggId) (e : SystemPort) (old new : Table)
+    → i < length before → length before ≡ length system_ports → ChangesAssignments old new (after_holding (stopped (take i before) (take i system_ports)))
     → has_stopped (get_or before i d) (get_or system_ports i e) ≡ false
     → ChangesAssignments old new (after_holding (stopped (take (i + 1) before) (take (i + 1) system_ports)))
-left_same before system_ports i d e old new l same h stays =
-    let n = (get_or system_ports i e).number in
+left_same before system_ports i d e old new l same h stays = let n = (get_or system_ports i e).number in
     let f = stopped (take i before) (take i system_ports) in
     let g = stopped (take (i + 1) before) (take (i + 1) system_ports) in
     let equal : (p : ℕ) → g p ≡ f p =
@@ -98,8 +92,7 @@ leave_none f e a = grind (arith, nat_tests)
 pub one_left : (system_ports : List SystemPort) (i : ℕ) (was : Option AggId) (d : SystemPort) (old new : Table) → i < length system_ports
     → has_stopped was (get_or system_ports i d) ≡ true → ChangesAssignments old new (after_leave (get_or system_ports i d).number)
     → ChangesAssignments old new (after_holding (stopped (slice_set (aggregators_in_use system_ports) i was) system_ports))
-one_left system_ports i was d old new l stops k =
-    let n = (get_or system_ports i d).number in
+one_left system_ports i was d old new l stops k = let n = (get_or system_ports i d).number in
     let f = stopped (slice_set (aggregators_in_use system_ports) i was) system_ports in
     let only : (p : ℕ) → f p ≡ (n == p) =
     λ p. stopped_at system_ports i was d p l ∙ ap (λ b. (n == p) && b) stops ∙ and-true (n == p) in
@@ -109,8 +102,7 @@ one_left system_ports i was d old new l stops k =
 pub one_stays : (system_ports : List SystemPort) (i : ℕ) (was : Option AggId) (d : SystemPort) (t : Table) → i < length system_ports
     → has_stopped was (get_or system_ports i d) ≡ false
     → ChangesAssignments t t (after_holding (stopped (slice_set (aggregators_in_use system_ports) i was) system_ports))
-one_stays system_ports i was d t l stays =
-    let n = (get_or system_ports i d).number in
+one_stays system_ports i was d t l stays = let n = (get_or system_ports i d).number in
     let f = stopped (slice_set (aggregators_in_use system_ports) i was) system_ports in
     let none : (p : ℕ) → f p ≡ false =
     λ p. stopped_at system_ports i was d p l ∙ ap (λ b. (n == p) && b) stays ∙ or_none false (n == p) in

@@ -31,15 +31,13 @@ host_alone gives old call answer new h k = grind (arith, nat_tests)
 
 -- ---- the transmit limit
 
-marker_probe : (o : Option ℕ) (n now port : ℕ) (number : ℕ) (mac : List ℕ) (before : List ℕ) (old : SystemState)
-    (answer : Option (List ℕ)) (new : SystemState) → SendsMarkerOf o number mac old answer new
-    → sends_after n now (Transmit port) (reply.Transmit (Ok answer)) before ≡ before
+marker_probe : (o : Option ℕ) (n now port : ℕ) (number : ℕ) (mac : List ℕ) (before : List ℕ) (old : SystemState) (answer : Option (List ℕ)) (new : SystemState)
+    → SendsMarkerOf o number mac old answer new → sends_after n now (Transmit port) (reply.Transmit (Ok answer)) before ≡ before
 marker_probe None n now port number mac before old answer new h = (none_silent port answer h.0 n now before).1
 marker_probe (Some id) n now port number mac before old answer new h = (marker_silent port id number mac old answer new h n now before).1
 
-up_probe : (up : Bool) (n now port : ℕ) (system_port : SystemPort) (before : List ℕ) (old : SystemState) (answer : Option (List ℕ))
-    (new : SystemState) → ProbesIf up system_port old answer new
-    → sends_after n now (Transmit port) (reply.Transmit (Ok answer)) before ≡ before
+up_probe : (up : Bool) (n now port : ℕ) (system_port : SystemPort) (before : List ℕ) (old : SystemState) (answer : Option (List ℕ)) (new : SystemState)
+    → ProbesIf up system_port old answer new → sends_after n now (Transmit port) (reply.Transmit (Ok answer)) before ≡ before
 up_probe up n now port system_port before old answer new h = grind (arith, nat_tests, none_silent, marker_probe, next_identifier)
 
 place_probe : (o : Option ℕ) (n now port : ℕ) (before : List ℕ) (old : SystemState) (answer : Option (List ℕ)) (new : SystemState)
@@ -69,9 +67,8 @@ good_host gives n now before old (host.Rest agg conv) (told.Rest answer) new h g
 good_host gives n now before old (host.ForcePort port) (told.ForcePort answer) new h g = grind (arith, nat_tests)
 good_host gives n now before old call answer new h g = absurd h
 
-good_hosts : (gives : ℕ → ℕ → ℕ → Type 0) (n now : ℕ) (before : List ℕ) (old new : SystemState) (calls : List HostCall)
-    (answers : List HostReply) → HostRun gives old calls answers new → GoodIn n now before old.system_ports
-    → StaysWindowedForHosts n now before calls answers
+good_hosts : (gives : ℕ → ℕ → ℕ → Type 0) (n now : ℕ) (before : List ℕ) (old new : SystemState) (calls : List HostCall) (answers : List HostReply)
+    → HostRun gives old calls answers new → GoodIn n now before old.system_ports → StaysWindowedForHosts n now before calls answers
 good_hosts gives n now before old new [] [] h g = good_end now before _ g
 good_hosts gives n now before old new [] (a ∷ answers) h g = absurd h
 good_hosts gives n now before old new (c ∷ calls) [] h g = absurd h
@@ -122,8 +119,7 @@ pub host_agreement : (gives : ℕ → ℕ → ℕ → Type 0) → HostAgreementL
 host_agreement gives old new [] [] a h = grind (arith, nat_tests)
 host_agreement gives old new [] (r ∷ answers) a h = absurd h
 host_agreement gives old new (c ∷ calls) [] a h = absurd h
-host_agreement gives old new (c ∷ calls) (r ∷ answers) a h =
-    let one = keeps_agreement gives old c r h.0 a h.1 in
+host_agreement gives old new (c ∷ calls) (r ∷ answers) a h = let one = keeps_agreement gives old c r h.0 a h.1 in
     let more = host_agreement gives h.0 new calls answers one.agrees h.2 in record {
       agrees = more.agrees;
       configured = more.configured ∙ one.configured;

@@ -56,14 +56,11 @@ selects_numbers numbers l i s o e h = numbers_set l i s (with_choice s o) e (giv
 
 pub chosen_numbers : (aggs : AggregatorsValue) (n : ℕ) (system_ports : List SystemPort)
     → port_numbers (after_choices aggs n system_ports) ≡ port_numbers system_ports
-chosen_numbers aggs n system_ports =
-    choices_keep aggs (λ l. port_numbers l ≡ port_numbers system_ports)
+chosen_numbers aggs n system_ports = choices_keep aggs (λ l. port_numbers l ≡ port_numbers system_ports)
     (λ l i s e h. selects_numbers (port_numbers system_ports) l i s (choice_for aggs l s) e h) n system_ports refl
 
-pub promoted_numbers : (aggs : AggregatorsValue) (n : ℕ) (old new : List SystemPort) → PromotesFirst aggs n old new
-    → port_numbers new ≡ port_numbers old
-promoted_numbers aggs n old new h =
-    promotions_keep aggs (λ l. port_numbers l ≡ port_numbers old)
+pub promoted_numbers : (aggs : AggregatorsValue) (n : ℕ) (old new : List SystemPort) → PromotesFirst aggs n old new → port_numbers new ≡ port_numbers old
+promoted_numbers aggs n old new h = promotions_keep aggs (λ l. port_numbers l ≡ port_numbers old)
     (λ agg l m x p. ap port_numbers x.4 ∙ selects_numbers (port_numbers old) l x.0 x.1 (Some (Selected agg)) x.3 p) n old new h refl
 
 -- step 2 of settling leaves the numbers
@@ -90,16 +87,14 @@ settling_parts old new h = grind (arith, nat_tests)
 
 -- the ports before and after it
 pub settling_in : (old new : SystemState) → Settling old new → SettlesIn (aggregators_value old) old.system_ports new.system_ports
-settling_in old new h =
-    let p = settling_parts old new h in
+settling_in old new h = let p = settling_parts old new h in
     subst (SettlesIn (aggregators_value old) old.system_ports) (sym (ap (λ (s : SystemState). s.system_ports) p.2.frame)) (settles_in old p.0 p.1)
 
 pub settling_joined : (old mid new : SystemState) → SettlesPorts old mid → HoldsConversations mid new → Settling old new
 settling_joined old mid new h l = grind (arith, nat_tests)
 
 pub settling_keeps : (old new : SystemState) → Settling old new → Keeps old new
-settling_keeps old new h =
-    let p = settling_parts old new h in
+settling_keeps old new h = let p = settling_parts old new h in
     keeps_joined old p.0 new (ports_keep old p.0 p.1) (keeps_table p.0 new p.2.frame p.2.aggs p.2.conversations)
 
 place_numbers : (R : Machines → Machines → Type 0) (o : Option ℕ) (old new : List SystemPort) → PortAtChangesBy R o old new
@@ -249,10 +244,8 @@ first_settles aggs conversations first old new e h =
     settling_joined old new new h (first_leaves aggs conversations first new (ports_table old new h ∙ e))
 
 pub first_made : (config : Config) (keys : List Key) (most : Option ℕ) (start : List SystemPort) (new : SystemState)
-    → AllZip (HasJustStarted config.system) config.ports.items start
-    → SettlesPorts (started config keys most start) new → IsFirst new
-first_made config keys most start new h k =
-    let old = started config keys most start in
+    → AllZip (HasJustStarted config.system) config.ports.items start → SettlesPorts (started config keys most start) new → IsFirst new
+first_made config keys most start new h k = let old = started config keys most start in
     let f = (ports_keep old new k).frame in
     let t : new.table ≡ old.table = ports_table old new k in
     let settles : Settling old new = first_settles (length keys) config.conversations config.first_marker old new refl k in
@@ -282,8 +275,7 @@ pub started_by : (config : Config) (keys : List Key) (most : Option ℕ) (start 
       conversations = t.conversations;
       keys = keys;
       max_links = most;
-      ports =
-          config.ports.items;
+      ports = config.ports.items;
       system_ports = start;
       table = t;
     }) new → SettlesPorts (started config keys most start) new

@@ -34,8 +34,7 @@ left_sound agg conv (Err fault) old answer new e h sound = subst IsSound (sym h.
 left_moves : (agg : AggId) (conv : ℕ) (what : Result Assignment SystemFault) (old : SystemState) (answer : Result Unit SystemFault)
     (new : SystemState) → system_leave_result old agg conv ≡ what → GivesOrRefuses agg conv what old answer new
     → LawfulMoves (model_setup old) ModelCall.Move_conversation (model_view old) [] (model_view new)
-left_moves agg conv (Ok s) old answer new e h =
-    let u = model_setup old in
+left_moves agg conv (Ok s) old answer new e h = let u = model_setup old in
     let call = ModelCall.Move_conversation in
     let moves = leave_one_moves old.system.mac call old.table new.table agg.0 conv (next_identifier old.table) s
     (left_to agg conv old s e) h.1.0 in
@@ -51,8 +50,7 @@ pub leaves_sound : (agg : AggId) (conv : ℕ) (old : SystemState) (answer : Resu
 leaves_sound agg conv old answer new h s = left_sound agg conv (system_leave_result old agg conv) old answer new refl h s
 
 pub leaves_promise : (agg : AggId) (conv : ℕ) (old : SystemState) (answer : Result Unit SystemFault) (new : SystemState)
-    → GivesOrRefuses agg conv (system_leave_result old agg conv) old answer new → IsSound old
-    → TablePromise ModelCall.Move_conversation [] old new
+    → GivesOrRefuses agg conv (system_leave_result old agg conv) old answer new → IsSound old → TablePromise ModelCall.Move_conversation [] old new
 leaves_promise agg conv old answer new h s =
     table_promise ModelCall.Move_conversation [] old new (left_others agg conv (system_leave_result old agg conv) old answer new h)
     (left_moves agg conv (system_leave_result old agg conv) old answer new refl h)
@@ -75,10 +73,8 @@ pub rests_sound : (gives : ℕ → ℕ → ℕ → Type 0) (agg : AggId) (conv :
 rests_sound gives agg conv old answer new h s = rested_sound gives agg conv (system_rest_result old agg conv) old answer new refl h s
 
 pub rests_forced : (gives : ℕ → ℕ → ℕ → Type 0) (agg : AggId) (conv : ℕ) (old new : SystemState)
-    → GivesOrRefuses agg conv (system_rest_result old agg conv) old (Ok tt) new → IsSound old
-    → CallPromise gives old (Force agg conv) (reply.Force (Ok tt)) new
-rests_forced gives agg conv old new h s =
-    answers gives old (Force agg conv) (reply.Force (Ok tt)) new
+    → GivesOrRefuses agg conv (system_rest_result old agg conv) old (Ok tt) new → IsSound old → CallPromise gives old (Force agg conv) (reply.Force (Ok tt)) new
+rests_forced gives agg conv old new h s = answers gives old (Force agg conv) (reply.Force (Ok tt)) new
     (forced_alike agg conv (system_rest_result old agg conv) old (Ok tt) new refl refl h) s
 
 pub rests_if_ok : (gives : ℕ → ℕ → ℕ → Type 0) (agg : AggId) (conv : ℕ) (old : SystemState) (answer : Result Unit SystemFault)

@@ -34,8 +34,7 @@ same_bit b m n h = grind (arith, nat_tests)
 no_bit : (b : Bool) (m n : ℕ) → m ≤ n → m ≤ cond b (suc n) n
 no_bit b m n h = grind (arith, nat_tests)
 
-bit_less : (agg : AggId) (c d : Choice) (m n : ℕ) → (d ≡ Unselected) ⊎ (d ≡ c) → m ≤ n
-    → cond (has_chosen agg d) (suc m) m ≤ cond (has_chosen agg c) (suc n) n
+bit_less : (agg : AggId) (c d : Choice) (m n : ℕ) → (d ≡ Unselected) ⊎ (d ≡ c) → m ≤ n → cond (has_chosen agg d) (suc m) m ≤ cond (has_chosen agg c) (suc n) n
 bit_less agg c d m n h l = grind (arith, nat_tests)
 
 pub zip_fewer : (R : Machines → Machines → Type 0) → ((p q : Machines) → R p q → LeavesOrStays p q) → (xs ys : List SystemPort)
@@ -45,8 +44,7 @@ zip_fewer R k [] (y ∷ ys) h agg = absurd h
 zip_fewer R k (x ∷ xs) [] h agg = absurd h
 zip_fewer R k (x ∷ xs) (y ∷ ys) h agg = grind (arith, nat_tests, zip_fewer R k xs ys h.1 agg)
 
-pub set_fewer : (xs : List SystemPort) (i : ℕ) (s t : SystemPort) → slice_get xs i ≡ Some s → LeavesOrStays s.port t.port
-    → Fewer xs (slice_set xs i t)
+pub set_fewer : (xs : List SystemPort) (i : ℕ) (s t : SystemPort) → slice_get xs i ≡ Some s → LeavesOrStays s.port t.port → Fewer xs (slice_set xs i t)
 set_fewer [] i s t e h agg = absurd (none-some s e)
 set_fewer (x ∷ xs) zero s t e h agg = grind (arith, nat_tests)
 set_fewer (x ∷ xs) (suc i) s t e h agg = grind (arith, nat_tests, set_fewer xs i s t e h agg)
@@ -73,8 +71,7 @@ set_grows agg (x ∷ xs) (suc i) s c e h = grind (arith, nat_tests, set_grows ag
 
 -- the limit
 
-pub within_fewer : (max_links : Option ℕ) (old new : List SystemPort) → Fewer old new → WithinLimit max_links (views old)
-    → WithinLimit max_links (views new)
+pub within_fewer : (max_links : Option ℕ) (old new : List SystemPort) → Fewer old new → WithinLimit max_links (views old) → WithinLimit max_links (views new)
 within_fewer None old new h w = tt
 within_fewer (Some most) old new h w = λ agg. omega (arith, h agg, w agg, counted agg old, counted agg new)
 
@@ -84,8 +81,7 @@ below_most k n most h = grind (arith, nat_tests)
 fits_one : (agg a : AggId) (l : List SystemPort) (i : ℕ) (s : SystemPort) (most : ℕ) (k b : Bool) → (agg.0 == a.0) ≡ b
     → (k && nat_lt (length (ports_that_chose agg (views l))) most) ≡ true → length (ports_that_chose a (views l)) ≤ most
     → length (ports_that_chose a (views (slice_set l i (with_choice s (Some (Selected agg)))))) ≤ most
-fits_one agg a l i s most k true e room w =
-    let m : List SystemPort = slice_set l i (with_choice s (Some (Selected agg))) in
+fits_one agg a l i s most k true e room w = let m : List SystemPort = slice_set l i (with_choice s (Some (Selected agg))) in
     let number : agg.0 ≡ a.0 = eqb-true agg.0 a.0 e in
     let same : count agg l ≡ count a l = λ j. count (record { 0 = number j }) l in
     let more : count a m ≤ count a l + 1 = subst (λ b. count a m ≤ count a l + cond b 1 0) e (set_more a l i s (Selected agg)) in
@@ -101,14 +97,12 @@ standby_within : (max_links : Option ℕ) (l : List SystemPort) (i : ℕ) (s : S
     → WithinLimit max_links (views (slice_set l i (with_choice s (Some (Standby agg)))))
 standby_within max_links l i s agg w = grind (arith, nat_tests, within_fewer, set_more)
 
-taken_within : (aggs : AggregatorsValue) (l : List SystemPort) (i : ℕ) (s : SystemPort) (agg : AggId) (room : Bool)
-    → has_room aggs (views l) agg ≡ room → WithinLimit aggs.max_links (views l)
-    → WithinLimit aggs.max_links (views (slice_set l i (with_choice s (Some (choice_if room agg)))))
+taken_within : (aggs : AggregatorsValue) (l : List SystemPort) (i : ℕ) (s : SystemPort) (agg : AggId) (room : Bool) → has_room aggs (views l) agg ≡ room
+    → WithinLimit aggs.max_links (views l) → WithinLimit aggs.max_links (views (slice_set l i (with_choice s (Some (choice_if room agg)))))
 taken_within aggs l i s agg room e w = grind (arith, nat_tests, selected_within, is_aggregator, standby_within)
 
-choice_within : (aggs : AggregatorsValue) (l : List SystemPort) (i : ℕ) (s : SystemPort) (o : Option AggId) → slice_get l i ≡ Some s
-    → (slice_set l i s ≡ l) → WithinLimit aggs.max_links (views l)
-    → WithinLimit aggs.max_links (views (slice_set l i (with_choice s (option_map (choice_in aggs (views l)) o))))
+choice_within : (aggs : AggregatorsValue) (l : List SystemPort) (i : ℕ) (s : SystemPort) (o : Option AggId) → slice_get l i ≡ Some s → (slice_set l i s ≡ l)
+    → WithinLimit aggs.max_links (views l) → WithinLimit aggs.max_links (views (slice_set l i (with_choice s (option_map (choice_in aggs (views l)) o))))
 choice_within aggs l i s o e same w = grind (arith, nat_tests, views, taken_within, has_room)
 
 set_itself : (l : List SystemPort) (i : ℕ) (s : SystemPort) → slice_get l i ≡ Some s → slice_set l i s ≡ l
@@ -118,8 +112,7 @@ set_itself (x ∷ xs) (suc i) s e = ap (λ ys. x ∷ ys) (set_itself xs i s e)
 
 pub choosing_within : (aggs : AggregatorsValue) (old new : List SystemPort) → ChoosesIn aggs old new → WithinLimit aggs.max_links (views old)
     → WithinLimit aggs.max_links (views new)
-choosing_within aggs old new h w =
-    let P : List SystemPort → Type 0 = λ l. WithinLimit aggs.max_links (views l) in
+choosing_within aggs old new h w = let P : List SystemPort → Type 0 = λ l. WithinLimit aggs.max_links (views l) in
     subst P (sym h.2)
     (choices_keep aggs P (λ l i s e q. choice_within aggs l i s (aggregator_for aggs.keys l s) e (set_itself l i s e) q) (length h.0) h.0
     (promotions_keep aggs P (λ agg l m x q. subst P (sym x.4)
@@ -131,8 +124,7 @@ none_counted agg [] h = refl
 none_counted agg (s ∷ ss) h = ap (λ c. cond (has_chosen agg c) (suc (count agg ss)) (count agg ss)) h.0 ∙ none_counted agg ss h.1
 
 -- where all are UNSELECTED
-pub none_within : (max_links : Option ℕ) (l : List SystemPort) → AllByRecursion (λ s. s.port.choice ≡ Unselected) l
-    → WithinLimit max_links (views l)
+pub none_within : (max_links : Option ℕ) (l : List SystemPort) → AllByRecursion (λ s. s.port.choice ≡ Unselected) l → WithinLimit max_links (views l)
 none_within max_links l h = grind (arith, nat_tests, counted, none_counted)
 
 -- which aggregator has none that comes next
@@ -140,8 +132,7 @@ none_within max_links l h = grind (arith, nat_tests, counted, none_counted)
 abbrev pub NoneNext : AggregatorsValue → AggId → List SystemPort → Type 0
 NoneNext aggs agg l = (has_room aggs (views l) agg ≡ false) ⊎ NoneStandsBy agg (views l)
 
-below_less : (max_links : Option ℕ) (k : Bool) (m n : ℕ) → m ≤ n → (k && is_below max_links m) ≡ false
-    → (k && is_below max_links n) ≡ false
+below_less : (max_links : Option ℕ) (k : Bool) (m n : ℕ) → m ≤ n → (k && is_below max_links m) ≡ false → (k && is_below max_links n) ≡ false
 below_less max_links k m n l h = grind (arith, nat_tests)
 
 room_less : (aggs : AggregatorsValue) (agg : AggId) (l m : List SystemPort) → count agg l ≤ count agg m
@@ -155,10 +146,8 @@ stands_set agg (x ∷ xs) zero t e h = (e, h.1)
 stands_set agg (x ∷ xs) (suc i) t e h = (h.0, stands_set agg xs i t e h.1)
 
 -- a promotion keeps it in every aggregator
-pub next_stands : (aggs : AggregatorsValue) (agg : AggId) (l m : List SystemPort) (h : PromotesNext aggs agg l m)
-    → h.1.port.choice ≡ Standby agg
-next_stands aggs agg l m h =
-    let n = is_next aggs (views l) agg h.0 h.2 in
+pub next_stands : (aggs : AggregatorsValue) (agg : AggId) (l m : List SystemPort) (h : PromotesNext aggs agg l m) → h.1.port.choice ≡ Standby agg
+next_stands aggs agg l m h = let n = is_next aggs (views l) agg h.0 h.2 in
     ap (λ (v : PortView). v.choice) (same_Some (selection_view h.1) n.port (sym (seen l h.0 h.1 h.3) ∙ n.there)) ∙ n.standby
   where
     seen : (l : List SystemPort) (i : ℕ) (s : SystemPort) → slice_get l i ≡ Some s → slice_get (views l) i ≡ Some (selection_view s)
@@ -168,8 +157,7 @@ next_stands aggs agg l m h =
 
 promotion_none : (aggs : AggregatorsValue) (agg : AggId) (l m : List SystemPort) → PromotesNext aggs agg l m → (a : AggId)
     → NoneNext aggs a l → NoneNext aggs a m
-promotion_none aggs agg l m h a q =
-    let s = h.1 in
+promotion_none aggs agg l m h a q = let s = h.1 in
     let t : SystemPort = with_choice s (Some (Selected agg)) in
     let more = set_grows a l h.0 s (Selected agg) h.3 (ap (has_chosen a) (next_stands aggs agg l m h)) in
     subst (NoneNext aggs a) (sym h.4) (elim q [
@@ -187,31 +175,27 @@ up_to (suc a) (suc n) h = elim (up_to a n (omega (arith, h))) [ inl l ↦ inl (o
 
 promotions_none : (aggs : AggregatorsValue) (n : ℕ) (old new : List SystemPort) → PromotesFirst aggs n old new → NoneUpTo aggs n new
 promotions_none aggs zero old new h a low high = absurd (omega (arith, low, high))
-promotions_none aggs (suc n) old new h a low high =
-    let agg = aggregator_numbered (suc n) in elim (up_to a.0 n high) [
-      | inl l ↦ all_keep aggs agg (NoneUpTo aggs n) (λ x y p q b lo hi. promotion_none aggs agg x y p b (q b lo hi)) h.0 new h.2
-          (promotions_none aggs n old h.0 h.1) a low l
-      | inr e ↦ subst (λ k. NoneNext aggs (aggregator_numbered k) new) (sym e) (none_is_next aggs (views new) agg h.2.2)
-    ]
+promotions_none aggs (suc n) old new h a low high = let agg = aggregator_numbered (suc n) in elim (up_to a.0 n high) [
+  | inl l ↦ all_keep aggs agg (NoneUpTo aggs n) (λ x y p q b lo hi. promotion_none aggs agg x y p b (q b lo hi)) h.0 new h.2
+      (promotions_none aggs n old h.0 h.1) a low l
+  | inr e ↦ subst (λ k. NoneNext aggs (aggregator_numbered k) new) (sym e) (none_is_next aggs (views new) agg h.2.2)
+]
 
 known_parts : (a n : ℕ) → (nat_le 1 a && nat_le a n) ≡ true → (0 < a) × (a ≤ n)
 known_parts a n h = grind (arith, nat_tests)
 
-all_promoted : (aggs : AggregatorsValue) (old new : List SystemPort) → PromotesFirst aggs (length aggs.keys) old new → (a : AggId)
-    → NoneNext aggs a new
+all_promoted : (aggs : AggregatorsValue) (old new : List SystemPort) → PromotesFirst aggs (length aggs.keys) old new → (a : AggId) → NoneNext aggs a new
 all_promoted aggs old new h a = grind (arith, nat_tests, cases_Bool, known_parts, promotions_none)
 
 -- a choice keeps it in every aggregator
 taken_none : (aggs : AggregatorsValue) (l : List SystemPort) (i : ℕ) (s : SystemPort) (agg : AggId) (room : Bool)
     → has_room aggs (views l) agg ≡ room → slice_get l i ≡ Some s → s.port.choice ≡ Unselected → (a : AggId) → NoneNext aggs a l
     → NoneNext aggs a (slice_set l i (with_choice s (Some (choice_if room agg))))
-taken_none aggs l i s agg true e g u a q =
-    let more = set_grows a l i s (Selected agg) g (ap (has_chosen a) u) in elim q [
-      | inl r ↦ inl (room_less aggs a l (slice_set l i (with_choice s (Some (Selected agg)))) more r)
-      | inr n ↦ inr (stands_set a l i (with_choice s (Some (Selected agg))) refl n)
-    ]
-taken_none aggs l i s agg false e g u a q =
-    let t : SystemPort = with_choice s (Some (Standby agg)) in
+taken_none aggs l i s agg true e g u a q = let more = set_grows a l i s (Selected agg) g (ap (has_chosen a) u) in elim q [
+  | inl r ↦ inl (room_less aggs a l (slice_set l i (with_choice s (Some (Selected agg)))) more r)
+  | inr n ↦ inr (stands_set a l i (with_choice s (Some (Selected agg))) refl n)
+]
+taken_none aggs l i s agg false e g u a q = let t : SystemPort = with_choice s (Some (Standby agg)) in
     let more = set_grows a l i s (Standby agg) g (ap (has_chosen a) u) in elim q [
       | inl r ↦ inl (room_less aggs a l (slice_set l i t) more r)
       | inr n ↦ elim (cases_Bool (agg.0 == a.0)) [
@@ -222,15 +206,13 @@ taken_none aggs l i s agg false e g u a q =
       ]
     ]
 
-choice_none : (aggs : AggregatorsValue) (l : List SystemPort) (i : ℕ) (s : SystemPort) (o : Option AggId)
-    → aggregator_for aggs.keys l s ≡ o → slice_get l i ≡ Some s → (a : AggId) → NoneNext aggs a l
-    → NoneNext aggs a (slice_set l i (with_choice s (option_map (choice_in aggs (views l)) o)))
+choice_none : (aggs : AggregatorsValue) (l : List SystemPort) (i : ℕ) (s : SystemPort) (o : Option AggId) → aggregator_for aggs.keys l s ≡ o
+    → slice_get l i ≡ Some s → (a : AggId) → NoneNext aggs a l → NoneNext aggs a (slice_set l i (with_choice s (option_map (choice_in aggs (views l)) o)))
 choice_none aggs l i s None k e a q = subst (NoneNext aggs a) (sym (set_itself l i s e)) q
 choice_none aggs l i s (Some agg) k e a q = grind (arith, nat_tests, may_then, taken_none, unselected)
 
 pub choosing_none : (aggs : AggregatorsValue) (old new : List SystemPort) → ChoosesIn aggs old new → (a : AggId) → NoneNext aggs a new
-choosing_none aggs old new h a =
-    subst (NoneNext aggs a) (sym h.2)
+choosing_none aggs old new h a = subst (NoneNext aggs a) (sym h.2)
     (choices_keep aggs (NoneNext aggs a) (λ l i s e q. choice_none aggs l i s (aggregator_for aggs.keys l s) refl e a q) (length h.0) h.0
     (all_promoted aggs old h.0 h.1 a))
 
@@ -251,12 +233,8 @@ same_stands agg [] (y ∷ ys) h n = absurd h
 same_stands agg (x ∷ xs) [] h n = absurd h
 same_stands agg (x ∷ xs) (y ∷ ys) h n = (ap (stands_by agg) h.0 ∙ n.0, same_stands agg xs ys h.1 n.1)
 
-pub same_none : (aggs : AggregatorsValue) (xs ys : List SystemPort) → SameChoices xs ys → (a : AggId) → NoneNext aggs a xs
-    → NoneNext aggs a ys
-same_none aggs xs ys h a q = elim q [
-  | inl r ↦ inl (room_less aggs a xs ys (same_count a xs ys h) r)
-  | inr n ↦ inr (same_stands a xs ys h n)
-]
+pub same_none : (aggs : AggregatorsValue) (xs ys : List SystemPort) → SameChoices xs ys → (a : AggId) → NoneNext aggs a xs → NoneNext aggs a ys
+same_none aggs xs ys h a q = elim q [ inl r ↦ inl (room_less aggs a xs ys (same_count a xs ys h) r) | inr n ↦ inr (same_stands a xs ys h n) ]
 
 -- steps that leave Selected
 zip_none : (aggs : AggregatorsValue) (R : Machines → Machines → Type 0) → ((p q : Machines) → R p q → q.choice ≡ p.choice)
@@ -267,8 +245,7 @@ zip_none aggs R k xs ys h = same_none aggs xs ys
 pub settled_none : (aggs : AggregatorsValue) (R S : Machines → Machines → Type 0) → ((p q : Machines) → R p q → q.choice ≡ p.choice)
     → ((p q : Machines) → S p q → q.choice ≡ p.choice) → (one two four five : List SystemPort) → ChoosesIn aggs one two
     → PortsChangeBy R two four → PortsChangeBy S four five → NoneIsNext aggs (views five)
-settled_none aggs R S k m one two four five h r s a =
-    nothing_is_next aggs (views five) a
+settled_none aggs R S k m one two four five h r s a = nothing_is_next aggs (views five) a
     (zip_none aggs S m four five s a (zip_none aggs R k two four r a (choosing_none aggs one two h a)))
 
 -- where none comes next, step 2 promotes none

@@ -6,10 +6,9 @@ use Rattle.std.proofs.lemmas.List.Filters.{length-filter_more}
 use Rattle.lagsystem.proofs.NextLemmas.{full_no_room}
 
 -- one port more
-pub counted_more : (l : List SystemPort) (i : ℕ) (d : SystemPort) (choice : Choice) (counts new : List ℕ) → i < length l
-    → CountsMembers (take i l) counts → length new ≡ 65 → choice ≡ (get_or l i d).port.choice
-    → ((agg : AggId) → agg.0 < 65 → get_or new agg.0 0 ≡ get_or counts agg.0 0 + cond (has_chosen agg choice) 1 0)
-    → CountsMembers (take (i + 1) l) new
+pub counted_more : (l : List SystemPort) (i : ℕ) (d : SystemPort) (choice : Choice) (counts new : List ℕ) → i < length l → CountsMembers (take i l) counts
+    → length new ≡ 65 → choice ≡ (get_or l i d).port.choice
+    → ((agg : AggId) → agg.0 < 65 → get_or new agg.0 0 ≡ get_or counts agg.0 0 + cond (has_chosen agg choice) 1 0) → CountsMembers (take (i + 1) l) new
 counted_more l i d choice counts new lt h many is more = record {
   many = many;
   each = λ agg low. more agg low ∙ ap (λ n. n + cond (has_chosen agg choice) 1 0) (h.each agg low)
@@ -42,7 +41,6 @@ counted_below l i counts lt few h g =
     omega (arith, counted_few (take i l) counts h g, length-take-le i l (omega (arith, lt)), lt, few)
 
 -- as many members as the limit, as they are counted, leave no room
-pub counted_full : (aggs : AggregatorsValue) (l : List SystemPort) (agg : AggId) (counts : List ℕ) (max_links : Option ℕ)
-    → CountsMembers l counts → max_links ≡ aggs.max_links → agg.0 < 65 → is_below max_links (get_or counts agg.0 0) ≡ false
-    → has_room aggs (views l) agg ≡ false
+pub counted_full : (aggs : AggregatorsValue) (l : List SystemPort) (agg : AggId) (counts : List ℕ) (max_links : Option ℕ) → CountsMembers l counts
+    → max_links ≡ aggs.max_links → agg.0 < 65 → is_below max_links (get_or counts agg.0 0) ≡ false → has_room aggs (views l) agg ≡ false
 counted_full aggs l agg counts max_links h same low full = grind (arith, nat_tests, full_no_room)

@@ -13,8 +13,7 @@ within_views (x ∷ xs) zero v e = omega arith
 within_views (x ∷ xs) (suc i) v e = omega (arith, within_views xs i v e)
 
 -- there is such a port
-pub next_within : (aggs : AggregatorsValue) (l : List SystemPort) (agg : AggId) (i : ℕ) → next_standby_index aggs (views l) agg ≡ Some i
-    → i < length l
+pub next_within : (aggs : AggregatorsValue) (l : List SystemPort) (agg : AggId) (i : ℕ) → next_standby_index aggs (views l) agg ≡ Some i → i < length l
 next_within aggs l agg i e = let n = is_next aggs (views l) agg i e in within_views l i n.port n.there
 
 one_less : (b : Bool) (n : ℕ) → b ≡ true → n + 1 ≡ cond b (suc n) n
@@ -27,10 +26,8 @@ fewer_standby agg (x ∷ xs) zero s e h = grind (arith, nat_tests)
 fewer_standby agg (x ∷ xs) (suc i) s e h = grind (arith, nat_tests, fewer_standby agg xs i s e h)
 
 -- one STANDBY port of the aggregator fewer
-pub promoted_fewer : (aggs : AggregatorsValue) (agg : AggId) (l m : List SystemPort) → PromotesNext aggs agg l m
-    → count_standby agg m + 1 ≡ count_standby agg l
-promoted_fewer aggs agg l m h =
-    subst (λ x. count_standby agg x + 1 ≡ count_standby agg l) (sym h.4)
+pub promoted_fewer : (aggs : AggregatorsValue) (agg : AggId) (l m : List SystemPort) → PromotesNext aggs agg l m → count_standby agg m + 1 ≡ count_standby agg l
+promoted_fewer aggs agg l m h = subst (λ x. count_standby agg x + 1 ≡ count_standby agg l) (sym h.4)
     (fewer_standby agg l h.0 h.1 h.3 (ap (stands_by agg) (next_stands aggs agg l m h) ∙ itself agg.0))
 
 -- so in one aggregator more
@@ -46,8 +43,7 @@ seen_port (x ∷ xs) zero v e = (x, refl, ap (λ (w : PortView). w.choice) (same
 seen_port (x ∷ xs) (suc i) v e = seen_port xs i v e
 
 -- the members of an aggregator, counted among the ports
-pub members_counted : (agg : AggId) (l : List SystemPort)
-    → length (filter (λ s. has_chosen agg s.port.choice) l) ≡ length (ports_that_chose agg (views l))
+pub members_counted : (agg : AggId) (l : List SystemPort) → length (filter (λ s. has_chosen agg s.port.choice) l) ≡ length (ports_that_chose agg (views l))
 members_counted agg [] = refl
 members_counted agg (s ∷ ss) = grind (arith, nat_tests, members_counted agg ss)
 
@@ -63,8 +59,7 @@ none_next aggs l n long h agg = by_index (next_standby_index aggs (views l) agg)
   where
     by_index : (o : Option ℕ) → next_standby_index aggs (views l) agg ≡ o → o ≡ None
     by_index None e = refl
-    by_index (Some i) e =
-        let x = is_next aggs (views l) agg i e in
+    by_index (Some i) e = let x = is_next aggs (views l) agg i e in
         grind (arith, nat_tests, seen_port, next_within)
 
 -- so for one port more
@@ -102,8 +97,7 @@ pub none_left_standby : (aggs : AggregatorsValue) (l : List SystemPort) → list
     → (agg : AggId) → next_standby_index aggs (views l) agg ≡ None
 none_left_standby aggs l h = none_stands aggs l (none_standby l h)
   where
-    none_standby : (l : List SystemPort) → list_any (λ s. not (is_selected s.port.choice)) l ≡ false
-        → list_any (λ s. is_standby s.port.choice) l ≡ false
+    none_standby : (l : List SystemPort) → list_any (λ s. not (is_selected s.port.choice)) l ≡ false → list_any (λ s. is_standby s.port.choice) l ≡ false
     none_standby [] e = refl
     none_standby (x ∷ xs) e =
         let both = or_parts (not (is_selected x.port.choice)) (list_any (λ s. not (is_selected s.port.choice)) xs) e in

@@ -23,20 +23,17 @@ all_kept : (xs ys : List SystemPort) → EachLeaves xs ys → one_unselected ys 
 all_kept [] [] h e = tt
 all_kept [] (y ∷ ys) h e = absurd h
 all_kept (x ∷ xs) [] h e = absurd h
-all_kept (x ∷ xs) (y ∷ ys) h e =
-    let both = or_parts (is_unselected y.port.choice) (one_unselected ys) e in
+all_kept (x ∷ xs) (y ∷ ys) h e = let both = or_parts (is_unselected y.port.choice) (one_unselected ys) e in
     (kept x.port y.port h.0 both.0, all_kept xs ys h.1 both.1)
 
 none_before : (xs ys : List SystemPort) → SameChoices xs ys → one_unselected ys ≡ false → one_unselected xs ≡ false
 none_before [] [] h e = refl
 none_before [] (y ∷ ys) h e = absurd h
 none_before (x ∷ xs) [] h e = absurd h
-none_before (x ∷ xs) (y ∷ ys) h e =
-    let both = or_parts (is_unselected y.port.choice) (one_unselected ys) e in
+none_before (x ∷ xs) (y ∷ ys) h e = let both = or_parts (is_unselected y.port.choice) (one_unselected ys) e in
     ap (λ c. is_unselected c || one_unselected xs) (sym h.0) ∙ ap (λ b. b || one_unselected xs) both.0 ∙ none_before xs ys h.1 both.1
 
-next_kept : (aggs : AggregatorsValue) (xs ys : List SystemPort) → EachLeaves xs ys → NextOnlyIfUnselected aggs xs
-    → NextOnlyIfUnselected aggs ys
+next_kept : (aggs : AggregatorsValue) (xs ys : List SystemPort) → EachLeaves xs ys → NextOnlyIfUnselected aggs xs → NextOnlyIfUnselected aggs ys
 next_kept aggs xs ys h k none a = grind (arith, all_kept, nothing_is_next, views, same_none, none_is_next, none_before)
 
 -- each port changes
@@ -50,8 +47,7 @@ same_each : (xs : List SystemPort) → EachLeaves xs xs
 same_each [] = tt
 same_each (x ∷ xs) = (stays x.port, same_each xs)
 
-set_each : (xs : List SystemPort) (i : ℕ) (s t : SystemPort) → slice_get xs i ≡ Some s → LeavesOrStays s.port t.port
-    → EachLeaves xs (slice_set xs i t)
+set_each : (xs : List SystemPort) (i : ℕ) (s t : SystemPort) → slice_get xs i ≡ Some s → LeavesOrStays s.port t.port → EachLeaves xs (slice_set xs i t)
 set_each [] i s t e h = absurd (none-some s e)
 set_each (x ∷ xs) zero s t e h = grind (arith, same_Some, same_each)
 set_each (x ∷ xs) (suc i) s t e h = (stays x.port, set_each xs i s t e h)

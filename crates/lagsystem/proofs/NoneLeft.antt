@@ -11,8 +11,7 @@ use Rattle.lagsystem.proofs.SettlingLemmas.{set_same}
 
 -- places of a list
 
-get_other : (system_ports : List SystemPort) (n j : ℕ) (x : SystemPort) → j < n
-    → slice_get (slice_set system_ports n x) j ≡ slice_get system_ports j
+get_other : (system_ports : List SystemPort) (n j : ℕ) (x : SystemPort) → j < n → slice_get (slice_set system_ports n x) j ≡ slice_get system_ports j
 get_other [] n j x l = refl
 get_other (s ∷ ss) zero j x l = absurd (omega (arith, l))
 get_other (s ∷ ss) (suc n) zero x l = refl
@@ -37,8 +36,7 @@ length_choose : (aggs : AggregatorsValue) (system_ports : List SystemPort) (i : 
     → length (after_choice_at aggs system_ports i o) ≡ length system_ports
 length_choose aggs system_ports i o = grind (arith, nat_tests, length_set, with_choice, choice_for)
 
-length_chosen : (aggs : AggregatorsValue) (n : ℕ) (system_ports : List SystemPort)
-    → length (after_choices aggs n system_ports) ≡ length system_ports
+length_chosen : (aggs : AggregatorsValue) (n : ℕ) (system_ports : List SystemPort) → length (after_choices aggs n system_ports) ≡ length system_ports
 length_chosen aggs zero system_ports = refl
 length_chosen aggs (suc n) system_ports = grind (arith, nat_tests, length_choose, length_chosen aggs n system_ports)
 
@@ -64,9 +62,8 @@ pub takes_is : (keys : List Key) (system_ports : List SystemPort) (j : ℕ) (t :
 takes_is keys system_ports j t r e = ap (λ o. if may_choose t then chosen_for_view keys (views system_ports) o else None)
     (find_here 0 system_ports j t r e)
 
-none_then : (keys : List Key) (system_ports : List SystemPort) (i j : ℕ) (s t : SystemPort) (a : Choice)
-    → Rises 0 (port_numbers system_ports) → slice_get system_ports i ≡ Some s → s.port.choice ≡ Unselected
-    → slice_get system_ports j ≡ Some t → j < i → aggregator_for keys system_ports t ≡ None
+none_then : (keys : List Key) (system_ports : List SystemPort) (i j : ℕ) (s t : SystemPort) (a : Choice) → Rises 0 (port_numbers system_ports)
+    → slice_get system_ports i ≡ Some s → s.port.choice ≡ Unselected → slice_get system_ports j ≡ Some t → j < i → aggregator_for keys system_ports t ≡ None
     → aggregator_for keys (slice_set system_ports i (with_choice s (Some a))) t ≡ None
 none_then keys system_ports i j s t a r e u g l h =
     let later : List SystemPort = slice_set system_ports i (with_choice s (Some a)) in
@@ -93,12 +90,10 @@ abbrev Found_none : List Key → ℕ → List SystemPort → Type 0
 Found_none keys n system_ports = (j : ℕ) (t : SystemPort) → j < n → slice_get system_ports j ≡ Some t
     → aggregator_for keys system_ports t ≡ None
 
-one_taken : (aggs : AggregatorsValue) (system_ports : List SystemPort) (n : ℕ) (s : SystemPort) (o : Option AggId)
-    → aggregator_for aggs.keys system_ports s ≡ o → slice_get system_ports n ≡ Some s → Rises 0 (port_numbers system_ports)
-    → Found_none aggs.keys n system_ports
+one_taken : (aggs : AggregatorsValue) (system_ports : List SystemPort) (n : ℕ) (s : SystemPort) (o : Option AggId) → aggregator_for aggs.keys system_ports s ≡ o
+    → slice_get system_ports n ≡ Some s → Rises 0 (port_numbers system_ports) → Found_none aggs.keys n system_ports
     → Found_none aggs.keys (suc n) (slice_set system_ports n (with_choice s (option_map (choice_in aggs (views system_ports)) o)))
-one_taken aggs system_ports n s None w e r k j t l g =
-    let keys = aggs.keys in
+one_taken aggs system_ports n s None w e r k j t l g = let keys = aggs.keys in
     let same : slice_set system_ports n s ≡ system_ports = set_same system_ports n s e in
     let there : slice_get system_ports j ≡ Some t = ap (λ (l : List SystemPort). slice_get l j) (sym same) ∙ g in
     let none : aggregator_for keys system_ports t ≡ None = elim (below_or_at j n l) [
@@ -107,8 +102,7 @@ one_taken aggs system_ports n s None w e r k j t l g =
           (same_Some s t (sym e ∙ ap (slice_get system_ports) (sym h) ∙ there)) w
     ] in
     ap (λ (l : List SystemPort). aggregator_for keys l t) same ∙ none
-one_taken aggs system_ports n s (Some a) w e r k j t l g =
-    let keys = aggs.keys in
+one_taken aggs system_ports n s (Some a) w e r k j t l g = let keys = aggs.keys in
     let room = has_room aggs (views system_ports) a in
     let c = choice_if room a in
     let can : may_choose s ≡ true = may_then (may_choose s) (chosen_aggregator keys (views system_ports) s.number) a w in
@@ -125,8 +119,7 @@ one_taken aggs system_ports n s (Some a) w e r k j t l g =
     ]
 
 one_chosen : (aggs : AggregatorsValue) (system_ports : List SystemPort) (n : ℕ) (o : Option SystemPort) → slice_get system_ports n ≡ o
-    → Rises 0 (port_numbers system_ports) → Found_none aggs.keys n system_ports
-    → Found_none aggs.keys (suc n) (after_choice_at aggs system_ports n o)
+    → Rises 0 (port_numbers system_ports) → Found_none aggs.keys n system_ports → Found_none aggs.keys (suc n) (after_choice_at aggs system_ports n o)
 one_chosen aggs system_ports n o e r k j t l g = grind (arith, nat_tests, one_taken)
 
 all_chosen : (aggs : AggregatorsValue) (n : ℕ) (system_ports : List SystemPort) → Rises 0 (port_numbers system_ports)
@@ -145,19 +138,16 @@ each_place P (s ∷ ss) k = (k 0 s refl, each_place P ss (λ j t e. k (suc j) t 
 abbrev pub TakesNone : List Key → List PortView → PortView → Bool → Type 0
 TakesNone keys seen v held = (if is_eligible v && not held then chosen_if_eligible keys seen v else None) ≡ None
 
-when_twice : (b d : Bool) (x : Option AggId) → (if b && d then (if b then x else None) else None) ≡ None
-    → (if b && d then x else None) ≡ None
+when_twice : (b d : Bool) (x : Option AggId) → (if b && d then (if b then x else None) else None) ≡ None → (if b && d then x else None) ≡ None
 when_twice b d x h = grind (arith, nat_tests)
 
-when_again : (b d : Bool) (x : Option AggId) → (if b && d then x else None) ≡ None
-    → (if b && d then (if b then x else None) else None) ≡ None
+when_again : (b d : Bool) (x : Option AggId) → (if b && d then x else None) ≡ None → (if b && d then (if b then x else None) else None) ≡ None
 when_again b d x h = grind (arith, nat_tests)
 
 pub taken_none : (keys : List Key) (system_ports : List SystemPort) → Rises 0 (port_numbers system_ports)
     → AllByRecursion (λ t. TakesNone keys (views system_ports) (selection_view t) t.held) system_ports
     → (j : ℕ) (t : SystemPort) → slice_get system_ports j ≡ Some t → aggregator_for keys system_ports t ≡ None
-taken_none keys system_ports r all j t e =
-    takes_is keys system_ports j t r e
+taken_none keys system_ports r all j t e = takes_is keys system_ports j t r e
     ∙ when_again (is_eligible (selection_view t)) (not t.held) (chosen_if_eligible keys (views system_ports) (selection_view t))
     (all-get (λ t. TakesNone keys (views system_ports) (selection_view t) t.held) system_ports j t e all)
 
@@ -165,8 +155,7 @@ taken_none keys system_ports r all j t e =
 pub none_takes : (aggs : AggregatorsValue) (system_ports : List SystemPort) → Rises 0 (port_numbers system_ports)
     → AllByRecursion (λ t. TakesNone aggs.keys (views (after_choices aggs (length system_ports) system_ports)) (selection_view t) t.held)
     (after_choices aggs (length system_ports) system_ports)
-none_takes aggs system_ports r =
-    let keys = aggs.keys in
+none_takes aggs system_ports r = let keys = aggs.keys in
     let last : List SystemPort = after_choices aggs (length system_ports) system_ports in
     let rise : Rises 0 (port_numbers last) = subst (λ ns. Rises 0 ns) (sym (chosen_numbers aggs (length system_ports) system_ports)) r in
     each_place (λ t. TakesNone keys (views last) (selection_view t) t.held) last

@@ -27,14 +27,11 @@ two_false k s t u h g f = grind (arith, nat_tests)
 abbrev passing : Key → (AggId → Bool) → List (ℕ × Key) → Option (ℕ × Key)
 passing key test rows = find (λ (row : ℕ × Key). (row.1.0 == key.0) && test (aggregator_of_entry row)) rows
 
-still_none : (key : Key) (empty join later_empty later_join : AggId → Bool)
-    → ((agg : AggId) → empty agg ≡ false → later_empty agg ≡ false)
-    → ((agg : AggId) → empty agg ≡ false → join agg ≡ false → later_join agg ≡ false)
-    → (rows : List (ℕ × Key)) → passing key empty rows ≡ None → passing key join rows ≡ None
-    → (passing key later_empty rows ≡ None) × (passing key later_join rows ≡ None)
+still_none : (key : Key) (empty join later_empty later_join : AggId → Bool) → ((agg : AggId) → empty agg ≡ false → later_empty agg ≡ false)
+    → ((agg : AggId) → empty agg ≡ false → join agg ≡ false → later_join agg ≡ false) → (rows : List (ℕ × Key)) → passing key empty rows ≡ None
+    → passing key join rows ≡ None → (passing key later_empty rows ≡ None) × (passing key later_join rows ≡ None)
 still_none key empty join later_empty later_join f g [] e j = (refl, refl)
-still_none key empty join later_empty later_join f g (row ∷ rows) e j =
-    let agg : AggId = aggregator_of_entry row in
+still_none key empty join later_empty later_join f g (row ∷ rows) e j = let agg : AggId = aggregator_of_entry row in
     let same : Bool = row.1.0 == key.0 in
     let he = first_fails (same && empty agg) row (passing key empty rows) e in
     let hj = first_fails (same && join agg) row (passing key join rows) j in
@@ -85,13 +82,11 @@ all_skipped : (test : PortView → Bool) (b : Bool) (w : PortView) (rest : List 
 all_skipped test b w rest n h = grind (arith, nat_tests)
 
 all_still : (test : PortView → Bool) (b : Bool) (w : PortView) (rest more : List PortView) → list_all test (cond b (w ∷ rest) rest) ≡ false
-    → (list_all test rest ≡ false → list_all test more ≡ false)
-    → list_all test (cond b (w ∷ more) more) ≡ false
+    → (list_all test rest ≡ false → list_all test more ≡ false) → list_all test (cond b (w ∷ more) more) ≡ false
 all_still test b w rest more h f = grind (arith, nat_tests)
 
 others_stay : (agg : AggId) (a : Choice) (v : PortView) (system_ports : List SystemPort) (i : ℕ) (s : SystemPort) → slice_get system_ports i ≡ Some s
-    → s.port.choice ≡ Unselected
-    → list_all (has_group_of v) (occupants agg (views system_ports)) ≡ false
+    → s.port.choice ≡ Unselected → list_all (has_group_of v) (occupants agg (views system_ports)) ≡ false
     → list_all (has_group_of v) (occupants agg (views (slice_set system_ports i (with_choice s (Some a))))) ≡ false
 others_stay agg a v [] i s e u h = absurd cc
 others_stay agg a v (x ∷ xs) zero s e u h = grind (arith, nat_tests, all_later, all_skipped, not_given)
@@ -100,20 +95,17 @@ others_stay agg a v (x ∷ xs) (suc i) s e u h =
     (occupants agg (views (slice_set xs i (with_choice s (Some a))))) h
     (others_stay agg a v xs i s e u)
 
-join_stays : (n m a later all : Bool) → m ≡ true → later ≡ true → ((n && m) && a) ≡ false → (a ≡ false → all ≡ false)
-    → ((n && later) && all) ≡ false
+join_stays : (n m a later all : Bool) → m ≡ true → later ≡ true → ((n && m) && a) ≡ false → (a ≡ false → all ≡ false) → ((n && later) && all) ≡ false
 join_stays n m a later all p q h f = grind (arith, nat_tests)
 
 -- a port that found none finds none after another port took an aggregator
-pub none_after : (keys : List Key) (system_ports : List SystemPort) (i : ℕ) (s : SystemPort) (a : Choice) (v : PortView)
-    → slice_get system_ports i ≡ Some s → s.port.choice ≡ Unselected
-    → chosen_if_eligible keys (views system_ports) v ≡ None
+pub none_after : (keys : List Key) (system_ports : List SystemPort) (i : ℕ) (s : SystemPort) (a : Choice) (v : PortView) → slice_get system_ports i ≡ Some s
+    → s.port.choice ≡ Unselected → chosen_if_eligible keys (views system_ports) v ≡ None
     → chosen_if_eligible keys (views (slice_set system_ports i (with_choice s (Some a)))) v ≡ None
 none_after keys system_ports i s a v e u h = grind (arith, nat_tests, views, slice_set, with_choice, none_stays, not_from_true, has_occupant, occupant_stays, not-false, join_stays, not, individual, list_all, has_group_of, occupants, others_stay)
 
 -- the same occupants in the same groups
-pub none_alike : (keys : List Key) (seen later : List PortView) (v : PortView)
-    → ((agg : AggId) → has_occupant later agg ≡ has_occupant seen agg)
-    → ((agg : AggId) → list_all (has_group_of v) (occupants agg later) ≡ list_all (has_group_of v) (occupants agg seen))
-    → chosen_if_eligible keys seen v ≡ None → chosen_if_eligible keys later v ≡ None
+pub none_alike : (keys : List Key) (seen later : List PortView) (v : PortView) → ((agg : AggId) → has_occupant later agg ≡ has_occupant seen agg)
+    → ((agg : AggId) → list_all (has_group_of v) (occupants agg later) ≡ list_all (has_group_of v) (occupants agg seen)) → chosen_if_eligible keys seen v ≡ None
+    → chosen_if_eligible keys later v ≡ None
 none_alike keys seen later v f g h = grind (arith, nat_tests)

@@ -51,8 +51,7 @@ choice_agrees : (aggs : AggregatorsValue) (l : List SystemPort) (i : ℕ) (s : S
     → slice_get l i ≡ Some s → aggregator_for aggs.keys l s ≡ o → OccupantsAgree aggs.keys l
     → OccupantsAgree aggs.keys (slice_set l i (with_choice s (option_map (choice_in aggs (views l)) o)))
 choice_agrees aggs l i s None r e k a = subst (OccupantsAgree aggs.keys) (sym (set_same l i s e)) a
-choice_agrees aggs l i s (Some agg) r e k a =
-    let room = has_room aggs (views l) agg in
+choice_agrees aggs l i s (Some agg) r e k a = let room = has_room aggs (views l) agg in
     joining_agrees aggs.keys l i s agg (choice_if room agg) e (occupied_if room agg) ((taken_joins aggs.keys l i s agg r e k).1) a
 
 abbrev AgreeRising : List Key → List SystemPort → Type 0
@@ -75,8 +74,7 @@ choosing_on : (aggs : AggregatorsValue) (old new : List SystemPort) → Rises 0 
 choosing_on aggs old new r h p = (choosing_agrees aggs old new r h p.0, choosing_within aggs old new h p.1)
 
 pub settling_placed : (old new : SystemState) → Rises 0 (port_numbers old.system_ports) → Settling old new → IsPlaced old → IsPlaced new
-settling_placed old new r h p =
-    let s = settling_in old new h in
+settling_placed old new r h p = let s = settling_in old new h in
     let aggs = aggregators_value old in
     let rise = subst (λ ns. Rises 0 ns) (sym (zip_numbers (RunsToRest (mux_rows false)) old.system_ports s.one s.stops)) r in
     subst (λ a. ArePlaced a new.system_ports) (sym (ap aggregators_value (settling_keeps old new h).frame))
@@ -93,8 +91,7 @@ same_placed s t k e p = subst (λ a. ArePlaced a t.system_ports) (sym k) (subst 
 settled_placed : (own : SystemState → SystemState → Type 0) (old new : SystemState) → Rises 0 (port_numbers old.system_ports)
     → ((mid : SystemState) → own old mid → Keeps old mid)
     → ((mid : SystemState) → own old mid → ArePlaced (aggregators_value old) mid.system_ports) → ThenSettles own old new → IsPlaced new
-settled_placed own old new r keeps placed h =
-    let k = keeps h.0 h.1 in
+settled_placed own old new r keeps placed h = let k = keeps h.0 h.1 in
     settling_placed h.0 new (subst (λ ns. Rises 0 ns) (sym k.same) r) h.2
     (subst (λ a. ArePlaced a h.0.system_ports) (sym (ap aggregators_value k.frame)) (placed h.0 h.1))
 

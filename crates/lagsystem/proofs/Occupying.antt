@@ -33,8 +33,7 @@ runs_stay = Rests-relates LeavesOrStays (record { same = λ p q e. subst (Leaves
 synchronization_set : (b : Bool) (info : Info) → party_of (record info { state = with_synchronization b info.state }) ≡ party_of info
 synchronization_set b info = ap (named info) (encode_then_decode (record (bits_of info.state) { synchronization = b }))
 
-expired_set : (info : Info)
-    → party_of (record info { state = with_timeout true (with_synchronization false info.state) }) ≡ party_of info
+expired_set : (info : Info) → party_of (record info { state = with_timeout true (with_synchronization false info.state) }) ≡ party_of info
 expired_set info =
     ap (named info) (encode_then_decode (record (bits_of (with_synchronization false info.state)) { timeout = true }))
     ∙ ap (λ (b : StateBits). named info (record b { timeout = true }))
@@ -91,13 +90,11 @@ periodic_stays p q h = subst (LeavesOrStays p) (sym h.2) (runs_stay periodic_row
 pub tick_stays : (p q : Machines) → RunsToRest receive_rows (count_down p) q → LeavesOrStays p q
 tick_stays p q h = both_stay p (count_down p) q (stays p) (receive_stays (count_down p) q h)
 
-link_set : (max_links : Option ℕ) (up : Bool) (p : Machines)
-    → LeavesOrStays p (record p { enabled = up; choice = choice_with_link max_links up p.choice })
+link_set : (max_links : Option ℕ) (up : Bool) (p : Machines) → LeavesOrStays p (record p { enabled = up; choice = choice_with_link max_links up p.choice })
 link_set max_links up p = grind (arith, nat_tests)
 
 pub link_stays : (max_links : Option ℕ) (up : Bool) (p q : Machines) → SetsPortEnabled max_links up p q → LeavesOrStays p q
-link_stays max_links up p q h =
-    let mid : Machines = record p { enabled = up; choice = choice_with_link max_links up p.choice } in
+link_stays max_links up p q h = let mid : Machines = record p { enabled = up; choice = choice_with_link max_links up p.choice } in
     both_stay p mid q (link_set max_links up p) (receive_stays mid q h)
 
 pub taking_stays : (v : Lacpdu) (p q : Machines) → ProcessesLacpdu v p q → LeavesOrStays p q
@@ -108,8 +105,7 @@ taking_stays v p q h = elim h [
 
 -- a start leaves every aggregator
 pub starts_unselected : (p q : Machines) → Starts p q → q.choice ≡ Unselected
-starts_unselected p q h =
-    ap (λ (m : Machines). m.choice) h.2
+starts_unselected p q h = ap (λ (m : Machines). m.choice) h.2
     ∙ elim (receive_stays (start_receive p) h.0 h.1) [ inl e ↦ e | inr e ↦ e.0 ]
 
 pub configure_stays : (change : PortChange) (p q : Machines) → ChangesParty change p q → LeavesOrStays p q
@@ -141,8 +137,7 @@ set_cases (y ∷ ys) zero (suc j) x t g = inr (λ e. absurd (omega (arith, e)), 
 set_cases (y ∷ ys) (suc i) zero x t g = inr (λ e. absurd (omega (arith, e)), g)
 set_cases (y ∷ ys) (suc i) (suc j) x t g = grind (arith, nat_tests, set_cases ys i j x t g)
 
-pub set_stays : (xs : List SystemPort) (i : ℕ) (s t : SystemPort) → slice_get xs i ≡ Some s → LeavesOrStays s.port t.port
-    → EachStays xs (slice_set xs i t)
+pub set_stays : (xs : List SystemPort) (i : ℕ) (s t : SystemPort) → slice_get xs i ≡ Some s → LeavesOrStays s.port t.port → EachStays xs (slice_set xs i t)
 set_stays xs i s t e h j u g = grind (arith, nat_tests, set_cases, stays)
 
 pub place_stays : (R : Machines → Machines → Type 0) → ((p q : Machines) → R p q → LeavesOrStays p q) → (o : Option ℕ)
@@ -169,8 +164,7 @@ stay_agrees keys old new h a = grind (arith, nat_tests)
 -- a promotion
 pub promotion_agrees : (keys : List Key) (l : List SystemPort) (i : ℕ) (s : SystemPort) (agg : AggId) → slice_get l i ≡ Some s
     → s.port.choice ≡ Standby agg → OccupantsAgree keys l → OccupantsAgree keys (slice_set l i (with_choice s (Some (Selected agg))))
-promotion_agrees keys l i s agg e stands a =
-    let t : SystemPort = with_choice s (Some (Selected agg)) in
+promotion_agrees keys l i s agg e stands a = let t : SystemPort = with_choice s (Some (Selected agg)) in
     let here : OccupiesAsBefore s.port t.port = inr (sym (ap occupied stands), refl, refl) in
     occupants_kept keys l (slice_set l i t) (λ j u g. elim (set_cases l i j t u g) [
       | inl c ↦ (s, ap (slice_get l) c.0 ∙ e, subst (λ (z : SystemPort). OccupiesAsBefore s.port z.port) (sym c.1) here)
@@ -182,8 +176,7 @@ promotion_agrees keys l i s agg e stands a =
 pub key_there : (keys : List Key) (n : ℕ) (k : Key) → 0 < n → slice_get keys (n - 1) ≡ Some k → key_of keys n ≡ Some k
 key_there keys n k l e = grind (arith, nat_tests)
 
-pub each_seen : (P : Seen → Type 0) (system_ports : List SystemPort) → All P (views system_ports)
-    → AllByRecursion (λ s. P (selection_view s)) system_ports
+pub each_seen : (P : Seen → Type 0) (system_ports : List SystemPort) → All P (views system_ports) → AllByRecursion (λ s. P (selection_view s)) system_ports
 each_seen P [] h = tt
 each_seen P (s ∷ ss) h = (h 0 (selection_view s) (omega arith), each_seen P ss (λ k d within. h (suc k) d (omega arith)))
 
@@ -200,8 +193,7 @@ occupant_there agg c e = grind (arith, nat_tests)
 shares : (keys : List Key) (l : List SystemPort) (s t : SystemPort) (agg : AggId) (j : ℕ)
     → MayJoin keys (views l) agg (selection_view s) → slice_get l j ≡ Some t → occupied t.port.choice ≡ Some agg.0
     → SamePair (ends (selection_view t)) (ends (selection_view s)) × (individual s.port.party (party_of s.port.partner) ≡ false)
-shares keys l s t agg j m g o =
-    let is : IsOccupant agg (selection_view t) = occupant_there agg t.port.choice o in
+shares keys l s t agg j m g o = let is : IsOccupant agg (selection_view t) = occupant_there agg t.port.choice o in
     elim m.occupants [
       | inl none ↦ absurd (seen_at (λ w. IsOccupant agg w → ⊥) l j t (each_seen (λ w. IsOccupant agg w → ⊥) l none) g is)
       | inr shared ↦ (
@@ -214,8 +206,7 @@ shares keys l s t agg j m g o =
 pub joining_agrees : (keys : List Key) (l : List SystemPort) (i : ℕ) (s : SystemPort) (agg : AggId) (c : Choice) → slice_get l i ≡ Some s
     → occupied c ≡ Some agg.0 → MayJoin keys (views l) agg (selection_view s) → OccupantsAgree keys l
     → OccupantsAgree keys (slice_set l i (with_choice s (Some c)))
-joining_agrees keys l i s agg c e oc m a =
-    let x : SystemPort = with_choice s (Some c) in
+joining_agrees keys l i s agg c e oc m a = let x : SystemPort = with_choice s (Some c) in
     let number : (g : ℕ) (t : SystemPort) → t ≡ x → occupied t.port.choice ≡ Some g → agg.0 ≡ g =
     λ g t is o. same_Some agg.0 g (sym oc ∙ sym (ap (λ (z : SystemPort). occupied z.port.choice) is) ∙ o) in record {
       key = λ j g t h o. elim (set_cases l i j x t h) [

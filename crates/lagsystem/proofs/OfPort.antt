@@ -32,8 +32,7 @@ after_joined : (xs ys : List PortMove) (a : PortFacts) → after_moves (xs ++ ys
 after_joined [] ys a = refl
 after_joined (m ∷ xs) ys a = after_joined xs ys (port_after m a)
 
-acts_joined : (p : ℕ) (xs ys : List PortMove) (a : PortFacts) → port_acts p (xs ++ ys) a ≡ port_acts p xs a
-    ++ port_acts p ys (after_moves xs a)
+acts_joined : (p : ℕ) (xs ys : List PortMove) (a : PortFacts) → port_acts p (xs ++ ys) a ≡ port_acts p xs a ++ port_acts p ys (after_moves xs a)
 acts_joined p [] ys a = refl
 acts_joined p (m ∷ xs) ys a = grind (arith, nat_tests, acts_joined p xs ys (port_after m a))
 
@@ -48,21 +47,17 @@ port_stays u call p a b e = ([], tt, refl, e)
 stays_there : (ports : ℕ → Option PortFacts) (p : ℕ) (a : PortFacts) → ports p ≡ Some a → (q : ℕ) → at_port ports p (λ z. a) q ≡ ports q
 stays_there ports p a h q = grind (arith, nat_tests)
 
-written : (ports : ℕ → Option PortFacts) (p : ℕ) (a : PortFacts) (f : PortFacts → PortFacts) → ports p ≡ Some a
-    → at_port ports p f p ≡ Some (f a)
+written : (ports : ℕ → Option PortFacts) (p : ℕ) (a : PortFacts) (f : PortFacts → PortFacts) → ports p ≡ Some a → at_port ports p f p ≡ Some (f a)
 written ports p a f h = cond_true (eqb p p) (option_map f (ports p)) (ports p) (eq-eqb p p refl) ∙ ap (option_map f) h
 
 twice : (b : Bool) (o : Option PortFacts) (f : PortFacts → PortFacts) (c : PortFacts)
-    → cond b (option_map (λ (z : PortFacts). c) (cond b (option_map f o) o)) (cond b (option_map f o) o) ≡ cond b
-    (option_map (λ (z : PortFacts). c) o) o
+    → cond b (option_map (λ (z : PortFacts). c) (cond b (option_map f o) o)) (cond b (option_map f o) o) ≡ cond b (option_map (λ (z : PortFacts). c) o) o
 twice b o f c = grind (arith, nat_tests)
 
-places : (u : SystemSetup) (call : ModelCall) (p : ℕ) (ms : List PortMove) (v : View) (a : PortFacts) → v.port p ≡ Some a
-    → AllPortAllowed u call p ms a
+places : (u : SystemSetup) (call : ModelCall) (p : ℕ) (ms : List PortMove) (v : View) (a : PortFacts) → v.port p ≡ Some a → AllPortAllowed u call p ms a
     → LawfulMoves u call v (port_acts p ms a) (record v { port = at_port v.port p (λ z. after_moves ms a) })
 places u call p [] v a h x = ([], tt, refl, λ i. record v { port = λ q. stays_there v.port p a h q i })
-places u call p (m ∷ ms) v a h x =
-    let mid : View = record v { port = at_port v.port p (port_after m) } in
+places u call p (m ∷ ms) v a h x = let mid : View = record v { port = at_port v.port p (port_after m) } in
     let rest = places u call p ms mid (port_after m a) (written v.port p a (port_after m) h) x.1 in
     let end : View = record mid { port = at_port mid.port p (λ z. after_moves ms (port_after m a)) } in
     let same : end ≡ record v { port = at_port v.port p (λ z. after_moves ms (port_after m a)) } =
@@ -76,8 +71,7 @@ pub slot_moves : (u : SystemSetup) (call : ModelCall) (f : DistributorFacts) (sy
     (seen : List Act) → AreNumbered number_of_port system_ports → slice_get system_ports i ≡ Some x → y.number ≡ x.number
     → PortMoves u call x.number (model_port_of x) seen (model_port_of y)
     → LawfulMoves u call (model_view_at f system_ports) seen (model_view_at f (slice_set system_ports i y))
-slot_moves u call f system_ports i x y seen n h e z =
-    let v : View = model_view_at f system_ports in
+slot_moves u call f system_ports i x y seen n h e z = let v : View = model_view_at f system_ports in
     let there : v.port x.number ≡ Some (model_port_of x) = ap (option_map model_port_of) (find_at number_of_port system_ports i x n h) in
     let same : model_view_at f (slice_set system_ports i y) ≡ record v
     { port = at_port v.port x.number (λ a. after_moves z.0 (model_port_of x)) } =
@@ -101,14 +95,12 @@ get_here (z ∷ done) olds x = get_here done olds x
 abbrev pub SlotMoves : SystemSetup → ModelCall → SystemPort → SystemPort → Type 0
 SlotMoves u call x y = (y.number ≡ x.number) × PortMoves u call x.number (model_port_of x) [] (model_port_of y)
 
-from_here : (u : SystemSetup) (call : ModelCall) (f : DistributorFacts) (done olds news : List SystemPort)
-    → AreNumbered number_of_port (done ++ olds) → AllZip (SlotMoves u call) olds news
-    → LawfulMoves u call (model_view_at f (done ++ olds)) [] (model_view_at f (done ++ news))
+from_here : (u : SystemSetup) (call : ModelCall) (f : DistributorFacts) (done olds news : List SystemPort) → AreNumbered number_of_port (done ++ olds)
+    → AllZip (SlotMoves u call) olds news → LawfulMoves u call (model_view_at f (done ++ olds)) [] (model_view_at f (done ++ news))
 from_here u call f done [] [] n h = ([], tt, refl, refl)
 from_here u call f done [] (y ∷ ys) n h = absurd h
 from_here u call f done (x ∷ xs) [] n h = absurd h
-from_here u call f done (x ∷ xs) (y ∷ ys) n h =
-    let system_ports : List SystemPort = done ++ x ∷ xs in
+from_here u call f done (x ∷ xs) (y ∷ ys) n h = let system_ports : List SystemPort = done ++ x ∷ xs in
     let here = get_here done xs x in
     let next : List SystemPort = (done ++ y ∷ []) ++ xs in
     let same : slice_set system_ports (length done) y ≡ next = set_here done xs x y ∙ sym (append_assoc done (y ∷ []) xs) in
@@ -119,7 +111,6 @@ from_here u call f done (x ∷ xs) (y ∷ ys) n h =
     subst (λ l. LawfulMoves u call (model_view_at f system_ports) [] (model_view_at f l)) (append_assoc done (y ∷ []) ys)
     (moves_joined u call (model_view_at f system_ports) (model_view_at f next) (model_view_at f ((done ++ y ∷ []) ++ ys)) [] [] one rest)
 
-pub all_slots_move : (u : SystemSetup) (call : ModelCall) (f : DistributorFacts) (olds news : List SystemPort)
-    → AreNumbered number_of_port olds → AllZip (SlotMoves u call) olds news
-    → LawfulMoves u call (model_view_at f olds) [] (model_view_at f news)
+pub all_slots_move : (u : SystemSetup) (call : ModelCall) (f : DistributorFacts) (olds news : List SystemPort) → AreNumbered number_of_port olds
+    → AllZip (SlotMoves u call) olds news → LawfulMoves u call (model_view_at f olds) [] (model_view_at f news)
 all_slots_move u call f olds news n h = from_here u call f [] olds news n h

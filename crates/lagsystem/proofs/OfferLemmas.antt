@@ -20,8 +20,7 @@ pub is_long : (octets : List ℕ) → 1518 < length octets → is_frame_length o
 unfolding longest_frame
 is_long octets long = and_right _ _ (lt-leb (length octets) 1518 long)
 
-pub control_slow : (octets : List ℕ) (kind : Kind) (rest : Bor (List ℕ)) → kind ≡ Control rest → IsFrameOfKind octets kind
-    → IsSlowProtocolsFrame octets
+pub control_slow : (octets : List ℕ) (kind : Kind) (rest : Bor (List ℕ)) → kind ≡ Control rest → IsFrameOfKind octets kind → IsSlowProtocolsFrame octets
 control_slow octets kind rest e h = (subst (IsFrameOfKind octets) e h).1
 
 pub too_short : (octets : List ℕ) (kind : Kind) → kind ≡ TooShort → 14 ≤ length octets → IsFrameOfKind octets kind → ⊥

@@ -40,8 +40,7 @@ pub marked : (port id p : ℕ) (a : Assignment) → after_mark port id a ≡ On 
 marked port id p a e = grind (arith, nat_tests)
 
 -- sending an LACPDU leaves what a port distributes in
-filtered : (b : Bool) (x y : SystemPort) (xs ys : List ℕ) → x.number ≡ y.number → xs ≡ ys
-    → cond b (x.number ∷ xs) xs ≡ cond b (y.number ∷ ys) ys
+filtered : (b : Bool) (x y : SystemPort) (xs ys : List ℕ) → x.number ≡ y.number → xs ≡ ys → cond b (x.number ∷ xs) xs ≡ cond b (y.number ∷ ys) ys
 filtered b x y xs ys e h = grind (arith, nat_tests)
 
 through : (b : Bool) (x : SystemPort) (xs : List SystemPort) → map (λ (s : SystemPort). s.number) (cond b (x ∷ xs) xs) ≡ cond b (x.number

@@ -69,8 +69,7 @@ ports_same s t e = ap (λ (x : SystemState). x.system_ports) e
 table_same : (s t : SystemState) → t ≡ s → t.table ≡ s.table
 table_same s t e = ap (λ (x : SystemState). x.table) e
 
-stays : (old : SystemState) (u : Table) (new last : SystemState) → SameConversations old.table u → new ≡ old → last ≡ with_table old u
-    → SameAfter new last
+stays : (old : SystemState) (u : Table) (new last : SystemState) → SameConversations old.table u → new ≡ old → last ≡ with_table old u → SameAfter new last
 stays old u new last same h k = grind (arith, nat_tests)
 
 -- the ports stay, and the table changes
@@ -85,37 +84,32 @@ no_port old u o e d new last same h k = (k.named ∙ sym h.named, stays old u ne
 -- a tick, and a change of a link
 ticks_one : (old : SystemState) (u : Table) (new last : SystemState) → ReceivesAtRest old.system_ports → SameConversations old.table u
     → ThenSettles Ticks old new → ThenSettles Ticks (with_table old u) last → SameAfter new last
-ticks_one old u new last rest same h k =
-    settlings_one h.0 k.0 new last (
-      sym (one_of_each Rests (λ p q. RunsToRest receive_rows (count_down p) q) tick_one old.system_ports h.0.system_ports
-          k.0.system_ports rest h.1.0 k.1.0),
-      changes_one after_tick old.table u h.0.table k.0.table same h.1.1 k.1.1,
-    ) (ap aggregators_value k.1.2 ∙ sym (ap aggregators_value h.1.2)) h.2 k.2
+ticks_one old u new last rest same h k = settlings_one h.0 k.0 new last (
+  sym (one_of_each Rests (λ p q. RunsToRest receive_rows (count_down p) q) tick_one old.system_ports h.0.system_ports
+      k.0.system_ports rest h.1.0 k.1.0),
+  changes_one after_tick old.table u h.0.table k.0.table same h.1.1 k.1.1,
+) (ap aggregators_value k.1.2 ∙ sym (ap aggregators_value h.1.2)) h.2 k.2
 
-frees_one : (up : Bool) (port : ℕ) (t u a b : Table) → SameConversations t u → FreesIfDown up port t a → FreesIfDown up port u b
-    → SameConversations a b
+frees_one : (up : Bool) (port : ℕ) (t u a b : Table) → SameConversations t u → FreesIfDown up port t a → FreesIfDown up port u b → SameConversations a b
 frees_one up port t u a b same h k = grind (arith, nat_tests)
 
-links_one : (n : ℕ) (up : Bool) (old : SystemState) (u : Table) (new last : SystemState) → ReceivesAtRest old.system_ports
-    → SameConversations old.table u → ThenSettles (SetsLink n up) old new → ThenSettles (SetsLink n up) (with_table old u) last
-    → SameAfter new last
-links_one n up old u new last rest same h k =
-    settlings_one h.0 k.0 new last (
-      sym (one_at Rests (SetsPortEnabled old.max_links up) (link_one old.max_links up) (port_index n old.system_ports)
-          old.system_ports h.0.system_ports k.0.system_ports rest h.1.0 k.1.0),
-      frees_one up n old.table u h.0.table k.0.table same h.1.1 k.1.1,
-    ) (ap aggregators_value k.1.2 ∙ sym (ap aggregators_value h.1.2)) h.2 k.2
+links_one : (n : ℕ) (up : Bool) (old : SystemState) (u : Table) (new last : SystemState) → ReceivesAtRest old.system_ports → SameConversations old.table u
+    → ThenSettles (SetsLink n up) old new → ThenSettles (SetsLink n up) (with_table old u) last → SameAfter new last
+links_one n up old u new last rest same h k = settlings_one h.0 k.0 new last (
+  sym (one_at Rests (SetsPortEnabled old.max_links up) (link_one old.max_links up) (port_index n old.system_ports)
+      old.system_ports h.0.system_ports k.0.system_ports rest h.1.0 k.1.0),
+  frees_one up n old.table u h.0.table k.0.table same h.1.1 k.1.1,
+) (ap aggregators_value k.1.2 ∙ sym (ap aggregators_value h.1.2)) h.2 k.2
 
 -- one port changes, and settling follows
 place_one : (R : Machines → Machines → Type 0) → LeadsToOne Rests R → (o : Option ℕ) (old : SystemState) (u : Table)
     (new last : SystemState) → ReceivesAtRest old.system_ports → SameConversations old.table u
     → ThenSettles (OnlyPortChangesBy o R) old new → ThenSettles (OnlyPortChangesBy o R) (with_table old u) last → SameAfter new last
-place_one R one o old u new last rest same h k =
-    settlings_one h.0 k.0 new last (
-      sym (one_at Rests R one o old.system_ports h.0.system_ports k.0.system_ports rest h.1.0 k.1.0),
-      stayed_one old.table u h.0.table k.0.table same (ap (λ (x : SystemState). x.table) h.1.1)
-          (ap (λ (x : SystemState). x.table) k.1.1),
-    ) (ap aggregators_value k.1.1 ∙ sym (ap aggregators_value h.1.1)) h.2 k.2
+place_one R one o old u new last rest same h k = settlings_one h.0 k.0 new last (
+  sym (one_at Rests R one o old.system_ports h.0.system_ports k.0.system_ports rest h.1.0 k.1.0),
+  stayed_one old.table u h.0.table k.0.table same (ap (λ (x : SystemState). x.table) h.1.1)
+      (ap (λ (x : SystemState). x.table) k.1.1),
+) (ap aggregators_value k.1.1 ∙ sym (ap aggregators_value h.1.1)) h.2 k.2
 
 -- a received frame
 releases_one : (b : Bool) (port : ℕ) (m : Marker) (old : SystemState) (u : Table) (x y : Received) (new last : SystemState)
@@ -132,20 +126,17 @@ performs_one (ProcessLacpdu v) port o old u x y new last rest same h k = (
 performs_one (Response m) port o old u x y new last rest same h k = grind (arith, nat_tests, releases_one)
 performs_one (Answered a) port o old u x y new last rest same h k = (k.0 ∙ sym h.0, stays old u new last same h.1 k.1)
 
-receives_one : (o : Option ℕ) (octets : List ℕ) (old : SystemState) (u : Table) (x y : Received) (new last : SystemState)
-    → ReceivesAtRest old.system_ports → SameConversations old.table u → ReceivesAt o octets old x new
-    → ReceivesAt o octets (with_table old u) y last → (y ≡ x) × SameAfter new last
+receives_one : (o : Option ℕ) (octets : List ℕ) (old : SystemState) (u : Table) (x y : Received) (new last : SystemState) → ReceivesAtRest old.system_ports
+    → SameConversations old.table u → ReceivesAt o octets old x new → ReceivesAt o octets (with_table old u) y last → (y ≡ x) × SameAfter new last
 receives_one o octets old u x y new last rest same h k = grind (arith, nat_tests, effect_one, performs_one)
 
 -- what is sent
-sends_one : (o p : Option ℕ) (port : ℕ) (mac : List ℕ) (old : SystemState) (u : Table) (x y : Option (List ℕ)) (new last : SystemState)
-    → p ≡ o → SameConversations old.table u → SendsMarkerOf o port mac old x new → SendsMarkerOf p port mac (with_table old u) y last
-    → (y ≡ x) × SameAfter new last
+sends_one : (o p : Option ℕ) (port : ℕ) (mac : List ℕ) (old : SystemState) (u : Table) (x y : Option (List ℕ)) (new last : SystemState) → p ≡ o
+    → SameConversations old.table u → SendsMarkerOf o port mac old x new → SendsMarkerOf p port mac (with_table old u) y last → (y ≡ x) × SameAfter new last
 sends_one None None port mac old u x y new last e same h k = (k.0 ∙ sym h.0, stays old u new last same h.1 k.1)
 sends_one None (Some id) port mac old u x y new last e same h k = absurd (none-some id (sym e))
 sends_one (Some id) None port mac old u x y new last e same h k = absurd (none-some id e)
-sends_one (Some id) (Some n) port mac old u x y new last e same h k =
-    let d : n ≡ id = same_Some n id e in
+sends_one (Some id) (Some n) port mac old u x y new last e same h k = let d : n ≡ id = same_Some n id e in
     let theirs : SendsMarkerOf (Some id) port mac (with_table old u) y last =
     subst (λ m. SendsMarkerOf (Some m) port mac (with_table old u) y last) d k in (
       theirs.3 ∙ ap (λ l. Some (frame_octets mac l)) (one_written theirs.0 h.0 (pdu.Marker (own_marker old port id)) theirs.2 h.2) ∙ sym h.3,
@@ -163,8 +154,7 @@ transmits_if true true i system_port old u x y new last same h k =
       k.2 ∙ ap Some (lacpdu_one old.max_delay system_port k.0 h.0 k.1 h.1) ∙ sym h.2,
       stays (with_system_ports old news) u new last same h.3 k.3,
     )
-transmits_if true false i system_port old u x y new last same h k =
-    let port = system_port.number in
+transmits_if true false i system_port old u x y new last same h k = let port = system_port.number in
     sends_one (marker_due old.table port) (marker_due u port) port system_port.mac old u x y new last (due_one old.table u port same) same h k
 
 transmits_one : (o : Option ℕ) (old : SystemState) (u : Table) (x y : Option (List ℕ)) (new last : SystemState)
@@ -243,8 +233,7 @@ next_one t u same i = cond (ltb (same.next i) (2 ^ 32)) (Some (same.next i)) Non
 
 moves_one : (old : SystemState) (u : Table) (agg : AggId) (conv port : ℕ) → SameConversations old.table u
     → system_move_result (with_table old u) agg conv port ≡ system_move_result old agg conv port
-moves_one old u agg conv port same i =
-    if has_aggregator old agg
+moves_one old u agg conv port same i = if has_aggregator old agg
     then (if is_some (port_index port old.system_ports)
     then in_system (or_not_assigned old conv (move_result (next_one old.table u same i) (distributing agg old.system_ports) port
     (same.states agg.0 conv i)))
@@ -278,10 +267,8 @@ no_sender o old x new e h = grind (arith, nat_tests)
 abbrev Restarts : SystemState → SystemState → Type 0
 Restarts old new = (new ≡ with_table (with_system_ports old new.system_ports) new.table) × IsFirst new
 
-restarts_one : (old : SystemState) (u : Table) (new last : SystemState) → Restarts old new → Restarts (with_table old u) last
-    → SameAfter new last
-restarts_one old u new last h k =
-    let frame : last ≡ with_table (with_system_ports new last.system_ports) last.table =
+restarts_one : (old : SystemState) (u : Table) (new last : SystemState) → Restarts old new → Restarts (with_table old u) last → SameAfter new last
+restarts_one old u new last h k = let frame : last ≡ with_table (with_system_ports new last.system_ports) last.table =
     k.0 ∙ ap (λ (s : SystemState). with_table (with_system_ports s last.system_ports) last.table) (sym h.0) in
     let e : last ≡ new = one_first new last frame h.1 k.1 in (
       ports_same new last e,
@@ -290,9 +277,8 @@ restarts_one old u new last h k =
     )
 
 -- each call, of a system and of another that differs in its table alone
-steps_one : (gives : ℕ → ℕ → ℕ → Type 0) → IsFunction gives → (old : SystemState) (u : Table) → ReceivesAtRest old.system_ports
-    → SameConversations old.table u → (call : Call) (a b : Reply) (new last : SystemState) → Step gives old call a new
-    → Step gives (with_table old u) call b last → Twins a new b last
+steps_one : (gives : ℕ → ℕ → ℕ → Type 0) → IsFunction gives → (old : SystemState) (u : Table) → ReceivesAtRest old.system_ports → SameConversations old.table u
+    → (call : Call) (a b : Reply) (new last : SystemState) → Step gives old call a new → Step gives (with_table old u) call b last → Twins a new b last
 steps_one gives one old u rest same call a b new last h k = each call a b h k
   where
     told : {X : Type 0} {x y : X} (f : X → Reply) → (y ≡ x) × SameAfter new last → Twins (f x) new (f y) last

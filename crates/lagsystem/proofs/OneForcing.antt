@@ -26,18 +26,16 @@ one_if_held gives one port agg conv old twin true false new last agrees same h k
 one_if_held gives one port agg conv old twin false true new last agrees same h k = grind arith
 one_if_held gives one port agg conv old twin false false new last agrees same h k = grind arith
 
-one_in : (gives : ℕ → ℕ → ℕ → Type 0) → IsFunction gives → (port : ℕ) (agg : AggId) (count : ℕ) (old twin : SystemState) (n m : ℕ)
-    (new last : SystemState) → PortsAgree old → SameState old twin → ForcesIn gives port agg count old n new
-    → ForcesIn gives port agg count twin m last → Same n m new last
+one_in : (gives : ℕ → ℕ → ℕ → Type 0) → IsFunction gives → (port : ℕ) (agg : AggId) (count : ℕ) (old twin : SystemState) (n m : ℕ) (new last : SystemState)
+    → PortsAgree old → SameState old twin → ForcesIn gives port agg count old n new → ForcesIn gives port agg count twin m last → Same n m new last
 one_in gives one port agg zero old twin n m new last agrees same h k = grind arith
 one_in gives one port agg (suc count) old twin n m new last agrees same h k =
     let before = one_in gives one port agg count old twin h.1 k.1 h.0 k.0 agrees same h.3 k.3 in
     let own = one_if_held gives one port agg count h.0 k.0 h.2 k.2 new last before.2 before.1 h.4 k.4 in
     (k.5 ∙ (λ i. before.0 i + cond (own.0 i) 1 0) ∙ sym h.5, own.1, own.2)
 
-one_first : (gives : ℕ → ℕ → ℕ → Type 0) → IsFunction gives → (port count : ℕ) (old twin : SystemState) (n m : ℕ) (new last : SystemState)
-    → PortsAgree old → SameState old twin → ForcesFirst gives port count old n new → ForcesFirst gives port count twin m last
-    → Same n m new last
+one_first : (gives : ℕ → ℕ → ℕ → Type 0) → IsFunction gives → (port count : ℕ) (old twin : SystemState) (n m : ℕ) (new last : SystemState) → PortsAgree old
+    → SameState old twin → ForcesFirst gives port count old n new → ForcesFirst gives port count twin m last → Same n m new last
 one_first gives one port zero old twin n m new last agrees same h k = grind arith
 one_first gives one port (suc count) old twin n m new last agrees same h k =
     let before = one_first gives one port count old twin h.1 k.1 h.0 k.0 agrees same h.3 k.3 in

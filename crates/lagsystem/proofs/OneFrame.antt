@@ -36,8 +36,7 @@ marker_one mac m None e f h k = h ∙ sym k
 marker_one mac m (Some answer) e f h k =
     h.3 ∙ ap (λ payload. Answered (Respond (frame_octets mac payload))) (one_written h.0 k.0 (pdu.Marker answer) h.2 k.2) ∙ sym k.3
 
-gives_one : (system_port : SystemPort) (frame : ReceivedFrame) (e f : FrameEffect) → GivesEffect system_port frame e
-    → GivesEffect system_port frame f → e ≡ f
+gives_one : (system_port : SystemPort) (frame : ReceivedFrame) (e f : FrameEffect) → GivesEffect system_port frame e → GivesEffect system_port frame f → e ≡ f
 gives_one system_port frame e f h k = grind (arith, nat_tests, marker_one, response_to)
 
 -- what received octets ask for
@@ -46,7 +45,6 @@ pub effect_one : (up : Bool) (system_port : SystemPort) (octets : List ℕ) (e f
 effect_one up system_port octets e f h k = grind (arith, nat_tests, frame_one, gives_one)
 
 -- the frame of an LACPDU
-pub lacpdu_one : (max_delay : ℕ) (system_port : SystemPort) (a b : List ℕ) → IsLacpduOf max_delay system_port a
-    → IsLacpduOf max_delay system_port b → a ≡ b
+pub lacpdu_one : (max_delay : ℕ) (system_port : SystemPort) (a b : List ℕ) → IsLacpduOf max_delay system_port a → IsLacpduOf max_delay system_port b → a ≡ b
 lacpdu_one max_delay system_port a b h k =
     h.3 ∙ ap (frame_octets system_port.mac) (one_written h.0 k.0 (pdu.Lacpdu (pdu_of system_port.port max_delay)) h.2 k.2) ∙ sym k.3

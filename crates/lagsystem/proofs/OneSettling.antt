@@ -58,8 +58,7 @@ one_end : (aggs : AggregatorsValue) (agg : AggId) (n m : ℕ) (l a b : List Syst
 one_end aggs agg zero zero l a b g h x y = g ∙ sym h
 one_end aggs agg zero (suc m) l a b g h x y = absurd (none_follows aggs agg l a h.0 g x h.1)
 one_end aggs agg (suc n) zero l a b g h x y = absurd (none_follows aggs agg l b g.0 h y g.1)
-one_end aggs agg (suc n) (suc m) l a b g h x y =
-    let e : g.0 ≡ h.0 = next_one aggs agg l g.0 h.0 g.1 h.1 in
+one_end aggs agg (suc n) (suc m) l a b g h x y = let e : g.0 ≡ h.0 = next_one aggs agg l g.0 h.0 g.1 h.1 in
     one_end aggs agg n m g.0 a b g.2 (subst (λ x. Goes aggs agg m x b) (sym e) h.2) x y
 
 all_one : (aggs : AggregatorsValue) (agg : AggId) (l a b : List SystemPort) → PromotesAll aggs agg l a → PromotesAll aggs agg l b → a ≡ b
@@ -67,8 +66,7 @@ all_one aggs agg l a b h k = one_end aggs agg h.0 k.0 l a b (goes aggs agg h.0 l
 
 first_one : (aggs : AggregatorsValue) (n : ℕ) (l a b : List SystemPort) → PromotesFirst aggs n l a → PromotesFirst aggs n l b → a ≡ b
 first_one aggs zero l a b h k = h ∙ sym k
-first_one aggs (suc n) l a b h k =
-    let agg = aggregator_numbered (suc n) in
+first_one aggs (suc n) l a b h k = let agg = aggregator_numbered (suc n) in
     let mid : h.0 ≡ k.0 = first_one aggs n l h.0 k.0 h.1 k.1 in
     all_one aggs agg h.0 a b h.2 (subst (λ x. PromotesAll aggs agg x b) (sym mid) k.2)
 
@@ -76,8 +74,7 @@ choosing_one : (aggs : AggregatorsValue) (l a b : List SystemPort) → ChoosesIn
 choosing_one aggs l a b h k = grind (arith, nat_tests, first_one)
 
 settled_one : (aggs : AggregatorsValue) (l a b : List SystemPort) → SettlesIn aggs l a → SettlesIn aggs l b → a ≡ b
-settled_one aggs l a b h k =
-    let one : h.one ≡ k.one =
+settled_one aggs l a b h k = let one : h.one ≡ k.one =
     one_of_each Any (RunsToRest (mux_rows false)) (λ p q r t. one_mux false p q r) l h.one k.one (any_port l) h.stops k.stops in
     let two : h.two ≡ k.two = choosing_one aggs h.one h.two k.two h.chooses (subst (λ x. ChoosesIn aggs x k.two) (sym one) k.chooses) in
     let four : h.four ≡ k.four = one_of_each Any (RunsReady aggs.keys (views h.two))
@@ -114,8 +111,7 @@ holds old new h = grind (arith, nat_tests)
 
 pub settlings_one : (s t new last : SystemState) → SameAfter s t → aggregators_value t ≡ aggregators_value s → Settling s new
     → Settling t last → SameAfter new last
-settlings_one s t new last same aggs h k =
-    let theirs : SettlesIn (aggregators_value s) s.system_ports last.system_ports =
+settlings_one s t new last same aggs h k = let theirs : SettlesIn (aggregators_value s) s.system_ports last.system_ports =
     subst (λ l. SettlesIn (aggregators_value s) l last.system_ports) same.0
     (subst (λ a. SettlesIn a t.system_ports last.system_ports) aggs (settling_in t last k)) in
     let ports : new.system_ports ≡ last.system_ports = settled_one (aggregators_value s) s.system_ports new.system_ports

@@ -15,8 +15,7 @@ started_rests : (s : Setup) (p : Machines) → Starts (before_start s) p → AtR
 started_rests s p h = subst (AtRest receive_rows) (sym h.2) h.1.2
 
 one_slot : (system : SystemId) (c : PortConfig) (x y : SystemPort) → HasJustStarted system c x → HasJustStarted system c y → x ≡ y
-one_slot system c x y h k =
-    let port = one_start (setup_of system c) x.port y.port h.2 k.2 in
+one_slot system c x y h k = let port = one_start (setup_of system c) x.port y.port h.2 k.2 in
     λ i. record { number = (h.0 ∙ sym k.0) i; mac = (h.1 ∙ sym k.1) i; port = port i; held = (h.3 ∙ sym k.3) i }
 
 one_list : (system : SystemId) (ports : List PortConfig) (xs ys : List SystemPort) → AllZip (HasJustStarted system) ports xs
@@ -26,8 +25,7 @@ one_list system [] [] (y ∷ ys) h k = absurd k
 one_list system [] (x ∷ xs) ys h k = absurd h
 one_list system (c ∷ cs) [] ys h k = absurd h
 one_list system (c ∷ cs) (x ∷ xs) [] h k = absurd k
-one_list system (c ∷ cs) (x ∷ xs) (y ∷ ys) h k =
-    let here = one_slot system c x y h.0 k.0 in
+one_list system (c ∷ cs) (x ∷ xs) (y ∷ ys) h k = let here = one_slot system c x y h.0 k.0 in
     let rest = one_list system cs xs ys h.1 k.1 in
     λ i. here i ∷ rest i
 
@@ -49,8 +47,7 @@ one_periodic system (c ∷ cs) (s ∷ ss) (x ∷ xs) (y ∷ ys) a h k =
 
 -- two first states with one configuration are one
 pub one_first : (s t : SystemState) → t ≡ with_table (with_system_ports s t.system_ports) t.table → IsFirst s → IsFirst t → t ≡ s
-one_first s t e h k =
-    let news : AllZip (HasJustStarted s.system) s.ports k.0 =
+one_first s t e h k = let news : AllZip (HasJustStarted s.system) s.ports k.0 =
     subst (λ (x : SystemState). AllZip (HasJustStarted x.system) x.ports k.0) e k.1 in
     let start : k.0 ≡ h.0 = one_list s.system s.ports k.0 h.0 news h.1 in
     let moves : PortsChangeBy RunsPeriodic h.0 t.system_ports = subst (λ l. PortsChangeBy RunsPeriodic l t.system_ports)

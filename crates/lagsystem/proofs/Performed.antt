@@ -16,12 +16,10 @@ processes_or_stays effect port index old answer new h = grind (arith, nat_tests)
 -- an LACPDU is processed, and a settling follows; or each conversation that waits for a response is released; or the
 -- conversations stay
 abbrev pub TableChanges : Option ℕ → SystemState → SystemState → Type 0
-TableChanges index old new =
-    ((v : Lacpdu) × ThenSettles (OnlyPortChangesBy index (ProcessesLacpdu v)) old new)
+TableChanges index old new = ((v : Lacpdu) × ThenSettles (OnlyPortChangesBy index (ProcessesLacpdu v)) old new)
     ⊎ (((port : ℕ) × (id : ℕ) × ChangesAssignments old.table new.table (after_release port id)) ⊎ (new.table ≡ old.table))
 
-releases : (b : Bool) (port : ℕ) (m : Marker) (old : SystemState) (answer : Received) (new : SystemState)
-    → Releases b port m old answer new
+releases : (b : Bool) (port : ℕ) (m : Marker) (old : SystemState) (answer : Received) (new : SystemState) → Releases b port m old answer new
     → ((port : ℕ) × (id : ℕ) × ChangesAssignments old.table new.table (after_release port id)) ⊎ (new.table ≡ old.table)
 releases false port m old answer new h = inr (ap (λ (s : SystemState). s.table) h.1)
 releases true port m old answer new h = inl (port, m.id, h.1)

@@ -8,8 +8,7 @@ use Rattle.std.proofs.lemmas.List.Kept.{AllPairs-from_increasing}
 -- of ascending ports the one with the number at a place is the first with that number
 pub place_at : (n : ℕ) (system_ports : List SystemPort) (i : ℕ) (d : SystemPort) → IsStrictlyIncreasing (port_numbers system_ports)
     → i < length system_ports → (get_or system_ports i d).number ≡ n → port_index n system_ports ≡ Some i
-place_at n system_ports i d r l e =
-    ap (λ k. cond (nat_lt k (length system_ports)) (Some k) None)
+place_at n system_ports i d r l e = ap (λ k. cond (nat_lt k (length system_ports)) (Some k) None)
     (position_or_len_is (λ s. s.number == n) system_ports i d (omega (arith, l)) earlier
     (λ h. same (get_or system_ports i d).number n e))
     ∙ ap (λ b. cond b (Some i) None) (lt-ltb i (length system_ports) l)
@@ -24,8 +23,7 @@ place_at n system_ports i d r l e =
     number_at k h = get_or-map (λ (s : SystemPort). s.number) system_ports k d 0 h
 
     earlier : (k : ℕ) → k < i → ((get_or system_ports k d).number == n) ≡ false
-    earlier k h =
-        let below = AllPairs-from_increasing (port_numbers system_ports) r k i 0 h
+    earlier k h = let below = AllPairs-from_increasing (port_numbers system_ports) r k i 0 h
         (omega (arith, l, length-map system_ports (λ (s : SystemPort). s.number))) in
         unequal (get_or system_ports k d).number n (omega (arith, below, number_at k (omega (arith, h, l)), number_at i l, e))
 
@@ -36,9 +34,8 @@ in_use_set (x ∷ xs) zero s t e = ap (λ (y : SystemPort). collecting y.port �
 in_use_set (x ∷ xs) (suc i) s t e = ap (λ l. collecting x.port ∷ l) (in_use_set xs i s t e)
 
 -- the aggregators in use before the port at a place went on
-pub in_use_before : (R : Machines → Machines → Type 0) (i : ℕ) (olds news : List SystemPort) (s : SystemPort)
-    → PortAtChangesBy R (Some i) olds news → slice_get olds i ≡ Some s
-    → slice_set (aggregators_in_use news) i (collecting s.port) ≡ aggregators_in_use olds
+pub in_use_before : (R : Machines → Machines → Type 0) (i : ℕ) (olds news : List SystemPort) (s : SystemPort) → PortAtChangesBy R (Some i) olds news
+    → slice_get olds i ≡ Some s → slice_set (aggregators_in_use news) i (collecting s.port) ≡ aggregators_in_use olds
 in_use_before R i olds news s h e = grind (arith, nat_tests, in_use_set)
 
 -- the port at the place of a number goes on

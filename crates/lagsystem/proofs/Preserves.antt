@@ -16,8 +16,7 @@ abbrev pub IsSilent : Call → Reply → Type 0
 IsSilent call answer = (n now : ℕ) (before : List ℕ) → (tick_after call now ≡ now) × (sends_after n now call answer before ≡ before)
 
 -- the octet behind the header of a control frame
-subtype_of : (mac payload : List ℕ) (k : ℕ) → IsAddress mac → HoldsNumber payload (read_field 0 1 k)
-    → subtype (frame_octets mac payload) ≡ k
+subtype_of : (mac payload : List ℕ) (k : ℕ) → IsAddress mac → HoldsNumber payload (read_field 0 1 k) → subtype (frame_octets mac payload) ≡ k
 subtype_of mac payload k a h = grind (arith, nat_tests, framed_payload, octet_stands)
 
 pub lacpdu_subtype : (max_delay : ℕ) (x : SystemPort) (octets : List ℕ) → IsLacpduOf max_delay x octets → subtype octets ≡ 1
@@ -42,19 +41,14 @@ module _ (gives : ℕ → ℕ → ℕ → Type 0) (old : SystemState) (P : Call 
   -- P, which speaks of a call, its reply and the state after it, holds after each change of a port, from the state old
   pub record PreservesOnPorts : Type 0 where
     pub tick : (new : SystemState) → ThenSettles Ticks old new → P Tick reply.Tick new
-    pub link : (n : ℕ) (up : Bool) (done : Unit) (new : SystemState) → ThenSettles (SetsLink n up) old new
-        → P (Set_link n up) (reply.SetLink (Ok done)) new
+    pub link : (n : ℕ) (up : Bool) (done : Unit) (new : SystemState) → ThenSettles (SetsLink n up) old new → P (Set_link n up) (reply.SetLink (Ok done)) new
     pub take : (n : ℕ) (octets : List ℕ) (v : Lacpdu) (answer : Received) (new : SystemState) → answer ≡ TookLacpdu
-        → ThenSettles (OnlyPortChangesBy (port_index n old.system_ports) (ProcessesLacpdu v)) old new
-        → P (Receive n octets) (reply.Receive (Ok answer)) new
+        → ThenSettles (OnlyPortChangesBy (port_index n old.system_ports) (ProcessesLacpdu v)) old new → P (Receive n octets) (reply.Receive (Ok answer)) new
     pub change : (n : ℕ) (change : PortChange) (new : SystemState)
-        → ThenSettles (OnlyPortChangesBy (port_index n old.system_ports) (ChangesParty change)) old new
-        → P (Configure n change) (reply.Configure (Ok true)) new
-    pub restart : (new : SystemState) → new ≡ with_table (with_system_ports old new.system_ports) new.table → IsFirst new
-        → P Restart reply.Restart new
-    pub send : (n i : ℕ) (x : SystemPort) (answer : Option (List ℕ)) (octets : List ℕ) (new : SystemState)
-        → port_index n old.system_ports ≡ Some i → slice_get old.system_ports i ≡ Some x → is_due x.port ≡ true
-        → IsLacpduOf old.max_delay x octets → answer ≡ Some octets
+        → ThenSettles (OnlyPortChangesBy (port_index n old.system_ports) (ChangesParty change)) old new → P (Configure n change) (reply.Configure (Ok true)) new
+    pub restart : (new : SystemState) → new ≡ with_table (with_system_ports old new.system_ports) new.table → IsFirst new → P Restart reply.Restart new
+    pub send : (n i : ℕ) (x : SystemPort) (answer : Option (List ℕ)) (octets : List ℕ) (new : SystemState) → port_index n old.system_ports ≡ Some i
+        → slice_get old.system_ports i ≡ Some x → is_due x.port ≡ true → IsLacpduOf old.max_delay x octets → answer ≡ Some octets
         → new ≡ with_system_ports old (slice_set old.system_ports i (record x { port = after_sending x.port }))
         → P (Transmit n) (reply.Transmit (Ok answer)) new
 
@@ -64,17 +58,15 @@ module _ (gives : ℕ → ℕ → ℕ → Type 0) (old : SystemState) (P : Call 
     pub same : (call : Call) (answer : Reply) (new : SystemState) → IsSilent call answer → new ≡ old → P call answer new
     pub mark : (n port id : ℕ) (answer : Option (List ℕ)) (new : SystemState) → IsSilent (Transmit n) (reply.Transmit (Ok answer))
         → Marks old.table new.table port id → new ≡ with_table old new.table → P (Transmit n) (reply.Transmit (Ok answer)) new
-    pub release : (n port id : ℕ) (octets : List ℕ) (answer : Received) (new : SystemState)
-        → ChangesAssignments old.table new.table (after_release port id) → new ≡ with_table old new.table
-        → P (Receive n octets) (reply.Receive (Ok answer)) new
+    pub release : (n port id : ℕ) (octets : List ℕ) (answer : Received) (new : SystemState) → ChangesAssignments old.table new.table (after_release port id)
+        → new ≡ with_table old new.table → P (Receive n octets) (reply.Receive (Ok answer)) new
     pub offer : (agg : AggId) (octets : List ℕ) (port : ℕ) (new : SystemState) → Offers gives agg octets old (Ok port) new
         → P (Offer agg octets) (reply.Offer (Ok port)) new
     pub move : (agg : AggId) (conv port : ℕ) (s : Assignment) (answer : Result Unit SystemFault) (new : SystemState)
         → system_move_result old agg conv port ≡ Ok s → GivesAssignment agg conv s old new
         → P (Move_conversation agg conv port) (reply.MoveConversation answer) new
-    pub force : (agg : AggId) (conv : ℕ) (s : Assignment) (answer : Result Unit SystemFault) (new : SystemState)
-        → system_force_result old agg conv ≡ Ok s → GivesAssignment agg conv s old new
-        → P (Force agg conv) (reply.Force answer) new
+    pub force : (agg : AggId) (conv : ℕ) (s : Assignment) (answer : Result Unit SystemFault) (new : SystemState) → system_force_result old agg conv ≡ Ok s
+        → GivesAssignment agg conv s old new → P (Force agg conv) (reply.Force answer) new
 
   module _ (k : Preserves) where
     receives : (n : ℕ) (octets : List ℕ) (effect : FrameEffect) (port : ℕ) (answer : Received) (new : SystemState)
@@ -92,9 +84,8 @@ module _ (gives : ℕ → ℕ → ℕ → Type 0) (old : SystemState) (P : Call 
     marks n None port mac answer new h = k.same (Transmit n) (reply.Transmit (Ok answer)) new (none_silent n answer h.0) h.1
     marks n (Some id) port mac answer new h = k.mark n port id answer new (marker_silent n id port mac old answer new h) h.4 h.5
 
-    transmits_if : (n i : ℕ) (x : SystemPort) (up due : Bool) (answer : Option (List ℕ)) (new : SystemState)
-        → port_index n old.system_ports ≡ Some i → slice_get old.system_ports i ≡ Some x → is_due x.port ≡ due
-        → TransmitsIf up due i x old answer new → P (Transmit n) (reply.Transmit (Ok answer)) new
+    transmits_if : (n i : ℕ) (x : SystemPort) (up due : Bool) (answer : Option (List ℕ)) (new : SystemState) → port_index n old.system_ports ≡ Some i
+        → slice_get old.system_ports i ≡ Some x → is_due x.port ≡ due → TransmitsIf up due i x old answer new → P (Transmit n) (reply.Transmit (Ok answer)) new
     transmits_if n i x false due answer new at e d h = grind (arith, nat_tests)
     transmits_if n i x true false answer new at e d h = marks n (marker_due old.table x.number) x.number x.mac answer new h
     transmits_if n i x true true answer new at e d h = k.ports.send n i x answer h.0 new at e d h.1 h.2 h.3
@@ -109,9 +100,8 @@ module _ (gives : ℕ → ℕ → ℕ → Type 0) (old : SystemState) (P : Call 
         → P (Move_conversation agg conv port) (reply.MoveConversation answer) new
     moves agg conv port what answer new e h = grind (arith, nat_tests)
 
-    forces : (agg : AggId) (conv : ℕ) (what : Result Assignment SystemFault) (answer : Result Unit SystemFault)
-        (new : SystemState) → system_force_result old agg conv ≡ what → GivesOrRefuses agg conv what old answer new
-        → P (Force agg conv) (reply.Force answer) new
+    forces : (agg : AggId) (conv : ℕ) (what : Result Assignment SystemFault) (answer : Result Unit SystemFault) (new : SystemState)
+        → system_force_result old agg conv ≡ what → GivesOrRefuses agg conv what old answer new → P (Force agg conv) (reply.Force answer) new
     forces agg conv what answer new e h = grind (arith, nat_tests)
 
     -- so it holds after every call

@@ -22,8 +22,7 @@ record Probed (n : ℕ) (old : SystemState) (answer : Result (Option (List ℕ))
   sound : IsSound new
   joined : JoinedByLawfulMoves old (Transmit n) (reply.Transmit answer) new
 
-silent : (n : ℕ) (old : SystemState) (answer : Option (List ℕ)) (new : SystemState) → answer ≡ None → new ≡ old → IsSound old
-    → Probed n old (Ok answer) new
+silent : (n : ℕ) (old : SystemState) (answer : Option (List ℕ)) (new : SystemState) → answer ≡ None → new ≡ old → IsSound old → Probed n old (Ok answer) new
 silent n old answer new a e s = grind (arith, nat_tests)
 
 marker_probed : (o : Option ℕ) (n port : ℕ) (mac : List ℕ) (old : SystemState) (answer : Option (List ℕ)) (new : SystemState)
@@ -59,8 +58,7 @@ probes_sound n old answer new h s = (probed n old answer new h s).sound
 
 pub probes_lawfully : (n : ℕ) (old : SystemState) (answer : Result (Option (List ℕ)) SystemFault) (new : SystemState)
     → Probes n old answer new → IsSound old → ProbesLawfully n old answer new
-probes_lawfully n old answer new h s =
-    let p = probed n old answer new h s in
+probes_lawfully n old answer new h s = let p = probed n old answer new h s in
     let j = p.joined in
     let moves : LawfulMoves (model_setup old) ModelCall.Transmit (model_view old) j.1 (model_view new) =
     subst (λ (call : ModelCall). LawfulMoves (model_setup old) call (model_view old) j.1 (model_view new)) j.2 j.4 in

@@ -4,20 +4,17 @@ use Rattle.lagsystem.proofs.Common.{Selected, AggregatorsValue, SystemPort, aggr
 use Rattle.lagsystem.proofs.Common.{PromotesTimes, after_choices, choice_for, with_choice}
 
 -- what each promotion keeps, all promotions keep
-times_keep : (aggs : AggregatorsValue) (agg : AggId) (P : List SystemPort → Type 0)
-    → ((l m : List SystemPort) → PromotesNext aggs agg l m → P l → P m) → (n : ℕ) (old new : List SystemPort)
-    → PromotesTimes aggs agg n old new → P old → P new
+times_keep : (aggs : AggregatorsValue) (agg : AggId) (P : List SystemPort → Type 0) → ((l m : List SystemPort) → PromotesNext aggs agg l m → P l → P m)
+    → (n : ℕ) (old new : List SystemPort) → PromotesTimes aggs agg n old new → P old → P new
 times_keep aggs agg P k zero old new h p = subst P (sym h) p
 times_keep aggs agg P k (suc n) old new h p = k h.0 new h.2 (times_keep aggs agg P k n old h.0 h.1 p)
 
-pub all_keep : (aggs : AggregatorsValue) (agg : AggId) (P : List SystemPort → Type 0)
-    → ((l m : List SystemPort) → PromotesNext aggs agg l m → P l → P m) → (old new : List SystemPort) → PromotesAll aggs agg old new
-    → P old → P new
+pub all_keep : (aggs : AggregatorsValue) (agg : AggId) (P : List SystemPort → Type 0) → ((l m : List SystemPort) → PromotesNext aggs agg l m → P l → P m)
+    → (old new : List SystemPort) → PromotesAll aggs agg old new → P old → P new
 all_keep aggs agg P k old new h p = times_keep aggs agg P k h.0 old new h.1 p
 
-pub promotions_keep : (aggs : AggregatorsValue) (P : List SystemPort → Type 0)
-    → ((agg : AggId) (l m : List SystemPort) → PromotesNext aggs agg l m → P l → P m) → (n : ℕ) (old new : List SystemPort)
-    → PromotesFirst aggs n old new → P old → P new
+pub promotions_keep : (aggs : AggregatorsValue) (P : List SystemPort → Type 0) → ((agg : AggId) (l m : List SystemPort) → PromotesNext aggs agg l m → P l → P m)
+    → (n : ℕ) (old new : List SystemPort) → PromotesFirst aggs n old new → P old → P new
 promotions_keep aggs P k zero old new h p = subst P (sym h) p
 promotions_keep aggs P k (suc n) old new h p =
     let agg = aggregator_numbered (suc n) in all_keep aggs agg P (k agg) h.0 new h.2 (promotions_keep aggs P k n old h.0 h.1 p)
@@ -36,7 +33,6 @@ KeptByChoices P = (l : List SystemPort) (i : ℕ) (s : SystemPort) (o : Option C
 
 pub choosing_keeps : (P : List SystemPort → Type 0) → KeptByChoices P → (aggs : AggregatorsValue) (old new : List SystemPort)
     → ChoosesIn aggs old new → P old → P new
-choosing_keeps P k aggs old new h p =
-    subst P (sym h.2)
+choosing_keeps P k aggs old new h p = subst P (sym h.2)
     (choices_keep aggs P (λ l i s e q. k l i s (choice_for aggs l s) e q) (length h.0) h.0
     (promotions_keep aggs P (λ agg l m x q. subst P (sym x.4) (k l x.0 x.1 (Some (Selected agg)) x.3 q)) (length aggs.keys) old h.0 h.1 p))

@@ -56,16 +56,13 @@ now_if b = if b then Some 0 else None
 no_frame : (b : Bool) → b ≡ false → now_if b ≡ None
 no_frame b e = ap now_if e
 
-frame_left : (j : ℕ) (s t : SystemState) (x : SystemPort) → PortLasts j s x
-    → is_some (marker_due t.table x.number) ≡ is_some (marker_due s.table x.number)
+frame_left : (j : ℕ) (s t : SystemState) (x : SystemPort) → PortLasts j s x → is_some (marker_due t.table x.number) ≡ is_some (marker_due s.table x.number)
     → ticks_until_frame t (counted x) ≡ fewer 1 (ticks_until_frame s x)
 frame_left j s t x h m = grind (arith, nat_tests, frame_not, no_frame, still_not_due)
 
-port_left : (j : ℕ) (s t : SystemState) (x : SystemPort) → PortLasts j s x
-    → is_some (marker_due t.table x.number) ≡ is_some (marker_due s.table x.number)
+port_left : (j : ℕ) (s t : SystemState) (x : SystemPort) → PortLasts j s x → is_some (marker_due t.table x.number) ≡ is_some (marker_due s.table x.number)
     → ticks_until_due_on t (counted x) ≡ fewer 1 (ticks_until_due_on s x)
-port_left j s t x h m =
-    let frame = frame_left j s t x h m in
+port_left j s t x h m = let frame = frame_left j s t x h m in
     let current = timer_left j x.port.current_while h.current_while in
     let periodic = timer_left j x.port.periodic_timer h.periodic_timer in
     let wait = timer_left j x.port.wait_while h.wait_while in
@@ -79,12 +76,10 @@ port_left j s t x h m =
     ∷ ticks_until_room x.port
     ∷ [])
 
-pub each_left : (j : ℕ) (s t : SystemState) (xs : List SystemPort)
-    → ((n : ℕ) → is_some (marker_due t.table n) ≡ is_some (marker_due s.table n)) → AllByRecursion (PortLasts j s) xs
-    → soonest (map (ticks_until_due_on t) (map counted xs)) ≡ fewer 1 (soonest (map (ticks_until_due_on s) xs))
+pub each_left : (j : ℕ) (s t : SystemState) (xs : List SystemPort) → ((n : ℕ) → is_some (marker_due t.table n) ≡ is_some (marker_due s.table n))
+    → AllByRecursion (PortLasts j s) xs → soonest (map (ticks_until_due_on t) (map counted xs)) ≡ fewer 1 (soonest (map (ticks_until_due_on s) xs))
 each_left j s t [] m h = refl
-each_left j s t (x ∷ xs) m h =
-    let here = port_left j s t x h.0 (m x.number) in
+each_left j s t (x ∷ xs) m h = let here = port_left j s t x h.0 (m x.number) in
     let more = each_left j s t xs m h.1 in
     (λ i. sooner (here i) (more i)) ∙ fewer_sooner 1 (ticks_until_due_on s x) (soonest (map (ticks_until_due_on s) xs))
 
@@ -98,8 +93,7 @@ unfolding soonest_below
 below_left f zero = refl
 below_left f (suc n) = ap (λ x. sooner x (fewer 1 (f n))) (below_left f n) ∙ fewer_sooner 1 (soonest_below f n) (f n)
 
-pub table_left : (j : ℕ) (s t : Table) → TableTicked s t → Lasts j (ticks_until_next_wanted s)
-    → ticks_until_next_wanted t ≡ fewer 1 (ticks_until_next_wanted s)
+pub table_left : (j : ℕ) (s t : Table) → TableTicked s t → Lasts j (ticks_until_next_wanted s) → ticks_until_next_wanted t ≡ fewer 1 (ticks_until_next_wanted s)
 table_left j s t k h =
     (λ i. soonest_below (λ a. soonest_below (λ c. ticks_until_wanted (assignment_of t (a + 1) c)) (k.conversations i)) (k.aggs i))
     ∙ (same_soonest (λ a. soonest_below (λ c. ticks_until_wanted (assignment_of t (a + 1) c)) s.conversations)

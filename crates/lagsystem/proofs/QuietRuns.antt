@@ -78,10 +78,8 @@ one_tick gives j old new s h step = record {
     paced : PeriodicsAreSettled mid.system_ports
     paced = subst PeriodicsAreSettled (sym all_counted) (counted_paced j old old.system_ports each s.quiet.1)
 
-    on_distributing : (g k p : ℕ) → assignment_of mid.table g k ≡ On p
-        → is_among (distributing (aggregator_numbered g) mid.system_ports) p ≡ true
-    on_distributing g k p e =
-        ap (λ l. is_among l p) (ap (distributing (aggregator_numbered g)) all_counted
+    on_distributing : (g k p : ℕ) → assignment_of mid.table g k ≡ On p → is_among (distributing (aggregator_numbered g) mid.system_ports) p ≡ true
+    on_distributing g k p e = ap (λ l. is_among l p) (ap (distributing (aggregator_numbered g)) all_counted
         ∙ counted_distributing (aggregator_numbered g) old.system_ports)
         ∙ s.carried g k p (on_before (assignment_of old.table g k) p (sym (step.1.1.states g k) ∙ e))
 
@@ -116,8 +114,7 @@ one_tick gives j old new s h step = record {
     }
 
     left : ticks_until_due new ≡ fewer 1 (ticks_until_due old)
-    left =
-        (λ i. sooner (table_left j old.table new.table table waits i) (soonest (map (ticks_until_due_on new) (ports i))))
+    left = (λ i. sooner (table_left j old.table new.table table waits i) (soonest (map (ticks_until_due_on new) (ports i))))
         ∙ (ap (sooner (fewer 1 (ticks_until_next_wanted old.table)))
         (each_left j old new old.system_ports (λ n. ap is_some (same_marker n j old.table new.table table waits)) each)
         ∙ fewer_sooner 1 (ticks_until_next_wanted old.table) (soonest (map (ticks_until_due_on old) old.system_ports)))
@@ -127,8 +124,7 @@ one_tick gives j old new s h step = record {
 none_due : (k : ℕ) (s : SystemState) (xs : List SystemPort) → is_by (Some (k + 1)) (soonest (map (ticks_until_due_on s) xs)) ≡ true
     → AllByRecursion (λ x. would_transmit s x ≡ false) xs
 none_due k s [] h = tt
-none_due k s (x ∷ xs) h =
-    let c = Some (k + 1) in
+none_due k s (x ∷ xs) h = let c = Some (k + 1) in
     let rest = soonest (map (ticks_until_due_on s) xs) in
     let others =
     soonest
@@ -167,8 +163,7 @@ not_waited : (a : Assignment) → a ≡ waited 0 a
 not_waited a = grind (arith, nat_tests)
 
 -- one such tick before m others
-joined : (m : ℕ) (old mid new : SystemState) → Lasts m (ticks_until_due old) → OneTick m old mid → OnlyCounted m mid new
-    → OnlyCounted (suc m) old new
+joined : (m : ℕ) (old mid new : SystemState) → Lasts m (ticks_until_due old) → OneTick m old mid → OnlyCounted m mid new → OnlyCounted (suc m) old new
 joined m old mid new lasts one rest = record {
   due = rest.due;
   frame = rest.frame ∙ ap (λ (s : SystemState). with_table (with_system_ports s new.system_ports) new.table) one.frame;
@@ -196,8 +191,7 @@ joined m old mid new lasts one rest = record {
     waits = by_first (Some (m + 2)) (ticks_until_next_wanted old.table) (soonest (map (ticks_until_due_on old) old.system_ports)) lasts
 
     longer : (g k : ℕ) → IsConversation old.table g k → after_tick (assignment_of old.table g k) ≡ waited 1 (assignment_of old.table g k)
-    longer g k i =
-        let e : (g - 1) + 1 ≡ g = omega (arith, i.0) in
+    longer g k i = let e : (g - 1) + 1 ≡ g = omega (arith, i.0) in
         let below : g - 1 < old.table.aggs = omega (arith, i.0, i.1) in
         subst (λ a. after_tick (assignment_of old.table a k) ≡ waited 1 (assignment_of old.table a k)) e
         (waits_on m (assignment_of old.table ((g - 1) + 1) k) (table_lasts m old.table waits (g - 1) k below i.2)).longer
@@ -213,8 +207,7 @@ run gives zero old new s h e = subst (OnlyCounted 0 old) (sym e) (record {
   conversations = λ g k i. not_waited (assignment_of old.table g k);
   left = none_fewer (ticks_until_due old);
 })
-run gives (suc m) old new s h r =
-    let e : suc m + 1 ≡ m + 2 = omega arith in
+run gives (suc m) old new s h r = let e : suc m + 1 ≡ m + 2 = omega arith in
     let lasts = subst (λ n. is_by (Some n) (ticks_until_due old) ≡ true) e h in
     let one = one_tick gives m old r.0 s lasts r.1 in
     joined m old r.0 new lasts one (run gives m r.0 new (Step-sound gives old Tick reply.Tick r.0 r.1 s) one.remains r.2)

@@ -34,8 +34,7 @@ aged_on a more h = ap (λ b. cond b ((a + 1) ∷ aged more) (aged more)) (lt-ltb
 
 aged_alike : (j : ℕ) (ages : List ℕ) → Lasts j (soonest (map ticks_in_window ages)) → length (aged ages) ≡ length ages
 aged_alike j [] h = refl
-aged_alike j (a ∷ more) h =
-    let rest = soonest (map ticks_in_window more) in
+aged_alike j (a ∷ more) h = let rest = soonest (map ticks_in_window more) in
     let here : j + 2 ≤ 11 - a = leb-true (j + 2) (11 - a) (by_first (Some (j + 2)) (ticks_in_window a) rest h) in
     ap length (aged_on a more (omega (arith, here)))
     ∙ ap (λ n. suc n) (aged_alike j more (by_second (Some (j + 2)) (ticks_in_window a) rest h))
@@ -59,8 +58,7 @@ at_rest (row ∷ rows) p h = grind (arith, nat_tests, at_rest rows p (not_second
 rests_on : (p : Machines) → (p.current_while - 1 == 0) ≡ (p.current_while == 0) → AtRest receive_rows p → AtRest receive_rows (count_down p)
 rests_on p e h = grind (arith, nat_tests)
 
-only_counts : (p q : Machines) → AtRest receive_rows p → AtRest receive_rows (count_down p) → RunsToRest receive_rows (count_down p) q
-    → q ≡ count_down p
+only_counts : (p q : Machines) → AtRest receive_rows p → AtRest receive_rows (count_down p) → RunsToRest receive_rows (count_down p) q → q ≡ count_down p
 only_counts p q old rest h = one_effect PortTick p q (count_down p) old h (0, refl, rest)
 
 -- what lasts on a port
@@ -72,8 +70,7 @@ pub record PortLasts (j : ℕ) (s : SystemState) (x : SystemPort) : Type 0 where
   pub room : Lasts j (ticks_until_room x.port)
 
 pub port_lasts : (j : ℕ) (s : SystemState) (x : SystemPort) → Lasts j (ticks_until_due_on s x) → PortLasts j s x
-port_lasts j s x h =
-    let frame = ticks_until_frame s x in
+port_lasts j s x h = let frame = ticks_until_frame s x in
     let current = ticks_until_expired x.port.current_while in
     let periodic = ticks_until_expired x.port.periodic_timer in
     let wait = ticks_until_expired x.port.wait_while in
@@ -106,11 +103,9 @@ still_not_due j s t x h m = grind (arith, nat_tests, frame_not, not_due, room_al
 
 -- ---- all ports
 
-pub each_lasts : (j : ℕ) (s : SystemState) (xs : List SystemPort) → Lasts j (soonest (map (ticks_until_due_on s) xs))
-    → AllByRecursion (PortLasts j s) xs
+pub each_lasts : (j : ℕ) (s : SystemState) (xs : List SystemPort) → Lasts j (soonest (map (ticks_until_due_on s) xs)) → AllByRecursion (PortLasts j s) xs
 each_lasts j s [] h = tt
-each_lasts j s (x ∷ xs) h =
-    let c = Some (j + 2) in
+each_lasts j s (x ∷ xs) h = let c = Some (j + 2) in
     let rest = soonest (map (ticks_until_due_on s) xs) in
     (port_lasts j s x (by_first c (ticks_until_due_on s x) rest h), each_lasts j s xs (by_second c (ticks_until_due_on s x) rest h))
 
@@ -120,8 +115,7 @@ pub counted_ports : (j : ℕ) (s : SystemState) (xs ys : List SystemPort) → Al
 counted_ports j s [] [] l r h = refl
 counted_ports j s [] (y ∷ ys) l r h = absurd h
 counted_ports j s (x ∷ xs) [] l r h = absurd h
-counted_ports j s (x ∷ xs) (y ∷ ys) l r h =
-    let rest = at_rest receive_rows x.port r.0 in
+counted_ports j s (x ∷ xs) (y ∷ ys) l r h = let rest = at_rest receive_rows x.port r.0 in
     let port : y.port ≡ count_down x.port = only_counts x.port y.port rest
     (rests_on x.port (timer_alike j x.port.current_while l.0.current_while) rest) h.0.1 in
     let here : y ≡ counted x = h.0.0 ∙ ap (λ (p : Machines). record x { port = p }) port in
@@ -174,8 +168,7 @@ below_lasts f (suc n) x k h lt = elim (cases_Bool (nat_lt k n)) [
 
 pub table_lasts : (j : ℕ) (t : Table) → Lasts j (ticks_until_next_wanted t) → (a c : ℕ) → a < t.aggs → c < t.conversations
     → Lasts j (ticks_until_wanted (assignment_of t (a + 1) c))
-table_lasts j t h a c l m =
-    below_lasts (λ c. ticks_until_wanted (assignment_of t (a + 1) c)) t.conversations (Some (j + 2)) c
+table_lasts j t h a c l m = below_lasts (λ c. ticks_until_wanted (assignment_of t (a + 1) c)) t.conversations (Some (j + 2)) c
     (below_lasts (λ a. soonest_below (λ c. ticks_until_wanted (assignment_of t (a + 1) c)) t.conversations) t.aggs (Some (j + 2)) a h l) m
 
 -- what a tick makes of a table in which each conversation waits on
@@ -195,6 +188,5 @@ same_count port j s t k h =
 
 -- the same markers are due
 pub same_marker : (port j : ℕ) (s t : Table) → TableTicked s t → Lasts j (ticks_until_next_wanted s) → marker_due t port ≡ marker_due s port
-same_marker port j s t k h =
-    let count = same_count port j s t k h in
+same_marker port j s t k h = let count = same_count port j s t k h in
     λ i. cond (ltb 0 (count i)) (cond (ltb (k.next i) (2 ^ 32)) (Some (k.next i)) None) None

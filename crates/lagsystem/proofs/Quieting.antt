@@ -53,17 +53,14 @@ given_rests : (aggs : AggregatorsValue) (seen : List PortView) (s : SystemPort) 
     → RestsAlone (with_choice s (option_map (choice_in aggs seen) o))
 given_rests aggs seen s o h = grind (arith, nat_tests)
 
-chosen_rests : (aggs : AggregatorsValue) (n : ℕ) (l : List SystemPort) → AllByRecursion RestsAlone l
-    → AllByRecursion RestsAlone (after_choices aggs n l)
-chosen_rests aggs n l a =
-    choices_keep aggs (AllByRecursion RestsAlone)
+chosen_rests : (aggs : AggregatorsValue) (n : ℕ) (l : List SystemPort) → AllByRecursion RestsAlone l → AllByRecursion RestsAlone (after_choices aggs n l)
+chosen_rests aggs n l a = choices_keep aggs (AllByRecursion RestsAlone)
     (λ l i s e a. all-set RestsAlone l i (with_choice s (choice_for aggs l s)) a
     (given_rests aggs (views l) s (aggregator_for aggs.keys l s) (all-get RestsAlone l i s e a))) n l a
 
 promoted_rests : (aggs : AggregatorsValue) (n : ℕ) (old new : List SystemPort) → PromotesFirst aggs n old new
     → AllByRecursion RestsAlone old → AllByRecursion RestsAlone new
-promoted_rests aggs n old new h a =
-    promotions_keep aggs (AllByRecursion RestsAlone)
+promoted_rests aggs n old new h a = promotions_keep aggs (AllByRecursion RestsAlone)
     (λ agg l m x a. subst (AllByRecursion RestsAlone) (sym x.4)
     (all-set RestsAlone l x.0 (with_choice x.1 (Some (Selected agg))) a (λ e. absurd (false≢true e)))) n old new h a
 
@@ -79,8 +76,7 @@ same_occupants : (keys : List Key) (seen : List PortView) (agg : AggId) (xs ys :
 same_occupants keys seen agg [] [] h = refl
 same_occupants keys seen agg [] (y ∷ ys) h = absurd h
 same_occupants keys seen agg (x ∷ xs) [] h = absurd h
-same_occupants keys seen agg (x ∷ xs) (y ∷ ys) h =
-    let same = mux_choice (ready_of keys seen x.port.choice) x.port y.port h.0.1 in
+same_occupants keys seen agg (x ∷ xs) (y ∷ ys) h = let same = mux_choice (ready_of keys seen x.port.choice) x.port y.port h.0.1 in
     ap (λ c. occupies agg c || has_occupant (views ys) agg) same
     ∙ ap (λ b. occupies agg x.port.choice || b) (same_occupants keys seen agg xs ys h.1)
 
@@ -88,14 +84,12 @@ next_all : (test : PortView → Bool) (b : Bool) (w v : PortView) (rest more : L
     → list_all test more ≡ list_all test rest → list_all test (cond b (v ∷ more) more) ≡ list_all test (cond b (w ∷ rest) rest)
 next_all test b w v rest more e h = grind (arith, nat_tests)
 
-same_groups : (keys : List Key) (seen : List PortView) (agg : AggId) (v : PortView) (xs ys : List SystemPort)
-    → PortsChangeBy (RunsReady keys seen) xs ys
+same_groups : (keys : List Key) (seen : List PortView) (agg : AggId) (v : PortView) (xs ys : List SystemPort) → PortsChangeBy (RunsReady keys seen) xs ys
     → list_all (has_group_of v) (occupants agg (views ys)) ≡ list_all (has_group_of v) (occupants agg (views xs))
 same_groups keys seen agg v [] [] h = refl
 same_groups keys seen agg v [] (y ∷ ys) h = absurd h
 same_groups keys seen agg v (x ∷ xs) [] h = absurd h
-same_groups keys seen agg v (x ∷ xs) (y ∷ ys) h =
-    let same = mux_choice (ready_of keys seen x.port.choice) x.port y.port h.0.1 in
+same_groups keys seen agg v (x ∷ xs) (y ∷ ys) h = let same = mux_choice (ready_of keys seen x.port.choice) x.port y.port h.0.1 in
     ap (λ c. list_all (has_group_of v) (cond (occupies agg c) (selection_view y ∷ occupants agg (views ys))
     (occupants agg (views ys)))) same
     ∙ next_all (has_group_of v) (occupies agg x.port.choice) (selection_view x) (selection_view y) (occupants agg (views xs))
@@ -116,8 +110,7 @@ none_moved keys xs ys x y all h a none false s =
     let same = mux_choice (ready_of keys (views xs) x.port.choice) x.port y.port h.1 in
     not_when (may_choose y) (chosen_if_eligible keys (views ys) (selection_view y))
     (not_unselected _ _ _ (is_unselected y.port.choice) (ap is_unselected same ∙ s))
-none_moved keys xs ys x y all h a none true s =
-    let b = ready_of keys (views xs) x.port.choice in
+none_moved keys xs ys x y all h a none true s = let b = ready_of keys (views xs) x.port.choice in
     let still : y.port ≡ x.port = stays (mux_rows b) h.1.0 x.port y.port (rest_unselected b x.port (not_selected x.port.choice s) (a s)) h.1.1 in
     let same : y ≡ x = h.0 ∙ (λ i. record x { port = still i }) in
     subst (λ (z : SystemPort). TakesNone keys (views ys) (selection_view z) z.held) (sym same)
@@ -134,8 +127,7 @@ zip_gives R P Q k [] (y ∷ ys) h a = absurd h
 zip_gives R P Q k (x ∷ xs) [] h a = absurd h
 zip_gives R P Q k (x ∷ xs) (y ∷ ys) h a = (k x y h.0 a.0, zip_gives R P Q k xs ys h.1 a.1)
 
-all_both : (P Q : SystemPort → Type 0) (xs : List SystemPort) → AllByRecursion P xs → AllByRecursion Q xs
-    → AllByRecursion (λ x. P x × Q x) xs
+all_both : (P Q : SystemPort → Type 0) (xs : List SystemPort) → AllByRecursion P xs → AllByRecursion Q xs → AllByRecursion (λ x. P x × Q x) xs
 all_both P Q [] h k = tt
 all_both P Q (x ∷ xs) h k = ((h.0, k.0), all_both P Q xs h.1 k.1)
 
@@ -155,8 +147,7 @@ moved keys xs ys h a =
 -- the periodic step
 
 periodic_view : (y z : SystemPort) → PortChangesBy RunsPeriodic y z → selection_view z ≡ selection_view y
-periodic_view y z h =
-    ap selection_view h.0
+periodic_view y z h = ap selection_view h.0
     ∙ ap (λ (p : Machines). selection_view (record y { port = p })) h.1.2
     ∙ Reaches-keeps (λ (p : Machines). selection_view (record y { port = p })) periodic_rows (
       (λ p. refl),
@@ -174,8 +165,7 @@ abbrev mux_looks : Machines → Machines → Machines
 mux_looks d p = record d { mux = p.mux; choice = p.choice; partner = p.partner }
 
 periodic_looks : (d p q : Machines) → RunsPeriodic p q → mux_looks d q ≡ mux_looks d p
-periodic_looks d p q h =
-    ap (mux_looks d) h.2
+periodic_looks d p q h = ap (mux_looks d) h.2
     ∙ Reaches-keeps (mux_looks d) periodic_rows (
       (λ p. refl),
       ((λ p. refl), ((λ p. refl), ((λ p. refl), ((λ p. refl), ((λ p. refl), ((λ p. refl), tt)))))),
@@ -195,8 +185,7 @@ takes_alike keys seen y z e h k = grind (arith, nat_tests)
 -- after a settling
 settled_still : (aggs : AggregatorsValue) (old new : List SystemPort) → Rises 0 (port_numbers old) → SettlesIn aggs old new
     → MuxesAreSettled aggs.keys new × PeriodicsAreSettled new
-settled_still aggs old new r s =
-    let keys : List Key = aggs.keys in
+settled_still aggs old new r s = let keys : List Key = aggs.keys in
     let mid : List SystemPort = s.chooses.0 in
     let last : List SystemPort = after_choices aggs (length mid) mid in
     let n0 = promoted_numbers aggs (length keys) s.one mid s.chooses.1 ∙ zip_numbers (RunsToRest (mux_rows false)) old s.one s.stops in
@@ -245,8 +234,7 @@ still_ready keys system_ports (x ∷ xs) h = grind (arith, nat_tests, still_read
 still_choose : (aggs : AggregatorsValue) (system_ports : List SystemPort) (i : ℕ) (o : Option SystemPort) → slice_get system_ports i ≡ o
     → MuxesAreSettled aggs.keys system_ports → after_choice_at aggs system_ports i o ≡ system_ports
 still_choose aggs system_ports i None e h = refl
-still_choose aggs system_ports i (Some s) e h =
-    ap (λ o. slice_set system_ports i (with_choice s o))
+still_choose aggs system_ports i (Some s) e h = ap (λ o. slice_set system_ports i (with_choice s o))
     (none_for aggs system_ports s (all-get (MuxIsSettled aggs.keys system_ports) system_ports i s e h).apart)
     ∙ set_same system_ports i s e
 
@@ -257,17 +245,14 @@ still_chosen aggs (suc n) system_ports h = grind (arith, nat_tests, still_choose
 
 -- settling leaves all but the periodic machines
 -- a settling in which only step 1 and step 5 change ports
-pub settles_from : (s : SystemState) (ran news : List SystemPort) → PortsChangeBy (RunsToRest (mux_rows false)) s.system_ports ran
-    → MuxesAreSettled s.keys ran → NoneIsNext (aggregators_value s) (views ran) → PortsChangeBy RunsPeriodic ran news
-    → SettlesPorts s (with_system_ports s news)
-settles_from s ran news first h none m =
-    let aggs = aggregators_value s in
+pub settles_from : (s : SystemState) (ran news : List SystemPort) → PortsChangeBy (RunsToRest (mux_rows false)) s.system_ports ran → MuxesAreSettled s.keys ran
+    → NoneIsNext (aggregators_value s) (views ran) → PortsChangeBy RunsPeriodic ran news → SettlesPorts s (with_system_ports s news)
+settles_from s ran news first h none m = let aggs = aggregators_value s in
     settling_made s aggs s.system_ports ran ran ran news refl refl first
     (ran, nothing_promoted aggs (length s.keys) ran none, sym (still_chosen aggs (length ran) ran h)) (still_ready s.keys ran ran h) m
 
-pub still_settles : (s : SystemState) (news : List SystemPort) → MuxesAreSettled s.keys s.system_ports
-    → NoneIsNext (aggregators_value s) (views s.system_ports) → PortsChangeBy RunsPeriodic s.system_ports news
-    → SettlesPorts s (with_system_ports s news)
+pub still_settles : (s : SystemState) (news : List SystemPort) → MuxesAreSettled s.keys s.system_ports → NoneIsNext (aggregators_value s) (views s.system_ports)
+    → PortsChangeBy RunsPeriodic s.system_ports news → SettlesPorts s (with_system_ports s news)
 still_settles s news h none m = grind (arith, nat_tests, settles_from, still_mux)
 
 pub paced_runs : (xs : List SystemPort) → PeriodicsAreSettled xs → PortsChangeBy RunsPeriodic xs xs
@@ -292,8 +277,7 @@ periodic_choice p q h = ap (λ (m : Machines). m.choice) h.2
     ) h.1.0 p h.0 h.1.1
 
 pub settling_none : (old new : SystemState) → Settling old new → NoneIsNext (aggregators_value new) (views new.system_ports)
-settling_none old new h =
-    let s = settling_in old new h in
+settling_none old new h = let s = settling_in old new h in
     subst (λ a. NoneIsNext a (views new.system_ports)) (sym (ap aggregators_value (settling_keeps old new h).frame))
     (settled_none (aggregators_value old) (RunsReady old.keys (views s.two)) RunsPeriodic
     (λ p q x. mux_choice (ready_of old.keys (views s.two) p.choice) p q x) periodic_choice

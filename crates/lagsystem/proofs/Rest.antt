@@ -100,8 +100,7 @@ last_slots old new h = ap (λ (x : SystemState). x.system_ports) h.2.2.2.2.2.2 �
 
 -- settling brings every mux machine to rest, and leaves the receive machines
 pub settling_rested : (old new : SystemState) → Settling old new → ReceivesAtRest old.system_ports → PortsConsistent new.system_ports
-settling_rested old new h a =
-    let s = settling_in old new h in
+settling_rested old new h a = let s = settling_in old new h in
     let keys = old.keys in
     let awake = zip_kept _ IsAwake (λ x y m k. mux_awake (ready_of keys (views s.two) x.port.choice) x.port y.port m.1 ∙ k) s.two s.four s.runs
     (choosing_keeps ReceivesAtRest selects_awake (aggregators_value old) s.one s.two s.chooses
@@ -121,8 +120,7 @@ settled_rested : (own : SystemState → SystemState → Type 0) (s t : SystemSta
     → ((mid : SystemState) → own s mid → ReceivesAtRest mid.system_ports) → ThenSettles own s t → PortsConsistent t.system_ports
 settled_rested own s t k h = settling_rested h.0 t h.2 (k h.0 h.1)
 
-takes_awake : (v : Lacpdu) (p q : Machines) → ProcessesLacpdu v p q → none_enabled receive_rows p ≡ true
-    → none_enabled receive_rows q ≡ true
+takes_awake : (v : Lacpdu) (p q : Machines) → ProcessesLacpdu v p q → none_enabled receive_rows p ≡ true → none_enabled receive_rows q ≡ true
 takes_awake v p q h a = grind (arith, nat_tests)
 
 starts_awake : (p q : Machines) → Starts p q → none_enabled receive_rows q ≡ true
@@ -138,8 +136,7 @@ becomes_slots agg conv state old answer new h = grind (arith, nat_tests)
 
 -- the start
 pub first_rested : (s : SystemState) → IsFirst s → PortsConsistent s.system_ports
-first_rested s h =
-    settling_rested (with_system_ports s h.0) s h.2
+first_rested s h = settling_rested (with_system_ports s h.0) s h.2
     (zip_all (HasJustStarted s.system) IsAwake (λ c x m. starts_awake (before_start (setup_of s.system c)) x.port m.2) s.ports h.0 h.1)
 
 -- every call leaves the machines at rest
@@ -163,18 +160,15 @@ Step-rested gives old call answer new h a = Step-preserves_ports gives old (λ c
       );
     }) call answer new h
   where
-    on_port : (n : ℕ) (R : Machines → Machines → Type 0)
-        → ((p q : Machines) → R p q → none_enabled receive_rows p ≡ true → none_enabled receive_rows q ≡ true) → (new : SystemState)
-        → ThenSettles (OnlyPortChangesBy (port_index n old.system_ports) R) old new → PortsConsistent new.system_ports
+    on_port : (n : ℕ) (R : Machines → Machines → Type 0) → ((p q : Machines) → R p q → none_enabled receive_rows p ≡ true → none_enabled receive_rows q ≡ true)
+        → (new : SystemState) → ThenSettles (OnlyPortChangesBy (port_index n old.system_ports) R) old new → PortsConsistent new.system_ports
     on_port n R k new h = let o = port_index n old.system_ports in
         settled_rested (OnlyPortChangesBy o R) old new
         (λ mid own. place_kept IsAwake R o old.system_ports mid.system_ports (λ s. k s.port) own.0 a.0) h
 
     sent : (g : Machines → Bool) → ((p : Machines) → g (after_sending p) ≡ g p) → (new : SystemState) (i : ℕ) (x : SystemPort)
-        → slice_get old.system_ports i ≡ Some x
-        → new ≡ with_system_ports old (slice_set old.system_ports i (record x { port = after_sending x.port }))
+        → slice_get old.system_ports i ≡ Some x → new ≡ with_system_ports old (slice_set old.system_ports i (record x { port = after_sending x.port }))
         → AllByRecursion (λ y. g y.port ≡ true) old.system_ports → AllByRecursion (λ y. g y.port ≡ true) new.system_ports
-    sent g k new i x e set b =
-        let P : SystemPort → Type 0 = λ y. g y.port ≡ true in
+    sent g k new i x e set b = let P : SystemPort → Type 0 = λ y. g y.port ≡ true in
         subst (AllByRecursion P) (sym (ap (λ (s : SystemState). s.system_ports) set))
         (all-set P old.system_ports i (record x { port = after_sending x.port }) b (k x.port ∙ all-get P old.system_ports i x e b))

@@ -10,9 +10,8 @@ abbrev pub Rises : ℕ → List ℕ → Type 0
 Rises low [] = Unit {0}
 Rises low (n ∷ ns) = (low < n) × Rises n ns
 
-rises_on : (place low n : ℕ) (ns : List ℕ) (b : Bool) → nat_lt low n ≡ b
-    → (if b then first_bad_port_number (place + 1) n ns else Some place) ≡ None → (low < n)
-    × (first_bad_port_number (place + 1) n ns ≡ None)
+rises_on : (place low n : ℕ) (ns : List ℕ) (b : Bool) → nat_lt low n ≡ b → (if b then first_bad_port_number (place + 1) n ns else Some place) ≡ None
+    → (low < n) × (first_bad_port_number (place + 1) n ns ≡ None)
 rises_on place low n ns b t e = grind (arith, nat_tests)
 
 rises : (place low : ℕ) (ns : List ℕ) → first_bad_port_number place low ns ≡ None → Rises low ns
@@ -23,8 +22,7 @@ pub if_then : (b : Bool) (x : Option BadConfig) (y : BadConfig) → (if b then x
 if_then b x y h = grind (arith, nat_tests)
 
 -- no port number, limit or count of a configuration that is accepted is a reason to refuse it
-accepted_numbers : (keys : List Key) (ports : List PortConfig) (most : Option ℕ) (conversations : ℕ)
-    → refusal keys ports most conversations ≡ None
+accepted_numbers : (keys : List Key) (ports : List PortConfig) (most : Option ℕ) (conversations : ℕ) → refusal keys ports most conversations ≡ None
     → (first_bad_port_number 1 0 (configured_numbers ports) ≡ None) × (refusal_of_limits most conversations ≡ None)
 accepted_numbers keys ports most conversations h = grind (arith, nat_tests)
 
@@ -45,8 +43,7 @@ not_found : (low n : ℕ) (system_ports : List SystemPort) → Rises low (port_n
 not_found low n [] r l = refl
 not_found low n (s ∷ ss) r l = grind (arith, nat_tests, not_found s.number n ss r.1 (omega (arith, l, r.0)))
 
-pub are_numbered : (low : ℕ) (system_ports : List SystemPort) → Rises low (port_numbers system_ports)
-    → AreNumbered number_of_port system_ports
+pub are_numbered : (low : ℕ) (system_ports : List SystemPort) → Rises low (port_numbers system_ports) → AreNumbered number_of_port system_ports
 are_numbered low [] r = tt
 are_numbered low (s ∷ ss) r = (not_found s.number s.number ss r.1 (omega arith), are_numbered s.number ss r.1)
 
@@ -96,6 +93,5 @@ all_found P (t ∷ ts) all q s e = elim (whichever (eqb q (number_of_port t)) (S
 -- the port at the place of a number has that number
 pub found_place : (n : ℕ) (system_ports : List SystemPort) (i : ℕ) (s : SystemPort) → port_index n system_ports ≡ Some i
     → slice_get system_ports i ≡ Some s → s.number ≡ n
-found_place n system_ports i s e at =
-    let found = position-Some (λ (x : SystemPort). x.number == n) system_ports i s e in
+found_place n system_ports i s e at = let found = position-Some (λ (x : SystemPort). x.number == n) system_ports i s e in
     eqb-true s.number n (subst (λ (x : SystemPort). (x.number == n) ≡ true) (get_or_from_slice_get system_ports i s s at) found.1)

@@ -8,8 +8,7 @@ at_end : (i : ℕ) (xs : List SystemPort) (b : Bool) → nat_lt i (length xs) �
 at_end i xs b e = grind (arith, nat_tests, slice_get_past)
 
 -- one step of the search, by the rest of it
-there_next : (n : ℕ) (x : SystemPort) (xs : List SystemPort) (rest : ℕ) (b : Bool)
-    → slice_get xs rest ≡ find_number number_of_port xs n → (x.number == n) ≡ b
+there_next : (n : ℕ) (x : SystemPort) (xs : List SystemPort) (rest : ℕ) (b : Bool) → slice_get xs rest ≡ find_number number_of_port xs n → (x.number == n) ≡ b
     → slice_get (x ∷ xs) (cond (not b) (1 + rest) 0) ≡ cond (eqb n x.number) (Some x) (find_number number_of_port xs n)
 there_next n x xs rest b ih e = grind (arith, nat_tests)
 
@@ -28,8 +27,7 @@ mapped_twice o = grind (arith, nat_tests)
 pub port_seen : (s : SystemState) (p : ℕ) → (model_view s).port p ≡ option_map model_port (machines_of p s)
 port_seen s p = grind (arith, nat_tests, first_place, mapped_twice)
 
-party_shown : (o : Option Machines) → option_map (λ (a : PortFacts). a.party) (option_map model_port o) ≡ option_map
-    (λ (x : Machines). x.party) o
+party_shown : (o : Option Machines) → option_map (λ (a : PortFacts). a.party) (option_map model_port o) ≡ option_map (λ (x : Machines). x.party) o
 party_shown o = grind (arith, nat_tests)
 
 -- so is its party

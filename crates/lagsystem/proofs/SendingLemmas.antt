@@ -8,12 +8,10 @@ use Rattle.lagsystem.proofs.Rising.{found_place}
 use Rattle.lagsystem.proofs.SettlingLemmas.{set_same}
 
 -- a port whose transmit machine gives an LACPDU sends that
-pub lacpdu_sent : (max_delay : ℕ) (system_port : SystemPort) (given : Option Lacpdu) (pdu : Lacpdu)
-    (payload octets : List ℕ) (port : Machines)
+pub lacpdu_sent : (max_delay : ℕ) (system_port : SystemPort) (given : Option Lacpdu) (pdu : Lacpdu) (payload octets : List ℕ) (port : Machines)
     → given ≡ (if is_due system_port.port then Some (pdu_of system_port.port max_delay) else None)
-    → port ≡ (if is_due system_port.port then after_sending system_port.port else system_port.port)
-    → given ≡ Some pdu → IsAddress system_port.mac → Writes payload pdu → octets ≡ frame_octets system_port.mac payload
-    → SendsLacpduIfDue max_delay system_port (Some octets) port
+    → port ≡ (if is_due system_port.port then after_sending system_port.port else system_port.port) → given ≡ Some pdu → IsAddress system_port.mac
+    → Writes payload pdu → octets ≡ frame_octets system_port.mac payload → SendsLacpduIfDue max_delay system_port (Some octets) port
 lacpdu_sent max_delay system_port given pdu payload octets port eg ep some address writes e = grind (arith, nat_tests)
 
 -- a port whose transmit machine gives none sends none
@@ -23,14 +21,12 @@ pub none_sent : (max_delay : ℕ) (system_port : SystemPort) (given : Option Lac
     → given ≡ None → SendsLacpduIfDue max_delay system_port None port
 none_sent max_delay system_port given port eg ep none = grind (arith, nat_tests)
 
-where_marker : (up due : Bool) (i : ℕ) (system_port : SystemPort) (old : SystemState) (answer : Option (List ℕ)) (new : SystemState)
-    → up ≡ true → due ≡ false
+where_marker : (up due : Bool) (i : ℕ) (system_port : SystemPort) (old : SystemState) (answer : Option (List ℕ)) (new : SystemState) → up ≡ true → due ≡ false
     → SendsMarker system_port.number system_port.mac old answer new → TransmitsIf up due i system_port old answer new
 where_marker up due i system_port old answer new eu ed h = rw (eu, ed) h
 
 -- the port at the place with the link up sends an LACPDU
-pub sends_lacpdu : (s : SystemState) (place : Option ℕ) (i : ℕ) (system_port : SystemPort) (octets : List ℕ)
-    (olds ws news : List SystemPort) → place ≡ Some i
+pub sends_lacpdu : (s : SystemState) (place : Option ℕ) (i : ℕ) (system_port : SystemPort) (octets : List ℕ) (olds ws news : List SystemPort) → place ≡ Some i
     → slice_get s.system_ports i ≡ Some system_port → system_port.port.enabled ≡ true → olds ≡ s.system_ports → news ≡ ws
     → PortSendsLacpduIfDue s.max_delay i (Some octets) olds ws → TransmitsAt place s (Some octets) (with_system_ports s news)
 sends_lacpdu s place i system_port octets olds ws news ep at up eo ew h = grind (arith, nat_tests)

@@ -12,8 +12,7 @@ pub sent_length : (octets : List ℕ) (payload : Pdu) → IsSent octets payload 
 sent_length octets payload h = ap (λ (l : List ℕ). length l) h.4 ∙ frame_length h.0 h.1 h.2.0 (whole_payload h.1 payload h.3)
 
 pub sent_control : (octets : List ℕ) (payload : Pdu) → IsSent octets payload → IsControlFrame octets
-sent_control octets payload h =
-    let long = sent_length octets payload h in
+sent_control octets payload h = let long = sent_length octets payload h in
     (omega (arith, long), subst (λ l. IsSlowProtocolsFrame l) (sym h.4) (framed_slow h.0 h.1 h.2.0))
 
 -- behind its header stands its PDU

@@ -36,8 +36,7 @@ pub record Readies (old mid : SystemState) : Type 0 where
   pub limited : WithinLimit mid.max_links (views mid.system_ports)
   pub ages : ages_in mid.system_ports ≡ ages_in old.system_ports
   pub apart : HeldUnselected mid.system_ports
-  pub moves : LawfulMoves (model_setup old) ModelCall.Tick (model_view old) []
-      (model_view_at (model_distributor old.table) mid.system_ports)
+  pub moves : LawfulMoves (model_setup old) ModelCall.Tick (model_view old) [] (model_view_at (model_distributor old.table) mid.system_ports)
 
 -- what holds then
 pub record Settled (old mid new : SystemState) : Type 0 where
@@ -53,8 +52,7 @@ framed old mid new e f = f ∙ ap (λ (s : SystemState). with_table (with_system
 
 -- the invariant, from the parts that a settling gives
 pub settles_sound : (old mid new : SystemState) → IsSound old → Readies old mid → Settling mid new → Settled old mid new
-settles_sound old mid new s r h =
-    let k = settling_keeps mid new h in
+settles_sound old mid new s r h = let k = settling_keeps mid new h in
     let u = model_setup old in
     let frame = framed old mid new r.frame k.frame in
     let table : mid.table ≡ old.table = ap (λ (x : SystemState). x.table) r.frame in
@@ -109,20 +107,19 @@ pub record Mild (old : SystemState) (x y : SystemPort) : Type 0 where
 
 set_readies : (old : SystemState) (i : ℕ) (x y : SystemPort) → IsSound old → slice_get old.system_ports i ≡ Some x → Mild old x y
     → Readies old (with_system_ports old (slice_set old.system_ports i y))
-set_readies old i x y s e m =
-    let l = old.system_ports in record {
-      frame = refl;
-      same = numbers_set l i x y e m.number;
-      accepted = s.ports.accepted;
-      awake = all-set (λ z. none_enabled receive_rows z.port ≡ true) l i y s.rested.0
-          (m.awake ∙ all-get (λ z. none_enabled receive_rows z.port ≡ true) l i x e s.rested.0);
-      stay = set_stays l i x y e m.leaves;
-      limited = within_fewer old.max_links l (slice_set l i y) (set_fewer l i x y e m.leaves) s.limited;
-      ages = ages_set l i x y e m.ages;
-      apart = all-set IsApart l i y s.held (m.apart (all-get IsApart l i x e s.held));
-      moves = slot_moves (model_setup old) ModelCall.Tick (model_distributor old.table) l i x y [] (are_numbered 0 l (ports_rise old s.ports)) e
-          m.number m.moves;
-    }
+set_readies old i x y s e m = let l = old.system_ports in record {
+  frame = refl;
+  same = numbers_set l i x y e m.number;
+  accepted = s.ports.accepted;
+  awake = all-set (λ z. none_enabled receive_rows z.port ≡ true) l i y s.rested.0
+      (m.awake ∙ all-get (λ z. none_enabled receive_rows z.port ≡ true) l i x e s.rested.0);
+  stay = set_stays l i x y e m.leaves;
+  limited = within_fewer old.max_links l (slice_set l i y) (set_fewer l i x y e m.leaves) s.limited;
+  ages = ages_set l i x y e m.ages;
+  apart = all-set IsApart l i y s.held (m.apart (all-get IsApart l i x e s.held));
+  moves = slot_moves (model_setup old) ModelCall.Tick (model_distributor old.table) l i x y [] (are_numbered 0 l (ports_rise old s.ports)) e
+      m.number m.moves;
+}
 
 place_readies : (old mid : SystemState) (i : ℕ) (already : SystemPort → Bool) (change : SystemPort → SystemPort)
     → ((x : SystemPort) → Mild old x (change x)) → IsSound old → OnlyPortBecomes already change i old mid → Readies old mid
@@ -194,16 +191,13 @@ is_member_up agg x = x.port.enabled && has_chosen agg x.port.choice
 left_up : (agg : AggId) (most : ℕ) (up : Bool) (c : Choice) → has_chosen agg (choice_with_link (Some most) up c) ≡ (up && has_chosen agg c)
 left_up agg most up c = grind (arith, nat_tests)
 
-relinks_chosen : (agg : AggId) (most : ℕ) (x y : SystemPort) → Relinks (Some most) x.port y.port
-    → has_chosen agg y.port.choice ≡ is_member_up agg x
+relinks_chosen : (agg : AggId) (most : ℕ) (x y : SystemPort) → Relinks (Some most) x.port y.port → has_chosen agg y.port.choice ≡ is_member_up agg x
 relinks_chosen agg most x y h = ap (λ (p : Machines). has_chosen agg p.choice) h ∙ left_up agg most x.port.enabled x.port.choice
 
-one_left : (b c : Bool) (n : ℕ) (x : SystemPort) (rest : List SystemPort) → c ≡ b → n ≡ length rest
-    → cond c (suc n) n ≡ length (cond b (x ∷ rest) rest)
+one_left : (b c : Bool) (n : ℕ) (x : SystemPort) (rest : List SystemPort) → c ≡ b → n ≡ length rest → cond c (suc n) n ≡ length (cond b (x ∷ rest) rest)
 one_left b c n x rest e h = grind (arith, nat_tests)
 
-left_count : (agg : AggId) (most : ℕ) (xs ys : List SystemPort) → PortsChangeBy (Relinks (Some most)) xs ys
-    → count agg ys ≡ length (members_up agg xs)
+left_count : (agg : AggId) (most : ℕ) (xs ys : List SystemPort) → PortsChangeBy (Relinks (Some most)) xs ys → count agg ys ≡ length (members_up agg xs)
 left_count agg most [] [] h = refl
 left_count agg most [] (y ∷ ys) h = absurd h
 left_count agg most (x ∷ xs) [] h = absurd h
@@ -233,8 +227,7 @@ some_crowds agg most all (x ∷ xs) h k =
     by_first (is_member_up agg x) refl both.0 (λ e. some_crowds agg most all xs e both.1)
   where
     by_first : (b : Bool) → is_member_up agg x ≡ b → is_crowded most all x.port.choice ≡ false
-        → (list_any (is_member_up agg) xs ≡ true → nat_lt most (length (members_up agg all)) ≡ false)
-        → nat_lt most (length (members_up agg all)) ≡ false
+        → (list_any (is_member_up agg) xs ≡ true → nat_lt most (length (members_up agg all)) ≡ false) → nat_lt most (length (members_up agg all)) ≡ false
     by_first true e here later = sym (chosen_crowds agg most all x.port.enabled x.port.choice e) ∙ here
     by_first false e here later = later (sym (ap (λ b. b || list_any (is_member_up agg) xs) e) ∙ h)
 
@@ -253,8 +246,7 @@ within_limit None xs ys o h = tt
 within_limit (Some most) xs ys o h = λ agg. omega (arith, counted agg ys, left_count agg most xs ys h, few_up most xs o agg)
 
 -- what is not refused
-limit_taken : (max_links : Option ℕ) (xs : List SystemPort) → limit_refusal max_links xs ≡ None
-    → (is_limit max_links ≡ true) × (is_over max_links xs ≡ false)
+limit_taken : (max_links : Option ℕ) (xs : List SystemPort) → limit_refusal max_links xs ≡ None → (is_limit max_links ≡ true) × (is_over max_links xs ≡ false)
 limit_taken max_links xs h = grind (arith, nat_tests)
 
 still_accepted : (keys : List Key) (ports : List PortConfig) (was now : Option ℕ) (conversations : ℕ)
@@ -263,8 +255,7 @@ still_accepted keys ports was now conversations h k = grind (arith, nat_tests)
 
 limit_readies : (old mid : SystemState) (max_links : Option ℕ) → IsSound old → limit_refusal max_links old.system_ports ≡ None
     → LimitsLinks max_links old mid → Readies old mid
-limit_readies old mid max_links s free h =
-    let l = old.system_ports in
+limit_readies old mid max_links s free h = let l = old.system_ports in
     let m = mid.system_ports in
     let R : Machines → Machines → Type 0 = Relinks max_links in
     let taken = limit_taken max_links l free in
@@ -301,21 +292,20 @@ same_setting old setting answer new d l step s e = grind (arith, nat_tests, mode
 settled_setting : (old mid : SystemState) (setting : Setting) (answer : Result Unit SystemFault) (new : SystemState)
     → max_delay_after setting old.max_delay ≡ old.max_delay → max_links_after setting answer old.max_links ≡ mid.max_links
     → SettingStep old setting answer new → IsSound old → Readies old mid → Settling mid new → KeepsSetting old setting answer new
-settled_setting old mid setting answer new d l step s r h =
-    let k = settles_sound old mid new s r h in record {
-      sound = k.sound;
-      promise = record {
-        step = step;
-        moves = k.moves;
-        window = k.ages;
-        agrees = agrees new k.sound;
-        configured = ap model_setup k.frame;
-        ports = ap (λ (x : SystemState). x.ports) k.frame;
-        conversations = ap (λ (x : SystemState). x.conversations) k.frame;
-        max_delay = ap (λ (x : SystemState). x.max_delay) k.frame ∙ sym d;
-        max_links = ap (λ (x : SystemState). x.max_links) k.frame ∙ sym l;
-      };
-    }
+settled_setting old mid setting answer new d l step s r h = let k = settles_sound old mid new s r h in record {
+  sound = k.sound;
+  promise = record {
+    step = step;
+    moves = k.moves;
+    window = k.ages;
+    agrees = agrees new k.sound;
+    configured = ap model_setup k.frame;
+    ports = ap (λ (x : SystemState). x.ports) k.frame;
+    conversations = ap (λ (x : SystemState). x.conversations) k.frame;
+    max_delay = ap (λ (x : SystemState). x.max_delay) k.frame ∙ sym d;
+    max_links = ap (λ (x : SystemState). x.max_links) k.frame ∙ sym l;
+  };
+}
 
 -- a port that changes, or is so already
 port_set : (o : Option ℕ) (already : SystemPort → Bool) (change : SystemPort → SystemPort) (old : SystemState) (setting : Setting)

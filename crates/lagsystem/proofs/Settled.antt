@@ -15,20 +15,17 @@ pub is_moved_on : (s : SystemState) (system_ports : List SystemPort) (t : Table)
     → t.conversations ≡ s.conversations → moved_on s system_ports t ≡ with_table (with_system_ports s system_ports) t
 is_moved_on s system_ports t h k = λ i. record s { first_marker = h i; conversations = k i; system_ports = system_ports; table = t }
 
-were_carried : (old mid : SystemState) (were : List (Option AggId)) → IsSound old → Keeps old mid
-    → were ≡ aggregators_in_use old.system_ports → ((g k p : ℕ) → assignment_of mid.table g k ≡ On p → assignment_of old.table g k ≡ On p)
-    → WereInUse were mid
+were_carried : (old mid : SystemState) (were : List (Option AggId)) → IsSound old → Keeps old mid → were ≡ aggregators_in_use old.system_ports
+    → ((g k p : ℕ) → assignment_of mid.table g k ≡ On p → assignment_of old.table g k ≡ On p) → WereInUse were mid
 were_carried old mid were s k e c = record { old = old; sound = s; before = e; same = k.same; carried = c }
 
 -- a tick brings no conversation onto a port
 ticked_on : (a : Assignment) (p : ℕ) → after_tick a ≡ On p → a ≡ On p
 ticked_on a p e = grind (arith, nat_tests)
 
-pub tick_made : (old : SystemState) (olds ws news : List SystemPort) (t : Table) → olds ≡ old.system_ports → news ≡ ws
-    → old.first_marker ≡ old.table.first → old.conversations ≡ old.table.conversations
-    → PortsChangeBy (λ p q. RunsToRest receive_rows (count_down p) q) olds ws
-    → ChangesAssignments old.table t after_tick
-    → Ticks old (moved_on old news t)
+pub tick_made : (old : SystemState) (olds ws news : List SystemPort) (t : Table) → olds ≡ old.system_ports → news ≡ ws → old.first_marker ≡ old.table.first
+    → old.conversations ≡ old.table.conversations → PortsChangeBy (λ p q. RunsToRest receive_rows (count_down p) q) olds ws
+    → ChangesAssignments old.table t after_tick → Ticks old (moved_on old news t)
 tick_made old olds ws news t e w f k h c = grind (arith, nat_tests)
 
 pub tick_carried : (old mid : SystemState) (were : List (Option AggId)) → IsSound old → Ticks old mid
@@ -36,14 +33,12 @@ pub tick_carried : (old mid : SystemState) (were : List (Option AggId)) → IsSo
 tick_carried old mid were s h e = grind (arith, nat_tests, were_carried, keeps_tick, ticked_on)
 
 -- nor does a link that goes down
-frees_on : (up : Bool) (port : ℕ) (t new : Table) → FreesIfDown up port t new → (g k p : ℕ) → assignment_of new g k ≡ On p
-    → assignment_of t g k ≡ On p
+frees_on : (up : Bool) (port : ℕ) (t new : Table) → FreesIfDown up port t new → (g k p : ℕ) → assignment_of new g k ≡ On p → assignment_of t g k ≡ On p
 frees_on up port t new h g k p e = grind (arith, nat_tests)
 
 pub link_made : (n : ℕ) (up : Bool) (old : SystemState) (olds ws news : List SystemPort) (t : Table) → olds ≡ old.system_ports → news ≡ ws
     → old.first_marker ≡ old.table.first → old.conversations ≡ old.table.conversations
-    → PortAtChangesBy (SetsPortEnabled old.max_links up) (port_index n olds) olds ws → FreesIfDown up n old.table t
-    → SetsLink n up old (moved_on old news t)
+    → PortAtChangesBy (SetsPortEnabled old.max_links up) (port_index n olds) olds ws → FreesIfDown up n old.table t → SetsLink n up old (moved_on old news t)
 link_made n up old olds ws news t e w f k h c = grind (arith, nat_tests)
 
 pub link_carried : (n : ℕ) (up : Bool) (old mid : SystemState) (were : List (Option AggId)) → IsSound old → SetsLink n up old mid
@@ -60,16 +55,14 @@ becomes_numbers : (already : SystemPort → Bool) (change : SystemPort → Syste
     → ((x : SystemPort) → (change x).number ≡ x.number) → PortBecomes already change i old new → port_numbers new ≡ port_numbers old
 becomes_numbers already change i old new k h = ap port_numbers h.3 ∙ numbers_set old i h.0 (change h.0) h.1 (k h.0)
 
-pub becomes_made : (already : SystemPort → Bool) (change : SystemPort → SystemPort) (i : ℕ) (old : SystemState)
-    (olds ws news : List SystemPort) → olds ≡ old.system_ports → news ≡ ws → PortBecomes already change i olds ws
-    → OnlyPortBecomes already change i old (with_system_ports old news)
+pub becomes_made : (already : SystemPort → Bool) (change : SystemPort → SystemPort) (i : ℕ) (old : SystemState) (olds ws news : List SystemPort)
+    → olds ≡ old.system_ports → news ≡ ws → PortBecomes already change i olds ws → OnlyPortBecomes already change i old (with_system_ports old news)
 becomes_made already change i old olds ws news e w h = grind (arith, nat_tests)
 
 pub becomes_carried : (already : SystemPort → Bool) (change : SystemPort → SystemPort) (i : ℕ) (old mid : SystemState)
     (were : List (Option AggId)) → ((x : SystemPort) → (change x).number ≡ x.number) → IsSound old
     → OnlyPortBecomes already change i old mid → were ≡ aggregators_in_use old.system_ports → WereInUse were mid
-becomes_carried already change i old mid were k s h e =
-    were_carried old mid were s
+becomes_carried already change i old mid were k s h e = were_carried old mid were s
     (keeps_slots old mid h.1 (becomes_numbers already change i old.system_ports mid.system_ports k h.0)) e
     (λ g k p a. sym (ap (λ (x : SystemState). assignment_of x.table g k) h.1) ∙ a)
 

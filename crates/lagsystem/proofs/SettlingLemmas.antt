@@ -27,8 +27,7 @@ none_filtered agg c v rest h k = grind (arith, nat_tests)
 none_given : (agg : AggId) (system_ports : List SystemPort) → list_any (λ s. member_has_waited s) system_ports ≡ false
     → one_expired (ports_that_chose agg (views system_ports)) ≡ false
 none_given agg [] h = refl
-none_given agg (s ∷ ss) h =
-    let both = or_parts (member_has_waited s) (list_any (λ s. member_has_waited s) ss) h in
+none_given agg (s ∷ ss) h = let both = or_parts (member_has_waited s) (list_any (λ s. member_has_waited s) ss) h in
     none_filtered agg s.port.choice (selection_view s) (ports_that_chose agg (views ss)) both.0 (none_given agg ss both.1)
 
 none_known : (b : Bool) (xs : List PortView) → one_expired xs ≡ false → one_expired (if b then xs else []) ≡ false
@@ -42,8 +41,7 @@ first_has_not b v rest h k = grind (arith, nat_tests)
 
 none_has_waited : (seen : List PortView) → one_expired seen ≡ false → have_waited seen ≡ false
 none_has_waited [] h = refl
-none_has_waited (v ∷ vs) h =
-    let both = or_parts (has_waited v.stage) (one_expired vs) h in
+none_has_waited (v ∷ vs) h = let both = or_parts (has_waited v.stage) (one_expired vs) h in
     first_has_not (is_detached_or_waiting v.stage) v vs both.0 (none_has_waited vs both.1)
 
 -- if no member has waited long enough, no aggregator is Ready
@@ -52,44 +50,36 @@ pub no_ready : (keys : List Key) (system_ports : List SystemPort) → list_any (
 no_ready keys system_ports h c = grind (arith, nat_tests, none_has_waited, none_known, none_given)
 
 pub runs_unready : (keys : List Key) (olds news : List SystemPort) → list_any (λ s. member_has_waited s) olds ≡ false
-    → PortsChangeBy (RunsToRest (mux_rows false)) olds news
-    → PortsChangeBy (λ p q. RunsToRest (mux_rows (ready_of keys (views olds) p.choice)) p q) olds news
-runs_unready keys olds news none h =
-    AllZip-weaker (PortChangesBy (RunsToRest (mux_rows false)))
+    → PortsChangeBy (RunsToRest (mux_rows false)) olds news → PortsChangeBy (λ p q. RunsToRest (mux_rows (ready_of keys (views olds) p.choice)) p q) olds news
+runs_unready keys olds news none h = AllZip-weaker (PortChangesBy (RunsToRest (mux_rows false)))
     (PortChangesBy (λ p q. RunsToRest (mux_rows (ready_of keys (views olds) p.choice)) p q))
     (λ x y m. (m.0, subst (λ b. RunsToRest (mux_rows b) x.port y.port) (sym (no_ready keys olds none x.port.choice)) m.1)) olds news h
 
 -- what has run to rest stays as it is when it runs again
-pub runs_again : (olds news : List SystemPort) → PortsChangeBy (RunsToRest (mux_rows false)) olds news
-    → PortsChangeBy (RunsToRest (mux_rows false)) news news
+pub runs_again : (olds news : List SystemPort) → PortsChangeBy (RunsToRest (mux_rows false)) olds news → PortsChangeBy (RunsToRest (mux_rows false)) news news
 runs_again [] [] h = h
 runs_again [] (y ∷ ys) h = absurd h
 runs_again (x ∷ xs) [] h = absurd h
 runs_again (x ∷ xs) (y ∷ ys) h = ((refl, (0, refl, h.0.1.2)), runs_again xs ys h.1)
 
 -- where no port is restless, none is UNSELECTED
-pub none_restless_unselected : (l : List SystemPort) → list_any (λ s. is_restless s) l ≡ false
-    → list_any (λ s. is_unselected s.port.choice) l ≡ false
+pub none_restless_unselected : (l : List SystemPort) → list_any (λ s. is_restless s) l ≡ false → list_any (λ s. is_unselected s.port.choice) l ≡ false
 none_restless_unselected [] h = refl
-none_restless_unselected (s ∷ ss) h =
-    let both = or_parts (is_restless s) (list_any (λ s. is_restless s) ss) h in
+none_restless_unselected (s ∷ ss) h = let both = or_parts (is_restless s) (list_any (λ s. is_restless s) ss) h in
     let one = or_parts (is_unselected s.port.choice) (member_has_waited s) both.0 in
     ap (λ b. b || list_any (λ s. is_unselected s.port.choice) ss) one.0 ∙ none_restless_unselected ss both.1
 
 -- and none has waited
-pub none_restless_has_waited : (l : List SystemPort) → list_any (λ s. is_restless s) l ≡ false
-    → list_any (λ s. member_has_waited s) l ≡ false
+pub none_restless_has_waited : (l : List SystemPort) → list_any (λ s. is_restless s) l ≡ false → list_any (λ s. member_has_waited s) l ≡ false
 none_restless_has_waited [] h = refl
-none_restless_has_waited (s ∷ ss) h =
-    let both = or_parts (is_restless s) (list_any (λ s. is_restless s) ss) h in
+none_restless_has_waited (s ∷ ss) h = let both = or_parts (is_restless s) (list_any (λ s. is_restless s) ss) h in
     let one = or_parts (is_unselected s.port.choice) (member_has_waited s) both.0 in
     ap (λ b. b || list_any (λ s. member_has_waited s) ss) one.1 ∙ none_restless_has_waited ss both.1
 
-pub settling_made : (base : SystemState) (aggs : AggregatorsValue) (system_ports one two four five : List SystemPort)
-    → aggregators_value base ≡ aggs → base.system_ports ≡ system_ports
-    → PortsChangeBy (RunsToRest (mux_rows false)) system_ports one → ChoosesIn aggs one two
-    → PortsChangeBy (λ p q. RunsToRest (mux_rows (ready_of aggs.keys (views two) p.choice)) p q) two four
-    → PortsChangeBy RunsPeriodic four five → SettlesPorts base (with_system_ports base five)
+pub settling_made : (base : SystemState) (aggs : AggregatorsValue) (system_ports one two four five : List SystemPort) → aggregators_value base ≡ aggs
+    → base.system_ports ≡ system_ports → PortsChangeBy (RunsToRest (mux_rows false)) system_ports one → ChoosesIn aggs one two
+    → PortsChangeBy (λ p q. RunsToRest (mux_rows (ready_of aggs.keys (views two) p.choice)) p q) two four → PortsChangeBy RunsPeriodic four five
+    → SettlesPorts base (with_system_ports base five)
 settling_made base aggs system_ports one two four five ek es h1 h2 h4 h5 =
     let k1 : PortsChangeBy (RunsToRest (mux_rows false)) base.system_ports one =
     subst (λ l. PortsChangeBy (RunsToRest (mux_rows false)) l one) (sym es) h1 in
@@ -121,8 +111,7 @@ pub record SettlesIn (aggs : AggregatorsValue) (old new : List SystemPort) : Typ
   pub paces : PortsChangeBy RunsPeriodic four new
 
 pub settles_in : (old new : SystemState) → SettlesPorts old new → SettlesIn (aggregators_value old) old.system_ports new.system_ports
-settles_in old new h =
-    let two = h.2.0 in
+settles_in old new h = let two = h.2.0 in
     let four = h.2.2.2.0 in
     let keys : aggregators_value two ≡ aggregators_value old = ap aggregators_value h.2.1.1 ∙ ap aggregators_value h.1.1 in
     let runs : PortsChangeBy (RunsReady two.keys (views two.system_ports)) two.system_ports four.system_ports =
@@ -133,8 +122,7 @@ settles_in old new h =
 pub ports_frame : (old new : SystemState) → SettlesPorts old new → new ≡ with_system_ports old new.system_ports
 ports_frame old new h = grind (arith, nat_tests)
 
-pub set_same : (system_ports : List SystemPort) (i : ℕ) (s : SystemPort) → slice_get system_ports i ≡ Some s
-    → slice_set system_ports i s ≡ system_ports
+pub set_same : (system_ports : List SystemPort) (i : ℕ) (s : SystemPort) → slice_get system_ports i ≡ Some s → slice_set system_ports i s ≡ system_ports
 set_same [] i s e = refl
 set_same (x ∷ xs) zero s e = let same : x ≡ s = cc in cc
 set_same (x ∷ xs) (suc i) s e = ap (λ ys. x ∷ ys) (set_same xs i s e)

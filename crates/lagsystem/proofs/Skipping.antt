@@ -43,17 +43,14 @@ pub alike_still : (keys : List Key) (system_ports : List SystemPort) (s t : Syst
 alike_still keys system_ports s t e held r h = grind (arith, nat_tests)
 
 -- the ports are settled again once the mux machine of one that looks the same is at rest
-ran_still : (keys : List Key) (system_ports : List SystemPort) (i : ℕ) (s u : SystemPort) → slice_get system_ports i ≡ Some s
-    → AtRest (mux_rows false) u.port → LooksUnchanged s u → u.held ≡ s.held → MuxesAreSettled keys system_ports
-    → MuxesAreSettled keys (slice_set system_ports i u)
-ran_still keys system_ports i s u e rest a held h =
-    let here = all-get (MuxIsSettled keys system_ports) system_ports i s e h in
+ran_still : (keys : List Key) (system_ports : List SystemPort) (i : ℕ) (s u : SystemPort) → slice_get system_ports i ≡ Some s → AtRest (mux_rows false) u.port
+    → LooksUnchanged s u → u.held ≡ s.held → MuxesAreSettled keys system_ports → MuxesAreSettled keys (slice_set system_ports i u)
+ran_still keys system_ports i s u e rest a held h = let here = all-get (MuxIsSettled keys system_ports) system_ports i s e h in
     grind (arith, nat_tests, alike_views, all_among, slice_set, all-set, alike_still)
 
 -- every other mux machine is at rest
 set_ran : (keys : List Key) (all system_ports : List SystemPort) (i : ℕ) (t u : SystemPort) → AllByRecursion (MuxIsSettled keys all) system_ports
-    → PortChangesBy (RunsToRest (mux_rows false)) t u
-    → PortsChangeBy (RunsToRest (mux_rows false)) (slice_set system_ports i t) (slice_set system_ports i u)
+    → PortChangesBy (RunsToRest (mux_rows false)) t u → PortsChangeBy (RunsToRest (mux_rows false)) (slice_set system_ports i t) (slice_set system_ports i u)
 set_ran keys all [] i t u h m = tt
 set_ran keys all (x ∷ xs) zero t u h m = (m, still_mux keys all xs h.1)
 set_ran keys all (x ∷ xs) (suc i) t u h m = ((refl, (0, refl, h.0.mux)), set_ran keys all xs i t u h.1 m)
@@ -82,24 +79,18 @@ abbrev pub processed : (v : Lacpdu) (old : SystemState) (i : ℕ) (alike : Bool)
 processed v old i alike new h = with_system_ports old (slice_set old.system_ports i h.changes.mid)
 
 -- what the call itself does
-pub own_made : (v : Lacpdu) (old : SystemState) (i : ℕ) (alike : Bool) (new : List SystemPort)
-    (h : ProcessesLacpduAt v i old.system_ports alike new)
+pub own_made : (v : Lacpdu) (old : SystemState) (i : ℕ) (alike : Bool) (new : List SystemPort) (h : ProcessesLacpduAt v i old.system_ports alike new)
     → OnlyPortChangesBy (Some i) (ProcessesLacpdu v) old (processed v old i alike new h)
 own_made v old i alike new h = grind (arith, nat_tests)
 
 -- a settling that finds the mux machine of the port run already
-first_joined : (system_ports : List SystemPort) (i : ℕ) (t u : SystemPort) (xs : List SystemPort)
-    → PortChangesBy (RunsToRest (mux_rows false)) t u
-    → PortsChangeBy (RunsToRest (mux_rows false)) (slice_set system_ports i u) xs
-    → PortsChangeBy (RunsToRest (mux_rows false)) (slice_set system_ports i t) xs
+first_joined : (system_ports : List SystemPort) (i : ℕ) (t u : SystemPort) (xs : List SystemPort) → PortChangesBy (RunsToRest (mux_rows false)) t u
+    → PortsChangeBy (RunsToRest (mux_rows false)) (slice_set system_ports i u) xs → PortsChangeBy (RunsToRest (mux_rows false)) (slice_set system_ports i t) xs
 first_joined [] i t u xs m h = h
 first_joined (x ∷ xs) zero t u [] m h = absurd h
 first_joined (x ∷ xs) zero t u (y ∷ ys) m h =
     let same : u.port ≡ y.port = one_mux false u.port u.port y.port (0, refl, m.1.2) h.0.1 in (
-      (
-        h.0.0 ∙ ap (λ (z : SystemPort). record z { port = y.port }) m.0,
-        subst (λ (q : Machines). RunsToRest (mux_rows false) t.port q) same m.1,
-      ),
+      (h.0.0 ∙ ap (λ (z : SystemPort). record z { port = y.port }) m.0, subst (λ (q : Machines). RunsToRest (mux_rows false) t.port q) same m.1),
       h.1,
     )
 first_joined (x ∷ xs) (suc i) t u [] m h = absurd h
@@ -108,16 +99,11 @@ first_joined (x ∷ xs) (suc i) t u (y ∷ ys) m h = (h.0, first_joined xs i t u
 pub took_settled : (v : Lacpdu) (old : SystemState) (i : ℕ) (alike : Bool) (one : List SystemPort) (new : SystemState)
     → ProcessesLacpduAt v i old.system_ports alike one → Settling (with_system_ports old one) new
     → ThenSettles (OnlyPortChangesBy (Some i) (ProcessesLacpdu v)) old new
-took_settled v old i alike one new h k =
-    let k2 : Settling (with_system_ports old (slice_set old.system_ports i h.after)) new =
+took_settled v old i alike one new h k = let k2 : Settling (with_system_ports old (slice_set old.system_ports i h.after)) new =
     subst (λ l. Settling (with_system_ports old l) new) h.others k in (
       processed v old i alike one h,
       own_made v old i alike one h,
-      (
-        k2.0,
-        (first_joined old.system_ports i h.changes.mid h.after k2.0.system_ports h.changes.runs k2.1.0, k2.1.1),
-        k2.2,
-      ),
+      (k2.0, (first_joined old.system_ports i h.changes.mid h.after k2.0.system_ports h.changes.runs k2.1.0, k2.1.1), k2.2),
     )
 
 -- steps 1 to 5, where the port looks the same after each
@@ -125,8 +111,7 @@ ports_settled : (v : Lacpdu) (old : SystemState) (i : ℕ) (one two : List Syste
     × PeriodicsAreSettled old.system_ports → NoneIsNext (aggregators_value old) (views old.system_ports)
     → (h : ProcessesLacpduAt v i old.system_ports true one) → PortAtChangesBy RunsPeriodic (Some i) one two
     → SettlesPorts (processed v old i true one h) (with_system_ports old two)
-ports_settled v old i one two q none h k =
-    let u = h.after in
+ports_settled v old i one two q none h k = let u = h.after in
     let us = slice_set old.system_ports i u in
     let is : k.0 ≡ u = get_set old.system_ports i h.before u k.0 h.there (ap (λ l. slice_get l i) (sym h.others) ∙ k.2) in
     let runs : RunsPeriodic u.port k.1 = subst (λ (x : SystemPort). RunsPeriodic x.port k.1) is k.3 in
@@ -140,8 +125,7 @@ ports_settled v old i one two q none h k =
     (subst (λ l. NoneIsNext (aggregators_value old) l) (sym (alike_views old.system_ports i h.before u h.there h.changes.same.1)) none)
     (set_runs old.system_ports i u w q.1 (refl, runs)))
 
-set_twice : (system_ports : List SystemPort) (i : ℕ) (t u : SystemPort)
-    → slice_set (slice_set system_ports i t) i u ≡ slice_set system_ports i u
+set_twice : (system_ports : List SystemPort) (i : ℕ) (t u : SystemPort) → slice_set (slice_set system_ports i t) i u ≡ slice_set system_ports i u
 set_twice [] i t u = refl
 set_twice (x ∷ xs) zero t u = refl
 set_twice (x ∷ xs) (suc i) t u = ap (λ l. x ∷ l) (set_twice xs i t u)
@@ -150,9 +134,8 @@ set_twice (x ∷ xs) (suc i) t u = ap (λ l. x ∷ l) (set_twice xs i t u)
 abbrev Any : Machines → Machines → Type 0
 Any p q = Unit {0}
 
-pub paced_too : (v : Lacpdu) (i : ℕ) (old one two : List SystemPort) (s : SystemPort) (was : Option AggId) → slice_get old i ≡ Some s
-    → was ≡ collecting s.port → ProcessesLacpduAt v i old true one → PortAtChangesBy RunsPeriodic (Some i) one two
-    → slice_set (aggregators_in_use two) i was ≡ aggregators_in_use old
+pub paced_too : (v : Lacpdu) (i : ℕ) (old one two : List SystemPort) (s : SystemPort) (was : Option AggId) → slice_get old i ≡ Some s → was ≡ collecting s.port
+    → ProcessesLacpduAt v i old true one → PortAtChangesBy RunsPeriodic (Some i) one two → slice_set (aggregators_in_use two) i was ≡ aggregators_in_use old
 paced_too v i old one two s was e w h k =
     let is : k.0 ≡ h.after = get_set old i h.before h.after k.0 h.there (ap (λ l. slice_get l i) (sym h.others) ∙ k.2) in
     let whole : record k.0 { port = k.1 } ≡ record h.before { port = k.1 } =
@@ -163,13 +146,11 @@ paced_too v i old one two s was e w h k =
     ap (slice_set (aggregators_in_use two) i) w ∙ in_use_before Any i old two s (h.before, k.1, h.there, tt, last) e
 
 -- the lists that the parts of the call leave, and the conversations that left
-pub took_alone : (v : Lacpdu) (old : SystemState) (i : ℕ) (one two : List SystemPort) (were : List (Option AggId)) (t : Table)
-    → IsSound old → old.first_marker ≡ old.table.first → (h : ProcessesLacpduAt v i old.system_ports true one)
-    → PortAtChangesBy RunsPeriodic (Some i) one two → were ≡ aggregators_in_use old.system_ports
-    → ChangesAssignments old.table t (after_holding (stopped were two))
+pub took_alone : (v : Lacpdu) (old : SystemState) (i : ℕ) (one two : List SystemPort) (were : List (Option AggId)) (t : Table) → IsSound old
+    → old.first_marker ≡ old.table.first → (h : ProcessesLacpduAt v i old.system_ports true one) → PortAtChangesBy RunsPeriodic (Some i) one two
+    → were ≡ aggregators_in_use old.system_ports → ChangesAssignments old.table t (after_holding (stopped were two))
     → ThenSettles (OnlyPortChangesBy (Some i) (ProcessesLacpdu v)) old (moved_on old two t)
-took_alone v old i one two were t s f h k e c =
-    let start = processed v old i true one h in
+took_alone v old i one two were t s f h k e c = let start = processed v old i true one h in
     let mid = with_system_ports old two in
     let own = own_made v old i true one h in
     let settled = ports_settled v old i one two s.quiet s.promoted h k in
@@ -202,9 +183,8 @@ ran_alike s q h e = λ i. record (rest i) { stage = e i }
         ((λ p. refl), ((λ p. refl), ((λ p. refl), ((λ p. refl), ((λ p. refl), ((λ p. refl), tt)))))) h.0 s.port q h.1
 
 -- a port that processed an LACPDU and ran its mux machine
-pub took_and_ran : (v : Lacpdu) (s : SystemPort) (p q : Machines) (n : ℕ) (alike : Bool) → ProcessesLacpdu v s.port p
-    → FiresTimes (mux_rows false) n p q → AtRest (mux_rows false) q
-    → OnTrue alike (LooksUnchanged s (record s { port = p }) × LooksUnchanged s (record s { port = q }))
+pub took_and_ran : (v : Lacpdu) (s : SystemPort) (p q : Machines) (n : ℕ) (alike : Bool) → ProcessesLacpdu v s.port p → FiresTimes (mux_rows false) n p q
+    → AtRest (mux_rows false) q → OnTrue alike (LooksUnchanged s (record s { port = p }) × LooksUnchanged s (record s { port = q }))
     → ProcessesLacpduAndRunsMux v s alike (record s { port = q })
 took_and_ran v s p q n alike took fired rest same = record {
   mid = record s { port = p };
@@ -216,8 +196,7 @@ took_and_ran v s p q n alike took fired rest same = record {
 -- it looks as before if the LACPDU came from its recorded partner and left that as it was, and the mux machine left the stage
 pub both_alike : (v : Lacpdu) (s : SystemPort) (p q : Machines) (n : ℕ) → ProcessesLacpdu v s.port p → HasRecordedActor v s
     → IsSamePartner s.port.partner p.partner → FiresTimes (mux_rows false) n p q → AtRest (mux_rows false) q
-    → stage_of q.mux q.wait_while ≡ stage_of p.mux p.wait_while
-    → LooksUnchanged s (record s { port = p }) × LooksUnchanged s (record s { port = q })
+    → stage_of q.mux q.wait_while ≡ stage_of p.mux p.wait_while → LooksUnchanged s (record s { port = p }) × LooksUnchanged s (record s { port = q })
 both_alike v s p q n took known same fired rest e =
     let processed : LooksUnchanged s (record s { port = p }) = took_alike v s p took known same in
     (processed, ran_alike (record s { port = p }) q (n, fired, rest) e ∙ processed)

@@ -37,18 +37,14 @@ timer_is t n b e h = grind (arith, nat_tests)
 timer : (t n : ℕ) → ticks_until_expired t ≡ Some n → (0 < n) × (t ≡ n)
 timer t n h = timer_is t n (nat_lt 0 t) refl h
 
-frame : (s : SystemState) (x : SystemPort) (n : ℕ) (b : Bool) → would_transmit s x ≡ b → (if b then Some zero else None) ≡ Some n
-    → FrameHas n s x
+frame : (s : SystemState) (x : SystemPort) (n : ℕ) (b : Bool) → would_transmit s x ≡ b → (if b then Some zero else None) ≡ Some n → FrameHas n s x
 frame s x n b e h = grind (arith, nat_tests)
 
-room : (p : Machines) (n : ℕ) (b : Bool) → (p.enabled && p.ntt) ≡ b → (if b then soonest (map ticks_in_window p.ages) else None) ≡ Some n
-    → WindowHas n p
+room : (p : Machines) (n : ℕ) (b : Bool) → (p.enabled && p.ntt) ≡ b → (if b then soonest (map ticks_in_window p.ages) else None) ≡ Some n → WindowHas n p
 room p n b e h = grind (arith, nat_tests, and_parts, one_of_list, none-some)
 
-on_port : (s : SystemState) (x : SystemPort) (n : ℕ) → ticks_until_due_on s x ≡ Some n
-    → FrameHas n s x ⊎ (TimerHas n x.port ⊎ WindowHas n x.port)
-on_port s x n h =
-    let current = ticks_until_expired x.port.current_while in
+on_port : (s : SystemState) (x : SystemPort) (n : ℕ) → ticks_until_due_on s x ≡ Some n → FrameHas n s x ⊎ (TimerHas n x.port ⊎ WindowHas n x.port)
+on_port s x n h = let current = ticks_until_expired x.port.current_while in
     let periodic = ticks_until_expired x.port.periodic_timer in
     let wait = ticks_until_expired x.port.wait_while in
     let left = ticks_until_room x.port in
@@ -139,14 +135,12 @@ by_port s x n h = elim h [
     left = ticks_until_room x.port
 
     by_room : (p : Machines) (n : ℕ) → WindowHas n p → is_by (ticks_until_room p) (Some n) ≡ true
-    by_room p n w =
-        let open_now : (p.enabled && p.ntt) ≡ true = ap (λ b. b && p.ntt) w.0 ∙ w.1 in
+    by_room p n w = let open_now : (p.enabled && p.ntt) ≡ true = ap (λ b. b && p.ntt) w.0 ∙ w.1 in
         ap (λ b. is_by (if b then soonest (map ticks_in_window p.ages) else None) (Some n)) open_now
         ∙ by_list ticks_in_window p.ages w.2 w.3 (Some n) w.4 (by_number n (ticks_in_window w.3) (ap Some (sym w.5)))
 
 by_conversation : (t : Table) (n : ℕ) → ConversationHas n t → is_by (ticks_until_next_wanted t) (Some n) ≡ true
-by_conversation t n (g, k, port, id, age, preferred, is, e, f) =
-    let back : (g - 1) + 1 ≡ g = omega (arith, is.0) in
+by_conversation t n (g, k, port, id, age, preferred, is, e, f) = let back : (g - 1) + 1 ≡ g = omega (arith, is.0) in
     let below : g - 1 < t.aggs = omega (arith, is.0, is.1) in
     let there : assignment_of t ((g - 1) + 1) k ≡ Flushing port id preferred age = ap (λ a. assignment_of t a k) back ∙ e in
     by_below (λ a. soonest_below (λ c. ticks_until_wanted (assignment_of t (a + 1) c)) t.conversations) t.aggs (g - 1) (Some n) below
@@ -161,8 +155,7 @@ by_all s n h = elim h [
       (by_conversation s.table n c)
 ]
 
-first_of : (s : SystemState) (r : Option ℕ) → ((n : ℕ) → r ≡ Some n → HappensIn n s)
-    → ((m : ℕ) → HappensIn m s → is_by r (Some m) ≡ true) → IsFirstToHappen s r
+first_of : (s : SystemState) (r : Option ℕ) → ((n : ℕ) → r ≡ Some n → HappensIn n s) → ((m : ℕ) → HappensIn m s → is_by r (Some m) ≡ true) → IsFirstToHappen s r
 first_of s None one none = λ m h. false≢true (none m h)
 first_of s (Some n) one none = (one n refl, λ m h. leb-true n m (none m h))
 

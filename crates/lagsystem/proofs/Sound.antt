@@ -38,8 +38,7 @@ joins gives old call answer new h s = Step-joins gives old call answer new (port
 
 pub Step-sound : (gives : ℕ → ℕ → ℕ → Type 0) (old : SystemState) (call : Call) (answer : Reply) (new : SystemState)
     → Step gives old call answer new → IsSound old → IsSound new
-Step-sound gives old call answer new h s =
-    let j = joins gives old call answer new h s in
+Step-sound gives old call answer new h s = let j = joins gives old call answer new h s in
     let kept = members_call (model_setup old) j.0 (model_view old) (model_view new) j.1 (configured_setup old) j.4 s.members in record {
       ports = Step-ports gives old call answer new h s.ports;
       aggregators = Step-aggregators gives old call answer new h s.aggregators;

@@ -14,8 +14,7 @@ use Rattle.lagsystem.proofs.StatusReasons.{Heard, finds_no_aggregator, finds_no_
 
 by_wait : (agg : AggId) (s : SystemState) (i : ℕ) (x : SystemPort) → Heard s i x → x.port.choice ≡ Selected agg → (attached runs : Bool)
     → same_mux_state Attached x.port.mux ≡ attached → nat_lt 0 x.port.wait_while ≡ runs
-    → meaning (if attached then status.PartnerNotSynchronized
-    else (if runs then status.Waiting x.port.wait_while else status.WaitingForMembers)) s x
+    → meaning (if attached then status.PartnerNotSynchronized else (if runs then status.Waiting x.port.wait_while else status.WaitingForMembers)) s x
 by_wait agg s i x l c true runs e f = waits_for_partner agg s i x l c e
 by_wait agg s i x l c false true e f = waits agg s i x l c e f
 by_wait agg s i x l c false false e f = waits_for_member agg s i x l c e f
@@ -27,8 +26,7 @@ by_choice s i x l other (Standby agg) c = finds_no_room agg s i x l c
 by_choice s i x l other (Selected agg) c =
     by_wait agg s i x l c (same_mux_state Attached x.port.mux) (nat_lt 0 x.port.wait_while) refl refl
 
-by_system : (s : SystemState) (i : ℕ) (x : SystemPort) → Heard s i x → (own : Bool)
-    → same_system x.port.partner.system x.port.party.system ≡ own
+by_system : (s : SystemState) (i : ℕ) (x : SystemPort) → Heard s i x → (own : Bool) → same_system x.port.partner.system x.port.party.system ≡ own
     → meaning (if own then status.OwnSystem else status_by_choice x.port x.port.choice) s x
 by_system s i x l true e = record { hears = l.hears; own = exact_system x.port.partner.system x.port.party.system e }
 by_system s i x l false e = by_choice s i x l e x.port.choice refl

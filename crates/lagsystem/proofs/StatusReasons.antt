@@ -34,8 +34,7 @@ none_from : (first : ℕ) (keys : List Key) (key : Key) (test : AggId → Bool)
     → (j : ℕ) → slice_get keys j ≡ Some key → test (aggregator_numbered (first + j)) ≡ false
 none_from first [] key test h j e = absurd (none-some key e)
 none_from first (k ∷ ks) key test h zero e = grind (arith, nat_tests)
-none_from first (k ∷ ks) key test h (suc j) e =
-    let both = passed ((k.0 == key.0) && test (aggregator_numbered first)) (first, k)
+none_from first (k ∷ ks) key test h (suc j) e = let both = passed ((k.0 == key.0) && test (aggregator_numbered first)) (first, k)
     (find (λ (row : ℕ × Key). (row.1.0 == key.0) && test (aggregator_of_entry row)) (enumerate_from (first + 1) ks)) h in
     let next : (first + 1) + j ≡ first + suc j = omega arith in
     subst (λ n. test (aggregator_numbered n) ≡ false) next (none_from (first + 1) ks key test both.1 j e)
@@ -60,12 +59,10 @@ detached_at m ticks c z u a b d = grind (arith, nat_tests)
 all_five : (a b c d e : Bool) → a ≡ true → b ≡ true → c ≡ true → d ≡ true → e ≡ false → ((((a && b) && c) && d) && not e) ≡ true
 all_five a b c d e f g h i j = rw (f, g, h, i, j) refl
 
-settled_at : (s : SystemState) (i : ℕ) (x : SystemPort) → IsSound s → slice_get s.system_ports i ≡ Some x
-    → MuxIsSettled s.keys s.system_ports x
+settled_at : (s : SystemState) (i : ℕ) (x : SystemPort) → IsSound s → slice_get s.system_ports i ≡ Some x → MuxIsSettled s.keys s.system_ports x
 settled_at s i x h at = all-get (MuxIsSettled s.keys s.system_ports) s.system_ports i x at h.quiet.0
 
-is_chosen : (b d : Bool) (o : Option AggId) → b ≡ true → d ≡ false → (if b && not d then (if b then o else None) else None) ≡ None
-    → o ≡ None
+is_chosen : (b d : Bool) (o : Option AggId) → b ≡ true → d ≡ false → (if b && not d then (if b then o else None) else None) ≡ None → o ≡ None
 is_chosen b d o e f h = grind (arith, nat_tests)
 
 none_if : (b : Bool) (o : Option AggId) → b ≡ true → (if b then o else None) ≡ None → o ≡ None
@@ -73,8 +70,7 @@ none_if b o e h = grind (arith, nat_tests)
 
 pub finds_no_aggregator : (s : SystemState) (i : ℕ) (x : SystemPort) → Heard s i x
     → same_system x.port.partner.system x.port.party.system ≡ false → x.port.choice ≡ Unselected → FindsNoAggregator s x
-finds_no_aggregator s i x l other free =
-    let p = x.port in
+finds_no_aggregator s i x l other free = let p = x.port in
     let v = selection_view x in
     let seen = views s.system_ports in
     let h = l.sound in
@@ -122,8 +118,7 @@ at_most : (max_links : Option ℕ) (agg : AggId) (ports : List SystemPort) → W
 at_most max_links agg ports w most e = grind (arith, nat_tests)
 
 pub finds_no_room : (agg : AggId) (s : SystemState) (i : ℕ) (x : SystemPort) → Heard s i x → x.port.choice ≡ Standby agg → FindsNoRoom agg s x
-finds_no_room agg s i x l stands =
-    let p = x.port in
+finds_no_room agg s i x l stands = let p = x.port in
     let h = l.sound in
     let at = l.at in
     let known : is_aggregator s.keys agg ≡ true =
@@ -155,8 +150,7 @@ not_above n h = grind (arith, nat_tests)
 
 pub waits_for_partner : (agg : AggId) (s : SystemState) (i : ℕ) (x : SystemPort) → Heard s i x → x.port.choice ≡ Selected agg
     → same_mux_state Attached x.port.mux ≡ true → WaitsForPartner s x
-waits_for_partner agg s i x l chosen there =
-    let p = x.port in
+waits_for_partner agg s i x l chosen there = let p = x.port in
     let settled = settled_at s i x l.sound l.at in
     grind (arith, nat_tests, is_selected, mux_attached, third_false, same_mux_state, selected, partner_synchronized)
 
@@ -200,8 +194,7 @@ record HasNotWaited (agg : AggId) (ports : List SystemPort) : Type 0 where
 
 one_has_not : (agg : AggId) (ports : List SystemPort) → has_waited_in (ports_that_chose agg (views ports)) ≡ false → HasNotWaited agg ports
 one_has_not agg [] h = absurd (true≢false h)
-one_has_not agg (y ∷ ys) h =
-    let v = selection_view y in
+one_has_not agg (y ∷ ys) h = let v = selection_view y in
     elim (one_of (has_chosen agg y.port.choice) (still v) (has_waited v.stage) v (ports_that_chose agg (views ys)) refl refl h) [
       | inl o ↦ record { index = 0; port = y; there = refl; member = o.0; stays = o.1; early = o.2 }
       | inr r ↦ (let o = one_has_not agg ys r in
@@ -212,9 +205,8 @@ any_of : (b d : Bool) (v : PortView) (rest : List PortView) → still v ≡ d �
     → list_any still (cond b (v ∷ rest) rest) ≡ true
 any_of b d v rest e h = grind (arith, nat_tests)
 
-any_here : (agg : AggId) (ports : List SystemPort) (i : ℕ) (x : SystemPort) → slice_get ports i ≡ Some x
-    → has_chosen agg x.port.choice ≡ true → is_detached_or_waiting (stage_of x.port.mux x.port.wait_while) ≡ true
-    → list_any still (ports_that_chose agg (views ports)) ≡ true
+any_here : (agg : AggId) (ports : List SystemPort) (i : ℕ) (x : SystemPort) → slice_get ports i ≡ Some x → has_chosen agg x.port.choice ≡ true
+    → is_detached_or_waiting (stage_of x.port.mux x.port.wait_while) ≡ true → list_any still (ports_that_chose agg (views ports)) ≡ true
 any_here agg [] i x at m w = absurd (none-some x at)
 any_here agg (y ∷ ys) zero x at m w = grind (arith, nat_tests)
 any_here agg (y ∷ ys) (suc i) x at m w = grind (arith, nat_tests, any_here agg ys i x at m w)
@@ -235,8 +227,7 @@ not_all known any all seen k e h = grind (arith, nat_tests)
 
 pub waits_for_member : (agg : AggId) (s : SystemState) (i : ℕ) (x : SystemPort) → Heard s i x → x.port.choice ≡ Selected agg
     → same_mux_state Attached x.port.mux ≡ false → nat_lt 0 x.port.wait_while ≡ false → WaitsForMember s x
-waits_for_member agg s i x l chosen early waited =
-    let p = x.port in
+waits_for_member agg s i x l chosen early waited = let p = x.port in
     let h = l.sound in
     let at = l.at in
     let settled = settled_at s i x h at in

@@ -40,11 +40,9 @@ use Rattle.lagsystem.proofs.Occupying.{zip_stay}
 
 -- each port moves
 each_moves : (u : SystemSetup) (call : Told) (f : DistributorFacts) (R : Machines → Machines → Type 0)
-    → ((n : ℕ) (p q : Machines) → R p q → QuietMoves u call n p [] q)
-    → (olds news : List SystemPort) → Rises 0 (port_numbers olds) → PortsChangeBy R olds news
+    → ((n : ℕ) (p q : Machines) → R p q → QuietMoves u call n p [] q) → (olds news : List SystemPort) → Rises 0 (port_numbers olds) → PortsChangeBy R olds news
     → LawfulMoves u call (model_view_at f olds) [] (model_view_at f news)
-each_moves u call f R k olds news r h =
-    all_slots_move u call f olds news (are_numbered 0 olds r)
+each_moves u call f R k olds news r h = all_slots_move u call f olds news (are_numbered 0 olds r)
     (AllZip-weaker (PortChangesBy R) (SlotMoves u call)
     (λ x y m. (ap number_of_port m.0, loudly u call x.number x.port y.port [] (k x.number x.port y.port m.1))) olds news h)
 
@@ -62,8 +60,7 @@ rest_idle x y m e = grind (arith, nat_tests)
 ports_moves : (u : SystemSetup) (call : Told) (f : DistributorFacts) (old new : SystemState) → Fits u old.keys
     → Rises 0 (port_numbers old.system_ports) → OccupantsAgree old.keys old.system_ports → SettlesPorts old new
     → LawfulMoves u call (model_view_at f old.system_ports) [] (model_view_at f new.system_ports)
-ports_moves u call f old new fits r agree h =
-    let s = settles_in old new h in
+ports_moves u call f old new fits r agree h = let s = settles_in old new h in
     let aggs = aggregators_value old in
     let keys = old.keys in
     let view = model_view_at f in
@@ -89,8 +86,7 @@ ports_moves u call f old new fits r agree h =
 -- settling
 pub settling_moves : (u : SystemSetup) (call : Told) (old new : SystemState) → Fits u old.keys → Rises 0 (port_numbers old.system_ports)
     → OccupantsAgree old.keys old.system_ports → Settling old new → LawfulMoves u call (model_view old) [] (model_view new)
-settling_moves u call old new fits r agree h =
-    let p = settling_parts old new h in
+settling_moves u call old new fits r agree h = let p = settling_parts old new h in
     let f = model_distributor old.table in
     let ports = subst (λ (t : Table). LawfulMoves u call (model_view old) [] (model_view_at (model_distributor t) p.0.system_ports))
     (sym (ports_table old p.0 p.1)) (ports_moves u call f old p.0 fits r agree p.1) in
@@ -101,8 +97,7 @@ settled_moves : (u : SystemSetup) (call : Told) (own : SystemState → SystemSta
     → ((mid : SystemState) → own s mid → Keeps s mid) → ((mid : SystemState) → own s mid → EachStays s.system_ports mid.system_ports)
     → ((mid : SystemState) → own s mid → LawfulMoves u call (model_view s) seen (model_view mid))
     → ThenSettles own s t → LawfulMoves u call (model_view s) seen (model_view t)
-settled_moves u call own seen s t fits r agree keeps stay moves h =
-    let k = keeps h.0 h.1 in
+settled_moves u call own seen s t fits r agree keeps stay moves h = let k = keeps h.0 h.1 in
     let a : OccupantsAgree h.0.keys h.0.system_ports = subst (λ (x : SystemState). OccupantsAgree x.keys h.0.system_ports) (sym k.frame)
     (stay_agrees s.keys s.system_ports h.0.system_ports (stay h.0 h.1) agree) in
     subst (λ l. LawfulMoves u call (model_view s) l (model_view t)) (append-nil seen)
@@ -122,22 +117,17 @@ pub table_moved : (u : SystemSetup) (call : Told) (seen : List Act) (old new : S
 table_moved u call seen old new e h = grind (arith, nat_tests)
 
 -- the port with a number moves
-one_moves : (u : SystemSetup) (call : Told) (f : DistributorFacts) (n i : ℕ) (system_ports : List SystemPort) (s : SystemPort)
-    (q : Machines) (seen : List Act) → Rises 0 (port_numbers system_ports) → port_index n system_ports ≡ Some i
-    → slice_get system_ports i ≡ Some s
-    → QuietMoves u call n s.port seen q
+one_moves : (u : SystemSetup) (call : Told) (f : DistributorFacts) (n i : ℕ) (system_ports : List SystemPort) (s : SystemPort) (q : Machines) (seen : List Act)
+    → Rises 0 (port_numbers system_ports) → port_index n system_ports ≡ Some i → slice_get system_ports i ≡ Some s → QuietMoves u call n s.port seen q
     → LawfulMoves u call (model_view_at f system_ports) seen (model_view_at f (slice_set system_ports i (record s { port = q })))
-one_moves u call f n i system_ports s q seen r e h k =
-    let same : s.number ≡ n = found_place n system_ports i s e h in
+one_moves u call f n i system_ports s q seen r e h k = let same : s.number ≡ n = found_place n system_ports i s e h in
     let loud : PortMoves u call n (model_port s.port) seen (model_port q) = loudly u call n s.port q seen k in
     slot_moves u call f system_ports i s (record s { port = q }) seen (are_numbered 0 system_ports r) h refl
     (subst (λ m. PortMoves u call m (model_port s.port) seen (model_port q)) (sym same) loud)
 
-place_moves : (u : SystemSetup) (call : Told) (f : DistributorFacts) (R : Machines → Machines → Type 0) (n : ℕ) (old new : List SystemPort)
-    (seen : List Act) → Rises 0 (port_numbers old)
-    → ((s : SystemPort) (q : Machines) (i : ℕ) → slice_get old i ≡ Some s → R s.port q → QuietMoves u call n s.port seen q)
-    → (o : Option ℕ) → port_index n old ≡ o → PortAtChangesBy R o old new
-    → LawfulMoves u call (model_view_at f old) seen (model_view_at f new)
+place_moves : (u : SystemSetup) (call : Told) (f : DistributorFacts) (R : Machines → Machines → Type 0) (n : ℕ) (old new : List SystemPort) (seen : List Act)
+    → Rises 0 (port_numbers old) → ((s : SystemPort) (q : Machines) (i : ℕ) → slice_get old i ≡ Some s → R s.port q → QuietMoves u call n s.port seen q)
+    → (o : Option ℕ) → port_index n old ≡ o → PortAtChangesBy R o old new → LawfulMoves u call (model_view_at f old) seen (model_view_at f new)
 place_moves u call f R n old new seen r k None e h = absurd h
 place_moves u call f R n old new seen r k (Some i) e h =
     subst (λ l. LawfulMoves u call (model_view_at f old) seen (model_view_at f l)) (sym h.4)
@@ -183,8 +173,7 @@ heard_response system_port octets w b h = grind (arith, nat_tests)
 
 -- an answer, without effect
 abbrev Tellable : SystemState → SystemSetup → DistributorFacts → ℕ → List ℕ → List SystemPort → Received → Type 0
-Tellable w u f n octets system_ports answer =
-    (told : Told) × (seen : List Act) × CallSeenAs (Receive n octets) told
+Tellable w u f n octets system_ports answer = (told : Told) × (seen : List Act) × CallSeenAs (Receive n octets) told
     × EffectsSeenAs w (Receive n octets) (reply.Receive (Ok answer)) seen
     × LawfulMoves u told (model_view_at f system_ports) seen (model_view_at f system_ports)
 
@@ -263,8 +252,7 @@ releases : (b : Bool) (n port : ℕ) (octets : List ℕ) (m : Marker) (old : Sys
 releases false n port octets m old answer new p b is k h =
     subst (λ a. JoinedByLawfulMoves old (Receive n octets) (reply.Receive (Ok a)) new) (sym h.0)
     (nothing old (Receive n octets) (reply.Receive (Ok (Released 0))) new (Told_receive n None) (None, tt, refl) refl h.1)
-releases true n port octets m old answer new p b is k h =
-    let u = model_setup old in
+releases true n port octets m old answer new p b is k h = let u = model_setup old in
     let mac = old.system.mac in
     let us = names_us old port m b in
     let call = Told_receive n (Some (Message.Response mac n m.id)) in
@@ -276,11 +264,10 @@ releases true n port octets m old answer new p b is k h =
     subst (λ a. JoinedByLawfulMoves old (Receive n octets) (reply.Receive (Ok a)) new) (sym h.0)
     (call, [], (Some (Message.Response mac n m.id), (pdu.Marker m, is, brought), refl), refl, all)
 
-receives : (old : SystemState) (n : ℕ) (octets : List ℕ) (system_port : SystemPort) (effect : FrameEffect) (answer : Received)
-    (new : SystemState) (i : ℕ) → Rises 0 (port_numbers old.system_ports) → PortsConsistent old.system_ports → OccupantsAgree old.keys old.system_ports
-    → port_index n old.system_ports ≡ Some i → slice_get old.system_ports i ≡ Some system_port
-    → ParsesWhere system_port.port.enabled system_port octets effect → Performs effect system_port.number (Some i) old answer new
-    → JoinedByLawfulMoves old (Receive n octets) (reply.Receive (Ok answer)) new
+receives : (old : SystemState) (n : ℕ) (octets : List ℕ) (system_port : SystemPort) (effect : FrameEffect) (answer : Received) (new : SystemState) (i : ℕ)
+    → Rises 0 (port_numbers old.system_ports) → PortsConsistent old.system_ports → OccupantsAgree old.keys old.system_ports
+    → port_index n old.system_ports ≡ Some i → slice_get old.system_ports i ≡ Some system_port → ParsesWhere system_port.port.enabled system_port octets effect
+    → Performs effect system_port.number (Some i) old answer new → JoinedByLawfulMoves old (Receive n octets) (reply.Receive (Ok answer)) new
 receives old n octets system_port (ProcessLacpdu v) answer new i r rested agree e g h d =
     let x = heard_taken system_port octets v system_port.port.enabled h in
     let u = model_setup old in
@@ -321,12 +308,10 @@ receives_place old n octets system_port effect answer new None r rested agree e 
 receives_place old n octets system_port effect answer new (Some i) r rested agree e g h d = grind (arith, nat_tests, receives)
 
 -- what is sent
-sends_lacpdu : (old : SystemState) (n i : ℕ) (system_port : SystemPort) (answer : Option (List ℕ)) (new : SystemState)
-    → Rises 0 (port_numbers old.system_ports) → PortsConsistent old.system_ports → port_index n old.system_ports ≡ Some i
-    → slice_get old.system_ports i ≡ Some system_port
+sends_lacpdu : (old : SystemState) (n i : ℕ) (system_port : SystemPort) (answer : Option (List ℕ)) (new : SystemState) → Rises 0 (port_numbers old.system_ports)
+    → PortsConsistent old.system_ports → port_index n old.system_ports ≡ Some i → slice_get old.system_ports i ≡ Some system_port
     → SendsLacpdu i system_port old answer new → JoinedByLawfulMoves old (Transmit n) (reply.Transmit (Ok answer)) new
-sends_lacpdu old n i system_port answer new r rested e g h =
-    let p = system_port.port in
+sends_lacpdu old n i system_port answer new r rested e g h = let p = system_port.port in
     let v = pdu_of p old.max_delay in
     let seen : List Act = Shows n (Lacp (lacp_message v)) ∷ [] in
     let u = model_setup old in
@@ -345,11 +330,9 @@ pub below : (o : Option ℕ) (b : Bool) (n id : ℕ) → cond b (cond (ltb n (2 
 below o b n id e = grind (arith, nat_tests)
 
 -- a marker goes out
-pub marker_goes : (id : ℕ) (old : SystemState) (n port : ℕ) (mac : List ℕ) (answer : Option (List ℕ)) (new : SystemState)
-    → id < 2 ^ 32 → port ≡ n
+pub marker_goes : (id : ℕ) (old : SystemState) (n port : ℕ) (mac : List ℕ) (answer : Option (List ℕ)) (new : SystemState) → id < 2 ^ 32 → port ≡ n
     → SendsMarkerOf (Some id) port mac old answer new → JoinedByLawfulMoves old (Transmit n) (reply.Transmit (Ok answer)) new
-marker_goes id old n port mac answer new fits p h =
-    let u = model_setup old in
+marker_goes id old n port mac answer new fits p h = let u = model_setup old in
     let m = own_marker old port id in
     let seen : List Act = Shows n (Message.Marker old.system.mac n id) ∷ [] in
     let moves = mark_moves old.system.mac Told.Transmit old.table new.table n id refl fits
@@ -360,9 +343,8 @@ marker_goes id old n port mac answer new fits p h =
     subst (λ a. JoinedByLawfulMoves old (Transmit n) (reply.Transmit (Ok a)) new) (sym h.3)
     (Told.Transmit, seen, refl, (pdu.Marker m, (mac, h.0, h.1, h.2, refl), told), all)
 
-sends_marker : (o : Option ℕ) (old : SystemState) (n port : ℕ) (mac : List ℕ) (answer : Option (List ℕ)) (new : SystemState)
-    → marker_due old.table port ≡ o → port ≡ n
-    → SendsMarkerOf o port mac old answer new → JoinedByLawfulMoves old (Transmit n) (reply.Transmit (Ok answer)) new
+sends_marker : (o : Option ℕ) (old : SystemState) (n port : ℕ) (mac : List ℕ) (answer : Option (List ℕ)) (new : SystemState) → marker_due old.table port ≡ o
+    → port ≡ n → SendsMarkerOf o port mac old answer new → JoinedByLawfulMoves old (Transmit n) (reply.Transmit (Ok answer)) new
 sends_marker None old n port mac answer new d p h = grind (arith, nat_tests)
 sends_marker (Some id) old n port mac answer new d p h =
     marker_goes id old n port mac answer new (below None (ltb 0 (count_conversations (wants_marker port) old.table)) old.table.next id d) p h
@@ -386,8 +368,7 @@ sends_place old n o answer new r rested e h = grind (arith, nat_tests, sends_whe
 offers : (gives : ℕ → ℕ → ℕ → Type 0) (agg : AggId) (octets : List ℕ) (old : SystemState) (answer : Result ℕ SystemFault)
     (new : SystemState) → Rises 0 (port_numbers old.system_ports) → PortsConsistent old.system_ports
     → Offers gives agg octets old answer new → JoinedByLawfulMoves old (Offer agg octets) (reply.Offer answer) new
-offers gives agg octets old (Ok port) new r rested h =
-    let u = model_setup old in
+offers gives agg octets old (Ok port) new r rested h = let u = model_setup old in
     let conv = number_of_conversation old octets in
     let ports = distributing agg old.system_ports in
     let may = assigned_may gives conv ports (assignment_of_frame old agg octets) port h.1 in
@@ -402,12 +383,10 @@ offers gives agg octets old (Ok port) new r rested h =
     )
 offers gives agg octets old (Err fault) new r rested h = grind (arith, nat_tests, nothing)
 
-pub if_ok : (b : Bool) (x : Result Assignment SystemFault) (fault : SystemFault) (s : Assignment)
-    → (if b then x else Err fault) ≡ Ok s → x ≡ Ok s
+pub if_ok : (b : Bool) (x : Result Assignment SystemFault) (fault : SystemFault) (s : Assignment) → (if b then x else Err fault) ≡ Ok s → x ≡ Ok s
 if_ok b x fault s e = grind (arith, nat_tests)
 
-pub known_ok : (b : Bool) (x : Result Assignment DistFault) (fault : DistFault) (s : Assignment)
-    → in_system (if b then x else Err fault) ≡ Ok s → x ≡ Ok s
+pub known_ok : (b : Bool) (x : Result Assignment DistFault) (fault : DistFault) (s : Assignment) → in_system (if b then x else Err fault) ≡ Ok s → x ≡ Ok s
 known_ok b x fault s e = grind (arith, nat_tests)
 
 -- what a conversation that is moved, or freed by force, becomes
@@ -423,8 +402,7 @@ moves_conversation : (agg : AggId) (conv port : ℕ) (what : Result Assignment S
     (answer : Result Unit SystemFault) (new : SystemState) → system_move_result old agg conv port ≡ what
     → GivesOrRefuses agg conv what old answer new
     → JoinedByLawfulMoves old (Move_conversation agg conv port) (reply.MoveConversation answer) new
-moves_conversation agg conv port (Ok s) old answer new e h =
-    let u = model_setup old in
+moves_conversation agg conv port (Ok s) old answer new e h = let u = model_setup old in
     let call = Told.Move_conversation in
     let moves = move_moves old.system.mac call old.table new.table agg.0 conv port (next_identifier old.table)
     (distributing agg old.system_ports) s (moved_to agg conv port old s e) h.1.0 in
@@ -432,11 +410,9 @@ moves_conversation agg conv port (Ok s) old answer new e h =
     (call, [], refl, refl, table_moved u call [] old new h.1.1 (table_moves u call old.system_ports old.table new.table [] moves))
 moves_conversation agg conv port (Err fault) old answer new e h = grind (arith, nat_tests, nothing)
 
-forces : (agg : AggId) (conv : ℕ) (what : Result Assignment SystemFault) (old : SystemState) (answer : Result Unit SystemFault)
-    (new : SystemState) → system_force_result old agg conv ≡ what
-    → GivesOrRefuses agg conv what old answer new → JoinedByLawfulMoves old (Force agg conv) (reply.Force answer) new
-forces agg conv (Ok s) old answer new e h =
-    let u = model_setup old in
+forces : (agg : AggId) (conv : ℕ) (what : Result Assignment SystemFault) (old : SystemState) (answer : Result Unit SystemFault) (new : SystemState)
+    → system_force_result old agg conv ≡ what → GivesOrRefuses agg conv what old answer new → JoinedByLawfulMoves old (Force agg conv) (reply.Force answer) new
+forces agg conv (Ok s) old answer new e h = let u = model_setup old in
     let call = Told.Force agg.0 conv in
     let moves = force_moves old.system.mac old.table new.table agg.0 conv s (forced_to agg conv old s e) h.1.0 in
     subst (λ a. JoinedByLawfulMoves old (Force agg conv) (reply.Force a) new) (sym h.0)
@@ -446,23 +422,20 @@ forces agg conv (Err fault) old answer new e h = grind (arith, nat_tests, nothin
 -- the own effects of a tick and of a link
 ticks : (u : SystemSetup) (old mid : SystemState) → Rises 0 (port_numbers old.system_ports) → Ticks old mid
     → LawfulMoves u Told.Tick (model_view old) [] (model_view mid)
-ticks u old mid r h =
-    let f = model_distributor old.table in
+ticks u old mid r h = let f = model_distributor old.table in
     let own : Machines → Machines → Type 0 = λ p q. RunsToRest receive_rows (count_down p) q in
     let ports = each_moves u Told.Tick f own (λ n p q y. tick_moves u Told.Tick n p q y) old.system_ports mid.system_ports r h.0 in
     moves_joined u Told.Tick (model_view old) (model_view_at f mid.system_ports) (model_view mid) [] [] ports
     (table_moves u Told.Tick mid.system_ports old.table mid.table [] (conversations_tick u.system.mac Told.Tick old.table mid.table h.1))
 
 frees : (u : SystemSetup) (n : ℕ) (up : Bool) (system_ports : List SystemPort) (t new : Table) → FreesIfDown up n t new
-    → LawfulMoves u (Told.Set_link n up) (model_view_at (model_distributor t) system_ports) []
-    (model_view_at (model_distributor new) system_ports)
+    → LawfulMoves u (Told.Set_link n up) (model_view_at (model_distributor t) system_ports) [] (model_view_at (model_distributor new) system_ports)
 frees u n true system_ports t new h = ([], tt, refl, ap (λ (x : Table). model_view_at (model_distributor x) system_ports) h)
 frees u n false system_ports t new h = table_moves u (Told.Set_link n false) system_ports t new [] (down_moves u.system.mac t new n h)
 
 links : (u : SystemSetup) (n : ℕ) (up : Bool) (old mid : SystemState) → Rises 0 (port_numbers old.system_ports) → SetsLink n up old mid
     → LawfulMoves u (Told.Set_link n up) (model_view old) [] (model_view mid)
-links u n up old mid r h =
-    let call = Told.Set_link n up in
+links u n up old mid r h = let call = Told.Set_link n up in
     let f = model_distributor old.table in
     let ports = place_moves u call f (SetsPortEnabled old.max_links up) n old.system_ports mid.system_ports [] r
     (λ s q i at y. links_moves u call n old.max_links up s.port q y) (port_index n old.system_ports) refl h.0 in
@@ -470,21 +443,18 @@ links u n up old mid r h =
     (frees u n up mid.system_ports old.table mid.table h.1)
 
 -- a call joins the views
-pub Step-joins : (gives : ℕ → ℕ → ℕ → Type 0) (old : SystemState) (call : Call) (answer : Reply) (new : SystemState)
-    → Rises 0 (port_numbers old.system_ports) → PortsConsistent old.system_ports → OccupantsAgree old.keys old.system_ports
-    → Step gives old call answer new → JoinedByLawfulMoves old call answer new
-Step-joins gives old Tick reply.Tick new r rested agree h =
-    let u = model_setup old in (
-      Told.Tick,
-      [],
-      refl,
-      refl,
-      settled_moves u Told.Tick Ticks [] old new (λ g. refl) r agree (λ mid x. keeps_tick old mid x)
-          (λ mid x. zip_stay (λ p q. RunsToRest receive_rows (count_down p) q) tick_stays old.system_ports mid.system_ports x.0)
-          (λ mid x. ticks u old mid r x) h,
-    )
-Step-joins gives old (Set_link n up) (reply.SetLink (Ok done)) new r rested agree h =
-    let u = model_setup old in
+pub Step-joins : (gives : ℕ → ℕ → ℕ → Type 0) (old : SystemState) (call : Call) (answer : Reply) (new : SystemState) → Rises 0 (port_numbers old.system_ports)
+    → PortsConsistent old.system_ports → OccupantsAgree old.keys old.system_ports → Step gives old call answer new → JoinedByLawfulMoves old call answer new
+Step-joins gives old Tick reply.Tick new r rested agree h = let u = model_setup old in (
+  Told.Tick,
+  [],
+  refl,
+  refl,
+  settled_moves u Told.Tick Ticks [] old new (λ g. refl) r agree (λ mid x. keeps_tick old mid x)
+      (λ mid x. zip_stay (λ p q. RunsToRest receive_rows (count_down p) q) tick_stays old.system_ports mid.system_ports x.0)
+      (λ mid x. ticks u old mid r x) h,
+)
+Step-joins gives old (Set_link n up) (reply.SetLink (Ok done)) new r rested agree h = let u = model_setup old in
     let call = Told.Set_link n up in (
       call,
       [],
@@ -499,8 +469,7 @@ Step-joins gives old (Set_link n up) (reply.SetLink (Err fault)) new r rested ag
 Step-joins gives old (Receive n octets) (reply.Receive (Ok answer)) new r rested agree h = grind (arith, nat_tests, receives_place, port_index)
 Step-joins gives old (Receive n octets) (reply.Receive (Err fault)) new r rested agree h = nothing old (Receive n octets)
     (reply.Receive (Err fault)) new (Told_receive n None) (None, tt, refl) refl h.same
-Step-joins gives old (Configure n change) (reply.Configure (Ok true)) new r rested agree h =
-    let u = model_setup old in
+Step-joins gives old (Configure n change) (reply.Configure (Ok true)) new r rested agree h = let u = model_setup old in
     let f = model_distributor old.table in
     let o = port_index n old.system_ports in
     let moves = settled_moves u Told.Configure (OnlyPortChangesBy o (ChangesParty change)) [] old new (λ g. refl) r agree

@@ -13,10 +13,8 @@ due_alike : (t u : Table) (p : ℕ) → u.aggs ≡ t.aggs → u.conversations �
     → ((a c : ℕ) → wants_marker p (assignment_of u a c) ≡ wants_marker p (assignment_of t a c)) → marker_due u p ≡ marker_due t p
 due_alike t u p aggs many next e = grind (arith, nat_tests)
 
-transmits_alike : (old new : SystemState) → new ≡ with_table old new.table → ((p : ℕ) → marker_due new.table p ≡ marker_due old.table p)
-    → DueAsBefore old new
-transmits_alike old new f m n =
-    ap (would_transmit_at n) f
+transmits_alike : (old new : SystemState) → new ≡ with_table old new.table → ((p : ℕ) → marker_due new.table p ≡ marker_due old.table p) → DueAsBefore old new
+transmits_alike old new f m n = ap (would_transmit_at n) f
     ∙ (λ i. option_map (λ (x : SystemPort). x.port.enabled && (is_due x.port || is_some (m x.number i)))
     (system_port_at (port_index n old.system_ports) old.system_ports))
 
@@ -25,16 +23,14 @@ nothing_alike old new e n = ap (would_transmit_at n) e
 
 -- a conversation that takes a port wanted no marker, and wants none
 
-wished_alike : (t u : Table) (ports : List ℕ) (agg conv port p : ℕ) → SetsAssignment t u agg conv (On port)
-    → MaySend ports (assignment_of t agg conv) port → (a c : ℕ)
-    → wants_marker p (assignment_of u a c) ≡ wants_marker p (assignment_of t a c)
+wished_alike : (t u : Table) (ports : List ℕ) (agg conv port p : ℕ) → SetsAssignment t u agg conv (On port) → MaySend ports (assignment_of t agg conv) port
+    → (a c : ℕ) → wants_marker p (assignment_of u a c) ≡ wants_marker p (assignment_of t a c)
 wished_alike t u ports agg conv port p h may a c = grind (arith, nat_tests)
 
 given_alike : (gives : ℕ → ℕ → ℕ → Type 0) (agg : AggId) (conv port : ℕ) (old new : SystemState)
     → Assigns gives conv (distributing agg old.system_ports) (assignment_of old.table agg.0 conv) (Ok port)
     → GivesAssignment agg conv (On port) old new → DueAsBefore old new
-given_alike gives agg conv port old new a h =
-    let ports = distributing agg old.system_ports in
+given_alike gives agg conv port old new a h = let ports = distributing agg old.system_ports in
     let may = assigned_may gives conv ports (assignment_of old.table agg.0 conv) port a in
     transmits_alike old new h.1 (λ p. due_alike old.table new.table p h.0.aggs h.0.conversations h.0.next
     (wished_alike old.table new.table ports agg.0 conv port p h.0 may))
@@ -73,9 +69,8 @@ taken_on : (gives : ℕ → ℕ → ℕ → Type 0) (agg : AggId) (conv port : �
     (new : SystemState) → assignment_of old.table agg.0 conv ≡ On port → TakesPort gives agg conv old answer new → answer ≡ Ok port
 taken_on gives agg conv port old answer new e h = grind (arith, nat_tests)
 
-taken_if : (there known : Bool) (gives : ℕ → ℕ → ℕ → Type 0) (agg : AggId) (conv : ℕ) (old : SystemState) (answer : Result ℕ SystemFault)
-    (new : SystemState) → there ≡ true → known ≡ true → OffersIf there known gives agg conv old answer new
-    → TakesPort gives agg conv old answer new
+taken_if : (there known : Bool) (gives : ℕ → ℕ → ℕ → Type 0) (agg : AggId) (conv : ℕ) (old : SystemState) (answer : Result ℕ SystemFault) (new : SystemState)
+    → there ≡ true → known ≡ true → OffersIf there known gives agg conv old answer new → TakesPort gives agg conv old answer new
 taken_if there known gives agg conv old answer new t k h = grind (arith, nat_tests)
 
 below : (n m : ℕ) → n < m → nat_lt n m ≡ true

@@ -31,8 +31,7 @@ sent_paced s h = grind (arith, nat_tests, and_none)
 
 sent_quiet : (old : SystemState) (i : ℕ) (s : SystemPort) → slice_get old.system_ports i ≡ Some s → IsQuiet old
     → IsQuiet (with_system_ports old (slice_set old.system_ports i (record s { port = after_sending s.port })))
-sent_quiet old i s e q =
-    let t : SystemPort = record s { port = after_sending s.port } in
+sent_quiet old i s e q = let t : SystemPort = record s { port = after_sending s.port } in
     let here = all-get (MuxIsSettled old.keys old.system_ports) old.system_ports i s e q.0 in
     let news : List SystemPort = slice_set old.system_ports i t in (
       all_among old.keys old.system_ports news news (alike_views old.system_ports i s t e refl)
@@ -44,8 +43,7 @@ sent_quiet old i s e q =
 
 -- the start
 pub first_quiet : (s : SystemState) → HasPorts s → IsFirst s → IsQuiet s
-first_quiet s p h =
-    let start : SystemState = with_system_ports s h.0 in
+first_quiet s p h = let start : SystemState = with_system_ports s h.0 in
     let q = settling_quiet start s (subst (λ ns. Rises 0 ns) (settling_keeps start s h.2).same (ports_rise s p)) h.2 in
     (q.0, q.1, settling_none start s h.2)
 

@@ -12,8 +12,7 @@ abbrev pub on : AggId → List SystemPort → ℕ → Bool
 on agg system_ports p = is_among (distributing agg system_ports) p
 
 one_more : (b : Bool) (s : SystemPort) (rest : List SystemPort) (p : ℕ)
-    → is_among (map (λ (x : SystemPort). x.number) (cond b (s ∷ rest) rest)) p ≡ ((b && eqb s.number p)
-    || is_among (map (λ (x : SystemPort). x.number) rest) p)
+    → is_among (map (λ (x : SystemPort). x.number) (cond b (s ∷ rest) rest)) p ≡ ((b && eqb s.number p) || is_among (map (λ (x : SystemPort). x.number) rest) p)
 one_more b s rest p = grind (arith, nat_tests)
 
 pub on_more : (agg : AggId) (s : SystemPort) (system_ports : List SystemPort) (p : ℕ)
@@ -99,8 +98,7 @@ left_by ports leaves a h = grind (arith, nat_tests)
 -- step 6 of settling
 pub leaves_made : (were : List (Option AggId)) (start mid new : SystemState) → WereInUse were start
     → port_numbers mid.system_ports ≡ port_numbers start.system_ports → mid.table ≡ start.table
-    → ChangesAssignments mid.table new.table (after_holding (stopped were mid.system_ports)) → new ≡ with_table mid new.table
-    → HoldsConversations mid new
+    → ChangesAssignments mid.table new.table (after_holding (stopped were mid.system_ports)) → new ≡ with_table mid new.table → HoldsConversations mid new
 leaves_made were start mid new w n t h e = record {
   frame = e;
   aggs = h.aggs;

@@ -19,9 +19,8 @@ one_counted n f count more h e = grind (arith, nat_tests)
 -- one row more: its value and its mark are set
 module _ (A : Type 0) (default : A) (value : ℕ → A) (mark : A → A → Bool) (n : ℕ) (before mid : List A) (unmarked marks : List Bool) (count : ℕ)
     (x : A) (b : Bool) where
-  pub one_row_more : TellsRows A default value mark n before mid unmarked marks count → n < length before → n < length unmarked
-      → x ≡ value n → b ≡ mark (get_or before n default) (value n)
-      → TellsRows A default value mark (n + 1) before (set mid n x) unmarked (set marks n b) (count + cond b 1 0)
+  pub one_row_more : TellsRows A default value mark n before mid unmarked marks count → n < length before → n < length unmarked → x ≡ value n
+      → b ≡ mark (get_or before n default) (value n) → TellsRows A default value mark (n + 1) before (set mid n x) unmarked (set marks n b) (count + cond b 1 0)
   one_row_more h l m e f = grind (arith, nat_tests, length-set, below_or_at, get_or-set_other, get_or-set_same, one_counted)
 
 bool_bit : (b : Bool) → bool_byte b ≡ cond b 1 0

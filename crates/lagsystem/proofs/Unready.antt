@@ -12,8 +12,7 @@ abbrev KeptBy : (Machines → Bool) → List Row → Type 0
 KeptBy holds [] = Unit {0}
 KeptBy holds (row ∷ rows) = ((p : Machines) → holds p ≡ true → row.enabled p ≡ true → holds (row.effect p) ≡ true) × KeptBy holds rows
 
-fires_kept : (holds : Machines → Bool) (rows : List Row) → KeptBy holds rows → (p q : Machines) → holds p ≡ true
-    → Fires rows p q → holds q ≡ true
+fires_kept : (holds : Machines → Bool) (rows : List Row) → KeptBy holds rows → (p q : Machines) → holds p ≡ true → Fires rows p q → holds q ≡ true
 fires_kept holds [] k p q h f = absurd f
 fires_kept holds (row ∷ rows) k p q h f = elim f [ inl x ↦ ap holds x.1 ∙ k.0 p h x.0 | inr x ↦ fires_kept holds rows k.1 p q h x ]
 
@@ -47,8 +46,7 @@ joined_at_rest m w c s h k = grind (arith, nat_tests)
 waits_not : (m : MuxState) (w : ℕ) (x : Bool) → (x && is_synchronized m) ≡ true → is_detached_or_waiting (stage_of m w) ≡ false
 waits_not m w x h = grind (arith, nat_tests)
 
-joined_where : (m : MuxState) (w : ℕ) (x : Bool) → x ≡ true → is_detached_or_waiting (stage_of m w) ≡ false
-    → (x && is_synchronized m) ≡ true
+joined_where : (m : MuxState) (w : ℕ) (x : Bool) → x ≡ true → is_detached_or_waiting (stage_of m w) ≡ false → (x && is_synchronized m) ≡ true
 joined_where m w x s h = grind (arith, nat_tests)
 
 -- choices
@@ -62,8 +60,7 @@ mux_choice b p q h = Reaches-keeps (λ (p : Machines). p.choice) (mux_rows b) (
 given_selected : (agg : AggId) (c : Choice) → has_chosen agg c ≡ true → is_selected c ≡ true
 given_selected agg c h = grind (arith, nat_tests)
 
-ready_given : (keys : List Key) (seen : List PortView) (agg : AggId) (c : Choice) → has_chosen agg c ≡ true
-    → ready_of keys seen c ≡ is_ready keys seen agg
+ready_given : (keys : List Key) (seen : List PortView) (agg : AggId) (c : Choice) → has_chosen agg c ≡ true → ready_of keys seen c ≡ is_ready keys seen agg
 ready_given keys seen agg c h = grind (arith, nat_tests)
 
 -- lists
@@ -73,8 +70,7 @@ any_here : (test : PortView → Bool) (b : Bool) (w : PortView) (rest : List Por
 any_here test b w rest f h = grind (arith, nat_tests)
 
 any_next : (test : PortView → Bool) (b : Bool) (w v : PortView) (rest more : List PortView) → list_any test (cond b (w ∷ rest) rest) ≡ false
-    → (b ≡ true → test w ≡ false → test v ≡ false)
-    → (list_any test rest ≡ false → list_any test more ≡ false) → list_any test (cond b (v ∷ more) more) ≡ false
+    → (b ≡ true → test w ≡ false → test v ≡ false) → (list_any test rest ≡ false → list_any test more ≡ false) → list_any test (cond b (v ∷ more) more) ≡ false
 any_next test b w v rest more h f g = grind (arith, nat_tests)
 
 abbrev W : PortView → Bool
@@ -115,13 +111,11 @@ unready_step : (keys : List Key) (seen : List PortView) (agg : AggId) (x y : Sys
 unready_step keys seen agg x y r h g = subst (λ b. RunsToRest (mux_rows b) x.port y.port) (ready_given keys seen agg x.port.choice g ∙ r) h
 
 any_stays : (keys : List Key) (seen : List PortView) (agg : AggId) → is_ready keys seen agg ≡ false → (xs ys : List SystemPort)
-    → PortsChangeBy (RunsReady keys seen) xs ys
-    → list_any W (ports_that_chose agg (views xs)) ≡ false → list_any W (ports_that_chose agg (views ys)) ≡ false
+    → PortsChangeBy (RunsReady keys seen) xs ys → list_any W (ports_that_chose agg (views xs)) ≡ false → list_any W (ports_that_chose agg (views ys)) ≡ false
 any_stays keys seen agg r [] [] h k = refl
 any_stays keys seen agg r [] (y ∷ ys) h k = absurd h
 any_stays keys seen agg r (x ∷ xs) [] h k = absurd h
-any_stays keys seen agg r (x ∷ xs) (y ∷ ys) h k =
-    let same = mux_choice (ready_of keys seen x.port.choice) x.port y.port h.0.1 in
+any_stays keys seen agg r (x ∷ xs) (y ∷ ys) h k = let same = mux_choice (ready_of keys seen x.port.choice) x.port y.port h.0.1 in
     ap (λ c. list_any W (cond (has_chosen agg c) (selection_view y ∷ ports_that_chose agg (views ys)) (ports_that_chose agg (views ys))))
     same
     ∙ any_next W (has_chosen agg x.port.choice) (selection_view x) (selection_view y) (ports_that_chose agg (views xs))
@@ -138,13 +132,11 @@ open_is : (x o : Bool) → (x && o) ≡ true → o ≡ true
 open_is x o h = grind (arith, nat_tests)
 
 all_stay : (keys : List Key) (seen : List PortView) (agg : AggId) → is_ready keys seen agg ≡ false → (xs ys : List SystemPort)
-    → PortsChangeBy (RunsReady keys seen) xs ys
-    → all_waited (ports_that_chose agg (views xs)) ≡ false → all_waited (ports_that_chose agg (views ys)) ≡ false
+    → PortsChangeBy (RunsReady keys seen) xs ys → all_waited (ports_that_chose agg (views xs)) ≡ false → all_waited (ports_that_chose agg (views ys)) ≡ false
 all_stay keys seen agg r [] [] h k = k
 all_stay keys seen agg r [] (y ∷ ys) h k = absurd h
 all_stay keys seen agg r (x ∷ xs) [] h k = absurd h
-all_stay keys seen agg r (x ∷ xs) (y ∷ ys) h k =
-    let same = mux_choice (ready_of keys seen x.port.choice) x.port y.port h.0.1 in
+all_stay keys seen agg r (x ∷ xs) (y ∷ ys) h k = let same = mux_choice (ready_of keys seen x.port.choice) x.port y.port h.0.1 in
     ap (λ c. all_waited (cond (has_chosen agg c) (selection_view y ∷ ports_that_chose agg (views ys)) (ports_that_chose agg (views ys))))
     same
     ∙ all_next (has_chosen agg x.port.choice) (selection_view x) (selection_view y) (ports_that_chose agg (views xs))
@@ -167,8 +159,7 @@ one_false : (a b c d : Bool) → (a && b) ≡ false → (a ≡ false → c ≡ f
 one_false a b c d h f g = grind (arith, nat_tests)
 
 unready_cases : (keys : List Key) (agg : AggId) (xs ys : List SystemPort) → PortsChangeBy (RunsReady keys (views xs)) xs ys → (r : Bool)
-    → is_ready keys (views xs) agg ≡ r → (k : Bool) → is_aggregator keys agg ≡ k
-    → is_ready keys (views ys) agg ≡ false
+    → is_ready keys (views xs) agg ≡ r → (k : Bool) → is_aggregator keys agg ≡ k → is_ready keys (views ys) agg ≡ false
 unready_cases keys agg xs ys h r e k i = grind (arith, nat_tests, none_of, and_left, none_wait, one_false, any_stays, all_stay)
 
 pub none_ready : (keys : List Key) (xs ys : List SystemPort) → PortsChangeBy (RunsReady keys (views xs)) xs ys → (c : Choice)

@@ -30,14 +30,12 @@ Good now p before = (calls : List port.PortCall) (ticks : List ℕ) → window.S
 good_ages : (now : ℕ) (p : Machines) → AllByRecursion (λ a. a ≤ now) p.ages → length p.ages ≤ 3 → Good now p (sent_before now p.ages)
 good_ages now p kept few calls ticks run = port_window now calls p ticks kept few run
 
-joined : (b : Bool) (now : ℕ) (before ticks : List ℕ)
-    → (before ++ (if b then now ∷ ticks else ticks)) ≡ ((if b then before ++ now ∷ [] else before) ++ ticks)
+joined : (b : Bool) (now : ℕ) (before ticks : List ℕ) → (before ++ (if b then now ∷ ticks else ticks)) ≡ ((if b then before ++ now ∷ [] else before) ++ ticks)
 joined b now before ticks = grind (arith, nat_tests, append_assoc)
 
 good_call : (now : ℕ) (call : port.PortCall) (p q : Machines) (before : List ℕ) → port.CallEffect call p q → Good now p before
     → Good (window.tick_after_port_call call now) q (if window.returns_lacpdu call p then before ++ now ∷ [] else before)
-good_call now call p q before does g calls ticks run =
-    let b = window.returns_lacpdu call p in
+good_call now call p q before does g calls ticks run = let b = window.returns_lacpdu call p in
     subst KeepsWindow (joined b now before ticks) (g (call ∷ calls) (if b then now ∷ ticks else ticks) (q, ticks, does, run, refl))
 
 none_sent : KeepsWindow []
@@ -70,14 +68,12 @@ good_end now before None g = g
 good_end now before (Some p) g = subst KeepsWindow (append-nil before) (g [] [] refl)
 
 at_first : (P Q : Machines → Type 0) (N : Type 0) (b : Bool) (x y : SystemPort) (o u : Option SystemPort) → (P x.port → Q y.port)
-    → (At P N (port_in o) → At Q N (port_in u))
-    → At P N (port_in (cond b (Some x) o)) → At Q N (port_in (cond b (Some y) u))
+    → (At P N (port_in o) → At Q N (port_in u)) → At P N (port_in (cond b (Some x) o)) → At Q N (port_in (cond b (Some y) u))
 at_first P Q N b x y o u here rest g = grind (arith, nat_tests)
 
 -- the same, if y has the number of x
-at_number : (P Q : Machines → Type 0) (N : Type 0) (n : ℕ) (x y : SystemPort) (o u : Option SystemPort) → y.number ≡ x.number
-    → (P x.port → Q y.port) → (At P N (port_in o) → At Q N (port_in u))
-    → At P N (port_in (cond (x.number == n) (Some x) o)) → At Q N (port_in (cond (y.number == n) (Some y) u))
+at_number : (P Q : Machines → Type 0) (N : Type 0) (n : ℕ) (x y : SystemPort) (o u : Option SystemPort) → y.number ≡ x.number → (P x.port → Q y.port)
+    → (At P N (port_in o) → At Q N (port_in u)) → At P N (port_in (cond (x.number == n) (Some x) o)) → At Q N (port_in (cond (y.number == n) (Some y) u))
 at_number P Q N n x y o u e here rest g = grind (arith, nat_tests)
 
 in_each : (P Q : Machines → Type 0) (N : Type 0) (R : Machines → Machines → Type 0) (n : ℕ) → ((p q : Machines) → R p q → P p → Q q)
@@ -120,8 +116,7 @@ in_same P N n old new e g = subst (In P N n) (sym e) g
 
 in_settling : (P : Machines → Type 0) (N : Type 0) (n : ℕ) → IsKept P → (old new : SystemState) → Settling old new
     → In P N n old.system_ports → In P N n new.system_ports
-in_settling P N n kept old new h g =
-    let s = settling_in old new h in
+in_settling P N n kept old new h g = let s = settling_in old new h in
     let ready = λ (p : Machines). ready_of old.keys (views s.two) p.choice in
     in_each P P N RunsPeriodic n kept.periodic s.four new.system_ports s.paces
     (in_each P P N (RunsReady old.keys (views s.two)) n (λ p q d. kept.mux (ready p) p q d) s.two s.four s.runs
@@ -146,16 +141,14 @@ in_place P N n R move None old new h g = absurd h
 in_place P N n R move (Some i) old new h g =
     subst (In P N n) (sym h.4) (in_set P N n old i h.0 (record h.0 { port = h.1 }) h.2 refl (move h.0.port h.1 h.3) g)
 
-in_on_port : (P : Machines → Type 0) (N : Type 0) (n : ℕ) → IsKept P → (R : Machines → Machines → Type 0)
-    → ((p q : Machines) → R p q → P p → P q) → (o : Option ℕ) (old new : SystemState) → ThenSettles (OnlyPortChangesBy o R) old new
-    → In P N n old.system_ports → In P N n new.system_ports
+in_on_port : (P : Machines → Type 0) (N : Type 0) (n : ℕ) → IsKept P → (R : Machines → Machines → Type 0) → ((p q : Machines) → R p q → P p → P q)
+    → (o : Option ℕ) (old new : SystemState) → ThenSettles (OnlyPortChangesBy o R) old new → In P N n old.system_ports → In P N n new.system_ports
 in_on_port P N n kept R move o old new h g = in_settling P N n kept h.0 new h.2
     (in_place P N n R move o old.system_ports h.0.system_ports h.1.0 g)
 
 in_link : (P : Machines → Type 0) (N : Type 0) (n : ℕ) → IsKept P → (m : ℕ) (up : Bool) (old new : SystemState)
     → ThenSettles (SetsLink m up) old new → In P N n old.system_ports → In P N n new.system_ports
-in_link P N n kept m up old new h g =
-    in_settling P N n kept h.0 new h.2 (in_place P N n (SetsPortEnabled old.max_links up)
+in_link P N n kept m up old new h g = in_settling P N n kept h.0 new h.2 (in_place P N n (SetsPortEnabled old.max_links up)
     (λ p q r g. let c = choice_with_link old.max_links up p.choice in kept.link up (record p { choice = c }) q r (kept.select c p g))
     (port_index m old.system_ports) old.system_ports h.0.system_ports h.1.0 g)
 
@@ -166,8 +159,7 @@ good_settling n now before old new h g = in_settling (λ p. Good now p before) (
 -- sending
 
 -- the place of a number is that of the first port with it
-at_place : (n : ℕ) (xs : List SystemPort) (b : Bool) (k : ℕ) → nat_lt k (length xs) ≡ b
-    → system_port_at (cond b (Some k) None) xs ≡ slice_get xs k
+at_place : (n : ℕ) (xs : List SystemPort) (b : Bool) (k : ℕ) → nat_lt k (length xs) ≡ b → system_port_at (cond b (Some k) None) xs ≡ slice_get xs k
 at_place n xs b k e = grind (arith, nat_tests, slice_get_past)
 
 pub found : (n : ℕ) (xs : List SystemPort) → system_port_at (port_index n xs) xs ≡ find (is_numbered n) xs
@@ -177,8 +169,7 @@ found_set : (p : SystemPort → Bool) (xs : List SystemPort) (i : ℕ) (s t : Sy
     → ((k : ℕ) → k < i → p (get_or xs k s) ≡ false) → p t ≡ true → find p (slice_set xs i t) ≡ Some t
 found_set p [] i s t e h k = absurd cc
 found_set p (x ∷ xs) zero s t e h k = ap (λ b. cond b (Some t) (find p xs)) k
-found_set p (x ∷ xs) (suc i) s t e h k =
-    ap (λ b. cond b (Some x) (find p (slice_set xs i t))) (h zero (omega arith))
+found_set p (x ∷ xs) (suc i) s t e h k = ap (λ b. cond b (Some x) (find p (slice_set xs i t))) (h zero (omega arith))
     ∙ found_set p xs i s t e (λ j l. h (suc j) (omega (arith, l))) k
 
 found_other : (p : SystemPort → Bool) (xs : List SystemPort) (i : ℕ) (s t : SystemPort) → slice_get xs i ≡ Some s → p s ≡ false
@@ -187,12 +178,10 @@ found_other p [] i s t e h k = refl
 found_other p (x ∷ xs) zero s t e h k = grind (arith, nat_tests)
 found_other p (x ∷ xs) (suc i) s t e h k = ap (λ o. cond (p x) (Some x) o) (found_other p xs i s t e h k)
 
-good_sent : (m n now : ℕ) (before : List ℕ) (b : Bool) (xs : List SystemPort) (i : ℕ) (s t : SystemPort) → (m == n) ≡ b
-    → port_index m xs ≡ Some i → slice_get xs i ≡ Some s → t.number ≡ s.number
-    → (Good now s.port before → Good now t.port (before ++ now ∷ [])) → GoodIn n now before xs
+good_sent : (m n now : ℕ) (before : List ℕ) (b : Bool) (xs : List SystemPort) (i : ℕ) (s t : SystemPort) → (m == n) ≡ b → port_index m xs ≡ Some i
+    → slice_get xs i ≡ Some s → t.number ≡ s.number → (Good now s.port before → Good now t.port (before ++ now ∷ [])) → GoodIn n now before xs
     → GoodIn n now (if b then before ++ now ∷ [] else before) (slice_set xs i t)
-good_sent m n now before true xs i s t b read_field at k send g =
-    let same : m ≡ n = eqb-true m n b in
+good_sent m n now before true xs i s t b read_field at k send g = let same : m ≡ n = eqb-true m n b in
     let first = position-Some (is_numbered m) xs i s read_field in
     let numbered : (s.number == m) ≡ true = ap (is_numbered m) (sym (get_or_from_slice_get xs i s s at)) ∙ first.1 in
     let old : find (is_numbered m) xs ≡ Some s = sym (found m xs) ∙ ap (λ o. system_port_at o xs) read_field ∙ at in
@@ -201,16 +190,13 @@ good_sent m n now before true xs i s t b read_field at k send g =
     let g' : GoodIn m now before xs = subst (λ j. GoodIn j now before xs) (sym same) g in
     subst (λ j. GoodIn j now (before ++ now ∷ []) (slice_set xs i t)) same
     (subst (λ o. GoodAt now (before ++ now ∷ []) (port_in o)) (sym new) (send (subst (λ o. GoodAt now before (port_in o)) old g')))
-good_sent m n now before false xs i s t b read_field at k send g =
-    let first = position-Some (is_numbered m) xs i s read_field in
+good_sent m n now before false xs i s t b read_field at k send g = let first = position-Some (is_numbered m) xs i s read_field in
     let numbered : s.number ≡ m = eqb-true s.number m (ap (is_numbered m) (sym (get_or_from_slice_get xs i s s at)) ∙ first.1) in
     let other : (s.number == n) ≡ false = ap (λ j. j == n) numbered ∙ b in
     subst (λ o. GoodAt now before (port_in o)) (sym (found_other (is_numbered n) xs i s t at other (ap (λ j. j == n) k ∙ other))) g
 
-good_sends : (now : ℕ) (before : List ℕ) (p : Machines) → is_due p ≡ true → Good now p before
-    → Good now (after_sending p) (before ++ now ∷ [])
-good_sends now before p due g =
-    subst (λ b. Good now (after_sending p) (if b then before ++ now ∷ [] else before)) due
+good_sends : (now : ℕ) (before : List ℕ) (p : Machines) → is_due p ≡ true → Good now p before → Good now (after_sending p) (before ++ now ∷ [])
+good_sends now before p due g = subst (λ b. Good now (after_sending p) (if b then before ++ now ∷ [] else before)) due
     (good_call now (port.Transmit 0) p (after_sending p) before (sym (ap (λ b. if b then after_sending p else p) due)) g)
 
 -- a call that answers nothing, or a frame with this subtype
@@ -250,8 +236,7 @@ empty_new : (n : ℕ) (system : SystemId) (ports : List PortConfig) (system_port
 empty_new n system [] [] h = tt
 empty_new n system [] (s ∷ ss) h = absurd h
 empty_new n system (c ∷ cs) [] h = absurd h
-empty_new n system (c ∷ cs) (s ∷ ss) h =
-    let o = find (is_numbered n) ss in
+empty_new n system (c ∷ cs) (s ∷ ss) h = let o = find (is_numbered n) ss in
     at_first (λ _. Unit) IsEmpty Unit (s.number == n) s s o o (λ _. empty_start (setup_of system c) s.port h.0.2)
     (λ _. empty_new n system cs ss h.1) (at_unit (port_in (cond (s.number == n) (Some s) o)))
   where
@@ -274,8 +259,7 @@ none_kept : (o : Option Machines) → At IsEmpty Unit o → remembered_sends 0 o
 none_kept o h = grind (arith, nat_tests)
 
 good_first : (n : ℕ) (s : SystemState) → IsFirst s → GoodIn n 0 [] s.system_ports
-good_first n s h =
-    let o = port_in (find (is_numbered n) s.system_ports) in
+good_first n s h = let o = port_in (find (is_numbered n) s.system_ports) in
     let e = empty_first n s h in subst (λ before. GoodAt 0 before o) (none_kept o e) (good_few 0 o (since_empty o e) (three_empty o e))
 
 -- runs
@@ -283,8 +267,7 @@ good_first n s h =
 pub good_step : (gives : ℕ → ℕ → ℕ → Type 0) (n now : ℕ) (before : List ℕ) (old : SystemState) (call : Call) (answer : Reply)
     (new : SystemState) → Step gives old call answer new
     → GoodIn n now before old.system_ports → GoodIn n (tick_after call now) (sends_after n now call answer before) new.system_ports
-good_step gives n now before old call answer new h g =
-    let Q : Machines → Type 0 = λ p. Good now p before in
+good_step gives n now before old call answer new h g = let Q : Machines → Type 0 = λ p. Good now p before in
     let N = KeepsWindow before in
     let kept : IsKept Q = good_kept now before in
     Step-preserves_ports gives old (λ call answer new. GoodIn n (tick_after call now) (sends_after n now call answer before) new.system_ports)
@@ -309,8 +292,7 @@ good_step gives n now before old call answer new h g =
     }) call answer new h
 
 good_run : (gives : ℕ → ℕ → ℕ → Type 0) (n now : ℕ) (before : List ℕ) (old new : SystemState) (calls : List Call) (replies : List Reply)
-    → TableRun gives old calls replies new
-    → GoodIn n now before old.system_ports → StaysWindowed n now before calls replies
+    → TableRun gives old calls replies new → GoodIn n now before old.system_ports → StaysWindowed n now before calls replies
 good_run gives n now before old new [] [] h g = good_end now before (port_in (find (is_numbered n) old.system_ports)) g
 good_run gives n now before old new [] (r ∷ rs) h g = absurd h
 good_run gives n now before old new (c ∷ cs) [] h g = absurd h

@@ -51,33 +51,28 @@ abbrev IsWholeLine : Shape → Type 0
 IsWholeLine s = (words : List Text) → level_fault s [] nothing_held words false [] ≡ [] → has_each_argument (Some (rows_at s words)) ≡ true
 
 decode_whole : IsWholeLine (line_of decode_subcommand)
-decode_whole words e =
-    let s = line_of decode_subcommand in
+decode_whole words e = let s = line_of decode_subcommand in
     let given = all_given (rows_after s.rules [] words) s.rules (nothing_missing _ (is_checked s words e)) in
     text_given s words (codes "HEX") (inl (refl, refl), (inr refl, tt)) e given.0
 
 respond_whole : IsWholeLine (line_of respond_subcommand)
-respond_whole words e =
-    let s = line_of respond_subcommand in
+respond_whole words e = let s = line_of respond_subcommand in
     let good : AreWordsOrHelp s.rules = (inl (refl, refl), (inl (refl, refl), (inr refl, tt))) in
     let given = all_given (rows_after s.rules [] words) s.rules (nothing_missing _ (is_checked s words e)) in
     ap₂ (λ x y. x && y) (text_given s words (codes "MAC") good e given.0) (text_given s words (codes "HEX") good e given.1.0)
 
 check_whole : IsWholeLine (line_of check_subcommand)
-check_whole words e =
-    let s = line_of check_subcommand in
+check_whole words e = let s = line_of check_subcommand in
     let given = all_given (rows_after s.rules [] words) s.rules (nothing_missing _ (is_checked s words e)) in
     text_given s words (codes "FILE") (inl (refl, refl), (inr refl, tt)) e given.0
 
 capture_whole : IsWholeLine (line_of capture_subcommand)
-capture_whole words e =
-    let s = line_of capture_subcommand in
+capture_whole words e = let s = line_of capture_subcommand in
     let given = all_given (rows_after s.rules [] words) s.rules (nothing_missing _ (is_checked s words e)) in
     text_given s words (codes "FILE") (inl (refl, refl), (inr refl, tt)) e given.0
 
 replay_whole : IsWholeLine (line_of replay_subcommand)
-replay_whole words e =
-    let s = line_of replay_subcommand in
+replay_whole words e = let s = line_of replay_subcommand in
     let given = all_given (rows_after s.rules [] words) s.rules (nothing_missing _ (is_checked s words e)) in
     text_given s words (codes "SCRIPT") (inl (refl, refl), (inr refl, tt)) e given.0
 
@@ -120,8 +115,7 @@ met true other e = refl
 met false other e = cc
 
 pub whole_line : (words : List Text) → fault_of program words ≡ [] → has_each_argument (subcommand_of program words) ≡ true
-whole_line words e =
-    let a = built program in
+whole_line words e = let a = built program in
     let rest = argument_words program words in
     let w = walk a.top.rules (names_of a) nothing_held rest in
     let has = is_some (entered a w.stopped) in
@@ -170,7 +164,6 @@ cause_of kinds e NoMemory h k = tt
 
 -- and so if a parse fails by the program's words
 pub line_cause : (c : Command) (words : List Text) (e : Error) (f : LineFault) → app_of c ≡ program
-    → (is_simple_and_free (app_of c) ≡ true → HasKind (fault_of (app_of c) words) e)
-    → KeepsKind e f → IsCause (fault_of program words) f
+    → (is_simple_and_free (app_of c) ≡ true → HasKind (fault_of (app_of c) words) e) → KeepsKind e f → IsCause (fault_of program words) f
 line_cause c words e f shape kinds k =
     cause_of _ e f (subst (λ (a : App). HasKind (fault_of a words) e) shape (kinds (ap is_simple_and_free shape))) k

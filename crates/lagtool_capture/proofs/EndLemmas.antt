@@ -18,8 +18,7 @@ one_more_of (Some gap) gaps = refl
 
 gaps_are : (s : LinkEnd) (first : Sent) (later : List Sent) → (end_of s first later).gaps ≡ gaps_of (gaps_between first later)
 gaps_are s first [] = refl
-gaps_are s first (x ∷ later) =
-    ap (λ t. gaps_with (gap_between t x.time) (end_of s first later).gaps) (latest_is s first later)
+gaps_are s first (x ∷ later) = ap (λ t. gaps_with (gap_between t x.time) (end_of s first later).gaps) (latest_is s first later)
     ∙ ap (gaps_with (gap_between (latest_time first later) x.time)) (gaps_are s first later)
     ∙ one_more_of (gap_between (latest_time first later) x.time) (gaps_between first later)
 
@@ -36,6 +35,5 @@ no_longer first (x ∷ later) =
 -- the median of the times between the LACPDUs of an end
 pub end_median : (e : LacpduSender) (s : LinkEnd) (first : Sent) (later : List Sent) → length later < 2 ^ 64 → e ≡ end_of s first later
     → IsMedianOf (gaps_between first later) (median e.gaps)
-end_median e s first later lt same =
-    let l = no_longer first later in
+end_median e s first later lt same = let l = no_longer first later in
     median_is e.gaps (gaps_between first later) (omega (arith, l, lt)) (ap (λ x. x.gaps) same ∙ gaps_are s first later)

@@ -8,8 +8,7 @@ use Rattle.lagtool_capture.proofs.ReportingLemmas.{on_ok-map}
 
 -- there is a frame in it, which is explained
 pub observed_some : {T E : Type 0} (r : Result T E) (p : Packet) (b : List ℕ) (n : ℕ) (o : Option SlowFrame) (f : SlowFrame) (s t w : ReportState)
-    → n ≡ one_more s.number → t ≡ counted p.time s → o ≡ frame_in n p b → o ≡ Some f → OnOk r (w ≡ after_frame p.time f t)
-    → OnOk r (w ≡ observed p b s)
+    → n ≡ one_more s.number → t ≡ counted p.time s → o ≡ frame_in n p b → o ≡ Some f → OnOk r (w ≡ after_frame p.time f t) → OnOk r (w ≡ observed p b s)
 unfolding observed
 observed_some r p b n o f s t w number count is some h = on_ok-map r (λ i. i ∙ ap (after_frame p.time f) count
     ∙ ap (λ k. after_any p.time k (counted p.time s)) (sym some ∙ is ∙ ap (λ k. frame_in k p b) number)) h
@@ -54,8 +53,7 @@ module _ (p : Packet) (b : List ℕ) (l : Log) (n : ℕ) (o : Option SlowFrame) 
 
   -- there is a frame in it, which is noticed
   pub follows_some : (f : SlowFrame) (z : Noticed) → o ≡ Some f → z.until ≡ y.until
-      → ((h : List SlowFrame) → IsKnown h y.findings → IsKnown (cons_option (if_timed (Some f) p.time) h) z.findings)
-      → Agrees (logged p b l) w.number z
+      → ((h : List SlowFrame) → IsKnown h y.findings → IsKnown (cons_option (if_timed (Some f) p.time) h) z.findings) → Agrees (logged p b l) w.number z
   follows_some f z some until more = record {
     number_is = number_now;
     follows = record {
@@ -75,8 +73,7 @@ module _ (p : Packet) (b : List ℕ) (l : Log) (n : ℕ) (o : Option SlowFrame) 
   }
 
 -- a record without a packet is counted
-pub follows_record : (l : Log) (s w : ReportState) (x : Noticed) → Agrees l s.number x → w ≡ counted None s
-    → Agrees (logged_next None l) w.number x
+pub follows_record : (l : Log) (s w : ReportState) (x : Noticed) → Agrees l s.number x → w ≡ counted None s → Agrees (logged_next None l) w.number x
 follows_record l s w x i count = record {
   number_is = ap (λ (e : ReportState). e.number) count ∙ ap one_more i.number_is;
   follows = record { until = i.follows.until; frames = i.follows.frames };

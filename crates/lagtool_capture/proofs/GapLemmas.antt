@@ -65,14 +65,12 @@ length-set (x ∷ cs) zero c = refl
 length-set (x ∷ cs) (suc k) c = let h = length-set cs k c in omega (arith, h)
 
 up-in : (gap n : ℕ) (gaps : List ℕ) → tenths_of gap ≤ n → count_up_to n (gap ∷ gaps) ≡ count_up_to n gaps + 1
-up-in gap n gaps le =
-    let x = sum_by-cons (λ g. cond (leb (tenths_of g) n) 1 0) gap gaps in
+up-in gap n gaps le = let x = sum_by-cons (λ g. cond (leb (tenths_of g) n) 1 0) gap gaps in
     let y : ◌≡◌ {A = ℕ} (cond (leb (tenths_of gap) n) 1 0) 1 = ap (λ b. cond b 1 0) (le-leb (tenths_of gap) n le) in
     omega (arith, x, y)
 
 up-out : (gap n : ℕ) (gaps : List ℕ) → n < tenths_of gap → count_up_to n (gap ∷ gaps) ≡ count_up_to n gaps
-up-out gap n gaps lt =
-    let x = sum_by-cons (λ g. cond (leb (tenths_of g) n) 1 0) gap gaps in
+up-out gap n gaps lt = let x = sum_by-cons (λ g. cond (leb (tenths_of g) n) 1 0) gap gaps in
     let y : ◌≡◌ {A = ℕ} (cond (leb (tenths_of gap) n) 1 0) 0 = ap (λ b. cond b 1 0) (lt-leb (tenths_of gap) n lt) in
     omega (arith, x, y)
 
@@ -91,8 +89,7 @@ kept-none = record { known = refl; long = refl; counts = λ n. below-zeros 1001 
 
 kept-more : (gap : ℕ) (gaps : List ℕ) (g : Gaps) → length gaps + 1 < 2 ^ 64 → Kept gaps g → Kept (gap ∷ gaps) (gaps_with (Some gap) g)
 unfolding gaps_with
-kept-more gap gaps g lt h =
-    let k = tenths_of gap in
+kept-more gap gaps g lt h = let k = tenths_of gap in
     let le = most gap in
     let inside : k < length g.counts = omega (arith, le, h.long) in
     let fits : get_or g.counts k 0 + 1 < 2 ^ 64 =
@@ -179,24 +176,21 @@ finds (c ∷ cs) from wanted p =
 found : (gaps : List ℕ) (g : Gaps) (wanted : ℕ) (o : Option ℕ) → Kept gaps g → 0 < length gaps
     → wanted ≡ length gaps - length gaps / 2 → Finds 0 wanted g.counts o → IsMedianOf gaps o
 unfolding Finds
-found gaps g wanted None k p w h =
-    let a = h 1001 in let b = k.counts 1000 in let c = up-all gaps in
+found gaps g wanted None k p w h = let a = h 1001 in let b = k.counts 1000 in let c = up-all gaps in
     absurd (omega (arith, a, b, c, p, w))
-found gaps g wanted (Some at) k p w h =
-    let is : at ≡ h.steps = h.is ∙ omega arith in (
-      p,
-      (
-        (let a = h.enough in let b = k.counts h.steps in
-            subst (λ t. length gaps ≤ 2 * count_up_to t gaps) (sym is) (omega (arith, a, b, w))),
-        λ fewer lt. let a = h.less (suc fewer) (omega (arith, lt, is)) in let b = k.counts fewer in omega (arith, a, b, w),
-      ),
-    )
+found gaps g wanted (Some at) k p w h = let is : at ≡ h.steps = h.is ∙ omega arith in (
+  p,
+  (
+    (let a = h.enough in let b = k.counts h.steps in
+        subst (λ t. length gaps ≤ 2 * count_up_to t gaps) (sym is) (omega (arith, a, b, w))),
+    λ fewer lt. let a = h.less (suc fewer) (omega (arith, lt, is)) in let b = k.counts fewer in omega (arith, a, b, w),
+  ),
+)
 
 by_known : (b : Bool) (gaps : List ℕ) (g : Gaps) → eqb g.known 0 ≡ b → Kept gaps g
     → IsMedianOf gaps (cond b None (tenths_up_to 0 (g.known - g.known / 2) g.counts))
 by_known true gaps g e k = sym k.known ∙ eqb-true g.known 0 e
-by_known false gaps g e k =
-    let n = k.known in let z = eqb-false g.known 0 e in
+by_known false gaps g e k = let n = k.known in let z = eqb-false g.known 0 e in
     let p : 0 < g.known = omega (arith, z) in
     found gaps g (g.known - g.known / 2) (tenths_up_to 0 (g.known - g.known / 2) g.counts) k (omega (arith, n, p)) (ap (λ x. x - x / 2) n)
     (finds g.counts 0 (g.known - g.known / 2) (omega (arith, p)))

@@ -39,8 +39,7 @@ ends_by {P} n b end e = by (and_cases (nat_lt 0 n) b e)
     by (inr off) = inr off
 
 module _ {R W : Type 0} {remaining : R → Option (List ℕ)} {contents : W → Option (List ℕ)} {settings : Settings} where
-  told_before : (from : SourceState R) (old : SinkState W) (w : ReadingState) → IsBefore settings w
-      → Told remaining contents settings from from old old w
+  told_before : (from : SourceState R) (old : SinkState W) (w : ReadingState) → IsBefore settings w → Told remaining contents settings from from old old w
   told_before from old w before = record {
     octets = [];
     read = Consumes-nil (remaining from.reader);
@@ -82,9 +81,8 @@ module _ {R W : Type 0} {remaining : R → Option (List ℕ)} {contents : W → 
   -- the reading ends at the end of the source, or where the capture is not read on
   completes_so : {from mid : SourceState R} {old half new : SinkState W} {w v u : ReadingState} {s : CaptureSummary}
       → Told remaining contents settings from mid old half w → ((l : Log) → Follows l w.noticed → v ≡ ended l w)
-      → WritesWhole contents half new v.report.to_write → u ≡ record v { report = record v.report { to_write = [] } }
-      → s ≡ summary_of u → IsAtEnd (remaining mid.reader) ⊎ (is_read_on w ≡ false)
-      → Completes remaining contents settings from mid old new s
+      → WritesWhole contents half new v.report.to_write → u ≡ record v { report = record v.report { to_write = [] } } → s ≡ summary_of u
+      → IsAtEnd (remaining mid.reader) ⊎ (is_read_on w ≡ false) → Completes remaining contents settings from mid old new s
   completes_so {from} {mid} {old} {half} {new} {w} {v} {u} {s} t ends writes cleared counts stop = record {
     octets = t.octets;
     read = t.read;
@@ -101,9 +99,8 @@ module _ {R W : Type 0} {remaining : R → Option (List ℕ)} {contents : W → 
 
   pub completes : {from mid : SourceState R} {old half new : SinkState W} {first w v u : ReadingState} {s : CaptureSummary} → IsBefore settings first
       → Told remaining contents first.report.settings from mid old half w → ((l : Log) → Follows l w.noticed → v ≡ ended l w)
-      → WritesWhole contents half new v.report.to_write → u ≡ record v { report = record v.report { to_write = [] } }
-      → s ≡ summary_of u → IsAtEnd (remaining mid.reader) ⊎ (is_read_on w ≡ false)
-      → Completes remaining contents settings from mid old new s
+      → WritesWhole contents half new v.report.to_write → u ≡ record v { report = record v.report { to_write = [] } } → s ≡ summary_of u
+      → IsAtEnd (remaining mid.reader) ⊎ (is_read_on w ≡ false) → Completes remaining contents settings from mid old new s
   completes {from} {mid} {old} {half} {new} {first} {w} {v} {u} {s} before t ends writes cleared counts stop =
       completes_so (subst (λ k. Told remaining contents k from mid old half w) (ap (λ (e : ReportState). e.settings) before.report) t)
       ends writes cleared counts stop

@@ -16,9 +16,8 @@ some_end : LinkEnd
 some_end = record { interface = 0; source = []; port = None }
 
 -- what the end with this index adds
-pub end_added : (l : Log) (until i : ℕ) (es : List LinkEnd) (now next : List Finding) → until ≡ l.until → i < length es
-    → now ≡ findings_in l (take i es) → next ≡ now ++ findings_by until l.frames all_rules (slice_get es i)
-    → next ≡ findings_in l (take (i + 1) es)
+pub end_added : (l : Log) (until i : ℕ) (es : List LinkEnd) (now next : List Finding) → until ≡ l.until → i < length es → now ≡ findings_in l (take i es)
+    → next ≡ now ++ findings_by until l.frames all_rules (slice_get es i) → next ≡ findings_in l (take (i + 1) es)
 end_added l until i es now next e lt p q =
     one_added (λ x. findings_by l.until l.frames all_rules (Some x)) es i some_end [] now next lt p
     (q ∙ ap (λ k. now ++ findings_by k l.frames all_rules (slice_get es i)) e

@@ -32,15 +32,13 @@ named_preceded out a s =
 after_named_preceded : (out : List ℕ) (actor partner time : Option ℕ) (e : SlowFrame) (v : Lacpdu) (s : ReportState)
     → after_named actor partner time e v (preceded out s) ≡ preceded out (after_named actor partner time e v s)
 unfolding after_named
-after_named_preceded out actor partner time e v s =
-    let index = end_index s.ends (end_of e) in
+after_named_preceded out actor partner time e v s = let index = end_index s.ends (end_of e) in
     ap (with_end index (end_of e) time v) (line_preceded out time e (lacpdu_line actor partner index v s) s)
 
 lacpdu_preceded : (out : List ℕ) (time : Option ℕ) (e : SlowFrame) (v : Lacpdu) (s : ReportState)
     → after_lacpdu time e v (preceded out s) ≡ preceded out (after_lacpdu time e v s)
 unfolding after_lacpdu
-lacpdu_preceded out time e v s =
-    let a = identity_of v.actor in
+lacpdu_preceded out time e v s = let a = identity_of v.actor in
     let p = identity_of v.partner in
     ap (λ t. after_named (name_number a s) (name_number p t) time e v (named p t)) (named_preceded out a s)
     ∙ ap (after_named (name_number a s) (name_number p (named a s)) time e v) (named_preceded out p (named a s))
@@ -52,8 +50,7 @@ what_preceded out time f (held.Lacpdu v) s = lacpdu_preceded out time f v s
 what_preceded out time f (held.Marker m) s = line_preceded out time f (what.Marker m) s
 what_preceded out time f (held.Refused e) s = line_preceded out time f (what.Refused e) s
 
-any_preceded : (out : List ℕ) (time : Option ℕ) (o : Option SlowFrame) (s : ReportState)
-    → after_any time o (preceded out s) ≡ preceded out (after_any time o s)
+any_preceded : (out : List ℕ) (time : Option ℕ) (o : Option SlowFrame) (s : ReportState) → after_any time o (preceded out s) ≡ preceded out (after_any time o s)
 unfolding after_frame
 any_preceded out time None s = refl
 any_preceded out time (Some f) s = what_preceded out time f f.what (record s { slow = one_more s.slow })
@@ -71,8 +68,7 @@ all_preceded out [] s = refl
 all_preceded out (x ∷ xs) s = ap (after_all xs) (after_preceded out x s) ∙ all_preceded out xs (after x s)
 
 pub ends_preceded : (out : List ℕ) (fs : List Finding) (s : ReportState) → with_ends fs (preceded out s) ≡ preceded out (with_ends fs s)
-ends_preceded out fs s =
-    ap (λ (w : List ℕ). record s { findings = length fs; to_write = w })
+ends_preceded out fs s = ap (λ (w : List ℕ). record s { findings = length fs; to_write = w })
     (append_assoc out s.to_write (cond s.settings.json (closing_records fs s) (closing_texts fs s)))
 
 -- once that is written, it stands in front

@@ -38,10 +38,8 @@ sums a b c = both (2 ^ 64 - 1)
     both m = omega arith
 
 -- a piece that is taken already
-past : (rest piece more : List ℕ) (skip : ℕ) → rest ≡ [] → length piece ≤ skip
-    → drop skip (rest ++ (piece ++ more)) ≡ drop (skip - length piece) (rest ++ more)
-past rest piece more skip none le =
-    let sum : skip ≡ length piece + (skip - length piece) = omega (arith, le) in
+past : (rest piece more : List ℕ) (skip : ℕ) → rest ≡ [] → length piece ≤ skip → drop skip (rest ++ (piece ++ more)) ≡ drop (skip - length piece) (rest ++ more)
+past rest piece more skip none le = let sum : skip ≡ length piece + (skip - length piece) = omega (arith, le) in
     ap (λ r. drop skip (r ++ (piece ++ more))) none ∙ ap (λ k. drop k (piece ++ more)) sum ∙ drop-append-add piece more (skip - length piece)
     ∙ ap (λ r. drop (skip - length piece) (r ++ more)) (sym none)
 
@@ -52,8 +50,7 @@ lengths : (a b c : List ℕ) → length (a ++ (b ++ c)) ≡ length a + (length b
 lengths a b c = length-append a (b ++ c) ∙ ap (λ k. length a + k) (length-append b c)
 
 fed_past : (piece : List ℕ) (w : ReadingState) → w.rest ≡ [] → w.fault ≡ None → length piece < w.skip → Fed piece w (skipped (length piece) w)
-fed_past piece w none free lt =
-    let n = length piece in
+fed_past piece w none free lt = let n = length piece in
     record {
       found = [];
       taken = n;
@@ -89,8 +86,7 @@ joined rest piece more skip (inr none) le =
 left_over : (b more : List ℕ) (count skip : ℕ) → count ≤ length b → drop skip (drop count b ++ more) ≡ drop (count + skip) (b ++ more)
 left_over b more count skip le = ap (drop skip) (sym (drop-append-le count b more le)) ∙ drop-drop skip count (b ++ more)
 
-left_place : (at k count skip b m l : ℕ) → count ≤ b → l ≡ (b - count) + m
-    → (at + k) + min (count + skip) (b + m) ≡ (at + (k + count)) + min skip l
+left_place : (at k count skip b m l : ℕ) → count ≤ b → l ≡ (b - count) + m → (at + k) + min (count + skip) (b + m) ≡ (at + (k + count)) + min skip l
 left_place at k count skip b m l le e = omega (arith, le, e)
 
 start_place : (at skip l : ℕ) → skip ≤ l → at + min skip l ≡ at + skip
@@ -102,21 +98,18 @@ module _ (piece : List ℕ) (w v : ReadingState) (clear : IsClear w) (le : w.ski
   b = w.rest ++ drop w.skip piece
 
   left_is : (more : List ℕ) → next_octets v more ≡ drop (h.taken.count + h.taken.skip) (b ++ more)
-  left_is more =
-      ap (λ k. drop k (v.rest ++ more)) h.skip ∙ ap (λ r. drop h.taken.skip (r ++ more)) h.rest
+  left_is more = ap (λ k. drop k (v.rest ++ more)) h.skip ∙ ap (λ r. drop h.taken.skip (r ++ more)) h.rest
       ∙ left_over b more h.taken.count h.taken.skip h.steps.count
 
   place_is : (at : ℕ) (more : List ℕ) → (at + w.skip) + min (h.taken.count + h.taken.skip) (length (b ++ more))
       ≡ next_place (at + (w.skip + h.taken.count)) v more
-  place_is at more =
-      ap (λ k. (at + w.skip) + min (h.taken.count + h.taken.skip) k) (length-append b more)
+  place_is at more = ap (λ k. (at + w.skip) + min (h.taken.count + h.taken.skip) k) (length-append b more)
       ∙ left_place at w.skip h.taken.count h.taken.skip (length b) (length more) (length (v.rest ++ more)) h.steps.count
       (length-append v.rest more ∙ ap (λ r. length r + length more) h.rest ∙ ap (λ k. k + length more) (length-drop h.taken.count b))
       ∙ ap (λ k. (at + (w.skip + h.taken.count)) + min k (length (v.rest ++ more))) (sym h.skip)
 
   goes_on : Goes piece w h.steps.found (w.skip + h.taken.count) v
-  goes_on at steps more enough =
-      let whole = joined w.rest piece more w.skip clear le in
+  goes_on at steps more enough = let whole = joined w.rest piece more w.skip clear le in
       let fits : w.skip ≤ length (w.rest ++ (piece ++ more)) = (let l = lengths w.rest piece more in omega (arith, l, le)) in
       let (left, few, is) = h.steps.reads (at + w.skip) steps more (subst (λ k. length k ≤ steps) whole enough) in (
         left,
@@ -149,18 +142,10 @@ module _ (piece : List ℕ) (w v : ReadingState) (clear : IsClear w) (le : w.ski
               is_there : Option Fault → Type 0
               is_there None = ⊥
               is_there (Some x) = ⊤
-      by (inl none_skipped) =
-          let sum : h.taken.count + h.taken.skip ≡ h.taken.count = omega (arith, none_skipped) in
+      by (inl none_skipped) = let sum : h.taken.count + h.taken.skip ≡ h.taken.count = omega (arith, none_skipped) in
           let same : drop (h.taken.count + h.taken.skip) b ≡ v.rest = ap (λ k. drop k b) sum ∙ sym h.rest in (
             h.skip ∙ none_skipped,
-            (
-              f,
-              (
-                refl,
-                subst (λ k. Stops k v.reader (Some f)) same
-                    (subst (Stops (drop (h.taken.count + h.taken.skip) b) v.reader) e h.steps.stops),
-              ),
-            ),
+            (f, (refl, subst (λ k. Stops k v.reader (Some f)) same (subst (Stops (drop (h.taken.count + h.taken.skip) b) v.reader) e h.steps.stops))),
           )
 
   fed_takes : Fed piece w v
@@ -212,8 +197,7 @@ stands_first settings w h = record {
 
 pub stands_fed : (settings : Settings) (octets out piece : List ℕ) (w v : ReadingState) → Stands settings octets out w → w.fault ≡ None
     → Feeds piece w v → Stands settings (octets ++ piece) out v
-stands_fed settings octets out piece w v s free feeds =
-    let f = fed piece w v s.clear free feeds in
+stands_fed settings octets out piece w v s free feeds = let f = fed piece w v s.clear free feeds in
     record {
       found = s.found ++ f.found;
       at = s.at + f.taken;
@@ -278,8 +262,7 @@ placed : (at place : ℕ) (f : Fault) → at ≡ sum_of 0 place → refused_at 0
 placed at place f e =
     ap (λ (k : ℕ). record { at = k; cause = f.cause }) (sym (sums 0 place f.at) ∙ ap (λ k. sum_of k f.at) (sym e))
 
-ending_is : (at place : ℕ) (r : Result (Unit {0}) Fault) → at ≡ sum_of 0 place
-    → option_map (refused_at 0) (ending place r).fault ≡ refused_end None at r
+ending_is : (at place : ℕ) (r : Result (Unit {0}) Fault) → at ≡ sum_of 0 place → option_map (refused_at 0) (ending place r).fault ≡ refused_end None at r
 ending_is at place (Ok x) e = refl
 ending_is at place (Err f) e = ap Some (placed at place f e)
 
@@ -290,8 +273,7 @@ ending_none place (Err f) = refl
 -- the capture is not read on: whatever follows
 refused_ends : (settings : Settings) (octets out : List ℕ) (w : ReadingState) (s : Stands settings octets out w) (f : Fault) (more : List ℕ)
     → w.skip ≡ 0 → Stops w.rest w.reader (Some f) → capture_in (octets ++ more) ≡ behind s.found (refused_from s.at f)
-refused_ends settings octets out w s f more none_skipped (some, is) =
-    let (left, enough, so) = s.goes more in
+refused_ends settings octets out w s f more none_skipped (some, is) = let (left, enough, so) = s.goes more in
     let next : next_octets w more ≡ w.rest ++ more = ap (λ k. drop k (w.rest ++ more)) none_skipped in
     let l = length-append w.rest more in
     let place : next_place s.at w more ≡ s.at = by s.at w.skip (length (w.rest ++ more)) none_skipped in
@@ -305,8 +287,7 @@ refused_ends settings octets out w s f more none_skipped (some, is) =
 
 closes_by : (settings : Settings) (octets out : List ℕ) (w : ReadingState) (s : Stands settings octets out w) (o : Option ReadFault) → Waits w o
     → Closes (capture_in octets) s.found (refused_end o w.at (end_of w.reader.format (length w.rest)))
-closes_by settings octets out w s None h =
-    let (left, enough, so) = s.goes [] in
+closes_by settings octets out w s None h = let (left, enough, so) = s.goes [] in
     let r = end_of w.reader.format (length w.rest) in
     let is : capture_in octets ≡ behind s.found (ending s.at r) =
     ap capture_in (sym (append-nil octets)) ∙ so
@@ -359,15 +340,13 @@ stands_refused settings octets out piece w fault s e = record {
 -- what is said before the end
 pub stands_lines : (settings : Settings) (octets out : List ℕ) (w : ReadingState) → Stands settings octets out w
     → lines settings octets ≡ out ++ w.report.to_write
-stands_lines settings octets out w s =
-    let closes = closes_by settings octets out w s w.fault s.waits in
+stands_lines settings octets out w s = let closes = closes_by settings octets out w s w.fault s.waits in
     ap (λ xs. (after_all xs (nothing_seen settings)).to_write) closes.numbered ∙ ap (λ (e : ReportState). e.to_write) s.seen
 
 -- what is said at the end
 reported_is : (settings : Settings) (octets out : List ℕ) (w : ReadingState) (s : Stands settings octets out w)
     → reported settings (capture_in octets) ≡ preceded out (ended (logged_all s.found nothing_logged) w).report
-reported_is settings octets out w s =
-    let closes = closes_by settings octets out w s w.fault s.waits in
+reported_is settings octets out w s = let closes = closes_by settings octets out w s w.fault s.waits in
     let l = logged_all s.found nothing_logged in
     ap (λ xs. with_ends (found_in (logged_all xs nothing_logged)) (after_all xs (nothing_seen settings))) closes.numbered
     ∙ ap (with_ends (found_in l)) s.seen ∙ ends_preceded out (found_in l) w.report
@@ -375,15 +354,12 @@ reported_is settings octets out w s =
 
 pub stands_reports : (settings : Settings) (octets out : List ℕ) (w v : ReadingState) → Stands settings octets out w
     → ((l : Log) → Follows l w.noticed → v ≡ ended l w) → report settings octets ≡ out ++ v.report.to_write
-stands_reports settings octets out w v s e =
-    ap (λ (x : ReportState). x.to_write) (reported_is settings octets out w s)
+stands_reports settings octets out w v s e = ap (λ (x : ReportState). x.to_write) (reported_is settings octets out w s)
     ∙ ap (λ (k : ReadingState). out ++ k.report.to_write) (sym (e (logged_all s.found nothing_logged) s.noticed.follows))
 
 pub stands_counts : (settings : Settings) (octets out : List ℕ) (w v u : ReadingState) → Stands settings octets out w
-    → ((l : Log) → Follows l w.noticed → v ≡ ended l w) → u ≡ record v { report = record v.report { to_write = [] } }
-    → summary_of u ≡ summary settings octets
-stands_counts settings octets out w v u s e cleared =
-    let closes = closes_by settings octets out w s w.fault s.waits in
+    → ((l : Log) → Follows l w.noticed → v ≡ ended l w) → u ≡ record v { report = record v.report { to_write = [] } } → summary_of u ≡ summary settings octets
+stands_counts settings octets out w v u s e cleared = let closes = closes_by settings octets out w s w.fault s.waits in
     let l = logged_all s.found nothing_logged in
     ap summary_of cleared ∙ ap summary_of (e l s.noticed.follows)
     ∙ sym (ap (λ x. counts_of x (capture_in octets)) (reported_is settings octets out w s)

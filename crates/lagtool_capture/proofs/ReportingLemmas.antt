@@ -25,13 +25,11 @@ indexed r index m n time e v s t w last shown d same p q x y h =
     ∙ ap (λ k. after_indexed k m n time e v s) (p ∙ ap (end_index s.ends) same)) h
 
 -- an LACPDU, once its ends are named
-pub both_named : {T E : Type 0} (r : Result T E) (a b : Identity) (m n time : Option ℕ) (e : SlowFrame) (v : Lacpdu)
-    (s t u w : ReportState) → a ≡ identity_of v.actor → b ≡ identity_of v.partner
-    → t ≡ named a s → m ≡ name_number a s → u ≡ named b t → n ≡ name_number b t
+pub both_named : {T E : Type 0} (r : Result T E) (a b : Identity) (m n time : Option ℕ) (e : SlowFrame) (v : Lacpdu) (s t u w : ReportState)
+    → a ≡ identity_of v.actor → b ≡ identity_of v.partner → t ≡ named a s → m ≡ name_number a s → u ≡ named b t → n ≡ name_number b t
     → OnOk r (w ≡ after_named m n time e v u) → OnOk r (w ≡ after_lacpdu time e v s)
 unfolding after_lacpdu
-both_named r a b m n time e v s t u w f g p q x y h =
-    let c = identity_of v.actor in
+both_named r a b m n time e v s t u w f g p q x y h = let c = identity_of v.actor in
     let d = identity_of v.partner in
     let first : t ≡ named c s = p ∙ ap (λ k. named k s) f in
     on_ok-map r (λ i. i

@@ -31,10 +31,9 @@ logged_both (None ∷ xs) ys l = logged_both xs ys _
 logged_both (Some c ∷ xs) ys l = logged_both xs ys _
 
 -- a step more, in the octets h, which are all behind the place n
-pub reads_more : (b h : List ℕ) (x : Step) (u r s : ReaderState) (e f g : ReportState) (m o p : Noticed) (n : ℕ) → h ≡ drop n b
-    → Reads b r s e f m o n → n < length b → 0 < x.taken → step s h ≡ Ok (x, u) → IfSome x.packet (λ k. IsWithin h k)
-    → g ≡ after_all (numbered_in x h) f → ((l : Log) → Agrees l f.number o → Agrees (logged_all (numbered_in x h) l) g.number p)
-    → Reads b r u e g m p (n + x.taken)
+pub reads_more : (b h : List ℕ) (x : Step) (u r s : ReaderState) (e f g : ReportState) (m o p : Noticed) (n : ℕ) → h ≡ drop n b → Reads b r s e f m o n
+    → n < length b → 0 < x.taken → step s h ≡ Ok (x, u) → IfSome x.packet (λ k. IsWithin h k) → g ≡ after_all (numbered_in x h) f
+    → ((l : Log) → Agrees l f.number o → Agrees (logged_all (numbered_in x h) l) g.number p) → Reads b r u e g m p (n + x.taken)
 reads_more b h x u r s e f g m o p n all so lt takes is within same more = record {
   found = so.found ++ numbered_in x (drop n b);
   reads = whole.reads_more b r s u so.found n x so.reads lt takes (ap (step s) (sym all) ∙ is)
@@ -52,8 +51,7 @@ rest_length b n = ap length (take_rest b n) ∙ length-drop n b
 pub ends_behind : (b : List ℕ) (r s : ReaderState) (e f : ReportState) (m o : Noticed) (n taken : ℕ) → Reads b r s e f m o (n + taken) → n ≤ length b
     → length (take (length b - n) (drop n b)) < taken
     → StepsThrough b r s e f m o (record { count = length b; skip = taken - length (take (length b - n) (drop n b)); fault = None })
-ends_behind b r s e f m o n taken h le lt =
-    let rest = taken - length (take (length b - n) (drop n b)) in
+ends_behind b r s e f m o n taken h le lt = let rest = taken - length (take (length b - n) (drop n b)) in
     let sum : n + taken ≡ length b + rest = omega (arith, rest_length b n, le, lt) in
     let none : length b - (length b + rest) ≡ 0 = omega arith in
     record {
@@ -69,8 +67,7 @@ ends_behind b r s e f m o n taken h le lt =
 -- no step begins behind the last
 pub ends_there : (b : List ℕ) (r s : ReaderState) (e f : ReportState) (m o : Noticed) (n : ℕ) (fault : Option Fault) → Reads b r s e f m o n
     → n ≤ length b → Stops (drop n b) s fault → StepsThrough b r s e f m o (record { count = n; skip = 0; fault = fault })
-ends_there b r s e f m o n fault h le stops =
-    let sum : n ≡ n + 0 = omega arith in
+ends_there b r s e f m o n fault h le stops = let sum : n ≡ n + 0 = omega arith in
     record {
       found = h.found;
       reads = subst (λ k. ReadsTo b r h.found k s) sum h.reads;
@@ -94,5 +91,4 @@ stops_by b stop taken r s t e f m o n h lt same is made =
 -- all octets are taken
 pub ends_whole : (b : List ℕ) (r s : ReaderState) (e f : ReportState) (m o : Noticed) (n : ℕ) → Reads b r s e f m o n
     → n ≤ length b → length b ≤ n → StepsThrough b r s e f m o (record { count = n; skip = 0; fault = None })
-ends_whole b r s e f m o n h le ge =
-    ends_there b r s e f m o n None h le (inl (let l = length-drop n b in omega (arith, l, ge)))
+ends_whole b r s e f m o n h le ge = ends_there b r s e f m o n None h le (inl (let l = length-drop n b in omega (arith, l, ge)))

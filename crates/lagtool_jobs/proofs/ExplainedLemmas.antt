@@ -36,10 +36,9 @@ says_character (Ok text) name said n digits same formed = begins (string_bytes t
     ∙ character_joined name (decimal (digits + 1)) said)
 
 -- what is formed of a name, a place and the number of an octet tells them
-pub tells_octet : (r : Result (String Global) AllocError) (called file before : List ℕ) (line column n : ℕ) → called ≡ name_of file
-    → line ≡ line_behind before → column ≡ column_behind before → n ≡ length before + 1
-    → IfOk r (λ t. string_bytes t ≡ called ++ 58 ∷ (decimal line ++ 58 ∷ (decimal column ++ (codes ": octet " ++ (decimal n
-    ++ codes " is not UTF-8")))))
+pub tells_octet : (r : Result (String Global) AllocError) (called file before : List ℕ) (line column n : ℕ) → called ≡ name_of file → line ≡ line_behind before
+    → column ≡ column_behind before → n ≡ length before + 1
+    → IfOk r (λ t. string_bytes t ≡ called ++ 58 ∷ (decimal line ++ 58 ∷ (decimal column ++ (codes ": octet " ++ (decimal n ++ codes " is not UTF-8")))))
     → IfOk r (λ t. string_bytes t ≡ utf8_text file before)
 tells_octet (Err refused) called file before line column n named on_line in_column counted formed = tt
 tells_octet (Ok text) called file before line column n named on_line in_column counted formed =

@@ -52,14 +52,12 @@ one_of_two false true h = refl
 one_of_two false false h = absurd (true≢false (sym h))
 
 system_ok : (w : List ℕ) (s : ℕ) → system_word w ≡ Ok s → has_system (Some s) ≡ true
-system_ok w s e =
-    let read = bind_ok (number_word w) _ s e in
+system_ok w s e = let read = bind_ok (number_word w) _ s e in
     let held = unless_ok ((read.0 == 1) || (read.0 == 2)) _ _ s read.2 in
     subst (λ n. has_system (Some n) ≡ true) (same_ok read.0 s held.1) (one_of_two (read.0 == 1) (read.0 == 2) held.0)
 
 cable_ok : (cables : ℕ) (w : List ℕ) (c : ℕ) → cable_word cables w ≡ Ok c → is_cable cables (Some c) ≡ true
-cable_ok cables w c e =
-    let read = bind_ok (number_word w) _ c e in
+cable_ok cables w c e = let read = bind_ok (number_word w) _ c e in
     let held = unless_ok (nat_le 1 read.0 && nat_le read.0 cables) _ _ c read.2 in
     subst (λ n. is_cable cables (Some n) ≡ true) (same_ok read.0 c held.1) held.0
 
@@ -71,8 +69,7 @@ both a b e f = ap (λ x. x && b) e ∙ f
 -- a word that was read
 said_ok : {A : Type 0} (P : WordValue → Type 0) (r : Result A EntryFault) (make : A → WordValue) (said : WordValue)
     → ((x : A) → r ≡ Ok x → P (make x)) → (r >>= λ x. Ok (make x)) ≡ Ok said → P said
-said_ok P r make said h e =
-    let x = bind_ok r _ said e in
+said_ok P r make said h e = let x = bind_ok r _ said e in
     subst P (same_ok (make x.0) said x.2) (h x.0 x.1)
 
 word_ok : (cables : ℕ) (kind : WordKind) (w : List ℕ) (said : WordValue) → word_value cables kind w ≡ Ok said → word_names cables said ≡ true
@@ -86,8 +83,7 @@ word_ok cables Octets w said = said_ok (λ v. word_names cables v ≡ true) (hex
 
 said_all : (cables : ℕ) (kinds : List WordKind) (ws : List (List ℕ)) (said : List WordValue) → words_said cables kinds ws ≡ Ok said
     → list_all (word_names cables) said ≡ true
-said_all cables (kind ∷ kinds) (w ∷ ws) said e =
-    let first = bind_ok (word_value cables kind w) _ said e in
+said_all cables (kind ∷ kinds) (w ∷ ws) said e = let first = bind_ok (word_value cables kind w) _ said e in
     let rest = bind_ok (words_said cables kinds ws) _ said first.2 in
     subst (λ xs. list_all (word_names cables) xs ≡ true) (same_ok (first.0 ∷ rest.0) said rest.2)
     (both (word_names cables first.0) (list_all (word_names cables) rest.0) (word_ok cables kind w first.0 first.1)
@@ -99,8 +95,7 @@ said_all cables (kind ∷ kinds) [] said e = subst (λ xs. list_all (word_names 
 first_ok : (P : Option ℕ → Bool) (f : WordValue → Option ℕ) (said : List WordValue) → P None ≡ true
     → list_all (λ w. P (f w)) said ≡ true → P (first_said f said) ≡ true
 first_ok P f [] none all = none
-first_ok P f (w ∷ ws) none all =
-    let parts = and_parts (P (f w)) (list_all (λ v. P (f v)) ws) all in
+first_ok P f (w ∷ ws) none all = let parts = and_parts (P (f w)) (list_all (λ v. P (f v)) ws) all in
     one (f w) (first_said f ws) parts.0 (first_ok P f ws none parts.1)
   where
     one : (o other : Option ℕ) → P o ≡ true → P other ≡ true → P (or_number o other) ≡ true
@@ -108,18 +103,15 @@ first_ok P f (w ∷ ws) none all =
     one (Some n) other h g = h
 
 -- each of two tests of words that are true together
-each_all : (f g : WordValue → Bool) (said : List WordValue) → list_all (λ w. f w && g w) said ≡ true
-    → (list_all f said ≡ true) × (list_all g said ≡ true)
+each_all : (f g : WordValue → Bool) (said : List WordValue) → list_all (λ w. f w && g w) said ≡ true → (list_all f said ≡ true) × (list_all g said ≡ true)
 each_all f g [] all = (refl, refl)
-each_all f g (w ∷ ws) all =
-    let parts = and_parts (f w && g w) (list_all (λ v. f v && g v) ws) all in
+each_all f g (w ∷ ws) all = let parts = and_parts (f w && g w) (list_all (λ v. f v && g v) ws) all in
     let here = and_parts (f w) (g w) parts.0 in
     let rest = each_all f g ws parts.1 in
     (both (f w) (list_all f ws) here.0 rest.0, both (g w) (list_all g ws) here.1 rest.1)
 
 form_ok : (cables : ℕ) (f : EntryForm) (ws : List (List ℕ)) (act : EventValue) → event_of_form cables f ws ≡ Ok act → act_names cables act ≡ true
-form_ok cables f ws act e =
-    let held = unless_ok (length ws == length f.kinds) _ _ act e in
+form_ok cables f ws act e = let held = unless_ok (length ws == length f.kinds) _ _ act e in
     let said = bind_ok (words_said cables f.kinds ws) _ act held.1 in
     let each = each_all (λ w. is_cable cables (cable_said w)) (λ w. has_system (system_said w)) said.0
     (said_all cables f.kinds ws said.0 said.1) in
@@ -142,8 +134,7 @@ entry_ok place (Err fault) x e = absurd (let h = e in cc)
 acts_ok : (cables place : ℕ) (texts : List (List ℕ)) (events : List EventValue) → each_at_place (event_at cables) place texts ≡ Ok events
     → list_all (act_names cables) events ≡ true
 acts_ok cables place [] events e = subst (λ xs. list_all (act_names cables) xs ≡ true) (same_ok [] events e) refl
-acts_ok cables place (text ∷ texts) events e =
-    let first = bind_ok (event_at cables place text) _ events e in
+acts_ok cables place (text ∷ texts) events e = let first = bind_ok (event_at cables place text) _ events e in
     let rest = bind_ok (each_at_place (event_at cables) (place + 1) texts) _ events first.2 in
     subst (λ xs. list_all (act_names cables) xs ≡ true) (same_ok (first.0 ∷ rest.0) events rest.2)
     (both (act_names cables first.0) (list_all (act_names cables) rest.0)
@@ -171,14 +162,12 @@ steps_ok false rs rc ra bad made y e = absurd (let h = e in cc)
 
 -- the entries of a plan are those of its document
 plan_acts : (ms : Members) (p : PlanValue) → plan_in ms ≡ Ok p → events_in (length p.script.cables) ms ≡ Ok p.script.events
-plan_acts ms p e =
-    let parts = steps_ok (keys_among top_keys ms) (systems_in ms) (cables_in ms) (λ n. events_in n ms)
+plan_acts ms p e = let parts = steps_ok (keys_among top_keys ms) (systems_in ms) (cables_in ms) (λ n. events_in n ms)
     (λ systems cables. option_and_then script_fault_for (refusal_of_all systems (ends_of cables))) planned p e in
     subst (λ (q : PlanValue). events_in (length q.script.cables) ms ≡ Ok q.script.events) parts.4
     (subst (λ n. events_in n ms ≡ Ok parts.2) (sym (length-map parts.1 (λ c. c.ends))) parts.3)
 
-acts_named : (cables : ℕ) (ms : Members) (events : List EventValue) → events_in cables ms ≡ Ok events
-    → list_all (act_names cables) events ≡ true
+acts_named : (cables : ℕ) (ms : Members) (events : List EventValue) → events_in cables ms ≡ Ok events → list_all (act_names cables) events ≡ true
 acts_named cables ms events e =
     let texts = bind_ok (or_fault script.Events (value_at (codes "events") entries_in (Some []) ms)) (events_from cables 1) events e in
     acts_ok cables 1 texts.0 events texts.2
@@ -191,19 +180,15 @@ events_named cables (e ∷ es) h =
     (events_named cables es parts.1)
 
 -- the events of a plan name nothing but what there is
-pub plan_names : (text : List ℕ) (plan : Plan) → HasPlan text (plan_value plan)
-    → AllNameExisting (length plan.config.cables.items) plan.events.items
-plan_names text plan (ms, parsed, read) =
-    events_named (length plan.config.cables.items) plan.events.items
+pub plan_names : (text : List ℕ) (plan : Plan) → HasPlan text (plan_value plan) → AllNameExisting (length plan.config.cables.items) plan.events.items
+plan_names text plan (ms, parsed, read) = events_named (length plan.config.cables.items) plan.events.items
     (acts_named (length plan.config.cables.items) ms (event_values plan.events.items) (plan_acts ms (plan_value plan) read))
 
 -- ---- how many entries a script has
 
-in_place_long : {A X E : Type 0} (f : ℕ → X → Result A E) (place : ℕ) (xs : List X) (ys : List A)
-    → each_at_place f place xs ≡ Ok ys → length ys ≡ length xs
+in_place_long : {A X E : Type 0} (f : ℕ → X → Result A E) (place : ℕ) (xs : List X) (ys : List A) → each_at_place f place xs ≡ Ok ys → length ys ≡ length xs
 in_place_long f place [] ys e = ap length (sym (same_ok [] ys e))
-in_place_long f place (x ∷ xs) ys e =
-    let first = bind_ok (f place x) _ ys e in
+in_place_long f place (x ∷ xs) ys e = let first = bind_ok (f place x) _ ys e in
     let rest = bind_ok (each_at_place f (place + 1) xs) _ ys first.2 in
     ap length (sym (same_ok (first.0 ∷ rest.0) ys rest.2)) ∙ ap suc (in_place_long f (place + 1) xs rest.0 rest.1)
 
@@ -218,8 +203,7 @@ few_texts : (o : Option Data) (texts : List (List ℕ)) → value_or (Some []) e
 few_texts None texts e = subst (λ (xs : List (List ℕ)). length xs ≤ 100000) (same_Some [] texts e) (omega arith)
 few_texts (Some d) texts e = listed (list_in as_str d) e
   where
-    within : (xs : List (List ℕ)) (b : Bool) → nat_le (length xs) 100000 ≡ b
-        → (if b then Some xs else None) ≡ Some texts → length texts ≤ 100000
+    within : (xs : List (List ℕ)) (b : Bool) → nat_le (length xs) 100000 ≡ b → (if b then Some xs else None) ≡ Some texts → length texts ≤ 100000
     within xs true le h = subst (λ (ys : List (List ℕ)). length ys ≤ 100000) (same_Some xs texts h) (grind (arith, nat_tests))
     within xs false le h = absurd (none-some texts h)
 

@@ -15,8 +15,7 @@ pub consumes_none : (old : Option (List ℕ)) → Consumes old old []
 consumes_none None = tt
 consumes_none (Some xs) = refl
 
-pub consumes_both : (old mid new : Option (List ℕ)) (xs ys : List ℕ) → Consumes old mid xs → Consumes mid new ys
-    → Consumes old new (xs ++ ys)
+pub consumes_both : (old mid new : Option (List ℕ)) (xs ys : List ℕ) → Consumes old mid xs → Consumes mid new ys → Consumes old new (xs ++ ys)
 consumes_both None mid new xs ys h k = tt
 consumes_both (Some o) None new xs ys h k = absurd h
 consumes_both (Some o) (Some m) None xs ys h k = k

@@ -59,8 +59,7 @@ ticked : (gives : ℕ → ℕ → ℕ → Type 0) (n : ℕ) (old new : HalfState
 ticked gives zero old new x = ap (λ (h : HalfState). h.flows) x
 ticked gives (suc n) old new x = ap (λ (h : HalfState). h.flows) x.2.same ∙ ticked gives n old x.0 x.1
 
-emitted : (s : Side) (p : ℕ) (a : Result (Option (List ℕ)) SystemFault) (j new : WorldState) (r : Reply)
-    → AfterTransmit s p a j r new → NoneSent j new
+emitted : (s : Side) (p : ℕ) (a : Result (Option (List ℕ)) SystemFault) (j new : WorldState) (r : Reply) → AfterTransmit s p a j r new → NoneSent j new
 emitted s p (Ok (Some frame)) j new r x = same (with_item_sent s p (transmitted_item s p frame (half s j)) j) new x.1
 emitted s p a j new r x = same j new x.1
 
@@ -81,8 +80,7 @@ arrived s p item (Ok (received.Up agg)) j new r x = followed j (with_stamp_colle
     (same (with_stamp_collected item.stamp j) new x.1)
 arrived s p item a j new r x = same j new x.1
 
-arrives : (gives : Algorithms) (s : Side) (p : ℕ) (item : ItemValue) (j new : WorldState) (r : Reply)
-    → WorldReceives gives s p item j r new → NoneSent j new
+arrives : (gives : Algorithms) (s : Side) (p : ℕ) (item : ItemValue) (j new : WorldState) (r : Reply) → WorldReceives gives s p item j r new → NoneSent j new
 arrives gives s p item j new r x =
     followed j (with_half s x.1 j) new (asked (gives s) (Receive p item.octets) (answer.Receive x.0) s x.1 j x.2)
     (arrived s p item x.0 (with_half s x.1 j) new r x.3)
@@ -101,8 +99,7 @@ counted Two agg octets j One g k free = refl
 counted Two agg octets j Two g k free =
     ap sent_in (flow_other_row with_sent agg.0 (number_of_conversation j.two.state octets) g k j.two.flows (λ e. free refl e))
 
-offered_on : (s : Side) (agg : AggId) (octets : List ℕ) (a : Result ℕ SystemFault) (j new : WorldState) (r : Reply)
-    → AfterOffer s agg octets a j r new
+offered_on : (s : Side) (agg : AggId) (octets : List ℕ) (a : Result ℕ SystemFault) (j new : WorldState) (r : Reply) → AfterOffer s agg octets a j r new
     → (t : Side) (g k : ℕ) → (t ≡ s → g ≡ agg.0 → ⊥) → sent_of t g k new ≡ sent_of t g k j
 offered_on s agg octets (Err fault) j new r x t g k free = ap (sent_of t g k) x.1
 offered_on s agg octets (Ok port) j new r x t g k free = ap (sent_of t g k) x.2 ∙ counted s agg octets j t g k free
@@ -112,8 +109,7 @@ number_named : (n : ℕ) (s : Side) → side_of n ≡ Some s → n ≡ side_numb
 number_named n s e = grind arith
 
 -- an offer to another aggregator
-other : (n : ℕ) (s t : Side) (agg : AggId) (g : ℕ) → n ≡ side_number s → ((n == side_number t) && (agg.0 == g)) ≡ false → t ≡ s → g ≡ agg.0
-    → ⊥
+other : (n : ℕ) (s t : Side) (agg : AggId) (g : ℕ) → n ≡ side_number s → ((n == side_number t) && (agg.0 == g)) ≡ false → t ≡ s → g ≡ agg.0 → ⊥
 other n s t agg g name free same_side same_agg =
     let here : (n == side_number t) ≡ true = eq-eqb n (side_number t) (name ∙ ap side_number (sym same_side)) in
     let there : (agg.0 == g) ≡ true = eq-eqb agg.0 g (sym same_agg) in
@@ -127,8 +123,7 @@ noted (if_forced agg conv) a h = forced_where_sent (answer_to_force a) agg conv 
 
 half_asked : (gives : ℕ → ℕ → ℕ → Type 0) (s : Side) (call : Call) (kept : Recording) (up : Bool) (r : Reply) (j new : WorldState)
     → InHalf s (λ h k. HalfAsked gives call kept up h r k) j new → NoneSent j new
-half_asked gives s call kept up r j new x =
-    let mid = with_half s (half s new) j in
+half_asked gives s call kept up r j new x = let mid = with_half s (half s new) j in
     followed j mid new
     (of_half s (half s new) j (λ g k. ap (λ (h : HalfState). sent_in (flow_at h.flows g k)) x.0.4 ∙ noted kept x.0.0 x.0.1 g k
     ∙ ap (λ (h : HalfState). sent_in (flow_at h.flows g k)) x.0.2.same))
@@ -138,8 +133,7 @@ effect_keeps : (gives : Algorithms) (e : Event) (d : Effect) (r : Reply) (old ne
     → (t : Side) (g k : ℕ) → offers_to (side_number t) g e ≡ false → sent_of t g k new ≡ sent_of t g k old
 effect_keeps gives e (nothing a) r old new x t g k free = ap (sent_of t g k) x.1
 effect_keeps gives e (shrinks i l m a) r old new x t g k free = ap (sent_of t g k) x.2
-effect_keeps gives e (ticks s count) r old new x t g k free =
-    let mid = with_half s (half s new) old in
+effect_keeps gives e (ticks s count) r old new x t g k free = let mid = with_half s (half s new) old in
     followed old mid new
     (of_half s (half s new) old (same_flows (half s old) (half s new) (ticked (gives s) count (half s old) (half s new) x.0.0)))
     (same mid new x.0.1) t g k
@@ -149,11 +143,9 @@ effect_keeps gives e (restarts s) r old new x t g k free =
 effect_keeps gives e (receives s p item) r old new x t g k free = arrives gives s p item old new r x t g k
 effect_keeps gives e (delivers s i l m item) r old new x t g k free =
     arrives gives s (port_at s l) item (with_link_at i m old) new r x.1 t g k
-effect_keeps gives e (emits s p) r old new x t g k free =
-    let mid = with_half s x.1 old in
+effect_keeps gives e (emits s p) r old new x t g k free = let mid = with_half s x.1 old in
     followed old mid new (asked (gives s) (Transmit p) (answer.Transmit x.0) s x.1 old x.2) (emitted s p x.0 mid new r x.3) t g k
-effect_keeps gives e (offers s agg octets) r old new (n, frame, named, is_offer, x) t g k free =
-    let mid = with_half s x.1 old in
+effect_keeps gives e (offers s agg octets) r old new (n, frame, named, is_offer, x) t g k free = let mid = with_half s x.1 old in
     offered_on s agg octets x.0 mid new r x.3 t g k
     (other n s t agg g (number_named n s named) (subst (λ e. offers_to (side_number t) g e ≡ false) is_offer free))
     ∙ asked (gives s) (Offer agg octets) (answer.Offer x.0) s x.1 old x.2 t g k
@@ -185,8 +177,7 @@ sent_where_offered gives from to es rs start ran s g free k = by_side (side_of s
   where
     by_side : (o : Option Side) → side_of s ≡ o → sent_in (flow_of_system (side_of s) g k to) ≡ []
     by_side None e = ap (λ o. sent_in (flow_of_system o g k to)) e
-    by_side (Some t) e =
-        ap (λ o. sent_in (flow_of_system o g k to)) e
+    by_side (Some t) e = ap (λ o. sent_in (flow_of_system o g k to)) e
         ∙ runs_keep gives es rs from to ran t g k (subst (λ n. is_offered n g es ≡ false) (number_named s t e) free)
         ∙ first_sent from t g k start
 
@@ -199,17 +190,14 @@ no_row j s n agg quiet = empties (λ conv. flow_line s agg conv (flow_of_system 
     (λ c le. no_line s agg c (flow_of_system (side_of s) agg c j) (quiet c))
 
 -- and is left out
-pub row_skipped : (t u v : List ℕ) (j : WorldState) (s n i : ℕ)
-    → u ≡ t ++ flat_map (aggregator_flows_text j s n) (range_with_len 1 i) → v ≡ u → HasSentNothing j s (i + 1)
-    → v ≡ t ++ flat_map (aggregator_flows_text j s n) (range_with_len 1 (i + 1))
-row_skipped t u v j s n i before same quiet =
-    appended_both t u v (flat_map (aggregator_flows_text j s n) (range_with_len 1 i)) []
+pub row_skipped : (t u v : List ℕ) (j : WorldState) (s n i : ℕ) → u ≡ t ++ flat_map (aggregator_flows_text j s n) (range_with_len 1 i) → v ≡ u
+    → HasSentNothing j s (i + 1) → v ≡ t ++ flat_map (aggregator_flows_text j s n) (range_with_len 1 (i + 1))
+row_skipped t u v j s n i before same quiet = appended_both t u v (flat_map (aggregator_flows_text j s n) (range_with_len 1 i)) []
     (flat_map (aggregator_flows_text j s n) (range_with_len 1 (i + 1))) before
     (same ∙ sym (append_none u))
     (ap (λ x. flat_map (aggregator_flows_text j s n) (range_with_len 1 i) ++ x) (sym (no_row j s n (i + 1) quiet))
     ∙ range_more (aggregator_flows_text j s n) 1 i (i + 1) (i + 1) (omega arith) refl)
 
 -- a flag that was read and is not set
-pub unset : (flags : List Bool) (at i : ℕ) (r : Bool) → at ≡ i → i < length flags → r ≡ get_or flags at r → r ≡ false
-    → get_or flags i false ≡ false
+pub unset : (flags : List Bool) (at i : ℕ) (r : Bool) → at ≡ i → i < length flags → r ≡ get_or flags at r → r ≡ false → get_or flags i false ≡ false
 unset flags at i r same inside read off = sym (get_or_read flags i r inside (subst (λ k. r ≡ get_or flags k r) same read) false) ∙ off

@@ -52,24 +52,20 @@ first_bare [] = refl
 first_bare (l ∷ limits) = first_bare limits
 
 -- one cable for each pair of ends, if there are as many limits
-pub cables_counted : (cables : List (ℕ × ℕ)) (limits : List (Option ℕ)) → length limits ≡ length cables
-    → length (empty_links cables limits) ≡ length cables
+pub cables_counted : (cables : List (ℕ × ℕ)) (limits : List (Option ℕ)) → length limits ≡ length cables → length (empty_links cables limits) ≡ length cables
 cables_counted [] limits h = refl
 cables_counted (ends ∷ cables) [] h = absurd (omega (arith, h))
-cables_counted (ends ∷ cables) (l ∷ limits) h =
-    let rest = cables_counted cables limits (omega (arith, h)) in
+cables_counted (ends ∷ cables) (l ∷ limits) h = let rest = cables_counted cables limits (omega (arith, h)) in
     omega (arith, rest)
 
 -- ---- events are played
 
 -- each event counts
-acted_by : (gives : Algorithms) (es : List Event) (rs : List Reply) (old new : WorldState) → WorldRuns gives old es rs new
-    → new.acted ≡ old.acted + length es
+acted_by : (gives : Algorithms) (es : List Event) (rs : List Reply) (old new : WorldState) → WorldRuns gives old es rs new → new.acted ≡ old.acted + length es
 acted_by gives [] [] old new x = ap (λ (j : WorldState). j.acted) x ∙ (let none : old.acted ≡ old.acted + 0 = omega arith in none)
 acted_by gives [] (r ∷ rs) old new x = absurd x
 acted_by gives (e ∷ es) [] old new x = absurd x
-acted_by gives (e ∷ es) (r ∷ rs) old new (mid, step, rest) =
-    let more = acted_by gives es rs mid new rest in
+acted_by gives (e ∷ es) (r ∷ rs) old new (mid, step, rest) = let more = acted_by gives es rs mid new rest in
     let next : mid.acted ≡ old.acted + 1 = step.1 in
     omega (arith, more, next)
 
@@ -84,8 +80,7 @@ there (x ∷ xs) (suc i) lt = there xs i (omega (arith, lt))
 cable_there : (j : WorldState) (o : Option ℕ) → is_cable (length j.links) o ≡ true → has_cable j o ≡ true
 cable_there j None h = refl
 cable_there j (Some zero) h = absurd (true≢false (sym (and_parts (nat_le 1 0) (nat_le 0 (length j.links)) h).0))
-cable_there j (Some (suc i)) h =
-    let within = (and_parts (nat_le 1 (suc i)) (nat_le (suc i) (length j.links)) h).1 in
+cable_there j (Some (suc i)) h = let within = (and_parts (nat_le 1 (suc i)) (nat_le (suc i) (length j.links)) h).1 in
     there j.links i (grind (arith, nat_tests))
 
 no_cause : (cable system spent : Bool) → cable ≡ true → system ≡ true → spent ≡ false → first_event_cause cable system spent ≡ None
@@ -100,9 +95,8 @@ not_spent : (n k : ℕ) → n ≡ k → k < most_events → nat_le most_events n
 not_spent n k e lt = grind (arith, nat_tests)
 
 -- the next event has no cause to be refused
-next_fine : (gives : Algorithms) (old new : WorldState) (es : List Event) (rs : List Reply) (done : ℕ) (e : Event)
-    → WorldRuns gives old (take done es) rs new → done ≤ length es
-    → world_setup new ≡ world_setup old → AllNameExisting (length old.links) es → old.acted + length es ≤ most_events
+next_fine : (gives : Algorithms) (old new : WorldState) (es : List Event) (rs : List Reply) (done : ℕ) (e : Event) → WorldRuns gives old (take done es) rs new
+    → done ≤ length es → world_setup new ≡ world_setup old → AllNameExisting (length old.links) es → old.acted + length es ≤ most_events
     → slice_get es done ≡ Some e → cause new e ≡ None
 next_fine gives old new es rs done e ran within fixed named few at =
     let held = and_parts (is_cable (length old.links) (cable_named e)) (has_system (system_named e))
@@ -117,9 +111,8 @@ next_fine gives old new es rs done e ran within fixed named few at =
     (not_spent new.acted (old.acted + done) count (omega (arith, lt, few)))
 
 -- so a run stops only for lack of memory
-stops_for_memory : (gives : Algorithms) (old new : WorldState) (es : List Event) (stop : RunFault)
-    → world_setup new ≡ world_setup old → AllNameExisting (length old.links) es → old.acted + length es ≤ most_events
-    → RunStops gives old es stop new → stop.fault ≡ NoMemory
+stops_for_memory : (gives : Algorithms) (old new : WorldState) (es : List Event) (stop : RunFault) → world_setup new ≡ world_setup old
+    → AllNameExisting (length old.links) es → old.acted + length es ≤ most_events → RunStops gives old es stop new → stop.fault ≡ NoMemory
 stops_for_memory gives old new es stop fixed named few s =
     elim s.fault [ inl h ↦ h.1 | inr h ↦ by_next (next_of es stop.done) refl h ]
   where
@@ -136,17 +129,13 @@ named_behind p (e ∷ es) fs all = named_behind p es fs (and_parts (p e) (list_a
 
 named_before : (p : Event → Bool) (es fs : List Event) → list_all p (es ++ fs) ≡ true → list_all p es ≡ true
 named_before p [] fs all = refl
-named_before p (e ∷ es) fs all =
-    let first = and_parts (p e) (list_all p (es ++ fs)) all in
+named_before p (e ∷ es) fs all = let first = and_parts (p e) (list_all p (es ++ fs)) all in
     both (p e) (list_all p es) first.0 (named_before p es fs first.1)
 
 -- a piece behind what has been played stops only for lack of memory
-pub piece_stops_for_memory : (gives : Algorithms) (old mid new : WorldState) (all done piece rest : List Event) (rs : List Reply)
-    (stop : RunFault)
-    → WorldRuns gives old done rs mid → all ≡ done ++ (piece ++ rest)
-    → world_setup mid ≡ world_setup old → world_setup new ≡ world_setup mid
-    → old.acted ≡ 0 → AllNameExisting (length old.links) all → length all ≤ most_events → RunStops gives mid piece stop new
-    → stop.fault ≡ NoMemory
+pub piece_stops_for_memory : (gives : Algorithms) (old mid new : WorldState) (all done piece rest : List Event) (rs : List Reply) (stop : RunFault)
+    → WorldRuns gives old done rs mid → all ≡ done ++ (piece ++ rest) → world_setup mid ≡ world_setup old → world_setup new ≡ world_setup mid → old.acted ≡ 0
+    → AllNameExisting (length old.links) all → length all ≤ most_events → RunStops gives mid piece stop new → stop.fault ≡ NoMemory
 piece_stops_for_memory gives old mid new all done piece rest rs stop ran parts kept fixed acted named few s =
     let p = names_existing (length old.links) in
     let behind = named_behind p done (piece ++ rest) (subst (λ es. list_all p es ≡ true) parts named) in

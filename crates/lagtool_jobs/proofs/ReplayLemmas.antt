@@ -20,39 +20,32 @@ append_none [] = refl
 append_none (x ∷ xs) = ap (λ l. x ∷ l) (append_none xs)
 
 -- the texts of the numbers from a on, and of one more
-pub range_more : (f : ℕ → List ℕ) (a n m j : ℕ) → a + n ≡ j → m ≡ n + 1 → flat_map f (range_with_len a n)
-    ++ f j ≡ flat_map f (range_with_len a m)
-range_more f a n m j e more =
-    let on : m ≡ suc n = omega arith in
+pub range_more : (f : ℕ → List ℕ) (a n m j : ℕ) → a + n ≡ j → m ≡ n + 1 → flat_map f (range_with_len a n) ++ f j ≡ flat_map f (range_with_len a m)
+range_more f a n m j e more = let on : m ≡ suc n = omega arith in
     sym (ap (λ k. flat_map f (range_with_len a k)) on ∙ ap (flat_map f) (last a n j e) ∙ flat_map-append f (range_with_len a n) (j ∷ [])
     ∙ ap (λ t. flat_map f (range_with_len a n) ++ t) (append_none (f j)))
 
 -- the texts of some items, and of one more
 pub items_more : {X : Type 0} (f : X → List ℕ) (xs : List X) (i : ℕ) (d : X) → i < length xs → flat_map f (take i xs)
     ++ f (get_or xs i d) ≡ flat_map f (take (i + 1) xs)
-items_more f xs i d lt =
-    sym (ap (flat_map f) (take_more xs i d lt) ∙ flat_map-append f (take i xs) (get_or xs i d ∷ [])
+items_more f xs i d lt = sym (ap (flat_map f) (take_more xs i d lt) ∙ flat_map-append f (take i xs) (get_or xs i d ∷ [])
     ∙ ap (λ t. flat_map f (take i xs) ++ t) (append_none (f (get_or xs i d))))
 
 -- the lines of some entries, and of one more
 entries_next : (n i : ℕ) (es : List Event) (rs : List Reply) (e : Event) (r : Reply) → i < length es → i < length rs
-    → entries_text n (take i es) (take i rs)
-    ++ entry_line (n + i) (get_or es i e) (get_or rs i r) ≡ entries_text n (take (suc i) es) (take (suc i) rs)
+    → entries_text n (take i es) (take i rs) ++ entry_line (n + i) (get_or es i e) (get_or rs i r) ≡ entries_text n (take (suc i) es) (take (suc i) rs)
 entries_next n i [] rs e r lt lu = absurd (omega arith)
 entries_next n i (x ∷ es) [] e r lt lu = absurd (omega arith)
 entries_next n zero (x ∷ es) (y ∷ rs) e r lt lu =
     let here : n + 0 ≡ n = omega arith in ap (λ k. entry_line k x y) here ∙ sym (append_none (entry_line n x y))
-entries_next n (suc i) (x ∷ es) (y ∷ rs) e r lt lu =
-    let there : n + suc i ≡ (n + 1) + i = omega arith in
+entries_next n (suc i) (x ∷ es) (y ∷ rs) e r lt lu = let there : n + suc i ≡ (n + 1) + i = omega arith in
     append_assoc (entry_line n x y) (entries_text (n + 1) (take i es) (take i rs)) (entry_line (n + suc i) (get_or es i e) (get_or rs i r))
     ∙ ap (λ k. entry_line n x y ++ (entries_text (n + 1) (take i es) (take i rs) ++ entry_line k (get_or es i e) (get_or rs i r))) there
     ∙ ap (λ t. entry_line n x y ++ t) (entries_next (n + 1) i es rs e r (omega arith) (omega arith))
 
 pub entries_more : (n i : ℕ) (es : List Event) (rs : List Reply) (e : Event) (r : Reply) → i < length es → i < length rs
-    → entries_text n (take i es) (take i rs)
-    ++ entry_line (n + i) (get_or es i e) (get_or rs i r) ≡ entries_text n (take (i + 1) es) (take (i + 1) rs)
-entries_more n i es rs e r lt lu =
-    let on : i + 1 ≡ suc i = omega arith in
+    → entries_text n (take i es) (take i rs) ++ entry_line (n + i) (get_or es i e) (get_or rs i r) ≡ entries_text n (take (i + 1) es) (take (i + 1) rs)
+entries_more n i es rs e r lt lu = let on : i + 1 ≡ suc i = omega arith in
     entries_next n i es rs e r lt lu ∙ ap (λ k. entries_text n (take k es) (take k rs)) (sym on)
 
 pub empties : (f : ℕ → List ℕ) (a m : ℕ) → ((c : ℕ) → a ≤ c → f c ≡ []) → flat_map f (range_with_len a m) ≡ []
@@ -60,8 +53,7 @@ empties f a zero h = refl
 empties f a (suc m) h = ap₂ (λ x y. x ++ y) (h a (omega arith)) (empties f (a + 1) m (λ c le. h c (omega arith)))
 
 -- numbers with no text may be left out at the end
-pub range_rest : (f : ℕ → List ℕ) (a n m : ℕ) → n ≤ m → ((c : ℕ) → a + n ≤ c → f c ≡ [])
-    → flat_map f (range_with_len a n) ≡ flat_map f (range_with_len a m)
+pub range_rest : (f : ℕ → List ℕ) (a n m : ℕ) → n ≤ m → ((c : ℕ) → a + n ≤ c → f c ≡ []) → flat_map f (range_with_len a n) ≡ flat_map f (range_with_len a m)
 range_rest f a zero m le h = sym (empties f a m (λ c lt. h c (omega arith)))
 range_rest f a (suc n) zero le h = absurd (omega arith)
 range_rest f a (suc n) (suc m) le h = ap (λ t. f a ++ t) (range_rest f (a + 1) n m (omega arith) (λ c lt. h c (omega arith)))
@@ -85,8 +77,7 @@ no_more_cables j (suc i) (suc k) one le h =
     (past j.links i k (none_agrees _ (slice_get j.links i) h) (omega arith))
 
 -- as many replies as events
-pub as_many : (gives : Algorithms) (old new : WorldState) (es : List Event) (rs : List Reply)
-    → WorldRuns gives old es rs new → length rs ≡ length es
+pub as_many : (gives : Algorithms) (old new : WorldState) (es : List Event) (rs : List Reply) → WorldRuns gives old es rs new → length rs ≡ length es
 as_many gives old new [] [] h = refl
 as_many gives old new [] (r ∷ rs) h = absurd h
 as_many gives old new (e ∷ es) [] h = absurd h
@@ -103,22 +94,18 @@ numbers = refl
 -- the lines of all cables, if there is none with the next number
 pub cables_end : (j : WorldState) (i : ℕ) → i < 65535 → agreement_at j (i + 1) ≡ None
     → flat_map (λ c. agreement_line c (agreement_at j c)) (range_with_len 1 i) ≡ agreements_text j
-cables_end j i lt none =
-    range_rest (λ c. agreement_line c (agreement_at j c)) 1 i cable_numbers (omega (arith, numbers, lt))
+cables_end j i lt none = range_rest (λ c. agreement_line c (agreement_at j c)) 1 i cable_numbers (omega (arith, numbers, lt))
     (λ c le. ap (agreement_line c) (no_more_cables j (i + 1) c (omega arith) (omega (arith, le)) none))
 
 -- the lines of all cables, if each number was looked at
-pub cables_all : (j : WorldState) (i : ℕ) → i ≤ 65535 → 65535 ≤ i
-    → flat_map (λ c. agreement_line c (agreement_at j c)) (range_with_len 1 i) ≡ agreements_text j
-cables_all j i le ge =
-    let all : i ≡ cable_numbers = omega (arith, numbers, le, ge) in
+pub cables_all : (j : WorldState) (i : ℕ) → i ≤ 65535 → 65535 ≤ i → flat_map (λ c. agreement_line c (agreement_at j c)) (range_with_len 1 i) ≡ agreements_text j
+cables_all j i le ge = let all : i ≡ cable_numbers = omega (arith, numbers, le, ge) in
     ap (λ n. flat_map (λ c. agreement_line c (agreement_at j c)) (range_with_len 1 n)) all
 
 -- one more line
-pub cable_more : (t u v : List ℕ) (j : WorldState) (i : ℕ) (a : Agreement) → u ≡ t
-    ++ flat_map (λ c. agreement_line c (agreement_at j c)) (range_with_len 1 i)
-    → Some a ≡ agreement_at j (i + 1) → v ≡ u ++ agreement_line (i + 1) (Some a) → v ≡ t
-    ++ flat_map (λ c. agreement_line c (agreement_at j c)) (range_with_len 1 (i + 1))
+pub cable_more : (t u v : List ℕ) (j : WorldState) (i : ℕ) (a : Agreement) → u ≡ t ++ flat_map (λ c. agreement_line c (agreement_at j c)) (range_with_len 1 i)
+    → Some a ≡ agreement_at j (i + 1) → v ≡ u ++ agreement_line (i + 1) (Some a)
+    → v ≡ t ++ flat_map (λ c. agreement_line c (agreement_at j c)) (range_with_len 1 (i + 1))
 cable_more t u v j i a before at said =
     appended_both t u v (flat_map (λ c. agreement_line c (agreement_at j c)) (range_with_len 1 i))
     (agreement_line (i + 1) (Some a)) _ before said
@@ -129,8 +116,7 @@ cable_more t u v j i a before at said =
 pub entries_grow : (t u v : List ℕ) (i : ℕ) (es : List Event) (rs : List Reply) (e : Event) (d : Reply) → i < length es → i < length rs
     → u ≡ t ++ entries_text 1 (take i es) (take i rs) → v ≡ u ++ entry_line (i + 1) e (get_or rs i d) → e ≡ get_or es i e
     → v ≡ t ++ entries_text 1 (take (i + 1) es) (take (i + 1) rs)
-entries_grow t u v i es rs e d lt lu before said at =
-    let place : i + 1 ≡ 1 + i = omega arith in
+entries_grow t u v i es rs e d lt lu before said at = let place : i + 1 ≡ 1 + i = omega arith in
     appended_both t u v (entries_text 1 (take i es) (take i rs)) (entry_line (1 + i) (get_or es i e) (get_or rs i d)) _ before
     (said ∙ ap (λ x. u ++ entry_line (i + 1) x (get_or rs i d)) at ∙ ap (λ k. u ++ entry_line k (get_or es i e) (get_or rs i d)) place)
     (entries_more 1 i es rs e d lt lu)

@@ -29,16 +29,14 @@ InOneLine xs = Nowhere (Passes (is_byte 10) xs) 0 (length xs)
 
 lines_joined : (xs rest : List ℕ) → InOneLine xs → lines_of (xs ++ rest) ≡ continue_line xs (lines_of rest)
 lines_joined [] rest h = sym (prepend_none (lines_of rest))
-lines_joined (b ∷ bs) rest h =
-    let first : (b == 10) ≡ false = not_true (b == 10) (h 0 (omega arith) (omega arith)) in
+lines_joined (b ∷ bs) rest h = let first : (b == 10) ≡ false = not_true (b == 10) (h 0 (omega arith) (omega arith)) in
     let later = lines_joined bs rest (λ k low high. h (suc k) (omega arith) (omega (arith, high))) in
     ap (λ t. cond t ([] ∷ lines_of (bs ++ rest)) (continue_line (b ∷ []) (lines_of (bs ++ rest)))) first ∙ ap (continue_line (b ∷ [])) later
     ∙ prepend_both (b ∷ []) bs (lines_of rest)
 
 -- what stands before the first newline
 pub before_newline : (xs : List ℕ) (n : ℕ) → n ≤ length xs → Nowhere (Passes (is_byte 10) xs) 0 n → InOneLine (take n xs)
-before_newline xs n le h k low high is =
-    let lt : k < n = omega (arith, length-take-le n xs le, high) in
+before_newline xs n le h k low high is = let lt : k < n = omega (arith, length-take-le n xs le, high) in
     h k low lt (ap (λ b. b == 10) (sym (get_or-take n xs k 0 lt)) ∙ is)
 
 long_line : (l : List ℕ) → 65536 < length l → line_verdict l ≡ TooLong
@@ -55,14 +53,12 @@ module _ {X : Type 0} (F : List (List ℕ) → X) (by_verdict : (l m : List ℕ)
       by_verdict ((x ∷ l) ++ k) ((y ∷ m) ++ k) ls (long_line ((x ∷ l) ++ k) (simp length-append (omega arith))
       ∙ sym (long_line ((y ∷ m) ++ k) (simp length-append (omega arith))))
 
-  more_of_line : (line xs rest : List ℕ) → InOneLine xs
-      → F (continue_line line (lines_of (xs ++ rest))) ≡ F (continue_line (line ++ xs) (lines_of rest))
+  more_of_line : (line xs rest : List ℕ) → InOneLine xs → F (continue_line line (lines_of (xs ++ rest))) ≡ F (continue_line (line ++ xs) (lines_of rest))
   more_of_line line xs rest h = ap (λ ls. F (continue_line line ls)) (lines_joined xs rest h) ∙ ap F (prepend_both line xs (lines_of rest))
 
   kept_part : (line xs rest : List ℕ) (n : ℕ) → InOneLine xs → n ≤ length xs → length line + n ≡ 65537
       → F (continue_line line (lines_of (xs ++ rest))) ≡ F (continue_line (line ++ take n xs) (lines_of rest))
-  kept_part line xs rest n h le long =
-      more_of_line line xs rest h
+  kept_part line xs rest n h le long = more_of_line line xs rest h
       ∙ same_long (line ++ xs) (line ++ take n xs) (lines_of rest) (simp length-append (omega arith))
       (simp length-append (omega (arith, length-take-le n xs le)))
 
@@ -76,8 +72,7 @@ module _ {X : Type 0} (F : List (List ℕ) → X) (by_verdict : (l m : List ℕ)
 
 newlines_joined : (xs rest : List ℕ) → InOneLine xs → newline_count (xs ++ rest) ≡ newline_count rest
 newlines_joined [] rest h = refl
-newlines_joined (b ∷ bs) rest h =
-    let first : (b == 10) ≡ false = not_true (b == 10) (h 0 (omega arith) (omega arith)) in
+newlines_joined (b ∷ bs) rest h = let first : (b == 10) ≡ false = not_true (b == 10) (h 0 (omega arith) (omega arith)) in
     ap (λ t. cond t (suc (newline_count (bs ++ rest))) (newline_count (bs ++ rest))) first
     ∙ newlines_joined bs rest (λ k low high. h (suc k) (omega arith) (omega (arith, high)))
 
@@ -92,13 +87,11 @@ counts n k line rest = summary_from n k (continue_line line (lines_of rest))
 abbrev pub ended : ℕ → List ℕ → List ℕ → List ℕ
 ended n line rest = verdicts_from n (take (newline_count rest) (continue_line line (lines_of rest)))
 
-same_report : (n k : ℕ) (l m : List ℕ) (ls : List (List ℕ)) → line_verdict l ≡ line_verdict m
-    → check_report_from n k (l ∷ ls) ≡ check_report_from n k (m ∷ ls)
+same_report : (n k : ℕ) (l m : List ℕ) (ls : List (List ℕ)) → line_verdict l ≡ line_verdict m → check_report_from n k (l ∷ ls) ≡ check_report_from n k (m ∷ ls)
 same_report n k l m ls e = ap (λ (v : Verdict). (decimal (n + 1) ++ 32 ∷ (verdict_text v ++ 10 ∷ []))
     ++ check_report_from (n + 1) (k + cond (is_fault v) 1 0) ls) e
 
-same_counts : (n k : ℕ) (l m : List ℕ) (ls : List (List ℕ)) → line_verdict l ≡ line_verdict m
-    → summary_from n k (l ∷ ls) ≡ summary_from n k (m ∷ ls)
+same_counts : (n k : ℕ) (l m : List ℕ) (ls : List (List ℕ)) → line_verdict l ≡ line_verdict m → summary_from n k (l ∷ ls) ≡ summary_from n k (m ∷ ls)
 same_counts n k l m ls e = ap (λ (v : Verdict). summary_from (n + 1) (k + cond (is_fault v) 1 0) ls) e
 
 same_verdicts : (n c : ℕ) (l m : List ℕ) (ls : List (List ℕ)) → line_verdict l ≡ line_verdict m
@@ -107,8 +100,7 @@ same_verdicts n zero l m ls e = refl
 same_verdicts n (suc c) l m ls e = ap (λ (v : Verdict). (decimal (n + 1) ++ 32 ∷ (verdict_text v ++ 10 ∷ []))
     ++ verdicts_from (n + 1) (take c ls)) e
 
-same_unwritten : (a b : List ℕ) (n m k j : ℕ) (l o rest : List ℕ) → a ≡ b → n ≡ m → k ≡ j → l ≡ o → a
-    ++ pending n k l rest ≡ b ++ pending m j o rest
+same_unwritten : (a b : List ℕ) (n m k j : ℕ) (l o rest : List ℕ) → a ≡ b → n ≡ m → k ≡ j → l ≡ o → a ++ pending n k l rest ≡ b ++ pending m j o rest
 same_unwritten a b n m k j l o rest e f g h = rw (e, f, g, h) refl
 
 same_said : (a b : List ℕ) (n m : ℕ) (l o rest : List ℕ) → a ≡ b → n ≡ m → l ≡ o → a ++ ended n l rest ≡ b ++ ended m o rest
@@ -122,8 +114,7 @@ on_ok (Ok x) h = h refl
 on_ok (Err e) h = tt
 
 -- more octets of a line were kept
-pub keeps : (s t : ScanState) (xs : List ℕ) (n : ℕ) → t.to_write ≡ s.to_write → t.lines ≡ s.lines → t.faults ≡ s.faults
-    → t.line ≡ s.line ++ take n xs
+pub keeps : (s t : ScanState) (xs : List ℕ) (n : ℕ) → t.to_write ≡ s.to_write → t.lines ≡ s.lines → t.faults ≡ s.faults → t.line ≡ s.line ++ take n xs
     → InOneLine xs → length s.line ≤ 65537 → n ≡ min (length xs) (65537 - length s.line) → ReadsOctets s t xs
 keeps s t xs n e f g h in_line short is = record {
   report = λ rest. ap (λ zs. s.to_write ++ zs) (kept_line (check_report_from s.lines s.faults) (same_report s.lines s.faults) s.line xs
@@ -163,16 +154,14 @@ ends_line s t e f g h = record {
 -- the octets of a piece that are done, a line more
 pub line_done : (all done rest : List ℕ) (n : ℕ) → all ≡ done ++ rest → n < length rest → (get_or rest n 0 == 10) ≡ true
     → all ≡ (done ++ (take n rest ++ 10 ∷ [])) ++ take (length rest - (n + 1)) (drop (n + 1) rest)
-line_done all done rest n e lt is =
-    let later = drop (n + 1) rest in
+line_done all done rest n e lt is = let later = drop (n + 1) rest in
     let here : drop n rest ≡ 10 ∷ later = drop_more rest n 0 lt ∙ ap (λ b. b ∷ later) (eqb-true (get_or rest n 0) 10 is) in
     let split : rest ≡ (take n rest ++ 10 ∷ []) ++ later = sym (take-append-drop n rest) ∙ ap (λ xs. take n rest ++ xs) here
     ∙ sym (append_assoc (take n rest) (10 ∷ []) later) in
     e ∙ ap (λ xs. done ++ xs) split ∙ sym (append_assoc done (take n rest ++ 10 ∷ []) later)
     ∙ ap (λ xs. (done ++ (take n rest ++ 10 ∷ [])) ++ xs) (sym (take_rest rest (n + 1)))
 
-pub rest_length : (rest : List ℕ) (n : ℕ) → n < length rest
-    → length (take (length rest - (n + 1)) (drop (n + 1) rest)) + (n + 1) ≡ length rest
+pub rest_length : (rest : List ℕ) (n : ℕ) → n < length rest → length (take (length rest - (n + 1)) (drop (n + 1) rest)) + (n + 1) ≡ length rest
 rest_length rest n lt = ap (λ xs. length xs + (n + 1)) (take_rest rest (n + 1))
     ∙ ap (λ m. m + (n + 1)) (length-drop (n + 1) rest) ∙ omega arith
 
@@ -218,8 +207,7 @@ module _ {R W : Type 0} (remaining : R → Option (List ℕ)) (contents : W → 
     pub said_is : (rest : List ℕ) → ended_lines_text (octets ++ rest) ≡ out ++ to_write_after s rest
     pub counts_are : (rest : List ℕ) → summary (octets ++ rest) ≡ summary_after s rest
 
-  pub told_none : (r : SourceState R) (w : SinkState W) (s : ScanState) → s.to_write ≡ [] → s.lines ≡ 0 → s.faults ≡ 0
-      → s.line ≡ [] → Told r r w w s
+  pub told_none : (r : SourceState R) (w : SinkState W) (s : ScanState) → s.to_write ≡ [] → s.lines ≡ 0 → s.faults ≡ 0 → s.line ≡ [] → Told r r w w s
   told_none r w s e f g h = record {
     octets = [];
     read = record { read = consumes_none (remaining r.reader); failed = refl; left = omega arith };
@@ -287,13 +275,11 @@ module _ {R W : Type 0} {remaining : R → Option (List ℕ)} {contents : W → 
     before = mid;
     read = p.read;
     fails = fails;
-    written =
-        subst (WritesWhole contents old half) (all_written p e) p.written;
+    written = subst (WritesWhole contents old half) (all_written p e) p.written;
   }
 
-  pub stops_short : {from mid to : SourceState R} {old half : SinkState W} {s : ScanState} {ys : List ℕ}
-      → Told remaining contents from mid old half s → s.to_write ≡ [] → Gives remaining mid to ys → length ys ≤ 4096
-      → Stops remaining contents from to old half NoMemory
+  pub stops_short : {from mid to : SourceState R} {old half : SinkState W} {s : ScanState} {ys : List ℕ} → Told remaining contents from mid old half s
+      → s.to_write ≡ [] → Gives remaining mid to ys → length ys ≤ 4096 → Stops remaining contents from to old half NoMemory
   stops_short {from} {mid} {to} {old} {half} {s} {ys} p e c short = record {
     octets = p.octets;
     last = ys;
@@ -306,8 +292,7 @@ module _ {R W : Type 0} {remaining : R → Option (List ℕ)} {contents : W → 
   pub stops_writing : {from mid to : SourceState R} {old half new : SinkState W} {s : ScanState} {ys : List ℕ} (to_write tail : List ℕ)
       → Told remaining contents from mid old half s → s.to_write ≡ [] → Gives remaining mid to ys → length ys ≤ 4096 → unwritten s ys ≡ to_write ++ tail
       → AppendsPart (contents half.writer) (contents new.writer) to_write → Stops remaining contents from to old new Write
-  stops_writing {from} {mid} {to} {old} {half} {new} {s} {ys} to_write tail p e c short is b =
-      let n = b.0 in
+  stops_writing {from} {mid} {to} {old} {half} {new} {s} {ys} to_write tail p e c short is b = let n = b.0 in
       let out = all_written p e in record {
         octets = p.octets;
         last = ys;

@@ -35,8 +35,7 @@ exact_ports : (o p : Option PortId) → option_cmp port_cmp o p ≡ Equal → o 
 exact_ports o p e = grind arith
 
 exact_ends : (x y : End) → end_cmp x y ≡ Equal → x ≡ y
-exact_ends x y e =
-    let rest = ordering_then (nat_cmp x.key.0 y.key.0) (option_cmp port_cmp x.port y.port) in
+exact_ends x y e = let rest = ordering_then (nat_cmp x.key.0 y.key.0) (option_cmp port_cmp x.port y.port) in
     let e2 = then_second (system_cmp x.system y.system) rest e in
     λ i. record {
       system = exact_system x.system y.system (then_first (system_cmp x.system y.system) rest e) i;

@@ -30,8 +30,7 @@ pub exact_key : (k l : Key) → (k.0 == l.0) ≡ true → k ≡ l
 exact_key k l h = λ i. record { 0 = eqb-true k.0 l.0 h i }
 
 pub exact_party : (a b : Party) → same_party a b ≡ true → a ≡ b
-exact_party a b h =
-    let three = and_parts ((same_system a.system b.system && (a.key.0 == b.key.0)) && same_port a.port b.port)
+exact_party a b h = let three = and_parts ((same_system a.system b.system && (a.key.0 == b.key.0)) && same_port a.port b.port)
     (same_bit a.aggregatable b.aggregatable) h in
     let two = and_parts (same_system a.system b.system && (a.key.0 == b.key.0)) (same_port a.port b.port) three.0 in
     let one = and_parts (same_system a.system b.system) (a.key.0 == b.key.0) two.0 in
@@ -49,8 +48,7 @@ exact_end e f h =
     λ i. record { system = exact_system e.system f.system all.0 i; key = exact_key e.key f.key rest.0 i; port = exact_ports e.port f.port rest.1 i }
 
 pub exact_group : (g h : Group) → same_group g h ≡ true → g ≡ h
-exact_group g h t =
-    let both = and_parts (same_end g.lower h.lower) (same_end g.upper h.upper) t in
+exact_group g h t = let both = and_parts (same_end g.lower h.lower) (same_end g.upper h.upper) t in
     λ i. record { lower = exact_end g.lower h.lower both.0 i; upper = exact_end g.upper h.upper both.1 i }
 
 -- each is equal to itself by test

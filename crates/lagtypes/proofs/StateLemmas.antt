@@ -137,8 +137,7 @@ all_alike a b =
     && (alike a.collecting b.collecting && (alike a.distributing b.distributing && (alike a.defaulted b.defaulted && alike a.expired b.expired))))))
 
 all_alike_same : (a b : StateBits) → all_alike a b ≡ true → a ≡ b
-all_alike_same a b e =
-    let e2 = (and_parts (alike a.activity b.activity) _ e).1 in
+all_alike_same a b e = let e2 = (and_parts (alike a.activity b.activity) _ e).1 in
     let e3 = (and_parts (alike a.timeout b.timeout) _ e2).1 in
     let e4 = (and_parts (alike a.aggregation b.aggregation) _ e3).1 in
     let e5 = (and_parts (alike a.synchronization b.synchronization) _ e4).1 in

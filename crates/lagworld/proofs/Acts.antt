@@ -15,8 +15,7 @@ if_ok : {T E : Type 0} (r : Result T E) (P Q : T → Type 0) → ((x : T) → P 
 if_ok r P Q f h = grind arith
 
 -- of an event that names a system, and no cable
-there : (j : WorldState) (n : ℕ) → first_event_cause (has_cable j None) (has_system (Some n)) (nat_le most_events j.acted) ≡ None
-    → is_some (side_of n) ≡ true
+there : (j : WorldState) (n : ℕ) → first_event_cause (has_cable j None) (has_system (Some n)) (nat_le most_events j.acted) ≡ None → is_some (side_of n) ≡ true
 there j n h = (second (has_cable j None) (is_some (side_of n)) (nat_le most_events j.acted) h).1
 
 pub emit_does : (gives : Algorithms) (n p : ℕ) (e : Event) (r : Result Reply WorldFault) (old new : WorldState) → e ≡ event.Emit n p

@@ -29,9 +29,8 @@ port_there : (o : Option Machines) → unwrap_or (option_map (λ (x : Machines).
     → (x : Machines) × (o ≡ Some x) × (same_mux_state CollectingDistributing x.mux ≡ true) × (x.defaulted ≡ false)
 port_there o h d = grind arith
 
-slot_there : (s : SystemState) (o : Option ℕ) (x : Machines)
-    → option_map (λ (y : SystemPort). y.port) (system_port_at o s.system_ports) ≡ Some x → (P : Machines → Type 0)
-    → ((i : ℕ) (y : SystemPort) → slice_get s.system_ports i ≡ Some y → P y.port) → P x
+slot_there : (s : SystemState) (o : Option ℕ) (x : Machines) → option_map (λ (y : SystemPort). y.port) (system_port_at o s.system_ports) ≡ Some x
+    → (P : Machines → Type 0) → ((i : ℕ) (y : SystemPort) → slice_get s.system_ports i ≡ Some y → P y.port) → P x
 slot_there s o x e P w = grind arith
 
 -- it distributes for the law too
@@ -43,8 +42,7 @@ distributes_seen s p x a e m =
     s.system_ports i y h a.distribute) ∙ m
 
 -- the peer's LACPDU that it took last has the peer's count
-stamp_there : (n : ℕ) (o : Option StampedLacpdu) → is_stamp n o ≡ true → (m : TakenLacpdu)
-    × (option_map model_taken o ≡ Some m) × (m.stamp ≡ n)
+stamp_there : (n : ℕ) (o : Option StampedLacpdu) → is_stamp n o ≡ true → (m : TakenLacpdu) × (option_map model_taken o ≡ Some m) × (m.stamp ≡ n)
 stamp_there n None h = absurd (true≢false (sym h))
 stamp_there n (Some lacpdu) h = (model_taken lacpdu, refl, eqb-true lacpdu.stamp n h)
 
@@ -67,8 +65,7 @@ equal_test x y h = subst (λ (g : Group). same_group (group_at x) g ≡ true)
 -- So they do not differ.
 line_agrees : (j : WorldState) (i : ℕ) (l : LinkState) → IsSound j → slice_get j.links i ≡ Some l
     → agreement_of (end_facts j.one l.one) (end_facts j.two l.two) ≡ Differ → ⊥
-line_agrees j i l s e h =
-    let a = end_facts j.one l.one in
+line_agrees j i l s e h = let a = end_facts j.one l.one in
     let b = end_facts j.two l.two in
     let f = last_of_five (not (a.distributes && b.distributes)) (a.defaulted || b.defaulted)
     (not (is_stamp a.count b.taken && is_stamp b.count a.taken)) (same_groups a.group b.group) h in

@@ -54,8 +54,7 @@ holds_lacpdu b e = rw e refl
 pub lacpdu_read : (b : List ℕ) (v : Lacpdu) → Reads b v → lacpdu_in b ≡ v
 lacpdu_read b v h = ap (lacpdu_or v) (sym (holds_lacpdu b h.table.fields_hold.0) ∙ pdu_read b (pdu.Lacpdu v) h)
 
-brought_by : (octets : List ℕ) (st : Stamp) (o : Option Message_pdu) → IsTrue_to octets st → FrameSeenAs octets o → (o ≡ None)
-    ⊎ (o ≡ brought octets st)
+brought_by : (octets : List ℕ) (st : Stamp) (o : Option Message_pdu) → IsTrue_to octets st → FrameSeenAs octets o → (o ≡ None) ⊎ (o ≡ brought octets st)
 brought_by octets st o t b = grind (arith, control_message, pdu_read, payload_in)
 
 seen_act : (s : SystemState) (p : ℕ) (octets : List ℕ) (a : Result Received SystemFault) (seen : List Act)
@@ -68,10 +67,8 @@ seen_act s p octets a seen h = h
 -- What a received item lets a system do, by what it stands for.
 pub told_receive : (p : ℕ) (octets : List ℕ) (st : Stamp) (a : Result Received SystemFault) (old new : SystemState) → IsTrue_to octets st
     → JoinedByLawfulMoves old (Receive p octets) (answer.Receive a) new
-    → LawfulMoves (model_setup old) (ModelEvent.Receive p (brought octets st)) (model_view old)
-    (option_to_list (act_of p octets a)) (model_view new)
-told_receive p octets st a old new t h =
-    let moves = told_moves old new h.2.2 (seen_act old p octets a h.1 h.3) h.4 in
+    → LawfulMoves (model_setup old) (ModelEvent.Receive p (brought octets st)) (model_view old) (option_to_list (act_of p octets a)) (model_view new)
+told_receive p octets st a old new t h = let moves = told_moves old new h.2.2 (seen_act old p octets a h.1 h.3) h.4 in
     grind (arith, brought_by, moves_bring, model_setup, brought, model_view, option_to_list, act_of, told_moves)
 
 -- The history of a port, after an LACPDU was recorded for one.
@@ -114,10 +111,9 @@ came gives s p item a mid histories ls kept j new is t x counts q =
     (record mid { histories = histories }) ls j new is (λ e. cc) refl q
     (told_receive p item.octets item.stamp a (half s j).state mid.state t x.answers.moves) counts
 
-silent : (gives : ℕ → ℕ → ℕ → Type 0) (s : Side) (p : ℕ) (item : ItemValue) (a : Result Received SystemFault)
-    (mid : HalfState) (j new : WorldState)
-    → IsTrue_to item.octets item.stamp → act_of p item.octets a ≡ None
-    → HalfAnswers gives (Receive p item.octets) (answer.Receive a) (half s j) mid → new ≡ with_half s mid j → ItemCame s p item j new
+silent : (gives : ℕ → ℕ → ℕ → Type 0) (s : Side) (p : ℕ) (item : ItemValue) (a : Result Received SystemFault) (mid : HalfState) (j new : WorldState)
+    → IsTrue_to item.octets item.stamp → act_of p item.octets a ≡ None → HalfAnswers gives (Receive p item.octets) (answer.Receive a) (half s j) mid
+    → new ≡ with_half s mid j → ItemCame s p item j new
 silent gives s p item a mid j new t none x e =
     came gives s p item a mid mid.histories j.links true j new e t x (λ q. ap change_count_in (history_kept x q))
     (subst (λ o. Leaves s (stamp_count item.stamp) true o mid j.links j) (sym none)
@@ -149,8 +145,7 @@ arrived gives s p item (Ok received.TookLacpdu) mid r j new one history t u x y 
     })
   where
     written : (s : Side) (lacpdu : StampedLacpdu) (mid : HalfState) (j : WorldState)
-        → with_half s (with_last_lacpdu p lacpdu (half s (with_half s mid j))) (with_half s mid j) ≡ with_half s
-        (with_last_lacpdu p lacpdu mid) j
+        → with_half s (with_last_lacpdu p lacpdu (half s (with_half s mid j))) (with_half s mid j) ≡ with_half s (with_last_lacpdu p lacpdu mid) j
     written One lacpdu mid j = refl
     written Two lacpdu mid j = refl
 arrived gives s p item (Ok (received.Respond frame)) mid r j new one history t u x y =
@@ -163,8 +158,7 @@ arrived gives s p item (Ok (received.Respond frame)) mid r j new one history t u
     answers : HalfAnswers gives (Receive p item.octets) (answer.Receive (Ok (received.Respond frame))) (half s j) mid
         → message_in frame (stamp.Control 0) ≡ Control (control_message (pdu_in (payload_in frame)))
         (stamp_of (control_message (pdu_in (payload_in frame))) ((model_world j).count s p))
-    answers x =
-        let sees = x.answers.moves.3 in
+    answers x = let sees = x.answers.moves.3 in
         let same : pdu_in (payload_in frame) ≡ pdu.Marker sees.0 = sent_read frame (pdu.Marker sees.0) sees.1 in
         stamped frame (pdu.Marker sees.0) ((model_world j).count s p) same
         ∙ ap (λ v. Control (control_message v) (stamp_of (control_message v) ((model_world j).count s p))) (sym same)
@@ -192,8 +186,7 @@ after_up t agg conv serial j = with_half t (with_collected_in agg conv serial (h
 
 handed_world : (t : Side) (agg conv serial : ℕ) (j : WorldState) → IsSome (flow_at (half t j).flows agg conv)
     → model_world (after_up t agg conv serial j) ≡ handed_up true (Data t agg conv serial) (model_world j)
-handed_world s agg conv serial j there =
-    let fl = (half s j).flows in
+handed_world s agg conv serial j there = let fl = (half s j).flows in
     let h = with_collected_in agg conv serial (half s j) in
     let now : (λ g k. collected_in (flow_at h.flows g k)) ≡ at_two ((model_world j).collected s) agg conv
     ((model_world j).collected s agg conv ++ serial ∷ []) =
@@ -222,8 +215,7 @@ up_came : (gives : ℕ → ℕ → ℕ → Type 0) (s : Side) (p : ℕ) (octets 
     → CallHappens (world_setup j) s (ModelEvent.Receive p None) 0 (model_world j)
     (handed_up true (Data (peer s) agg conv serial) (model_world j))
     (model_world (after_up (peer s) agg conv serial (with_half s mid j)))
-up_came gives s p octets agg conv serial up mid j there plain x =
-    let after = after_up (peer s) agg conv serial j in
+up_came gives s p octets agg conv serial up mid j there plain x = let after = after_up (peer s) agg conv serial j in
     let fixed = fixed_kept (peer s) (with_collected_in agg conv serial (half (peer s) j)) j refl in
     let world = handed_world (peer s) agg conv serial j there in
     let asked : HalfAnswers gives (Receive p octets) (answer.Receive (Ok (received.Up up))) (half s after) mid =
@@ -296,12 +288,10 @@ line_is : (s : Side) (i : ℕ) (l : LinkState) (xs : List ItemValue) (old : Worl
     → (model_world old).on_cable s (suc i) ≡ map item_message xs
 line_is s i l xs old there e = ap (messages s) there ∙ ap (map item_message) e
 
-pub deliver_happens : (gives : Side → ℕ → ℕ → ℕ → Type 0) (s : Side) (i : ℕ) (l : LinkState) (xs : List ItemValue) (r : Reply)
-    (old new : WorldState) → slice_get old.links i ≡ Some l → towards s l ≡ xs → IsCabling (world_setup old).cables
-    → IsSome (history_at (half s old).histories (port_at s l)) → AreItems s xs old → DeliversFrom gives s i l xs old r new
-    → Happens (world_setup old) (Event.Deliver (suc i) s) (model_world old) (model_world new)
-deliver_happens gives s i l xs r old new there e one history t x =
-    subst (λ (X : Type 0). X)
+pub deliver_happens : (gives : Side → ℕ → ℕ → ℕ → Type 0) (s : Side) (i : ℕ) (l : LinkState) (xs : List ItemValue) (r : Reply) (old new : WorldState)
+    → slice_get old.links i ≡ Some l → towards s l ≡ xs → IsCabling (world_setup old).cables → IsSome (history_at (half s old).histories (port_at s l))
+    → AreItems s xs old → DeliversFrom gives s i l xs old r new → Happens (world_setup old) (Event.Deliver (suc i) s) (model_world old) (model_world new)
+deliver_happens gives s i l xs r old new there e one history t x = subst (λ (X : Type 0). X)
     (λ k. DeliversFirst (world_setup old) (suc i) s (sym (end_is s old.links i l there) k) (sym (line_is s i l xs old there e) k)
     (model_world old) (model_world new)) (first xs t x)
   where
@@ -319,12 +309,10 @@ repeated gives s i p octets (stamp.Control count) rest r old new one history x =
     old new one history x.2 x.3
 repeated gives s i p octets (stamp.Data system agg conv serial) rest r old new one history x = ap model_world x.1
 
-pub repeat_happens : (gives : Side → ℕ → ℕ → ℕ → Type 0) (s : Side) (i : ℕ) (l : LinkState) (xs : List ItemValue) (r : Reply)
-    (old new : WorldState) → slice_get old.links i ≡ Some l → towards s l ≡ xs → IsCabling (world_setup old).cables
-    → IsSome (history_at (half s old).histories (port_at s l)) → RepeatsFrom gives s l xs old r new
-    → Happens (world_setup old) (Event.Repeat (suc i) s) (model_world old) (model_world new)
-repeat_happens gives s i l xs r old new there e one history x =
-    subst (λ (X : Type 0). X)
+pub repeat_happens : (gives : Side → ℕ → ℕ → ℕ → Type 0) (s : Side) (i : ℕ) (l : LinkState) (xs : List ItemValue) (r : Reply) (old new : WorldState)
+    → slice_get old.links i ≡ Some l → towards s l ≡ xs → IsCabling (world_setup old).cables → IsSome (history_at (half s old).histories (port_at s l))
+    → RepeatsFrom gives s l xs old r new → Happens (world_setup old) (Event.Repeat (suc i) s) (model_world old) (model_world new)
+repeat_happens gives s i l xs r old new there e one history x = subst (λ (X : Type 0). X)
     (λ k. RepeatsFirst (world_setup old) (suc i) s (sym (end_is s old.links i l there) k) (sym (line_is s i l xs old there e) k)
     (model_world old) (model_world new)) (first xs x)
   where
@@ -334,9 +322,8 @@ repeat_happens gives s i l xs r old new there e one history x =
     first (item ∷ rest) x = repeated gives s i (port_at s l) item.octets item.stamp (map item_message rest) r old new one history x
 
 -- the first item is lost
-pub lose_happens : (s : Side) (i : ℕ) (l : LinkState) (xs : List ItemValue) (r : Reply) (old new : WorldState)
-    → slice_get old.links i ≡ Some l → towards s l ≡ xs → LosesFrom s i l xs old r new
-    → Happens (world_setup old) (Event.Lose (suc i) s) (model_world old) (model_world new)
+pub lose_happens : (s : Side) (i : ℕ) (l : LinkState) (xs : List ItemValue) (r : Reply) (old new : WorldState) → slice_get old.links i ≡ Some l
+    → towards s l ≡ xs → LosesFrom s i l xs old r new → Happens (world_setup old) (Event.Lose (suc i) s) (model_world old) (model_world new)
 lose_happens s i l [] r old new there e x = grind arith
 lose_happens s i l (item ∷ rest) r old new there e x =
     subst (λ ms. LosesFirst (suc i) s ms (model_world old) (model_world new)) (sym (line_is s i l (item ∷ rest) old there e))

@@ -29,8 +29,7 @@ pub heard_is : (octets b : List ℕ) (st : Stamp) (found v : Lacpdu) (n : ℕ) �
     → Some (make_heard found n) ≡ Some (stamped_in (record { octets = octets; stamp = st }))
 heard_is octets b st found v n h same only e = grind (arith, nat_tests, same_Some, make_heard, lacpdu_read, payload_in, lacpdu_in)
 
-pub none_heard : (octets b : List ℕ) (v : Lacpdu) → CarriesLacpdu octets v → b ≡ octets
-    → ((v : Lacpdu) → CarriesLacpdu b v → None ≡ Some v) → ⊥
+pub none_heard : (octets b : List ℕ) (v : Lacpdu) → CarriesLacpdu octets v → b ≡ octets → ((v : Lacpdu) → CarriesLacpdu b v → None ≡ Some v) → ⊥
 none_heard octets b v h same only = none-some v (only v (subst (λ b. CarriesLacpdu b v) (sym same) h))
 
 heard_next : (p : ℕ) (lacpdu : StampedLacpdu) (d history : PortHistory) (histories : List PortHistory) (rest : ℕ) (b : Bool)
@@ -47,16 +46,14 @@ heard_at p lacpdu d [] = refl
 heard_at p lacpdu d (history ∷ histories) = heard_next p lacpdu d history histories
     (position_or_len (λ history. history.number == p) histories) (history.number == p) (heard_at p lacpdu d histories)
 
-pub heard_found : (p : ℕ) (lacpdu : StampedLacpdu) (histories : List PortHistory) (i : ℕ) (history : PortHistory)
-    → Some i ≡ history_index p histories → history ≡ get_or histories i history
-    → set histories i (set_taken lacpdu history) ≡ set_last_lacpdu p lacpdu histories
+pub heard_found : (p : ℕ) (lacpdu : StampedLacpdu) (histories : List PortHistory) (i : ℕ) (history : PortHistory) → Some i ≡ history_index p histories
+    → history ≡ get_or histories i history → set histories i (set_taken lacpdu history) ≡ set_last_lacpdu p lacpdu histories
 heard_found p lacpdu histories i history found read = grind (arith, nat_tests, cond_some, nat_lt, position_or_len, set, set_taken, heard_at, get_or)
 
 pub heard_nowhere : (p : ℕ) (lacpdu : StampedLacpdu) (histories : List PortHistory) → None ≡ history_index p histories
     → histories ≡ set_last_lacpdu p lacpdu histories
 heard_nowhere p lacpdu [] none = refl
-heard_nowhere p lacpdu (history ∷ histories) none =
-    sym (heard_at p lacpdu history (history ∷ histories)
+heard_nowhere p lacpdu (history ∷ histories) none = sym (heard_at p lacpdu history (history ∷ histories)
     ∙ set_past (history ∷ histories) (position_or_len (λ l. l.number == p) (history ∷ histories)) _
     (past (position_or_len (λ l. l.number == p) (history ∷ histories)) (length (history ∷ histories))
     (nat_lt (position_or_len (λ l. l.number == p) (history ∷ histories)) (length (history ∷ histories))) refl none))
@@ -76,8 +73,7 @@ pub comes_from : (gives : ℕ → ℕ → ℕ → Type 0) (p : ℕ) (item : Item
 comes_from gives p item a b lacpdu old state histories same answers h e = grind (arith, nat_tests)
 
 -- the first item on a cable
-pub told_first : (p : ℕ) (xs : List Item) (x : Item) → Some x ≡ slice_get xs 0
-    → Some (make_head p x.stamp) ≡ first_head p (map item_value xs)
+pub told_first : (p : ℕ) (xs : List Item) (x : Item) → Some x ≡ slice_get xs 0 → Some (make_head p x.stamp) ≡ first_head p (map item_value xs)
 told_first p [] x h = absurd (none-some x (sym h))
 told_first p (y ∷ ys) x h = ap (λ (z : Item). Some (make_head p z.stamp)) (same_Some x y h)
 
@@ -86,8 +82,7 @@ told_none p [] h = refl
 told_none p (y ∷ ys) h = absurd (none-some y h)
 
 pub first_comes : (gives : ℕ → ℕ → ℕ → Type 0) (p : ℕ) (xs : List Item) (x : Item) (a : Result Received SystemFault) (old new : HalfState)
-    → Some x ≡ slice_get xs 0
-    → HalfReceives gives p (item_value x) a old new → HalfReceivesFirst gives p (map item_value xs) (Some a) old new
+    → Some x ≡ slice_get xs 0 → HalfReceives gives p (item_value x) a old new → HalfReceivesFirst gives p (map item_value xs) (Some a) old new
 first_comes gives p [] x a old new h k = absurd (none-some x (sym h))
 first_comes gives p (y ∷ ys) x a old new h k = subst (λ (z : Item). HalfReceives gives p (item_value z) a old new) (same_Some x y h) k
 
@@ -97,9 +92,8 @@ none_comes gives p [] old h = (refl, refl)
 none_comes gives p (y ∷ ys) old h = absurd (none-some y h)
 
 -- what was read of a cable at a place, and written there
-pub taken_at : {X Y : Type 0} (f : X → Y) (h : Y → Y) (P : Y → Type 0) (xs : List X) (i : ℕ) (x new : X) → i < length xs → x ≡ get_or xs i x
-    → P (f x) → f new ≡ h (f x)
-    → IsSomeAnd (slice_get (map f xs) i) (λ y. P y × (map f (set xs i new) ≡ set (map f xs) i (h y)))
+pub taken_at : {X Y : Type 0} (f : X → Y) (h : Y → Y) (P : Y → Type 0) (xs : List X) (i : ℕ) (x new : X) → i < length xs → x ≡ get_or xs i x → P (f x)
+    → f new ≡ h (f x) → IsSomeAnd (slice_get (map f xs) i) (λ y. P y × (map f (set xs i new) ≡ set (map f xs) i (h y)))
 taken_at f h P xs i x new lt read told e = seen_at f _ xs i x lt read (told, map-set f xs i new ∙ ap (set (map f xs) i) e)
 
 -- the first that is found, after something was written that is found as what was there

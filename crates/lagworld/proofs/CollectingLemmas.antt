@@ -23,14 +23,12 @@ there_if_ok P Q r xs i x new lt read f = grind (arith, ok_weaker, set_here, slic
 
 -- a place was reserved in a conversation
 pub room_there : {E U : Type 0} (r : Result U E) (row : List Flow) (i : ℕ) (x : Flow) (v : Vec ℕ) → i < length row → x ≡ get_or row i x
-    → OnOk r (vec_len v + 1 ≤ vec_capacity v)
-    → OnOk r (CanCollect (slice_get (set row i (put_collected x v)) i))
+    → OnOk r (vec_len v + 1 ≤ vec_capacity v) → OnOk r (CanCollect (slice_get (set row i (put_collected x v)) i))
 room_there r row i x v lt read h = there_if_ok CanCollect (vec_len v + 1 ≤ vec_capacity v) r row i x (put_collected x v) lt read
     (λ k. omega (arith, k)) h
 
 -- it was in one of an aggregator
-pub room_at : {E U : Type 0} (r : Result U E) (rows : List (Vec Flow)) (agg p conv k : ℕ) (x new : Vec Flow) → agg ≡ p + 1 → k ≡ conv
-    → p < length rows → x ≡ get_or rows p x → OnOk r (CanCollect (slice_get new.items k))
-    → OnOk r (CanCollectAt agg conv (set rows p new))
+pub room_at : {E U : Type 0} (r : Result U E) (rows : List (Vec Flow)) (agg p conv k : ℕ) (x new : Vec Flow) → agg ≡ p + 1 → k ≡ conv → p < length rows
+    → x ≡ get_or rows p x → OnOk r (CanCollect (slice_get new.items k)) → OnOk r (CanCollectAt agg conv (set rows p new))
 room_at r rows agg p conv k x new is same lt read h = rw (is, add-one)
     (there_if_ok (CanCollectIn conv) (CanCollect (slice_get new.items k)) r rows p x new lt read (λ z. rw same at z) h)

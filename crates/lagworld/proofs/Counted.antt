@@ -17,10 +17,7 @@ use Rattle.lagworld.proofs.Sides.{half_after, kept_at, moved_at}
 pub log_mapped : (s : SystemState) (histories : List PortHistory) (q : ℕ)
     → history_at (map (change_counted s) histories) q ≡ option_map (change_counted s) (history_at histories q)
 log_mapped s [] q = refl
-log_mapped s (history ∷ histories) q = elim (cases_Bool (eqb q history.number)) [
-  | inl e ↦ rw e refl
-  | inr e ↦ rw e (log_mapped s histories q)
-]
+log_mapped s (history ∷ histories) q = elim (cases_Bool (eqb q history.number)) [ inl e ↦ rw e refl | inr e ↦ rw e (log_mapped s histories q) ]
 
 taken_mapped : (s : SystemState) (o : Option PortHistory) → taken_in (option_map (change_counted s) o) ≡ taken_in o
 taken_mapped s o = grind arith
@@ -57,8 +54,7 @@ no_party o n = grind arith
 
 -- the same of a port of a system: old and new are what the law sees
 port_counted : (old new : HalfState) → IsHalfSound old → new.histories ≡ old.histories
-    → ((p : ℕ) → party_of_port old.state p ≡ None → party_of_port new.state p ≡ None) → (p : ℕ)
-    → CountsParty old (with_changes_counted new) p
+    → ((p : ℕ) → party_of_port old.state p ≡ None → party_of_port new.state p ≡ None) → (p : ℕ) → CountsParty old (with_changes_counted new) p
 port_counted old new k e none p = rw (party_seen new.state p, party_seen old.state p, there) (counted (history_at old.histories p) refl)
   where
     there : change_count_in (history_at (with_changes_counted new).histories p) ≡ change_count_in
@@ -82,8 +78,7 @@ port_there s p = grind (arith, is_some, port_seen, machines_of, option_map, mode
 
 pub same_ports : (gives : ℕ → ℕ → ℕ → Type 0) (call : Call) (a : Answer) (old new : HalfState) → IsHalfSound old
     → HalfAnswers gives call a old new → (p : ℕ) → is_some (party_of_port new.state p) ≡ is_some (party_of_port old.state p)
-same_ports gives call a old new k x p =
-    sym (port_there new.state p) ∙ x.answers.agrees.members.configured p
+same_ports gives call a old new k x p = sym (port_there new.state p) ∙ x.answers.agrees.members.configured p
     ∙ ap (λ u. is_some (u.party p)) (configured_kept gives call a old new x) ∙ sym (k.agrees.members.configured p)
     ∙ port_there old.state p
 
@@ -102,8 +97,7 @@ counts_of s mid ls j k e none = grind (arith, moved_at, with_changes_counted, po
 pub configure_happens : (gives : ℕ → ℕ → ℕ → Type 0) (s : Side) (p : ℕ) (change : PortChange) (r : Reply) (old new : WorldState)
     → IsHalfSound (half s old) → InHalf s (λ h k. HalfConfigures gives p change h r k) old new
     → Happens (world_setup old) (Event.Configure s p (model_change change)) (model_world old) (model_world new)
-configure_happens gives s p change r old new k x =
-    let a = x.0.0 in
+configure_happens gives s p change r old new k x = let a = x.0.0 in
     let mid = x.0.1 in
     let asked = x.0.2 in
     let m = asked.answers.moves in
@@ -135,16 +129,14 @@ restarted : (s : Side) (h : HalfState) (v : View) (old : WorldState) → model_v
     → model_world (after_call s h (map emptied old.links) old) ≡ record (model_world old) {
       view = at_side (model_world old).view s v;
       on_cable = λ t c. [];
-      count =
-          (model_world (after_call s h (map emptied old.links) old)).count;
+      count = (model_world (after_call s h (map emptied old.links) old)).count;
     }
 restarted s h v old e flows taken = grind (arith, same_world, half_after, model_view, at_side, model_world, whole_left, nothing_left, kept_at, option_map, model_taken, taken_in, history_at, sent_in, flow_at, collected_in, forced_in)
 
 pub restart_happens : (gives : ℕ → ℕ → ℕ → Type 0) (s : Side) (old new : WorldState) → IsHalfSound (half s old)
     → InHalf s (HalfRestarts gives) (with_links old (map emptied old.links)) new
     → Happens (world_setup old) (Event.Restart s) (model_world old) (model_world new)
-restart_happens gives s old new k x =
-    let mid = x.0.0 in
+restart_happens gives s old new k x = let mid = x.0.0 in
     let asked = x.0.1 in
     let h = with_changes_counted mid in
     let same : new ≡ after_call s h (map emptied old.links) old = x.1

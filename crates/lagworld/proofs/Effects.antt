@@ -131,8 +131,7 @@ loses : (gives : Algorithms) (e : Event) (s : Side) (i : ℕ) (l : LinkState) (x
 loses gives e s i l xs old new r there h x = grind arith
 
 arrives : (gives : Algorithms) (e : Event) (s : Side) (i : ℕ) (l : LinkState) (xs : List ItemValue) (old new : WorldState) (r : Reply)
-    → slice_get old.links i ≡ Some l → towards s l ≡ xs → DeliversFrom gives s i l xs old r new
-    → DoesEffect gives e old (delivered s i l xs) r new
+    → slice_get old.links i ≡ Some l → towards s l ≡ xs → DeliversFrom gives s i l xs old r new → DoesEffect gives e old (delivered s i l xs) r new
 arrives gives e s i l xs old new r there h x = grind arith
 
 repeats : (gives : Algorithms) (e : Event) (s : Side) (l : LinkState) (xs : List ItemValue) (old new : WorldState) (r : Reply)

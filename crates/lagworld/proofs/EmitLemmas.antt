@@ -9,9 +9,8 @@ abbrev pub made : List ℕ → Stamp → ItemValue
 made octets stamp = record { octets = octets; stamp = stamp }
 
 -- the item that goes onto the cable
-sent_item : (s : Side) (p : ℕ) (frame octets : List ℕ) (v : Pdu) (count : ℕ) (stamp : Stamp) (h : HalfState) → octets ≡ frame
-    → v ≡ pdu_in (payload_in frame) → count ≡ change_count_in (history_at h.histories p)
-    → stamp ≡ stamp_for v count → made octets stamp ≡ transmitted_item s p frame h
+sent_item : (s : Side) (p : ℕ) (frame octets : List ℕ) (v : Pdu) (count : ℕ) (stamp : Stamp) (h : HalfState) → octets ≡ frame → v ≡ pdu_in (payload_in frame)
+    → count ≡ change_count_in (history_at h.histories p) → stamp ≡ stamp_for v count → made octets stamp ≡ transmitted_item s p frame h
 sent_item s p frame octets v count stamp h a b c d = grind arith
 
 pub frame_sent : (s : Side) (p : ℕ) (frame octets : List ℕ) (v : Pdu) (count : ℕ) (stamp : Stamp) (kept : Bool) (links : List LinkState)

@@ -11,8 +11,7 @@ module _ {R X : Type 0} (v : X → FlowValue) (items : R → List X) where
 
   pub flow_there : (rows : List R) (g i k : ℕ) (row : R) (x : X) → g ≡ suc i → i < length rows → row ≡ get_or rows i row
       → k < length (items row) → x ≡ get_or (items row) k x → flow_at (map (λ r. map v (items r)) rows) g k ≡ Some (v x)
-  flow_there rows g i k row x e l r m s =
-      subst (λ g. flow_at (map (λ r. map v (items r)) rows) g k ≡ Some (v x)) (sym e)
+  flow_there rows g i k row x e l r m s = subst (λ g. flow_at (map (λ r. map v (items r)) rows) g k ≡ Some (v x)) (sym e)
       (row_there rows i k row l r ∙ slice_get-map v (items row) k
       ∙ ap (option_map v) (slice_get_read (items row) (length (items row)) k x refl m s))
 

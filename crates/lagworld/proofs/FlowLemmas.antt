@@ -10,8 +10,7 @@ abbrev pub aggregator_flow_values : Vec Flow → List FlowValue
 aggregator_flow_values xs = map flow_value xs.items
 
 -- one conversation of an aggregator
-pub flow_set : (f : FlowValue → FlowValue) (xs : List Flow) (k : ℕ) (x new : Flow) → k < length xs → x ≡ get_or xs k x
-    → flow_value new ≡ f (flow_value x)
+pub flow_set : (f : FlowValue → FlowValue) (xs : List Flow) (k : ℕ) (x new : Flow) → k < length xs → x ≡ get_or xs k x → flow_value new ≡ f (flow_value x)
     → map flow_value (set xs k new) ≡ change_flow_in f (slice_get (map flow_value xs) k) k (map flow_value xs)
 flow_set f xs k x new lt read e = rw (mapped_there flow_value xs k x lt read) (map-set flow_value xs k new ∙ ap (set (map flow_value xs) k) e)
 
@@ -20,9 +19,8 @@ pub flow_read : (xs : List Flow) (k : ℕ) (x : Flow) → k < length xs → x �
 flow_read xs k x lt read = sym (ap (λ o. length (sent_in o)) (mapped_there flow_value xs k x lt read))
 
 -- one conversation of one aggregator
-pub row_set : (f : FlowValue → FlowValue) (rows : List (Vec Flow)) (g i k conv : ℕ) (row new : Vec Flow) → g ≡ i + 1 → k ≡ conv
-    → i < length rows → row ≡ get_or rows i row
-    → aggregator_flow_values new ≡ change_flow_in f (slice_get (aggregator_flow_values row) k) k (aggregator_flow_values row)
+pub row_set : (f : FlowValue → FlowValue) (rows : List (Vec Flow)) (g i k conv : ℕ) (row new : Vec Flow) → g ≡ i + 1 → k ≡ conv → i < length rows
+    → row ≡ get_or rows i row → aggregator_flow_values new ≡ change_flow_in f (slice_get (aggregator_flow_values row) k) k (aggregator_flow_values row)
     → flow_values (set rows i new) ≡ change_flow f g conv (flow_values rows)
 row_set f rows g i k conv row new is same lt read e = rw (is, add-one, ← same, mapped_there aggregator_flow_values rows i row lt read)
     (map-set aggregator_flow_values rows i new ∙ ap (set (flow_values rows) i) e)

@@ -19,8 +19,7 @@ force_flow g k h = record h { flows = change_flow with_forced g k h.flows }
 forced_world : (s : Side) (g k : ℕ) (j : WorldState) → IsSome (flow_at (half s j).flows g k)
     → model_world (with_half s (force_flow g k (half s j)) j) ≡ record (model_world j)
     { forced = at_side (model_world j).forced s (at_two ((model_world j).forced s) g k true) }
-forced_world s g k j there =
-    let fl = (half s j).flows in
+forced_world s g k j there = let fl = (half s j).flows in
     let h = force_flow g k (half s j) in
     let now : (λ a c. forced_in (flow_at h.flows a c)) ≡ at_two ((model_world j).forced s) g k true =
     (λ i a c. read_changed forced_in with_forced (λ b. true) g k fl (λ x. refl) there a c i) in
@@ -43,17 +42,14 @@ refused_same agg conv what fault old new h = grind arith
 pub with_itself : (s : Side) (j : WorldState) → with_half s (half s j) j ≡ j
 with_itself s j = grind arith
 
-pub forced_by : (gives : ℕ → ℕ → ℕ → Type 0) (s : Side) (agg : AggId) (conv : ℕ) (a : Result Unit SystemFault) (mid : HalfState)
-    (old : WorldState) → ((done : Unit) → a ≡ Ok done → IsSome (flow_at (half s old).flows agg.0 conv))
-    → HalfAnswers gives (Force agg conv) (answer.Force a) (half s old) mid
-    → Happens (world_setup old) (Event.Force s agg.0 conv) (model_world old)
-    (model_world (with_half s (forced_if_accepted a agg conv mid) old))
+pub forced_by : (gives : ℕ → ℕ → ℕ → Type 0) (s : Side) (agg : AggId) (conv : ℕ) (a : Result Unit SystemFault) (mid : HalfState) (old : WorldState)
+    → ((done : Unit) → a ≡ Ok done → IsSome (flow_at (half s old).flows agg.0 conv)) → HalfAnswers gives (Force agg conv) (answer.Force a) (half s old) mid
+    → Happens (world_setup old) (Event.Force s agg.0 conv) (model_world old) (model_world (with_half s (forced_if_accepted a agg conv mid) old))
 forced_by gives s agg conv (Err fault) mid old there x =
     let state = refused_same agg conv (system_force_result (half s old).state agg conv) fault (half s old).state mid.state x.answers.step in
     let same : mid ≡ half s old = x.same ∙ ap (λ (st : SystemState). with_state st (half s old)) state in
     inl (ap (λ h. model_world (with_half s h old)) same ∙ ap model_world (with_itself s old))
-forced_by gives s agg conv (Ok done) mid old there x =
-    let g = agg.0 in
+forced_by gives s agg conv (Ok done) mid old there x = let g = agg.0 in
     let forced = force_flow g conv (half s old) in
     let j = with_half s forced old in
     let h = force_flow g conv mid in
@@ -73,8 +69,7 @@ forced_by gives s agg conv (Ok done) mid old there x =
 
 -- A conversation of which serials are kept is forced, or that is refused.
 pub force_happens : (gives : ℕ → ℕ → ℕ → Type 0) (s : Side) (agg : AggId) (conv : ℕ) (r : Reply) (old new : WorldState)
-    → (x : InHalf s (λ h k. HalfForces gives agg conv h r k) old new)
-    → ((done : Unit) → x.0.0 ≡ Ok done → IsSome (flow_at (half s old).flows agg.0 conv))
+    → (x : InHalf s (λ h k. HalfForces gives agg conv h r k) old new) → ((done : Unit) → x.0.0 ≡ Ok done → IsSome (flow_at (half s old).flows agg.0 conv))
     → Happens (world_setup old) (Event.Force s agg.0 conv) (model_world old) (model_world new)
 force_happens gives s agg conv r old new x there =
     let same : new ≡ with_half s (forced_if_accepted x.0.0 agg conv x.0.1) old = x.1 ∙ ap (λ h. with_half s h old) x.0.4 in

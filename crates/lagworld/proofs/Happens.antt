@@ -13,19 +13,16 @@ use Rattle.lagworld.proofs.Cables.{nth_set, nth_same, end_is}
 -- Ticks are one call of the law's.
 pub tick_happens : (gives : ℕ → ℕ → ℕ → Type 0) (s : Side) (n : ℕ) (old new : WorldState) → InHalf s (HalfTicks gives n) old new
     → Happens (world_setup old) (Event.Tick s n) (model_world old) (model_world new)
-tick_happens gives s n old new x =
-    let h = half s new in
+tick_happens gives s n old new x = let h = half s new in
     let m = ticks_moves gives n (half s old) h x.0 in
     keeping_call s ModelEvent.Tick 0 true None h old.links old new x.1 (λ e. cc) refl
     (quietly s 0 h old (ap (λ (h : HalfState). h.flows) m.2) (λ p. ap (λ (h : HalfState). taken_in (history_at h.histories p)) m.2))
     m.0 (λ p. ap (λ (h : HalfState). change_count_in (history_at h.histories p)) m.2)
 
-pub sense_happens : (gives : ℕ → ℕ → ℕ → Type 0) (s : Side) (i : ℕ) (l : LinkState) (r : Reply) (old new : WorldState)
-    → slice_get old.links i ≡ Some l
+pub sense_happens : (gives : ℕ → ℕ → ℕ → Type 0) (s : Side) (i : ℕ) (l : LinkState) (r : Reply) (old new : WorldState) → slice_get old.links i ≡ Some l
     → InHalf s (λ h k. HalfSenses gives (port_at s l) l.whole h r k) old new
     → Happens (world_setup old) (Event.Sense (suc i) s) (model_world old) (model_world new)
-sense_happens gives s i l r old new there x =
-    let m = x.0.1.answers.moves in
+sense_happens gives s i l r old new there x = let m = x.0.1.answers.moves in
     let c = quiet_call gives s (Set_link (port_at s l) l.whole) (answer.SetLink x.0.0) (ModelEvent.Set_link (port_at s l) l.whole) 0
     (half s new) old new x.0.1 x.1 (λ e. cc) refl (told_moves (half s old).state (half s new).state m.2 m.3 m.4) in
     grind (arith, world_setup, is_whole, slice_get, model_world, end_is, port_at)
@@ -33,8 +30,7 @@ sense_happens gives s i l r old new there x =
 pub move_happens : (gives : ℕ → ℕ → ℕ → Type 0) (s : Side) (agg : AggId) (conv p : ℕ) (r : Reply) (old new : WorldState)
     → InHalf s (λ h k. HalfMoves gives agg conv p h r k) old new
     → Happens (world_setup old) (Event.Move_conversation s agg.0 conv p) (model_world old) (model_world new)
-move_happens gives s agg conv p r old new x =
-    let m = x.0.1.answers.moves in
+move_happens gives s agg conv p r old new x = let m = x.0.1.answers.moves in
     quiet_call gives s (Move_conversation agg conv p) (answer.MoveConversation x.0.0) ModelEvent.Move_conversation 0 (half s new) old new
     x.0.1 x.1 (λ e. cc) refl (told_moves (half s old).state (half s new).state m.2 m.3 m.4)
 

@@ -10,13 +10,11 @@ no_cause : (a b c : Bool) → a ≡ true → b ≡ true → c ≡ false → firs
 no_cause a b c h k l = rw (h, k, l) refl
 
 -- an event that acted was accepted
-pub accepted : (gives : Algorithms) (e : Event) (r : Reply) (old new : WorldState) → WorldSteps gives old e r new
-    → new.acted ≤ most_events → cause old e ≡ None
+pub accepted : (gives : Algorithms) (e : Event) (r : Reply) (old new : WorldState) → WorldSteps gives old e r new → new.acted ≤ most_events → cause old e ≡ None
 accepted gives e r old new x few = grind (arith, nat_tests)
 
 -- events only count up
-pub rises : (gives : Algorithms) (es : List Event) (rs : List Reply) (old new : WorldState) → WorldRuns gives old es rs new
-    → old.acted ≤ new.acted
+pub rises : (gives : Algorithms) (es : List Event) (rs : List Reply) (old new : WorldState) → WorldRuns gives old es rs new → old.acted ≤ new.acted
 rises gives [] [] old new h = subst (λ (j : WorldState). old.acted ≤ j.acted) (sym h) (omega arith)
 rises gives [] (r ∷ rs) old new h = absurd h
 rises gives (e ∷ es) [] old new h = absurd h
@@ -37,8 +35,7 @@ pub holds_all_the_way : (gives : Algorithms) (es : List Event) (rs : List Reply)
 holds_all_the_way gives [] [] old new h i few = headline_of old i
 holds_all_the_way gives [] (r ∷ rs) old new h i few = absurd h
 holds_all_the_way gives (e ∷ es) [] old new h i few = absurd h
-holds_all_the_way gives (e ∷ es) (r ∷ rs) old new h i few =
-    let above = rises gives es rs h.0 new h.2 in
+holds_all_the_way gives (e ∷ es) (r ∷ rs) old new h i few = let above = rises gives es rs h.0 new h.2 in
     let mid = steps_sound gives e r old h.0 i (accepted gives e r old h.0 h.1 (omega (arith, above, few))) h.1 in
     (headline_of old i, holds_all_the_way gives es rs h.0 new h.2 mid few)
 
@@ -70,6 +67,5 @@ middle_of gives (e ∷ es) fs [] qs old mid new h k w = absurd h
 middle_of gives (e ∷ es) fs (r ∷ rs) qs old mid new h k w = middle_of gives es fs rs qs h.0 mid new h.2 k w.1
 
 pub limits_hold : (gives : Algorithms) → LimitsHoldOnTheWay gives
-limits_hold gives es fs rs qs old mid new h k i few =
-    let run = runs_on gives es fs rs qs old mid new h k in
+limits_hold gives es fs rs qs old mid new h k i few = let run = runs_on gives es fs rs qs old mid new h k in
     (middle_of gives es fs rs qs old mid new h k (holds_all_the_way gives (es ++ fs) (rs ++ qs) old new run i few)).limited

@@ -66,12 +66,10 @@ shrunk i l m j h k = follows_set i l m j h k.there k.ends k.ports (λ s. k.items
 pub peer_twice : (s : Side) → peer (peer s) ≡ s
 peer_twice s = grind (arith, nat_tests)
 
-offered_on : (gives : ℕ → ℕ → ℕ → Type 0) (s : Side) (agg : AggId) (octets : List ℕ) (a : Result ℕ SystemFault) (j mid new : WorldState)
-    (r : Reply) → IsShaped mid → ((port : ℕ) → a ≡ Ok port → IsSlowProtocolsFrame octets → ⊥)
-    → AfterOffer s agg octets a mid r new → Follows 0 mid new
+offered_on : (gives : ℕ → ℕ → ℕ → Type 0) (s : Side) (agg : AggId) (octets : List ℕ) (a : Result ℕ SystemFault) (j mid new : WorldState) (r : Reply)
+    → IsShaped mid → ((port : ℕ) → a ≡ Ok port → IsSlowProtocolsFrame octets → ⊥) → AfterOffer s agg octets a mid r new → Follows 0 mid new
 offered_on gives s agg octets (Err fault) j mid new r i p x = follows_same mid new i x.1
-offered_on gives s agg octets (Ok port) j mid new r i p x =
-    let k = number_of_conversation (half s mid).state octets in
+offered_on gives s agg octets (Ok port) j mid new r i p x = let k = number_of_conversation (half s mid).state octets in
     let sent = follows_half 0 s (with_frame_counted agg octets (half s mid)) mid i (flow_on with_sent agg.0 k (half s mid) (i.kept s)) in
     let after = with_half s (with_frame_counted agg octets (half s mid)) mid in
     let there : IsSome (flow_at (half s after).flows agg.0 k) = subst (λ (h : HalfState). IsSome (flow_at h.flows agg.0 k))
@@ -111,13 +109,11 @@ effect_follows gives e (shrinks n l m a) r old new i x = subst (Follows 1 old) (
 effect_follows gives e (ticks s count) r old new i x = subst (Follows 1 old) (sym x.0.1)
     (up_to_one old _ (follows_half 0 s (half s new) old i (ticks_on (gives s) count (half s old) (half s new) (i.kept s) x.0.0)))
 effect_follows gives e (asks s call kept up) r old new i x = half_asked (gives s) s call kept up r old new i x.0 x.1
-effect_follows gives e (restarts s) r old new i x =
-    let j = with_links old (map emptied old.links) in
+effect_follows gives e (restarts s) r old new i x = let j = with_links old (map emptied old.links) in
     let off = follows_emptied old i in
     follows_then 1 old j new off (half_asked (gives s) s Restart changes_counted true r j new off.shaped tt x)
 effect_follows gives e (receives s p item) r old new i x = up_to_one old new (arrives gives s p item old new r i x)
-effect_follows gives e (delivers s n l m item) r old new i x =
-    let off = shrunk n l m old i x.0 in
+effect_follows gives e (delivers s n l m item) r old new i x = let off = shrunk n l m old i x.0 in
     let j = with_link_at n m old in
     up_to_one old new (follows_then 0 old j new off (arrives gives s (port_at s l) item j new r off.shaped x.1))
 effect_follows gives e (emits s p) r old new i x =
@@ -129,8 +125,7 @@ effect_follows gives e (offers s agg octets) r old new i (n, frame, named, same,
     (offered_on (gives s) s agg octets x.0 old (with_half s x.1 old) new r mid.shaped
     (λ port e. (subst (λ a. HalfAnswers (gives s) (Offer agg octets) (answer.Offer a) (half s old) x.1) e x.2).answers.step.0.1.1) x.3))
 
-pub does_follow : (gives : Algorithms) (e : Event) (r : Reply) (old new : WorldState) → IsShaped old
-    → DoesEvent gives old e r new → Follows 1 old new
+pub does_follow : (gives : Algorithms) (e : Event) (r : Reply) (old new : WorldState) → IsShaped old → DoesEvent gives old e r new → Follows 1 old new
 does_follow gives e r old new i x = grind (arith, nat_tests, does_effect, effect_follows)
 
 pub shaped_of : (j : WorldState) → IsSound j → IsShaped j
@@ -139,12 +134,11 @@ shaped_of j i = record { kept = i.kept; items = i.items; ends = i.ends }
 -- one event more
 reached_more : (e : ModelEvent) (old new : WorldState) → world_setup new ≡ world_setup old
     → Happens (world_setup old) e (model_world old) (model_world new) → IsReached old → IsReached new
-reached_more e old new f h r =
-    subst (λ x. (events : List ModelEvent) × Run x events (first_world x) (model_world new)) (sym f) (
-      r.0 ++ e ∷ [],
-      runs_joined (world_setup old) r.0 (e ∷ []) (first_world (world_setup old)) (model_world old) (model_world new) r.1
-          (model_world new, h, refl),
-    )
+reached_more e old new f h r = subst (λ x. (events : List ModelEvent) × Run x events (first_world x) (model_world new)) (sym f) (
+  r.0 ++ e ∷ [],
+  runs_joined (world_setup old) r.0 (e ∷ []) (first_world (world_setup old)) (model_world old) (model_world new) r.1
+      (model_world new, h, refl),
+)
 
 not_spent : (c s b : Bool) → first_event_cause c s b ≡ None → b ≡ false
 not_spent c s b h = grind (arith, nat_tests)

@@ -54,8 +54,7 @@ flow_there n m g k low high small = grind (arith, item_there, first_aggregator_f
 logs_named : (config : Config) (h : HalfState) → IsFirstHalf config h → h.histories ≡ first_histories h.state.system h.state.ports
 logs_named config h f = f.histories ∙ (λ i. first_histories (sym f.configured.system i) (sym f.configured.ports i))
 
-flows_named : (config : Config) (h : HalfState) → IsFirstHalf config h
-    → h.flows ≡ first_flows (length h.state.keys) (conversation_count h.state)
+flows_named : (config : Config) (h : HalfState) → IsFirstHalf config h → h.flows ≡ first_flows (length h.state.keys) (conversation_count h.state)
 flows_named config h f = f.flows ∙ (λ i. first_flows (length (sym f.configured.keys i)) (sym f.configured.conversations i))
 
 half_kept : (config : Config) (h : HalfState) → IsFirstHalf config h → PortsAgree h.state → IsHalfSound h
@@ -100,9 +99,8 @@ module _ {C : Type 0} (items : C → List Item) (limit : C → Option ℕ) where
   emptied_line [] h = refl
   emptied_line (x ∷ xs) h = let none : length (x ∷ xs) ≡ 0 = eqb-true (length (x ∷ xs)) 0 h in absurd (omega (arith, none))
 
-  pub line_empty : (cables : List (ℕ × ℕ)) (lines : List (C × C)) (i : ℕ) (l : LinkState)
-      → list_all (has_empty_directions items) lines ≡ true → slice_get (first_links items limit cables lines) i ≡ Some l → (s : Side)
-      → (towards s l ≡ []) × (l.whole ≡ true)
+  pub line_empty : (cables : List (ℕ × ℕ)) (lines : List (C × C)) (i : ℕ) (l : LinkState) → list_all (has_empty_directions items) lines ≡ true
+      → slice_get (first_links items limit cables lines) i ≡ Some l → (s : Side) → (towards s l ≡ []) × (l.whole ≡ true)
   line_empty [] lines i l h e s = absurd (none-some l e)
   line_empty (c ∷ cs) [] i l h e s = absurd (none-some l e)
   line_empty (c ∷ cs) (x ∷ xs) zero l h e s =
@@ -151,8 +149,7 @@ mapped_none : {X Y : Type 0} (f : X → Y) (o : Option X) → option_map f o ≡
 mapped_none f o h = grind arith
 
 are_joined : (first second : List PortConfig) (cables : List (ℕ × ℕ)) → bad_end first second cables ≡ None → AreJoined first second cables
-are_joined first second cables h i l =
-    not-false (can_join first second (take i cables) (get_or cables i (0, 0)))
+are_joined first second cables h i l = not-false (can_join first second (take i cables) (get_or cables i (0, 0)))
     (none_below (has_bad_end first second cables) (length cables) i
     (mapped_none suc (first_below (has_bad_end first second cables) (length cables)) h) l)
 
@@ -198,9 +195,8 @@ ports_there first second cables i c h e = and_parts (has_port first c.0) (has_po
 
 module _ {C : Type 0} (items : C → List Item) (limit : C → Option ℕ) where
   -- the end of a cable that was made
-  end_made : (cables : List (ℕ × ℕ)) (lines : List (C × C)) (s : Side) (n p : ℕ)
-      → end_at (map link_ends (first_links items limit cables lines)) s n ≡ Some p → (i : ℕ) × (c : ℕ × ℕ) × (n ≡ suc i)
-      × (slice_get cables i ≡ Some c) × (end_of_pair s c ≡ p)
+  end_made : (cables : List (ℕ × ℕ)) (lines : List (C × C)) (s : Side) (n p : ℕ) → end_at (map link_ends (first_links items limit cables lines)) s n ≡ Some p
+      → (i : ℕ) × (c : ℕ × ℕ) × (n ≡ suc i) × (slice_get cables i ≡ Some c) × (end_of_pair s c ≡ p)
   end_made cables lines s zero p e = absurd (none-some p e)
   end_made cables lines s (suc i) p e = by_line (slice_get ls i) refl (sym (ap (option_map (port_on s)) (slice_get-map link_ends ls i)) ∙ e)
     where
@@ -210,14 +206,7 @@ module _ {C : Type 0} (items : C → List Item) (limit : C → Option ℕ) where
       by_line : (o : Option LinkState) → slice_get ls i ≡ o → option_map (port_on s) (option_map link_ends o) ≡ Some p → (k : ℕ)
           × (c : ℕ × ℕ) × (suc i ≡ suc k) × (slice_get cables k ≡ Some c) × (end_of_pair s c ≡ p)
       by_line None h e = absurd (none-some p e)
-      by_line (Some l) h e = (
-        i,
-        (l.one, l.two),
-        refl,
-        ends_made items limit cables lines i l h,
-        on_side s
-            ∙ same_Some (port_on s (link_ends l)) p e,
-      )
+      by_line (Some l) h e = (i, (l.one, l.two), refl, ends_made items limit cables lines i l h, on_side s ∙ same_Some (port_on s (link_ends l)) p e)
         where
           on_side : (s : Side) → end_of_pair s (l.one, l.two) ≡ port_on s (link_ends l)
           on_side One = refl
@@ -225,8 +214,7 @@ module _ {C : Type 0} (items : C → List Item) (limit : C → Option ℕ) where
 
   cabled : (first second : List PortConfig) (cables : List (ℕ × ℕ)) (lines : List (C × C)) → AreJoined first second cables
       → IsCabling (map link_ends (first_links items limit cables lines))
-  cabled first second cables lines h s m n p e f =
-      let x = end_made cables lines s m p e in
+  cabled first second cables lines h s m n p e f = let x = end_made cables lines s m p e in
       let y = end_made cables lines s n p f in
       let same : end_of_pair s x.1 ≡ end_of_pair s y.1 = x.4 ∙ sym y.4 in
       let before = one_cable first second cables s x.0 y.0 x.1 y.1 h x.3 y.3 same in
@@ -234,10 +222,8 @@ module _ {C : Type 0} (items : C → List Item) (limit : C → Option ℕ) where
       let place : x.0 ≡ y.0 = omega (arith, before, behind) in x.2 ∙ ap suc place ∙ sym y.2
 
   -- each end of a cable that was made has a history
-  end_logged : (config : Config) (h : HalfState) (p : ℕ) → IsFirstHalf config h → has_port config.ports.items p ≡ true
-      → IsSome (history_at h.histories p)
-  end_logged config h p f x =
-      rw (f.histories, log_found config.system config.ports.items p)
+  end_logged : (config : Config) (h : HalfState) (p : ℕ) → IsFirstHalf config h → has_port config.ports.items p ≡ true → IsSome (history_at h.histories p)
+  end_logged config h p f x = rw (f.histories, log_found config.system config.ports.items p)
       (logged (find_number configured_number config.ports.items p) (port_found config.ports.items p x))
     where
       logged : (o : Option PortConfig) → IsSome o → IsSome (option_map (first_history config.system) o)
@@ -245,9 +231,8 @@ module _ {C : Type 0} (items : C → List Item) (limit : C → Option ℕ) where
       logged (Some c) e = refl
 
   pub is_start : (a b : Config) (cables : List (ℕ × ℕ)) (lines : List (C × C)) (j : WorldState) → IsFirstHalf a j.one → IsFirstHalf b j.two
-      → PortsAgree j.one.state → PortsAgree j.two.state
-      → refusal_of_two (config_value a) (config_value b) cables ≡ None → list_all (has_empty_directions items) lines ≡ true
-      → j.links ≡ first_links items limit cables lines → j.acted ≡ 0 → IsStart j
+      → PortsAgree j.one.state → PortsAgree j.two.state → refusal_of_two (config_value a) (config_value b) cables ≡ None
+      → list_all (has_empty_directions items) lines ≡ true → j.links ≡ first_links items limit cables lines → j.acted ≡ 0 → IsStart j
   is_start a b cables lines j f g agrees_one agrees_two accepted empty made acted = record {
     kept = λ s. half_kept (by_side s a b) (half s j) (first s) (agrees s);
     shows = λ s. first_shows (half s j).state (first s).first;
@@ -283,23 +268,20 @@ module _ {C : Type 0} (items : C → List Item) (limit : C → Option ℕ) where
       nothing x e = rw e (refl, refl, refl)
 
 -- what was tested of two lists in other places holds of them
-pub same_test : {X Y : Type 0} (f : X → Y → Bool) (x there : X) (y here : Y) (r : Bool) → there ≡ x → here ≡ y → r ≡ f there here
-    → r ≡ true → f x y ≡ true
+pub same_test : {X Y : Type 0} (f : X → Y → Bool) (x there : X) (y here : Y) (r : Bool) → there ≡ x → here ≡ y → r ≡ f there here → r ≡ true → f x y ≡ true
 same_test f x there y here r e g h t = (λ i. f (sym e i) (sym g i)) ∙ sym h ∙ t
 
 -- the configurations of both systems are not refused if the world is not
 pub both_accepted : (config : WorldConfig) (a b : Config) → config.systems ≡ a ∷ b ∷ [] → world_refusal config ≡ None
     → (refusal_of_one a ≡ None) × (refusal_of_one b ≡ None) × (refusal_of_two (config_value a) (config_value b) config.cables.items ≡ None)
-both_accepted config a b e h =
-    let two : refusal_of_two (config_value a) (config_value b) config.cables.items ≡ None =
+both_accepted config a b e h = let two : refusal_of_two (config_value a) (config_value b) config.cables.items ≡ None =
     sym (ap (λ systems. refusal_of_all (map config_value systems) config.cables.items) e) ∙ h in
     let each = two_joined (config_value a) (config_value b) config.cables.items two in (each.0, each.1, two)
 
 -- what code knows of a world that it made
 module _ {C : Type 0} (items : C → List Item) (limit : C → Option ℕ) where
-  pub made_start : (config : WorldConfig) (a b : Config) (lines : List (C × C)) (j : WorldState) → config.systems ≡ a ∷ b ∷ []
-      → world_refusal config ≡ None → are_empty_lines items config.cables.items lines ≡ true
-      → IsFirstHalf a j.one → IsFirstHalf b j.two → PortsAgree j.one.state → PortsAgree j.two.state
+  pub made_start : (config : WorldConfig) (a b : Config) (lines : List (C × C)) (j : WorldState) → config.systems ≡ a ∷ b ∷ [] → world_refusal config ≡ None
+      → are_empty_lines items config.cables.items lines ≡ true → IsFirstHalf a j.one → IsFirstHalf b j.two → PortsAgree j.one.state → PortsAgree j.two.state
       → j.links ≡ first_links items limit config.cables.items lines → j.acted ≡ 0 → IsStart j
   made_start config a b lines j e h fit f g agrees_one agrees_two made acted =
       is_start items limit a b config.cables.items lines j f g agrees_one agrees_two (both_accepted config a b e h).2

@@ -16,9 +16,8 @@ pub any_reserved : {C : Type 0} (reserved : C → Bool) (s : Side) (ls : List (C
 any_reserved reserved s ls h o = grind (arith, nat_tests)
 
 -- what is done with an answer of a system is what the event does
-pub offers_of : (gives : Algorithms) (s : Side) (agg : AggId) (octets : List ℕ) (a b : Result ℕ SystemFault) (old mid new : WorldState)
-    (r : Reply) → a ≡ b → WorldAsksOffer gives s agg octets a old mid → AfterOffer s agg octets b mid r new
-    → WorldOffers gives s agg octets old r new
+pub offers_of : (gives : Algorithms) (s : Side) (agg : AggId) (octets : List ℕ) (a b : Result ℕ SystemFault) (old mid new : WorldState) (r : Reply) → a ≡ b
+    → WorldAsksOffer gives s agg octets a old mid → AfterOffer s agg octets b mid r new → WorldOffers gives s agg octets old r new
 offers_of gives s agg octets a b old mid new r e x y = grind (arith, nat_tests)
 
 -- every system has a conversation, which has number 0
@@ -42,12 +41,11 @@ pub taken_there : {gives : ℕ → ℕ → ℕ → Type 0} {agg : AggId} {octets
 taken_there {agg = agg} {old = old} x kept conv below = grind (arith, nat_tests)
 
 -- the frame goes out as the next of its conversation
-pub frame_offered : (s : Side) (agg : AggId) (octets : List ℕ) (port conv serial number : ℕ) (kept : Bool) (links : List LinkState)
-    (j new : WorldState) → conv ≡ number_of_conversation (half s j).state octets → IsSome (flow_at (half s j).flows agg.0 conv)
+pub frame_offered : (s : Side) (agg : AggId) (octets : List ℕ) (port conv serial number : ℕ) (kept : Bool) (links : List LinkState) (j new : WorldState)
+    → conv ≡ number_of_conversation (half s j).state octets → IsSome (flow_at (half s j).flows agg.0 conv)
     → serial ≡ length (sent_in (flow_at (half s j).flows agg.0 conv)) → number ≡ side_number s
     → links ≡ put_on_port s port (made octets (stamp.Data number agg.0 conv serial)) j.links → kept ≡ is_accepted s port j.links
-    → new ≡ with_links (with_half s (with_sent_in agg.0 conv (half s j)) j) links
-    → AfterOffer s agg octets (Ok port) j (reply.Port port serial kept) new
+    → new ≡ with_links (with_half s (with_sent_in agg.0 conv (half s j)) j) links → AfterOffer s agg octets (Ok port) j (reply.Port port serial kept) new
 frame_offered s agg octets port conv serial number kept links j new a b c d e f h = grind (arith, nat_tests)
 
 -- what is done with an answer to force
@@ -56,7 +54,6 @@ pub freed : (gives : ℕ → ℕ → ℕ → Type 0) (agg : AggId) (conv : ℕ) 
     → new ≡ record mid { flows = change_flow with_forced agg.0 conv mid.flows } → HalfForces gives agg conv old reply.Forced new
 freed gives agg conv a done old mid new e x h = (Ok done, mid, subst (λ a. HalfAsksForce gives agg conv a old mid) e x, refl, h)
 
-pub not_freed : (gives : ℕ → ℕ → ℕ → Type 0) (agg : AggId) (conv : ℕ) (a : Result Unit SystemFault) (fault : SystemFault)
-    (old mid : HalfState) → a ≡ Err fault → HalfAsksForce gives agg conv a old mid
-    → HalfForces gives agg conv old (reply.Refused fault) mid
+pub not_freed : (gives : ℕ → ℕ → ℕ → Type 0) (agg : AggId) (conv : ℕ) (a : Result Unit SystemFault) (fault : SystemFault) (old mid : HalfState) → a ≡ Err fault
+    → HalfAsksForce gives agg conv a old mid → HalfForces gives agg conv old (reply.Refused fault) mid
 not_freed gives agg conv a fault old mid e x = (Err fault, mid, subst (λ a. HalfAsksForce gives agg conv a old mid) e x, refl, refl)

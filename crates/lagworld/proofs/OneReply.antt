@@ -49,8 +49,7 @@ put_flows h k f same = record { state = same.state; histories = same.histories; 
 link_same : (j k : WorldState) (i : ℕ) (l : LinkState) → SameWorld j k → SameWorld (with_link_at i l j) (with_link_at i l k)
 link_same j k i l same = put_links j k (slice_set j.links i l) (slice_set k.links i l) same (ap (λ ls. slice_set ls i l) same.links)
 
-sent_same : (s : Side) (p : ℕ) (x y : ItemValue) (j k : WorldState) → y ≡ x → SameWorld j k
-    → SameWorld (with_item_sent s p x j) (with_item_sent s p y k)
+sent_same : (s : Side) (p : ℕ) (x y : ItemValue) (j k : WorldState) → y ≡ x → SameWorld j k → SameWorld (with_item_sent s p x j) (with_item_sent s p y k)
 sent_same s p x y j k e same = grind arith
 
 accepted_same : (s : Side) (p : ℕ) (j k : WorldState) → SameWorld j k → is_accepted s p k.links ≡ is_accepted s p j.links
@@ -74,16 +73,14 @@ ticked gives (suc n) old new p h = h.2.answers.agrees
 ticks_one : (gives : Gives) → IsFunction gives → (n : ℕ) (h k new last : HalfState) → PortsAgree h.state → SameHalf h k
     → HalfTicks gives n h new → HalfTicks gives n k last → SameHalf new last
 ticks_one gives one zero h k new last agrees same x y = half_by h k new last x y same
-ticks_one gives one (suc n) h k new last agrees same x y =
-    let mid = ticks_one gives one n h k x.0 y.0 agrees same x.1 y.1 in
+ticks_one gives one (suc n) h k new last agrees same x y = let mid = ticks_one gives one n h k x.0 y.0 agrees same x.1 y.1 in
     (answers_one gives one Tick answer.Tick answer.Tick x.0 y.0 new last (ticked gives n h x.0 agrees x.1) mid x.2 y.2).1
 
 recorded_same : (kept : Recording) (a : Answer) (h k : HalfState) → SameHalf h k → SameHalf (recorded kept a h) (recorded kept a k)
 recorded_same kept a h k same = grind arith
 
-asked_one : (gives : Gives) → IsFunction gives → (call : Call) (kept : Recording) (up : Bool) (h k new last : HalfState) (r q : Reply)
-    → PortsAgree h.state → SameHalf h k → HalfAsked gives call kept up h r new → HalfAsked gives call kept up k q last
-    → (q ≡ r) × SameHalf new last
+asked_one : (gives : Gives) → IsFunction gives → (call : Call) (kept : Recording) (up : Bool) (h k new last : HalfState) (r q : Reply) → PortsAgree h.state
+    → SameHalf h k → HalfAsked gives call kept up h r new → HalfAsked gives call kept up k q last → (q ≡ r) × SameHalf new last
 asked_one gives one call kept up h k new last r q agrees same x y = grind (arith, answers_one, told, half_by, recorded, recorded_same)
 
 -- a change of one system in the world
@@ -98,8 +95,7 @@ transmits_one s p (Ok (Some frame)) old twin r q new last same x y = grind arith
 transmits_one s p a old twin r q new last same x y = (y.0 ∙ sym x.0, same_by old twin new last x.1 y.1 same)
 
 emits_one : (gives : Algorithms) → AreFunctions gives → (s : Side) (p : ℕ) (old twin : WorldState) (r q : Reply) (new last : WorldState)
-    → PortsAgree (half s old).state → SameWorld old twin → WorldEmits gives s p old r new → WorldEmits gives s p twin q last
-    → (q ≡ r) × SameWorld new last
+    → PortsAgree (half s old).state → SameWorld old twin → WorldEmits gives s p old r new → WorldEmits gives s p twin q last → (q ≡ r) × SameWorld new last
 emits_one gives one s p old twin r q new last agrees same x y =
     let t = answers_one (gives s) (one s) (Transmit p) (answer.Transmit x.0) (answer.Transmit y.0) (half s old) (half s twin) x.1 y.1
     agrees (same.halves s) x.2 y.2 in
@@ -110,17 +106,15 @@ emits_one gives one s p old twin r q new last agrees same x y =
 -- what came is collected, recorded or answered
 collected_same : (st : Stamp) (j k : WorldState) → SameWorld j k → SameWorld (with_stamp_collected st j) (with_stamp_collected st k)
 collected_same (stamp.Control count) j k same = same
-collected_same (stamp.Data system agg conv serial) j k same =
-    let s = side_numbered system in
+collected_same (stamp.Data system agg conv serial) j k same = let s = side_numbered system in
     put_half s j k (with_collected_in agg conv serial (half s j)) (with_collected_in agg conv serial (half s k)) same
     (put_flows (half s j) (half s k) (λ f. change_flow (with_collected serial) agg conv f) (same.halves s))
 
 taken_same : (p : ℕ) (v : StampedLacpdu) (h k : HalfState) → SameHalf h k → SameHalf (with_last_lacpdu p v h) (with_last_lacpdu p v k)
 taken_same p v h k same = record { state = same.state; histories = ap (set_last_lacpdu p v) same.histories; flows = same.flows }
 
-received_one : (s : Side) (p : ℕ) (item : ItemValue) (a : Result Received SystemFault) (old twin : WorldState) (r q : Reply)
-    (new last : WorldState) → SameWorld old twin → AfterReceive s p item a old r new → AfterReceive s p item a twin q last
-    → (q ≡ r) × SameWorld new last
+received_one : (s : Side) (p : ℕ) (item : ItemValue) (a : Result Received SystemFault) (old twin : WorldState) (r q : Reply) (new last : WorldState)
+    → SameWorld old twin → AfterReceive s p item a old r new → AfterReceive s p item a twin q last → (q ≡ r) × SameWorld new last
 received_one s p item (Ok received.TookLacpdu) old twin r q new last same x y = (
   y.0 ∙ sym x.0,
   same_by _ _ new last x.1 y.1
@@ -142,12 +136,10 @@ receives_one gives one s p item old twin r q new last agrees same x y =
     (subst (λ a. AfterReceive s p item a (with_half s y.1 twin) q last) e y.3)
 
 -- offering
-offered_one : (s : Side) (agg : AggId) (octets : List ℕ) (a : Result ℕ SystemFault) (old twin : WorldState) (r q : Reply)
-    (new last : WorldState) → SameWorld old twin → AfterOffer s agg octets a old r new → AfterOffer s agg octets a twin q last
-    → (q ≡ r) × SameWorld new last
+offered_one : (s : Side) (agg : AggId) (octets : List ℕ) (a : Result ℕ SystemFault) (old twin : WorldState) (r q : Reply) (new last : WorldState)
+    → SameWorld old twin → AfterOffer s agg octets a old r new → AfterOffer s agg octets a twin q last → (q ≡ r) × SameWorld new last
 offered_one s agg octets (Err fault) old twin r q new last same x y = (y.0 ∙ sym x.0, same_by old twin new last x.1 y.1 same)
-offered_one s agg octets (Ok port) old twin r q new last same x y =
-    let part = same.halves s in
+offered_one s agg octets (Ok port) old twin r q new last same x y = let part = same.halves s in
     let conv : number_of_conversation (half s twin).state octets ≡ number_of_conversation (half s old).state octets =
     conversation_same octets (half s old).state (half s twin).state part.state in
     let sent : length (sent_in (flow_at (half s twin).flows agg.0 (number_of_conversation (half s twin).state octets)))
@@ -218,11 +210,7 @@ one_reply gives one old twin e r q new last sound same h k =
     let t = does_one gives one e old twin r q (record new { acted = old.acted }) (record last { acted = twin.acted })
     (λ s. (sound.kept s).agrees) same h.0 k.0 in (
       t.0,
-      record {
-        halves = λ s. t.1.halves s;
-        links = t.1.links;
-        acted = k.1 ∙ ap (λ n. n + 1) same.acted ∙ sym h.1;
-      },
+      record { halves = λ s. t.1.halves s; links = t.1.links; acted = k.1 ∙ ap (λ n. n + 1) same.acted ∙ sym h.1 },
     )
 
 -- and of a list of events

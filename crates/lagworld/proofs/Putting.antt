@@ -25,14 +25,12 @@ pub put_there : (s : Side) (p : ℕ) (item : ItemValue) (links new : List LinkSt
 put_there s p item links new kept i e h = grind arith
 
 -- the cable at a place was sent the item
-pub sent_at : {X Y : Type 0} (f : X → Y) (h : Y → Y) (t : Y → Bool) (xs : List X) (i : ℕ) (x new : X) (kept : Bool) → i < length xs
-    → x ≡ get_or xs i x → f new ≡ h (f x) → kept ≡ t (f x)
-    → IsSomeAnd (slice_get (map f xs) i) (λ y. (map f (set xs i new) ≡ set (map f xs) i (h y)) × (kept ≡ t y))
+pub sent_at : {X Y : Type 0} (f : X → Y) (h : Y → Y) (t : Y → Bool) (xs : List X) (i : ℕ) (x new : X) (kept : Bool) → i < length xs → x ≡ get_or xs i x
+    → f new ≡ h (f x) → kept ≡ t (f x) → IsSomeAnd (slice_get (map f xs) i) (λ y. (map f (set xs i new) ≡ set (map f xs) i (h y)) × (kept ≡ t y))
 sent_at f h t xs i x new kept lt read e k = seen_at f _ xs i x lt read (map-set f xs i new ∙ ap (set (map f xs) i) e, k)
 
 -- a write that is not seen
-pub same_at : {X Y : Type 0} (f : X → Y) (xs : List X) (i : ℕ) (x new : X) → x ≡ get_or xs i x → f new ≡ f x
-    → map f (set xs i new) ≡ map f xs
+pub same_at : {X Y : Type 0} (f : X → Y) (xs : List X) (i : ℕ) (x new : X) → x ≡ get_or xs i x → f new ≡ f x → map f (set xs i new) ≡ map f xs
 same_at f xs i x new read e =
     map-set f xs i new ∙ ap (set (map f xs) i) e ∙ sym (map-set f xs i x) ∙ ap (map f) (ap (set xs i) read ∙ set-get_or xs i x)
 
@@ -46,8 +44,7 @@ pub ok_weaker : {T E A B : Type 0} (r : Result T E) → (A → B) → OnOk r A �
 ok_weaker r f h = grind arith
 
 -- what is written leaves what is before it
-pub before_written : {X : Type 0} (P : X → Type 0) (xs : List X) (i k : ℕ) (x : X) → k < i → IfSome (slice_get xs k) P
-    → IfSome (slice_get (set xs i x) k) P
+pub before_written : {X : Type 0} (P : X → Type 0) (xs : List X) (i k : ℕ) (x : X) → k < i → IfSome (slice_get xs k) P → IfSome (slice_get (set xs i x) k) P
 before_written P [] i k x lt h = h
 before_written P (z ∷ xs) zero k x lt h = absurd (omega (arith, lt))
 before_written P (z ∷ xs) (suc i) zero x lt h = h

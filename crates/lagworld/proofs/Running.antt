@@ -28,8 +28,7 @@ in_order_of j i = in_order_holds (world_setup j) (model_world j)
     (lawful (world_setup j) i.reached.0 (model_world j) (is_fixed j i) i.reached.1)
 
 pub carries_of : (j : WorldState) → IsSound j → HeadlineFacts j
-carries_of j i =
-    let x = world_setup j in
+carries_of j i = let x = world_setup j in
     let w = model_world j in
     let f = is_fixed j i in
     let l = lawful x i.reached.0 w f i.reached.1 in
@@ -53,8 +52,7 @@ pub fixed_after : (gives : Algorithms) (e : Event) (result : Result Reply WorldF
 fixed_after gives e result old new i x u = grind (arith, steps_fixed, world_setup)
 
 pub happens_after : (gives : Algorithms) (e : Event) (result : Result Reply WorldFault) (old new : WorldState) → IsSound old
-    → IfOk result (λ r. WorldSteps gives old e r new)
-    → IfOk result (λ r. Happens (world_setup old) (model_event e) (model_world old) (model_world new))
+    → IfOk result (λ r. WorldSteps gives old e r new) → IfOk result (λ r. Happens (world_setup old) (model_event e) (model_world old) (model_world new))
 happens_after gives e result old new i x = grind (arith, steps_happen)
 
 -- one more event
@@ -65,15 +63,13 @@ runs_more gives old mid new [] (q ∷ rs) e r h x = absurd h
 runs_more gives old mid new (d ∷ es) [] e r h x = absurd h
 runs_more gives old mid new (d ∷ es) (q ∷ rs) e r h x = (h.0, h.1, runs_more gives h.0 mid new es rs e r h.2 x)
 
-pub runs_on : (gives : Algorithms) (old mid new : WorldState) (es : List Event) (rs : List Reply) (n : ℕ) (d : Event) (r : Reply)
-    → n < length es → WorldRuns gives old (take n es) rs mid → WorldSteps gives mid (get_or es n d) r new
-    → WorldRuns gives old (take (n + 1) es) (rs ++ r ∷ []) new
+pub runs_on : (gives : Algorithms) (old mid new : WorldState) (es : List Event) (rs : List Reply) (n : ℕ) (d : Event) (r : Reply) → n < length es
+    → WorldRuns gives old (take n es) rs mid → WorldSteps gives mid (get_or es n d) r new → WorldRuns gives old (take (n + 1) es) (rs ++ r ∷ []) new
 runs_on gives old mid new es rs n d r l h x = subst (λ l. WorldRuns gives old l (rs ++ r ∷ []) new) (sym (take_more es n d l))
     (runs_more gives old mid new (take n es) rs (get_or es n d) r h x)
 
-pub world_on : (x : WorldSetup) (old mid new : World) (es : List Event) (n : ℕ) (d : Event) → n < length es
-    → Run x (map model_event (take n es)) old mid → Happens x (model_event (get_or es n d)) mid new
-    → Run x (map model_event (take (n + 1) es)) old new
+pub world_on : (x : WorldSetup) (old mid new : World) (es : List Event) (n : ℕ) (d : Event) → n < length es → Run x (map model_event (take n es)) old mid
+    → Happens x (model_event (get_or es n d)) mid new → Run x (map model_event (take (n + 1) es)) old new
 world_on x old mid new es n d l h e =
     subst (λ l. Run x l old new) (sym (ap (map model_event) (take_more es n d l) ∙ map-append model_event (take n es) (get_or es n d ∷ [])))
     (runs_joined x (map model_event (take n es)) (model_event (get_or es n d) ∷ []) old mid new h (new, e, refl))

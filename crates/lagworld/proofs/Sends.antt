@@ -28,9 +28,8 @@ pub stamped : (octets : List ℕ) (v : Pdu) (n : ℕ) → pdu_in (payload_in oct
 stamped octets v n e = grind arith
 
 -- what a PDU that is sent leaves, where the system alone changed
-pub sends_beside : (s : Side) (p : ℕ) (pdu : Message_pdu) (item : ItemValue) (count : ℕ) (h : HalfState) (j : WorldState)
-    → h ≡ with_state h.state (half s j) → IsCabling (world_setup j).cables → item_message item ≡ Control pdu (stamp_of pdu count)
-    → count ≡ (model_world j).count s p → (stamp : ℕ)
+pub sends_beside : (s : Side) (p : ℕ) (pdu : Message_pdu) (item : ItemValue) (count : ℕ) (h : HalfState) (j : WorldState) → h ≡ with_state h.state (half s j)
+    → IsCabling (world_setup j).cables → item_message item ≡ Control pdu (stamp_of pdu count) → count ≡ (model_world j).count s p → (stamp : ℕ)
     → Leaves s stamp (is_accepted s p j.links) (Some (Sends p pdu)) h (put_on_port s p item j.links) j
 sends_beside s p pdu item count h j same one e n stamp = record {
   away = λ c. put_away s p item j.links (one s) c
@@ -51,12 +50,10 @@ pub sends_pdu : {gives : ℕ → ℕ → ℕ → Type 0} {call : Call} {a : Answ
     → (stamp : ℕ) → Leaves s stamp (is_accepted s p j.links) (Some (Sends p pdu)) h (put_on_port s p item j.links) j
 sends_pdu s p pdu item count h j x one e n stamp = sends_beside s p pdu item count h j x.same one e n stamp
 
-emitted : (gives : ℕ → ℕ → ℕ → Type 0) (s : Side) (p : ℕ) (a : Result (Option (List ℕ)) SystemFault) (mid : HalfState) (r : Reply)
-    (old new : WorldState) → IsCabling (world_setup old).cables
-    → HalfAnswers gives (Transmit p) (answer.Transmit a) (half s old) mid → AfterTransmit s p a (with_half s mid old) r new
+emitted : (gives : ℕ → ℕ → ℕ → Type 0) (s : Side) (p : ℕ) (a : Result (Option (List ℕ)) SystemFault) (mid : HalfState) (r : Reply) (old new : WorldState)
+    → IsCabling (world_setup old).cables → HalfAnswers gives (Transmit p) (answer.Transmit a) (half s old) mid → AfterTransmit s p a (with_half s mid old) r new
     → CallHappens (world_setup old) s ModelEvent.Transmit 0 (model_world old) (model_world old) (model_world new)
-emitted gives s p (Ok (Some frame)) mid r old new one x y =
-    let v = pdu_in (payload_in frame) in
+emitted gives s p (Ok (Some frame)) mid r old new one x y = let v = pdu_in (payload_in frame) in
     let h = half s (with_half s mid old) in
     let item = transmitted_item s p frame h in
     let count = change_count_in (history_at h.histories p) in
@@ -68,27 +65,23 @@ emitted gives s p (Ok (Some frame)) mid r old new one x y =
     (sends_pdu s p (control_message v) item count mid old x one (stamped frame v count refl) kept 0)
     (told_moves (half s old).state mid.state m.2 (m.3.2 ∙ ap (λ v. Sends p (control_message v) ∷ []) (sym (sent_read frame m.3.0 m.3.1))) m.4)
     (λ q. ap change_count_in (history_kept x q))
-emitted gives s p a mid r old new one x y =
-    let m = x.answers.moves in
+emitted gives s p a mid r old new one x y = let m = x.answers.moves in
     quiet_call gives s (Transmit p) (answer.Transmit a) ModelEvent.Transmit 0 mid old new x y.1 (λ e. cc) refl
     (told_moves (half s old).state mid.state m.2 m.3 m.4)
 
 -- A port sends what is due.
-pub emit_happens : (gives : Side → ℕ → ℕ → ℕ → Type 0) (s : Side) (p : ℕ) (r : Reply) (old new : WorldState)
-    → IsCabling (world_setup old).cables → WorldEmits gives s p old r new
-    → Happens (world_setup old) (Event.Emit s p) (model_world old) (model_world new)
+pub emit_happens : (gives : Side → ℕ → ℕ → ℕ → Type 0) (s : Side) (p : ℕ) (r : Reply) (old new : WorldState) → IsCabling (world_setup old).cables
+    → WorldEmits gives s p old r new → Happens (world_setup old) (Event.Emit s p) (model_world old) (model_world new)
 emit_happens gives s p r old new one x = emitted (gives s) s p x.0 x.1 r old new one x.2 x.3
 
 offered_calls : (gives : ℕ → ℕ → ℕ → Type 0) (s : Side) (agg : AggId) (octets : List ℕ) (a : Result ℕ SystemFault) (mid : HalfState)
     (r : Reply) (old new : WorldState) → IsCabling (world_setup old).cables
     → HalfAnswers gives (Offer agg octets) (answer.Offer a) (half s old) mid → AfterOffer s agg octets a (with_half s mid old) r new
     → CallHappens (world_setup old) s ModelEvent.Offer 0 (model_world old) (model_world old) (model_world new)
-offered_calls gives s agg octets (Err fault) mid r old new one x y =
-    let m = x.answers.moves in
+offered_calls gives s agg octets (Err fault) mid r old new one x y = let m = x.answers.moves in
     quiet_call gives s (Offer agg octets) (answer.Offer (Err fault)) ModelEvent.Offer 0 mid old new x y.1 (λ e. cc) refl
     (told_moves (half s old).state mid.state m.2 m.3 m.4)
-offered_calls gives s agg octets (Ok port) mid r old new one x y =
-    let k = number_of_conversation mid.state octets in
+offered_calls gives s agg octets (Ok port) mid r old new one x y = let k = number_of_conversation mid.state octets in
     let item = offered_item s port agg octets mid in
     let flows = flows_kept x in
     let there : IsSome (flow_at (half s old).flows agg.0 k) = subst (λ f. IsSome (flow_at f agg.0 k)) flows
@@ -125,7 +118,6 @@ offered_calls gives s agg octets (Ok port) mid r old new one x y =
 
 -- A frame is offered: of a conversation of which serials are kept.
 pub offer_happens : (gives : Side → ℕ → ℕ → ℕ → Type 0) (s : Side) (agg : AggId) (octets : List ℕ) (r : Reply) (old new : WorldState)
-    → IsCabling (world_setup old).cables
-    → WorldOffers gives s agg octets old r new
+    → IsCabling (world_setup old).cables → WorldOffers gives s agg octets old r new
     → Happens (world_setup old) (Event.Offer s agg.0 octets) (model_world old) (model_world new)
 offer_happens gives s agg octets r old new one x = offered_calls (gives s) s agg octets x.0 x.1 r old new one x.2 x.3

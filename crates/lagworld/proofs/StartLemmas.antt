@@ -5,8 +5,7 @@ use Rattle.lagworld.proofs.Common.{replicate_more, take_more}
 -- one more is made of each item in turn
 pub mapped_more : {X Y : Type 0} (f : X → Y) (xs : List X) (ys new : List Y) (i : ℕ) (d : X) (y : Y) → i < length xs
     → ys ≡ map f (take i xs) → y ≡ f (get_or xs i d) → new ≡ ys ++ y ∷ [] → new ≡ map f (take (i + 1) xs)
-mapped_more f xs ys new i d y l h e n =
-    n ∙ ap (λ ys. ys ++ y ∷ []) h ∙ ap (λ y. map f (take i xs) ++ y ∷ []) e
+mapped_more f xs ys new i d y l h e n = n ∙ ap (λ ys. ys ++ y ∷ []) h ∙ ap (λ y. map f (take i xs) ++ y ∷ []) e
     ∙ sym (ap (map f) (take_more xs i d l) ∙ map-append f (take i xs) (get_or xs i d ∷ []))
 
 -- one more of the same kind
@@ -16,8 +15,7 @@ filled f xs new x y n h e s = grind (arith, map, map-append, replicate, replicat
 
 -- a list of two items that came off one after another
 pub two_of : {X : Type 0} (xs ys zs : List X) (a b : X) → length xs ≡ 2 → xs ≡ a ∷ ys → ys ≡ b ∷ zs → xs ≡ a ∷ b ∷ []
-two_of xs ys zs a b l e f =
-    let all : xs ≡ a ∷ b ∷ zs = e ∙ ap (λ ys. a ∷ ys) f in
+two_of xs ys zs a b l e f = let all : xs ≡ a ∷ b ∷ zs = e ∙ ap (λ ys. a ∷ ys) f in
     all ∙ ap (λ zs. a ∷ b ∷ zs) (none zs (sym l ∙ ap length all))
   where
     none : (zs : List _) → 2 ≡ length (a ∷ b ∷ zs) → zs ≡ []

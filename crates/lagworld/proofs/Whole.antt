@@ -15,8 +15,7 @@ use Rattle.lagworld.proofs.Forced.{force_happens}
 
 -- an event on a cable is on the one that it names
 at_line : (c : ℕ) (P : ℕ → LinkState → Type 0) (e : ℕ → ModelEvent) (old new : WorldState) → OnLink c P old.links
-    → ((i : ℕ) (l : LinkState) → slice_get old.links i ≡ Some l → P i l
-    → Happens (world_setup old) (e (suc i)) (model_world old) (model_world new))
+    → ((i : ℕ) (l : LinkState) → slice_get old.links i ≡ Some l → P i l → Happens (world_setup old) (e (suc i)) (model_world old) (model_world new))
     → Happens (world_setup old) (e c) (model_world old) (model_world new)
 at_line c P e old new x f = grind (arith, nat_tests)
 
@@ -34,8 +33,7 @@ does_happen gives (event.Lose c n) r old new i x = grind (arith, nat_tests, side
 does_happen gives (event.Repeat c n) r old new i x = grind (arith, nat_tests, side_numbered, at_line, named_side, repeat_happens, towards)
 does_happen gives (event.Cut c) r old new i x = grind (arith, nat_tests, at_line, world_setup, model_world, cut_happens)
 does_happen gives (event.Join c) r old new i x = grind (arith, nat_tests, at_line, world_setup, model_world, join_happens)
-does_happen gives (event.Sense c n) r old new i x =
-    let s = side_numbered n in
+does_happen gives (event.Sense c n) r old new i x = let s = side_numbered n in
     at_line c _ (λ c. ModelEvent.Sense c s) old new (named_side n _ x) (λ k l there y. sense_happens (gives s) s k l r old new there y)
 does_happen gives (event.Restart n) r old new i x =
     let s = side_numbered n in restart_happens (gives s) s old new (i.kept s) (named_side n _ x).1
@@ -45,8 +43,7 @@ does_happen gives (event.Offer n agg octets) r old new i x =
     offer_happens gives (side_numbered n) agg octets.items r old new i.cabling (named_side n _ x)
 does_happen gives (event.Move n agg conv p) r old new i x =
     let s = side_numbered n in move_happens (gives s) s agg conv p r old new (named_side n _ x)
-does_happen gives (event.Force n agg conv) r old new i x =
-    let s = side_numbered n in
+does_happen gives (event.Force n agg conv) r old new i x = let s = side_numbered n in
     let y = named_side n (λ s. InHalf s (λ h k. HalfForces (gives s) agg conv h r k) old new) x in
     force_happens (gives s) s agg conv r old new y (λ done e. forced_there (half s old) agg conv done y.0.1.state (i.kept s)
     (subst (λ a. GivesOrRefuses agg conv (system_force_result (half s old).state agg conv) (half s old).state a y.0.1.state) e

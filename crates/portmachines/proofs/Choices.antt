@@ -40,23 +40,20 @@ one_end : (I : Machines → Type 0) (rows : List Row) → OneWay I rows → (n m
 one_end I rows way zero zero p q r i g h a b = g ∙ sym h
 one_end I rows way zero (suc m) p q r i g h a b = absurd (none_fires rows p h.0 (subst (AtRest rows) g a) h.1)
 one_end I rows way (suc n) zero p q r i g h a b = absurd (none_fires rows p g.0 (subst (AtRest rows) h b) g.1)
-one_end I rows way (suc n) (suc m) p q r i g h a b =
-    let e : g.0 ≡ h.0 = way.same p g.0 h.0 i g.1 h.1 in
+one_end I rows way (suc n) (suc m) p q r i g h a b = let e : g.0 ≡ h.0 = way.same p g.0 h.0 i g.1 h.1 in
     one_end I rows way n m g.0 q r (way.stays p g.0 i g.1) g.2 (subst (λ (x : Machines). Goes rows m x r) (sym e) h.2) a b
 
-settles_one : (I : Machines → Type 0) (rows : List Row) → OneWay I rows → (p q r : Machines) → I p → RunsToRest rows p q
-    → RunsToRest rows p r → q ≡ r
+settles_one : (I : Machines → Type 0) (rows : List Row) → OneWay I rows → (p q r : Machines) → I p → RunsToRest rows p q → RunsToRest rows p r → q ≡ r
 settles_one I rows way p q r i g h = one_end I rows way g.0 h.0 p q r i (goes rows g.0 p q g.1) (goes rows h.0 p r h.1) g.2 h.2
 
 -- rows of which at most one is enabled do the same, where the test holds
 fires_one : (test : Machines → Bool) (rows : List Row) → OneEnabledAtMost test rows → (p q r : Machines) → test p ≡ true
     → Fires rows p q → Fires rows p r → q ≡ r
 fires_one test [] one p q r t f g = absurd f
-fires_one test (row ∷ rows) one p q r t f g =
-    elim f [
-      | inl x ↦ elim g [ inl y ↦ x.1 ∙ sym y.1 | inr y ↦ absurd (none_fires rows p r (one.0 p t x.0) y) ]
-      | inr x ↦ elim g [ inl y ↦ absurd (none_fires rows p q (one.0 p t y.0) x) | inr y ↦ fires_one test rows one.1 p q r t x y ]
-    ]
+fires_one test (row ∷ rows) one p q r t f g = elim f [
+  | inl x ↦ elim g [ inl y ↦ x.1 ∙ sym y.1 | inr y ↦ absurd (none_fires rows p r (one.0 p t x.0) y) ]
+  | inr x ↦ elim g [ inl y ↦ absurd (none_fires rows p q (one.0 p t y.0) x) | inr y ↦ fires_one test rows one.1 p q r t x y ]
+]
 
 abbrev Always : Machines → Type 0
 Always p = Unit {0}
@@ -92,13 +89,11 @@ receive-way : OneWay IsSafe receive_rows
 receive-way = record { same = receive-same; stays = receive-stays }
 
 -- at rest a port is still so after a tick
-rest-counted : (p : Machines) (s : ReceiveState) (expired : Bool) → AtRest receive_rows (record p { receive = s })
-    → safe s p.enabled expired
+rest-counted : (p : Machines) (s : ReceiveState) (expired : Bool) → AtRest receive_rows (record p { receive = s }) → safe s p.enabled expired
 rest-counted p s expired rest = grind arith
 
 -- and after a change of the link
-rest-linked : (p : Machines) (s : ReceiveState) (enabled : Bool) → AtRest receive_rows (record p { receive = s })
-    → safe s enabled (current_while_expired p)
+rest-linked : (p : Machines) (s : ReceiveState) (enabled : Bool) → AtRest receive_rows (record p { receive = s }) → safe s enabled (current_while_expired p)
 rest-linked p s enabled rest = grind arith
 
 pub one_mux : (ready : Bool) (p q r : Machines) → RunsToRest (mux_rows ready) p q → RunsToRest (mux_rows ready) p r → q ≡ r
@@ -109,8 +104,7 @@ one_periodic p q r h k = h.2 ∙ ap clear_ntt (settles_one Always periodic_rows 
 
 -- each call has one effect
 pub one_effect : OneEffect
-one_effect Tick old one other rest h k =
-    settles_one IsSafe receive_rows receive-way (count_down old) one other
+one_effect Tick old one other rest h k = settles_one IsSafe receive_rows receive-way (count_down old) one other
     (rest-counted old old.receive (current_while_expired (count_down old)) rest) h k
 one_effect (Transmit max_delay) old one other rest h k = h ∙ sym k
 one_effect (Set_link enabled) old one other rest h k =

@@ -8,8 +8,7 @@ use native.Mathlib.Omega.{arith}
 -- where a row before the list is enabled, none of the list is
 rest-after : (earlier : Machines → Bool) (rows : List Row) (p : Machines) → earlier p ≡ true → AtRest (in_order earlier rows) p
 rest-after earlier [] p e = tt
-rest-after earlier (row ∷ rows) p e =
-    let off : (not (earlier p) && row.enabled p) ≡ false = rw e refl in
+rest-after earlier (row ∷ rows) p e = let off : (not (earlier p) && row.enabled p) ≡ false = rw e refl in
     let on : (earlier p || row.enabled p) ≡ true = rw e refl in
     (off, rest-after (λ q. earlier q || row.enabled q) rows p on)
 

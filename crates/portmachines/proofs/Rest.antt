@@ -17,8 +17,7 @@ mux-keeps ready = (λ p. refl, (λ p. refl, (λ p. refl, (λ p. refl, (λ p. ref
 periodic-keeps : EachKeeps looked_at periodic_rows
 periodic-keeps = (λ p. refl, (λ p. refl, (λ p. refl, (λ p. refl, (λ p. refl, (λ p. refl, (λ p. refl, tt)))))))
 
-pub rest_after_mux : (ready : Bool) (n : ℕ) (p q : Machines) → FiresTimes (mux_rows ready) n p q
-    → AtRest receive_rows p → AtRest receive_rows q
+pub rest_after_mux : (ready : Bool) (n : ℕ) (p q : Machines) → FiresTimes (mux_rows ready) n p q → AtRest receive_rows p → AtRest receive_rows q
 rest_after_mux ready n p q run rest = rest-along p q (Reaches-keeps looked_at (mux_rows ready) (mux-keeps ready) n p q run) rest
 
 pub rest_after_periodic : (p q : Machines) → RunsPeriodic p q → AtRest receive_rows p → AtRest receive_rows q

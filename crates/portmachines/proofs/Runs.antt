@@ -3,8 +3,7 @@ use Rattle.portmachines.proofs.Common.{IsTrue, List, [], add-one, ap, inl, inr, 
 use Rattle.portmachines.proofs.Common.{FiresTimes, Row, RunsToRest}
 
 -- one more row fires
-pub Reaches-more : (rows : List Row) (n : ℕ) (old mid new : Machines) → FiresTimes rows n old mid → Fires rows mid new
-    → FiresTimes rows (n + 1) old new
+pub Reaches-more : (rows : List Row) (n : ℕ) (old mid new : Machines) → FiresTimes rows n old mid → Fires rows mid new → FiresTimes rows (n + 1) old new
 Reaches-more rows n old mid new run fired = rw add-one (mid, run, fired)
 
 -- no row changes what f reads
@@ -16,8 +15,7 @@ pub Fires-keeps : {A : Type 0} (f : Machines → A) (rows : List Row) → EachKe
 Fires-keeps f [] k p q h = absurd h
 Fires-keeps f (row ∷ rows) k p q h = elim h [ inl fired ↦ ap f fired.1 ∙ k.0 p | inr later ↦ Fires-keeps f rows k.1 p q later ]
 
-pub Reaches-keeps : {A : Type 0} (f : Machines → A) (rows : List Row) → EachKeeps f rows → (n : ℕ) (p q : Machines)
-    → FiresTimes rows n p q → f q ≡ f p
+pub Reaches-keeps : {A : Type 0} (f : Machines → A) (rows : List Row) → EachKeeps f rows → (n : ℕ) (p q : Machines) → FiresTimes rows n p q → f q ≡ f p
 Reaches-keeps f rows k zero p q run = ap f run
 Reaches-keeps f rows k (suc n) p q run = Fires-keeps f rows k run.0 q run.2 ∙ Reaches-keeps f rows k n p run.0 run.1
 
@@ -41,6 +39,5 @@ Reaches-relates R j rows k zero p q run = j.same p q run
 Reaches-relates R j rows k (suc n) p q run =
     j.both p run.0 q (Reaches-relates R j rows k n p run.0 run.1) (Fires-relates R rows k run.0 q run.2)
 
-pub Rests-relates : (R : Machines → Machines → Type 0) → Joins R → (rows : List Row) → EachRelates R rows → (p q : Machines)
-    → RunsToRest rows p q → R p q
+pub Rests-relates : (R : Machines → Machines → Type 0) → Joins R → (rows : List Row) → EachRelates R rows → (p q : Machines) → RunsToRest rows p q → R p q
 Rests-relates R j rows k p q h = Reaches-relates R j rows k h.0 p q h.1

@@ -51,8 +51,7 @@ count-length p (x ∷ xs) = omega (arith, count-length p xs, bit-weaker (p x) tr
 
 -- the ages that are at most k + 1 after the tick were at most k before it
 aged-one : (k a : ℕ) (rest : List ℕ) (b : Bool) → k + 1 ≤ 10 → nat_lt (a + 1) 11 ≡ b
-    → count_passing (λ x. nat_le x (k + 1)) (cond b ((a + 1) ∷ rest) rest) ≡ cond (nat_le a k) 1 0 + count_passing
-    (λ x. nat_le x (k + 1)) rest
+    → count_passing (λ x. nat_le x (k + 1)) (cond b ((a + 1) ∷ rest) rest) ≡ cond (nat_le a k) 1 0 + count_passing (λ x. nat_le x (k + 1)) rest
 aged-one k a rest b h e = grind (arith, nat_tests)
 
 count-aged : (k : ℕ) (ages : List ℕ) → k + 1 ≤ 10 → count_passing (λ a. nat_le a (k + 1)) (aged ages) ≡ count_passing (λ a. nat_le a k) ages
@@ -102,8 +101,7 @@ Inv-tick now ages ticks i = record {
 
 sent-window : (now : ℕ) (ages ticks : List ℕ) → length ages < 3 → Inv now ages ticks → (first : ℕ) (b : Bool)
     → (nat_le first now && nat_lt now (first + 11)) ≡ b → within_eleven first ticks + cond b 1 0 ≤ 3
-sent-window now ages ticks few i first true e =
-    let below = ltb-true now (first + 11) (and_parts (nat_le first now) _ e).1 in
+sent-window now ages ticks few i first true e = let below = ltb-true now (first + 11) (and_parts (nat_le first now) _ e).1 in
     let some = count-weaker (λ s. nat_le first s && nat_lt s (first + 11)) (λ s. nat_le now (s + 10)) ticks
     (all-weaker (λ s. s ≤ now) (λ s. (nat_le first s && nat_lt s (first + 11)) ≡ true → nat_le now (s + 10) ≡ true) ticks
     (λ s h t. let l = leb-true first s (and_parts _ _ t).0 in le-leb now (s + 10) (omega (arith, l, below))) i.past) in
@@ -117,8 +115,7 @@ pub taking-ages : (pdu : Lacpdu) (p q : Machines) → FiresIfEnabled (lacpdu_row
 taking-ages pdu p q h = grind (arith, nat_tests)
 
 pub periodic-ages : (p q : Machines) → RunsPeriodic p q → q.ages ≡ p.ages
-periodic-ages p q h =
-    ap (λ (x : Machines). x.ages) h.2 ∙ Reaches-keeps ages_of periodic_rows periodic-same h.1.0 p h.0 h.1.1
+periodic-ages p q h = ap (λ (x : Machines). x.ages) h.2 ∙ Reaches-keeps ages_of periodic_rows periodic-same h.1.0 p h.0 h.1.1
 
 pub starts-ages : (p q : Machines) → Starts p q → q.ages ≡ p.ages
 starts-ages p q h = ap (λ (x : Machines). x.ages) h.2 ∙ settles-same (start_receive p) h.0 h.1
@@ -176,13 +173,12 @@ past-before now (a ∷ more) = (omega arith, past-before now more)
 recent-before : (now k : ℕ) (ages : List ℕ) → AllByRecursion (λ a. a ≤ now) ages
     → count_passing (λ s. nat_le now (s + k)) (sent_before now ages) ≤ count_passing (λ a. nat_le a k) ages
 recent-before now k [] h = omega arith
-recent-before now k (a ∷ more) h =
-    omega (
-      arith,
-      recent-before now k more h.1,
-      bit-weaker (nat_le now (now - a + k)) (nat_le a k)
-          (λ t. let l = leb-true now (now - a + k) t in le-leb a k (omega (arith, l, h.0))),
-    )
+recent-before now k (a ∷ more) h = omega (
+  arith,
+  recent-before now k more h.1,
+  bit-weaker (nat_le now (now - a + k)) (nat_le a k)
+      (λ t. let l = leb-true now (now - a + k) t in le-leb a k (omega (arith, l, h.0))),
+)
 
 length-before : (now : ℕ) (ages : List ℕ) → length (sent_before now ages) ≡ length ages
 length-before now [] = refl

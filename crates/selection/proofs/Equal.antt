@@ -16,8 +16,7 @@ group-from_test : (v w : PortView) → has_group_of v w ≡ true → SamePair (e
 group-from_test v w h = pairs_from_groups (ends w) (ends v) (exact_group (group_of w.party w.partner) (group_of v.party v.partner) h)
 
 test-from_group : (v w : PortView) → SamePair (ends w) (ends v) → has_group_of v w ≡ true
-test-from_group v w h =
-    subst (λ g. same_group (group_of w.party w.partner) g ≡ true) (groups_from_pairs (ends w) (ends v) h)
+test-from_group v w h = subst (λ g. same_group (group_of w.party w.partner) g ≡ true) (groups_from_pairs (ends w) (ends v) h)
     (group-itself (group_of w.party w.partner))
 
 pub group-test : (v w : PortView) → IsTrue (has_group_of v w) ↔ SamePair (ends w) (ends v)
@@ -49,6 +48,5 @@ differs a b g true e h =
     let kept : is_side g b ≡ true = subst (λ k. is_side k b ≡ true) (exact_group (group_of a b) g e) (partner-kept a b) in absurd cc
 
 -- so a group with no such end is another one
-pub group-without_partner : (a b : Party) (g : Group) → (has_side g.lower b || has_side g.upper b) ≡ false
-    → same_group (group_of a b) g ≡ false
+pub group-without_partner : (a b : Party) (g : Group) → (has_side g.lower b || has_side g.upper b) ≡ false → same_group (group_of a b) g ≡ false
 group-without_partner a b g h = differs a b g (same_group (group_of a b) g) refl h

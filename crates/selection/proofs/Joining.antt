@@ -39,11 +39,10 @@ kept_passes test b w rest h = grind arith
 occupants_share : (agg : AggId) (v : PortView) (views : List PortView) → list_all (has_group_of v) (occupants agg views) ≡ true
     → AllByRecursion (λ w. IsOccupant agg w → SamePair (ends w) (ends v)) views
 occupants_share agg v [] h = tt
-occupants_share agg v (w ∷ ws) h =
-    let both = kept_passes (has_group_of v) (occupies agg w.choice) w (occupants agg ws) h in (
-      λ e. (group-test v w).0 (both.0 (given-occupant agg w e)),
-      occupants_share agg v ws both.1,
-    )
+occupants_share agg v (w ∷ ws) h = let both = kept_passes (has_group_of v) (occupies agg w.choice) w (occupants agg ws) h in (
+  λ e. (group-test v w).0 (both.0 (given-occupant agg w e)),
+  occupants_share agg v ws both.1,
+)
 
 -- the lowest aggregator
 
@@ -59,22 +58,18 @@ here : (first : ℕ) (k key : Key) (keys : List Key) (test : AggId → Bool) (ag
     → (b t : Bool) → (k.0 == key.0) ≡ b → test (aggregator_of_entry (first, k)) ≡ t
     → option_map aggregator_of_entry (cond (b && t) (Some (first, k)) rest) ≡ Some agg → Found first (k ∷ keys) key test agg
 here first k key keys test agg rest later true true same passed e = grind arith
-here first k key keys test agg rest later true false same passed e =
-    let found = later e in record {
-      place = suc found.place;
-      counted = omega (arith, found.counted);
-      has_key =
-          found.has_key;
-      passes = found.passes;
-    }
-here first k key keys test agg rest later false t same passed e =
-    let found = later e in record {
-      place = suc found.place;
-      counted = omega (arith, found.counted);
-      has_key =
-          found.has_key;
-      passes = found.passes;
-    }
+here first k key keys test agg rest later true false same passed e = let found = later e in record {
+  place = suc found.place;
+  counted = omega (arith, found.counted);
+  has_key = found.has_key;
+  passes = found.passes;
+}
+here first k key keys test agg rest later false t same passed e = let found = later e in record {
+  place = suc found.place;
+  counted = omega (arith, found.counted);
+  has_key = found.has_key;
+  passes = found.passes;
+}
 
 lowest-found : (first : ℕ) (keys : List Key) (key : Key) (test : AggId → Bool) (agg : AggId) → lowest_from first keys key test ≡ Some agg
     → Found first keys key test agg
@@ -94,14 +89,11 @@ eligible-outside v h = grind arith
 -- the choice
 
 joins-by : (keys : List Key) (views : List PortView) (v : PortView) (agg : AggId) (test : AggId → Bool) → is_eligible v ≡ true
-    → Found 1 keys v.party.key test agg
-    → (test agg ≡ true → HasNoOccupant views agg ⊎ OccupantsShareGroup views agg v) → MayJoin keys views agg v
+    → Found 1 keys v.party.key test agg → (test agg ≡ true → HasNoOccupant views agg ⊎ OccupantsShareGroup views agg v) → MayJoin keys views agg v
 joins-by keys views v agg test ok found others = grind (arith, eligible-outside, eligible-apart, slice_get, occupants)
 
-shared-occupants : (views : List PortView) (v : PortView) (agg : AggId) → occupants_share_group views v agg ≡ true
-    → OccupantsShareGroup views agg v
-shared-occupants views v agg h =
-    let some = (and_parts (not (individual v.party v.partner) && has_occupant views agg)
+shared-occupants : (views : List PortView) (v : PortView) (agg : AggId) → occupants_share_group views v agg ≡ true → OccupantsShareGroup views agg v
+shared-occupants views v agg h = let some = (and_parts (not (individual v.party v.partner) && has_occupant views agg)
     (list_all (has_group_of v) (occupants agg views)) h).0 in
     record {
       aggregatable = not-true (individual v.party v.partner)
@@ -128,15 +120,12 @@ if-some b o agg e = grind arith
 -- the port joins what it takes
 pub choice-joins : (keys : List Key) (views : List PortView) (v : PortView) (agg : AggId) → chosen_for_view keys views (Some v) ≡ Some agg
     → MayJoin keys views agg v
-choice-joins keys views v agg e =
-    let both = if-some (is_eligible v) (chosen_if_eligible keys views v) agg e in
+choice-joins keys views v agg e = let both = if-some (is_eligible v) (chosen_if_eligible keys views v) agg e in
     chosen keys views v agg both.0 (lowest_from 1 keys v.party.key (occupants_share_group views v)) refl both.1
 
 -- the same of what a call answers for the port that it has seen
-pub answer-joins : (keys : List Key) (views : List PortView) (seen : Option PortView) (v : PortView) (answer : Option AggId)
-    → seen ≡ Some v → is_eligible v ≡ true → answer ≡ chosen_if_eligible keys views v
-    → IfSome answer (λ agg. IsSomeAnd seen (MayJoin keys views agg))
+pub answer-joins : (keys : List Key) (views : List PortView) (seen : Option PortView) (v : PortView) (answer : Option AggId) → seen ≡ Some v
+    → is_eligible v ≡ true → answer ≡ chosen_if_eligible keys views v → IfSome answer (λ agg. IsSomeAnd seen (MayJoin keys views agg))
 answer-joins keys views seen v None is ok e = tt
-answer-joins keys views seen v (Some agg) is ok e =
-    subst (λ o. IsSomeAnd o (MayJoin keys views agg)) (sym is)
+answer-joins keys views seen v (Some agg) is ok e = subst (λ o. IsSomeAnd o (MayJoin keys views agg)) (sym is)
     (chosen keys views v agg ok (lowest_from 1 keys v.party.key (occupants_share_group views v)) refl (sym e))

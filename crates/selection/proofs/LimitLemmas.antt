@@ -40,16 +40,14 @@ later : (agg : AggId) (index : ℕ) (v : PortView) (vs : List PortView) (r : Sta
 later agg index v vs r a = record { place = suc a.place; counted = omega (arith, a.counted); there = a.there; stands = a.stands }
 
 taken_or_later : (agg : AggId) (index : ℕ) (best : Option StandbyRow) (v : PortView) (vs : List PortView) (r : StandbyRow) (t : Bool)
-    → (stands_by agg v.choice && is_before v best) ≡ t
-    → ((if t then Some (row_at index v) else best) ≡ Some r) ⊎ Among agg (index + 1) vs r
+    → (stands_by agg v.choice && is_before v best) ≡ t → ((if t then Some (row_at index v) else best) ≡ Some r) ⊎ Among agg (index + 1) vs r
     → (best ≡ Some r) ⊎ Among agg index (v ∷ vs) r
 taken_or_later agg index best v vs r t e h = grind (arith, nat_tests, row_at, same_Some, stands_by, and_parts, is_before, later)
 
 lowest_among : (agg : AggId) (index : ℕ) (best : Option StandbyRow) (views : List PortView) (r : StandbyRow)
     → lowest_standby_from agg index best views ≡ Some r → (best ≡ Some r) ⊎ Among agg index views r
 lowest_among agg index best [] r e = inl e
-lowest_among agg index best (v ∷ vs) r e =
-    taken_or_later agg index best v vs r (stands_by agg v.choice && is_before v best) refl
+lowest_among agg index best (v ∷ vs) r e = taken_or_later agg index best v vs r (stands_by agg v.choice && is_before v best) refl
     (lowest_among agg (index + 1) (better_row agg best (row_at index v)) vs r e)
 
 -- none is lower
@@ -62,16 +60,14 @@ BestNotLower r best = IfSome best (λ b. lower b.port.party.port r.port.party.po
 best_itself : (best : Option StandbyRow) (r : StandbyRow) → best ≡ Some r → BestNotLower r best
 best_itself best r e = grind (arith, nat_tests)
 
-kept_low : (agg : AggId) (index : ℕ) (best : Option StandbyRow) (v : PortView) (r : StandbyRow) (t : Bool)
-    → (stands_by agg v.choice && is_before v best) ≡ t → BestNotLower r (if t then Some (row_at index v) else best)
-    → NotLower agg r v × BestNotLower r best
+kept_low : (agg : AggId) (index : ℕ) (best : Option StandbyRow) (v : PortView) (r : StandbyRow) (t : Bool) → (stands_by agg v.choice && is_before v best) ≡ t
+    → BestNotLower r (if t then Some (row_at index v) else best) → NotLower agg r v × BestNotLower r best
 kept_low agg index best v r t e h = grind (arith, nat_tests)
 
 lowest_low : (agg : AggId) (index : ℕ) (best : Option StandbyRow) (views : List PortView) (r : StandbyRow)
     → lowest_standby_from agg index best views ≡ Some r → AllByRecursion (NotLower agg r) views × BestNotLower r best
 lowest_low agg index best [] r e = (tt, best_itself best r e)
-lowest_low agg index best (v ∷ vs) r e =
-    let rest = lowest_low agg (index + 1) (better_row agg best (row_at index v)) vs r e in
+lowest_low agg index best (v ∷ vs) r e = let rest = lowest_low agg (index + 1) (better_row agg best (row_at index v)) vs r e in
     let here = kept_low agg index best v r (stands_by agg v.choice && is_before v best) refl rest.1 in
     ((here.0, rest.0), here.1)
 
@@ -79,16 +75,14 @@ lowest_low agg index best (v ∷ vs) r e =
 abbrev pub NoneStandsBy : AggId → List PortView → Type 0
 NoneStandsBy agg views = AllByRecursion (λ w. stands_by agg w.choice ≡ false) views
 
-nobody_here : (agg : AggId) (index : ℕ) (best : Option StandbyRow) (v : PortView) (t : Bool)
-    → (stands_by agg v.choice && is_before v best) ≡ t → (if t then Some (row_at index v) else best) ≡ None
-    → (best ≡ None) × (stands_by agg v.choice ≡ false)
+nobody_here : (agg : AggId) (index : ℕ) (best : Option StandbyRow) (v : PortView) (t : Bool) → (stands_by agg v.choice && is_before v best) ≡ t
+    → (if t then Some (row_at index v) else best) ≡ None → (best ≡ None) × (stands_by agg v.choice ≡ false)
 nobody_here agg index best v t e h = grind (arith, nat_tests)
 
 lowest_none : (agg : AggId) (index : ℕ) (best : Option StandbyRow) (views : List PortView)
     → lowest_standby_from agg index best views ≡ None → (best ≡ None) × NoneStandsBy agg views
 lowest_none agg index best [] e = (e, tt)
-lowest_none agg index best (v ∷ vs) e =
-    let rest = lowest_none agg (index + 1) (better_row agg best (row_at index v)) vs e in
+lowest_none agg index best (v ∷ vs) e = let rest = lowest_none agg (index + 1) (better_row agg best (row_at index v)) vs e in
     let here = nobody_here agg index best v (stands_by agg v.choice && is_before v best) refl rest.0 in
     (here.0, (here.1, rest.1))
 
@@ -114,8 +108,7 @@ stands_is agg c e = rw e (itself agg.0)
 
 pub row_is_next : (aggs : AggregatorsValue) (views : List PortView) (agg : AggId) (r : StandbyRow)
     → next_standby_row aggs views agg ≡ Some r → (next : IsNext aggs views agg r.index) × (next.port ≡ r.port)
-row_is_next aggs views agg r e =
-    let both = with_room (has_room aggs views agg) (lowest_standby_from agg 0 None views) r e in
+row_is_next aggs views agg r e = let both = with_room (has_room aggs views agg) (lowest_standby_from agg 0 None views) r e in
     let low = lowest_low agg 0 None views r both.1 in
     elim (lowest_among agg 0 None views r both.1) [
       | inl x ↦ no_row r x

@@ -9,8 +9,7 @@ use Rattle.selection.specs.declared.standings.Standing.{Standing}
 
 -- tests
 
-none_first : (f : PortView → Bool) (w : PortView) (rest : List PortView) (b any : Bool) → (b || any) ≡ false
-    → (any ≡ false → list_all f rest ≡ true)
+none_first : (f : PortView → Bool) (w : PortView) (rest : List PortView) (b any : Bool) → (b || any) ≡ false → (any ≡ false → list_all f rest ≡ true)
     → list_all f (cond b (w ∷ rest) rest) ≡ true
 none_first f w rest b any h k = grind arith
 
@@ -27,8 +26,7 @@ of_one f w b = grind arith
 abbrev stands : Bool → Bool → Bool → Standing
 stands shared some all = if not some then Empty else (if (shared && some) && all then Joinable else Taken)
 
-stands-same : (shared some other_some all other_all : Bool) → some ≡ other_some → all ≡ other_all
-    → stands shared some all ≡ stands shared other_some other_all
+stands-same : (shared some other_some all other_all : Bool) → some ≡ other_some → all ≡ other_all → stands shared some all ≡ stands shared other_some other_all
 stands-same shared some other_some all other_all e h = rw (e, h) refl
 
 -- one more port, which occupies it or not
@@ -42,10 +40,8 @@ abbrev stands_in : (PortView → Bool) → (PortView → Bool) → Bool → List
 stands_in p f shared views = stands shared (list_any p views) (list_all f (filter p views))
 
 all-next : (p f : PortView → Bool) (views : List PortView) (i : ℕ) (d : PortView) → i < length views
-    → list_all f (filter p (take (i + 1) views)) ≡ (list_all f (filter p (take i views))
-    && cond (p (get_or views i d)) (f (get_or views i d)) true)
-all-next p f views i d within =
-    ap (λ l. list_all f l) (filter_more p views i d within)
+    → list_all f (filter p (take (i + 1) views)) ≡ (list_all f (filter p (take i views)) && cond (p (get_or views i d)) (f (get_or views i d)) true)
+all-next p f views i d within = ap (λ l. list_all f l) (filter_more p views i d within)
     ∙ list_all-append f (filter p (take i views)) (cond (p (get_or views i d)) (get_or views i d ∷ []) [])
     ∙ ap (λ b. list_all f (filter p (take i views)) && b) (of_one f (get_or views i d) (p (get_or views i d)))
 

@@ -9,8 +9,7 @@ use Rattle.slowpdu.proofs.LacpduLemmas.{make_info, make_lacpdu}
 
 -- the octets that `encode` puts, in its order
 abbrev pub encoded : Lacpdu → List ℕ
-encoded v =
-    let zeros : List ℕ = replicate 110 0 in
+encoded v = let zeros : List ℕ = replicate 110 0 in
     let actor = replaced (replaced zeros 0 (1 ∷ 1 ∷ 1 ∷ 20 ∷ [])) 4 (info_octets v.actor) in
     let partner = replaced (replaced actor 22 (2 ∷ 20 ∷ [])) 24 (info_octets v.partner) in
     replaced (replaced partner 42 (3 ∷ 16 ∷ [])) 44 (big_bytes 2 v.max_delay)
@@ -58,8 +57,7 @@ abbrev Claim : Lacpdu → Type 0
 Claim v = InfoFits v.actor → InfoFits v.partner → v.max_delay < 2 ^ 16 → AreOctets (encoded v) → Writes (encoded v) v
 
 claim : (v : Lacpdu) → InfoFits v.actor → InfoFits v.partner → Claim v
-claim v actor partner =
-    let x = six v.actor.system.mac actor.address.0 in
+claim v actor partner = let x = six v.actor.system.mac actor.address.0 in
     let y = six v.partner.system.mac partner.address.0 in
     let cells = written_cells v.actor.system.priority v.actor.key.0 v.actor.port.priority v.actor.port.number
     (octet v.actor.state) v.partner.system.priority v.partner.key.0 v.partner.port.priority v.partner.port.number
@@ -99,12 +97,10 @@ abbrev MarkerClaim : Marker → Type 0
 MarkerClaim m = m.port < 2 ^ 16 → m.id < 2 ^ 32 → IsAddress m.system → AreOctets (encoded_marker m) → WritesMarker (encoded_marker m) m
 
 marker_claim : (m : Marker) → IsAddress m.system → MarkerClaim m
-marker_claim m address =
-    let x = six m.system address.0 in
+marker_claim m address = let x = six m.system address.0 in
     subst (λ (t : List ℕ). MarkerClaim (make_marker m.kind m.port t m.id)) (sym x.6) (marker_cells m.kind m.port m.id x.0 x.1 x.2 x.3 x.4 x.5)
 
-pub marker_written : (m : Marker) (b : List ℕ) → b ≡ encoded_marker m → m.port < 2 ^ 16 → m.id < 2 ^ 32 → IsAddress m.system
-    → AreOctets b → WritesMarker b m
+pub marker_written : (m : Marker) (b : List ℕ) → b ≡ encoded_marker m → m.port < 2 ^ 16 → m.id < 2 ^ 32 → IsAddress m.system → AreOctets b → WritesMarker b m
 marker_written m b e port id address octets =
     subst (λ (t : List ℕ). AreOctets t → WritesMarker t m) (sym e) (marker_claim m address port id address) octets
 

@@ -36,8 +36,7 @@ read_numbers v = numbers (read_fields (lacpdu_table v))
 
 -- a payload has one reading
 pub one_reading : (b : List ℕ) (v w : Lacpdu) → Reads b v → Reads b w → w ≡ v
-one_reading b v w hv hw =
-    let e : read_numbers w ≡ read_numbers v =
+one_reading b v w hv hw = let e : read_numbers w ≡ read_numbers v =
     one_table b (read_fields (lacpdu_table w)) (read_fields (lacpdu_table v)) refl hw.table.fields_hold hv.table.fields_hold in
     same_lacpdu w v (same_info w.actor v.actor (ap (number_at 2) e) (one_address w.actor.system.mac v.actor.system.mac hw.addresses.0 hv.addresses.0
     (ap (number_at 3) e)) (ap (number_at 4) e) (ap (number_at 5) e) (ap (number_at 6) e) (ap (number_at 7) e))
@@ -62,7 +61,6 @@ all_read b v long subtype actor_length partner_length collector_length actor_mac
 
 -- an LACPDU is not refused
 pub no_lacpdu_fault : (b : List ℕ) (v : Lacpdu) → Reads b v → fault_of b ≡ None
-no_lacpdu_fault b v h =
-    let s : AllByRecursion (HoldsNumber b) (read_fields (lacpdu_table v)) = h.table.fields_hold in
+no_lacpdu_fault b v h = let s : AllByRecursion (HoldsNumber b) (read_fields (lacpdu_table v)) = h.table.fields_hold in
     no_fault_1 b h.table.long_enough (sym (octet_stands b 0) ∙ s.0) (sym (octet_stands b 3) ∙ s.1.0)
     (sym (octet_stands b 23) ∙ s.1.1.1.1.1.1.1.1.0) (sym (octet_stands b 43) ∙ s.1.1.1.1.1.1.1.1.1.1.1.1.1.1.1.0)

@@ -20,16 +20,14 @@ fits p = nat_le (p.offset + p.width) 110
 pub all_stand-append : (b rest : List ℕ) (places : List Field) → payload_len ≤ length b → list_all fits places ≡ true
     → AllByRecursion (HoldsNumber b) places → AllByRecursion (HoldsNumber (b ++ rest)) places
 all_stand-append b rest [] long fit h = tt
-all_stand-append b rest (p ∷ places) long fit h =
-    let parts = and_parts (fits p) (list_all fits places) fit in
+all_stand-append b rest (p ∷ places) long fit h = let parts = and_parts (fits p) (list_all fits places) fit in
     let within : p.offset + p.width ≤ 110 = leb-true (p.offset + p.width) 110 parts.0 in
     (stands-append b rest p (omega arith) ∙ h.0, all_stand-append b rest places long parts.1 h.1)
 
 all_stood : (b rest : List ℕ) (places : List Field) → payload_len ≤ length b → list_all fits places ≡ true
     → AllByRecursion (HoldsNumber (b ++ rest)) places → AllByRecursion (HoldsNumber b) places
 all_stood b rest [] long fit h = tt
-all_stood b rest (p ∷ places) long fit h =
-    let parts = and_parts (fits p) (list_all fits places) fit in
+all_stood b rest (p ∷ places) long fit h = let parts = and_parts (fits p) (list_all fits places) fit in
     let within : p.offset + p.width ≤ 110 = leb-true (p.offset + p.width) 110 parts.0 in
     (sym (stands-append b rest p (omega arith)) ∙ h.0, all_stood b rest places long parts.1 h.1)
 
@@ -56,8 +54,7 @@ one_number zero [] (y ∷ ys) lx ly ox oy e = absurd (omega arith)
 one_number zero (x ∷ xs) ys lx ly ox oy e = absurd (omega arith)
 one_number (suc n) [] ys lx ly ox oy e = absurd (omega arith)
 one_number (suc n) (x ∷ xs) [] lx ly ox oy e = absurd (omega arith)
-one_number (suc n) (x ∷ xs) (y ∷ ys) lx ly ox oy e =
-    let ax = big_from-cons 0 n x xs in
+one_number (suc n) (x ∷ xs) (y ∷ ys) lx ly ox oy e = let ax = big_from-cons 0 n x xs in
     let ay = big_from-cons 0 n y ys in
     let numbers : x * 256 ^ n + big_from 0 n xs ≡ y * 256 ^ n + big_from 0 n ys =
     ap (λ (r : ℕ). x * 256 ^ n + r) (sym ax) ∙ e ∙ ap (λ (r : ℕ). y * 256 ^ n + r) ay in
@@ -129,8 +126,7 @@ covered_same : (b c : List ℕ) (places : List Field) (i : ℕ) → length b ≡
     → list_all fits places ≡ true → AllByRecursion (HoldsNumber b) places → AllByRecursion (HoldsNumber c) places
     → is_covered places i ≡ true → slice_index b i ≡ slice_index c i
 covered_same b c [] i lb lc ob oc fit hb hc h = absurd cc
-covered_same b c (p ∷ places) i lb lc ob oc fit hb hc h =
-    let fit_parts = and_parts (fits p) (list_all fits places) fit in
+covered_same b c (p ∷ places) i lb lc ob oc fit hb hc h = let fit_parts = and_parts (fits p) (list_all fits places) fit in
     elim (or_cases (is_within i p) (is_covered places i) h) [
       | inl here ↦
           let bounds = within_of_test i p here in

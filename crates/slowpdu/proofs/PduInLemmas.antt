@@ -26,8 +26,7 @@ info_read b at v h priority mac key port_priority port state = grind (arith, sam
 -- behind the subtype and a length stand the places of the actor, behind them a length and those of the partner
 lacpdu_read : (b : List ℕ) (v : Lacpdu) → Reads b v → lacpdu_in b ≡ v
 unfolding lacpdu_in
-lacpdu_read b v h =
-    let actor = h.table.fields_hold.1.1 in
+lacpdu_read b v h = let actor = h.table.fields_hold.1.1 in
     let partner = actor.1.1.1.1.1.1.1 in
     let delay = partner.1.1.1.1.1.1.1 in
     same_lacpdu (info_at b 4) (info_at b 24)
@@ -43,8 +42,7 @@ kind_is n k e = grind arith
 
 marker_read : (b : List ℕ) (m : Marker) → ReadsMarker b m → marker_in b ≡ m
 unfolding marker_in
-marker_read b m h =
-    let kind = h.table.fields_hold.1 in
+marker_read b m h = let kind = h.table.fields_hold.1 in
     let port = kind.1.1 in
     same_marker (kind_of_tlv_type (number_at b 2 1)) (number_at b 4 2) (number_at b 12 4) (address_in b 6) m
     (kind_is (number_at b 2 1) m.kind kind.0) port.0 (address_is (number_at b 6 6) m.system port.1.0 h.address) port.1.1.0

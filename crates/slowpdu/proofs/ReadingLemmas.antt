@@ -30,23 +30,19 @@ info_stands : (b : List ℕ) (at : ℕ) → AllByRecursion (HoldsNumber b) (info
 info_stands b at = grind arith
 
 an_lacpdu : (b : List ℕ) → AreOctets b → payload_len ≤ length b → IsLacpdu b → (v : Lacpdu) × Reads b v
-an_lacpdu b octets long h =
-    let v = make_lacpdu (info_in b 4) (info_in b 24) (number_in 2 b 44) in (
-      v,
-      all_read b v long h.subtype h.actor h.partner h.collector (is_address b 6 octets (omega arith)) (is_address b 26 octets (omega arith))
-          (info_stands b 4) (info_stands b 24) refl,
-    )
+an_lacpdu b octets long h = let v = make_lacpdu (info_in b 4) (info_in b 24) (number_in 2 b 44) in (
+  v,
+  all_read b v long h.subtype h.actor h.partner h.collector (is_address b 6 octets (omega arith)) (is_address b 26 octets (omega arith))
+      (info_stands b 4) (info_stands b 24) refl,
+)
 
-a_marker : (b : List ℕ) → AreOctets b → payload_len ≤ length b → IsMarker b → (k : MarkerKind) → slice_index b 2 ≡ tlv_type k
-    → (m : Marker) × ReadsMarker b m
-a_marker b octets long h k kind =
-    let m = make_marker k (number_in 2 b 4) (address_in b 6) (number_in 4 b 12) in
+a_marker : (b : List ℕ) → AreOctets b → payload_len ≤ length b → IsMarker b → (k : MarkerKind) → slice_index b 2 ≡ tlv_type k → (m : Marker) × ReadsMarker b m
+a_marker b octets long h k kind = let m = make_marker k (number_in 2 b 4) (address_in b 6) (number_in 4 b 12) in
     (m, marker_read b m long h.subtype h.size kind refl (is_address b 6 octets (omega arith)) (sym (number_of_taken 6 (drop 6 b))) refl)
 
 -- what is not refused says something
 pub a_reading : (b : List ℕ) → AreOctets b → fault_of b ≡ None → (v : Pdu) × ReadsPdu b v
-a_reading b octets h =
-    let parts = accepted b h in
+a_reading b octets h = let parts = accepted b h in
     elim parts.1 [
       | inl lacpdu ↦ let found = an_lacpdu b octets parts.0 lacpdu in (pdu.Lacpdu found.0, found.1)
       | inr marker ↦ elim marker.kind [

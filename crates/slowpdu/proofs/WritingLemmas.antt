@@ -7,8 +7,7 @@ use Rattle.slowpdu.specs.Frames.{IsSlowProtocolsFrame, frame_octets}
 -- what is put right behind other octets is put with them
 pub then_put : (b p q xs ys : List ℕ) (o m : ℕ) → p ≡ replaced b o xs → q ≡ replaced p m ys → m ≡ o + length xs → m + length ys ≤ length b
     → q ≡ replaced b o (xs ++ ys)
-then_put b p q xs ys o m ep eq em room =
-    let front : List ℕ = take o b ++ xs in
+then_put b p q xs ys o m ep eq em room = let front : List ℕ = take o b ++ xs in
     let back : List ℕ = drop (o + length xs) b in
     let front_length : length front ≡ m = omega (arith, length-append (take o b) xs, length-take o b) in
     let whole : p ≡ front ++ back = ep ∙ sym (append_assoc (take o b) xs back) in

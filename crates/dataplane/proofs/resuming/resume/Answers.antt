@@ -8,8 +8,7 @@ returns-in-Some-clause-refused g c =
     subst (λ ports. IsFirstWithout (λ x. is_stale ports x ≡ false) c.args.saved.now c.in-Some.port) c.deref.ensures.value c.in-Some.ensures
 
 pub returns-clause-resumed : goal.returns-clause-resumed
-returns-clause-resumed g c =
-    let config = c.args.config in
+returns-clause-resumed g c = let config = c.args.config in
     let saved = c.args.saved.now in
     let first = c.in_ok-system.system.state in
     let keys = c.deref-4.result.now in
@@ -25,8 +24,7 @@ returns-clause-resumed g c =
     (warm_calls keys ports saved) config.system ports saved s.state)) c.in_ok-system.ensures.algorithm c.warmed.ensures.warmed)
 
 pub returns-clause-refused : goal.returns-clause-refused
-returns-clause-refused g c =
-    let config = c.args.config in
+returns-clause-refused g c = let config = c.args.config in
     let saved = c.args.saved.now in
     let first = c.in_ok-system.system.state in
     let keys = c.deref-4.result.now in

@@ -6,8 +6,7 @@ pub loop-config-init : goal.loop-config-init
 loop-config-init g c = record { run = ([], refl); algorithm = refl }
 
 pub loop-config-preserved : goal.loop-config-preserved
-loop-config-preserved g c =
-    let i = c.loop-config.config-index in
+loop-config-preserved g c = let i = c.loop-config.config-index in
     let none : PortConfig = record { number = 0; priority = 0; mac = []; key = record { 0 = 0 }; aggregatable = false; active = false; short = false } in
     record {
       run =

@@ -4,8 +4,7 @@ use Rattle.dataplane.proofs.WarmRuns.{made_if}
 use Rattle.dataplane.proofs.warming.fill_by.Goals as goal
 
 pub returns-clause-run : goal.returns-clause-run
-returns-clause-run g c =
-    let saved = c.args.saved.now in
+returns-clause-run g c = let saved = c.args.saved.now in
     let number = c.args.config.now.number in
     made_if (λ conv count place. g.F.Fn.post c.args.system.now.algorithm (conv, (count, tt)) place) c.args.system.now.state
     c.receive-reply.new.self.state (fills saved c.args.below.now c.args.key c.args.agg c.args.ports.now c.args.config.now)

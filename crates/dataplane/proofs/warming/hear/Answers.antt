@@ -6,8 +6,7 @@ pub loop-one-init : goal.loop-one-init
 loop-one-init g c = record { run = ([], refl); algorithm = refl }
 
 pub loop-one-preserved : goal.loop-one-preserved
-loop-one-preserved g c =
-    let i = c.loop-one.one-index in
+loop-one-preserved g c = let i = c.loop-one.one-index in
     let none : SavedPort = record { port = 0; aggregator = 0; age = 0; frame = [] } in
     record {
       run =

@@ -3,8 +3,7 @@ use Rattle.dataplane.proofs.WarmRuns.{occupied_on}
 use Rattle.dataplane.proofs.warming.occupy.Goals as goal
 
 pub loop-key-preserved : goal.loop-key-preserved
-loop-key-preserved g c =
-    let saved = c.args.saved.now in
+loop-key-preserved g c = let saved = c.args.saved.now in
     let keys = c.args.keys.now in
     let ports = c.args.ports.now in
     let n = c.loop-key.key-index in

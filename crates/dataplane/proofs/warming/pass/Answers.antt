@@ -7,8 +7,7 @@ pub loop-passed-init : goal.loop-passed-init
 loop-passed-init g c = record { run = c.hear.ensures.run; algorithm = c.hear.ensures.algorithm }
 
 pub loop-passed-preserved : goal.loop-passed-preserved
-loop-passed-preserved g c =
-    let saved = c.args.saved.now in
+loop-passed-preserved g c = let saved = c.args.saved.now in
     let ticks = c.args.ticks in
     let passed = c.loop-passed.passed in
     let before = c.loop-passed.system.state in

@@ -5,8 +5,7 @@ use Rattle.dataplane.proofs.WarmRuns.{three_calls}
 use Rattle.dataplane.proofs.warming.start_again.Goals as goal
 
 pub returns-clause-run : goal.returns-clause-run
-returns-clause-run g c =
-    let config = c.args.config.now in
+returns-clause-run g c = let config = c.args.config.now in
     let number = config.number in
     let down = c.set_link-down.new.self.state in
     let other = c.configure-other.new.self.state in

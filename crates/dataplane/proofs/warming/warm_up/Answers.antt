@@ -3,8 +3,7 @@ use Rattle.dataplane.proofs.WarmRuns.{runs_joined}
 use Rattle.dataplane.proofs.warming.warm_up.Goals as goal
 
 pub returns-clause-run : goal.returns-clause-run
-returns-clause-run g c =
-    let saved = c.args.saved.now in
+returns-clause-run g c = let saved = c.args.saved.now in
     let keys = c.args.keys.now in
     let ports = c.args.ports.now in
     let old = c.args.system.now.state in

@@ -16,7 +16,6 @@ returns-then-algorithm-ge1-clause-answers c =
     c.args.algorithm c.if-algorithm-ge1.true c.if-algorithm-ge2.false c.offer_by-then-algorithm-ge1.ensures.answers
 
 pub returns-clause-answers : goal.returns-clause-answers
-returns-clause-answers c =
-    by_number_0 (λ gives. CallPromise gives c.args.kept.state (Offer c.args.agg c.args.frame.now)
+returns-clause-answers c = by_number_0 (λ gives. CallPromise gives c.args.kept.state (Offer c.args.agg c.args.frame.now)
     (reply.Offer c.offer_by-2.result.0) c.offer_by-2.result.1.state)
     c.args.algorithm c.if-algorithm-ge1.false c.offer_by-2.ensures.answers

@@ -2,16 +2,13 @@ use Rattle.lagffi.proofs.Common.{ap, subst, sym, ℕ, PicksIndexes, OffersNumber
 use Rattle.lagffi.proofs.carrying.offer_conversation_in_active_aggregator_by.Goals as goal
 
 pub offer_conversation_in_active_aggregator-answer-requires : goal.offer_conversation_in_active_aggregator-answer-requires
-offer_conversation_in_active_aggregator-answer-requires g c =
-    record {
-      usable =
-          subst (λ f. PicksIndexes (λ conv count. g.F.Fn.pre f (conv, (count, tt)))
-          (λ conv count place. g.F.Fn.post f (conv, (count, tt)) place)) (sym c.with_algorithm-system.ensures.algorithm) c.requires.usable;
-    }
+offer_conversation_in_active_aggregator-answer-requires g c = record {
+  usable = subst (λ f. PicksIndexes (λ conv count. g.F.Fn.pre f (conv, (count, tt)))
+      (λ conv count place. g.F.Fn.post f (conv, (count, tt)) place)) (sym c.with_algorithm-system.ensures.algorithm) c.requires.usable;
+}
 
 pub returns : goal.returns
-returns g c =
-    let post = λ (f : g.row.F.Denot) (conv count place : ℕ). g.F.Fn.post f (conv, (count, tt)) place in
+returns g c = let post = λ (f : g.row.F.Denot) (conv count place : ℕ). g.F.Fn.post f (conv, (count, tt)) place in
     let system = c.with_algorithm-system.result in
     let answer = c.offer_conversation_in_active_aggregator-answer.result in
     let new = c.with_algorithm.result.state in

@@ -2,16 +2,13 @@ use Rattle.lagffi.proofs.Common.{subst, sym, ℕ, PicksIndexes, OffersByNumber}
 use Rattle.lagffi.proofs.conversations.offer_conversation_by.Goals as goal
 
 pub offer_conversation-answer-requires : goal.offer_conversation-answer-requires
-offer_conversation-answer-requires g c =
-    record {
-      usable =
-          subst (λ f. PicksIndexes (λ conv count. g.F.Fn.pre f (conv, (count, tt)))
-          (λ conv count place. g.F.Fn.post f (conv, (count, tt)) place)) (sym c.with_algorithm-system.ensures.algorithm) c.requires.usable;
-    }
+offer_conversation-answer-requires g c = record {
+  usable = subst (λ f. PicksIndexes (λ conv count. g.F.Fn.pre f (conv, (count, tt)))
+      (λ conv count place. g.F.Fn.post f (conv, (count, tt)) place)) (sym c.with_algorithm-system.ensures.algorithm) c.requires.usable;
+}
 
 pub returns : goal.returns
-returns g c =
-    let post = λ (f : g.row.F.Denot) (conv count place : ℕ). g.F.Fn.post f (conv, (count, tt)) place in
+returns g c = let post = λ (f : g.row.F.Denot) (conv count place : ℕ). g.F.Fn.post f (conv, (count, tt)) place in
     let system = c.with_algorithm-system.result in
     let answer = c.offer_conversation-answer.result in
     let new = c.with_algorithm.result.state in

@@ -14,6 +14,5 @@ returns-then-algorithm-ge1 c =
     c.offer_conversation_by-then-algorithm-ge1.ensures
 
 pub returns : goal.returns
-returns c =
-    by_number_0 (λ gives. OffersByNumber gives c.args.agg c.args.conv c.args.kept.state c.offer_conversation_by-2.result.0
+returns c = by_number_0 (λ gives. OffersByNumber gives c.args.agg c.args.conv c.args.kept.state c.offer_conversation_by-2.result.0
     c.offer_conversation_by-2.result.1.state) c.args.algorithm c.if-algorithm-ge1.false c.offer_conversation_by-2.ensures

@@ -3,8 +3,7 @@ use Rattle.lagtypes.specs.declared.identifiers.SystemId.{SystemId}
 use Rattle.lagffi.proofs.made.system_of.Goals as goal
 
 pub returns-clause-made : goal.returns-clause-made
-returns-clause-made c =
-    let configured = c.in_ok-system.ensures.configured in
+returns-clause-made c = let configured = c.in_ok-system.ensures.configured in
     let taken = c.in_ok-config.ensures in
     subst (IsMadeOfLagConfig c.args.config.now c.args.keys.now c.args.ports.now) (sym c.with_algorithm.ensures.state) (record {
       first = c.in_ok-system.ensures.first;

@@ -6,8 +6,7 @@ use Rattle.lagscript.proofs.ScriptLemmas.{not_refused, steps_all}
 use Rattle.lagscript.proofs.script.plan_in.Goals as goal
 
 pub returns-clause-reads : goal.returns-clause-reads
-returns-clause-reads c =
-    let ms = table_view c.args.top.now in
+returns-clause-reads c = let ms = table_view c.args.top.now in
     let systems = map config_value c.in_ok-systems.systems in
     let cables = c.in_ok-cables.cables.items in
     let events = event_values c.in_ok-events.events.items in
@@ -25,8 +24,7 @@ returns-clause-reads c =
     (Some c.in-Some.fault) known read_systems read_cables read_acts same_fault)
 
 pub returns-in-None-clause-accepted : goal.returns-in-None-clause-accepted
-returns-in-None-clause-accepted c =
-    let systems = map config_value c.in_ok-systems.systems in
+returns-in-None-clause-accepted c = let systems = map config_value c.in_ok-systems.systems in
     let fault : option_and_then script_fault_for (refusal_of_all systems c.in_ok-ends.ends.items) ≡ None = search rules in
     not_refused systems c.in_ok-ends.ends.items fault
 

@@ -6,8 +6,7 @@ pub loop-conv-init : goal.loop-conv-init
 loop-conv-init g c = record { told = no_rows Bool false _ has_freed c.args.busy.now c.args.freed.now; few = omega arith }
 
 pub loop-conv-preserved : goal.loop-conv-preserved
-loop-conv-preserved g c =
-    let i = c.loop-conv.invariant in
+loop-conv-preserved g c = let i = c.loop-conv.invariant in
     record {
       told = row_told Bool false _ has_freed c.loop-conv.conv c.from-row.result c.args.busy.now c.loop-conv.busy c.args.freed.now
           c.loop-conv.freed c.loop-conv.count c.from-count.result c.is_busy-is.result c.has_freed-left.result i.told c.from-row.ensures

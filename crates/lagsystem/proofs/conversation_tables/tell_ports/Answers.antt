@@ -6,8 +6,7 @@ pub loop-conv-init : goal.loop-conv-init
 loop-conv-init g c = record { told = no_rows ℕ 0 _ has_changed c.args.ports.now c.args.changed.now; few = omega arith }
 
 pub loop-conv-preserved : goal.loop-conv-preserved
-loop-conv-preserved g c =
-    let i = c.loop-conv.invariant in
+loop-conv-preserved g c = let i = c.loop-conv.invariant in
     record {
       told = row_told ℕ 0 _ has_changed c.loop-conv.conv c.from-row.result c.args.ports.now c.loop-conv.ports c.args.changed.now
           c.loop-conv.changed c.loop-conv.count c.from-count.result c.port_on-port.result _ i.told c.from-row.ensures

@@ -4,8 +4,7 @@ use Rattle.lagsystem.proofs.holding.hold_conversations.Goals as goal
 use Rattle.lagsystem.proofs.holding.hold_conversations.Goals.{then-has_stopped, else-has_stopped}
 
 pub loop-place-preserved : goal.loop-place-preserved
-loop-place-preserved g c =
-    let befores = c.args.before.now in
+loop-place-preserved g c = let befores = c.args.before.now in
     let system_ports = c.args.system_ports.now in
     let i = c.loop-place.place in
     let s = c.index-system_ports-place.result in

@@ -28,7 +28,6 @@ leaves_once old new h = record {
 }
 
 pub returns : goal.returns
-returns c old new ports h =
-    let k = settling_quiet old new (ports_rise old ports) h in
+returns c old new ports h = let k = settling_quiet old new (ports_rise old ports) h in
     settling_joined new new new (still_settles new new.system_ports k.0 (settling_none old new h) (paced_runs new.system_ports k.1))
     (leaves_once (settling_parts old new h).0 new (settling_parts old new h).2)

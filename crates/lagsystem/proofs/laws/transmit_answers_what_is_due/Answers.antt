@@ -3,8 +3,7 @@ use Rattle.lagsystem.proofs.Common.{would_transmit, TransmitsAt, TransmitsIf, Sy
 use Rattle.lagsystem.proofs.laws.transmit_answers_what_is_due.Goals as goal
 
 frame_sent : (up due : Bool) (i : ℕ) (system_port : SystemPort) (old new : SystemState) (answer : Option (List ℕ))
-    → TransmitsIf up due i system_port old answer new
-    → (up && (due || is_some (marker_due old.table system_port.number))) ≡ is_some answer
+    → TransmitsIf up due i system_port old answer new → (up && (due || is_some (marker_due old.table system_port.number))) ≡ is_some answer
 frame_sent up due i system_port old new answer h = grind (arith, nat_tests)
 
 at_place : (o : Option ℕ) (old new : SystemState) (answer : Option (List ℕ)) → TransmitsAt o old answer new

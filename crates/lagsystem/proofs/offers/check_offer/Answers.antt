@@ -14,14 +14,10 @@ returns-then-octets-lt14-clause-err c = inl (
 )
 
 pub returns-in-Data-clause-ok : goal.returns-in-Data-clause-ok
-returns-in-Data-clause-ok c = (
-  is_frame c.args.octets.now c.if-octets-lt14.false c.if-octets-gt-LONGEST_FRAME.false,
-  c.in-Data.ensures.kind.1,
-)
+returns-in-Data-clause-ok c = (is_frame c.args.octets.now c.if-octets-lt14.false c.if-octets-gt-LONGEST_FRAME.false, c.in-Data.ensures.kind.1)
 
 pub returns-in-Control : goal.returns-in-Control
-returns-in-Control c =
-    let octets = c.args.octets.now in
+returns-in-Control c = let octets = c.args.octets.now in
     let kind = c.classify.ensures.kind in
     record {
       ok = tt;

@@ -8,8 +8,7 @@ returns-then-not-known c =
     c.mux-fired.ensures.fired c.mux-fired.ensures.rest tt
 
 pub returns : goal.returns
-returns c =
-    let s = c.args.system_port.now in
+returns c = let s = c.args.system_port.now in
     let v = c.args.pdu.now in
     let p = c.take.new.self in
     let q = c.mux-fired.new.self in

@@ -16,8 +16,7 @@ pub offset_bounds-system_ports-first : goal.offset_bounds-system_ports-first
 offset_bounds-system_ports-first c = omega (arith, first_within c.args.system_ports.now c.args.first c.requires.first)
 
 pub returns-else-any_standby : goal.returns-else-any_standby
-returns-else-any_standby c =
-    let l = c.args.system_ports.now in
+returns-else-any_standby c = let l = c.args.system_ports.now in
     let i = c.args.first in
     let whole : take (length l - i) (drop i l) ≡ drop i l = take_all (length l - i) (drop i l) (omega (arith, length-drop i l)) in
     let found = c.any_standby.ensures ∙ ap (list_any (λ s. is_standby s.port.choice)) whole

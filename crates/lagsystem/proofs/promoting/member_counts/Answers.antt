@@ -7,8 +7,7 @@ pub loop-system_port-init : goal.loop-system_port-init
 loop-system_port-init c = record { many = refl; each = λ agg low. get_or-replicate 65 agg.0 0 0 low }
 
 pub loop-system_port-preserved : goal.loop-system_port-preserved
-loop-system_port-preserved c =
-    let i = c.loop-system_port.invariant in
+loop-system_port-preserved c = let i = c.loop-system_port.invariant in
     let l = c.args.system_ports.now in
     let k = c.loop-system_port.system_port-index in
     let d = c.system_port-item.result in

@@ -5,8 +5,7 @@ use Rattle.lagsystem.proofs.NextLemmas.{next_within, promoted_fewer}
 use Rattle.lagsystem.proofs.promoting.promote_next.Goals as goal
 
 pub returns-in-Some-clause-fewer : goal.returns-in-Some-clause-fewer
-returns-in-Some-clause-fewer c =
-    let l = c.args.system_ports.now in
+returns-in-Some-clause-fewer c = let l = c.args.system_ports.now in
     let aggs = c.args.aggregators.now in
     let agg = c.args.agg in
     let i = c.in-Some.place in
@@ -18,8 +17,7 @@ returns-in-Some-clause-fewer c =
     ∙ promoted_fewer aggs agg l (slice_set l i (with_choice t (Some (Selected agg)))) (i, t, next, there, refl)
 
 pub returns-in-Some-clause-port_views : goal.returns-in-Some-clause-port_views
-returns-in-Some-clause-port_views c =
-    let l = c.args.system_ports.now in
+returns-in-Some-clause-port_views c = let l = c.args.system_ports.now in
     let aggs = c.args.aggregators.now in
     let agg = c.args.agg in
     let i = c.in-Some.place in

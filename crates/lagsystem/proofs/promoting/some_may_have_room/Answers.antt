@@ -7,8 +7,7 @@ use Rattle.lagsystem.proofs.promoting.some_may_have_room.Goals as goal
 use Rattle.lagsystem.proofs.promoting.some_may_have_room.Goals.{in-Standby+else-may_have_room, in_default}
 
 pub loop-place-init : goal.loop-place-init
-loop-place-init c =
-    let l = c.args.system_ports.now in
+loop-place-init c = let l = c.args.system_ports.now in
     let within = first_within l c.args.first c.requires.first in
     record {
       none = λ k s agg lt there stands. absurd (false≢true (sym (first_not_standby l c.args.first k s c.requires.first lt there) ∙ ap is_standby stands));
@@ -16,8 +15,7 @@ loop-place-init c =
     }
 
 pub loop-place-preserved : goal.loop-place-preserved
-loop-place-preserved c =
-    let aggs = c.args.aggregators.now in
+loop-place-preserved c = let aggs = c.args.aggregators.now in
     let l = c.args.system_ports.now in
     let i = c.loop-place.invariant in
     let there = slice_get-get_or l c.loop-place.place c.index-system_ports-place.result c.loop-place-test.true in

@@ -10,6 +10,5 @@ loop-system_port-preserved c =
     (omega arith) c.loop-system_port.invariant (refl, c.unselect_if_down.ensures)
 
 pub returns : goal.returns
-returns c =
-    SoFar-all (PortChangesBy (Relinks c.args.max_links)) c.loop-system_port.system_port-index c.args.system_ports.now
+returns c = SoFar-all (PortChangesBy (Relinks c.args.max_links)) c.loop-system_port.system_port-index c.args.system_ports.now
     c.loop-system_port.system_ports (omega arith) c.loop-system_port.invariant

@@ -6,8 +6,7 @@ use Rattle.lagsystem.proofs.NextLemmas.{none_left_standby}
 use Rattle.lagsystem.proofs.settling.choose_all.Goals as goal
 
 pub returns-in-None : goal.returns-in-None
-returns-in-None c =
-    let l = c.args.system_ports.now in
+returns-in-None c = let l = c.args.system_ports.now in
     let aggs = c.args.aggregators.now in
     let none = none_unselected l (sym c.first_not_selected.ensures ∙ c.in-None.is) in (
       l,

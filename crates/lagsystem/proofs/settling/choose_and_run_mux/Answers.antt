@@ -5,8 +5,7 @@ use Rattle.lagsystem.proofs.SettlingLemmas.{none_restless_has_waited, none_restl
 use Rattle.lagsystem.proofs.settling.choose_and_run_mux.Goals as goal
 
 pub returns-else-any_restless : goal.returns-else-any_restless
-returns-else-any_restless c =
-    let l = c.args.system_ports.now in
+returns-else-any_restless c = let l = c.args.system_ports.now in
     let aggs = c.args.aggregators.now in
     let none = sym c.any_restless.ensures ∙ c.if-any_restless.false in
     let unselected = none_restless_unselected l none in (

@@ -5,16 +5,14 @@ use Rattle.lagsystem.proofs.SettlingLemmas.{none_taken, one_taken}
 use Rattle.lagsystem.proofs.settling.choose_one.Goals as goal
 
 pub returns-then-not-may_choose-clause-chosen : goal.returns-then-not-may_choose-clause-chosen
-returns-then-not-may_choose-clause-chosen c =
-    let system_ports = c.args.system_ports.now in
+returns-then-not-may_choose-clause-chosen c = let system_ports = c.args.system_ports.now in
     let i = c.args.place in
     let d = c.index-system_ports-place.result in
     none_taken c.args.aggregators.now system_ports i (get_or system_ports i d) (slice_get-get_or system_ports i d c.requires.within)
     (sym c.may_choose.ensures ∙ c.if-not-may_choose.true)
 
 pub returns-in-Some-clause-chosen : goal.returns-in-Some-clause-chosen
-returns-in-Some-clause-chosen c =
-    let system_ports = c.args.system_ports.now in
+returns-in-Some-clause-chosen c = let system_ports = c.args.system_ports.now in
     let i = c.args.place in
     let d = c.index-system_ports-place.result in
     let t = get_or system_ports i c.index-system_ports-place-2.result in
@@ -30,8 +28,7 @@ returns-in-Some-clause-chosen c =
     ∙ ap (λ (l : List PortView). chosen_aggregator c.args.aggregators.now.keys l t.number) c.requires.port_views)
 
 pub returns-in-Some-clause-port_views : goal.returns-in-Some-clause-port_views
-returns-in-Some-clause-port_views c =
-    let system_ports = c.args.system_ports.now in
+returns-in-Some-clause-port_views c = let system_ports = c.args.system_ports.now in
     let i = c.args.place in
     let t = get_or system_ports i c.index-system_ports-place-2.result in
     seen_taken c.args.port_views.now system_ports i _ c.index-system_ports-place-2.result c.choice_in-choice.result
@@ -39,8 +36,7 @@ returns-in-Some-clause-port_views c =
     ∙ ap (λ (p : Machines). views (slice_set system_ports i (record t { port = p }))) (sym c.select.ensures)
 
 pub returns-in_default-clause-chosen : goal.returns-in_default-clause-chosen
-returns-in_default-clause-chosen c =
-    let system_ports = c.args.system_ports.now in
+returns-in_default-clause-chosen c = let system_ports = c.args.system_ports.now in
     let i = c.args.place in
     let d = c.index-system_ports-place.result in
     let t = get_or system_ports i c.index-system_ports-place-2.result in

@@ -9,6 +9,5 @@ loop-system_port-preserved c =
     (omega arith) c.loop-system_port.invariant (refl, (c.mux-fired.result, c.mux-fired.ensures.fired, c.mux-fired.ensures.rest))
 
 pub returns : goal.returns
-returns c =
-    SoFar-all (PortChangesBy (RunsToRest (mux_rows false))) c.loop-system_port.system_port-index c.args.system_ports.now
+returns c = SoFar-all (PortChangesBy (RunsToRest (mux_rows false))) c.loop-system_port.system_port-index c.args.system_ports.now
     c.loop-system_port.system_ports (omega arith) c.loop-system_port.invariant

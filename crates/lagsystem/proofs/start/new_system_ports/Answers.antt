@@ -4,8 +4,7 @@ use Rattle.lagsystem.proofs.start.new_system_ports.Goals as goal
 
 pub loop-port-preserved : goal.loop-port-preserved
 loop-port-preserved c = record {
-  new =
-      let i = c.loop-port.port-index in
+  new = let i = c.loop-port.port-index in
       let ports = c.args.ports.now in
       let d : PortConfig = record {
         number = 0;
@@ -13,8 +12,7 @@ loop-port-preserved c = record {
         mac = [];
         key = record { 0 = 0 };
         aggregatable = false;
-        active =
-            false;
+        active = false;
         short = false;
       } in
       let within : i < length ports = omega arith in

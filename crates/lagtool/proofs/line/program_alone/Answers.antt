@@ -6,8 +6,7 @@ use Rattle.lagtool.specs.Lines.{program_alone}
 use Rattle.lagtool.proofs.line.program_alone.Goals as goal
 
 pub returns : goal.returns
-returns c =
-    let versioned : app_of c.version.result ≡ on_top (λ s. record s { has_version = true }) (new_app (codes "lagtool")) =
+returns c = let versioned : app_of c.version.result ≡ on_top (λ s. record s { has_version = true }) (new_app (codes "lagtool")) =
     ap app_of_fields c.version.ensures ∙ ap (on_top (λ s. record s { has_version = true })) c.new.ensures.app in
     let told : app_of c.after_help.result ≡ on_top (λ s. record s { has_version = true }) (new_app (codes "lagtool")) =
     ap app_of_fields c.after_help.ensures ∙ (ap app_of_fields c.about.ensures ∙ versioned) in

@@ -12,8 +12,7 @@ loop-goes_on-init g c = record {
 }
 
 pub loop-goes_on-preserved : goal.loop-goes_on-preserved
-loop-goes_on-preserved g c =
-    let i = c.loop-goes_on.invariant in
+loop-goes_on-preserved g c = let i = c.loop-goes_on.invariant in
     let gives = c.in_ok-n.ensures.ok in
     let e = c.in_ok-write.ensures in
     record {
@@ -25,7 +24,6 @@ loop-goes_on-preserved g c =
     }
 
 pub returns-clause-ok : goal.returns-clause-ok
-returns-clause-ok g c =
-    let i = c.loop-goes_on.invariant in
+returns-clause-ok g c = let i = c.loop-goes_on.invariant in
     completes c.new-reading.ensures i.told c.in_ok-finish.ensures c.in_ok-write-2.ensures.ok c.in_ok-write-2.ensures.to_write
     c.summary.ensures (i.ends c.loop-goes_on-test.false)

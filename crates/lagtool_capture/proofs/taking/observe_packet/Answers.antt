@@ -8,8 +8,7 @@ returns-in-Some-clause-reported c = observed_some c.observe-in-Some.result c.arg
     c.frame_in.ensures c.in-Some.is c.observe-in-Some.ensures
 
 pub returns-in-Some-clause-noticed : goal.returns-in-Some-clause-noticed
-returns-in-Some-clause-noticed c =
-    let p = c.args.packet.now in
+returns-in-Some-clause-noticed c = let p = c.args.packet.now in
     let b = c.args.octets.now in
     let number = c.count-number.ensures.number in
     on_ok-map c.observe-in-Some.result

@@ -6,8 +6,7 @@ pub loop-count-init : goal.loop-count-init
 loop-count-init c = record { reads = reads_none _ _ _ _; within = omega arith }
 
 pub returns-then-step-rest-clause-steps : goal.returns-then-step-rest-clause-steps
-returns-then-step-rest-clause-steps c =
-    let b = c.args.octets.now in
+returns-then-step-rest-clause-steps c = let b = c.args.octets.now in
     let n = c.loop-count.count in
     let i = c.loop-count.invariant in
     ends_behind b _ _ _ _ _ _ n c.in-Ok.step.taken
@@ -16,8 +15,7 @@ returns-then-step-rest-clause-steps c =
     i.within c.if-step-rest.true
 
 pub loop-count-preserved : goal.loop-count-preserved
-loop-count-preserved c =
-    let b = c.args.octets.now in
+loop-count-preserved c = let b = c.args.octets.now in
     let n = c.loop-count.count in
     let i = c.loop-count.invariant in
     record {

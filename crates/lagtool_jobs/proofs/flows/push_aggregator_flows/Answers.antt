@@ -3,8 +3,7 @@ use Rattle.lagtool_jobs.proofs.ReplayLemmas.{appended_both, range_more}
 use Rattle.lagtool_jobs.proofs.flows.push_aggregator_flows.Goals as goal
 
 pub loop-conv-preserved : goal.loop-conv-preserved
-loop-conv-preserved g c =
-    let k = c.loop-conv.conv in
+loop-conv-preserved g c = let k = c.loop-conv.conv in
     let s = c.args.system in
     let agg = c.args.agg in
     let j = c.args.world.now.state in

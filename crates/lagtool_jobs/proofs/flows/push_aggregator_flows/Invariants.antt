@@ -2,7 +2,6 @@ use Rattle.lagtool_jobs.proofs.Common.{string_bytes, ◌++◌, ◌≡◌, range_
 use Rattle.lagtool_jobs.proofs.flows.push_aggregator_flows.Given as goal
 
 abbrev pub invariant-loop-conv : goal.invariant-loop-conv
-invariant-loop-conv g l =
-    string_bytes l.text ≡ string_bytes l.initial.text
+invariant-loop-conv g l = string_bytes l.text ≡ string_bytes l.initial.text
     ++ flat_map (λ conv. flow_line l.system l.agg conv (flow_of_system (side_of l.system) l.agg conv l.world.state))
     (range_with_len 0 l.conv)

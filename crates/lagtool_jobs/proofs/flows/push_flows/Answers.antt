@@ -5,8 +5,7 @@ use Rattle.lagtool_jobs.proofs.flows.push_flows.Goals as goal
 use Rattle.lagtool_jobs.proofs.flows.push_flows.Goals.{then-index+in_ok-push_aggregator_flows, else-index}
 
 pub loop-place-preserved : goal.loop-place-preserved
-loop-place-preserved g c =
-    let i = c.loop-place.place in
+loop-place-preserved g c = let i = c.loop-place.place in
     let s = c.args.system in
     let n = c.args.counts.conversations in
     let j = c.args.world.now.state in

@@ -2,6 +2,5 @@ use Rattle.lagtool_jobs.proofs.Common.{string_bytes, ◌++◌, ◌≡◌, range_
 use Rattle.lagtool_jobs.proofs.replaying.push_agreements.Given as goal
 
 abbrev pub invariant-loop-place : goal.invariant-loop-place
-invariant-loop-place g l =
-    string_bytes l.text ≡ string_bytes l.initial.text
+invariant-loop-place g l = string_bytes l.text ≡ string_bytes l.initial.text
     ++ flat_map (λ c. agreement_line c (agreement_at l.world.state c)) (range_with_len 1 l.place)

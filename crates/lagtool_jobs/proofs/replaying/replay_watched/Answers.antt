@@ -9,13 +9,11 @@ report_of_script-requires-clause-named g c =
     (plan_names c.args.text.now c.in_ok-plan.plan c.in_ok-plan.ensures.reads)
 
 pub report_of_script-requires-clause-few : goal.report_of_script-requires-clause-few
-report_of_script-requires-clause-few g c =
-    subst (λ (es : List Event). length es ≤ most_events) (sym c.deref-2.ensures.value)
+report_of_script-requires-clause-few g c = subst (λ (es : List Event). length es ≤ most_events) (sym c.deref-2.ensures.value)
     (plan_few c.args.text.now c.in_ok-plan.plan c.in_ok-plan.ensures.reads)
 
 pub returns-in_err-put : goal.returns-in_err-put
-returns-in_err-put g c =
-    let gives : Algorithms = algorithms_of g.F.Fn.post c.args.one c.args.two in
+returns-in_err-put g c = let gives : Algorithms = algorithms_of g.F.Fn.post c.args.one c.args.two in
     write_failed g.W.Write.contents gives c.args.text.now c.args.sink.now c.put.new.self c.from_residual-in_err-put.result
     c.as_bytes.result.now (c.from_residual-in_err-put.ensures.1)
     (replayed_is gives c.args.text.now c.in_ok-plan.plan c.deref.result.now c.deref-2.result.now _ c.as_bytes.result.now
@@ -23,11 +21,10 @@ returns-in_err-put g c =
     c.in_err-put.ensures.err
 
 pub returns : goal.returns
-returns g c =
-    let gives : Algorithms = algorithms_of g.F.Fn.post c.args.one c.args.two in (
-      c.as_bytes.result.now,
-      replayed_is gives c.args.text.now c.in_ok-plan.plan c.deref.result.now c.deref-2.result.now _
-          c.as_bytes.result.now c.in_ok-plan.ensures.reads c.deref.ensures.value c.deref-2.ensures.value c.as_bytes.ensures.value
-          c.in_ok-report.ensures.ok,
-      c.in_ok-put.ensures.ok,
-    )
+returns g c = let gives : Algorithms = algorithms_of g.F.Fn.post c.args.one c.args.two in (
+  c.as_bytes.result.now,
+  replayed_is gives c.args.text.now c.in_ok-plan.plan c.deref.result.now c.deref-2.result.now _
+      c.as_bytes.result.now c.in_ok-plan.ensures.reads c.deref.ensures.value c.deref-2.ensures.value c.as_bytes.ensures.value
+      c.in_ok-report.ensures.ok,
+  c.in_ok-put.ensures.ok,
+)

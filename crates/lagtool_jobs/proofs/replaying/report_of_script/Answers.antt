@@ -26,8 +26,7 @@ pub run_events-requires-clause-acted : goal.run_events-requires-clause-acted
 run_events-requires-clause-acted g c = c.in-Ok-make_world.ensures.made.acted
 
 pub run_events-requires-clause-named : goal.run_events-requires-clause-named
-run_events-requires-clause-named g c =
-    let made = c.in-Ok-make_world.ensures.made.links
+run_events-requires-clause-named g c = let made = c.in-Ok-make_world.ensures.made.links
     ∙ first_lines_are c.args.config.cables.items c.in-Ok.lines.items c.args.limits.now c.in-Ok.ensures.ok in
     subst (λ n. AllNameExisting n c.args.events.now)
     (sym (ap length made ∙ cables_counted c.args.config.cables.items c.args.limits.now c.requires.one_each)) c.requires.named
@@ -45,8 +44,7 @@ report_of-requires-clause-offered g c =
     c.in-Ok-make_world.ensures.start c.in-Ok-run_events.ensures.ran
 
 pub returns-clause-ok : goal.returns-clause-ok
-returns-clause-ok g c =
-    let old = c.in-Ok-make_world.world.state in
+returns-clause-ok g c = let old = c.in-Ok-make_world.world.state in
     let new = c.run_events.new.world.state in
     let es = c.args.events.now in
     let rs = c.in-Ok-run_events.replies.items in

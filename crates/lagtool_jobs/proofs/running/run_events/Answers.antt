@@ -35,8 +35,7 @@ returns-in-Err-clause-stopped g c =
     c.run.ensures.fixed c.requires.acted c.requires.named c.requires.few stopped
 
 pub loop-piece-preserved : goal.loop-piece-preserved
-loop-piece-preserved g c =
-    let gives : Algorithms = algorithms_of g.F.Fn.post c.args.world.now.one c.args.world.now.two in
+loop-piece-preserved g c = let gives : Algorithms = algorithms_of g.F.Fn.post c.args.world.now.one c.args.world.now.two in
     let so_far = c.loop-piece.invariant.ran in
     let old = c.args.world.now.state in
     let mid = c.loop-piece.world.state in
@@ -61,8 +60,7 @@ loop-piece-preserved g c =
     }
 
 pub returns-clause-ran : goal.returns-clause-ran
-returns-clause-ran g c =
-    let so_far = c.loop-piece.invariant.ran in
+returns-clause-ran g c = let so_far = c.loop-piece.invariant.ran in
     let none = nil_from_length _ c.in-None.ensures.steps.1.0 in
     let gives : Algorithms = algorithms_of g.F.Fn.post c.args.world.now.one c.args.world.now.two in
     let all : c.args.events.now ≡ so_far.0 = so_far.1 ∙ ap (λ (es : List Event). so_far.0 ++ es) none ∙ append-nil so_far.0 in

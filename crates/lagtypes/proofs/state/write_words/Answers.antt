@@ -6,8 +6,7 @@ use Rattle.lagtypes.proofs.state.write_words.Goals as goal
 use Rattle.lagtypes.proofs.state.write_words.Goals.{then-contains+in_ok-write_word, else-contains}
 
 pub loop-flag-preserved : goal.loop-flag-preserved
-loop-flag-preserved g c =
-    let before = words_of c.args.state.0 (take c.loop-flag.flag-index c.args.words.now) in
+loop-flag-preserved g c = let before = words_of c.args.state.0 (take c.loop-flag.flag-index c.args.words.now) in
     elim c.if-contains.branch [
       | then-contains+in_ok-write_word w ↦
           let e = word_set _ _ _ _ _ c.loop-flag-test.true (c.contains.ensures tt) w.if-contains.true in

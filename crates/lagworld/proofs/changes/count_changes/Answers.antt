@@ -9,8 +9,7 @@ record_party-requires g c =
     (omega (arith, c.len-index-end.ensures)) c.requires c.loop-index.invariant c.index_mut-history.ensures.value
 
 pub loop-index-preserved : goal.loop-index-preserved
-loop-index-preserved g c =
-    let history = c.index_mut-history.result.now in
+loop-index-preserved g c = let history = c.index_mut-history.result.now in
     ap (set c.loop-index.histories.items c.loop-index.index) (c.record_party.ensures
     ∙ ap (λ o. with_party_recorded o history) c.party.ensures)
     ∙ map_over_more (change_counted c.args.system.now.state) c.args.histories.now.items c.loop-index.histories.items

@@ -4,8 +4,7 @@ use Rattle.lagworld.proofs.CollectingLemmas.{room_at}
 use Rattle.lagworld.proofs.collecting.reserve_collected.Goals as goal
 
 pub returns-clause-same : goal.returns-clause-same
-returns-clause-same c =
-    same_at aggregator_flow_values c.args.flows.now.items c.in-Some.index c.index_mut-conversations.result.now
+returns-clause-same c = same_at aggregator_flow_values c.args.flows.now.items c.in-Some.index c.index_mut-conversations.result.now
     c.reserve_collected_in.new.conversations c.index_mut-conversations.ensures.value c.reserve_collected_in.ensures.same
 
 pub returns-clause-room : goal.returns-clause-room

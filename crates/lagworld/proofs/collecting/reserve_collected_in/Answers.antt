@@ -4,8 +4,7 @@ use Rattle.lagworld.proofs.CollectingLemmas.{put_collected, same_serials, room_t
 use Rattle.lagworld.proofs.collecting.reserve_collected_in.Goals as goal
 
 pub returns-clause-same : goal.returns-clause-same
-returns-clause-same c =
-    same_at flow_value c.args.conversations.now.items c.args.conv c.index_mut-flow.result.now
+returns-clause-same c = same_at flow_value c.args.conversations.now.items c.args.conv c.index_mut-flow.result.now
     (put_collected c.index_mut-flow.result.now c.reserve.new.self) c.index_mut-flow.ensures.value
     (same_serials c.index_mut-flow.result.now c.reserve.new.self c.reserve.ensures.items)
 

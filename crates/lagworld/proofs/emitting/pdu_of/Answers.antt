@@ -10,8 +10,7 @@ returns c = sym (pdu_read (payload_in c.args.octets.now) c.in-Ok.pdu
     (subst (λ b. ReadsPdu b c.in-Ok.pdu) (rest_is c.args.octets.now) c.in-Ok.ensures.found))
 
 pub unreachable-requires : goal.unreachable-requires
-unreachable-requires c =
-    let same = c.decode.ensures.only c.requires.reads.0
+unreachable-requires c = let same = c.decode.ensures.only c.requires.reads.0
     (subst (λ b. ReadsPdu b c.requires.reads.0) (sym (rest_is c.args.octets.now)) c.requires.reads.1) in
     let refused = c.in-Err.is in
     cc

@@ -4,8 +4,7 @@ use Rattle.lagworld.proofs.Finding.{flow_there, flow_past}
 use Rattle.lagworld.proofs.readers.flow_at.Goals as goal
 
 pub returns-then-conv-len : goal.returns-then-conv-len
-returns-then-conv-len c =
-    let row = c.index-flows-index.result in
+returns-then-conv-len c = let row = c.index-flows-index.result in
     let place : c.args.agg.0 ≡ suc c.in-Some.index = omega (arith, c.from.ensures, c.in-Some.ensures.0, c.in-Some.ensures.1) in
     let within : c.in-Some.index < length c.args.flows.now = omega arith in
     let past : length row.items ≤ c.from-conv.result = omega (arith, c.len.ensures, c.if-conv-len.true) in
@@ -15,8 +14,7 @@ returns-then-conv-len c =
     within c.index-flows-index.is past)
 
 pub returns : goal.returns
-returns c =
-    let row = c.index-flows-index.result in
+returns c = let row = c.index-flows-index.result in
     let place : c.args.agg.0 ≡ suc c.in-Some.index = omega (arith, c.from.ensures, c.in-Some.ensures.0, c.in-Some.ensures.1) in
     let within : c.in-Some.index < length c.args.flows.now = omega arith in
     let inside : c.from-conv.result < length row.items = omega (arith, c.len.ensures, c.if-conv-len.false) in

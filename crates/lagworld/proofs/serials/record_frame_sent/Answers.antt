@@ -8,8 +8,7 @@ record_sent_in-requires c =
     c.in-Some.ensures.there.0 c.from.ensures (omega (arith, c.in-Some.ensures.there.1)) c.index_mut-conversations.ensures.value c.requires
 
 pub returns-in-Some-clause-serial : goal.returns-in-Some-clause-serial
-returns-in-Some-clause-serial c =
-    c.record_sent_in.ensures.serial ∙ ap (λ o. length (sent_in o))
+returns-in-Some-clause-serial c = c.record_sent_in.ensures.serial ∙ ap (λ o. length (sent_in o))
     (row_read c.args.flows.now.items c.args.agg.0 c.in-Some.index c.from.result c.args.conv c.index_mut-conversations.result.now
     c.in-Some.ensures.there.0 c.from.ensures (omega (arith, c.in-Some.ensures.there.1)) c.index_mut-conversations.ensures.value)
 

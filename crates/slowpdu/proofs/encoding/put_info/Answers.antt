@@ -3,8 +3,7 @@ use Rattle.slowpdu.proofs.WritingLemmas.{then_put}
 use Rattle.slowpdu.proofs.encoding.put_info.Goals as goal
 
 pub returns-clause-put_octets : goal.returns-clause-put_octets
-returns-clause-put_octets c =
-    let info = c.args.info in
+returns-clause-put_octets c = let info = c.args.info in
     let at = c.args.offset in
     let state : List ℕ = octet info.state ∷ [] in
     let number : List ℕ = big_bytes 2 info.port.number in

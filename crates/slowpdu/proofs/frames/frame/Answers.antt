@@ -3,8 +3,7 @@ use Rattle.slowpdu.proofs.WritingLemmas.{all_put, then_put}
 use Rattle.slowpdu.proofs.frames.frame.Goals as goal
 
 pub returns : goal.returns
-returns c =
-    let source = c.args.src in
+returns c = let source = c.args.src in
     let payload = c.args.payload.now in
     let group : List ℕ = 0x01 ∷ 0x80 ∷ 0xc2 ∷ 0x00 ∷ 0x00 ∷ 0x02 ∷ [] in
     let kind : List ℕ = 0x88 ∷ 0x09 ∷ [] in

@@ -3,8 +3,7 @@ use Rattle.dataplane.proofs.active.offering.is_elsewhere.Goals as goal
 use Rattle.dataplane.proofs.active.offering.is_elsewhere.Goals.{else-other-agg-via-then-other-agg+else-is_busy}
 
 pub returns-then-is_busy : goal.returns-then-is_busy
-returns-then-is_busy g c =
-    let most = c.last_aggregator-last.ensures.most in
+returns-then-is_busy g c = let most = c.last_aggregator-last.ensures.most in
     let below = c.loop-number-test.true in (
       λ t. record {
         other = aggregator_numbered (c.loop-number.number + 1);

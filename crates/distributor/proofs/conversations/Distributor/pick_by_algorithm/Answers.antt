@@ -4,8 +4,7 @@ use Rattle.distributor.proofs.conversations.Distributor.pick_by_algorithm.Goals 
 use Rattle.distributor.proofs.conversations.Distributor.pick_by_algorithm.Given as given
 
 below : (g : given.Over) (c : goal.After-algorithm-place g) → c.algorithm-place.result < length c.args.ports.now
-below g c =
-    let e : eqb (length c.args.ports.now) 0 ≡ false = sym c.is_empty.ensures ∙ c.if-is_empty.false in
+below g c = let e : eqb (length c.args.ports.now) 0 ≡ false = sym c.is_empty.ensures ∙ c.if-is_empty.false in
     let some = eqb-false (length c.args.ports.now) 0 e in
     (c.requires.usable c.args.conv (length c.args.ports.now) c.ranges.conv.fits c.requires.few).1 c.algorithm-place.result
     (omega (arith, some)) c.algorithm-place.ensures
@@ -14,8 +13,7 @@ pub offset_bounds-ports-place : goal.offset_bounds-ports-place
 offset_bounds-ports-place g c = let h = below g c in omega (arith, h, c.requires.few)
 
 pub bounds-ports-place : goal.bounds-ports-place
-bounds-ports-place g c =
-    let e : eqb (length c.args.ports.now) 0 ≡ false = sym c.is_empty.ensures ∙ c.if-is_empty.false in
+bounds-ports-place g c = let e : eqb (length c.args.ports.now) 0 ≡ false = sym c.is_empty.ensures ∙ c.if-is_empty.false in
     let some = eqb-false (length c.args.ports.now) 0 e in
     (c.requires.usable c.args.conv (length c.args.ports.now) c.ranges.conv.fits c.requires.few).1 c.algorithm-place.result
     (omega (arith, some)) c.algorithm-place.ensures

@@ -16,43 +16,35 @@ pub loop-at-init : goal.loop-at-init
 loop-at-init c = grind (arith, walk_begins)
 
 pub index-at-requires-in-loop-at : goal.index-at-requires-in-loop-at
-index-at-requires-in-loop-at c =
-    let w = c.loop-at.invariant.walking.standing in
+index-at-requires-in-loop-at c = let w = c.loop-at.invariant.walking.standing in
     omega (arith, walk_below w c.loop-at-test.true, w.chained.next_len, c.loop-at.self.next.ok.0)
 
 pub index-requires : goal.index-requires
-index-requires c =
-    let w = c.loop-at.invariant.walking.standing in
+index-requires c = let w = c.loop-at.invariant.walking.standing in
     omega (arith, walk_below w c.loop-at-test.true, w.chained.states_len, c.loop-at.self.states.ok.0)
 
 pub take_from_ring-requires-clause-slot : goal.take_from_ring-requires-clause-slot
-take_from_ring-requires-clause-slot c =
-    let w = c.loop-at.invariant.walking.standing in
+take_from_ring-requires-clause-slot c = let w = c.loop-at.invariant.walking.standing in
     omega (arith, walk_below w c.loop-at-test.true, w.chained.next_len)
 
 pub take_from_ring-requires-clause-after : goal.take_from_ring-requires-clause-after
-take_from_ring-requires-clause-after c =
-    let w = c.loop-at.invariant.walking.standing in
+take_from_ring-requires-clause-after c = let w = c.loop-at.invariant.walking.standing in
     omega (arith, walk_after w c.loop-at-test.true, w.chained.prev_len)
 
 pub take_from_ring-requires-clause-before : goal.take_from_ring-requires-clause-before
-take_from_ring-requires-clause-before c =
-    let w = c.loop-at.invariant.walking.standing in
+take_from_ring-requires-clause-before c = let w = c.loop-at.invariant.walking.standing in
     omega (arith, walk_before w c.loop-at-test.true, w.chained.next_len)
 
 pub index_mut-requires : goal.index_mut-requires
-index_mut-requires c =
-    let w = c.loop-at.invariant.walking.standing in
+index_mut-requires c = let w = c.loop-at.invariant.walking.standing in
     omega (arith, walk_below w c.loop-at-test.true, w.chained.states_len, c.loop-at.self.states.ok.0)
 
 pub index_mut-requires-in-Some : goal.index_mut-requires-in-Some
-index_mut-requires-in-Some c =
-    let w = c.loop-at.invariant.walking.standing in
+index_mut-requires-in-Some c = let w = c.loop-at.invariant.walking.standing in
     omega (arith, walk_below w c.loop-at-test.true, w.chained.states_len, c.loop-at.self.states.ok.0)
 
 pub loop-at-preserved-in-None : goal.loop-at-preserved-in-None
-loop-at-preserved-in-None c =
-    let i = c.loop-at.invariant in
+loop-at-preserved-in-None c = let i = c.loop-at.invariant in
     let w = i.walking.standing in
     let v = stand_leaves w c.loop-at-test.true _ c.index-at-in-loop-at.ensures c.apply-state.result (sym c.port.ensures ∙ c.in-None.is)
     _ _ c.take_from_ring.ensures.next c.take_from_ring.ensures.prev in
@@ -67,15 +59,13 @@ loop-at-preserved-in-None c =
     }
 
 pub loop-at-smaller-in-None : goal.loop-at-smaller-in-None
-loop-at-smaller-in-None c =
-    let w = c.loop-at.invariant.walking.standing in
+loop-at-smaller-in-None c = let w = c.loop-at.invariant.walking.standing in
     let v = stand_leaves w c.loop-at-test.true _ c.index-at-in-loop-at.ensures c.apply-state.result (sym c.port.ensures ∙ c.in-None.is)
     _ _ c.take_from_ring.ensures.next c.take_from_ring.ensures.prev in
     steps_fewer w c.loop-at-test.true v.0 v.1
 
 pub loop-at-preserved : goal.loop-at-preserved
-loop-at-preserved c =
-    let i = c.loop-at.invariant in
+loop-at-preserved c = let i = c.loop-at.invariant in
     let w = i.walking.standing in
     let is : c.apply-state.result ≡ after_change c.args.change (slot_state c.loop-at.self.states.items c.loop-at.at) =
     c.apply-state.ensures ∙ ap (after_change c.args.change) (read_state w c.loop-at-test.true _ c.index.ensures) in
@@ -91,16 +81,14 @@ loop-at-preserved c =
     }
 
 pub loop-at-smaller : goal.loop-at-smaller
-loop-at-smaller c =
-    let w = c.loop-at.invariant.walking.standing in
+loop-at-smaller c = let w = c.loop-at.invariant.walking.standing in
     steps_fewer w c.loop-at-test.true (stand_next w c.loop-at-test.true _ c.index-at-in-loop-at.ensures) refl
 
 pub returns-clause-states : goal.returns-clause-states
 returns-clause-states c = walk_ends c.loop-at.invariant.walking c.loop-at-test.false
 
 pub returns-clause-flagged : goal.returns-clause-flagged
-returns-clause-flagged c =
-    let i = c.loop-at.invariant in
+returns-clause-flagged c = let i = c.loop-at.invariant in
     rw (i.wanted, i.flushing)
     (change_flagged c.args.change c.args.chain c.args.self.now.states.items c.loop-at.self.states.items c.args.self.now.may_want.items
     c.args.self.now.may_flush.items c.loop-at.wanted c.loop-at.flushing c.requires.below c.requires.flagged

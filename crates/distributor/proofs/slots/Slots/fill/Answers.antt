@@ -3,8 +3,7 @@ use Rattle.distributor.proofs.ChainLemmas.{stands_some, stands_none, first_on, o
 use Rattle.distributor.proofs.slots.Slots.fill.Goals as goal
 
 pub put_into_ring-requires-clause-after : goal.put_into_ring-requires-clause-after
-put_into_ring-requires-clause-after c =
-    let h = c.requires.chained in
+put_into_ring-requires-clause-after c = let h = c.requires.chained in
     let free : (d : ℕ) → is_in_chain d (slot_state c.args.self.now.states.items c.args.slot) ≡ false = λ d. stands_none d
     (slot_state c.args.self.now.states.items c.args.slot) c.requires.free in
     let stands : (d : ℕ) → is_in_chain d c.args.state ≡ eqb c.chain.result d = λ d. stands_some d c.in-Some.port c.args.state

@@ -8,8 +8,7 @@ pub loop-chain-init : goal.loop-chain-init
 loop-chain-init c = grind arith
 
 pub loop-chain-preserved : goal.loop-chain-preserved
-loop-chain-preserved c =
-    let i = c.loop-chain.invariant in
+loop-chain-preserved c = let i = c.loop-chain.invariant in
     let few : c.loop-chain.chain + 1 ≤ 64 = omega (arith, c.loop-chain-test.true) in
     elim c.if-index.branch [
       | then-index w ↦

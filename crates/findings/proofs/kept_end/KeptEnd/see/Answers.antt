@@ -6,8 +6,7 @@ use Rattle.findings.proofs.KeptEndLemmas.{other_frame}
 use Rattle.findings.proofs.kept_end.KeptEnd.see.Goals as goal
 
 pub returns-else-is : goal.returns-else-is
-returns-else-is c =
-    let other : same_end (end_of c.args.now.now) c.args.self.now.end ≡ false
+returns-else-is c = let other : same_end (end_of c.args.now.now) c.args.self.now.end ≡ false
     = ap (λ (e : LinkEnd). same_end e c.args.self.now.end) (sym c.end.ensures) ∙ (sym c.is.ensures ∙ c.if-is.false) in
     record {
       end = refl;

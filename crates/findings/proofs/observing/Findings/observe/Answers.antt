@@ -10,8 +10,7 @@ use Rattle.findings.proofs.KnowsLemmas.{known_end, left_out, new_end, refill_sam
 use Rattle.findings.proofs.observing.Findings.observe.Goals as goal
 
 pub returns-then-has_end : goal.returns-then-has_end
-returns-then-has_end c =
-    let t : AllZip (Takes c.args.now.now) c.args.self.now.kept.items c.see_each.new.ends
+returns-then-has_end c = let t : AllZip (Takes c.args.now.now) c.args.self.now.kept.items c.see_each.new.ends
     = subst (λ ws. AllZip (Takes c.args.now.now) ws c.see_each.new.ends) c.as_mut_slice.ensures.value c.see_each.ensures in
     let back = refill_same c.args.self.now.kept.items c.see_each.new.ends
     (same_length c.args.now.now c.args.self.now.kept.items c.see_each.new.ends t) in
@@ -22,8 +21,7 @@ returns-then-has_end c =
     (known_end c.args.now.now h c.args.self.now.kept.items c.see_each.new.ends c.args.self.now.order c.with-self.result c.args.self.now.left_out t known c.with-self.ensures k)
 
 pub returns-then-is_full : goal.returns-then-is_full
-returns-then-is_full c =
-    let t : AllZip (Takes c.args.now.now) c.args.self.now.kept.items c.see_each.new.ends
+returns-then-is_full c = let t : AllZip (Takes c.args.now.now) c.args.self.now.kept.items c.see_each.new.ends
     = subst (λ ws. AllZip (Takes c.args.now.now) ws c.see_each.new.ends) c.as_mut_slice.ensures.value c.see_each.ensures in
     let back = refill_same c.args.self.now.kept.items c.see_each.new.ends
     (same_length c.args.now.now c.args.self.now.kept.items c.see_each.new.ends t) in
@@ -36,8 +34,7 @@ returns-then-is_full c =
     c.saturating_add-self.ensures c.with-self.ensures k)
 
 pub returns : goal.returns
-returns c =
-    let t : AllZip (Takes c.args.now.now) c.args.self.now.kept.items c.see_each.new.ends
+returns c = let t : AllZip (Takes c.args.now.now) c.args.self.now.kept.items c.see_each.new.ends
     = subst (λ ws. AllZip (Takes c.args.now.now) ws c.see_each.new.ends) c.as_mut_slice.ensures.value c.see_each.ensures in
     let back = refill_same c.args.self.now.kept.items c.see_each.new.ends
     (same_length c.args.now.now c.args.self.now.kept.items c.see_each.new.ends t) in

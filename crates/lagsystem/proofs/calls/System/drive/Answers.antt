@@ -4,16 +4,13 @@ use Rattle.lagsystem.proofs.Windows.{window_law}
 use Rattle.lagsystem.proofs.calls.System.drive.Goals as goal
 
 pub call-reply-requires : goal.call-reply-requires
-call-reply-requires g c =
-    record {
-      usable =
-          subst (λ f. PicksIndexes (λ conv count. g.F.Fn.pre f (conv, (count, tt)))
-          (λ conv count place. g.F.Fn.post f (conv, (count, tt)) place)) (sym c.loop-call.invariant.algorithm) c.requires.usable;
-    }
+call-reply-requires g c = record {
+  usable = subst (λ f. PicksIndexes (λ conv count. g.F.Fn.pre f (conv, (count, tt)))
+      (λ conv count place. g.F.Fn.post f (conv, (count, tt)) place)) (sym c.loop-call.invariant.algorithm) c.requires.usable;
+}
 
 pub loop-call-preserved : goal.loop-call-preserved
-loop-call-preserved g c =
-    let i = c.loop-call.call-index in
+loop-call-preserved g c = let i = c.loop-call.call-index in
     let calls = c.args.calls.now in
     let answer = c.call-reply.result in
     let mid = c.loop-call.self.state in
@@ -21,8 +18,7 @@ loop-call-preserved g c =
     let same = c.call-item.is in
     let made = subst (λ f. CallPromise (λ conv count place. g.F.Fn.post f (conv, (count, tt)) place) mid (call_of c.call-item.result) answer
     new) c.loop-call.invariant.algorithm c.call-reply.ensures.answers in record {
-      driven =
-          rw c.push_reserved.ensures.items
+      driven = rw c.push_reserved.ensures.items
           (drives_on (λ conv count place. g.F.Fn.post c.args.self.now.algorithm (conv, (count, tt)) place) c.args.self.now.state mid new
           calls c.loop-call.replies.items i c.call-item.result answer c.loop-call-test.true c.loop-call.invariant.driven
           (subst (λ x. CallPromise (λ conv count place. g.F.Fn.post c.args.self.now.algorithm (conv, (count, tt)) place) mid

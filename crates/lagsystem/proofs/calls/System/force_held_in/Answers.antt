@@ -7,8 +7,7 @@ none : (n : ℕ) → n ≡ n + cond false 1 0
 none n = omega arith
 
 pub loop-conv-preserved : goal.loop-conv-preserved
-loop-conv-preserved g c =
-    let i = c.loop-conv.invariant in
+loop-conv-preserved g c = let i = c.loop-conv.invariant in
     let gives : ℕ → ℕ → ℕ → Type 0 = λ conv count place. g.F.Fn.post c.args.self.now.algorithm (conv, (count, tt)) place in
     let one = subst (λ f. ForcesIfHeld (λ conv count place. g.F.Fn.post f (conv, (count, tt)) place) c.args.port c.args.agg c.loop-conv.conv
     c.loop-conv.self.state c.force_if_held.result c.force_if_held.new.self.state) i.algorithm c.force_if_held.ensures.forced in

@@ -6,8 +6,7 @@ use Rattle.lagsystem.proofs.HeldLemmas.{forces_none}
 use Rattle.lagsystem.proofs.calls.System.force_port.Goals as goal
 
 pub loop-before-preserved : goal.loop-before-preserved
-loop-before-preserved g c =
-    let i = c.loop-before.invariant in
+loop-before-preserved g c = let i = c.loop-before.invariant in
     let gives : ℕ → ℕ → ℕ → Type 0 = λ conv count place. g.F.Fn.post c.args.self.now.algorithm (conv, (count, tt)) place in
     let one = subst (λ f. ForcesIn (λ conv count place. g.F.Fn.post f (conv, (count, tt)) place) c.args.port
     (aggregator_numbered (c.loop-before.before + 1)) c.loop-before.self.state.conversations c.loop-before.self.state

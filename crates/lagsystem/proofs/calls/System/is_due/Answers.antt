@@ -6,8 +6,7 @@ abbrev answer : Bool → Option Bool
 answer b = Some b
 
 pub returns-in-Some : goal.returns-in-Some
-returns-in-Some g c =
-    let s = inner_state c.self.inside.inner in
+returns-in-Some g c = let s = inner_state c.self.inside.inner in
     let n = c.args.port in
     subst (λ (w : SystemValue g.row.F.Denot). answer c.would_transmit.result ≡ would_transmit_at n w.state) c.self.view_is
     (ap answer c.would_transmit.ensures ∙ sym (ap (option_map (would_transmit s)) c.in-Some.ensures))

@@ -12,8 +12,7 @@ pub returns-clause-offers : goal.returns-clause-offers
 returns-clause-offers g c = rw (← c.self.view_is) c.offer_conversation.ensures.offers
 
 pub returns-clause-answers : goal.returns-clause-answers
-returns-clause-answers g c =
-    rw (← c.self.view_is)
+returns-clause-answers g c = rw (← c.self.view_is)
     (offers_promise (λ conv count place. g.F.Fn.post c.self.inside.inner.distributor.algorithm (conv, (count, tt)) place) c.args.agg
     c.args.conv (inner_state c.self.inside.inner) c.offer_conversation.result (inner_state c.offer_conversation.new.self)
     c.offer_conversation.ensures.offers c.self.invariant)

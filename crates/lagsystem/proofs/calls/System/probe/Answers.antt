@@ -8,9 +8,7 @@ invariant_of-self g c =
     c.self.invariant
 
 pub returns-clause-probes : goal.returns-clause-probes
-returns-clause-probes g c =
-    rw (← c.self.view_is) c.probe.ensures.probes
+returns-clause-probes g c = rw (← c.self.view_is) c.probe.ensures.probes
 
 pub returns-clause-lawful : goal.returns-clause-lawful
-returns-clause-lawful g c =
-    rw (← c.self.view_is) (probes_lawfully _ _ _ _ c.probe.ensures.probes c.self.invariant)
+returns-clause-lawful g c = rw (← c.self.view_is) (probes_lawfully _ _ _ _ c.probe.ensures.probes c.self.invariant)

@@ -11,7 +11,6 @@ pub returns-clause-gives : goal.returns-clause-gives
 returns-clause-gives g c = rw (← c.self.view_is) c.rest.ensures.gives
 
 pub returns-clause-forces : goal.returns-clause-forces
-returns-clause-forces g c =
-    rw (← c.self.view_is)
+returns-clause-forces g c = rw (← c.self.view_is)
     (rests_if_ok (λ conv count place. g.F.Fn.post c.self.inside.inner.distributor.algorithm (conv, (count, tt)) place) c.args.agg
     c.args.conv (inner_state c.self.inside.inner) c.rest.result (inner_state c.rest.new.self) c.rest.ensures.gives c.self.invariant)

@@ -12,7 +12,6 @@ pub returns-clause-answers : goal.returns-clause-answers
 returns-clause-answers g c = rw (← c.self.view_is) (answers _ _ _ _ _ c.restart.ensures.step c.self.invariant)
 
 pub returns-clause-shows : goal.returns-clause-shows
-returns-clause-shows g c =
-    let new = inner_state c.restart.new.self in
+returns-clause-shows g c = let new = inner_state c.restart.new.self in
     subst (λ (w : SystemValue g.row.F.Denot). model_view new ≡ first_view (model_setup w.state)) c.self.view_is
     (restarted_shows (inner_state c.self.inside.inner) new c.restart.ensures.step.0 c.restart.ensures.step.1)

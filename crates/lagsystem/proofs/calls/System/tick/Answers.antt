@@ -8,5 +8,4 @@ invariant_of-self g c =
     _ Call.Tick Reply.Tick _ c.tick.ensures.step c.self.invariant
 
 pub returns-clause-answers : goal.returns-clause-answers
-returns-clause-answers g c =
-    rw (← c.self.view_is) (answers _ _ _ _ _ c.tick.ensures.step c.self.invariant)
+returns-clause-answers g c = rw (← c.self.view_is) (answers _ _ _ _ _ c.tick.ensures.step c.self.invariant)

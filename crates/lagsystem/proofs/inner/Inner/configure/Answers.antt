@@ -8,8 +8,7 @@ use Rattle.lagsystem.proofs.StateLemmas.{on_port_made}
 use Rattle.lagsystem.proofs.inner.Inner.configure.Goals as goal
 
 pub settle-requires-clause-were : goal.settle-requires-clause-were
-settle-requires-clause-were g c =
-    let s = inner_state c.args.self.now in
+settle-requires-clause-were g c = let s = inner_state c.args.self.now in
     let v = c.args.self.now.system_ports in
     let i = c.in_ok-place.place in
     let change = c.args.change in
@@ -32,8 +31,7 @@ settle-requires-clause-were g c =
     c.deref.ensures.value there acted c.collecting-was.ensures c.list_aggregators_in_use_before.ensures)
 
 pub settle-requires-clause-next : goal.settle-requires-clause-next
-settle-requires-clause-next g c =
-    let s = inner_state c.args.self.now in
+settle-requires-clause-next g c = let s = inner_state c.args.self.now in
     let v = c.args.self.now.system_ports in
     let i = c.in_ok-place.place in
     let change = c.args.change in
@@ -49,8 +47,7 @@ settle-requires-clause-next g c =
     numbered)
 
 pub returns-clause-step : goal.returns-clause-step
-returns-clause-step g c =
-    let s = inner_state c.args.self.now in
+returns-clause-step g c = let s = inner_state c.args.self.now in
     let v = c.args.self.now.system_ports in
     let i = c.in_ok-place.place in
     let change = c.args.change in

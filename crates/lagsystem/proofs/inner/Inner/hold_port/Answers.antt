@@ -6,8 +6,7 @@ use Rattle.lagsystem.proofs.SettingsKeep.{held_leaves}
 use Rattle.lagsystem.proofs.inner.Inner.hold_port.Goals as goal
 
 pub settle-requires-clause-were : goal.settle-requires-clause-were
-settle-requires-clause-were g c =
-    let s = inner_state c.args.self.now in
+settle-requires-clause-were g c = let s = inner_state c.args.self.now in
     let v = c.args.self.now.system_ports in
     let i = c.in_ok-place.place in
     let olds = c.deref_mut.result.now in
@@ -20,8 +19,7 @@ settle-requires-clause-were g c =
     (c.as_slice.ensures.value ∙ c.list_aggregators_in_use.ensures ∙ ap aggregators_in_use c.deref.ensures.value)
 
 pub settle-requires-clause-next : goal.settle-requires-clause-next
-settle-requires-clause-next g c =
-    let s = inner_state c.args.self.now in
+settle-requires-clause-next g c = let s = inner_state c.args.self.now in
     let v = c.args.self.now.system_ports in
     let i = c.in_ok-place.place in
     let olds = c.deref_mut.result.now in
@@ -33,8 +31,7 @@ settle-requires-clause-next g c =
     (becomes_made (is_held_so c.args.held) (with_held c.args.held) i s olds ws news c.deref_mut.ensures.value (with_items_is v ws (omega arith)) acted)
 
 pub returns-clause-step : goal.returns-clause-step
-returns-clause-step g c =
-    let s = inner_state c.args.self.now in
+returns-clause-step g c = let s = inner_state c.args.self.now in
     let v = c.args.self.now.system_ports in
     let i = c.in_ok-place.place in
     let olds = c.deref_mut.result.now in
@@ -48,8 +45,7 @@ returns-clause-step g c =
     c.settle.ensures.settled
 
 pub returns-then-not-hold_at-clause-step : goal.returns-then-not-hold_at-clause-step
-returns-then-not-hold_at-clause-step g c =
-    let s = inner_state c.args.self.now in
+returns-then-not-hold_at-clause-step g c = let s = inner_state c.args.self.now in
     let v = c.args.self.now.system_ports in
     let olds = c.deref_mut.result.now in
     let ws = c.hold_at.new.system_ports in

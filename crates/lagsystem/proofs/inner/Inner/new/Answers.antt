@@ -7,21 +7,18 @@ use Rattle.lagsystem.proofs.Sound.{first_sound}
 use Rattle.lagsystem.proofs.inner.Inner.new.Goals as goal
 
 pub aggregator_count-requires : goal.aggregator_count-requires
-aggregator_count-requires g c =
-    let config = c.args.config in
+aggregator_count-requires g c = let config = c.args.config in
     let accepted : config_refusal config ≡ None = sym {b = config_refusal config} c.refusal.ensures ∙ c.in-None.is in
     let few = accepted_keys_few config.aggregators.items config.ports.items config.max_links config.conversations accepted in
     subst (λ (l : List Key). length l ≤ 64) (sym c.deref-3.ensures.value) few
 
 pub with_conversations-requires-clause-count : goal.with_conversations-requires-clause-count
-with_conversations-requires-clause-count g c =
-    let config = c.args.config in
+with_conversations-requires-clause-count g c = let config = c.args.config in
     let accepted : config_refusal config ≡ None = sym {b = config_refusal config} c.refusal.ensures ∙ c.in-None.is in
     accepted_count config.aggregators.items config.ports.items config.max_links config.conversations accepted
 
 pub returns-clause-made : goal.returns-clause-made
-returns-clause-made g c =
-    let config = c.args.config in
+returns-clause-made g c = let config = c.args.config in
     let aggs = c.in_ok-aggregators.aggregators in
     let accepted : config_refusal config ≡ None = sym {b = config_refusal config} c.refusal.ensures ∙ c.in-None.is in
     let few = accepted_keys_few config.aggregators.items config.ports.items config.max_links config.conversations accepted in

@@ -4,8 +4,7 @@ use Rattle.lagsystem.proofs.Rising.{accepted_count}
 use Rattle.lagsystem.proofs.inner.Inner.number_of_conversation.Goals as goal
 
 pub returns-clause-is : goal.returns-clause-is
-returns-clause-is g c =
-    let s = inner_state c.args.self.now in
+returns-clause-is g c = let s = inner_state c.args.self.now in
     let octets = c.args.octets.now in
     let count : is_conversation_count s.conversations ≡ true = accepted_count s.keys s.ports s.max_links s.conversations c.requires.sound.ports.accepted in
     let destination : c.from_be_bytes-destination.result ≡ two_octets octets 4 = omega (arith, c.from_be_bytes-destination.ensures) in

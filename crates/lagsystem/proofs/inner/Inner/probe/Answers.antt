@@ -3,8 +3,7 @@ use Rattle.lagsystem.proofs.ProbingLemmas.{probes_marker}
 use Rattle.lagsystem.proofs.inner.Inner.probe.Goals as goal
 
 pub returns-clause-probes : goal.returns-clause-probes
-returns-clause-probes g c =
-    let items = c.args.self.now.system_ports.items in
+returns-clause-probes g c = let items = c.args.self.now.system_ports.items in
     let i = c.in_ok-place.place in
     let system_port = c.index.result.now in
     let second = c.index-2.result.now in

@@ -10,16 +10,14 @@ use Rattle.lagsystem.proofs.StateLemmas.{on_port_made}
 use Rattle.lagsystem.proofs.inner.Inner.process_lacpdu.Goals as goal
 
 pub list_aggregators_in_use_before-requires-clause-few : goal.list_aggregators_in_use_before-requires-clause-few
-list_aggregators_in_use_before-requires-clause-few g c =
-    let items = c.args.self.now.system_ports.items in
+list_aggregators_in_use_before-requires-clause-few g c = let items = c.args.self.now.system_ports.items in
     let few : length items ≤ 64 = few_ports (inner_state c.args.self.now) c.requires.sound.ports in
     let same = ap (λ (l : List SystemPort). length l) c.deref-else-process_lacpdu_on.ensures.value
     ∙ length-set items c.args.place c.process_lacpdu_on.new.system_port in
     omega (arith, few, same)
 
 pub settle-requires-clause-were : goal.settle-requires-clause-were
-settle-requires-clause-were g c =
-    let s = inner_state c.args.self.now in
+settle-requires-clause-were g c = let s = inner_state c.args.self.now in
     let olds = c.args.self.now.system_ports.items in
     let i = c.args.place in
     let both = ProcessesAndRuns c.args.pdu.now in
@@ -41,8 +39,7 @@ settle-requires-clause-were g c =
     c.deref-else-process_lacpdu_on.ensures.value there took c.collecting-was.ensures c.list_aggregators_in_use_before.ensures)
 
 pub settle-requires-clause-next : goal.settle-requires-clause-next
-settle-requires-clause-next g c =
-    let s = inner_state c.args.self.now in
+settle-requires-clause-next g c = let s = inner_state c.args.self.now in
     let olds = c.args.self.now.system_ports.items in
     let i = c.args.place in
     let pdu = c.args.pdu.now in
@@ -57,8 +54,7 @@ settle-requires-clause-next g c =
     (on_port_made (ProcessesAndRuns pdu) (λ l. Some i) s olds news news refl refl (on_place_taken pdu i olds c.process_lacpdu_on.result news at))
 
 pub returns-then-process_lacpdu_on-clause-settled : goal.returns-then-process_lacpdu_on-clause-settled
-returns-then-process_lacpdu_on-clause-settled g c =
-    let s = inner_state c.args.self.now in
+returns-then-process_lacpdu_on-clause-settled g c = let s = inner_state c.args.self.now in
     let olds = c.args.self.now.system_ports.items in
     let i = c.args.place in
     let pdu = c.args.pdu.now in
@@ -93,8 +89,7 @@ returns-then-process_lacpdu_on-clause-settled g c =
     took_alone pdu s i one two (slice_set (aggregators_in_use two) i was) t c.requires.sound refl took paced before held
 
 pub returns-else-process_lacpdu_on-clause-settled : goal.returns-else-process_lacpdu_on-clause-settled
-returns-else-process_lacpdu_on-clause-settled g c =
-    let s = inner_state c.args.self.now in
+returns-else-process_lacpdu_on-clause-settled g c = let s = inner_state c.args.self.now in
     let olds = c.args.self.now.system_ports.items in
     let i = c.args.place in
     let old = c.index_mut.result.now in

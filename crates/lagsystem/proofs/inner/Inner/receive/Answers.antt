@@ -4,8 +4,7 @@ use Rattle.lagsystem.proofs.ReceivingLemmas.{answered_at, collected, control_at,
 use Rattle.lagsystem.proofs.inner.Inner.receive.Goals as goal
 
 pub returns-then-not-is_enabled-clause-step : goal.returns-then-not-is_enabled-clause-step
-returns-then-not-is_enabled-clause-step g c =
-    let s = inner_state c.args.self.now in
+returns-then-not-is_enabled-clause-step g c = let s = inner_state c.args.self.now in
     let i = c.in_ok-place.place in
     let system_port = c.index.result.now in
     let there : slice_get s.system_ports i ≡ Some system_port = slice_get-get_or s.system_ports i system_port c.in_ok-place.ensures.within
@@ -14,8 +13,7 @@ returns-then-not-is_enabled-clause-step g c =
     (parses_none system_port c.args.octets.now (sym c.is_enabled.ensures ∙ c.if-not-is_enabled.true))
 
 pub returns-in-TooShort-clause-step : goal.returns-in-TooShort-clause-step
-returns-in-TooShort-clause-step g c =
-    let s = inner_state c.args.self.now in
+returns-in-TooShort-clause-step g c = let s = inner_state c.args.self.now in
     let i = c.in_ok-place.place in
     let system_port = c.index.result.now in
     let there : slice_get s.system_ports i ≡ Some system_port = slice_get-get_or s.system_ports i system_port c.in_ok-place.ensures.within
@@ -25,8 +23,7 @@ returns-in-TooShort-clause-step g c =
     (parses_one system_port c.args.octets.now Runt (Answered Dropped) up c.in-TooShort.ensures.kind refl)
 
 pub returns-in-Data-clause-step : goal.returns-in-Data-clause-step
-returns-in-Data-clause-step g c =
-    let s = inner_state c.args.self.now in
+returns-in-Data-clause-step g c = let s = inner_state c.args.self.now in
     let i = c.in_ok-place.place in
     let system_port = c.index.result.now in
     let there : slice_get s.system_ports i ≡ Some system_port = slice_get-get_or s.system_ports i system_port c.in_ok-place.ensures.within
@@ -40,8 +37,7 @@ returns-in-Data-clause-step g c =
     (parses_one system_port c.args.octets.now Data_frame (Answered reply) up c.in-Data.ensures.kind (ap Answered gives))
 
 pub returns-in-Control-clause-step : goal.returns-in-Control-clause-step
-returns-in-Control-clause-step g c =
-    let s = inner_state c.args.self.now in
+returns-in-Control-clause-step g c = let s = inner_state c.args.self.now in
     let i = c.in_ok-place.place in
     let system_port = c.index.result.now in
     let there : slice_get s.system_ports i ≡ Some system_port = slice_get-get_or s.system_ports i system_port c.in_ok-place.ensures.within

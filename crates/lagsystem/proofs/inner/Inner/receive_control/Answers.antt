@@ -3,8 +3,7 @@ use Rattle.lagsystem.proofs.Common.{Released, SystemPort, ParsesPayload, Release
 use Rattle.lagsystem.proofs.inner.Inner.receive_control.Goals as goal
 
 pub returns-in-ProcessLacpdu-clause-received : goal.returns-in-ProcessLacpdu-clause-received
-returns-in-ProcessLacpdu-clause-received g c =
-    let v = c.args.self.now.system_ports in
+returns-in-ProcessLacpdu-clause-received g c = let v = c.args.self.now.system_ports in
     let system_port = c.index-2.result.now in (
       system_port,
       ProcessLacpdu c.in-ProcessLacpdu.pdu,
@@ -14,8 +13,7 @@ returns-in-ProcessLacpdu-clause-received g c =
     )
 
 pub returns-in-Response-clause-received : goal.returns-in-Response-clause-received
-returns-in-Response-clause-received g c =
-    let items = c.args.self.now.system_ports.items in
+returns-in-Response-clause-received g c = let items = c.args.self.now.system_ports.items in
     let one = c.index.result.now in
     let system_port = c.index-2.result.now in
     let m = c.in-Response.marker in
@@ -33,12 +31,11 @@ returns-in-Response-clause-received g c =
     )
 
 pub returns-in-Answered-clause-received : goal.returns-in-Answered-clause-received
-returns-in-Answered-clause-received g c =
-    let system_port = c.index-2.result.now in (
-      system_port,
-      Answered c.in-Answered.reply,
-      slice_get-get_or c.args.self.now.system_ports.items c.args.place system_port c.requires.within
-          ∙ ap (λ (x : SystemPort). Some x) (sym c.index-2.ensures),
-      subst (λ h. ParsesPayload system_port c.args.payload.now h) c.in-Answered.is c.parse_payload.ensures,
-      (refl, refl),
-    )
+returns-in-Answered-clause-received g c = let system_port = c.index-2.result.now in (
+  system_port,
+  Answered c.in-Answered.reply,
+  slice_get-get_or c.args.self.now.system_ports.items c.args.place system_port c.requires.within
+      ∙ ap (λ (x : SystemPort). Some x) (sym c.index-2.ensures),
+  subst (λ h. ParsesPayload system_port c.args.payload.now h) c.in-Answered.is c.parse_payload.ensures,
+  (refl, refl),
+)

@@ -6,8 +6,7 @@ use Rattle.lagsystem.proofs.Settled.{link_carried, link_made, moved_on}
 use Rattle.lagsystem.proofs.inner.Inner.set_link.Goals as goal
 
 pub settle-requires-clause-were : goal.settle-requires-clause-were
-settle-requires-clause-were g c =
-    let s = inner_state c.args.self.now in
+settle-requires-clause-were g c = let s = inner_state c.args.self.now in
     let v = c.args.self.now.system_ports in
     let ws = c.set_link_at.new.system_ports in
     let news = (with_items v ws).items in
@@ -21,8 +20,7 @@ settle-requires-clause-were g c =
     ∙ c.list_aggregators_in_use.ensures ∙ ap aggregators_in_use c.deref.ensures.value)
 
 pub settle-requires-clause-next : goal.settle-requires-clause-next
-settle-requires-clause-next g c =
-    let s = inner_state c.args.self.now in
+settle-requires-clause-next g c = let s = inner_state c.args.self.now in
     let v = c.args.self.now.system_ports in
     let ws = c.set_link_at.new.system_ports in
     let news = (with_items v ws).items in
@@ -34,8 +32,7 @@ settle-requires-clause-next g c =
     c.deref_mut.ensures.value (with_items_is v ws (omega arith)) refl refl acted c.free_conversations_if_down.ensures.frees)
 
 pub returns-clause-step : goal.returns-clause-step
-returns-clause-step g c =
-    let s = inner_state c.args.self.now in
+returns-clause-step g c = let s = inner_state c.args.self.now in
     let v = c.args.self.now.system_ports in
     let ws = c.set_link_at.new.system_ports in
     let news = (with_items v ws).items in

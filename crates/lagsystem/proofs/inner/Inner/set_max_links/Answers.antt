@@ -3,8 +3,7 @@ use Rattle.lagsystem.proofs.Settled.{limits_carried, limits_made}
 use Rattle.lagsystem.proofs.inner.Inner.set_max_links.Goals as goal
 
 pub settle-requires-clause-were : goal.settle-requires-clause-were
-settle-requires-clause-were g c =
-    let s = inner_state c.args.self.now in
+settle-requires-clause-were g c = let s = inner_state c.args.self.now in
     let v = c.args.self.now.system_ports in
     let ws = c.unselect_down.new.system_ports in
     let news = (with_items v ws).items in
@@ -15,8 +14,7 @@ settle-requires-clause-were g c =
     (c.as_slice.ensures.value ∙ c.list_aggregators_in_use.ensures ∙ ap aggregators_in_use c.deref-2.ensures.value)
 
 pub returns-clause-step : goal.returns-clause-step
-returns-clause-step g c =
-    let s = inner_state c.args.self.now in
+returns-clause-step g c = let s = inner_state c.args.self.now in
     let v = c.args.self.now.system_ports in
     let ws = c.unselect_down.new.system_ports in
     let news = (with_items v ws).items in (

@@ -5,8 +5,7 @@ use Rattle.lagsystem.proofs.Settled.{becomes_carried, becomes_made, becomes_sett
 use Rattle.lagsystem.proofs.inner.Inner.set_mode.Goals as goal
 
 pub settle-requires-clause-were : goal.settle-requires-clause-were
-settle-requires-clause-were g c =
-    let s = inner_state c.args.self.now in
+settle-requires-clause-were g c = let s = inner_state c.args.self.now in
     let v = c.args.self.now.system_ports in
     let i = c.in_ok-place.place in
     let olds = c.deref_mut.result.now in
@@ -19,8 +18,7 @@ settle-requires-clause-were g c =
     (c.as_slice.ensures.value ∙ c.list_aggregators_in_use.ensures ∙ ap aggregators_in_use c.deref.ensures.value)
 
 pub settle-requires-clause-next : goal.settle-requires-clause-next
-settle-requires-clause-next g c =
-    let s = inner_state c.args.self.now in
+settle-requires-clause-next g c = let s = inner_state c.args.self.now in
     let v = c.args.self.now.system_ports in
     let i = c.in_ok-place.place in
     let olds = c.deref_mut.result.now in
@@ -32,8 +30,7 @@ settle-requires-clause-next g c =
     (becomes_made (is_in_mode c.args.active c.args.short) (in_mode c.args.active c.args.short) i s olds ws news c.deref_mut.ensures.value (with_items_is v ws (omega arith)) acted)
 
 pub returns-clause-step : goal.returns-clause-step
-returns-clause-step g c =
-    let s = inner_state c.args.self.now in
+returns-clause-step g c = let s = inner_state c.args.self.now in
     let v = c.args.self.now.system_ports in
     let i = c.in_ok-place.place in
     let olds = c.deref_mut.result.now in
@@ -47,8 +44,7 @@ returns-clause-step g c =
     c.settle.ensures.settled
 
 pub returns-then-not-set_mode_at-clause-step : goal.returns-then-not-set_mode_at-clause-step
-returns-then-not-set_mode_at-clause-step g c =
-    let s = inner_state c.args.self.now in
+returns-then-not-set_mode_at-clause-step g c = let s = inner_state c.args.self.now in
     let v = c.args.self.now.system_ports in
     let olds = c.deref_mut.result.now in
     let ws = c.set_mode_at.new.system_ports in

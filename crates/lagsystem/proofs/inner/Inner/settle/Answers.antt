@@ -12,8 +12,7 @@ settle_ports-requires-clause-next g c =
     c.requires.next
 
 pub hold_conversations-requires : goal.hold_conversations-requires
-hold_conversations-requires g c =
-    let start = inner_state c.args.self.now in
+hold_conversations-requires g c = let start = inner_state c.args.self.now in
     let v = c.args.self.now.system_ports in
     let ws = c.settle_ports.new.system_ports in
     let news = (with_items v ws).items in
@@ -24,8 +23,7 @@ hold_conversations-requires g c =
     ∙ ap (λ (l : List SystemPort). length l) (sym c.deref.ensures.value)
 
 pub returns-clause-settled : goal.returns-clause-settled
-returns-clause-settled g c =
-    let start = inner_state c.args.self.now in
+returns-clause-settled g c = let start = inner_state c.args.self.now in
     let v = c.args.self.now.system_ports in
     let ws = c.settle_ports.new.system_ports in
     let news = (with_items v ws).items in

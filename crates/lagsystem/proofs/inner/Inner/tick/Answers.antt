@@ -4,8 +4,7 @@ use Rattle.lagsystem.proofs.Settled.{moved_on, tick_carried, tick_made}
 use Rattle.lagsystem.proofs.inner.Inner.tick.Goals as goal
 
 pub settle-requires-clause-were : goal.settle-requires-clause-were
-settle-requires-clause-were g c =
-    let s = inner_state c.args.self.now in
+settle-requires-clause-were g c = let s = inner_state c.args.self.now in
     let v = c.args.self.now.system_ports in
     let ws = c.tick_each.new.system_ports in
     let news = (with_items v ws).items in
@@ -16,8 +15,7 @@ settle-requires-clause-were g c =
     ∙ ap aggregators_in_use c.deref.ensures.value)
 
 pub settle-requires-clause-next : goal.settle-requires-clause-next
-settle-requires-clause-next g c =
-    let s = inner_state c.args.self.now in
+settle-requires-clause-next g c = let s = inner_state c.args.self.now in
     let v = c.args.self.now.system_ports in
     let ws = c.tick_each.new.system_ports in
     let news = (with_items v ws).items in
@@ -26,8 +24,7 @@ settle-requires-clause-next g c =
     (with_items_is v ws (omega arith)) refl refl c.tick_each.ensures c.tick.ensures.changed)
 
 pub returns-clause-step : goal.returns-clause-step
-returns-clause-step g c =
-    let s = inner_state c.args.self.now in
+returns-clause-step g c = let s = inner_state c.args.self.now in
     let v = c.args.self.now.system_ports in
     let ws = c.tick_each.new.system_ports in
     let news = (with_items v ws).items in

@@ -4,8 +4,7 @@ use Rattle.lagsystem.proofs.WaitingLemmas.{soonest_on}
 use Rattle.lagsystem.proofs.inner.Inner.ticks_until_due.Goals as goal
 
 pub loop-system_port-preserved : goal.loop-system_port-preserved
-loop-system_port-preserved g c =
-    let s = inner_state c.args.self.now in
+loop-system_port-preserved g c = let s = inner_state c.args.self.now in
     let same : c.deref-system_port-items.result.now ≡ s.system_ports = c.deref-system_port-items.ensures.value in
     let i = c.loop-system_port.system_port-index in
     let x = c.system_port-item.result in

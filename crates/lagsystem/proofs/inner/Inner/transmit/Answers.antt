@@ -4,8 +4,7 @@ use Rattle.lagsystem.proofs.SendingLemmas.{lacpdu_sent, none_sent, sends_lacpdu,
 use Rattle.lagsystem.proofs.inner.Inner.transmit.Goals as goal
 
 pub returns-in-Some-clause-step : goal.returns-in-Some-clause-step
-returns-in-Some-clause-step g c =
-    let s = inner_state c.args.self.now in
+returns-in-Some-clause-step g c = let s = inner_state c.args.self.now in
     let olds = c.args.self.now.system_ports.items in
     let i = c.in_ok-place.place in
     let first = c.index.result.now in
@@ -31,8 +30,7 @@ returns-in-Some-clause-step g c =
     sent
 
 pub returns-clause-step : goal.returns-clause-step
-returns-clause-step g c =
-    let s = inner_state c.args.self.now in
+returns-clause-step g c = let s = inner_state c.args.self.now in
     let olds = c.args.self.now.system_ports.items in
     let i = c.in_ok-place.place in
     let first = c.index.result.now in

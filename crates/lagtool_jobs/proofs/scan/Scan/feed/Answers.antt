@@ -3,8 +3,7 @@ use Rattle.lagtool_jobs.proofs.ReportLemmas.{ends_line, line_done, reads_both, r
 use Rattle.lagtool_jobs.proofs.scan.Scan.feed.Goals as goal
 
 pub loop-n-preserved : goal.loop-n-preserved
-loop-n-preserved c =
-    let (done, split, reads, few) = c.loop-n.invariant in
+loop-n-preserved c = let (done, split, reads, few) = c.loop-n.invariant in
     let rest = c.loop-n.rest.now in
     let n = c.in-Some.n in
     let found = c.in-Some.ensures in
@@ -17,7 +16,6 @@ loop-n-preserved c =
     )
 
 pub returns-clause-reads : goal.returns-clause-reads
-returns-clause-reads c =
-    let (done, split, reads, few) = c.loop-n.invariant in
+returns-clause-reads c = let (done, split, reads, few) = c.loop-n.invariant in
     reads_rest c.keep-2.result c.args.self.now c.loop-n.self c.keep-2.new.self c.args.piece.now done c.loop-n.rest.now split
     reads c.keep-2.ensures.reads

@@ -3,8 +3,7 @@ use Rattle.lagtool_jobs.proofs.Common.{List, length, ℕ, ◌++◌, ◌+◌, ◌
 use Rattle.lagtool_jobs.proofs.scan.Scan.feed.Given as goal
 
 abbrev pub invariant-loop-n : goal.invariant-loop-n
-invariant-loop-n l =
-    (done : List ℕ) × (l.piece ≡ done ++ l.rest) × ReadsOctets l.initial.self l.self done
+invariant-loop-n l = (done : List ℕ) × (l.piece ≡ done ++ l.rest) × ReadsOctets l.initial.self l.self done
     × (l.self.lines + length l.rest ≤ l.initial.self.lines + length l.piece)
 
 abbrev pub decreases-loop-n : goal.decreases-loop-n

@@ -3,13 +3,11 @@ use Rattle.lagworld.proofs.Finding.{ends_there, no_ends}
 use Rattle.lagworld.proofs.inner.Inner.agreement.Goals as goal
 
 pub returns-then-not-has_cable : goal.returns-then-not-has_cable
-returns-then-not-has_cable g c =
-    let j = world_state g.C.Cable.items g.C.Cable.limit c.args.self.now in
+returns-then-not-has_cable g c = let j = world_state g.C.Cable.items g.C.Cable.limit c.args.self.now in
     sym (no_ends _ (element_numbered j.links c.args.cable) (sym c.has_cable.ensures ∙ c.if-not-has_cable.true))
 
 pub returns : goal.returns
-returns g c =
-    let told = c.link_status-status.result in
+returns g c = let told = c.link_status-status.result in
     let j = world_state g.C.Cable.items g.C.Cable.limit c.args.self.now in
     ap Some (c.agreement_of.ensures ∙ (λ i. agreement_of (c.end_facts-one.ensures i) (c.end_facts-two.ensures i)))
     ∙ ends_there (λ one two. agreement_of (end_facts j.one one) (end_facts j.two two)) j.links c.args.cable c.link_index_of.result told.one

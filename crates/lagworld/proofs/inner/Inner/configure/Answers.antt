@@ -4,7 +4,6 @@ use Rattle.lagworld.proofs.Sides.{of_either}
 use Rattle.lagworld.proofs.inner.Inner.configure.Goals as goal
 
 pub configure-requires : goal.configure-requires
-configure-requires g c =
-    let old = world_state g.C.Cable.items g.C.Cable.limit c.args.self.now in
+configure-requires g c = let old = world_state g.C.Cable.items g.C.Cable.limit c.args.self.now in
     of_either (λ h. AreBelow most_events h.histories.items) (model_side c.side_numbered.result) c.args.self.now.one c.args.self.now.two
     c.half_mut-half.result.now c.half_mut-half.ensures.value (few_changes One old c.requires) (few_changes Two old c.requires)

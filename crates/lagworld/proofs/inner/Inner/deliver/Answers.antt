@@ -5,8 +5,7 @@ use Rattle.lagworld.proofs.ArrivingLemmas.{deliver_does}
 use Rattle.lagworld.proofs.inner.Inner.deliver.Goals as goal
 
 pub returns-clause-delivers : goal.returns-clause-delivers
-returns-clause-delivers g c =
-    let items = g.C.Cable.items in
+returns-clause-delivers g c = let items = g.C.Cable.items in
     let limit = g.C.Cable.limit in
     let gives = algorithms_of g.F.Fn.post c.args.self.now.one.system.algorithm c.args.self.now.two.system.algorithm in
     let side = model_side c.side_numbered-side.result in

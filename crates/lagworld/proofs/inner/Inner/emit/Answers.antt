@@ -13,6 +13,5 @@ returns-clause-emits g c =
     (ap (with_links old) c.reserve_on.ensures.same) c.emit_due.ensures.emits)
 
 pub returns-in_err-reserve_on-clause-unchanged : goal.returns-in_err-reserve_on-clause-unchanged
-returns-in_err-reserve_on-clause-unchanged g c =
-    let old = world_state g.C.Cable.items g.C.Cable.limit c.args.self.now in
+returns-in_err-reserve_on-clause-unchanged g c = let old = world_state g.C.Cable.items g.C.Cable.limit c.args.self.now in
     stays_so c.from_residual-in_err-reserve_on.result _ old (ap (with_links old) c.reserve_on.ensures.same)

@@ -4,8 +4,7 @@ use Rattle.lagworld.proofs.LoseLemmas.{lost_there}
 use Rattle.lagworld.proofs.inner.Inner.lose.Goals as goal
 
 pub returns-clause-loses : goal.returns-clause-loses
-returns-clause-loses g c =
-    let s = model_side c.side_numbered-side.result in
+returns-clause-loses g c = let s = model_side c.side_numbered-side.result in
     let i = c.link_index_of-index.result in
     let old = world_state g.C.Cable.items g.C.Cable.limit c.args.self.now in
     let links = link_states g.C.Cable.items g.C.Cable.limit c.lose_at.new.links.items in

@@ -13,8 +13,7 @@ new-requires-2-clause-accepted g c =
     (sym c.refusal.ensures ∙ c.in_default.is)).1
 
 pub returns-clause-start : goal.returns-clause-start
-returns-clause-start g c =
-    let items = g.C.Cable.items in
+returns-clause-start g c = let items = g.C.Cable.items in
     let limit = g.C.Cable.limit in
     let config = c.args.config in
     let lines = c.args.lines.items in

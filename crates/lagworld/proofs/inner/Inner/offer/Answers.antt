@@ -4,8 +4,7 @@ use Rattle.lagworld.proofs.EmitLemmas.{stays_so}
 use Rattle.lagworld.proofs.inner.Inner.offer.Goals as goal
 
 pub offer_reserved-requires-clause-sound : goal.offer_reserved-requires-clause-sound
-offer_reserved-requires-clause-sound g c =
-    let old = world_state g.C.Cable.items g.C.Cable.limit c.args.self.now in
+offer_reserved-requires-clause-sound g c = let old = world_state g.C.Cable.items g.C.Cable.limit c.args.self.now in
     subst IsSound (sym (c.reserve_serial.ensures.same ∙ ap (with_links old) c.reserve_all.ensures.same)) c.requires.sound
 
 pub offer_reserved-requires-clause-one : goal.offer_reserved-requires-clause-one
@@ -26,12 +25,10 @@ returns-clause-offers g c =
     (rw (c.reserve_serial.ensures.algorithm_one, c.reserve_serial.ensures.algorithm_two, octets) at c.offer_reserved.ensures.offers))
 
 pub returns-in_err-reserve_all-clause-unchanged : goal.returns-in_err-reserve_all-clause-unchanged
-returns-in_err-reserve_all-clause-unchanged g c =
-    let old = world_state g.C.Cable.items g.C.Cable.limit c.args.self.now in
+returns-in_err-reserve_all-clause-unchanged g c = let old = world_state g.C.Cable.items g.C.Cable.limit c.args.self.now in
     stays_so c.from_residual-in_err-reserve_all.result _ old (ap (with_links old) c.reserve_all.ensures.same)
 
 pub returns-in_err-reserve_serial-clause-unchanged : goal.returns-in_err-reserve_serial-clause-unchanged
-returns-in_err-reserve_serial-clause-unchanged g c =
-    let old = world_state g.C.Cable.items g.C.Cable.limit c.args.self.now in
+returns-in_err-reserve_serial-clause-unchanged g c = let old = world_state g.C.Cable.items g.C.Cable.limit c.args.self.now in
     stays_so c.from_residual-in_err-reserve_serial.result (world_state g.C.Cable.items g.C.Cable.limit c.reserve_serial.new.self) old
     (c.reserve_serial.ensures.same ∙ ap (with_links old) c.reserve_all.ensures.same)

@@ -5,8 +5,7 @@ use Rattle.lagworld.proofs.OfferLemmas.{offers_of, long_enough, same_number, tak
 use Rattle.lagworld.proofs.inner.Inner.offer_reserved.Goals as goal
 
 pub returns-in-Err-clause-offers : goal.returns-in-Err-clause-offers
-returns-in-Err-clause-offers g c =
-    let mid = world_state g.C.Cable.items g.C.Cable.limit c.ask_offer.new.self in
+returns-in-Err-clause-offers g c = let mid = world_state g.C.Cable.items g.C.Cable.limit c.ask_offer.new.self in
     offers_of (algorithms_of g.F.Fn.post c.args.self.now.one.system.algorithm c.args.self.now.two.system.algorithm)
     (model_side c.args.side) c.args.agg c.args.octets.items c.ask_offer.result (Err c.in-Err.fault)
     (world_state g.C.Cable.items g.C.Cable.limit c.args.self.now) mid mid (reply.Refused c.in-Err.fault) c.in-Err.is
@@ -28,6 +27,5 @@ send_offered-requires-clause-conversation g c =
     c.requires.conversation (long_enough x.0) ∙ same_number c.args.octets.items old.state mid.state x.0.answers.conversations
 
 pub send_offered-requires-clause-there : goal.send_offered-requires-clause-there
-send_offered-requires-clause-there g c =
-    let x = rw (c.as_slice.ensures.value, c.in-Ok.is) at c.ask_offer.ensures.assigns in
+send_offered-requires-clause-there g c = let x = rw (c.as_slice.ensures.value, c.in-Ok.is) at c.ask_offer.ensures.assigns in
     taken_there x.0 (c.requires.sound.kept (model_side c.args.side)) c.args.conv c.requires.below

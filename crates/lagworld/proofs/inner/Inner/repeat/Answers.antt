@@ -4,8 +4,7 @@ use Rattle.lagworld.proofs.ArrivingLemmas.{repeat_does}
 use Rattle.lagworld.proofs.inner.Inner.repeat.Goals as goal
 
 pub returns-clause-repeats : goal.returns-clause-repeats
-returns-clause-repeats g c =
-    let items = g.C.Cable.items in
+returns-clause-repeats g c = let items = g.C.Cable.items in
     let limit = g.C.Cable.limit in
     let gives = algorithms_of g.F.Fn.post c.args.self.now.one.system.algorithm c.args.self.now.two.system.algorithm in
     let old = world_state items limit c.args.self.now in

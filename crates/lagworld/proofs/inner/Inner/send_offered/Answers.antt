@@ -4,16 +4,14 @@ use Rattle.lagworld.proofs.OfferLemmas.{any_reserved, frame_offered}
 use Rattle.lagworld.proofs.inner.Inner.send_offered.Goals as goal
 
 pub put_on_port-accepted-requires : goal.put_on_port-accepted-requires
-put_on_port-accepted-requires g c =
-    let ls = c.record_frame_sent-serial.new.self.links.items in
+put_on_port-accepted-requires g c = let ls = c.record_frame_sent-serial.new.self.links.items in
     any_reserved g.C.Cable.reserved (model_side c.args.side) ls
     (subst (λ v. AreReserved g.C.Cable.reserved (model_side c.args.side) v.items)
     (sym c.record_frame_sent-serial.ensures.links) c.requires.place)
     (link_index (model_side c.args.side) c.args.port (link_states g.C.Cable.items g.C.Cable.limit ls))
 
 pub returns-clause-offered : goal.returns-clause-offered
-returns-clause-offered g c =
-    let s = model_side c.args.side in
+returns-clause-offered g c = let s = model_side c.args.side in
     let old = world_state g.C.Cable.items g.C.Cable.limit c.args.self.now in
     let counted = world_state g.C.Cable.items g.C.Cable.limit c.record_frame_sent-serial.new.self in
     let links = link_states g.C.Cable.items g.C.Cable.limit c.put_on_port-accepted.new.links.items in

@@ -12,13 +12,11 @@ pub returns-in-Err-clause-carries : goal.returns-in-Err-clause-carries
 returns-in-Err-clause-carries g c = carries_of c.args.self.now.state c.alloc-alloc.ensures
 
 pub step-requires-clause-one : goal.step-requires-clause-one
-step-requires-clause-one g c =
-    subst (λ f. PicksIndexes (λ conv count. g.F.Fn.pre f (conv, (count, tt))) (gives_of g.F.Fn.post f))
+step-requires-clause-one g c = subst (λ f. PicksIndexes (λ conv count. g.F.Fn.pre f (conv, (count, tt))) (gives_of g.F.Fn.post f))
     (sym c.loop-done.invariant.one) c.requires.one
 
 pub step-requires-clause-two : goal.step-requires-clause-two
-step-requires-clause-two g c =
-    subst (λ f. PicksIndexes (λ conv count. g.F.Fn.pre f (conv, (count, tt))) (gives_of g.F.Fn.post f))
+step-requires-clause-two g c = subst (λ f. PicksIndexes (λ conv count. g.F.Fn.pre f (conv, (count, tt))) (gives_of g.F.Fn.post f))
     (sym c.loop-done.invariant.two) c.requires.two
 
 pub returns-in-Err-step-clause-stopped : goal.returns-in-Err-step-clause-stopped
@@ -50,8 +48,7 @@ pub returns-in-Err-step-clause-carries : goal.returns-in-Err-step-clause-carries
 returns-in-Err-step-clause-carries g c = carries_of c.step.new.self.state c.step.ensures.sound
 
 pub loop-done-preserved : goal.loop-done-preserved
-loop-done-preserved g c =
-    let old = c.args.self.now.state in
+loop-done-preserved g c = let old = c.args.self.now.state in
     let mid = c.loop-done.self.state in
     let new = c.step.new.self.state in
     let es = c.args.events.now in

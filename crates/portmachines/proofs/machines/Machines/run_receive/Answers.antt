@@ -6,8 +6,7 @@ pub loop-init : goal.loop-init
 loop-init c = (0, refl)
 
 pub loop-preserved : goal.loop-preserved
-loop-preserved c =
-    let run = c.loop.invariant in
+loop-preserved c = let run = c.loop.invariant in
     (run.0 + 1, Reaches-more receive_rows run.0 c.args.self.now c.loop.self c.fire_receive.new.self run.1 c.loop-test.ensures.fired)
 
 pub returns : goal.returns

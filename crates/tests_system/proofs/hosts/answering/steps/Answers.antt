@@ -4,9 +4,7 @@ use Rattle.tests_system.proofs.hosts.answering.steps.Goals as goal
 
 -- the system has the algorithm that it had at first
 pub step-requires : goal.step-requires
-step-requires g c =
-    record {
-      usable =
-          subst (λ f. PicksIndexes (λ conv count. g.F.Fn.pre f (conv, (count, tt)))
-          (λ conv count place. g.F.Fn.post f (conv, (count, tt)) place)) (sym c.loop-row.invariant) c.requires.usable;
-    }
+step-requires g c = record {
+  usable = subst (λ f. PicksIndexes (λ conv count. g.F.Fn.pre f (conv, (count, tt)))
+      (λ conv count place. g.F.Fn.post f (conv, (count, tt)) place)) (sym c.loop-row.invariant) c.requires.usable;
+}
