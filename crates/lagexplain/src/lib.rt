@@ -11,12 +11,8 @@ mod laws;
 mod names;
 mod ports;
 mod subject_text;
-#[cfg(test)]
-mod tests;
 mod text_places;
 mod values;
-#[cfg(test)]
-mod wider_tests;
 mod words;
 
 pub use explaining::explain;
