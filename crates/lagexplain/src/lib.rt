@@ -11,8 +11,12 @@ mod laws;
 mod names;
 mod ports;
 mod subject_text;
+#[cfg(test)]
+mod tests;
 mod text_places;
 mod values;
+#[cfg(test)]
+mod wider_tests;
 mod words;
 
 pub use explaining::explain;

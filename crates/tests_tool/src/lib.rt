@@ -1,4 +1,4 @@
-//! Tests of `lagstreams`, `lagexplain` and `lagtool_jobs`: they make public calls, and compare the results with values from IEEE 802.1AX-2014,
+//! Tests of `lagstreams` and `lagtool_jobs`: they make public calls, and compare the results with values from IEEE 802.1AX-2014,
 //! docs/PROFILE.md and docs/COMMAND.md. They are a crate of their own, so that those need not be proved again together with
 //! their tests.
 #![tactic(auto)]
@@ -24,8 +24,6 @@ mod pieces;
 #[cfg(test)]
 mod replays;
 #[cfg(test)]
-mod script_mistakes;
-#[cfg(test)]
 mod slow;
 #[cfg(test)]
 mod streams;
@@ -35,7 +33,5 @@ mod telling;
 mod texts;
 #[cfg(test)]
 mod watching;
-#[cfg(test)]
-mod wide_scripts;
 #[cfg(test)]
 mod wrong_answers;

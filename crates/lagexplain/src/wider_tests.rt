@@ -1,6 +1,6 @@
 //! Scripts of two ports and of more than one cable, and values and entries that are long.
 
-use crate::script_mistakes::{Typo, check, explained};
+use crate::tests::{Typo, check, explained};
 use std::alloc::{AllocError, Global};
 use std::process::Abort;
 use std::test::Fail;

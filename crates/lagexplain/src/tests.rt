@@ -1,7 +1,7 @@
-//! Why a text is no script, in words for who wrote it.
-
-use lagexplain::{Place, explain, place_of};
-use lagscript::{EntryFault, ScriptFault, read_plan};
+use crate::explaining::explain;
+use crate::text_places::{Place, place_of};
+use crate::words::first_wrong;
+use lagscript::{EntryFault, ScriptFault, WordKind, read_plan};
 use std::alloc::{AllocError, Global};
 use std::process::Abort;
 use std::test::Fail;
@@ -474,6 +474,16 @@ fn texts_that_are_no_toml(rt: HostRuntime) -> Result<(), Fail> {
         assert!(rt; seen.as_str().starts_with(wanted.as_str()), "{new}: {seen}");
         assert!(rt; seen.len() > wanted.len(), "{new}: {seen}");
     }
+    Ok(())
+}
+
+#[test]
+fn a_word_without_a_kind_is_not_wrong(rt: HostRuntime) -> Result<(), Fail> {
+    let alloc = rt.alloc();
+    let kinds = [WordKind::System, WordKind::Cable];
+    assert_eq!(rt; first_wrong(alloc, 3, &kinds, &["2", "3", "x"])?, None);
+    assert_eq!(rt; first_wrong(alloc, 3, &kinds, &["2", "4", "x"])?, Some(1));
+    assert_eq!(rt; first_wrong(alloc, 3, &kinds, &["3", "4", "x"])?, Some(0));
     Ok(())
 }
 
