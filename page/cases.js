@@ -178,11 +178,21 @@ function ofOneWay({ at }) {
         + "a bridge or switch between drops LACPDUs. A card may keep them for an LLDP or LACP agent of its own: turn that off, and capture again." };
 }
 
+/* Whether a link of these systems, whose ends are both heard and none of which is an end or a partner of this one's ends, does not carry. */
+function hasBeside(link, bundles) {
+    const parties = link.ends.filter((it) => it?.last).flatMap(({ last: { actor, partner } }) => [actor, partner]), links = bundles.flatMap((it) => it.links);
+    const isHere = ({ system, port }) => parties.some((it) => it.system === system && it.port === port);
+    return links.some(({ ends, isPast, carries }) => !isPast && !carries && ends.every((it) => it?.last && !isHere(it.last.actor)) && ends.some((it) => parties.some(({ system }) => system === it.system)));
+}
+
+const DELAYS = "A port that hears two in turn begins anew each time, and ports of its aggregator that are not up yet wait for it: take this link out of its bundle first.";
+
 /* A third system that ended before the partner of now began is the partner of before. Two ends of one system are told as that (rule 30). */
-function ofThird({ at, rule }, { link, records }) {
+function ofThird({ at, rule, advice }, { link, bundles, records }) {
     if (rule === 16 && isOfOneSystem(link)) return { isEffect: true };
     const others = othersBeside(link, at, records), ends = link.ends.filter(Boolean), began = Math.max(...ends.map((it) => it.record?.first ?? -Infinity));
-    return others.length && others.every((it) => it.record && it.record.last < began) ? { isEffect: true, title: "another system answers than before" } : {};
+    if (others.length && others.every((it) => it.record && it.record.last < began)) return { isEffect: true, title: "another system answers than before" };
+    return hasBeside(link, bundles) ? { advice: `${advice} ${DELAYS}` } : {};
 }
 
 /* Whether both ends of a link have one system. */

@@ -8,6 +8,7 @@ import os
 import subprocess
 import tarfile
 
+import made
 from repository import TOP
 from stored import Tests
 
@@ -54,12 +55,25 @@ BUNDLES = {
 }  # fmt: skip
 
 
+def explained(*files: str) -> str:
+    return subprocess.run([os.path.join(TOP, "tools", "lagtool"), "explain", *files], capture_output=True, text=True).stdout
+
+
+def of_two_in_turn(tests: Tests, folder: str) -> None:
+    """A port hears two ports of its partner in turn: whether another link of these systems does not carry, which may wait for it."""
+    path, (near, far) = os.path.join(folder, "in-turn.pcap"), made.one_link(made.FAST_DOWN, port=2)
+    for state, waits in (made.FAST_DOWN, True), (made.FAST, False):
+        made.capture(path, made.exchange(*made.one_link(state), range(30)), made.exchange(near, far, made.at(0.1, 30)), made.sends(far._replace(port=5), near, made.at(0.6, 30)))
+        tests.same(f"two ports in turn, beside a link in state {state:#x}", "not up yet wait for it: take this link out" in explained(path), waits)
+
+
 def of_bundles(tests: Tests, folder: str) -> None:
     """Each bundle, explained as text."""
+    of_two_in_turn(tests, folder)
     with tarfile.open(CAPTURES) as it:
         it.extractall(folder)
     for name, (done, headline, seen) in BUNDLES.items():
         files = sorted(glob.glob(os.path.join(folder, name, "*.pcap")))
-        said = subprocess.run([os.path.join(TOP, "tools", "lagtool"), "explain", *files], capture_output=True, text=True).stdout
+        said = explained(*files)
         tests.same(f"{name}: {done}", said.partition("\n")[0], headline)
         tests.told(f"{name}: where", "" if seen in said else f"{seen!r} is not in {said[:600]!r}")
