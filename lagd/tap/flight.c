@@ -54,14 +54,16 @@ static void watch_conversation(struct tap_plane *tap, uint16_t number, uint64_t 
     struct conversation *conversation = &tap->carry->conversations[number];
     struct niw_assignment state;
     uint64_t came, longest = tap->settings->flight + 1000u;
-    while (oldest_held(tap, number, &came) && tap->carry->time - came >= longest && drop_held(tap, number, HELD_TOO_LONG)) continue;
+    while (oldest_held(tap->process, &tap->held, number, &came) && tap->carry->time - came >= longest
+        && drop_held(tap->process, &tap->held, number))
+        tap->carry->counts[HELD_TOO_LONG]++;
     if (conversation->used) conversation->last = tap->carry->time;
     conversation->used = false;
     if (conversation->home == 0 || !ask_state(tap->protocol, conversation->home, number, &state)) return;
     bool away = conversation->home != tap->carry->active && tap->carry->active != 0 && state.what == NIW_CONVERSATION_ON;
     if (state.what == NIW_CONVERSATION_FLUSHING && state.age > 0 && state.age % AGAIN_TICKS == 0)
         *again |= (uint64_t)1 << (state.port - 1);
-    if (is_held(&state) || (away && !none_held(tap, number))) {
+    if (is_held(&state) || (away && !none_held(tap->process, &tap->held, number))) {
         watch_held(tap->carry, conversation, number, &state);
         return;
     }

@@ -453,7 +453,7 @@ void keep_from_stack(struct tap_plane *tap, const struct link *link, struct guar
 void run_fast_programs(struct tap_plane *tap, const struct link *link, struct guard *guard) {
     guard->unusual = guard->spread && !choose_usual_queues(tap, guard);
     const char *fault = try_fast(link, guard);
-    if (!fault) guard->opened = open_fast_receiver(tap, link);
+    if (!fault) guard->opened = open_fast_receiver(&tap->process->store, &tap->fast, tap->ports, link);
     guard->fast = guard->opened >= 0;
     if (guard->fast) return;
     if (!is_unqueued(link)) /* it is looked at again then */

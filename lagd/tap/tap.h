@@ -127,7 +127,8 @@ struct held {
     } small, large;
     uint32_t leaving; /* the first of those that are in use until they were sent */
     struct niw_queue queues;
-    size_t octets; /* of all slots, while the queues are there */
+    size_t octets;  /* of all slots, while the queues are there */
+    bool any_waits; /* false only where no frame waits */
 };
 
 /* The programs of the kernel, and the tables that they share with the daemon. */
@@ -287,21 +288,21 @@ const char *program_fault(void);
 
 /* fast.c */
 extern const struct passing BY_KERNEL;
-int open_fast_receiver(struct tap_plane *tap, const struct link *link);
+int open_fast_receiver(struct store *store, struct fast_programs *own, const struct ports *ports, const struct link *wanted);
 void close_fast_receiver(struct fast_programs *own, const struct link *link);
 int fast_member_of(const struct plane *plane, uint16_t number);
 
 /* held.c */
 void start_held(struct process *process, struct held *own);
 void end_held(struct process *process, struct held *own);
-bool count_held(struct tap_plane *tap, uint16_t number, uint64_t *waiting) MUST_USE;
-bool none_held(struct tap_plane *tap, uint16_t number);
-bool count_all_held(struct tap_plane *tap, uint64_t *waiting) MUST_USE;
+bool count_held(struct process *process, struct held *own, uint16_t number, uint64_t *waiting) MUST_USE;
+bool none_held(struct process *process, struct held *own, uint16_t number);
+bool count_all_held(struct process *process, struct held *own, uint64_t *waiting) MUST_USE;
 unsigned count_frames_waiting(struct plane *plane);
-bool oldest_held(struct tap_plane *tap, uint16_t number, uint64_t *came);
-bool put_held(struct tap_plane *tap, uint16_t number, const uint8_t *packet, size_t length);
-bool drop_held(struct tap_plane *tap, uint16_t number, enum carry_count why);
-uint8_t *remove_held(struct tap_plane *tap, uint16_t number, size_t *length);
+bool oldest_held(struct process *process, struct held *own, uint16_t number, uint64_t *came);
+bool put_held(struct process *process, struct held *own, uint16_t number, uint64_t came, const uint8_t *packet, size_t length);
+bool drop_held(struct process *process, struct held *own, uint16_t number) MUST_USE;
+uint8_t *remove_held(struct process *process, struct held *own, uint16_t number, size_t *length);
 void free_left(struct held *own);
 
 #endif
