@@ -20,8 +20,9 @@ static bool wait_for_programs(void) {
 }
 
 static int load_or_stop(const struct settings *settings, const char *name, const struct fast_maps *maps) {
-    int program = load_program(settings, name, maps);
-    if (program < 0) stop(REFUSED, "fast: the kernel takes no program", program_fault());
+    char reason[REASON_ROOM];
+    int program = load_program(settings, name, maps, reason);
+    if (program < 0) stop(REFUSED, "fast: the kernel takes no program", reason);
     return program;
 }
 

@@ -165,11 +165,11 @@ void open_tap_plane(struct plane *plane) {
     own->rooms = make_rooms();
     start_held(tap->process, &tap->held);
     tap->rooms = make_rooms();
-    tap->dropper = load_program(tap->settings, "dropper", NULL);
+    tap->dropper = load_program(tap->settings, "dropper", NULL, NULL);
     CALL(plane->queueing->start, tap);
     need(on_exit(put_back_members, tap) == 0, "on_exit");
     own->tap = open_tap(tap->device, tap->settings->carry, tap->settings->config.mac);
-    gather(tap->process, tap->device->index);
+    stop_device_rps(tap->process, tap->device->index);
     CALL(plane->passing->start, tap);
     if (!await_input(tap->process->epoll_file, own->tap, HOST)) stop(REFUSED, "epoll", strerror(errno));
 }

@@ -47,8 +47,8 @@ void set_identifier(uint8_t *frame, uint32_t id) {
 }
 
 /* Sends the marker of a flight by each queue that has no response yet; answers whether all went. */
-static bool send_flight(struct tap_plane *tap, struct link *link, const uint8_t *marker, const struct flight *flight) {
-    struct queues *queues = &tap->queues[link->settings.number - 1];
+static bool send_flight(struct process *process, const struct member *member, struct link *link, struct queues *queues, const struct flight *flight,
+    const uint8_t *marker) {
     uint8_t frame[NIW_FRAME];
     bool done = true;
     memcpy(frame, marker, sizeof frame);
@@ -57,7 +57,7 @@ static bool send_flight(struct tap_plane *tap, struct link *link, const uint8_t 
         if (!(flight->waiting >> queue & 1)) continue;
         set_identifier(frame, (flight->id & IDENTIFIER_BITS) | (uint32_t)queue << QUEUE_SHIFT);
         mark_queue(queues, queue, &message);
-        done = give_marker(tap, link, frame, &message) && done;
+        done = give_marker(process, member, link, frame, &message) && done;
     }
     return done;
 }
@@ -87,32 +87,32 @@ static uint32_t recount_unanswered(const struct member *member, int index, struc
     return found != 0 ? found : 1;
 }
 
-/* Sends again what has no response, of each marker that may still get one; answers whether all of it went. */
-static bool send_again_by_queues(struct tap_plane *tap, struct link *link, const uint8_t *marker) {
-    struct queues *queues = &tap->queues[link->settings.number - 1];
-    bool done = true;
+/* The queues of a flight that is too old for a response have frames of which nothing tells. */
+static void end_old_flights(struct queues *queues, uint64_t time) {
     for (size_t i = 0; i < MOST_FLIGHTS; i++) {
         struct flight *flight = &queues->flights[i];
-        if (flight->waiting != 0 && tap->carry->time - flight->since > LONGEST_FLIGHT) {
-            queues->dirty |= flight->waiting;
-            flight->waiting = 0;
-        }
-        if (flight->waiting != 0) done = send_flight(tap, link, marker, flight) && done;
+        if (flight->waiting == 0 || time - flight->since <= LONGEST_FLIGHT) continue;
+        queues->dirty |= flight->waiting;
+        flight->waiting = 0;
     }
-    return done;
 }
 
-/* Sends a marker by each queue that may have frames before it, or again by those that have no response; answers whether all of it went. */
+/* Sends a marker by each queue that may have frames before it, or each that may still get a response again by those that have none; answers whether all
+ * of it went. */
 bool send_by_queues(struct tap_plane *tap, struct link *link, const uint8_t *marker, bool again) {
-    uint16_t port = link->settings.number;
-    struct queues *queues = &tap->queues[port - 1];
-    if (again) return send_again_by_queues(tap, link, marker);
-    uint32_t waiting = recount_unanswered(&tap->members[port - 1], link->index, queues);
-    struct flight flight = {read32(marker + IDENTIFIER_AT), waiting, tap->carry->time, queues->sent++};
-    struct flight *place = next_flight(queues);
-    queues->dirty = 0;
-    *place = flight;
-    return send_flight(tap, link, marker, place);
+    const struct member *member = &tap->members[link->settings.number - 1];
+    struct queues *queues = &tap->queues[link->settings.number - 1];
+    bool done = true;
+    if (!again) {
+        uint32_t waiting = recount_unanswered(member, link->index, queues);
+        struct flight *place = next_flight(queues);
+        *place = (struct flight){read32(marker + IDENTIFIER_AT), waiting, tap->carry->time, queues->sent++};
+        queues->dirty = 0;
+        return send_flight(tap->process, member, link, queues, place, marker);
+    }
+    end_old_flights(queues, tap->carry->time);
+    for (size_t i = 0; i < MOST_FLIGHTS; i++) done = send_flight(tap->process, member, link, queues, &queues->flights[i], marker) && done;
+    return done;
 }
 
 /* A response to the marker of a queue came: answers whether it is the last one that was missing, and gives back the identifier of the library. */

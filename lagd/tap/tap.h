@@ -184,7 +184,7 @@ bool send_by_queues(struct tap_plane *tap, struct link *link, const uint8_t *mar
 /* answers.c: responses to markers that wait */
 bool answer_at_once(struct tap_plane *tap, struct link *link, const uint8_t *response);
 bool answer_later(struct tap_plane *tap, struct link *link, const uint8_t *response);
-void start_answers(struct tap_plane *tap);
+int open_answer_timer(int epoll_file);
 void serve_answers(struct tap_plane *tap);
 void note_unread(struct answers *answers, unsigned packets, bool drained);
 
@@ -210,8 +210,8 @@ bool give_host(const struct tap_plane *tap, const struct iovec *parts, unsigned 
 /* traffic.c: queueing disciplines and classifiers of members */
 bool keeps_order(const char *discipline);
 bool read_discipline(int index, char name[static DISCIPLINE_ROOM]);
-bool have_order(int index);
-bool may_have_order(int index);
+bool all_keep_order(int index);
+bool may_all_keep_order(int index);
 bool give_each_fifo(int index, unsigned queues, uint32_t megabits);
 void fit_each_fifo(int index, unsigned queues, uint32_t megabits);
 void drop_fifo(int index);
@@ -221,26 +221,26 @@ void drop_classifier(int index);
 
 /* guard.c */
 unsigned count_sending_queues(int index);
-void gather(struct process *process, int index);
+void stop_device_rps(struct process *process, int index);
 void start_all_queues(struct tap_plane *tap);
-bool choose_usual_queues(struct tap_plane *tap, const struct guard *guard);
-bool is_spread_anew(uint64_t seconds, const struct link *link, const struct guard *guard);
-void move_former(struct process *process, struct link *link, const uint8_t *mac);
+bool choose_usual_queues(unsigned *usual, const struct member *members, uint16_t count, unsigned queues);
+bool is_changed_by_others(uint64_t seconds, const struct link *link, const struct guard *guard);
+void move_kept_queues(struct process *process, struct link *link, const uint8_t *mac);
 void open_guard(struct tap_plane *tap, struct link *link, struct guard *guard);
 void keep_from_stack(struct tap_plane *tap, const struct link *link, struct guard *guard);
 void run_fast_programs(struct tap_plane *tap, const struct link *link, struct guard *guard);
-bool join_queues(struct tap_plane *tap, struct link *link, struct guard *guard, bool again);
-bool keep_queues(struct tap_plane *tap, struct link *link, struct guard *guard, bool again);
-void look_at_discipline(struct tap_plane *tap, struct link *link, struct guard *guard);
+bool set_one_queue(struct tap_plane *tap, struct link *link, struct guard *guard, bool again);
+bool set_all_queues(struct tap_plane *tap, struct link *link, struct guard *guard, bool again);
+void look_at_discipline(struct process *process, const struct plane *plane, struct link *link, struct guard *guard);
 void reopen_guard(struct tap_plane *tap, struct link *link, struct guard *guard);
-void close_guard(struct tap_plane *tap, const struct link *link, struct guard *guard);
-void put_back(struct tap_plane *tap, const struct inherited_link *was);
+void close_guard(struct process *process, struct fast_programs *fast, const struct link *link, struct guard *guard);
+void put_back_former(struct process *process, struct fast_programs *fast, const struct inherited_link *was);
 
 /* members.c */
 extern const struct carrying TAP_DEVICE;
 extern const struct queueing ONE_QUEUE, ALL_QUEUES;
 void send_new_marker(struct plane *plane, struct link *link, const uint8_t *frame);
-bool give_marker(struct tap_plane *tap, struct link *link, const uint8_t *marker, struct msghdr *message);
+bool give_marker(struct process *process, const struct member *member, struct link *link, const uint8_t *marker, struct msghdr *message);
 unsigned member_queues(const struct member *member);
 void put_back_members(int status, void *given);
 bool is_fast(const struct member *member);
@@ -280,11 +280,11 @@ void put_host(struct tap_plane *tap, uint8_t *packet, size_t length);
 void flush_host(struct tap_plane *tap);
 
 /* programs.c: what the kernel runs for frames */
+#define REASON_ROOM 160 /* of why the kernel does not take a program */
 struct fast_maps {
     int rows, members, host, places;
 };
-int load_program(const struct settings *settings, const char *name, const struct fast_maps *maps);
-const char *program_fault(void);
+int load_program(const struct settings *settings, const char *name, const struct fast_maps *maps, char *reason);
 
 /* fast.c */
 extern const struct passing BY_KERNEL;
