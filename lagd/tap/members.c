@@ -65,7 +65,7 @@ static bool filter_marked(int fd, uint16_t port) {
     return attach_filter(fd, code, sizeof code / sizeof code[0]);
 }
 
-static void enlarge_buffer(int fd, int forced, int plain) {
+static void set_buffer(int fd, int forced, int plain) {
     if (setsockopt(fd, SOL_SOCKET, forced, &(int){SOCKET_ROOM}, sizeof(int)) < 0)
         (void)setsockopt(fd, SOL_SOCKET, plain, &(int){SOCKET_ROOM}, sizeof(int));
 }
@@ -83,8 +83,8 @@ static bool set_bypass(int fd, const struct guard *guard) {
 /* What the socket for data has more: room, frames to all addresses, and a head before each frame. */
 static bool set_up_data(int fd, int index, const struct guard *guard) {
     struct packet_mreq all = {index, PACKET_MR_PROMISC, 0, {0}};
-    enlarge_buffer(fd, SO_RCVBUFFORCE, SO_RCVBUF);
-    enlarge_buffer(fd, SO_SNDBUFFORCE, SO_SNDBUF);
+    set_buffer(fd, SO_RCVBUFFORCE, SO_RCVBUF);
+    set_buffer(fd, SO_SNDBUFFORCE, SO_SNDBUF);
     return set_bypass(fd, guard) && set_packet(fd, PACKET_VNET_HDR, 1) && setsockopt(fd, SOL_PACKET, PACKET_ADD_MEMBERSHIP, &all, sizeof all) == 0;
 }
 
@@ -146,7 +146,7 @@ static int open_member(struct plane *plane, struct link *link) {
 }
 
 /* Frames that came while the socket was full. */
-static void count_loss(struct member *member) {
+static void count_socket_losses(struct member *member) {
     struct tpacket_stats stats = {0};
     socklen_t length = sizeof stats;
     if (is_open(member) && getsockopt(member->sockets[DATA], SOL_PACKET, PACKET_STATISTICS, &stats, &length) == 0)
@@ -157,7 +157,7 @@ static void count_loss(struct member *member) {
 static bool renew_member(struct tap_plane *tap, struct link *link) {
     struct member *member = member_of(tap, link);
     CALL(tap->plane->passing->withdraw_port, tap, link->settings.number);
-    count_loss(member);
+    count_socket_losses(member);
     close_sockets(&tap->process->store, link, member);
     reopen_guard(tap, link, &member->guard);
     tap->plane->changed = true;
@@ -229,7 +229,7 @@ bool is_fast(const struct member *member) {
 }
 
 void count_full_sockets(struct member *members, uint16_t count) {
-    for (uint16_t i = 0; i < count; i++) count_loss(&members[i]);
+    for (uint16_t i = 0; i < count; i++) count_socket_losses(&members[i]);
 }
 
 static void close_member(struct plane *plane, const struct link *link) {
@@ -237,7 +237,7 @@ static void close_member(struct plane *plane, const struct link *link) {
     struct member *member = member_of(tap, link);
     if (!is_open(member)) return;
     lose_data(plane, link);
-    count_loss(member);
+    count_socket_losses(member);
     release_member(tap->process, &tap->fast, link, member);
 }
 
@@ -277,9 +277,9 @@ static void follow_speed(struct plane *plane, const struct link *link) {
 }
 
 /* How fast the ports that carry are together, in Mb/s. One whose speed is not known counts nothing; where none is, that is SPEED_UNKNOWN. */
-uint32_t sum_speeds(const struct tap_plane *tap) {
+uint32_t sum_speeds(const struct carry *carry, const struct member *members) {
     uint64_t sum = 0;
-    for (uint16_t i = 0; i < tap->carry->active_count; i++) sum += tap->members[tap->carry->active_ports[i] - 1].megabits;
+    for (uint16_t i = 0; i < carry->active_count; i++) sum += members[carry->active_ports[i] - 1].megabits;
     if (sum == 0) return (uint32_t)SPEED_UNKNOWN;
     return sum < INT32_MAX ? (uint32_t)sum : INT32_MAX;
 }
@@ -307,7 +307,7 @@ void put_data(struct tap_plane *tap, uint16_t port, uint16_t number, uint8_t *pa
     if (member->out == BATCH) flush_member(&tap->protocol->changes, member);
     member->parts[member->out] = (struct iovec){packet, length};
     member->messages[member->out].msg_hdr = (struct msghdr){.msg_iov = &member->parts[member->out], .msg_iovlen = 1};
-    CALL(tap->plane->queueing->mark, tap, port, number, &member->messages[member->out].msg_hdr);
+    CALL(tap->plane->queueing->mark, &tap->queues[port - 1], number, &member->messages[member->out].msg_hdr);
     member->out++;
 }
 
@@ -370,13 +370,13 @@ static void accept_response_of_queue(struct tap_plane *tap, struct link *link, c
 }
 
 /* Hands a frame of data to the library, and up. */
-static void deliver(struct tap_plane *tap, const struct link *link, uint8_t *packet, size_t length) {
+static void accept_data(struct tap_plane *tap, const struct link *link, uint8_t *packet, size_t length) {
     const uint8_t *frame = packet + head_octets();
     uint8_t response[NIW_FRAME];
     size_t shown = length - head_octets() < LONGEST_SHOWN ? length - head_octets() : LONGEST_SHOWN;
     struct niw_received received = niw_receive(&tap->protocol->own_system, link->settings.number, frame, shown, response, sizeof response);
     if (is_done(tap->process, received.status, "niw_receive") && received.what == NIW_RECEIVED_HANDED_UP)
-        hand_up(tap, received.number, packet, length);
+        hand_up_frame(tap, received.number, packet, length);
     else
         member_of(tap, link)->counts[UNCOLLECTED]++;
 }
@@ -409,7 +409,7 @@ static void accept_packet(struct tap_plane *tap, struct link *link, struct mmsgh
     if (message->msg_hdr.msg_flags & MSG_TRUNC || !has_right_length(packet, length, member->mtu != 0 ? member->mtu : ETH_DATA_LEN))
         member->counts[WRONG_LENGTH]++;
     else
-        deliver(tap, link, packet, length);
+        accept_data(tap, link, packet, length);
 }
 
 /* Takes the packets that wait in a socket of a member, some at most. What the kernel tells of links comes before them: what was sent after

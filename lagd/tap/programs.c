@@ -29,26 +29,26 @@ static void copy_last(char reason[static REASON_ROOM], char *log) {
 }
 
 /* Has the programs use a table of the daemon, or none. */
-static bool share_map(struct bpf_map *map, const int *table) {
+static bool reuse_map(struct bpf_map *map, const int *table) {
     return (table ? bpf_map__reuse_fd(map, *table) : bpf_map__set_autocreate(map, false)) == 0;
 }
 
 /* Says which program is loaded, what it has of the settings, and its tables, if it has some; answers whether all of it can be. */
-static bool prepare(const struct settings *settings, struct programs *made, const char *name, const struct fast_maps *maps) {
+static bool prepare_programs(const struct settings *settings, struct programs *made, const char *name, const struct fast_maps *maps) {
     struct bpf_program *program;
     bpf_object__for_each_program(program, made->obj) (void)bpf_program__set_autoload(program, strcmp(bpf_program__name(program), name) == 0);
     made->rodata->way = settings->hash;
     made->rodata->hash_seed = settings->hash_seed;
     made->rodata->all_queues = settings->all_queues;
-    return share_map(made->maps.rows, maps ? &maps->rows : NULL) && share_map(made->maps.members, maps ? &maps->members : NULL)
-        && share_map(made->maps.hosts, maps ? &maps->host : NULL) && share_map(made->maps.places, maps ? &maps->places : NULL);
+    return reuse_map(made->maps.rows, maps ? &maps->rows : NULL) && reuse_map(made->maps.members, maps ? &maps->members : NULL)
+        && reuse_map(made->maps.hosts, maps ? &maps->host : NULL) && reuse_map(made->maps.places, maps ? &maps->places : NULL);
 }
 
 static int load_with_log(const struct settings *settings, const char *name, const struct fast_maps *maps, char *log) {
     const struct bpf_object_open_opts options = {.sz = sizeof options, .kernel_log_buf = log, .kernel_log_size = LOG_ROOM};
     struct programs *made = programs__open_opts(&options);
     int loaded = -1;
-    if (made && prepare(settings, made, name, maps) && programs__load(made) == 0)
+    if (made && prepare_programs(settings, made, name, maps) && programs__load(made) == 0)
         loaded = fcntl(bpf_program__fd(bpf_object__find_program_by_name(made->obj, name)), F_DUPFD_CLOEXEC, 0);
     if (loaded < 0) loaded = last_fault();
     programs__destroy(made);

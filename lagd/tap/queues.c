@@ -9,20 +9,20 @@
 #define IDENTIFIER_BITS ((1u << QUEUE_SHIFT) - 1)
 #define LONGEST_FLIGHT 3500
 
-static uint32_t all_of(unsigned count) {
+static uint32_t bits_of_queues(unsigned count) {
     return (1u << count) - 1;
 }
 
 /* A member is taken up: nobody knows what its queues have. */
 void begin_queues(struct queues *queues, unsigned count) {
     queues->count = count;
-    queues->dirty = all_of(count);
+    queues->dirty = bits_of_queues(count);
     for (size_t i = 0; i < MOST_FLIGHTS; i++)
-        if (queues->flights[i].waiting != 0) queues->flights[i].waiting = all_of(count);
+        if (queues->flights[i].waiting != 0) queues->flights[i].waiting = bits_of_queues(count);
 }
 
 /* Has a frame go by a queue of a member, if there are several. */
-static void mark_queue(struct queues *queues, unsigned queue, struct msghdr *message) {
+static void set_mark(struct queues *queues, unsigned queue, struct msghdr *message) {
     uint32_t mark = QUEUE_MARK | (queue + 1);
     if (queues->count < 2) return;
     message->msg_control = queues->marks[queue];
@@ -35,11 +35,10 @@ static void mark_queue(struct queues *queues, unsigned queue, struct msghdr *mes
 }
 
 /* Has a frame of a conversation go by its queue, as the programs of the kernel have it. */
-void mark_conversation(struct tap_plane *tap, uint16_t port, uint16_t number, struct msghdr *message) {
-    struct queues *queues = &tap->queues[port - 1];
+void mark_conversation(struct queues *queues, uint16_t number, struct msghdr *message) {
     unsigned queue = number % MOST_QUEUES % queues->count;
     queues->dirty |= 1u << queue;
-    mark_queue(queues, queue, message);
+    set_mark(queues, queue, message);
 }
 
 void set_identifier(uint8_t *frame, uint32_t id) {
@@ -56,7 +55,7 @@ static bool send_flight(struct process *process, const struct member *member, st
         struct msghdr message = {0};
         if (!(flight->waiting >> queue & 1)) continue;
         set_identifier(frame, (flight->id & IDENTIFIER_BITS) | (uint32_t)queue << QUEUE_SHIFT);
-        mark_queue(queues, queue, &message);
+        set_mark(queues, queue, &message);
         done = give_marker(process, member, link, frame, &message) && done;
     }
     return done;
@@ -82,7 +81,7 @@ static uint32_t recount_unanswered(const struct member *member, int index, struc
         unsigned now = count_sending_queues(index);
         if (now > MOST_QUEUES) now = MOST_QUEUES;
         if (now > queues->count && queues->count > 1) queues->count = now;
-        found = all_of(queues->count);
+        found = bits_of_queues(queues->count);
     }
     return found != 0 ? found : 1;
 }

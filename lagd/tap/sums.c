@@ -2,7 +2,7 @@
 #include "tap.h"
 
 /* Adds octets as words of this processor, whose order does not matter to the sum. */
-uint64_t add_octets(uint64_t sum, const uint8_t *octets, size_t length) {
+uint64_t add_to_sum(uint64_t sum, const uint8_t *octets, size_t length) {
     uint64_t words[4], low = 0, high = 0;
     uint16_t word;
     for (; length >= sizeof words; octets += sizeof words, length -= sizeof words) {
@@ -22,14 +22,14 @@ uint64_t add_octets(uint64_t sum, const uint8_t *octets, size_t length) {
     return sum + word;
 }
 
-uint16_t fold(uint64_t sum) {
+uint16_t fold_sum(uint64_t sum) {
     while (sum > UINT16_MAX) sum = (sum & UINT16_MAX) + (sum >> 16);
     return (uint16_t)sum;
 }
 
 /* Puts the checksum of octets into a field of them, which has the sum of what else is to be added. */
 void put_sum(uint8_t *octets, size_t length, size_t field) {
-    uint16_t sum = (uint16_t)~fold(add_octets(0, octets, length));
+    uint16_t sum = (uint16_t)~fold_sum(add_to_sum(0, octets, length));
     if (sum == 0) sum = UINT16_MAX; /* the same number; with 0 a datagram of UDP has no checksum */
     memcpy(octets + field, &sum, sizeof sum);
 }

@@ -65,7 +65,7 @@ struct queues {
         uint64_t place; /* which one it is of all that were sent */
     } flights[MOST_FLIGHTS];
     uint64_t sent; /* markers */
-    _Alignas(struct cmsghdr) uint8_t marks[MOST_QUEUES][CMSG_SPACE(sizeof(uint32_t))]; /* of mark_queue */
+    _Alignas(struct cmsghdr) uint8_t marks[MOST_QUEUES][CMSG_SPACE(sizeof(uint32_t))]; /* of set_mark */
 };
 
 /* The most responses that wait for a port. */
@@ -166,7 +166,7 @@ void tell_speed_and_carrier(struct plane *plane);
 void settle_frames(struct plane *plane);
 void pass_tick_of_frames(struct plane *plane);
 void accept_from_host(struct tap_plane *tap, uint8_t *packet, size_t length);
-void hand_up(struct tap_plane *tap, uint32_t aggregator, uint8_t *packet, size_t length);
+void hand_up_frame(struct tap_plane *tap, uint32_t aggregator, uint8_t *packet, size_t length);
 
 /* probe.c */
 void pass_probe_tick(struct tap_plane *tap);
@@ -178,7 +178,7 @@ void pass_flight_tick(struct tap_plane *tap);
 bool note_queue_response(struct queues *queues, uint32_t *id);
 void set_identifier(uint8_t *frame, uint32_t id);
 void begin_queues(struct queues *queues, unsigned count);
-void mark_conversation(struct tap_plane *tap, uint16_t port, uint16_t number, struct msghdr *message);
+void mark_conversation(struct queues *queues, uint16_t number, struct msghdr *message);
 bool send_by_queues(struct tap_plane *tap, struct link *link, const uint8_t *marker, bool again);
 
 /* answers.c: responses to markers that wait */
@@ -204,8 +204,8 @@ void lose_data(struct plane *plane, const struct link *link);
 void open_tap_plane(struct plane *plane);
 void end_tap_plane(struct plane *plane);
 void read_host(struct tap_plane *tap);
-bool is_cutting(const struct tap_plane *tap);
-bool give_host(const struct tap_plane *tap, const struct iovec *parts, unsigned count, size_t length);
+bool is_cutting(const struct process *process, const struct host *host);
+bool give_host(const struct process *process, int tap, const struct iovec *parts, unsigned count, size_t length);
 
 /* traffic.c: queueing disciplines and classifiers of members */
 bool keeps_order(const char *discipline);
@@ -244,7 +244,7 @@ bool give_marker(struct process *process, const struct member *member, struct li
 unsigned member_queues(const struct member *member);
 void put_back_members(int status, void *given);
 bool is_fast(const struct member *member);
-uint32_t sum_speeds(const struct tap_plane *tap);
+uint32_t sum_speeds(const struct carry *carry, const struct member *members);
 void put_data(struct tap_plane *tap, uint16_t port, uint16_t number, uint8_t *packet, size_t length);
 void flush_data(struct tap_plane *tap);
 void receive_data(struct tap_plane *tap, struct link *link);
@@ -268,8 +268,8 @@ bool has_right_length(const uint8_t *packet, size_t length, uint32_t mtu);
 uint8_t *put_tag(uint8_t *packet, uint16_t type, uint16_t tag);
 
 /* sums.c */
-uint64_t add_octets(uint64_t sum, const uint8_t *octets, size_t length);
-uint16_t fold(uint64_t sum);
+uint64_t add_to_sum(uint64_t sum, const uint8_t *octets, size_t length);
+uint16_t fold_sum(uint64_t sum);
 void put_sum(uint8_t *octets, size_t length, size_t field);
 
 /* segments.c */

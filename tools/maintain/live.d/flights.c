@@ -54,7 +54,7 @@ bool give_marker(struct process *process, const struct member *member, struct li
 /* A frame of a conversation goes; answers the mark that it has. */
 static uint32_t go(uint16_t number) {
     struct msghdr message = {0};
-    mark_conversation(&lagd->tap, PORT, number, &message);
+    mark_conversation(&lagd->tap.queues[PORT - 1], number, &message);
     return mark_of(&message);
 }
 

@@ -273,7 +273,7 @@ NOTHING(count_full_sockets, struct member *members, uint16_t count)
 NOTHING(pass_announcing_tick, struct carry *carry)
 NOTHING(pass_tap_tick, struct device *device)
 NOTHING(announce_soon, struct announce *own)
-ANSWERS(uint32_t sum_speeds, 1000, const struct tap_plane *tap)
+ANSWERS(uint32_t sum_speeds, 1000, const struct carry *carry, const struct member *members)
 NOTHING(set_speed, struct device *device, uint32_t megabits)
 /* The device is up here, and no port comes or goes. */
 ANSWERS(uint16_t count_links, PORTS, const struct ports *ports)
@@ -376,7 +376,7 @@ static void take(struct end *end, uint16_t port, uint8_t *frame, size_t length) 
     } else {
         received = niw_receive(&lagd->protocol.own_system, port, frame, length, response, sizeof response);
         if (is_done(&lagd->process, received.status, "niw_receive") && received.what == NIW_RECEIVED_HANDED_UP)
-            hand_up(&lagd->tap, received.number, frame, length);
+            hand_up_frame(&lagd->tap, received.number, frame, length);
     }
     settle_carry(&lagd->plane);
 }
