@@ -110,10 +110,11 @@ void stop_device_rps(struct process *process, int index) {
         process->settings->carry);
 }
 
-/* Sets back which processors take what an interface receives; answers whether these do now. */
-static bool restore_rps(int index, const char *mask) {
+/* Writes a line that a file is to have again; answers whether that is not another one now. */
+static bool restore_line(int index, const char *what, const char *line, bool if_unread) {
     char now[PROCESSORS_ROOM];
-    return write_line(index, RPS_FILE, mask) || (read_line(index, RPS_FILE, now) && strcmp(now, mask) == 0);
+    if (write_line(index, what, line)) return true;
+    return read_line(index, what, now) ? strcmp(now, line) == 0 : if_unread;
 }
 
 /* Loads the program that chooses queues, while the daemon may, and opens what wakes it for responses. */
@@ -156,13 +157,6 @@ static const char *wanted_line(const struct link *link, enum setting setting, un
     return mask;
 }
 
-/* Copies what is known of queues; answers whether all of it was read. */
-static bool copy_known(FILE *file, FILE *next) {
-    char name[NAME_OCTETS], mask[PROCESSORS_ROOM];
-    while (fscanf(file, READ_LINE, name, mask) == 2) fprintf(next, "%s %s\n", name, mask);
-    return !ferror(file);
-}
-
 /* Whether it is known what a setting was before an earlier daemon changed it. */
 static bool is_known(int folder, const struct link *link, const char *wanted) {
     char name[NAME_OCTETS], mask[PROCESSORS_ROOM];
@@ -198,8 +192,10 @@ enum added { NOTHING_MORE, WHAT_CHANGES, WHAT_IS_LOST };
 /* Writes the file anew, from what is known, which is closed, and what is added of what the queues have now, before it is changed; answers whether
  * it did. */
 static bool rewrite_known(int folder, const struct link *link, FILE *file, enum added added) {
+    char name[NAME_OCTETS], line[PROCESSORS_ROOM];
     FILE *next = begin_kept(folder, link, "queues");
-    bool done = next && (!file || copy_known(file, next));
+    while (file && next && fscanf(file, READ_LINE, name, line) == 2) fprintf(next, "%s %s\n", name, line);
+    bool done = !file || !ferror(file);
     if (file) fclose(file);
     if (next && added != NOTHING_MORE) done = change_or_keep(folder, link, added == WHAT_IS_LOST, next) && done;
     return next && end_kept(folder, link, "queues", next, done);
@@ -285,12 +281,11 @@ bool choose_usual_queues(unsigned *usual, const struct member *members, uint16_t
 
 /* The queues of an interface get back what they had before. What cannot be set back stays kept: all of it, where not all are back (`whole`). */
 static void restore_queue_settings(int folder, const struct link *link, bool whole) {
-    char name[NAME_OCTETS], interface[IF_NAMESIZE], mask[PROCESSORS_ROOM], now[PROCESSORS_ROOM];
+    char name[NAME_OCTETS], interface[IF_NAMESIZE], mask[PROCESSORS_ROOM];
     bool done = whole && if_indextoname((unsigned)link->index, interface);
     CLOSED_STREAM FILE *file = read_kept(folder, link, "queues");
     while (file && fscanf(file, READ_LINE, name, mask) == 2) {
-        if (!is_setting(name) || write_line(link->index, name, mask)) continue;
-        if (read_line(link->index, name, now) && strcmp(now, mask) != 0) done = false;
+        if (is_setting(name)) done = restore_line(link->index, name, mask, true) && done;
     }
     if (file && done) drop_kept(folder, link, "queues");
 }
@@ -306,17 +301,14 @@ static const char *const joining[] = {"rx-gro", "rx-gro-hw", "rx-lro"};
 /* A question to a driver, with room for what it answers. */
 #define QUESTION(kind, octets) union { uint8_t room[sizeof(struct kind) + (octets)]; struct kind about; }
 
-static uint32_t count_features(int index) {
-    QUESTION(ethtool_sset_info, sizeof(uint32_t)) told = {{0}};
-    told.about.cmd = ETHTOOL_GSSET_INFO;
-    told.about.sset_mask = 1ULL << ETH_SS_FEATURES;
-    return ask_driver(index, &told) && told.about.sset_mask != 0 && told.about.data[0] <= MOST_FEATURES ? told.about.data[0] : 0;
-}
-
 /* Writes the number that the kernel has for each way; for one that it does not know, how many features it has, which is the answer. */
 static uint32_t find_features(int index, uint32_t places[static JOINING]) {
+    QUESTION(ethtool_sset_info, sizeof(uint32_t)) known = {{0}};
     QUESTION(ethtool_gstrings, MOST_FEATURES * ETH_GSTRING_LEN) told = {{0}};
-    uint32_t count = count_features(index);
+    known.about.cmd = ETHTOOL_GSSET_INFO;
+    known.about.sset_mask = 1ULL << ETH_SS_FEATURES;
+    if (!ask_driver(index, &known) || known.about.sset_mask == 0 || known.about.data[0] > MOST_FEATURES) return 0;
+    uint32_t count = known.about.data[0];
     told.about.cmd = ETHTOOL_GSTRINGS;
     told.about.string_set = ETH_SS_FEATURES;
     told.about.len = count;
@@ -534,7 +526,7 @@ void close_guard(struct process *process, struct fast_programs *fast, const stru
     if (before->joins != 0) set_joins(link->index, before->joins);
     if (before->joins != 0) done = (before->joins & ~read_joins(link->index).wanted) == 0 && done;
     drop_fifo(link->index); /* with all its queues the kernel gives each of them what it chooses */
-    if (before->steered[0]) done = restore_rps(link->index, before->steered) && done;
+    if (before->steered[0]) done = restore_line(link->index, RPS_FILE, before->steered, false) && done;
     if (done) drop_kept(process->folder, link, "member");
 }
 

@@ -44,23 +44,18 @@ static bool prepare_programs(const struct settings *settings, struct programs *m
         && reuse_map(made->maps.hosts, maps ? &maps->host : NULL) && reuse_map(made->maps.places, maps ? &maps->places : NULL);
 }
 
-static int load_with_log(const struct settings *settings, const char *name, const struct fast_maps *maps, char *log) {
+/* Loads one program, with the tables that it has, if it has some; answers its file, or -errno, and a reason, unless that is NULL. */
+int load_program(const struct settings *settings, const char *name, const struct fast_maps *maps, char *reason) {
+    char *log = make_room(LOG_ROOM); /* the kernel fills what it needs of it */
     const struct bpf_object_open_opts options = {.sz = sizeof options, .kernel_log_buf = log, .kernel_log_size = LOG_ROOM};
+    first_warning[0] = 0;
+    (void)libbpf_set_print(keep_first);
     struct programs *made = programs__open_opts(&options);
     int loaded = -1;
     if (made && prepare_programs(settings, made, name, maps) && programs__load(made) == 0)
         loaded = fcntl(bpf_program__fd(bpf_object__find_program_by_name(made->obj, name)), F_DUPFD_CLOEXEC, 0);
     if (loaded < 0) loaded = last_fault();
     programs__destroy(made);
-    return loaded;
-}
-
-/* Loads one program, with the tables that it has, if it has some; answers its file, or -errno, and a reason, unless that is NULL. */
-int load_program(const struct settings *settings, const char *name, const struct fast_maps *maps, char *reason) {
-    char *log = make_room(LOG_ROOM); /* the kernel fills what it needs of it */
-    first_warning[0] = 0;
-    (void)libbpf_set_print(keep_first);
-    int loaded = load_with_log(settings, name, maps, log);
     if (loaded < 0 && reason) {
         copy_line(reason, first_warning[0] ? first_warning : strerror(-loaded));
         copy_last(reason, log);
