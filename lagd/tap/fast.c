@@ -63,7 +63,6 @@ static void begin_tables(struct fast_programs *own, uint16_t ports) {
     own->host->overflowed = own->host->unfit = 0;
 }
 
-/* Loads all that the kernel is to run, while the daemon may. */
 static void start_fast(struct tap_plane *tap) {
     struct fast_programs *own = &tap->fast;
     struct fast_maps maps;

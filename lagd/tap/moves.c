@@ -52,7 +52,6 @@ static bool level_loads(struct carry *carry) {
     }
 }
 
-/* Whether the conversations of a port can move behind markers to others that carry. */
 bool can_empty(const struct plane *plane, const struct link *link) {
     const struct carry *carry = plane->carry;
     unsigned others = 0;

@@ -212,7 +212,6 @@ static void end_team(int status UNUSED, void *given) {
     team->opened = false;
 }
 
-/* Opens the device: it has no carrier, unless the data of the last daemon goes on. */
 static void open_team(struct plane *plane) {
     struct team_plane *team = plane->team;
     const char *name = team->settings->carry;
