@@ -236,7 +236,7 @@ static void resume_fast(struct tap_plane *tap) {
 }
 
 /* Takes back what is no longer on the port where the kernel passes it on, before a marker goes there; all, where the library does not tell. */
-static void withdraw(struct tap_plane *tap) {
+static void withdraw_moved(struct tap_plane *tap) {
     bool told = ask_ports(tap->protocol, tap->carry->active, tap->carry->port_of);
     EACH_CONVERSATION(conversation, tap->carry) {
         uint16_t port = conversation->fast.port, now = told ? tap->carry->port_of[number_in(tap->carry, conversation)] : 0;
@@ -352,7 +352,7 @@ static void withdraw_resting(struct tap_plane *tap) {
 static void pass_fast_tick(struct tap_plane *tap) {
     bool any = false;
     (void)read_tap_mac(tap->device, (uint8_t *)&tap->fast.host->mac);
-    withdraw(tap);
+    withdraw_moved(tap);
     open_host(tap, has_carrier(tap->device));
     count_fast_frames(tap);
     if (tap->carry->probe.peer == MUTE) withdraw_resting(tap);
@@ -366,7 +366,7 @@ static int check_fast(struct control *control, const struct options *options) {
 
 const struct passing BY_KERNEL = {
     .check = check_fast, .start = start_fast, .end = end_fast, .set_up_device = give_no_queue, .run_programs = run_fast_programs,
-    .count = count_fast_frames, .withdraw = withdraw, .withdraw_port = withdraw_port, .pass_on = pass_on, .note_read = note_read,
+    .count = count_fast_frames, .withdraw = withdraw_moved, .withdraw_port = withdraw_port, .pass_on = pass_on, .note_read = note_read,
     .open_host = open_host, .follow_discipline = follow_host_queue, .set_collecting = set_collecting, .read_host = read_host,
     .tick = pass_fast_tick, .resume = resume_fast, .steers = true,
 };

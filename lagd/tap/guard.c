@@ -66,13 +66,6 @@ static bool write_line(int index, const char *what, const char *mask) {
     return file >= 0 && write(file, mask, strlen(mask)) == (ssize_t)strlen(mask);
 }
 
-/* Whether GRO of an interface keeps frames for less than half the time for which a response to a marker waits. Without a time of its own it
- * does so until the end of a turn. */
-static bool flushes_gro_early(const struct settings *settings, int index) {
-    char nanoseconds[PROCESSORS_ROOM];
-    return read_line(index, "../gro_flush_timeout", nanoseconds) && strtoull(nanoseconds, NULL, 10) < settings->answer_after * 500000ull;
-}
-
 static bool is_none(const char *mask) {
     return strspn(mask, "0,") == strlen(mask);
 }
@@ -445,10 +438,14 @@ void run_fast_programs(struct tap_plane *tap, const struct link *link, struct gu
     keep_from_stack(tap, link, guard);
 }
 
-/* Which ways to put frames together may stay: GRO of the kernel, where responses wait for longer than it keeps a frame. Where the daemon
- * takes the frames, it does not: a socket cannot tell of each frame what it was made of. */
-static unsigned joins_allowed(const struct settings *settings, const struct link *link, const struct guard *guard) {
-    return guard->spread && guard->fast && flushes_gro_early(settings, link->index) ? JOINED_BY_KERNEL : 0;
+/* Which ways to put frames together may stay: GRO of the kernel, where that keeps a frame for less than half the time for which a response to a marker
+ * waits. Without a time of its own it does so until the end of a turn. Where the daemon takes the frames, it does not: a socket cannot tell of each
+ * frame what it was made of. */
+static unsigned joins_allowed(uint32_t answer_after, int index, const struct guard *guard) {
+    char nanoseconds[PROCESSORS_ROOM];
+    bool is_brief = guard->spread && guard->fast && read_line(index, "../gro_flush_timeout", nanoseconds)
+        && strtoull(nanoseconds, NULL, 10) < answer_after * 500000ull;
+    return is_brief ? JOINED_BY_KERNEL : 0;
 }
 
 bool set_one_queue(struct tap_plane *tap, struct link *link, struct guard *guard, bool again) {
@@ -476,7 +473,7 @@ bool set_all_queues(struct tap_plane *tap, struct link *link, struct guard *guar
 
 static void run_programs(struct tap_plane *tap, const struct link *link, struct guard *guard) {
     tap->plane->passing->run_programs(tap, link, guard);
-    if (guard->before.joins != 0) set_joins(link->index, guard->before.joins & joins_allowed(tap->settings, link, guard));
+    if (guard->before.joins != 0) set_joins(link->index, guard->before.joins & joins_allowed(tap->settings->answer_after, link->index, guard));
     guard->channels = read_queue_counts(link->index);
 }
 
@@ -509,7 +506,7 @@ void open_guard(struct tap_plane *tap, struct link *link, struct guard *guard) {
     bool has_queues = tap->plane->queueing->set(tap, link, guard, false);
     if (gathers && !guard->spread && !set_rps_to_one(link)) warn_of(tap->process, link, SPREADS, NULL);
     run_programs(tap, link, guard);
-    if ((read_joins(link->index).on & ~joins_allowed(tap->settings, link, guard)) != 0)
+    if ((read_joins(link->index).on & ~joins_allowed(tap->settings->answer_after, link->index, guard)) != 0)
         warn_of(tap->process, link, "GRO or LRO stays on, and markers may overtake data", NULL);
     if (link->stacked && !tap->plane->passing->steers) warn_of(tap->process, link, STACKED, "markers may overtake data");
     if (!guard->spread && has_queues && read_channels(link->index, &queues) > 1)

@@ -134,13 +134,8 @@ void leave_team_port(const struct team_plane *team, int index) {
     if ((port.master == 0 || set_master(index, 0)) && up) (void)set_interface_up(index, true);
 }
 
-/* Makes an interface a new port of the device, which takes it while it is down, and passes no data on it until it is told to: the driver would
- * at once. */
-static bool make_port(uint16_t family, int device, int index, bool up) {
-    return (!up || set_interface_up(index, false)) && set_master(index, device) && set_port_enabled(family, device, index, false);
-}
-
-/* Makes an interface a port of the device; answers 0, or -errno. One that belongs to another device stays there. */
+/* Makes an interface a port of the device; answers 0, or -errno. One that belongs to another device stays there. The device takes a new one while
+ * that is down, and passes no data on it until it is told to: the driver would at once. */
 static int open_team_port(struct plane *plane, struct link *link) {
     struct team_plane *team = plane->team;
     struct interface port;
@@ -149,7 +144,10 @@ static int open_team_port(struct plane *plane, struct link *link) {
     if (!ask_interface(link->index, NULL, &port) || !read_tap_mac(team->device, mac)) return last_fault();
     bool up = (port.flags & IFF_UP) != 0;
     if (port.master != team->device->index && (port.master != 0 || !may_put_in(team->protocol, link))) return -EBUSY;
-    if (port.master == 0 && !make_port(team->family, team->device->index, link->index, up)) fault = last_fault();
+    if (port.master == 0
+        && ((up && !set_interface_up(link->index, false)) || !set_master(link->index, team->device->index)
+            || !set_port_enabled(team->family, team->device->index, link->index, false)))
+        fault = last_fault();
     if (fault == 0 && memcmp(port.mac, mac, sizeof mac) != 0) fault = give_address(link->index, mac);
     team->taken[link - team->ports->links] = fault == 0;
     forget_port(team, link->settings.number);
