@@ -257,7 +257,7 @@ static void withdraw_port(struct tap_plane *tap, uint16_t port) {
 
 /* The TAP device has this queueing discipline now. One that may hold frames holds them behind the program that counts them, where nobody
  * sees them, and would not have what the kernel passes on: with it the daemon has all data. */
-static void follow_host_queue(struct tap_plane *tap, const char *discipline) {
+static void follow_host_discipline(struct tap_plane *tap, const char *discipline) {
     struct fast_programs *own = &tap->fast;
     bool holds = !keeps_order(discipline) && strcmp(discipline, "pfifo_fast") != 0
         && strcmp(discipline, "noop") != 0; /* it has that one until it is up */
@@ -367,6 +367,6 @@ static int check_fast(struct control *control, const struct options *options) {
 const struct passing BY_KERNEL = {
     .check = check_fast, .start = start_fast, .end = end_fast, .set_up_device = give_no_queue, .run_programs = run_fast_programs,
     .count = count_fast_frames, .withdraw = withdraw_moved, .withdraw_port = withdraw_port, .pass_on = pass_on, .note_read = note_read,
-    .open_host = open_host, .follow_discipline = follow_host_queue, .set_collecting = set_collecting, .read_host = read_host,
+    .open_host = open_host, .follow_discipline = follow_host_discipline, .set_collecting = set_collecting, .read_host = read_host,
     .tick = pass_fast_tick, .resume = resume_fast, .steers = true,
 };

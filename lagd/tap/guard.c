@@ -16,7 +16,7 @@
 #define STACKED "it stands on another interface, whose queues are not seen"
 
 /* A line about what troubles the data of a member, and why, where there is more to tell. */
-static void warn_of(struct process *process, const struct link *link, const char *what, const char *why) {
+static void warn_of_data(struct process *process, const struct link *link, const char *what, const char *why) {
     (void)say(process, LOG_WARNING | ABOUT_DATA, "port %u %s: %s%s%s", link->settings.number, link->name, what, why ? ": " : "", why ? why : "");
 }
 
@@ -39,7 +39,7 @@ static int open_in_queues(int index, const char *what, int flags) {
     return open_in_sys(index, path, flags);
 }
 
-static unsigned count_entries(int index, const char *begin) {
+static unsigned count_queues(int index, const char *begin) {
     unsigned count = 0;
     int file = open_in_queues(index, "", O_RDONLY | O_DIRECTORY);
     DIR *folder = file < 0 ? NULL : fdopendir(file); /* which has the file then */
@@ -50,7 +50,7 @@ static unsigned count_entries(int index, const char *begin) {
 }
 
 unsigned count_sending_queues(int index) {
-    return count_entries(index, "tx-");
+    return count_queues(index, "tx-");
 }
 
 /* Reads the line of a file: of a queue, the processors as a mask in hexadecimal. One that is too long is none. */
@@ -66,13 +66,13 @@ static bool write_line(int index, const char *what, const char *mask) {
     return file >= 0 && write(file, mask, strlen(mask)) == (ssize_t)strlen(mask);
 }
 
-static bool is_none(const char *mask) {
+static bool has_no_processor(const char *mask) {
     return strspn(mask, "0,") == strlen(mask);
 }
 
-static bool is_one(const char *mask) {
+static bool has_one_processor(const char *mask) {
     const char *digit = mask + strspn(mask, "0,");
-    return *digit && strchr("1248", *digit) && is_none(digit + 1);
+    return *digit && strchr("1248", *digit) && has_no_processor(digit + 1);
 }
 
 /* A mask of one processor: another one for each place, in turn. */
@@ -84,7 +84,7 @@ static void mask_of_processor(unsigned place, char mask[static 16]) {
 
 /* Reads which processors take what an interface of one queue receives; answers whether that is known, and not one alone. */
 static bool read_rps(int index, char mask[static PROCESSORS_ROOM]) {
-    return read_line(index, RPS_FILE, mask) && !is_one(mask);
+    return read_line(index, RPS_FILE, mask) && !has_one_processor(mask);
 }
 
 /* Has one processor take all that an interface receives, so that it stands in one row, whatever processors it was sent from. */
@@ -92,13 +92,13 @@ static bool set_rps_to_one(const struct link *link) {
     char mask[16], now[PROCESSORS_ROOM];
     if (!read_line(link->index, RPS_FILE, now)) return false;
     mask_of_processor(link->settings.number - 1u, mask);
-    return is_one(now) || write_line(link->index, RPS_FILE, mask);
+    return has_one_processor(now) || write_line(link->index, RPS_FILE, mask);
 }
 
 /* What goes up is not spread over processors at the TAP device: a marker would be answered before the data that came before it went up. */
 void stop_device_rps(struct process *process, int index) {
     char now[PROCESSORS_ROOM];
-    if (!read_rps(index, now) || is_none(now) || write_line(index, RPS_FILE, "0")) return;
+    if (!read_rps(index, now) || has_no_processor(now) || write_line(index, RPS_FILE, "0")) return;
     (void)say(process, LOG_WARNING | ABOUT_DATA, "carry %s: RPS spreads what goes up over processors, and markers may be answered before data",
         process->settings->carry);
 }
@@ -144,8 +144,8 @@ static bool is_card(int index) {
 
 /* What a queue is to have in the place of what it has now, for which `mask` is room: NULL where that may stay. */
 static const char *wanted_line(const struct link *link, enum setting setting, unsigned queue, const char *now, char mask[static 16]) {
-    if (setting != TAKEN_BY) return is_none(now) ? NULL : "0";
-    if (is_one(now) || (is_card(link->index) && is_none(now))) return NULL;
+    if (setting != TAKEN_BY) return has_no_processor(now) ? NULL : "0";
+    if (has_one_processor(now) || (is_card(link->index) && has_no_processor(now))) return NULL;
     mask_of_processor(link->settings.number - 1u + queue, mask);
     return mask;
 }
@@ -166,12 +166,12 @@ static bool change_or_keep(int folder, const struct link *link, bool lost, FILE 
     char name[NAME_OCTETS], now[PROCESSORS_ROOM], mask[16];
     bool done = true;
     for (enum setting setting = 0; setting < SETTINGS; setting++) {
-        unsigned count = count_entries(link->index, setting == TAKEN_BY ? "rx-" : "tx-");
+        unsigned count = count_queues(link->index, setting == TAKEN_BY ? "rx-" : "tx-");
         for (unsigned queue = lost ? 1 : 0; queue < count; queue++) {
             name_setting(setting, queue, name);
             if (!read_line(link->index, name, now)) continue;
             const char *wanted = wanted_line(link, setting, queue, now, mask);
-            if (lost ? is_none(now) : wanted == NULL) continue;
+            if (lost ? has_no_processor(now) : wanted == NULL) continue;
             if (next) done = (is_known(folder, link, name) || fprintf(next, "%s %s\n", name, now) > 0) && done;
             else done = write_line(link->index, name, wanted) && done;
         }
@@ -199,17 +199,17 @@ void move_kept_queues(struct process *process, struct link *link, const uint8_t 
     FILE *file = read_kept(process->folder, link, "queues");
     memcpy(link->mac, mac, sizeof link->mac);
     if (file && !rewrite_known(process->folder, link, file, NOTHING_MORE))
-        warn_of(process, link, "nobody knows any more what its queues had", strerror(errno));
+        warn_of_data(process, link, "nobody knows any more what its queues had", strerror(errno));
 }
 
 /* How many queues an interface has, those that send above those that receive; 0 where the kernel does not tell of both. */
 static unsigned read_queue_counts(int index) {
-    unsigned sends = count_sending_queues(index), receives = count_entries(index, "rx-");
+    unsigned sends = count_sending_queues(index), receives = count_queues(index, "rx-");
     return sends > 0 && receives > 0 ? sends << 16 | receives : 0;
 }
 
 /* Sets what all queues of a member are to have, where it may keep them; answers why it may not, or NULL. */
-static const char *try_spreading(int folder, const struct link *link, const struct guard *guard, unsigned count) {
+static const char *fault_of_spreading(int folder, const struct link *link, const struct guard *guard, unsigned count) {
     if (link->stacked) return STACKED;
     if (count == 0) return "/sys does not show its queues";
     if (!guard->in_order) return DISORDER;
@@ -225,7 +225,7 @@ static bool may_spread(int folder, const struct link *link) {
     CLOSED_STREAM FILE *file = read_kept(folder, link, "queues");
     bool changes = file && fscanf(file, "%31s", name) == 1;
     CLOSED_FILE int opened = changes ? open_in_queues(link->index, "tx-0/xps_cpus", O_WRONLY) : -1;
-    return !link->stacked && may_all_keep_order(link->index) && (!changes || opened >= 0);
+    return !link->stacked && may_all_queues_keep_order(link->index) && (!changes || opened >= 0);
 }
 
 /* Frames of the daemon go by any queue again. */
@@ -235,9 +235,9 @@ static void stop_spreading(struct store *store, const struct link *link, struct 
     guard->spread = false;
 }
 
-static void spread(struct process *process, int chooser, const struct link *link, struct guard *guard) {
+static void spread_over_queues(struct process *process, int chooser, const struct link *link, struct guard *guard) {
     unsigned count = count_sending_queues(link->index);
-    const char *fault = try_spreading(process->folder, link, guard, count);
+    const char *fault = fault_of_spreading(process->folder, link, guard, count);
     guard->queues = fault ? 1 : count < MOST_QUEUES ? count : MOST_QUEUES;
     if (guard->queues > 1 && guard->chooser < 0) /* a program chooses the queue of each frame that the daemon sends there */
         guard->chooser = attach_stored(&process->store, "queues", chooser, link->index, true);
@@ -246,7 +246,7 @@ static void spread(struct process *process, int chooser, const struct link *link
     if (!fault) return;
     guard->queues = 1;
     stop_spreading(&process->store, link, guard);
-    warn_of(process, link, "it gets one queue", fault);
+    warn_of_data(process, link, "it gets one queue", fault);
 }
 
 /* Whether somebody else changed the queues of a member, or what chooses them. Each time another queue is looked at. */
@@ -317,7 +317,7 @@ struct joins {
 };
 
 /* Which of the ways to join frames are on, and which are wanted: one that is wanted may be off while another one is on. */
-static struct joins read_joins(int index) {
+static struct joins read_gro_and_lro(int index) {
     QUESTION(ethtool_gfeatures, WORDS * sizeof(struct ethtool_get_features_block)) told = {{0}};
     uint32_t places[JOINING], count = find_features(index, places);
     struct joins joins = {0};
@@ -333,7 +333,7 @@ static struct joins read_joins(int index) {
 }
 
 /* Has these ways wanted, and no other one. */
-static void set_joins(int index, unsigned wanted) {
+static void set_gro_and_lro(int index, unsigned wanted) {
     QUESTION(ethtool_sfeatures, WORDS * sizeof(struct ethtool_set_features_block)) told = {{0}};
     uint32_t places[JOINING], count = find_features(index, places);
     told.about.cmd = ETHTOOL_SFEATURES;
@@ -351,17 +351,17 @@ static void set_joins(int index, unsigned wanted) {
 static unsigned read_channels(int index, struct ethtool_channels *channels) {
     *channels = (struct ethtool_channels){.cmd = ETHTOOL_GCHANNELS};
     bool told = ask_driver(index, channels);
-    unsigned sends = told ? channels->tx_count : count_sending_queues(index), receives = told ? channels->rx_count : count_entries(index, "rx-");
+    unsigned sends = told ? channels->tx_count : count_sending_queues(index), receives = told ? channels->rx_count : count_queues(index, "rx-");
     if (!told && receives == 0) receives = 1;
     return channels->combined_count + (sends > receives ? sends : receives);
 }
 
 /* Gives an interface one queue for each direction. What the others have has to be known, so that they get it back. */
-static void give_one_queue(struct process *process, const struct link *link) {
+static void reduce_to_one_queue(struct process *process, const struct link *link) {
     struct ethtool_channels wanted;
     if (read_channels(link->index, &wanted) <= 1) return;
     if (!rewrite_known(process->folder, link, read_kept(process->folder, link, "queues"), WHAT_IS_LOST))
-        warn_of(process, link, "nobody knows what its queues had", strerror(errno));
+        warn_of_data(process, link, "nobody knows what its queues had", strerror(errno));
     wanted.cmd = ETHTOOL_SCHANNELS;
     wanted.rx_count = wanted.tx_count = wanted.combined_count == 0;
     wanted.combined_count = wanted.combined_count > 0;
@@ -397,7 +397,7 @@ void look_at_discipline(struct process *process, const struct plane *plane, stru
     link->has_fifos = given && strcmp(link->discipline, "mq") == 0;
     guard->in_order = keeps_order(link->discipline) || link->has_fifos;
     if (plane->segments && !guard->in_order && !is_unqueued(link))
-        warn_of(process, link, DISORDER, "it loses frames of several segments, if its card cannot cut them");
+        warn_of_data(process, link, DISORDER, "it loses frames of several segments, if its card cannot cut them");
 }
 
 /* The link comes up: the queue of its interface, if that is one of the daemon, has the length of its speed from now on. */
@@ -407,7 +407,7 @@ void fit_queue(const struct plane *plane, const struct link *link) {
 }
 
 /* Has one processor take what comes at an interface; answers why the kernel may not pass it on, or NULL: a marker would overtake data. */
-static const char *try_fast(const struct link *link, const struct guard *guard) {
+static const char *fault_of_fast(const struct link *link, const struct guard *guard) {
     struct ethtool_channels queues;
     if (link->stacked) return STACKED;
     if (!guard->spread && read_channels(link->index, &queues) > 1) return "it has several queues";
@@ -422,26 +422,26 @@ void keep_from_stack(struct tap_plane *tap, const struct link *link, struct guar
     if (tap->dropper >= 0) guard->opened = attach_stored(&tap->process->store, "guard", tap->dropper, link->index, false);
     if (tap->dropper >= 0 && guard->opened < 0) guard->classifier = set_classifier(tap->dropper, link->index);
     if (guard->classifier == CLASSIFIER_BEHIND_OTHERS)
-        warn_of(tap->process, link, "it has a clsact already", "its own network stack has what filters there accept");
-    if (guard->opened < 0 && guard->classifier == NO_CLASSIFIER) warn_of(tap->process, link, "its own network stack has its frames, too", NULL);
+        warn_of_data(tap->process, link, "it has a clsact already", "its own network stack has what filters there accept");
+    if (guard->opened < 0 && guard->classifier == NO_CLASSIFIER) warn_of_data(tap->process, link, "its own network stack has its frames, too", NULL);
 }
 
 /* Has the kernel pass on what goes and comes at a member, where it may; a line says why not. */
 void run_fast_programs(struct tap_plane *tap, const struct link *link, struct guard *guard) {
     guard->unusual = guard->spread && !choose_usual_queues(&tap->usual_queues, tap->members, tap->ports->count, guard->queues);
-    const char *fault = try_fast(link, guard);
+    const char *fault = fault_of_fast(link, guard);
     if (!fault) guard->opened = open_fast_receiver(&tap->process->store, &tap->fast, tap->ports, link);
     guard->fast = guard->opened >= 0;
     if (guard->fast) return;
     if (!is_unqueued(link)) /* it is looked at again then */
-        warn_of(tap->process, link, "its data stays with the daemon", fault ? fault : strerror(-guard->opened));
+        warn_of_data(tap->process, link, "its data stays with the daemon", fault ? fault : strerror(-guard->opened));
     keep_from_stack(tap, link, guard);
 }
 
 /* Which ways to put frames together may stay: GRO of the kernel, where that keeps a frame for less than half the time for which a response to a marker
  * waits. Without a time of its own it does so until the end of a turn. Where the daemon takes the frames, it does not: a socket cannot tell of each
  * frame what it was made of. */
-static unsigned joins_allowed(uint32_t answer_after, int index, const struct guard *guard) {
+static unsigned gro_allowed(uint32_t answer_after, int index, const struct guard *guard) {
     char nanoseconds[PROCESSORS_ROOM];
     bool is_brief = guard->spread && guard->fast && read_line(index, "../gro_flush_timeout", nanoseconds)
         && strtoull(nanoseconds, NULL, 10) < answer_after * 500000ull;
@@ -450,7 +450,7 @@ static unsigned joins_allowed(uint32_t answer_after, int index, const struct gua
 
 bool set_one_queue(struct tap_plane *tap, struct link *link, struct guard *guard, bool again) {
     look_at_discipline(tap->process, tap->plane, link, guard);
-    if (!again) give_one_queue(tap->process, link);
+    if (!again) reduce_to_one_queue(tap->process, link);
     return true;
 }
 
@@ -464,16 +464,16 @@ bool set_all_queues(struct tap_plane *tap, struct link *link, struct guard *guar
         (void)restore_channels(link->index, before);
     look_at_discipline(tap->process, tap->plane, link, guard);
     if (is_unqueued(link)) return false;
-    spread(tap->process, tap->chooser, link, guard);
+    spread_over_queues(tap->process, tap->chooser, link, guard);
     if (guard->spread && has_channels(link->index, before)) *before = (struct ethtool_channels){0};
     write_settings(tap->process, link, &guard->before);
-    if (!guard->spread) give_one_queue(tap->process, link);
+    if (!guard->spread) reduce_to_one_queue(tap->process, link);
     return true;
 }
 
 static void run_programs(struct tap_plane *tap, const struct link *link, struct guard *guard) {
     tap->plane->passing->run_programs(tap, link, guard);
-    if (guard->before.joins != 0) set_joins(link->index, guard->before.joins & joins_allowed(tap->settings->answer_after, link->index, guard));
+    if (guard->before.joins != 0) set_gro_and_lro(link->index, guard->before.joins & gro_allowed(tap->settings->answer_after, link->index, guard));
     guard->channels = read_queue_counts(link->index);
 }
 
@@ -497,20 +497,20 @@ void reopen_guard(struct tap_plane *tap, struct link *link, struct guard *guard)
 void open_guard(struct tap_plane *tap, struct link *link, struct guard *guard) {
     struct ethtool_channels queues;
     struct kept *before = &guard->before;
-    *guard = (struct guard){.opened = -1, .chooser = -1, .queues = 1, .before.joins = read_joins(link->index).wanted};
+    *guard = (struct guard){.opened = -1, .chooser = -1, .queues = 1, .before.joins = read_gro_and_lro(link->index).wanted};
     if (read_channels(link->index, &before->queues) <= 1) before->queues = (struct ethtool_channels){0};
     if (!read_rps(link->index, before->steered)) before->steered[0] = 0;
-    if (!tap->plane->passing->steers && is_none(before->steered)) before->steered[0] = 0;
+    if (!tap->plane->passing->steers && has_no_processor(before->steered)) before->steered[0] = 0;
     bool gathers = before->steered[0] && !tap->plane->passing->steers; /* where the kernel passes data on, it does so only then */
     keep_settings(tap->process, link, before);
     bool has_queues = tap->plane->queueing->set(tap, link, guard, false);
-    if (gathers && !guard->spread && !set_rps_to_one(link)) warn_of(tap->process, link, SPREADS, NULL);
+    if (gathers && !guard->spread && !set_rps_to_one(link)) warn_of_data(tap->process, link, SPREADS, NULL);
     run_programs(tap, link, guard);
-    if ((read_joins(link->index).on & ~joins_allowed(tap->settings->answer_after, link->index, guard)) != 0)
-        warn_of(tap->process, link, "GRO or LRO stays on, and markers may overtake data", NULL);
-    if (link->stacked && !tap->plane->passing->steers) warn_of(tap->process, link, STACKED, "markers may overtake data");
+    if ((read_gro_and_lro(link->index).on & ~gro_allowed(tap->settings->answer_after, link->index, guard)) != 0)
+        warn_of_data(tap->process, link, "GRO or LRO stays on, and markers may overtake data", NULL);
+    if (link->stacked && !tap->plane->passing->steers) warn_of_data(tap->process, link, STACKED, "markers may overtake data");
     if (!guard->spread && has_queues && read_channels(link->index, &queues) > 1)
-        warn_of(tap->process, link, "it has several queues, and markers may overtake data", NULL);
+        warn_of_data(tap->process, link, "it has several queues, and markers may overtake data", NULL);
 }
 
 /* The interface is no member any more. What cannot be set back stays kept, as without CAP_NET_ADMIN. */
@@ -520,8 +520,8 @@ void close_guard(struct process *process, struct fast_programs *fast, const stru
     stop_spreading(&process->store, link, guard);
     bool done = restore_channels(link->index, &before->queues);
     restore_queue_settings(process->folder, link, done);
-    if (before->joins != 0) set_joins(link->index, before->joins);
-    if (before->joins != 0) done = (before->joins & ~read_joins(link->index).wanted) == 0 && done;
+    if (before->joins != 0) set_gro_and_lro(link->index, before->joins);
+    if (before->joins != 0) done = (before->joins & ~read_gro_and_lro(link->index).wanted) == 0 && done;
     drop_fifo(link->index); /* with all its queues the kernel gives each of them what it chooses */
     if (before->steered[0]) done = restore_line(link->index, RPS_FILE, before->steered, false) && done;
     if (done) drop_kept(process->folder, link, "member");

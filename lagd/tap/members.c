@@ -53,7 +53,7 @@ static bool filter_markers(int fd, bool with_data) {
 }
 
 /* Lets a socket of the TAP device have the markers that a program marked with the number of a port; with 0, let a socket have nothing. */
-static bool filter_marked(int fd, uint16_t port) {
+static bool filter_by_mark(int fd, uint16_t port) {
     struct sock_filter code[] = {
         BPF_STMT(BPF_LD | BPF_W | BPF_ABS, (uint32_t)(SKF_AD_OFF + SKF_AD_MARK)),
         BPF_JUMP(BPF_JMP | BPF_JEQ | BPF_K, port, 0, 3),
@@ -98,7 +98,7 @@ static int open_socket(struct process *process, int device, const struct link *l
     if (fd < 0) return fd;
     (void)set_packet(fd, PACKET_IGNORE_OUTGOING, 1);
     if (only_sends || kind == MARKERS)
-        filtered = filter_marked(fd, only_sends ? 0 : link->settings.number);
+        filtered = filter_by_mark(fd, only_sends ? 0 : link->settings.number);
     else
         filtered = filter_markers(fd, true);
     if (filtered && (kind != DATA || set_up_data(fd, index, guard)) && set_packet(fd, PACKET_AUXDATA, 1)
@@ -111,7 +111,7 @@ static int open_socket(struct process *process, int device, const struct link *l
     return last_fault();
 }
 
-static void close_sockets(struct store *store, const struct link *link, struct member *member) {
+static void close_all_sockets(struct store *store, const struct link *link, struct member *member) {
     for (enum socket_kind kind = DATA; kind < SOCKETS; kind++) {
         if (member->sockets[kind] >= 0) close_stored(store, SOCKET_NAMES[kind], link->index, member->sockets[kind]);
         member->sockets[kind] = -1;
@@ -120,12 +120,12 @@ static void close_sockets(struct store *store, const struct link *link, struct m
 
 /* An interface is no member any more, and has what it had before. */
 static void release_member(struct process *process, struct fast_programs *fast, const struct link *link, struct member *member) {
-    close_sockets(&process->store, link, member);
+    close_all_sockets(&process->store, link, member);
     close_guard(process, fast, link, &member->guard);
 }
 
 /* Opens the sockets of a member whose programs run; answers 0, or -errno, and then it is no member any more. */
-static int open_sockets(struct tap_plane *tap, const struct link *link, struct member *member) {
+static int open_all_sockets(struct tap_plane *tap, const struct link *link, struct member *member) {
     for (enum socket_kind kind = DATA; kind < (member->guard.fast ? SOCKETS : MARKERS); kind++) {
         int opened = member->sockets[kind] = open_socket(tap->process, tap->device->index, link, &member->guard, kind);
         if (opened >= 0) continue;
@@ -142,7 +142,7 @@ static int open_member(struct plane *plane, struct link *link) {
     if (!filter_markers(link->socket, false)) return last_fault();
     open_guard(tap, link, &member->guard);
     member->has_marker = false;
-    return open_sockets(tap, link, member);
+    return open_all_sockets(tap, link, member);
 }
 
 /* Frames that came while the socket was full. */
@@ -158,10 +158,10 @@ static bool renew_member(struct tap_plane *tap, struct link *link) {
     struct member *member = member_of(tap, link);
     CALL(tap->plane->passing->withdraw_port, tap, link->settings.number);
     count_socket_losses(member);
-    close_sockets(&tap->process->store, link, member);
+    close_all_sockets(&tap->process->store, link, member);
     reopen_guard(tap, link, &member->guard);
     tap->plane->changed = true;
-    return open_sockets(tap, link, member) == 0;
+    return open_all_sockets(tap, link, member) == 0;
 }
 
 static bool tell_and_renew(struct tap_plane *tap, struct link *link) {
@@ -203,7 +203,7 @@ static void move_member(struct plane *plane, struct link *link, const uint8_t *m
 /* A queueing discipline of an interface changed: where each queue has one of the daemon, others may have put another one there, or taken theirs. */
 static bool follow_member_queues(struct tap_plane *tap, struct link *link) {
     struct member *member = member_of(tap, link);
-    bool kept = link->has_fifos ? all_keep_order(link->index) : member->guard.in_order || !may_all_keep_order(link->index);
+    bool kept = link->has_fifos ? all_queues_keep_order(link->index) : member->guard.in_order || !may_all_queues_keep_order(link->index);
     if (!is_open(member) || kept) return true;
     return tell_and_renew(tap, link);
 }

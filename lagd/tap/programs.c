@@ -12,7 +12,7 @@ static void copy_line(char reason[static REASON_ROOM], const char *line) {
 }
 
 /* What libbpf tells first is the reason, where the verifier has none. */
-static int keep_first(enum libbpf_print_level level, const char *format, va_list values) {
+static int keep_first_warning(enum libbpf_print_level level, const char *format, va_list values) {
     char text[2 * REASON_ROOM];
     if (level != LIBBPF_WARN || first_warning[0]) return 0;
     vsnprintf(text, sizeof text, format, values);
@@ -49,7 +49,7 @@ int load_program(const struct settings *settings, const char *name, const struct
     char *log = make_room(LOG_ROOM); /* the kernel fills what it needs of it */
     const struct bpf_object_open_opts options = {.sz = sizeof options, .kernel_log_buf = log, .kernel_log_size = LOG_ROOM};
     first_warning[0] = 0;
-    (void)libbpf_set_print(keep_first);
+    (void)libbpf_set_print(keep_first_warning);
     struct programs *made = programs__open_opts(&options);
     int loaded = -1;
     if (made && prepare_programs(settings, made, name, maps) && programs__load(made) == 0)

@@ -210,8 +210,8 @@ bool give_host(const struct process *process, int tap, const struct iovec *parts
 /* traffic.c: queueing disciplines and classifiers of members */
 bool keeps_order(const char *discipline);
 bool read_discipline(int index, char name[static DISCIPLINE_ROOM]);
-bool all_keep_order(int index);
-bool may_all_keep_order(int index);
+bool all_queues_keep_order(int index);
+bool may_all_queues_keep_order(int index);
 bool give_each_fifo(int index, unsigned queues, uint32_t megabits);
 void fit_each_fifo(int index, unsigned queues, uint32_t megabits);
 void drop_fifo(int index);

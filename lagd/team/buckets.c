@@ -131,7 +131,7 @@ static void note_refusal(struct team_plane *team, uint16_t port, int fault) {
 }
 
 /* Has the driver pass data on a port, or none; answers whether it does so. */
-static bool set_passes(struct team_plane *team, uint16_t port, bool wanted) {
+static bool pass_data_on_port(struct team_plane *team, uint16_t port, bool wanted) {
     if (team->passes[port - 1] == (wanted ? PASSES : PASSES_NOT)) return true;
     if (!set_port_enabled(team->family, team->device->index, team->ports->links[port - 1].index, wanted)) {
         note_refusal(team, port, errno);
@@ -165,11 +165,11 @@ static void place_in_active(struct team_plane *team) {
     leave_last_aggregator(team);
     for (uint16_t i = 0; i < carry->active_count; i++) {
         is_active[carry->active_ports[i] - 1] = true;
-        if (!set_passes(team, carry->active_ports[i], true)) return;
+        if (!pass_data_on_port(team, carry->active_ports[i], true)) return;
     }
     if (carry->active != 0 && !place_buckets(team)) return;
     for (uint16_t i = 0; i < team->ports->count; i++)
-        if (team->taken[i] && !is_active[i] && !set_passes(team, (uint16_t)(i + 1), false)) return;
+        if (team->taken[i] && !is_active[i] && !pass_data_on_port(team, (uint16_t)(i + 1), false)) return;
     team->shortages = 0;
     for (uint16_t number = 0; carry->active == 0 && number < CONVERSATIONS; number++) team->buckets[number].port = 0;
     if (carry->active != 0) set_carrier(team->device, true);

@@ -200,7 +200,7 @@ static void leave_team(struct plane *plane, int index, bool owned) {
 
 /* The program ends, and no other one goes on: its ports are free, also those that a start did not come to, and the device goes if a daemon made
  * it. */
-static void end_team(int status UNUSED, void *given) {
+static void release_team(int status UNUSED, void *given) {
     struct team_plane *team = given;
     if (!team->opened || team->process->has_left) return;
     EACH_LINK(link, team->ports) close_team_port(team->plane, link);
@@ -217,7 +217,7 @@ static void open_team(struct plane *plane) {
     struct interface device;
     struct team_now now;
     need(load_team_driver(&team->family), "plane=team: this kernel has no team driver");
-    need(on_exit(end_team, team) == 0, "on_exit");
+    need(on_exit(release_team, team) == 0, "on_exit");
     team->opened = true;
     if (drop_tap_and_find(team->process, name, &device)) {
         adopt_device(team, &device, mac);
@@ -236,7 +236,7 @@ static void end_team_plane(struct plane *plane) {
     struct team_plane *team = plane->team;
     set_carrier(team->device, false);
     remove_all_members(plane, team->ports);
-    end_team(DONE, team);
+    release_team(DONE, team);
 }
 
 /* Whether the kernel has the team driver, and its mode, which is another module: answers how the program ends. The mode is tried in a network
