@@ -17,7 +17,7 @@ void show_markers(struct control *control) {
 void show_frames_waiting(struct control *control, enum form form) {
     uint64_t waiting;
     unsigned fast = 0;
-    if (!count_all_held(control->plane->tap, &waiting)) return;
+    if (!count_all_held(control->process, &control->plane->tap->held, &waiting)) return;
     for (unsigned i = 0; i < CONVERSATIONS; i++) fast += control->carry->conversations[i].fast.port > 0;
     switch (form) {
     case AS_TEXT: add(control->report, "\n  waiting: %" PRIu64 ", conversations of the kernel: %u\n", waiting, fast); break;
