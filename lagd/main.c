@@ -280,6 +280,6 @@ int main(int argc, char **argv) {
     keep_standard_files();
     read_options(&lagd->process, argc, argv, &options);
     if (options.action == RUN_BUNDLE) return run_daemon(lagd, &options);
-    if (options.action == CHECK) return check_machine(&lagd->control, &options);
+    if (options.action == CHECK) return check_machine(&lagd->process, &lagd->plane, &options);
     return ask_daemons(&lagd->process, lagd->control.report, &options);
 }

@@ -107,22 +107,25 @@ static void obey(struct protocol *protocol, struct caller *caller) {
     end_with(caller, answer);
 }
 
-/* Answers a question by a report; one that is not known has none. */
+/* Answers a question by a report, of what the kernel counted up to now; one that is not known has none. */
 static void send_report(struct control *control, struct caller *caller) {
     const char *asked = caller->question;
-    control->report->length = 0;
-    if (strcmp(asked, "text") == 0) write_text(control);
-    if (strcmp(asked, "config") == 0) write_config(control);
-    if (strcmp(asked, "json") == 0) write_json(control);
-    if (strcmp(asked, "metrics") == 0) write_metrics(control);
-    if (control->process->broken) control->report->length = 0; /* what the library refuses to tell is not told half */
-    caller->rest = control->report->length > 0 ? malloc(control->report->length) : NULL;
-    caller->answer_length = control->report->length;
+    struct report *report = control->report;
+    report->length = 0;
+    report->refusal = NIW_OK;
+    CALL(control->plane->passing->count, control->plane->tap);
+    if (strcmp(asked, "text") == 0) write_text(report, control);
+    if (strcmp(asked, "config") == 0) write_config(report, control);
+    if (strcmp(asked, "json") == 0) write_json(report, control);
+    if (strcmp(asked, "metrics") == 0) write_metrics(report, control);
+    if (!is_done(control->process, report->refusal, report->refused) || control->process->broken) report->length = 0;
+    caller->rest = report->length > 0 ? malloc(report->length) : NULL;
+    caller->answer_length = report->length;
     if (!caller->rest) {
         close_caller(caller);
         return;
     }
-    memcpy(caller->rest, control->report->text, control->report->length);
+    memcpy(caller->rest, report->text, report->length);
     send_rest(control->process, caller);
 }
 
@@ -177,12 +180,15 @@ void tell_watchers(struct status *own, const char *text, size_t length, bool jso
 /* Tells those who watch in JSON how a port is now, or the bundle, where `link` is null. */
 void tell_watchers_of(struct control *control, const struct link *link) {
     struct status *own = &control->process->status;
+    struct report *report = control->report;
     bool any = false;
     EACH_CALLER(caller, own) any = any || (caller->watches && caller->json);
     if (!any) return;
-    control->report->length = 0;
-    write_json_event(control, link);
-    if (!control->process->broken) tell_watchers(own, control->report->text, control->report->length, true);
+    report->length = 0;
+    report->refusal = NIW_OK;
+    write_json_event(report, control, link);
+    if (is_done(control->process, report->refusal, report->refused) && !control->process->broken)
+        tell_watchers(own, report->text, report->length, true);
 }
 
 static void remove_socket(int status UNUSED, void *given) {

@@ -362,8 +362,8 @@ static void pass_fast_tick(struct tap_plane *tap) {
     if (any) wait_or_end(tap);
 }
 
-static int check_fast(struct control *control, const struct options *options) {
-    return check_programs(control->process, options, "fast", true);
+static int check_fast(struct process *process, struct plane *plane UNUSED, const struct options *options) {
+    return check_programs(process, options, "fast", true);
 }
 
 const struct passing BY_KERNEL = {

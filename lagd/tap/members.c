@@ -458,8 +458,8 @@ void receive_data(struct tap_plane *tap, struct link *link) {
         if (member->sockets[kind] >= 0) receive_packets(tap, link, kind);
 }
 
-static int check_tap(struct control *control, const struct options *options) {
-    return access("/dev/net/tun", F_OK) == 0 ? DONE : tell_lack(control->process, options, "carry", "there is no /dev/net/tun", REFUSED);
+static int check_tap(struct process *process, struct plane *plane UNUSED, const struct options *options) {
+    return access("/dev/net/tun", F_OK) == 0 ? DONE : tell_lack(process, options, "carry", "there is no /dev/net/tun", REFUSED);
 }
 
 const struct carrying TAP_DEVICE = {
@@ -479,8 +479,8 @@ const struct queueing ONE_QUEUE = {
     .markers_at_once = 1,
 };
 
-static int check_all_queues(struct control *control, const struct options *options) {
-    return check_programs(control->process, options, "queues", false);
+static int check_all_queues(struct process *process, struct plane *plane UNUSED, const struct options *options) {
+    return check_programs(process, options, "queues", false);
 }
 
 const struct queueing ALL_QUEUES = {

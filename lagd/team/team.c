@@ -245,13 +245,13 @@ static void end_team_plane(struct plane *plane) {
 
 /* Whether the kernel has the team driver, and its mode, which is another module: answers how the program ends. The mode is tried in a network
  * namespace that ends with the program, where that may be made. */
-static int check_team(struct control *control, const struct options *options) {
-    struct team_plane *team = control->plane->team;
+static int check_team(struct process *process, struct plane *plane, const struct options *options) {
+    struct team_plane *team = plane->team;
     bool is_apart = unshare(CLONE_NEWNET) == 0, has_driver = load_team_driver(&team->family);
-    if (!has_driver && errno == EPERM) return tell_lack(team->process, options, "plane", "not known without CAP_NET_ADMIN", DONE);
-    if (!has_driver) return tell_lack(team->process, options, "plane", "this kernel has no team driver", REFUSED);
+    if (!has_driver && errno == EPERM) return tell_lack(process, options, "plane", "not known without CAP_NET_ADMIN", DONE);
+    if (!has_driver) return tell_lack(process, options, "plane", "this kernel has no team driver", REFUSED);
     if (!is_apart || try_team_mode(team)) return DONE;
-    return tell_lack(team->process, options, "plane", "the team driver of this kernel has no mode loadbalance", REFUSED);
+    return tell_lack(process, options, "plane", "the team driver of this kernel has no mode loadbalance", REFUSED);
 }
 
 const struct carrying TEAM_DEVICE = {
