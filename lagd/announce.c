@@ -127,12 +127,11 @@ static bool ask_all(struct announce *own, uint16_t what, uint8_t family, message
 }
 
 /* Finds the device, and what stands above it, level by level. */
-static void find_places(struct carry *carry) {
-    struct announce *own = &carry->announce;
+static void find_places(struct announce *own, const struct device *device) {
     unsigned before = 0;
     memset(own->places, 0, sizeof own->places);
-    own->places[0].index = carry->device->index;
-    own->place_count = read_tap_mac(carry->device, own->places[0].mac) ? 1 : 0;
+    own->places[0].index = device->index;
+    own->place_count = read_tap_mac(device, own->places[0].mac) ? 1 : 0;
     for (unsigned level = 0; level < MOST_LEVELS && before != own->place_count; level++) {
         before = level == 0 ? 0 : own->place_count; /* the first one tells the bridge of the device alone, where that has a lower number */
         (void)ask_all(own, RTM_GETLINK, AF_UNSPEC, read_place);
@@ -141,18 +140,17 @@ static void find_places(struct carry *carry) {
 
 /* Announces the addresses of the device, and of what stands above it. Where the kernel has no IPv6, it does not tell who is a router, and has
  * no address. */
-static void announce(struct carry *carry) {
-    struct announce *own = &carry->announce;
+static void announce(struct process *process, struct announce *own, const struct device *device) {
     bool done = false;
     own->sender = socket(AF_PACKET, SOCK_RAW | SOCK_NONBLOCK | SOCK_CLOEXEC, 0);
     own->announced = own->place_count = 0;
-    if (own->sender >= 0) find_places(carry);
+    if (own->sender >= 0) find_places(own, device);
     if (own->place_count > 0) {
         (void)ask_all(own, RTM_GETNETCONF, AF_INET6, read_forwarding);
         done = ask_all(own, RTM_GETADDR, AF_UNSPEC, read_address);
     }
     if (!done)
-        (void)say(carry->process, LOG_WARNING | ABOUT_CARRIER, "carry %s: its addresses were not announced: %s", carry->settings->carry,
+        (void)say(process, LOG_WARNING | ABOUT_CARRIER, "carry %s: its addresses were not announced: %s", process->settings->carry,
             strerror(errno));
     if (own->sender >= 0) close(own->sender);
 }
@@ -163,11 +161,10 @@ void announce_soon(struct announce *own) {
 }
 
 /* 100 ms passed. While the device has no carrier, nothing that is sent there goes. */
-void pass_announcing_tick(struct carry *carry) {
-    struct announce *own = &carry->announce;
-    if (own->times == 0 || !has_carrier(carry->device)) return;
+void pass_announcing_tick(struct process *process, struct announce *own, const struct device *device) {
+    if (own->times == 0 || !has_carrier(device)) return;
     if (own->wait_ticks > 0 && --own->wait_ticks > 0) return;
-    announce(carry);
+    announce(process, own, device);
     own->times--;
     own->wait_ticks = SECOND;
 }

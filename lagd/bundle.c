@@ -32,17 +32,17 @@ static int start(const char *path, char *const *environment) {
 }
 
 /* Runs the program. Nobody waits for it. */
-static void run_hook(struct protocol *protocol, const char *path, enum bundle_state before) {
+static void run_hook(struct process *process, const struct bundle *now, enum bundle_state before) {
     char name[NAME_ROOM + 16], state[32], previous[32], links_text[32], carrying[32], aggregator[32];
     char *environment[] = {"PATH=/usr/sbin:/usr/bin:/sbin:/bin", name, state, previous, links_text, carrying, aggregator, NULL};
-    snprintf(name, sizeof name, "LAGD_BUNDLE=%s", protocol->settings->name);
-    snprintf(state, sizeof state, "LAGD_STATE=%s", BUNDLE_STATE_TEXTS[protocol->bundle.state]);
+    snprintf(name, sizeof name, "LAGD_BUNDLE=%s", process->settings->name);
+    snprintf(state, sizeof state, "LAGD_STATE=%s", BUNDLE_STATE_TEXTS[now->state]);
     snprintf(previous, sizeof previous, "LAGD_PREVIOUS=%s", BUNDLE_STATE_TEXTS[before]);
-    snprintf(links_text, sizeof links_text, "LAGD_LINKS=%u", protocol->bundle.links);
-    snprintf(carrying, sizeof carrying, "LAGD_CARRYING=%u", protocol->bundle.carrying);
-    snprintf(aggregator, sizeof aggregator, "LAGD_AGGREGATOR=%u", protocol->bundle.aggregator);
-    int fault = start(path, environment);
-    if (fault) (void)say(protocol->process, LOG_WARNING | ABOUT_HOOK, "hook %s: %s", path, strerror(fault));
+    snprintf(links_text, sizeof links_text, "LAGD_LINKS=%u", now->links);
+    snprintf(carrying, sizeof carrying, "LAGD_CARRYING=%u", now->carrying);
+    snprintf(aggregator, sizeof aggregator, "LAGD_AGGREGATOR=%u", now->aggregator);
+    int fault = start(process->settings->hook, environment);
+    if (fault) (void)say(process, LOG_WARNING | ABOUT_HOOK, "hook %s: %s", process->settings->hook, strerror(fault));
 }
 
 static void enter(struct protocol *protocol, const struct bundle *now) {
@@ -57,7 +57,7 @@ static void enter(struct protocol *protocol, const struct bundle *now) {
         now->aggregator);
     tell_watchers_of(protocol->control, NULL);
     notify_bundle(&protocol->bundle, "");
-    if (now->state != before && protocol->settings->hook[0]) run_hook(protocol, protocol->settings->hook, before);
+    if (now->state != before && protocol->settings->hook[0]) run_hook(protocol->process, now, before);
 }
 
 /* Looks at the ports, and tells what became of the bundle. What changes too often is told later, but not that its device is down. */

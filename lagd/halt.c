@@ -7,7 +7,7 @@
 
 static void hold_or_release_ports(struct protocol *protocol) {
     EACH_LINK_AS_IS(link, protocol->ports)
-        if (!apply_hold(protocol, link)) return;
+        if (!apply_hold(protocol->process, &protocol->own_system, link, protocol->halt.down)) return;
 }
 
 static void fall_silent(struct protocol *protocol) {
@@ -20,7 +20,7 @@ static void begin_halt(struct protocol *protocol) {
     EACH_LINK(link, protocol->ports) expect_lacpdu(link);
     hold_or_release_ports(protocol);
     send_due(protocol);
-    read_views(protocol);
+    read_views(protocol->process, &protocol->own_system, protocol->ports);
     protocol->halt.ticks = 0;
     if (end_is_told(protocol->ports)) fall_silent(protocol);
 }
@@ -50,9 +50,9 @@ void follow_device(struct protocol *protocol, bool up) {
 }
 
 /* The device was opened. Where no port goes on, no peer has to be told. */
-void start_halt(struct protocol *protocol) {
-    protocol->halt.down = protocol->device->index != 0 && !is_tap_up(protocol->device);
-    protocol->halt.silent = protocol->halt.down && !protocol->process->resuming;
+void start_halt(struct halt *own, const struct device *device, bool resuming) {
+    own->down = device->index != 0 && !is_tap_up(device);
+    own->silent = own->down && !resuming;
 }
 
 /* The ports of the last daemon went on. */

@@ -283,7 +283,6 @@ struct protocol {
     struct niw_system own_system;
     uint16_t aggregator_count;
     struct bundle bundle;
-    uint64_t resumed_at; /* when it went on from the last daemon, in milliseconds of CLOCK_BOOTTIME as that one had it */
     uint64_t began; /* in milliseconds */
     uint64_t ticks; /* since then */
     uint16_t aggregator_keys[NIW_MOST_PORTS];
@@ -385,7 +384,7 @@ size_t escape(char *text, size_t room, const char *from, size_t length, bool lin
 void read_own_address(struct settings *settings);
 
 /* locks.c */
-int lock_interface(struct process *process, int index);
+int lock_interface(struct store *store, const struct inherited *inherited, int index);
 #define HOLDER_ROOM 64
 const char *holder_of(const struct ports *ports, int index, char room[static HOLDER_ROOM]);
 
@@ -395,7 +394,7 @@ void close_link(struct plane *plane, struct store *store, struct link *link);
 int open_in_sys(int index, const char *what, int flags);
 bool read_text(int fd, char *text, size_t room);
 bool see_new_carrier(struct link *link);
-void send_frame(struct protocol *protocol, struct link *link, const uint8_t *frame);
+void send_frame(struct process *process, struct changes *changes, struct link *link, const uint8_t *frame);
 
 /* frames.c */
 struct arrival {
@@ -442,18 +441,18 @@ void limit_links(struct protocol *protocol, uint16_t most);
 int open_changes(struct protocol *protocol);
 void receive_changes(struct protocol *protocol);
 void read_messages(struct protocol *protocol, const void *messages, size_t length);
-void watch_changes(struct protocol *protocol);
+void watch_changes(struct changes *own, struct ports *ports);
 void lose_member(struct protocol *protocol, struct link *link);
 void ask_links(struct changes *own, const struct ports *ports);
-void ask_now(struct protocol *protocol);
+void ask_now(struct changes *own, struct ports *ports);
 void watch_carriers(struct protocol *protocol, bool tick);
 
 /* keys.c */
-void choose_slots(struct protocol *protocol);
-void make_keys(struct protocol *protocol, uint16_t keys[static NIW_MOST_PORTS]);
+void choose_slots(struct keys *own, struct ports *ports, const struct settings *settings);
+uint16_t make_keys(struct keys *own, const struct ports *ports, uint16_t keys[static NIW_MOST_PORTS]);
 bool has_aggregator(const struct keys *own, uint16_t given);
 uint16_t free_key(const struct keys *own, const struct ports *ports, uint16_t behind, const struct link *but);
-uint16_t choose_key(struct protocol *protocol, const struct link *link);
+uint16_t choose_key(struct keys *own, const struct ports *ports, const struct settings *settings, const struct link *link);
 bool ask_driver(int index, void *value);
 struct speed read_speed(int socket, int index);
 bool write_speed(int socket, int index, uint32_t megabits);
@@ -465,12 +464,12 @@ const char *speed_text(const struct speed *speed, char room[static 40]);
 void make_system(struct protocol *protocol);
 size_t resume_system(struct protocol *protocol, struct niw_saved *saved, size_t count);
 void set_link(struct protocol *protocol, struct link *link, bool up);
-bool apply_hold(struct protocol *protocol, const struct link *link) MUST_USE;
+bool apply_hold(struct process *process, struct niw_system *system, const struct link *link, bool down) MUST_USE;
 void hold_by_settings(struct protocol *protocol);
 void lose_link(struct protocol *protocol, struct link *link);
 void send_due(struct protocol *protocol);
 void settle_calls(struct protocol *protocol);
-void send_again(struct protocol *protocol);
+void send_again(struct process *process, struct changes *changes, struct ports *ports);
 bool pass_system_tick(struct protocol *protocol);
 uint64_t seconds_since(uint64_t began);
 uint64_t milliseconds_of(clockid_t clock);
@@ -483,8 +482,8 @@ bool end_system(struct protocol *protocol);
 /* membership.c */
 #define ORDER_ROOM 384
 uint16_t count_links(const struct ports *ports);
-bool place_ports(const struct protocol *protocol, struct settings *settings);
-void keep_left_ports(struct protocol *protocol);
+bool place_ports(const struct process *process, const struct ports *ports, struct settings *settings);
+void keep_left_ports(const struct inherited *inherited, struct ports *ports, struct settings *settings);
 void leave_left_ports(struct protocol *protocol);
 void begin_link(const struct settings *settings, struct ports *ports, uint16_t port);
 void join_port(struct protocol *protocol, struct link *link, const struct port_settings *settings);
@@ -497,17 +496,17 @@ bool may_put_in(const struct protocol *protocol, const struct link *link);
 bool note_whether_outside(const struct protocol *protocol, struct link *link, int master);
 void tell_taken_out(struct protocol *protocol, struct link *link);
 void follow_port(struct protocol *protocol, const struct interface *interface);
-bool accept_name(struct protocol *protocol, const struct link *link, const struct interface *interface);
+bool take_new_name(struct protocol *protocol, struct link *link, const struct interface *interface);
 void answer_order(struct protocol *protocol, char *order, char answer[static ORDER_ROOM]);
 
 /* halt.c */
 void follow_device(struct protocol *protocol, bool up);
-void start_halt(struct protocol *protocol);
+void start_halt(struct halt *own, const struct device *device, bool resuming);
 void halt_if_down(struct protocol *protocol);
 void pass_halt_tick(struct protocol *protocol);
 
 /* ports.c */
-void read_views(struct protocol *protocol);
+void read_views(struct process *process, struct niw_system *system, struct ports *ports);
 void print_all_changes(struct protocol *protocol);
 bool print_change(struct protocol *protocol, struct link *link);
 struct facts facts_of(const struct protocol *protocol, const struct link *link);
@@ -570,7 +569,7 @@ void drop_stored(struct store *own, const char *kind, int number);
 void close_stored(struct store *own, const char *kind, int number, int fd);
 void drop_unclaimed(struct store *own);
 bool is_bound(int fd, int index);
-int packet_socket(struct process *process, const char *kind, int of, int index, int type);
+int packet_socket(struct store *store, const struct inherited *inherited, const char *kind, int of, int index, int type);
 int attach_stored(struct store *own, const char *kind, int program, int index, bool egress);
 void detach_stored(struct store *own, const char *kind, int index, int attached);
 
@@ -599,8 +598,8 @@ const char *read_port(struct words *words, char *text, struct settings *settings
 /* status.c */
 #define REFUSAL "refused: " /* begins the answer to who has no place */
 void open_status(struct process *process, const char *folder);
-void accept_callers(struct process *process);
-void pass_tick_of_callers(struct process *process);
+void accept_callers(struct status *own, int epoll_file);
+void pass_tick_of_callers(struct status *own, int epoll_file);
 void tell_watchers(struct status *own, const char *text, size_t length, bool json);
 void tell_watchers_of(struct control *control, const struct link *link);
 
@@ -609,7 +608,7 @@ uint64_t boottime(void);
 uint32_t first_marker_left(const struct inherited *inherited);
 bool was_away_briefly(const struct inherited *inherited);
 bool lacpdu_holds(uint64_t now, uint64_t then, bool short_timeout);
-void begin_resuming(struct process *process);
+bool has_carried_links(const struct inherited *inherited);
 unsigned resume(struct protocol *protocol);
 void release_others(struct protocol *protocol);
 void resume_data(struct protocol *protocol, unsigned count);

@@ -16,7 +16,7 @@
 static int open_socket(struct process *process, int index) {
     struct sockaddr_ll address = {.sll_family = AF_PACKET, .sll_protocol = htons(ETH_P_SLOW), .sll_ifindex = index};
     struct packet_mreq member = {index, PACKET_MR_MULTICAST, 6, {0x01, 0x80, 0xc2, 0x00, 0x00, 0x02}};
-    int opened = packet_socket(process, "lacp", index, index, SOCK_RAW);
+    int opened = packet_socket(&process->store, process->inherited, "lacp", index, index, SOCK_RAW);
     if (opened < 0) return opened;
     (void)setsockopt(opened, SOL_SOCKET, SO_PRIORITY, &(int){TC_PRIO_CONTROL}, sizeof(int)); /* before data */
     (void)setsockopt(opened, SOL_PACKET, PACKET_IGNORE_OUTGOING, &(int){1}, sizeof(int));
@@ -91,7 +91,7 @@ static void close_files(struct store *store, struct link *link) {
 /* Opens what an interface that is taken up has; answers 0, or -errno. */
 static int open_files(struct process *process, struct plane *plane, struct link *link, int index) {
     link->index = index;
-    link->lock = lock_interface(process, index);
+    link->lock = lock_interface(&process->store, process->inherited, index);
     if (link->lock < 0) return link->lock;
     link->socket = open_socket(process, index);
     if (link->socket < 0) return link->socket;
@@ -125,7 +125,7 @@ void close_link(struct plane *plane, struct store *store, struct link *link) {
 /* Sends a frame, with the address that the interface has now. An LACPDU that the kernel does not take is sent again at each tick,
  * until a newer one is due; so is one for which a second has no room: the library counts ticks, of which two may come at once where one was late. A
  * response is lost, as on a wire. A response tells of what came before its marker, and may pass what goes. */
-void send_frame(struct protocol *protocol, struct link *link, const uint8_t *frame) {
+void send_frame(struct process *process, struct changes *changes, struct link *link, const uint8_t *frame) {
     bool is_lacpdu = frame[SUBTYPE_AT] == SUBTYPE_LACP;
     uint8_t sent[NIW_FRAME];
     if (link->socket < 0) return;
@@ -139,13 +139,13 @@ void send_frame(struct protocol *protocol, struct link *link, const uint8_t *fra
     memcpy(sent + ETH_ALEN, link->mac, ETH_ALEN);
     if (give_past_data(link, sent)) {
         if (is_lacpdu) link->unsent = false;
-        if (!is_done(protocol->process, niw_count_sent(&link->counters, sent, sizeof sent), "niw_count_sent") || !is_lacpdu) return;
+        if (!is_done(process, niw_count_sent(&link->counters, sent, sizeof sent), "niw_count_sent") || !is_lacpdu) return;
         memmove(link->lacpdus_at, link->lacpdus_at + 1, sizeof link->lacpdus_at - sizeof *link->lacpdus_at);
         link->lacpdus_at[MOST_LACPDUS - 1] = boottime();
         return;
     }
     link->counts[FAILED_SENT]++;
-    protocol->changes.suspected = true;
+    changes->suspected = true;
     if (errno == ENETDOWN || errno == ENXIO) return; /* of a link that is down the kernel tells, too */
     link->trouble = errno;
     link->trouble_ticks = TROUBLE_TICKS;

@@ -90,7 +90,7 @@ static void drop_privileges(struct process *process, bool administers) {
 }
 
 static void tell_changes(struct protocol *protocol) {
-    read_views(protocol);
+    read_views(protocol->process, &protocol->own_system, protocol->ports);
     print_all_changes(protocol);
     look_at_bundle(protocol);
 }
@@ -102,7 +102,7 @@ static void pass_second(struct lagd *lagd) {
     look_for_twins(&lagd->protocol);
     if (lagd->protocol.bundle.lines < MOST_LINES) lagd->protocol.bundle.lines++;
     pass_revert_second(&lagd->protocol);
-    watch_changes(&lagd->protocol);
+    watch_changes(&lagd->protocol.changes, &lagd->ports);
     (void)save_state(&lagd->state, false);
     notify("WATCHDOG=1");
 }
@@ -122,8 +122,8 @@ static void pass_time(struct lagd *lagd, int clock) {
     if (passed > MOST_TICKS) passed = MOST_TICKS;
     for (; passed > 0; passed--) pass_tick(lagd);
     send_due(&lagd->protocol);
-    send_again(&lagd->protocol);
-    pass_tick_of_callers(&lagd->process);
+    send_again(&lagd->process, &lagd->protocol.changes, &lagd->ports);
+    pass_tick_of_callers(&lagd->process.status, lagd->process.epoll_file);
     tell_changes(&lagd->protocol);
 }
 
@@ -190,7 +190,7 @@ static void serve(struct lagd *lagd, const struct epoll_event *events, int count
     serve_all_data(&lagd->tap, events, count);
     for (int i = 0; i < count; i++)
         if (events[i].data.u32 >= CALLERS && events[i].data.u32 < HOST) serve_caller(&lagd->control, events[i].data.u32 - CALLERS);
-    if (is_ready(events, count, STATUS)) accept_callers(&lagd->process);
+    if (is_ready(events, count, STATUS)) accept_callers(&lagd->process.status, lagd->process.epoll_file);
     watch_carriers(&lagd->protocol, tick);
     if (tick) pass_time(lagd, clock);
     settle_carry(&lagd->plane);
@@ -246,10 +246,10 @@ static int run_daemon(struct lagd *lagd, const struct options *options) {
     choose_plane(&lagd->plane, &lagd->settings);
     recall_state(&lagd->state);
     make_system(&lagd->protocol);
-    begin_resuming(&lagd->process);
+    lagd->process.resuming = has_carried_links(&lagd->inherited);
     if (lagd->process.inherited->others && !lagd->plane.carrying->keeps_members) release_former_members(&lagd->plane);
     CALL(lagd->plane.carrying->open, &lagd->plane);
-    start_halt(&lagd->protocol);
+    start_halt(&lagd->protocol.halt, &lagd->device, lagd->process.resuming);
     need(await_input(lagd->process.epoll_file, open_changes(&lagd->protocol), CHANGES), "epoll");
     open_status(&lagd->process, options->folder);
     int clock = open_clock();

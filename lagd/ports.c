@@ -52,14 +52,14 @@ static void count_change(const struct settings *settings, struct link *link, con
         link->counts[DISTRIBUTED]++;
 }
 
-void read_views(struct protocol *protocol) {
+void read_views(struct process *process, struct niw_system *system, struct ports *ports) {
     struct niw_view views[NIW_MOST_PORTS];
     uint64_t changed;
-    if (!is_told(protocol->process, niw_views(&protocol->own_system, views, NIW_MOST_PORTS), "niw_views", &changed)) return;
-    EACH_LINK(link, protocol->ports) {
+    if (!is_told(process, niw_views(system, views, NIW_MOST_PORTS), "niw_views", &changed)) return;
+    EACH_LINK(link, ports) {
         const struct niw_view *now = &views[link->settings.number - 1];
         if (!(changed >> (link->settings.number - 1) & 1)) continue;
-        count_change(protocol->settings, link, now);
+        count_change(process->settings, link, now);
         link->view = *now;
         link->changed = true;
     }

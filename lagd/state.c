@@ -56,7 +56,7 @@ static void write_conversations(struct state *own, FILE *file) {
     for (uint16_t number = 0; number < CONVERSATIONS; number++) {
         struct niw_assignment assigned;
         uint16_t home = carry->conversations[number].home;
-        if (home == 0 || !ask_state(carry->protocol, home, number, &assigned) || assigned.what == NIW_CONVERSATION_FREE) continue;
+        if (home == 0 || !ask_state(carry->process, &carry->protocol->own_system, home, number, &assigned) || assigned.what == NIW_CONVERSATION_FREE) continue;
         if (assigned.port == 0 || assigned.port > carry->ports->count) continue;
         own->members[number] = carry->ports->links[assigned.port - 1].index;
         fprintf(file, "on %u %d\n", number, own->members[number]);
@@ -380,10 +380,10 @@ static bool read_rest(struct inherited *inherited, FILE *file) {
 
 /* By other settings nothing goes on: what stays to be done is to put back what the last daemon changed. It has a line once these interfaces
  * are found. `way` is that of the last daemon. */
-static void leave_all_but_interfaces(struct state *own, const char *way) {
-    struct inherited *inherited = own->carry->process->inherited, last = *inherited;
+static void leave_all_but_interfaces(struct inherited *inherited, struct plane *plane, const char *way) {
+    const struct inherited last = *inherited;
     const char *word = strrchr(way, '/');
-    leave_device(own->carry->plane, word ? word + 1 : way, last.tap, last.persists);
+    leave_device(plane, word ? word + 1 : way, last.tap, last.persists);
     *inherited = (struct inherited){.others = true, .link_count = last.link_count, .space = last.space, .written = last.written, .wall = last.wall,
         .marker = last.marker};
     memcpy(inherited->links, last.links, sizeof inherited->links);
@@ -427,7 +427,7 @@ static const char *take_over_state(struct state *own, FILE *file, bool is_copy) 
     bool is_same_way = strcmp(given, way(own->carry, room)) == 0;
     if (is_copy) return is_same_way ? bring_over(inherited) : "it belongs to other settings";
     if (inherited->space != 0 && inherited->space != own->space) return "it is of another network namespace";
-    if (!is_same_way) leave_all_but_interfaces(own, given);
+    if (!is_same_way) leave_all_but_interfaces(inherited, own->carry->plane, given);
     return NULL;
 }
 

@@ -42,13 +42,13 @@ static void end_with(struct caller *caller, const char *text) {
     close_caller(caller);
 }
 
-static void accept_one(struct process *process, int fd) {
+static void accept_one(struct status *own, int epoll_file, int fd) {
     struct ucred who = {0};
     socklen_t length = sizeof who;
     const char *why = NULL;
-    struct caller *place = getsockopt(fd, SOL_SOCKET, SO_PEERCRED, &who, &length) == 0 ? place_for(&process->status, who.uid, &why) : NULL;
+    struct caller *place = getsockopt(fd, SOL_SOCKET, SO_PEERCRED, &who, &length) == 0 ? place_for(own, who.uid, &why) : NULL;
     struct caller caller = {.fd = fd, .user = who.uid, .ticks = PATIENCE};
-    if (place && await_input(process->epoll_file, fd, CALLERS + (uint32_t)(place - process->status.callers))) {
+    if (place && await_input(epoll_file, fd, CALLERS + (uint32_t)(place - own->callers))) {
         *place = caller;
         return;
     }
@@ -58,16 +58,15 @@ static void accept_one(struct process *process, int fd) {
 }
 
 /* Takes connections, in the order in which they came. Those for which there is no room now are taken at the next tick. */
-void accept_callers(struct process *process) {
-    struct status *own = &process->status;
+void accept_callers(struct status *own, int epoll_file) {
     while (own->left_in_tick > 0) {
         int fd = accept4(own->listener, NULL, NULL, SOCK_NONBLOCK | SOCK_CLOEXEC);
         if (fd < 0 && (errno == EAGAIN || errno == EINTR || errno == ECONNABORTED)) return;
         if (fd < 0) break; /* without a file for it, it waits for the next tick */
         own->left_in_tick--;
-        accept_one(process, fd);
+        accept_one(own, epoll_file, fd);
     }
-    if (own->listens) await_no_more(process->epoll_file, own->listener);
+    if (own->listens) await_no_more(epoll_file, own->listener);
     own->listens = false;
 }
 
@@ -162,12 +161,11 @@ void serve_caller(struct control *control, uint32_t number) {
 }
 
 /* 100 ms passed: who asked nothing for 2 s is let go, and more may come. */
-void pass_tick_of_callers(struct process *process) {
-    struct status *own = &process->status;
+void pass_tick_of_callers(struct status *own, int epoll_file) {
     EACH_CALLER(caller, own)
         if (caller->fd >= 0 && !caller->watches && --caller->ticks == 0) close_caller(caller);
     own->left_in_tick = MOST_IN_TICK;
-    if (!own->listens) own->listens = await_input(process->epoll_file, own->listener, STATUS);
+    if (!own->listens) own->listens = await_input(epoll_file, own->listener, STATUS);
 }
 
 /* Tells those who watch, by lines or in JSON; who does not keep up is let go. */

@@ -550,7 +550,7 @@ void close_guard(struct tap_plane *tap, const struct link *link, struct guard *g
 void put_back(struct tap_plane *tap, const struct inherited_link *was) {
     struct link link = {.index = was->index};
     struct guard guard = {.classifier = CLASSIFIER_ALONE};
-    int lock = lock_interface(tap->process, was->index);
+    int lock = lock_interface(&tap->process->store, tap->process->inherited, was->index);
     if (lock < 0) return;
     guard.opened = claim_stored(&tap->process->store, "guard", was->index);
     guard.chooser = claim_stored(&tap->process->store, "queues", was->index);

@@ -93,7 +93,7 @@ static bool set_up_data(int fd, int index, const struct guard *guard) {
 static int open_socket(struct tap_plane *tap, const struct link *link, const struct guard *guard, enum socket_kind kind) {
     int index = kind == MARKERS ? tap->device->index : link->index;
     struct sockaddr_ll address = {.sll_family = AF_PACKET, .sll_protocol = htons(kind == DIRECT ? ETH_P_SLOW : ETH_P_ALL), .sll_ifindex = index};
-    int fd = packet_socket(tap->process, SOCKET_NAMES[kind], link->index, index, SOCK_RAW);
+    int fd = packet_socket(&tap->process->store, tap->process->inherited, SOCKET_NAMES[kind], link->index, index, SOCK_RAW);
     bool only_sends = kind == DATA && guard->fast, filtered;
     if (fd < 0) return fd;
     (void)set_packet(fd, PACKET_IGNORE_OUTGOING, 1);

@@ -36,7 +36,7 @@ static uint32_t least_mtu(const struct settings *settings) {
 
 static void lock_device(struct team_plane *team, int index) {
     char what[128], holder[HOLDER_ROOM];
-    team->lock = lock_interface(team->process, index);
+    team->lock = lock_interface(&team->process->store, team->process->inherited, index);
     if (team->lock == -EADDRINUSE) {
         snprintf(what, sizeof what, "another lagd has the interface, %s", holder_of(team->ports, index, holder));
         stop(REFUSED, what, team->settings->carry);
@@ -194,7 +194,7 @@ static void leave_team(struct plane *plane, int index, bool owned) {
     struct team_plane *team = plane->team;
     struct interface device;
     if (!load_team_driver(&team->family) || !ask_interface(index, NULL, &device) || strcmp(device.kind, TEAM_KIND) != 0) return;
-    int held = lock_interface(team->process, index);
+    int held = lock_interface(&team->process->store, team->process->inherited, index);
     if (held < 0) return;
     free_inherited_ports(team->process->inherited, index);
     if (owned) (void)remove_device(index);
