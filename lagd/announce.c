@@ -21,7 +21,7 @@ enum { ADVERTISED_OCTETS = 32, HOP_LIMIT = 255, ADVERTISEMENT = 136, FROM_ROUTER
 #define MOST_LEVELS 4
 
 /* Sends a frame by an interface, as the host does: it comes from the device with the others. One that is not taken is lost, as on a wire. */
-static void send_from(struct announce *own, const struct announced_place *place, const uint8_t *frame, size_t length) {
+static void send_announcement(struct announce *own, const struct announced_place *place, const uint8_t *frame, size_t length) {
     struct sockaddr_ll to = {.sll_family = AF_PACKET, .sll_ifindex = place->index};
     if (own->announced++ < MOST_ANNOUNCED) (void)sendto(own->sender, frame, length, 0, (struct sockaddr *)&to, sizeof to);
 }
@@ -42,7 +42,7 @@ static void announce_ipv4(struct announce *own, const struct announced_place *pl
     memcpy(at + 8, place->mac, ETH_ALEN);
     memcpy(at + 14, address, 4);
     memcpy(at + 24, address, 4);
-    send_from(own, place, frame, sizeof frame);
+    send_announcement(own, place, frame, sizeof frame);
 }
 
 /* An advertisement of an address to all nodes, which overrides what they know. */
@@ -63,7 +63,7 @@ static void announce_ipv6(struct announce *own, const struct announced_place *pl
     uint16_t sum = fold(add_octets(htons(ADVERTISED_OCTETS + IPPROTO_ICMPV6), ip + IPV6_ADDRESSES, 32));
     memcpy(at + 2, &sum, sizeof sum);
     put_sum(at, ADVERTISED_OCTETS, 2);
-    send_from(own, place, frame, sizeof frame);
+    send_announcement(own, place, frame, sizeof frame);
 }
 
 static struct announced_place *place_of(struct announce *own, int index) {

@@ -8,7 +8,7 @@
 
 /* Starts a program in a session of its own, which has no signal blocked or ignored, reads nothing, and prints to standard error. It has the timer
  * slack that the daemon was started with: a child inherits what holds at its start. Answers 0, or errno. */
-static int start(const char *path, char *const *environment) {
+static int start_program(const char *path, char *const *environment) {
     char *words[] = {(char *)(uintptr_t)path, NULL};
     posix_spawnattr_t attributes;
     posix_spawn_file_actions_t files;
@@ -41,11 +41,11 @@ static void run_hook(struct process *process, const struct bundle *now, enum bun
     snprintf(links_text, sizeof links_text, "LAGD_LINKS=%u", now->links);
     snprintf(carrying, sizeof carrying, "LAGD_CARRYING=%u", now->carrying);
     snprintf(aggregator, sizeof aggregator, "LAGD_AGGREGATOR=%u", now->aggregator);
-    int fault = start(process->settings->hook, environment);
+    int fault = start_program(process->settings->hook, environment);
     if (fault) (void)say(process, LOG_WARNING | ABOUT_HOOK, "hook %s: %s", process->settings->hook, strerror(fault));
 }
 
-static void enter(struct protocol *protocol, const struct bundle *now) {
+static void enter_state(struct protocol *protocol, const struct bundle *now) {
     enum bundle_state before = protocol->bundle.state;
     protocol->bundle = *now;
     if (now->state != before) {
@@ -74,12 +74,12 @@ void look_at_bundle(struct protocol *protocol) {
     if (now.changed_at == 0) now.changed_at = time(NULL);
     now.reported = true;
     if (now.lines > 0) now.lines--;
-    enter(protocol, &now);
+    enter_state(protocol, &now);
 }
 
 void end_bundle(struct protocol *protocol) {
     struct bundle now = protocol->bundle;
     now.state = BUNDLE_DOWN;
     now.aggregator = now.carrying = 0;
-    if (protocol->bundle.state != BUNDLE_DOWN) enter(protocol, &now);
+    if (protocol->bundle.state != BUNDLE_DOWN) enter_state(protocol, &now);
 }

@@ -54,7 +54,7 @@ static bool take_up_or_end(struct protocol *protocol, struct link *link, const s
     memcpy(link->discipline, interface->discipline, sizeof link->discipline);
     if (interface->has_mac) memcpy(link->mac, interface->mac, sizeof link->mac);
     link->stacked = is_stacked(interface);
-    if (open_link(protocol->process, protocol->plane, link, interface->index)) {
+    if (take_up_interface(protocol->process, protocol->plane, link, interface->index)) {
         link->kernel_losses = interface->losses;
         link->puts_in = false;
         return true;

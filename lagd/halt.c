@@ -16,7 +16,7 @@ static void fall_silent(struct protocol *protocol) {
 }
 
 /* Tells each peer that its port is out of use, and then nothing more. */
-static void begin_halt(struct protocol *protocol) {
+static void tell_peers_of_halt(struct protocol *protocol) {
     EACH_LINK(link, protocol->ports) expect_lacpdu(link);
     hold_or_release_ports(protocol);
     send_due(protocol);
@@ -44,13 +44,13 @@ void follow_device(struct protocol *protocol, bool up) {
     if (up)
         end_halt(protocol);
     else
-        begin_halt(protocol);
+        tell_peers_of_halt(protocol);
     protocol->plane->changed = true;
     look_at_bundle(protocol);
 }
 
 /* The device was opened. Where no port goes on, no peer has to be told. */
-void start_halt(struct halt *own, const struct device *device, bool resuming) {
+void note_halt_at_start(struct halt *own, const struct device *device, bool resuming) {
     own->down = device->index != 0 && !is_tap_up(device);
     own->silent = own->down && !resuming;
 }
@@ -60,7 +60,7 @@ void halt_if_down(struct protocol *protocol) {
     if (protocol->halt.down)
         (void)say(protocol->process, LOG_NOTICE | ABOUT_CARRIER, "carry %s: the device is down: LACP begins once it is up",
             protocol->settings->carry);
-    if (protocol->halt.down && !protocol->halt.silent) begin_halt(protocol);
+    if (protocol->halt.down && !protocol->halt.silent) tell_peers_of_halt(protocol);
     if (!protocol->halt.down && protocol->halt.silent) end_halt(protocol);
 }
 

@@ -389,8 +389,8 @@ int lock_interface(struct store *store, const struct inherited *inherited, int i
 const char *holder_of(const struct ports *ports, int index, char room[static HOLDER_ROOM]);
 
 /* links.c */
-bool open_link(struct process *process, struct plane *plane, struct link *link, int index);
-void close_link(struct plane *plane, struct store *store, struct link *link);
+bool take_up_interface(struct process *process, struct plane *plane, struct link *link, int index);
+void release_interface(struct plane *plane, struct store *store, struct link *link);
 int open_in_sys(int index, const char *what, int flags);
 bool read_text(int fd, char *text, size_t room);
 bool see_new_carrier(struct link *link);
@@ -501,7 +501,7 @@ void answer_order(struct protocol *protocol, char *order, char answer[static ORD
 
 /* halt.c */
 void follow_device(struct protocol *protocol, bool up);
-void start_halt(struct halt *own, const struct device *device, bool resuming);
+void note_halt_at_start(struct halt *own, const struct device *device, bool resuming);
 void halt_if_down(struct protocol *protocol);
 void pass_halt_tick(struct protocol *protocol);
 
@@ -560,7 +560,7 @@ uint32_t program_keeper(int attached);
 #define READY "READY=1\n"
 void notify(const char *what);
 void notify_bundle(const struct bundle *bundle, const char *what);
-void open_store(struct process *process);
+void receive_stored(struct process *process);
 bool has_store(void);
 void put_stored(const struct store *own, const char *kind, int number, int fd);
 int claim_stored(struct store *own, const char *kind, int number);

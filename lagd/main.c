@@ -116,7 +116,7 @@ static void pass_tick(struct lagd *lagd) {
 }
 
 /* Makes up the ticks that passed, and then sends once. */
-static void pass_time(struct lagd *lagd, int clock) {
+static void make_up_ticks(struct lagd *lagd, int clock) {
     uint64_t passed = 0;
     if (read(clock, &passed, sizeof passed) != sizeof passed) return;
     if (passed > MOST_TICKS) passed = MOST_TICKS;
@@ -157,7 +157,7 @@ static void serve_all_data(struct tap_plane *tap, const struct epoll_event *even
 }
 
 /* The next daemon is to go on, if it can. */
-static void leave_state(struct lagd *lagd) {
+static void hand_over_state(struct lagd *lagd) {
     CALL(lagd->plane.carrying->keep_device, &lagd->plane, true);
     lagd->process.has_left = save_state(&lagd->state, true);
     if (!lagd->process.has_left) {
@@ -174,7 +174,7 @@ static bool serve_signal(struct lagd *lagd, int signals, const char *file) {
     if (read(signals, &signal, sizeof signal) != sizeof signal) return true;
     switch (signal.ssi_signo) {
     case SIGUSR2: ask_moves(&lagd->carry); return false;
-    case SIGUSR1: leave_state(lagd); return !lagd->process.has_left;
+    case SIGUSR1: hand_over_state(lagd); return !lagd->process.has_left;
     case SIGHUP:
         if (file) reload(&lagd->protocol, file);
         return !file;
@@ -192,7 +192,7 @@ static void serve(struct lagd *lagd, const struct epoll_event *events, int count
         if (events[i].data.u32 >= CALLERS && events[i].data.u32 < HOST) serve_caller(&lagd->control, events[i].data.u32 - CALLERS);
     if (is_ready(events, count, STATUS)) accept_callers(&lagd->process.status, lagd->process.epoll_file);
     watch_carriers(&lagd->protocol, tick);
-    if (tick) pass_time(lagd, clock);
+    if (tick) make_up_ticks(lagd, clock);
     settle_carry(&lagd->plane);
 }
 
@@ -242,14 +242,14 @@ static int run_daemon(struct lagd *lagd, const struct options *options) {
     need(lagd->process.epoll_file >= 0, "epoll");
     if (lagd->settings.system_auto) read_own_address(&lagd->settings);
     lagd->process.folder = open_folder(options->folder);
-    open_store(&lagd->process);
+    receive_stored(&lagd->process);
     choose_plane(&lagd->plane, &lagd->settings);
     recall_state(&lagd->state);
     make_system(&lagd->protocol);
     lagd->process.resuming = has_carried_links(&lagd->inherited);
     if (lagd->process.inherited->others && !lagd->plane.carrying->keeps_members) release_former_members(&lagd->plane);
     CALL(lagd->plane.carrying->open, &lagd->plane);
-    start_halt(&lagd->protocol.halt, &lagd->device, lagd->process.resuming);
+    note_halt_at_start(&lagd->protocol.halt, &lagd->device, lagd->process.resuming);
     need(await_input(lagd->process.epoll_file, open_changes(&lagd->protocol), CHANGES), "epoll");
     open_status(&lagd->process, options->folder);
     int clock = open_clock();

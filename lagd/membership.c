@@ -19,14 +19,14 @@ uint16_t count_links(const struct ports *ports) {
     return count;
 }
 
-static struct link *link_of(struct ports *ports, const char *name) {
+static struct link *link_named(struct ports *ports, const char *name) {
     EACH_LINK(link, ports)
         if (link->used && strcmp(link->name, name) == 0) return link;
     return NULL;
 }
 
 /* The number that a port has, or had in the last daemon; 0 for none. */
-static uint16_t number_of(const struct process *process, const struct ports *ports, const char *name) {
+static uint16_t known_port_number(const struct process *process, const struct ports *ports, const char *name) {
     const struct inherited *inherited = process->inherited;
     EACH_LINK_AS_IS(link, ports)
         if (link->used && strcmp(link->name, name) == 0) return link->settings.number;
@@ -36,7 +36,7 @@ static uint16_t number_of(const struct process *process, const struct ports *por
 }
 
 /* Whether the last daemon left a port whose peer takes it for one of the bundle. */
-static bool has_carried(const struct inherited *inherited, const struct inherited_port *port) {
+static bool was_carrying(const struct inherited *inherited, const struct inherited_port *port) {
     for (unsigned i = 0; i < inherited->link_count; i++)
         if (port->index != 0 && inherited->links[i].index == port->index) return inherited->links[i].carried;
     return false;
@@ -49,10 +49,10 @@ static bool number_ports(const struct process *process, const struct ports *port
     bool taken[NIW_MOST_PORTS + 1] = {true}; /* by number: there is no port 0 */
     EACH_LINK_AS_IS(link, ports) taken[link->settings.number] = link->used;
     for (unsigned i = 0; with_left && i < inherited->port_count; i++)
-        if (inherited->ports[i].number <= ports->slots && has_carried(inherited, &inherited->ports[i]))
+        if (inherited->ports[i].number <= ports->slots && was_carrying(inherited, &inherited->ports[i]))
             taken[inherited->ports[i].number] = true;
     for (uint16_t i = 0; i < count; i++) {
-        numbers[i] = number_of(process, ports, given[i].name);
+        numbers[i] = known_port_number(process, ports, given[i].name);
         taken[numbers[i]] = true;
     }
     for (uint16_t i = 0, lowest = 0; i < count; i++) {
@@ -85,7 +85,7 @@ bool place_ports(const struct process *process, const struct ports *ports, struc
 void keep_left_ports(const struct inherited *inherited, struct ports *ports, struct settings *settings) {
     for (const struct inherited_port *port = inherited->ports; port < inherited->ports + inherited->port_count; port++) {
         struct link *link = &ports->links[port->number - 1];
-        if (port->number > ports->slots || link->used || !has_carried(inherited, port)) continue;
+        if (port->number > ports->slots || link->used || !was_carrying(inherited, port)) continue;
         memcpy(settings->ports[port->number - 1].name, port->name, sizeof port->name);
         if (port->number > settings->port_count) settings->port_count = port->number;
         begin_link(settings, ports, port->number);
@@ -106,7 +106,7 @@ void begin_link(const struct settings *settings, struct ports *ports, uint16_t p
 }
 
 /* Gives the library what the settings have of a port; answers whether it took that. */
-static bool configure(struct protocol *protocol, struct link *link) {
+static bool configure_port(struct protocol *protocol, struct link *link) {
     struct niw_change change = {.key = choose_key(&protocol->keys, protocol->ports, protocol->settings, link), .priority = link->settings.priority, .aggregatable = link->settings.aggregatable};
     uint16_t port = link->settings.number;
     link->settings.key = change.key;
@@ -122,7 +122,7 @@ void join_port(struct protocol *protocol, struct link *link, const struct port_s
     begin_link(protocol->settings, protocol->ports, port);
     link->puts_in = true;
     CALL(protocol->plane->carrying->forget, protocol->plane, link);
-    if (!configure(protocol, link)) return;
+    if (!configure_port(protocol, link)) return;
     (void)say(protocol->process, LOG_NOTICE | ABOUT_PORT, "port %u %s: it joins the bundle", port, link->name);
     ask_now(&protocol->changes, protocol->ports);
 }
@@ -262,7 +262,7 @@ void follow_port(struct protocol *protocol, const struct interface *interface) {
 /* The interface of a port that the device alone has was given another name: it is the same port. Answers whether it is. */
 bool take_new_name(struct protocol *protocol, struct link *link, const struct interface *interface) {
     char *name = protocol->settings->ports[link->settings.number - 1].name;
-    if (!link->followed || link->leaving || interface->master != protocol->device->index || link_of(protocol->ports, interface->name))
+    if (!link->followed || link->leaving || interface->master != protocol->device->index || link_named(protocol->ports, interface->name))
         return false;
     (void)say(protocol->process, LOG_NOTICE | ABOUT_PORT, "port %u %s: its name is %s now", link->settings.number, name, interface->name);
     memcpy(name, interface->name, sizeof interface->name);
@@ -294,7 +294,7 @@ static const char *add_by_words(struct protocol *protocol, char *text, uint16_t 
         snprintf(room, ORDER_ROOM, "%.32s%sexpected %s", found == text ? "" : found, found == text ? "" : ": ", expected);
         return room;
     }
-    struct link *known = link_of(protocol->ports, settings->name), *link = known ? known : free_place(protocol->ports);
+    struct link *known = link_named(protocol->ports, settings->name), *link = known ? known : free_place(protocol->ports);
     const char *fault = known ? NULL : try_interface(protocol->process, protocol->ports, settings->name);
     if (known && !known->leaving) return "it is a port already";
     if (fault) return fault;
@@ -330,7 +330,7 @@ static bool hold_by_word(struct protocol *protocol, struct link *link, bool hold
 void answer_order(struct protocol *protocol, char *order, char answer[static ORDER_ROOM]) {
     char *name = strchr(order, ' ') + 1, room[ORDER_ROOM];
     bool removes = strncmp(order, "remove ", 7) == 0, done = true;
-    struct link *link = link_of(protocol->ports, name);
+    struct link *link = link_named(protocol->ports, name);
     const char *fault = NULL;
     uint16_t port = link ? link->settings.number : 0;
     if (strncmp(order, "add ", 4) == 0) {

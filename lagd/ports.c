@@ -65,7 +65,7 @@ void read_views(struct process *process, struct niw_system *system, struct ports
     }
 }
 
-static bool is_same(const struct facts *one, const struct facts *other) {
+static bool is_same_facts(const struct facts *one, const struct facts *other) {
     return one->status == other->status && one->aggregator == other->aggregator && one->defaulted == other->defaulted
         && one->trouble == other->trouble && one->partner.priority == other->partner.priority
         && memcmp(one->partner.mac, other->partner.mac, sizeof one->partner.mac) == 0 && one->partner_key == other->partner_key
@@ -88,7 +88,7 @@ static bool print_facts(struct process *process, const struct ports *ports, cons
 /* Looks at a port, and prints it if it changed; answers whether it did. What could not be printed is looked at again. */
 bool print_change(struct protocol *protocol, struct link *link) {
     struct facts facts = facts_of(protocol, link);
-    bool same = link->reported && is_same(&facts, &link->printed), watched = link->watched && is_same(&facts, &link->shown);
+    bool same = link->reported && is_same_facts(&facts, &link->printed), watched = link->watched && is_same_facts(&facts, &link->shown);
     if (!protocol->process->has_started || !link->used) return false;
     if (!same && !watched) {
         link->changed_at = time(NULL);

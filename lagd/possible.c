@@ -10,7 +10,7 @@
 
 /* Tells what is lacking, or not known, for a key of the file; answers how the program ends. */
 int tell_lack(struct process *process, const struct options *options, const char *key, const char *what, int status) {
-    complain(process, "%s:%u: %s: %s", options->file, line_of(&options->settings, key), key, what);
+    complain(process, "%s:%u: %s: %s", options->file, line_of_key(&options->settings, key), key, what);
     return status;
 }
 

@@ -117,8 +117,8 @@ static unsigned apply_settings(struct protocol *protocol, const struct settings 
 }
 
 /* Reads a file; answers whether it is right. The system that an interface gave its address at the start keeps it. */
-static bool read_again(struct process *process, const char *file, struct settings *wanted) {
-    if (!read_file(process, file, wanted)) return false;
+static bool read_file_again(struct process *process, const char *file, struct settings *wanted) {
+    if (!read_bundle_file(process, file, wanted)) return false;
     if (!wanted->system_auto || !process->settings->system_auto) return true;
     memcpy(wanted->config.mac, process->settings->config.mac, sizeof wanted->config.mac);
     return look_at_all(process, file, wanted);
@@ -128,7 +128,7 @@ static bool read_again(struct process *process, const char *file, struct setting
 void reload(struct protocol *protocol, const char *file) {
     struct settings wanted;
     notify("RELOADING=1");
-    if (!read_again(protocol->process, file, &wanted)) {
+    if (!read_file_again(protocol->process, file, &wanted)) {
         complain(protocol->process, "%s: the file is wrong, and nothing is changed", file);
     } else if (!place_ports(protocol->process, protocol->ports, &wanted)) {
         (void)say(protocol->process, LOG_WARNING | ABOUT_RESTART,

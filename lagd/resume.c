@@ -95,7 +95,7 @@ void release_others(struct protocol *protocol) {
     settle_calls(protocol);
 }
 
-static void stay(struct carry *carry, uint16_t number, uint16_t port) {
+static void stay_on_port(struct carry *carry, uint16_t number, uint16_t port) {
     if (niw_adopt(&carry->protocol->own_system, carry->active, number, port) != NIW_OK) return;
     carry->conversations[number].home = carry->active;
     carry->conversations[number].port = port;
@@ -103,7 +103,7 @@ static void stay(struct carry *carry, uint16_t number, uint16_t port) {
 }
 
 /* The port of an interface that carries in the active aggregator, or 0. */
-static uint16_t port_on(struct carry *carry, int index) {
+static uint16_t port_carrying_on(struct carry *carry, int index) {
     EACH_LINK(link, carry->ports)
         if (index != 0 && link->socket >= 0 && link->index == index && link->view.aggregator == carry->active
             && is_told_distributing(carry->process, &carry->protocol->own_system, link->settings.number, true))
@@ -120,8 +120,8 @@ void resume_conversations(struct plane *plane, bool goes_on) {
     }
     for (uint16_t number = 0; goes_on && number < CONVERSATIONS; number++) {
         int member = ASK(plane->carrying->member_of, 0, plane, number);
-        uint16_t port = port_on(carry, member != 0 ? member : carry->process->inherited->members[number]);
-        if (port != 0) stay(carry, number, port);
+        uint16_t port = port_carrying_on(carry, member != 0 ? member : carry->process->inherited->members[number]);
+        if (port != 0) stay_on_port(carry, number, port);
     }
     CALL(plane->passing->resume, plane->tap);
 }

@@ -39,7 +39,7 @@ static bool all_distribute(const struct ports *ports, uint16_t aggregator) {
 
 /* Whether a port that stands by would distribute at once: its partner speaks, and has selected it. A partner with a limit of its own may
  * have selected other links. */
-static bool is_ready(struct process *process, struct niw_system *system, const struct link *link) {
+static bool would_distribute(struct process *process, struct niw_system *system, const struct link *link) {
     uint64_t ticks;
     return link->view.receive_state == NIW_RECEIVE_CURRENT && (link->view.partner_state & NIW_STATE_SYNCHRONIZATION)
         && is_told(process, niw_wait_while(system, link->settings.number), "niw_wait_while", &ticks) && ticks == 0;
@@ -76,7 +76,7 @@ void pass_revert_second(struct protocol *protocol) {
     for (uint16_t aggregator = 1; aggregator <= protocol->aggregator_count; aggregator++) {
         struct link *next = next_of(protocol->ports, aggregator), *last = last_beyond(protocol->ports, aggregator, 0);
         if (!next || !last || identifier_of(next) >= identifier_of(last)) continue;
-        if (!all_distribute(protocol->ports, aggregator) || !is_ready(protocol->process, &protocol->own_system, next)) continue;
+        if (!all_distribute(protocol->ports, aggregator) || !would_distribute(protocol->process, &protocol->own_system, next)) continue;
         if (!is_done(protocol->process, niw_hold(&protocol->own_system, last->settings.number, true), "niw_hold")) return;
         if (!apply_hold(protocol->process, &protocol->own_system, last, protocol->halt.down)) return;
         (void)say(protocol->process, LOG_NOTICE | ABOUT_PORT, "port %u %s: it makes way for port %u %s", last->settings.number, last->name,

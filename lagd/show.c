@@ -32,22 +32,22 @@ static void add_row(struct report *report, enum form form, const char *text, con
 }
 
 /* The same of a value that is a text. */
-static void add_words(struct report *report, enum form form, const char *text, const char *json, const char *words) {
+static void add_text_row(struct report *report, enum form form, const char *text, const char *json, const char *words) {
     const char *name = form == AS_TEXT ? text : json;
     if (!words) add_row(report, form, text, json, NULL);
     if (words && name) add(report, form == AS_TEXT ? "  %s: %s\n" : ",\"%s\":\"%s\"", name, words);
 }
 
-static void add_number(struct report *report, enum form form, const char *text, const char *json, uint64_t number) {
+static void add_number_row(struct report *report, enum form form, const char *text, const char *json, uint64_t number) {
     char digits[32];
     snprintf(digits, sizeof digits, "%" PRIu64, number);
     add_row(report, form, text, json, digits);
 }
 
-static void add_time(struct report *report, enum form form, time_t time) {
+static void add_time_row(struct report *report, enum form form, time_t time) {
     char zoned[40];
     snprintf(zoned, sizeof zoned, "%sZ", time_text(time, TEXT_ROOM));
-    add_words(report, form, "last change", "last_change", time ? zoned : NULL);
+    add_text_row(report, form, "last change", "last_change", time ? zoned : NULL);
 }
 
 /* Which aggregator carries, and what each one has of what decides that. */
@@ -66,7 +66,7 @@ static void add_selection(struct report *report, const struct protocol *protocol
     add(report, "\n");
 }
 
-static void add_bundle(struct report *report, const struct control *control) {
+static void add_text_of_bundle(struct report *report, const struct control *control) {
     const struct settings *settings = control->settings;
     const struct bundle *bundle = &control->protocol->bundle;
     add(report, "---- %s ----\n", settings->name);
@@ -79,7 +79,7 @@ static void add_bundle(struct report *report, const struct control *control) {
     add(report, "  aggregator: %u\n  min_links: %u\n  max_links: %u\n", bundle->aggregator, settings->min_links, settings->config.max_links);
     add_selection(report, control->protocol);
     add(report, "  partner: %s%s\n", partner_text(settings, TEXT_ROOM), settings->partner_required ? ", required" : "");
-    add_time(report, AS_TEXT, bundle->changed_at);
+    add_time_row(report, AS_TEXT, bundle->changed_at);
     add(report, "  uptime: %" PRIu64 " s, lagd %s\n", seconds_since(control->protocol->began), VERSION);
 }
 
@@ -122,7 +122,7 @@ bool note_answer(struct report *report, uint32_t status, const char *call) {
     return false;
 }
 
-static bool read_view(struct report *report, struct niw_system *system, uint16_t port, struct view *view) {
+static bool ask_about_port(struct report *report, struct niw_system *system, uint16_t port, struct view *view) {
     *view = (struct view){niw_party(system, port), niw_partner(system, port), niw_receive_state(system, port), niw_mux_state(system, port),
         niw_current_while(system, port), niw_wait_while(system, port), niw_state(system, port)};
     return note_answer(report, view->own.status, "niw_party") && note_answer(report, view->partner.status, "niw_partner")
@@ -146,7 +146,7 @@ static void add_both_ends(struct report *report, enum form form, bool defaulted,
 static void add_strangers(struct report *report, const struct ports *ports, const struct link *link, enum form form) {
     const struct strangers *others = &link->strangers;
     const char *twin = link->twin > 0 ? ports->links[link->twin - 1].name : NULL;
-    add_words(report, form, "pinned to", "pinned", link->pinned ? system_text(&link->partner, TEXT_ROOM) : NULL);
+    add_text_row(report, form, "pinned to", "pinned", link->pinned ? system_text(&link->partner, TEXT_ROOM) : NULL);
     if (form == AS_TEXT && twin) add(report, "  partner port: that of %s, too\n", twin);
     if (form == AS_JSON) {
         add_row(report, form, NULL, "same_partner_port", twin ? "" : NULL);
@@ -183,34 +183,34 @@ static void add_link(struct report *report, const struct link *link, enum form f
     char text[64];
     snprintf(text, sizeof text, link->away && form == AS_TEXT ? "%s for %" PRIu64 " of %u ms, while it counts as up" : "%s", name,
         milliseconds() - link->carried_at, delay_down);
-    add_words(report, form, "link", "link", text);
+    add_text_row(report, form, "link", "link", text);
 }
 
 static void add_member(struct report *report, const struct control *control, const struct link *link, enum form form) {
     struct view view;
     char text[40];
-    if (!read_view(report, &control->protocol->own_system, link->settings.number, &view)) return;
+    if (!ask_about_port(report, &control->protocol->own_system, link->settings.number, &view)) return;
     const struct facts facts = facts_of(control->protocol, link);
     const char *receive = niw_receive_state_text((uint32_t)view.receive.number);
     const char *mux = niw_mux_state_text((uint32_t)view.mux.number);
     if (form == AS_TEXT) add(report, "\nmember: %s: %s, %s\n", link->name, receive, mux);
     else add_json_name(report, link);
-    add_words(report, form, "status", "status", status_text(facts.status));
+    add_text_row(report, form, "status", "status", status_text(facts.status));
     add_row(report, form, "may_enable", "carries", carries(control->protocol, link) ? "true" : "false");
     if (form == AS_TEXT && link->trouble) add(report, "  trouble: %s\n", strerror(link->trouble));
     add_link(report, link, form, control->settings->delay_down);
-    add_words(report, form, "address", "address", mac_text(link->mac, text));
-    add_number(report, form, "port_id", NULL, view.own.port);
-    add_number(report, form, "port_priority", NULL, view.own.port_priority);
-    add_number(report, form, "aggregator", "aggregator", facts.aggregator);
-    add_words(report, form, NULL, "receive", receive);
-    add_words(report, form, NULL, "mux", mux);
-    add_number(report, form, "current_while", "current_while", view.current_while.number);
-    add_number(report, form, "wait_while", "wait_while", view.wait_while.number);
-    add_words(report, form, "actor_churn", "actor_churn", niw_churn_state_text(link->churn.actor.state));
-    add_words(report, form, "partner_churn", "partner_churn", niw_churn_state_text(link->churn.partner.state));
-    add_words(report, form, "speed", "speed", link->has_speed ? speed_text(&link->speed, text) : NULL);
-    add_time(report, form, link->changed_at);
+    add_text_row(report, form, "address", "address", mac_text(link->mac, text));
+    add_number_row(report, form, "port_id", NULL, view.own.port);
+    add_number_row(report, form, "port_priority", NULL, view.own.port_priority);
+    add_number_row(report, form, "aggregator", "aggregator", facts.aggregator);
+    add_text_row(report, form, NULL, "receive", receive);
+    add_text_row(report, form, NULL, "mux", mux);
+    add_number_row(report, form, "current_while", "current_while", view.current_while.number);
+    add_number_row(report, form, "wait_while", "wait_while", view.wait_while.number);
+    add_text_row(report, form, "actor_churn", "actor_churn", niw_churn_state_text(link->churn.actor.state));
+    add_text_row(report, form, "partner_churn", "partner_churn", niw_churn_state_text(link->churn.partner.state));
+    add_text_row(report, form, "speed", "speed", link->has_speed ? speed_text(&link->speed, text) : NULL);
+    add_time_row(report, form, link->changed_at);
     add_strangers(report, control->ports, link, form);
     add_both_ends(report, form, facts.defaulted, &view);
     add_counts(report, link, form);
@@ -222,7 +222,7 @@ static void add_member(struct report *report, const struct control *control, con
 }
 
 void write_text(struct report *report, const struct control *control) {
-    add_bundle(report, control);
+    add_text_of_bundle(report, control);
     CALL(control->plane->carrying->show, report, control, AS_TEXT);
     EACH_LINK_AS_IS(link, control->ports)
         if (link->used) add_member(report, control, link, AS_TEXT);
@@ -234,7 +234,7 @@ static void add_json_bundle(struct report *report, const struct control *control
     add(report, ",\"state\":\"%s\",\"links\":%u,\"carrying\":%u,\"away\":%u,\"aggregator\":%u",
         BUNDLE_STATE_TEXTS[control->protocol->bundle.state], control->protocol->bundle.links,
         control->protocol->bundle.carrying, count_away(control->ports), control->protocol->bundle.aggregator);
-    add_time(report, AS_JSON, control->protocol->bundle.changed_at);
+    add_time_row(report, AS_JSON, control->protocol->bundle.changed_at);
 }
 
 /* The whole status as JSON, in a line. */

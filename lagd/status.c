@@ -19,7 +19,7 @@ static void close_caller(struct caller *caller) {
 }
 
 /* A free place for a user, or NULL, and why there is none. */
-static struct caller *place_for(struct status *own, uid_t user, const char **why) {
+static struct caller *free_caller(struct status *own, uid_t user, const char **why) {
     struct caller *found = NULL;
     unsigned free_ones = 0, of_user = 0;
     EACH_CALLER(caller, own) {
@@ -46,7 +46,7 @@ static void accept_one(struct status *own, int epoll_file, int fd) {
     struct ucred who = {0};
     socklen_t length = sizeof who;
     const char *why = NULL;
-    struct caller *place = getsockopt(fd, SOL_SOCKET, SO_PEERCRED, &who, &length) == 0 ? place_for(own, who.uid, &why) : NULL;
+    struct caller *place = getsockopt(fd, SOL_SOCKET, SO_PEERCRED, &who, &length) == 0 ? free_caller(own, who.uid, &why) : NULL;
     struct caller caller = {.fd = fd, .user = who.uid, .ticks = PATIENCE};
     if (place && await_input(epoll_file, fd, CALLERS + (uint32_t)(place - own->callers))) {
         *place = caller;

@@ -131,7 +131,7 @@ void set_link(struct protocol *protocol, struct link *link, bool up) {
 void lose_link(struct protocol *protocol, struct link *link) {
     set_waiting(link, false);
     set_link(protocol, link, false);
-    close_link(protocol->plane, &protocol->process->store, link);
+    release_interface(protocol->plane, &protocol->process->store, link);
     (void)print_change(protocol, link);
 }
 

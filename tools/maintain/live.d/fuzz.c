@@ -93,7 +93,7 @@ static void fuzz_file(const uint8_t *octets, size_t length) {
     int file = memfd_create("fuzz", MFD_CLOEXEC);
     if (file >= 0 && write(file, octets, length) == (ssize_t)length) {
         snprintf(path, sizeof path, "/proc/self/fd/%d", file);
-        (void)read_file(&lagd->process, path, &read);
+        (void)read_bundle_file(&lagd->process, path, &read);
     }
     close(file);
 }
