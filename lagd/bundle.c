@@ -45,19 +45,20 @@ static void run_hook(struct process *process, const struct bundle *now, enum bun
     if (fault) (void)say(process, LOG_WARNING | ABOUT_HOOK, "hook %s: %s", process->settings->hook, strerror(fault));
 }
 
-static void enter_state(struct protocol *protocol, const struct bundle *now) {
-    enum bundle_state before = protocol->bundle.state;
-    protocol->bundle = *now;
+static void enter_state(struct process *process, struct bundle *own, const struct bundle *now, const struct control *control) {
+    const struct settings *settings = process->settings;
+    enum bundle_state before = own->state;
+    *own = *now;
     if (now->state != before) {
-        protocol->bundle.changed_at = time(NULL);
-        protocol->bundle.counts[now->state]++;
+        own->changed_at = time(NULL);
+        own->counts[now->state]++;
     }
-    (void)say(protocol->process, (now->state == BUNDLE_UP ? LOG_NOTICE : LOG_WARNING) | ABOUT_BUNDLE,
-        "bundle %s: %s, %u of %u links carry, aggregator %u", protocol->settings->name, BUNDLE_STATE_TEXTS[now->state], now->carrying, now->links,
+    (void)say(process, (now->state == BUNDLE_UP ? LOG_NOTICE : LOG_WARNING) | ABOUT_BUNDLE,
+        "bundle %s: %s, %u of %u links carry, aggregator %u", settings->name, BUNDLE_STATE_TEXTS[now->state], now->carrying, now->links,
         now->aggregator);
-    tell_watchers_of(protocol->control, NULL);
-    notify_bundle(&protocol->bundle, "");
-    if (now->state != before && protocol->settings->hook[0]) run_hook(protocol->process, now, before);
+    tell_watchers_of(process, control, NULL);
+    notify_bundle(own, "");
+    if (now->state != before && settings->hook[0]) run_hook(process, own, before);
 }
 
 /* Looks at the ports, and tells what became of the bundle. What changes too often is told later, but not that its device is down. */
@@ -74,12 +75,12 @@ void look_at_bundle(struct protocol *protocol) {
     if (now.changed_at == 0) now.changed_at = time(NULL);
     now.reported = true;
     if (now.lines > 0) now.lines--;
-    enter_state(protocol, &now);
+    enter_state(protocol->process, &protocol->bundle, &now, protocol->control);
 }
 
-void end_bundle(struct protocol *protocol) {
-    struct bundle now = protocol->bundle;
+void end_bundle(struct process *process, struct bundle *own, const struct control *control) {
+    struct bundle now = *own;
     now.state = BUNDLE_DOWN;
     now.aggregator = now.carrying = 0;
-    if (protocol->bundle.state != BUNDLE_DOWN) enter_state(protocol, &now);
+    if (own->state != BUNDLE_DOWN) enter_state(process, own, &now, control);
 }

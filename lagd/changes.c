@@ -180,7 +180,8 @@ static void parse_change(struct protocol *protocol, const struct nlmsghdr *messa
     bool answers = own->asking && message->nlmsg_seq == own->asked && message->nlmsg_pid == mnl_socket_get_portid(own->route);
     if (answers && (message->nlmsg_flags & NLM_F_DUMP_INTR)) own->interrupted = true;
     if (answers && (type == NLMSG_DONE || type == NLMSG_ERROR)) end_answer(protocol, error_of(message));
-    if ((type == RTM_NEWQDISC || type == RTM_DELQDISC) && length >= sizeof *discipline) note_discipline(own, protocol->ports, protocol->device->index, discipline);
+    if ((type == RTM_NEWQDISC || type == RTM_DELQDISC) && length >= sizeof *discipline)
+        note_discipline(own, protocol->ports, protocol->device->index, discipline);
     if ((type != RTM_NEWLINK && type != RTM_DELLINK) || length < sizeof *info || info->ifi_family != AF_UNSPEC) return;
     struct interface interface = read_interface(message);
     if (type == RTM_NEWLINK && interface.name[0]) follow_present(protocol, &interface);

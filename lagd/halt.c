@@ -5,11 +5,6 @@
 /* How many ticks peers are told at most. Where three LACPDUs went within a second, the next one waits. */
 #define MOST_TICKS 15
 
-static void hold_or_release_ports(struct protocol *protocol) {
-    EACH_LINK_AS_IS(link, protocol->ports)
-        if (!apply_hold(protocol->process, &protocol->own_system, link, protocol->halt.down)) return;
-}
-
 static void fall_silent(struct protocol *protocol) {
     protocol->halt.silent = true;
     EACH_LINK(link, protocol->ports) set_link(protocol, link, false);
@@ -18,7 +13,7 @@ static void fall_silent(struct protocol *protocol) {
 /* Tells each peer that its port is out of use, and then nothing more. */
 static void tell_peers_of_halt(struct protocol *protocol) {
     EACH_LINK(link, protocol->ports) expect_lacpdu(link);
-    hold_or_release_ports(protocol);
+    apply_holds(protocol->process, &protocol->own_system, protocol->ports, protocol->halt.down);
     send_due(protocol);
     read_views(protocol->process, &protocol->own_system, protocol->ports);
     protocol->halt.ticks = 0;
@@ -27,7 +22,7 @@ static void tell_peers_of_halt(struct protocol *protocol) {
 
 /* The ports go on as new ones, once the kernel told of their interfaces. */
 static void end_halt(struct protocol *protocol) {
-    hold_or_release_ports(protocol);
+    apply_holds(protocol->process, &protocol->own_system, protocol->ports, protocol->halt.down);
     protocol->halt.silent = false;
     ask_links(&protocol->changes, protocol->ports);
 }

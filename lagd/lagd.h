@@ -279,7 +279,7 @@ struct protocol {
     struct ports *ports;
     struct device *device;
     struct plane *plane;     /* what carries the data */
-    struct control *control; /* who is told of changes */
+    const struct control *control; /* who is told of changes */
     struct niw_system own_system;
     uint16_t aggregator_count;
     struct bundle bundle;
@@ -301,6 +301,12 @@ struct protocol {
     struct protocol *protocol; \
     struct device *device; \
     struct plane *plane;
+
+static inline struct system_id partner_of(const struct niw_view *view) {
+    struct system_id partner = {.priority = view->partner_priority};
+    memcpy(partner.mac, view->partner_mac, sizeof partner.mac);
+    return partner;
+}
 
 /* Room of zeros. There is no daemon without it. */
 static inline void *make_room(size_t octets) {
@@ -424,7 +430,7 @@ void tell_markers(struct process *process, uint64_t ticks, struct link *link);
 #define MARKERS_AT_ONCE 16 /* how many come in the place of one, of a partner whose members have several queues, where ours have */
 
 /* twins.c */
-void look_for_twins(struct protocol *protocol);
+void look_for_twins(struct process *process, struct ports *ports);
 
 /* restore.c */
 bool choose_whether_restored(struct protocol *protocol, struct link *link);
@@ -465,7 +471,7 @@ void make_system(struct protocol *protocol);
 size_t resume_system(struct protocol *protocol, struct niw_saved *saved, size_t count);
 void set_link(struct protocol *protocol, struct link *link, bool up);
 bool apply_hold(struct process *process, struct niw_system *system, const struct link *link, bool down) MUST_USE;
-void hold_by_settings(struct protocol *protocol);
+void apply_holds(struct process *process, struct niw_system *system, const struct ports *ports, bool down);
 void lose_link(struct protocol *protocol, struct link *link);
 void send_due(struct protocol *protocol);
 void settle_calls(struct protocol *protocol);
@@ -530,7 +536,7 @@ bool is_as_good_as_any(struct protocol *protocol, uint16_t aggregator);
 
 /* bundle.c */
 void look_at_bundle(struct protocol *protocol);
-void end_bundle(struct protocol *protocol);
+void end_bundle(struct process *process, struct bundle *own, const struct control *control);
 
 /* reload.c */
 bool change_port(struct protocol *protocol, struct link *link, const struct settings *wanted);
@@ -601,7 +607,7 @@ void open_status(struct process *process, const char *folder);
 void accept_callers(struct status *own, int epoll_file);
 void pass_tick_of_callers(struct status *own, int epoll_file);
 void tell_watchers(struct status *own, const char *text, size_t length, bool json);
-void tell_watchers_of(struct control *control, const struct link *link);
+void tell_watchers_of(struct process *process, const struct control *control, const struct link *link);
 
 /* state.c, resume.c */
 uint64_t boottime(void);

@@ -99,7 +99,7 @@ static void pass_second(struct lagd *lagd) {
     EACH_LINK(link, &lagd->ports) {
         if (link->lines < MOST_LINES) link->lines++;
     }
-    look_for_twins(&lagd->protocol);
+    look_for_twins(&lagd->process, &lagd->ports);
     if (lagd->protocol.bundle.lines < MOST_LINES) lagd->protocol.bundle.lines++;
     pass_revert_second(&lagd->protocol);
     watch_changes(&lagd->protocol.changes, &lagd->ports);

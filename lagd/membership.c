@@ -44,7 +44,8 @@ static bool was_carrying(const struct inherited *inherited, const struct inherit
 
 /* Numbers these ports. One that is there, or was in the last daemon, keeps its number, and a new one has the lowest that is free: that of no port
  * that is there or, where so asked, is still to leave. Answers whether each found one. */
-static bool number_ports(const struct process *process, const struct ports *ports, const struct port_settings *given, uint16_t count, uint16_t *numbers, bool with_left) {
+static bool number_ports(const struct process *process, const struct ports *ports, const struct port_settings *given,
+    uint16_t count, uint16_t *numbers, bool with_left) {
     const struct inherited *inherited = process->inherited;
     bool taken[NIW_MOST_PORTS + 1] = {true}; /* by number: there is no port 0 */
     EACH_LINK_AS_IS(link, ports) taken[link->settings.number] = link->used;
@@ -107,7 +108,8 @@ void begin_link(const struct settings *settings, struct ports *ports, uint16_t p
 
 /* Gives the library what the settings have of a port; answers whether it took that. */
 static bool configure_port(struct protocol *protocol, struct link *link) {
-    struct niw_change change = {.key = choose_key(&protocol->keys, protocol->ports, protocol->settings, link), .priority = link->settings.priority, .aggregatable = link->settings.aggregatable};
+    struct niw_change change = {.key = choose_key(&protocol->keys, protocol->ports, protocol->settings, link),
+        .priority = link->settings.priority, .aggregatable = link->settings.aggregatable};
     uint16_t port = link->settings.number;
     link->settings.key = change.key;
     return is_done(protocol->process, niw_configure(&protocol->own_system, port, &change).status, "niw_configure")
@@ -266,7 +268,7 @@ bool take_new_name(struct protocol *protocol, struct link *link, const struct in
         return false;
     (void)say(protocol->process, LOG_NOTICE | ABOUT_PORT, "port %u %s: its name is %s now", link->settings.number, name, interface->name);
     memcpy(name, interface->name, sizeof interface->name);
-    tell_watchers_of(protocol->control, link);
+    tell_watchers_of(protocol->process, protocol->control, link);
     return true;
 }
 

@@ -62,7 +62,7 @@ struct carrying {
     int (*member_of)(const struct plane *plane, uint16_t number); /* the interface by which the kernel has a conversation go, or 0 */
     void (*end_resuming)(struct plane *plane);           /* what were members of the last daemon, and are no more, have what they had before */
     unsigned (*frames_waiting)(struct plane *plane);     /* in the daemon, as far as that is known */
-    int (*check)(struct process *process, struct plane *plane, const struct options *options); /* says what this machine lacks: how the program ends */
+    int (*check)(struct process *process, struct plane *plane, const struct options *options); /* what this machine lacks: how the program ends */
     void (*show)(struct report *report, const struct control *control, enum form form);   /* the device and its counts */
     void (*show_member)(struct report *report, const struct control *control, const struct link *link, enum form form);
     void (*show_markers)(struct report *report, const struct control *control);           /* in a line of text */

@@ -27,17 +27,15 @@ uint16_t count_away(const struct ports *ports) {
 
 struct facts facts_of(const struct protocol *protocol, const struct link *link) {
     const struct niw_view *view = &link->view;
-    struct facts facts = {
+    return (struct facts){
         .status = status_of(protocol, link),
         .aggregator = view->aggregator,
         .defaulted = view->defaulted,
-        .partner = {.priority = view->partner_priority},
+        .partner = partner_of(view),
         .partner_key = view->partner_key,
         .partner_port = view->partner_port,
         .trouble = link->trouble,
     };
-    memcpy(facts.partner.mac, view->partner_mac, sizeof facts.partner.mac);
-    return facts;
 }
 
 /* Counts what became of a port. Its link that comes up has it EXPIRED, as one does of which no LACPDU came in time. */
@@ -92,7 +90,7 @@ bool print_change(struct protocol *protocol, struct link *link) {
     if (!protocol->process->has_started || !link->used) return false;
     if (!same && !watched) {
         link->changed_at = time(NULL);
-        tell_watchers_of(protocol->control, link);
+        tell_watchers_of(protocol->process, protocol->control, link);
     }
     link->watched = true;
     link->shown = facts;

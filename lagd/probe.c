@@ -17,8 +17,7 @@ void recall_answering(struct probe *own, const struct carry *carry, enum answeri
 void look_at_partner(struct probe *own, const struct carry *carry) {
     if (carry->active == 0) return;
     const struct niw_view *view = &carry->ports->links[carry->active_ports[0] - 1].view;
-    struct system_id partner = {.priority = view->partner_priority};
-    memcpy(partner.mac, view->partner_mac, sizeof partner.mac);
+    struct system_id partner = partner_of(view);
     if (view->partner_key == own->partner_key && memcmp(&partner, &own->partner, sizeof partner) == 0) return;
     own->partner_key = view->partner_key;
     own->partner = partner;

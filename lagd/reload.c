@@ -18,9 +18,9 @@ static bool take_again(struct process *process, struct niw_system *system, struc
     uint16_t port = link->settings.number;
     uint8_t response[NIW_FRAME];
     struct system_id actor;
-    uint64_t state;
-    if (!is_told(process, niw_receive_state(system, port), "niw_receive_state", &state)) return false;
-    if (state != NIW_RECEIVE_CURRENT || !lacpdu_holds(boottime(), link->lacpdu_at, true) || !may_be_partner(link, link->lacpdu, &actor)) return true;
+    if (link->view.receive_state != NIW_RECEIVE_CURRENT || !lacpdu_holds(boottime(), link->lacpdu_at, true)
+        || !may_be_partner(link, link->lacpdu, &actor))
+        return true;
     link->lacpdu[PARTNER_STATE] &= (uint8_t)~NIW_STATE_TIMEOUT;
     struct niw_received received = niw_receive(system, port, link->lacpdu, sizeof link->lacpdu, response, sizeof response);
     return is_done(process, received.status, "niw_receive");
@@ -33,6 +33,7 @@ bool change_port(struct protocol *protocol, struct link *link, const struct sett
     struct niw_port *now = &link->settings, next = port_of(wanted, port);
     struct niw_change change = {.priority = next.priority, .aggregatable = next.aggregatable};
     bool hold = wants_hold(wanted, port);
+    read_views(protocol->process, &protocol->own_system, protocol->ports);
     if (has_aggregator(&protocol->keys, next.key)) link->key = next.key;
     change.key = choose_key(&protocol->keys, protocol->ports, protocol->settings, link);
     struct niw_truth answer = niw_configure(&protocol->own_system, port, &change);
@@ -64,8 +65,7 @@ static void change_policy(struct settings *now, struct ports *ports, const struc
         forget_partner(now, link);
         if (now->policy != PARTNER_FIRST || !link->up || link->view.defaulted) continue;
         link->pinned = true;
-        link->partner.priority = link->view.partner_priority;
-        memcpy(link->partner.mac, link->view.partner_mac, sizeof link->partner.mac);
+        link->partner = partner_of(&link->view);
     }
 }
 
@@ -138,9 +138,7 @@ void reload(struct protocol *protocol, const char *file) {
         unsigned changed = apply_settings(protocol, &wanted);
         (void)say(protocol->process, LOG_NOTICE | ABOUT_RELOAD, "%s: read again, %u ports changed", file, changed);
         if (rest) (void)say(protocol->process, LOG_WARNING | ABOUT_RESTART, "%s: %s: a restart of this bundle is needed", file, rest);
-        send_due(protocol);
-        read_views(protocol->process, &protocol->own_system, protocol->ports);
-        protocol->plane->changed = true;
+        settle_calls(protocol);
     }
     notify_bundle(&protocol->bundle, READY);
 }

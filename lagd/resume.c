@@ -86,7 +86,7 @@ unsigned resume(struct protocol *protocol) {
 /* Behind the conversations that stay: the settings hold ports, and the links that are up come up for the library, too. Those that went on were up
  * before, so none of the others takes the place of one where links are limited. */
 void release_others(struct protocol *protocol) {
-    hold_by_settings(protocol);
+    apply_holds(protocol->process, &protocol->own_system, protocol->ports, false);
     EACH_LINK(link, protocol->ports)
         if (protocol->process->resuming && link->up
             && !is_done(protocol->process, niw_set_link(&protocol->own_system, link->settings.number, true), "niw_set_link"))

@@ -46,12 +46,12 @@ static bool would_distribute(struct process *process, struct niw_system *system,
 }
 
 /* Holds the ports that are too many under a limit, which are marked; answers whether that is done. */
-static bool hold_surplus(struct protocol *protocol, uint16_t most, bool *marked) {
-    for (uint16_t aggregator = 1; aggregator <= protocol->aggregator_count; aggregator++)
-        for (struct link *last; (last = last_beyond(protocol->ports, aggregator, most));) {
-            if (!is_done(protocol->process, niw_hold(&protocol->own_system, last->settings.number, true), "niw_hold")) return false;
+static bool hold_surplus(struct process *process, struct niw_system *system, struct ports *ports, uint16_t aggregators, uint16_t most, bool *marked) {
+    for (uint16_t aggregator = 1; aggregator <= aggregators; aggregator++)
+        for (struct link *last; (last = last_beyond(ports, aggregator, most));) {
+            if (!is_done(process, niw_hold(system, last->settings.number, true), "niw_hold")) return false;
             marked[last->settings.number - 1] = true;
-            read_views(protocol->process, &protocol->own_system, protocol->ports);
+            read_views(process, system, ports);
         }
     return true;
 }
@@ -61,7 +61,7 @@ void limit_links(struct protocol *protocol, uint16_t most) {
     bool marked[NIW_MOST_PORTS] = {false};
     if (most == protocol->settings->config.max_links) return;
     read_views(protocol->process, &protocol->own_system, protocol->ports);
-    if (most != 0 && !hold_surplus(protocol, most, marked)) return;
+    if (most != 0 && !hold_surplus(protocol->process, &protocol->own_system, protocol->ports, protocol->aggregator_count, most, marked)) return;
     if (!is_done(protocol->process, niw_set_max_links(&protocol->own_system, most), "niw_set_max_links")) return;
     protocol->settings->config.max_links = most;
     EACH_LINK_AS_IS(link, protocol->ports)
@@ -81,9 +81,7 @@ void pass_revert_second(struct protocol *protocol) {
         if (!apply_hold(protocol->process, &protocol->own_system, last, protocol->halt.down)) return;
         (void)say(protocol->process, LOG_NOTICE | ABOUT_PORT, "port %u %s: it makes way for port %u %s", last->settings.number, last->name,
             next->settings.number, next->name);
-        protocol->plane->changed = true;
-        send_due(protocol);
-        read_views(protocol->process, &protocol->own_system, protocol->ports);
+        settle_calls(protocol);
         return;
     }
 }

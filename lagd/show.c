@@ -105,13 +105,6 @@ static void add_side(struct report *report, enum form form, const char *whose, c
     add_state(report, form, state);
 }
 
-/* What the library tells of a port. */
-struct view {
-    struct niw_actor own;
-    struct niw_info partner;
-    struct niw_number receive, mux, current_while, wait_while, state; /* the last one: the state octet of its own side */
-};
-
 /* Answers whether the library told something; of what it refuses the report keeps the first call. */
 bool note_answer(struct report *report, uint32_t status, const char *call) {
     if (status == NIW_OK) return true;
@@ -122,25 +115,14 @@ bool note_answer(struct report *report, uint32_t status, const char *call) {
     return false;
 }
 
-static bool ask_about_port(struct report *report, struct niw_system *system, uint16_t port, struct view *view) {
-    *view = (struct view){niw_party(system, port), niw_partner(system, port), niw_receive_state(system, port), niw_mux_state(system, port),
-        niw_current_while(system, port), niw_wait_while(system, port), niw_state(system, port)};
-    return note_answer(report, view->own.status, "niw_party") && note_answer(report, view->partner.status, "niw_partner")
-        && note_answer(report, view->receive.status, "niw_receive_state") && note_answer(report, view->mux.status, "niw_mux_state")
-        && note_answer(report, view->current_while.status, "niw_current_while") && note_answer(report, view->wait_while.status, "niw_wait_while")
-        && note_answer(report, view->state.status, "niw_state");
-}
-
-static void add_both_ends(struct report *report, enum form form, bool defaulted, const struct view *view) {
-    const struct niw_actor *own = &view->own;
-    const struct niw_info *partner = &view->partner;
+static void add_both_ends(struct report *report, enum form form, const struct niw_actor *own, const struct niw_view *view) {
     if (form == AS_JSON) add(report, ",\"actor\":{");
-    add_side(report, form, "actor", own->system_mac, (unsigned[]){own->system_priority, own->port, own->port_priority, own->key}, view->state.number);
+    add_side(report, form, "actor", own->system_mac, (unsigned[]){own->system_priority, own->port, own->port_priority, own->key}, view->state);
     if (form == AS_JSON)
-        add(report, ",\"partner\":{\"defaulted\":%s,\"system_priority\":%u,\"system\":\"%s\",", defaulted ? "true" : "false",
-            partner->system_priority, mac_text(partner->system_mac, TEXT_ROOM));
-    add_side(report, form, "partner", partner->system_mac,
-        (unsigned[]){partner->system_priority, partner->port, partner->port_priority, partner->key}, partner->state);
+        add(report, ",\"partner\":{\"defaulted\":%s,\"system_priority\":%u,\"system\":\"%s\",", view->defaulted ? "true" : "false",
+            view->partner_priority, mac_text(view->partner_mac, TEXT_ROOM));
+    add_side(report, form, "partner", view->partner_mac,
+        (unsigned[]){view->partner_priority, view->partner_port, view->partner_port_priority, view->partner_key}, view->partner_state);
 }
 
 static void add_strangers(struct report *report, const struct ports *ports, const struct link *link, enum form form) {
@@ -187,32 +169,35 @@ static void add_link(struct report *report, const struct link *link, enum form f
 }
 
 static void add_member(struct report *report, const struct control *control, const struct link *link, enum form form) {
-    struct view view;
+    struct niw_system *system = &control->protocol->own_system;
+    const uint16_t port = link->settings.number;
+    const struct niw_actor own = niw_party(system, port);
+    const struct niw_number current_while = niw_current_while(system, port), wait_while = niw_wait_while(system, port);
+    const char *receive = niw_receive_state_text(link->view.receive_state), *mux = niw_mux_state_text(link->view.mux_state);
     char text[40];
-    if (!ask_about_port(report, &control->protocol->own_system, link->settings.number, &view)) return;
-    const struct facts facts = facts_of(control->protocol, link);
-    const char *receive = niw_receive_state_text((uint32_t)view.receive.number);
-    const char *mux = niw_mux_state_text((uint32_t)view.mux.number);
+    if (!note_answer(report, own.status, "niw_party") || !note_answer(report, current_while.status, "niw_current_while")
+        || !note_answer(report, wait_while.status, "niw_wait_while"))
+        return;
     if (form == AS_TEXT) add(report, "\nmember: %s: %s, %s\n", link->name, receive, mux);
     else add_json_name(report, link);
-    add_text_row(report, form, "status", "status", status_text(facts.status));
+    add_text_row(report, form, "status", "status", status_text(facts_of(control->protocol, link).status));
     add_row(report, form, "may_enable", "carries", carries(control->protocol, link) ? "true" : "false");
     if (form == AS_TEXT && link->trouble) add(report, "  trouble: %s\n", strerror(link->trouble));
     add_link(report, link, form, control->settings->delay_down);
     add_text_row(report, form, "address", "address", mac_text(link->mac, text));
-    add_number_row(report, form, "port_id", NULL, view.own.port);
-    add_number_row(report, form, "port_priority", NULL, view.own.port_priority);
-    add_number_row(report, form, "aggregator", "aggregator", facts.aggregator);
+    add_number_row(report, form, "port_id", NULL, own.port);
+    add_number_row(report, form, "port_priority", NULL, own.port_priority);
+    add_number_row(report, form, "aggregator", "aggregator", link->view.aggregator);
     add_text_row(report, form, NULL, "receive", receive);
     add_text_row(report, form, NULL, "mux", mux);
-    add_number_row(report, form, "current_while", "current_while", view.current_while.number);
-    add_number_row(report, form, "wait_while", "wait_while", view.wait_while.number);
+    add_number_row(report, form, "current_while", "current_while", current_while.number);
+    add_number_row(report, form, "wait_while", "wait_while", wait_while.number);
     add_text_row(report, form, "actor_churn", "actor_churn", niw_churn_state_text(link->churn.actor.state));
     add_text_row(report, form, "partner_churn", "partner_churn", niw_churn_state_text(link->churn.partner.state));
     add_text_row(report, form, "speed", "speed", link->has_speed ? speed_text(&link->speed, text) : NULL);
     add_time_row(report, form, link->changed_at);
     add_strangers(report, control->ports, link, form);
-    add_both_ends(report, form, facts.defaulted, &view);
+    add_both_ends(report, form, &own, &link->view);
     add_counts(report, link, form);
     CALL(control->plane->carrying->show_member, report, control, link, form);
     if (form == AS_TEXT) return;

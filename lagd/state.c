@@ -56,7 +56,9 @@ static void write_conversations(struct state *own, FILE *file) {
     for (uint16_t number = 0; number < CONVERSATIONS; number++) {
         struct niw_assignment assigned;
         uint16_t home = carry->conversations[number].home;
-        if (home == 0 || !ask_state(carry->process, &carry->protocol->own_system, home, number, &assigned) || assigned.what == NIW_CONVERSATION_FREE) continue;
+        if (home == 0 || !ask_state(carry->process, &carry->protocol->own_system, home, number, &assigned)
+            || assigned.what == NIW_CONVERSATION_FREE)
+            continue;
         if (assigned.port == 0 || assigned.port > carry->ports->count) continue;
         own->members[number] = carry->ports->links[assigned.port - 1].index;
         fprintf(file, "on %u %d\n", number, own->members[number]);

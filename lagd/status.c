@@ -106,12 +106,13 @@ static void obey(struct protocol *protocol, struct caller *caller) {
     end_with(caller, answer);
 }
 
-/* Answers a question by a report, of what the kernel counted up to now; one that is not known has none. */
+/* Answers a question by a report, of what the library and the kernel tell now; one that is not known has none. */
 static void send_report(struct control *control, struct caller *caller) {
     const char *asked = caller->question;
     struct report *report = control->report;
     report->length = 0;
     report->refusal = NIW_OK;
+    read_views(control->process, &control->protocol->own_system, control->ports);
     CALL(control->plane->passing->count, control->plane->tap);
     if (strcmp(asked, "text") == 0) write_text(report, control);
     if (strcmp(asked, "config") == 0) write_config(report, control);
@@ -175,9 +176,9 @@ void tell_watchers(struct status *own, const char *text, size_t length, bool jso
             close_caller(caller);
 }
 
-/* Tells those who watch in JSON how a port is now, or the bundle, where `link` is null. */
-void tell_watchers_of(struct control *control, const struct link *link) {
-    struct status *own = &control->process->status;
+/* Tells those who watch in JSON how a port is now, or the bundle, where `link` is null, by the report of `control`. */
+void tell_watchers_of(struct process *process, const struct control *control, const struct link *link) {
+    struct status *own = &process->status;
     struct report *report = control->report;
     bool any = false;
     EACH_CALLER(caller, own) any = any || (caller->watches && caller->json);
@@ -185,7 +186,7 @@ void tell_watchers_of(struct control *control, const struct link *link) {
     report->length = 0;
     report->refusal = NIW_OK;
     write_json_event(report, control, link);
-    if (is_done(control->process, report->refusal, report->refused) && !control->process->broken)
+    if (is_done(process, report->refusal, report->refused) && !process->broken)
         tell_watchers(own, report->text, report->length, true);
 }
 

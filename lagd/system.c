@@ -43,9 +43,9 @@ static struct niw_made put_system(struct niw_system *own, const struct protocol 
     return niw_resume(own, config, protocol->aggregator_keys, protocol->aggregator_count, ports, slots, saved, count);
 }
 
-void hold_by_settings(struct protocol *protocol) {
-    EACH_LINK_AS_IS(link, protocol->ports)
-        if (link->held && !apply_hold(protocol->process, &protocol->own_system, link, protocol->halt.down)) return;
+void apply_holds(struct process *process, struct niw_system *system, const struct ports *ports, bool down) {
+    EACH_LINK_AS_IS(link, ports)
+        if (!apply_hold(process, system, link, down)) return;
 }
 
 /* Makes the system anew, with these ports as they were. One that the library refuses comes up as the others do. Answers how many are back. */
@@ -73,7 +73,7 @@ void make_system(struct protocol *protocol) {
     protocol->ports->count = protocol->settings->port_count;
     protocol->aggregator_count = make_keys(&protocol->keys, protocol->ports, protocol->aggregator_keys);
     if (!is_done(protocol->process, put_system(&protocol->own_system, protocol, NULL, 0).status, "niw_new")) return;
-    hold_by_settings(protocol);
+    apply_holds(protocol->process, &protocol->own_system, protocol->ports, false);
     read_views(protocol->process, &protocol->own_system, protocol->ports);
 }
 
@@ -183,6 +183,6 @@ bool end_is_told(const struct ports *ports) {
 bool end_system(struct protocol *protocol) {
     EACH_LINK(link, protocol->ports)
         if (link->used) (void)say(protocol->process, LOG_NOTICE | ABOUT_END, "port %u %s: ended", link->settings.number, link->name);
-    end_bundle(protocol);
+    end_bundle(protocol->process, &protocol->bundle, protocol->control);
     return is_done(protocol->process, niw_free(&protocol->own_system), "niw_free") && !protocol->process->broken;
 }

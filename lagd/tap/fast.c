@@ -186,7 +186,8 @@ static bool may_pass(struct tap_plane *tap, const struct conversation *conversat
     uint16_t port = conversation->port;
     struct niw_assignment state;
     return tap->fast.sender >= 0 && !tap->fast.queue_holds && tap->carry->active != 0 && conversation->home == tap->carry->active
-        && is_fast(&tap->members[port - 1]) && ask_state(tap->process, &tap->protocol->own_system, conversation->home, number_in(tap->carry, conversation), &state)
+        && is_fast(&tap->members[port - 1])
+        && ask_state(tap->process, &tap->protocol->own_system, conversation->home, number_in(tap->carry, conversation), &state)
         && state.what == NIW_CONVERSATION_ON && state.port == port;
 }
 

@@ -277,7 +277,7 @@ ANSWERS(uint32_t sum_speeds, 1000, const struct tap_plane *tap)
 NOTHING(set_speed, struct device *device, uint32_t megabits)
 /* The device is up here, and no port comes or goes. */
 ANSWERS(uint16_t count_links, PORTS, const struct ports *ports)
-NOTHING(tell_watchers_of, struct control *control, const struct link *link)
+NOTHING(tell_watchers_of, struct process *process, const struct control *control, const struct link *link)
 /* The plane: frames come here alone, and members have one queue. */
 static const struct carrying FRAMES = {.settle = settle_frames, .tick = pass_tick_of_frames, .keeps_aggregator = hears_peer,
     .frames_heard = frames_handed_up, .tell_host = tell_speed_and_carrier, .go_on = settle_carry,
