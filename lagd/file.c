@@ -109,7 +109,7 @@ static FILE *open_file(struct process *process, const char *path) {
 }
 
 /* Looks at what only all lines say together; answers whether that is right. */
-bool look_at_all(struct process *process, const char *path, const struct settings *settings) {
+bool check_whole_bundle(struct process *process, const char *path, const struct settings *settings) {
     struct lack lack = lack_of(settings);
     if (lack.key)
         complain(process, "%s:%u: expected %s: %s", path, line_of_key(settings, lack.key), lack.expected, lack.key);
@@ -128,5 +128,5 @@ bool read_bundle_file(struct process *process, const char *path, struct settings
     ini_allow_multiline = false;
     ini_allow_inline_comments = false;
     (void)ini_parse_stream(next_line, &reading, parse_pair, &reading);
-    return reading.faults == 0 && look_at_all(process, path, wanted);
+    return reading.faults == 0 && check_whole_bundle(process, path, wanted);
 }

@@ -302,6 +302,10 @@ struct protocol {
     struct device *device; \
     struct plane *plane;
 
+static inline bool is_same_system(const struct system_id *one, const struct system_id *other) {
+    return one->priority == other->priority && memcmp(one->mac, other->mac, sizeof one->mac) == 0;
+}
+
 static inline struct system_id partner_of(const struct niw_view *view) {
     struct system_id partner = {.priority = view->partner_priority};
     memcpy(partner.mac, view->partner_mac, sizeof partner.mac);
@@ -348,7 +352,7 @@ static inline void close_stream(FILE *const *stream) {
 const char *status_text(unsigned status);
 /* All counts of a port, by their places. */
 #define ALL_COUNTS ((unsigned)LIBRARY_COUNTS + COUNTS)
-struct count_text count_text(unsigned place);
+extern const struct count_text COUNT_TEXTS[ALL_COUNTS];
 uint64_t count_at(const struct link *link, unsigned place);
 extern const char *const BUNDLE_STATE_TEXTS[BUNDLE_STATES];
 const char *system_text(const struct system_id *system, char room[static 32]);
@@ -424,7 +428,7 @@ void tell_strangers(struct process *process, uint64_t ticks, struct link *link);
 bool read_response(struct process *process, const struct arrival *arrival, struct niw_pdu *pdu);
 bool is_partners_response(const struct settings *settings, const struct link *link, const struct arrival *arrival, const struct niw_pdu *response);
 void note_odd_marker(struct link *link, const struct arrival *arrival, enum count count);
-bool spend_answer(const struct settings *settings, const struct plane *plane, struct link *link, const struct arrival *arrival);
+bool spend_answer(struct link *link, const struct arrival *arrival, unsigned most);
 void tell_markers(struct process *process, uint64_t ticks, struct link *link);
 
 #define MARKERS_AT_ONCE 16 /* how many come in the place of one, of a partner whose members have several queues, where ours have */

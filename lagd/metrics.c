@@ -84,8 +84,8 @@ void write_metrics(struct report *report, const struct control *control) {
     add_gauges(report, control);
     for (unsigned count = 0; count < ALL_COUNTS; count++) {
         char metric[64];
-        snprintf(metric, sizeof metric, "port_%s_total", count_text(count).name);
-        ADD_METRIC(report, control, metric, "counter", count_text(count).help, link, count_at(link, count));
+        snprintf(metric, sizeof metric, "port_%s_total", COUNT_TEXTS[count].name);
+        ADD_METRIC(report, control, metric, "counter", COUNT_TEXTS[count].help, link, count_at(link, count));
     }
     CALL(control->plane->carrying->show, report, control, AS_METRICS);
 }

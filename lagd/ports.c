@@ -65,8 +65,7 @@ void read_views(struct process *process, struct niw_system *system, struct ports
 
 static bool is_same_facts(const struct facts *one, const struct facts *other) {
     return one->status == other->status && one->aggregator == other->aggregator && one->defaulted == other->defaulted
-        && one->trouble == other->trouble && one->partner.priority == other->partner.priority
-        && memcmp(one->partner.mac, other->partner.mac, sizeof one->partner.mac) == 0 && one->partner_key == other->partner_key
+        && one->trouble == other->trouble && is_same_system(&one->partner, &other->partner) && one->partner_key == other->partner_key
         && one->partner_port == other->partner_port;
 }
 

@@ -18,7 +18,7 @@ void look_at_partner(struct probe *own, const struct carry *carry) {
     if (carry->active == 0) return;
     const struct niw_view *view = &carry->ports->links[carry->active_ports[0] - 1].view;
     struct system_id partner = partner_of(view);
-    if (view->partner_key == own->partner_key && memcmp(&partner, &own->partner, sizeof partner) == 0) return;
+    if (view->partner_key == own->partner_key && is_same_system(&partner, &own->partner)) return;
     own->partner_key = view->partner_key;
     own->partner = partner;
     own->peer = own->reported = NOT_ASKED;

@@ -57,7 +57,7 @@ bool change_port(struct protocol *protocol, struct link *link, const struct sett
 
 /* Who may be the partner changes for each link at once. One that is no longer pinned is so by who speaks next. */
 static void change_policy(struct settings *now, struct ports *ports, const struct settings *wanted) {
-    bool same = wanted->policy == now->policy && memcmp(&wanted->partner, &now->partner, sizeof wanted->partner) == 0;
+    bool same = wanted->policy == now->policy && is_same_system(&wanted->partner, &now->partner);
     now->policy = wanted->policy;
     now->partner = wanted->partner;
     if (same) return;
@@ -121,7 +121,7 @@ static bool read_file_again(struct process *process, const char *file, struct se
     if (!read_bundle_file(process, file, wanted)) return false;
     if (!wanted->system_auto || !process->settings->system_auto) return true;
     memcpy(wanted->config.mac, process->settings->config.mac, sizeof wanted->config.mac);
-    return look_at_all(process, file, wanted);
+    return check_whole_bundle(process, file, wanted);
 }
 
 /* Reads the file again. One that is wrong changes nothing. */

@@ -362,7 +362,7 @@ struct lack lack_of(const struct settings *settings) {
         {most && settings->min_links > most, {"min-links that is at most max-links", "min-links"}},
         {settings->revert && !most, {"max-links=N beside revert", "revert"}},
         /* LACPDUs of its own system are not taken. */
-        {settings->policy == PARTNER_GIVEN && memcmp(&settings->partner, &own, sizeof own) == 0, {"a partner that is not this system", "partner"}},
+        {settings->policy == PARTNER_GIVEN && is_same_system(&settings->partner, &own), {"a partner that is not this system", "partner"}},
         {true, {NULL, NULL}},
     };
     size_t first = 0;

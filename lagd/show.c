@@ -145,9 +145,9 @@ static void add_counts(struct report *report, const struct link *link, enum form
     add(report, form == AS_TEXT ? "\n" : ",\"counters\":{");
     for (unsigned i = 0; i < ALL_COUNTS; i++) {
         if (form == AS_TEXT)
-            add(report, "%s %s %" PRIu64 "%s", i % 4 == 0 ? " " : "", count_text(i).name, count_at(link, i), i % 4 == 3 || i == ALL_COUNTS - 1 ? "\n" : "");
+            add(report, "%s %s %" PRIu64 "%s", i % 4 == 0 ? " " : "", COUNT_TEXTS[i].name, count_at(link, i), i % 4 == 3 || i == ALL_COUNTS - 1 ? "\n" : "");
         else
-            add(report, "%s\"%s\":%" PRIu64, i ? "," : "", count_text(i).name, count_at(link, i));
+            add(report, "%s\"%s\":%" PRIu64, i ? "," : "", COUNT_TEXTS[i].name, count_at(link, i));
     }
     if (form == AS_JSON) add(report, "}");
 }

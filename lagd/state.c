@@ -160,7 +160,7 @@ static const char *fault_text(int fault) {
     return fault == HANGS ? "its disk does not answer" : strerror(-fault);
 }
 
-static void note_removal(struct process *process, const char *name, int fault) {
+static void tell_failed_removal(struct process *process, const char *name, int fault) {
     if (fault < 0)
         (void)say(process, LOG_ERR | ABOUT_HANDOVER,
             "its state cannot be removed: %s: remove %s, or start no daemon for as long as a partner is waited for", fault_text(fault), name);
@@ -179,7 +179,7 @@ static void note_copy(struct state *own, struct copied copied) {
     if (copied.written < 0 && !own->copy_failed)
         (void)say(process, LOG_WARNING | ABOUT_HANDOVER, "its state cannot be kept in %s, and what is there may stay: %s", folder,
             fault_text(copied.written));
-    if (!own->copy_failed) note_removal(process, own->copy_name, copied.removed);
+    if (!own->copy_failed) tell_failed_removal(process, own->copy_name, copied.removed);
     if (own->copy_failed && !failed) (void)say(process, LOG_NOTICE | ABOUT_HANDOVER, "its state can be kept in %s again", folder);
     own->copy_failed = failed;
 }
@@ -302,7 +302,7 @@ void end_state(struct state *own) {
     struct process *process = own->carry->process;
     own->over = true;
     keep_file(own, NULL);
-    note_removal(process, own->name, remove_file(process->folder, own->name, false));
+    tell_failed_removal(process, own->name, remove_file(process->folder, own->name, false));
     if (own->copy_folder >= 0) finish_copy(own, false);
 }
 

@@ -99,13 +99,6 @@ static void let_watch(const struct status *own, struct caller *caller) {
     if (!caller->watches) end_with(caller, REFUSAL "this user watches too often\n");
 }
 
-/* Does what root asks for, and tells what became of it. */
-static void obey(struct protocol *protocol, struct caller *caller) {
-    char answer[ORDER_ROOM] = REFUSAL "root alone may change a bundle\n";
-    if (caller->user == 0) answer_order(protocol, caller->question, answer);
-    end_with(caller, answer);
-}
-
 /* Answers a question by a report, of what the library and the kernel tell now; one that is not known has none. */
 static void send_report(struct control *control, struct caller *caller) {
     const char *asked = caller->question;
@@ -140,12 +133,15 @@ static void read_question(struct control *control, struct caller *caller) {
         return;
     }
     *end = 0;
-    if (strcmp(caller->question, "watch") == 0 || strcmp(caller->question, "watch-json") == 0)
+    if (strcmp(caller->question, "watch") == 0 || strcmp(caller->question, "watch-json") == 0) {
         let_watch(&control->process->status, caller);
-    else if (is_order(caller->question))
-        obey(control->protocol, caller);
-    else
+    } else if (is_order(caller->question)) {
+        char answer[ORDER_ROOM] = REFUSAL "root alone may change a bundle\n";
+        if (caller->user == 0) answer_order(control->protocol, caller->question, answer);
+        end_with(caller, answer);
+    } else {
         send_report(control, caller);
+    }
 }
 
 /* Takes what somebody sends, or goes on with an answer. Who watches sends nothing more, but for the end. */

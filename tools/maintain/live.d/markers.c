@@ -158,7 +158,7 @@ static unsigned most_answered(const uint8_t *source, unsigned step, unsigned *al
     write_frame(frame, source, NIW_MARKER_INFORMATION, 1, 1);
     for (unsigned passed = 0; passed < MINUTE; passed += step) {
         now += step;
-        if (spend_answer(&lagd->settings, &lagd->plane, &lagd->ports.links[0], &arrival)) times[count++] = now;
+        if (spend_answer(&lagd->ports.links[0], &arrival, lagd->settings.marker_responses * lagd->plane.queueing->markers_at_once)) times[count++] = now;
     }
     for (unsigned first = 0; first < count; first++) {
         unsigned end = first;
@@ -190,7 +190,7 @@ static void check_budgets(void) {
         struct arrival arrival = {.frame = marker, .length = sizeof marker};
         write_frame(marker, PARTNER, NIW_MARKER_INFORMATION, 1, turn);
         for (unsigned forged = 0; forged < 30; forged++, now += 5) (void)spend_answer(&lagd->settings, &lagd->plane, &lagd->ports.links[0], &strange);
-        CHECK(spend_answer(&lagd->settings, &lagd->plane, &lagd->ports.links[0], &arrival));
+        CHECK(spend_answer(&lagd->ports.links[0], &arrival, lagd->settings.marker_responses * lagd->plane.queueing->markers_at_once));
     }
     lagd->ports.links[0].heard = false;
     now += MINUTE;
