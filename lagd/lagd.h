@@ -185,6 +185,7 @@ struct options {
 struct status {
     struct caller {
         int fd; /* -1: none */
+        uint32_t tag; /* by which the loop knows it */
         uid_t user;
         unsigned ticks; /* that are left for the question */
         bool watches, json;
@@ -495,7 +496,7 @@ uint16_t count_links(const struct ports *ports);
 bool place_ports(const struct process *process, const struct ports *ports, struct settings *settings);
 void keep_left_ports(const struct inherited *inherited, struct ports *ports, struct settings *settings);
 void leave_left_ports(struct protocol *protocol);
-void begin_link(const struct settings *settings, struct ports *ports, uint16_t port);
+void begin_link(const struct settings *settings, struct link *link, uint16_t port);
 void join_port(struct protocol *protocol, struct link *link, const struct port_settings *settings);
 void leave_port(struct protocol *protocol, struct link *link);
 bool begin_hold(struct protocol *protocol, struct link *link);
@@ -517,8 +518,8 @@ void pass_halt_tick(struct protocol *protocol);
 
 /* ports.c */
 void read_views(struct process *process, struct niw_system *system, struct ports *ports);
-void print_all_changes(struct protocol *protocol);
-bool print_change(struct protocol *protocol, struct link *link);
+void print_all_changes(struct process *process, const struct protocol *protocol, struct ports *ports);
+bool print_change(struct process *process, const struct protocol *protocol, struct link *link);
 struct facts facts_of(const struct protocol *protocol, const struct link *link);
 bool carries(const struct protocol *protocol, const struct link *link);
 uint16_t count_away(const struct ports *ports);

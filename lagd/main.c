@@ -91,7 +91,7 @@ static void drop_privileges(struct process *process, bool administers) {
 
 static void tell_changes(struct protocol *protocol) {
     read_views(protocol->process, &protocol->own_system, protocol->ports);
-    print_all_changes(protocol);
+    print_all_changes(protocol->process, protocol, protocol->ports);
     look_at_bundle(protocol);
 }
 

@@ -89,15 +89,14 @@ void keep_left_ports(const struct inherited *inherited, struct ports *ports, str
         if (port->number > ports->slots || link->used || !was_carrying(inherited, port)) continue;
         memcpy(settings->ports[port->number - 1].name, port->name, sizeof port->name);
         if (port->number > settings->port_count) settings->port_count = port->number;
-        begin_link(settings, ports, port->number);
+        begin_link(settings, link, port->number);
         link->left_over = !settings->follow;
         link->followed = settings->follow;
     }
 }
 
 /* A port begins, as the settings have it. What the library tells of it stays. */
-void begin_link(const struct settings *settings, struct ports *ports, uint16_t port) {
-    struct link *link = &ports->links[port - 1];
+void begin_link(const struct settings *settings, struct link *link, uint16_t port) {
     *link = (struct link){.name = settings->ports[port - 1].name, .settings = port_of(settings, port), .socket = -1, .lock = -1,
         .carrier_file = -1, .lines = MOST_LINES, .changed = true, .view = link->view};
     link->key = link->settings.key;
@@ -121,7 +120,7 @@ void join_port(struct protocol *protocol, struct link *link, const struct port_s
     uint16_t port = link->settings.number;
     protocol->settings->ports[port - 1] = *settings;
     if (port > protocol->ports->count) protocol->settings->port_count = protocol->ports->count = port;
-    begin_link(protocol->settings, protocol->ports, port);
+    begin_link(protocol->settings, link, port);
     link->puts_in = true;
     CALL(protocol->plane->carrying->forget, protocol->plane, link);
     if (!configure_port(protocol, link)) return;
@@ -136,7 +135,7 @@ static void end_leaving(struct protocol *protocol, struct link *link) {
     if (link->socket >= 0) lose_link(protocol, link);
     (void)say(protocol->process, LOG_NOTICE | ABOUT_PORT, "port %u %s: it left the bundle", port, link->name);
     protocol->settings->ports[port - 1] = unset_port();
-    begin_link(protocol->settings, protocol->ports, port);
+    begin_link(protocol->settings, link, port);
     protocol->plane->changed = true;
     look_at_bundle(protocol);
 }

@@ -83,17 +83,17 @@ static bool print_facts(struct process *process, const struct ports *ports, cons
 }
 
 /* Looks at a port, and prints it if it changed; answers whether it did. What could not be printed is looked at again. */
-bool print_change(struct protocol *protocol, struct link *link) {
+bool print_change(struct process *process, const struct protocol *protocol, struct link *link) {
     struct facts facts = facts_of(protocol, link);
     bool same = link->reported && is_same_facts(&facts, &link->printed), watched = link->watched && is_same_facts(&facts, &link->shown);
-    if (!protocol->process->has_started || !link->used) return false;
+    if (!process->has_started || !link->used) return false;
     if (!same && !watched) {
         link->changed_at = time(NULL);
-        tell_watchers_of(protocol->process, protocol->control, link);
+        tell_watchers_of(process, protocol->control, link);
     }
     link->watched = true;
     link->shown = facts;
-    link->changed = !same && !print_facts(protocol->process, protocol->ports, link, &facts, watched);
+    link->changed = !same && !print_facts(process, protocol->ports, link, &facts, watched);
     if (same || link->changed) return false;
     link->reported = true;
     link->printed = facts;
@@ -101,10 +101,10 @@ bool print_change(struct protocol *protocol, struct link *link) {
 }
 
 /* Prints the ports that changed. What is printed too often is printed later. */
-void print_all_changes(struct protocol *protocol) {
-    EACH_LINK(link, protocol->ports) {
-        if (link->changed && link->lines > 0 && print_change(protocol, link)) link->lines--;
-        tell_strangers(protocol->process, protocol->ticks, link);
-        tell_markers(protocol->process, protocol->ticks, link);
+void print_all_changes(struct process *process, const struct protocol *protocol, struct ports *ports) {
+    EACH_LINK(link, ports) {
+        if (link->changed && link->lines > 0 && print_change(process, protocol, link)) link->lines--;
+        tell_strangers(process, protocol->ticks, link);
+        tell_markers(process, protocol->ticks, link);
     }
 }

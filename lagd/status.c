@@ -47,8 +47,8 @@ static void accept_one(struct status *own, int epoll_file, int fd) {
     socklen_t length = sizeof who;
     const char *why = NULL;
     struct caller *place = getsockopt(fd, SOL_SOCKET, SO_PEERCRED, &who, &length) == 0 ? free_caller(own, who.uid, &why) : NULL;
-    struct caller caller = {.fd = fd, .user = who.uid, .ticks = PATIENCE};
-    if (place && await_input(epoll_file, fd, CALLERS + (uint32_t)(place - own->callers))) {
+    struct caller caller = {.fd = fd, .tag = place ? CALLERS + (uint32_t)(place - own->callers) : 0, .user = who.uid, .ticks = PATIENCE};
+    if (place && await_input(epoll_file, fd, caller.tag)) {
         *place = caller;
         return;
     }
@@ -71,16 +71,14 @@ void accept_callers(struct status *own, int epoll_file) {
 }
 
 /* Sends what is left of an answer, as far as the socket has room, and closes the connection behind it. */
-static void send_rest(const struct process *process, struct caller *caller) {
+static void send_rest(struct caller *caller, int epoll_file) {
     ssize_t sent = send(caller->fd, caller->rest + caller->sent, caller->answer_length - caller->sent, MSG_NOSIGNAL | MSG_DONTWAIT);
     bool waits = sent >= 0 || errno == EAGAIN || errno == EINTR;
     if (sent > 0) {
         caller->sent += (size_t)sent;
         caller->ticks = PATIENCE;
     }
-    if (!waits || caller->sent == caller->answer_length
-        || !await_output(process->epoll_file, caller->fd, CALLERS + (uint32_t)(caller - process->status.callers)))
-        close_caller(caller);
+    if (!waits || caller->sent == caller->answer_length || !await_output(epoll_file, caller->fd, caller->tag)) close_caller(caller);
 }
 
 static bool is_order(const char *asked) {
@@ -119,7 +117,7 @@ static void send_report(struct control *control, struct caller *caller) {
         return;
     }
     memcpy(caller->rest, report->text, report->length);
-    send_rest(control->process, caller);
+    send_rest(caller, control->process->epoll_file);
 }
 
 static void read_question(struct control *control, struct caller *caller) {
@@ -150,7 +148,7 @@ void serve_caller(struct control *control, uint32_t number) {
     char scrap[64];
     if (caller->fd < 0) return;
     if (caller->rest)
-        send_rest(control->process, caller);
+        send_rest(caller, control->process->epoll_file);
     else if (!caller->watches)
         read_question(control, caller);
     else if (recv(caller->fd, scrap, sizeof scrap, MSG_DONTWAIT) <= 0)

@@ -68,7 +68,7 @@ void make_system(struct protocol *protocol) {
     if (protocol->settings->config.first_marker == 0) protocol->settings->config.first_marker = random_marker();
     choose_slots(&protocol->keys, protocol->ports, protocol->settings);
     if (!place_ports(protocol->process, protocol->ports, protocol->settings)) stop(WRONG_WORD, "too many interfaces", protocol->settings->name);
-    for (uint16_t port = 1; port <= NIW_MOST_PORTS; port++) begin_link(protocol->settings, protocol->ports, port);
+    for (uint16_t port = 1; port <= NIW_MOST_PORTS; port++) begin_link(protocol->settings, &protocol->ports->links[port - 1], port);
     keep_left_ports(protocol->process->inherited, protocol->ports, protocol->settings);
     protocol->ports->count = protocol->settings->port_count;
     protocol->aggregator_count = make_keys(&protocol->keys, protocol->ports, protocol->aggregator_keys);
@@ -125,14 +125,14 @@ void set_link(struct protocol *protocol, struct link *link, bool up) {
         || !is_done(protocol->process, niw_set_link(&protocol->own_system, link->settings.number, up), "niw_set_link"))
         return;
     settle_calls(protocol);
-    (void)print_change(protocol, link);
+    (void)print_change(protocol->process, protocol, link);
 }
 
 void lose_link(struct protocol *protocol, struct link *link) {
     set_waiting(link, false);
     set_link(protocol, link, false);
     release_interface(protocol->plane, &protocol->process->store, link);
-    (void)print_change(protocol, link);
+    (void)print_change(protocol->process, protocol, link);
 }
 
 /* 100 ms passed; answers whether the library took that. Churn detection goes by what it tells of the ports then, and what failed of a link is
