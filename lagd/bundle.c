@@ -7,7 +7,7 @@
 #include <sys/prctl.h>
 
 /* Starts a program in a session of its own, which has no signal blocked or ignored, reads nothing, and prints to standard error. It has the timer
- * slack that the daemon was started with: a child inherits what holds at its start. Answers 0, or errno. */
+ * slack that the daemon was started with: a child inherits what holds at its start. Answers 0, or -errno. */
 static int start_program(const char *path, char *const *environment) {
     char *words[] = {(char *)(uintptr_t)path, NULL};
     posix_spawnattr_t attributes;
@@ -28,7 +28,7 @@ static int start_program(const char *path, char *const *environment) {
     (void)prctl(PR_SET_TIMERSLACK, TIMER_SLACK);
     posix_spawn_file_actions_destroy(&files);
     posix_spawnattr_destroy(&attributes);
-    return fault;
+    return -fault;
 }
 
 /* Runs the program. Nobody waits for it. */
@@ -42,7 +42,7 @@ static void run_hook(struct process *process, const struct bundle *now, enum bun
     snprintf(carrying, sizeof carrying, "LAGD_CARRYING=%u", now->carrying);
     snprintf(aggregator, sizeof aggregator, "LAGD_AGGREGATOR=%u", now->aggregator);
     int fault = start_program(process->settings->hook, environment);
-    if (fault) (void)say(process, LOG_WARNING | ABOUT_HOOK, "hook %s: %s", process->settings->hook, strerror(fault));
+    if (fault < 0) (void)say(process, LOG_WARNING | ABOUT_HOOK, "hook %s: %s", process->settings->hook, strerror(-fault));
 }
 
 static void enter_state(struct process *process, struct bundle *own, const struct bundle *now, const struct control *control) {
