@@ -473,7 +473,7 @@ const char *speed_text(const struct speed *speed, char room[static 40]);
 
 /* system.c */
 void make_system(struct protocol *protocol);
-size_t resume_system(struct protocol *protocol, struct niw_saved *saved, size_t count);
+size_t resume_system(struct process *process, struct niw_system *own, const struct protocol *protocol, struct niw_saved *saved, size_t count);
 void set_link(struct protocol *protocol, struct link *link, bool up);
 bool apply_hold(struct process *process, struct niw_system *system, const struct link *link, bool down) MUST_USE;
 void apply_holds(struct process *process, struct niw_system *system, const struct ports *ports, bool down);
@@ -481,7 +481,7 @@ void lose_link(struct protocol *protocol, struct link *link);
 void send_due(struct protocol *protocol);
 void settle_calls(struct protocol *protocol);
 void send_again(struct process *process, struct changes *changes, struct ports *ports);
-bool pass_system_tick(struct protocol *protocol);
+bool pass_system_tick(struct process *process, struct niw_system *system, struct ports *ports);
 uint64_t seconds_since(uint64_t began);
 uint64_t milliseconds_of(clockid_t clock);
 uint64_t milliseconds(void);

@@ -108,7 +108,8 @@ static void pass_second(struct lagd *lagd) {
 }
 
 static void pass_tick(struct lagd *lagd) {
-    if (!pass_system_tick(&lagd->protocol)) return;
+    lagd->protocol.ticks++;
+    if (!pass_system_tick(&lagd->process, &lagd->protocol.own_system, &lagd->ports)) return;
     pass_halt_tick(&lagd->protocol);
     pass_leaving_tick(&lagd->protocol);
     if (!lagd->process.broken) CALL(lagd->plane.carrying->tick, &lagd->plane);

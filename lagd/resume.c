@@ -77,7 +77,7 @@ unsigned resume(struct protocol *protocol) {
     const uint64_t now = boottime() + inherited->ahead; /* as the last daemon had it */
     EACH_LINK(link, protocol->ports)
         if (protocol->process->resuming && goes_on(inherited, link, now)) saved[count++] = saved_of(inherited, link, now);
-    count = resume_system(protocol, saved, count);
+    count = resume_system(protocol->process, &protocol->own_system, protocol, saved, count);
     for (size_t i = 0; i < count; i++) recall_partner(protocol->process, &protocol->ports->links[saved[i].port - 1]);
     tell_links(protocol->process, protocol->ports, (unsigned)count);
     return (unsigned)count;

@@ -49,17 +49,17 @@ void apply_holds(struct process *process, struct niw_system *system, const struc
 }
 
 /* Makes the system anew, with these ports as they were. One that the library refuses comes up as the others do. Answers how many are back. */
-size_t resume_system(struct protocol *protocol, struct niw_saved *saved, size_t count) {
-    if (count == 0 || !is_done(protocol->process, niw_free(&protocol->own_system), "niw_free")) return 0;
-    struct niw_made made = put_system(&protocol->own_system, protocol, saved, count);
+size_t resume_system(struct process *process, struct niw_system *own, const struct protocol *protocol, struct niw_saved *saved, size_t count) {
+    if (count == 0 || !is_done(process, niw_free(own), "niw_free")) return 0;
+    struct niw_made made = put_system(own, protocol, saved, count);
     while (made.status == NIW_STALE || made.status == NIW_NOT_DISTRIBUTING) {
         size_t at = 0;
         while (at < count && saved[at].port != made.place) at++;
         if (at < count) memmove(saved + at, saved + at + 1, (count - at - 1) * sizeof *saved);
         count = at < count ? count - 1 : 0;
-        made = put_system(&protocol->own_system, protocol, saved, count);
+        made = put_system(own, protocol, saved, count);
     }
-    return is_done(protocol->process, made.status, "niw_resume") ? count : 0;
+    return is_done(process, made.status, "niw_resume") ? count : 0;
 }
 
 void make_system(struct protocol *protocol) {
@@ -137,20 +137,19 @@ void lose_link(struct protocol *protocol, struct link *link) {
 
 /* 100 ms passed; answers whether the library took that. Churn detection goes by what it tells of the ports then, and what failed of a link is
  * forgotten after a while. */
-bool pass_system_tick(struct protocol *protocol) {
-    bool taken = is_done(protocol->process, niw_tick(&protocol->own_system), "niw_tick");
+bool pass_system_tick(struct process *process, struct niw_system *system, struct ports *ports) {
+    bool taken = is_done(process, niw_tick(system), "niw_tick");
     if (!taken) return false;
-    read_views(protocol->process, &protocol->own_system, protocol->ports);
-    EACH_LINK(link, protocol->ports) {
+    read_views(process, system, ports);
+    EACH_LINK(link, ports) {
         const struct niw_view *view = &link->view;
         uint32_t status = niw_churn_tick(&link->churn, view->up, view->state, view->partner_state);
-        taken = is_done(protocol->process, status, "niw_churn_tick") && taken;
+        taken = is_done(process, status, "niw_churn_tick") && taken;
         link->tried = false;
         if (link->trouble_ticks == 0 || --link->trouble_ticks > 0) continue;
         link->trouble = 0;
         link->changed = true;
     }
-    protocol->ticks++;
     return taken;
 }
 
