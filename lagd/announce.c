@@ -60,7 +60,7 @@ static void announce_ipv6(struct announce *own, const struct announced_place *pl
     at[24] = TARGET_LINK_ADDRESS;
     at[25] = 1; /* of 8 octets */
     memcpy(at + 26, place->mac, ETH_ALEN);
-    uint16_t sum = fold(add_octets(htons(ADVERTISED_OCTETS + IPPROTO_ICMPV6), ip + IPV6_ADDRESSES, 32));
+    uint16_t sum = fold_sum(add_to_sum(htons(ADVERTISED_OCTETS + IPPROTO_ICMPV6), ip + IPV6_ADDRESSES, 32));
     memcpy(at + 2, &sum, sizeof sum);
     put_sum(at, ADVERTISED_OCTETS, 2);
     send_announcement(own, place, frame, sizeof frame);

@@ -69,7 +69,6 @@ struct carry {
     uint16_t active_ports[NIW_MOST_PORTS]; /* of it, those that distribute */
     uint16_t active_count;
     uint16_t port_of[CONVERSATIONS]; /* of each conversation in it, as ask_ports told last: 0 where it is free or held there */
-    bool waiting;                  /* false only where no frame waits */
     unsigned taken;                /* frames that came in this turn */
     bool more_waits;               /* whether a socket may have more */
     struct conversation conversations[CONVERSATIONS];

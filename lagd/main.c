@@ -150,7 +150,7 @@ static void serve_all_frames(struct protocol *protocol, const struct epoll_event
 
 /* Takes the data of all members, and then that of the host. */
 static void serve_all_data(struct tap_plane *tap, const struct epoll_event *events, int count) {
-    bool host = is_cutting(tap) || is_ready(events, count, HOST);
+    bool host = is_cutting(tap->process, &tap->host) || is_ready(events, count, HOST);
     for (int i = 0; i < count; i++)
         if (events[i].data.u32 >= MEMBERS) serve_data(tap, events[i].data.u32);
     settle_carry(tap->plane);
@@ -203,7 +203,7 @@ static int wait_for(struct tap_plane *tap, struct epoll_event *events) {
     if (tap->carry->taken >= MANY && !tap->carry->more_waits) (void)nanosleep(&(struct timespec){0, GATHERS}, NULL);
     tap->carry->taken = 0;
     tap->carry->more_waits = false;
-    return epoll_wait(tap->process->epoll_file, events, MOST_EVENTS, is_cutting(tap) ? 0 : -1);
+    return epoll_wait(tap->process->epoll_file, events, MOST_EVENTS, is_cutting(tap->process, &tap->host) ? 0 : -1);
 }
 
 /* Waits, and serves what comes. The first signal that ends it, or a refusal of the library, makes it tell the peers; it ends when they

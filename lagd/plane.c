@@ -38,6 +38,6 @@ void release_former_members(struct plane *plane) {
         EACH_LINK(link, plane->carry->ports) stays = stays || (link->socket >= 0 && link->index == was->index);
         if (stays) continue;
         leave_team_port(plane->team, was->index);
-        put_back(plane->tap, was);
+        put_back_former(plane->carry->process, &plane->tap->fast, was);
     }
 }

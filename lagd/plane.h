@@ -17,6 +17,7 @@ struct options;
 struct plane;
 struct process;
 struct report;
+struct queues;
 struct settings;
 struct tap_plane;
 struct team_plane;
@@ -103,7 +104,7 @@ struct queueing {
     bool (*set)(struct tap_plane *tap, struct link *link, struct guard *guard, bool again);
     bool (*follow)(struct tap_plane *tap, struct link *link); /* a discipline changed: whether the member is still taken up */
     void (*watch)(struct tap_plane *tap); /* 100 ms passed: a member whose queues others changed is taken up anew */
-    void (*mark)(struct tap_plane *tap, uint16_t port, uint16_t number, struct msghdr *message); /* which queue a frame of a conversation goes by */
+    void (*mark)(struct queues *queues, uint16_t number, struct msghdr *message); /* which queue a frame of a conversation goes by */
     bool (*send_marker)(struct tap_plane *tap, struct link *link, const uint8_t *marker, bool again); /* false where not all of it went */
     void (*accept_response)(struct tap_plane *tap, struct link *link, const struct arrival *arrival, uint32_t id);
     bool (*answer)(struct tap_plane *tap, struct link *link, const uint8_t *response); /* false where too many wait */

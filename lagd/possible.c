@@ -16,7 +16,7 @@ int tell_lack(struct process *process, const struct options *options, const char
 
 /* Whether the kernel has a program run at an interface, as Linux does from 6.6 on: then it misses the interface alone. 0, or -errno. */
 int fault_of_programs(const struct settings *settings) {
-    CLOSED_FILE int program = load_program(settings, "dropper", NULL);
+    CLOSED_FILE int program = load_program(settings, "dropper", NULL, NULL);
     if (program < 0) return program;
     int attached = attach_program(program, NO_INDEX, false);
     return attached == -ENODEV ? 0 : attached;

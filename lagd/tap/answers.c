@@ -7,22 +7,22 @@
 /* More packets than the socket of a member has room for. */
 #define MOST_UNREAD 32768
 
-void start_answers(struct tap_plane *tap) {
-    tap->answer_timer = timerfd_create(CLOCK_MONOTONIC, TFD_NONBLOCK | TFD_CLOEXEC);
-    if (tap->answer_timer < 0 || !await_input(tap->process->epoll_file, tap->answer_timer, RESPONSES)) stop(REFUSED, "no clock", strerror(errno));
+int open_answer_timer(int epoll_file) {
+    int timer = timerfd_create(CLOCK_MONOTONIC, TFD_NONBLOCK | TFD_CLOEXEC);
+    if (timer < 0 || !await_input(epoll_file, timer, RESPONSES)) stop(REFUSED, "no clock", strerror(errno));
+    return timer;
 }
 
-/* Wakes the daemon for the first response that is due: one that waits for its socket is looked at again in a millisecond. */
-static void wake(const struct tap_plane *tap) {
+/* Has the timer wake the daemon for the first response of so many ports that is due: one that waits for its socket is looked at again in a
+ * millisecond. */
+static void set_timer(int timer, const struct answers *of_ports, uint16_t count) {
     uint64_t now = milliseconds(), next = UINT64_MAX;
     struct itimerspec at = {{0, 0}, {0, 0}};
-    for (uint16_t i = 0; i < tap->ports->count; i++) {
-        const struct answers *answers = &tap->answers[i];
+    for (const struct answers *answers = of_ports; answers < of_ports + count; answers++)
         if (answers->count > 0 && answers->waiting[answers->first].due < next) next = answers->waiting[answers->first].due;
-    }
     if (next <= now) next = now + 1;
     if (next != UINT64_MAX) at.it_value = (struct timespec){(time_t)(next / 1000), (long)(next % 1000) * 1000000};
-    (void)timerfd_settime(tap->answer_timer, TFD_TIMER_ABSTIME, &at, NULL);
+    (void)timerfd_settime(timer, TFD_TIMER_ABSTIME, &at, NULL);
 }
 
 bool answer_at_once(struct tap_plane *tap, struct link *link, const uint8_t *response) {
@@ -36,7 +36,7 @@ bool answer_later(struct tap_plane *tap, struct link *link, const uint8_t *respo
     struct answer *answer = &answers->waiting[(answers->first + answers->count++) % MOST_ANSWERS];
     *answer = (struct answer){.due = milliseconds() + tap->settings->answer_after + 1, .unread = MOST_UNREAD};
     memcpy(answer->frame, response, sizeof answer->frame);
-    if (answers->count == 1) wake(tap);
+    if (answers->count == 1) set_timer(tap->answer_timer, tap->answers, tap->ports->count);
     return true;
 }
 
@@ -71,5 +71,5 @@ void serve_answers(struct tap_plane *tap) {
     uint64_t passed;
     (void)!read(tap->answer_timer, &passed, sizeof passed);
     EACH_LINK(link, tap->ports) answer_due(tap, link);
-    wake(tap);
+    set_timer(tap->answer_timer, tap->answers, tap->ports->count);
 }

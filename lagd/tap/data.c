@@ -2,18 +2,21 @@
 #include "tap.h"
 
 /* Has a frame wait until its conversation goes on. Where there is no room the oldest one of it is lost, or else this one. */
-static void keep(struct tap_plane *tap, uint16_t number, const uint8_t *packet, size_t length) {
-    bool kept = put_held(tap, number, packet, length);
+static void hold_frame(struct carry *carry, struct held *held, uint16_t number, const uint8_t *packet, size_t length) {
+    bool kept = put_held(carry->process, held, number, carry->time, packet, length);
     uint64_t waiting;
-    if (!kept && !tap->process->broken && drop_held(tap, number, QUEUE_FULL)) kept = put_held(tap, number, packet, length);
-    tap->carry->counts[kept ? HELD_FRAMES : QUEUE_FULL]++;
-    if (count_held(tap, number, &waiting) && waiting > tap->carry->counts[LONGEST_QUEUE]) tap->carry->counts[LONGEST_QUEUE] = waiting;
+    if (!kept && !carry->process->broken && drop_held(carry->process, held, number)) {
+        carry->counts[QUEUE_FULL]++;
+        kept = put_held(carry->process, held, number, carry->time, packet, length);
+    }
+    carry->counts[kept ? HELD_FRAMES : QUEUE_FULL]++;
+    if (count_held(carry->process, held, number, &waiting) && waiting > carry->counts[LONGEST_QUEUE]) carry->counts[LONGEST_QUEUE] = waiting;
 }
 
 /* What becomes of the next frame of a conversation: it waits, there is no port for it, or it goes on the port of the conversation. */
 enum offered { WAITS, LOST, GOES };
 
-static enum offered offer(struct carry *carry, struct conversation *conversation, uint16_t number) {
+static enum offered offer_frame(struct carry *carry, struct conversation *conversation, uint16_t number) {
     if (carry->time < conversation->fast.not_before) return WAITS;
     struct niw_number answer = niw_offer_conversation_in_active_aggregator(&carry->protocol->own_system, carry->active, number);
     if (answer.status == NIW_HELD) return WAITS;
@@ -26,7 +29,7 @@ static enum offered offer(struct carry *carry, struct conversation *conversation
     return GOES;
 }
 
-static void send_on(struct tap_plane *tap, const struct conversation *conversation, uint8_t *packet, size_t length) {
+static void send_by_port(struct tap_plane *tap, const struct conversation *conversation, uint8_t *packet, size_t length) {
     tap->silent_since[conversation->port - 1] = 0;
     put_data(tap, conversation->port, (uint16_t)(conversation - tap->carry->conversations), packet, length);
 }
@@ -52,10 +55,10 @@ void accept_from_host(struct tap_plane *tap, uint8_t *packet, size_t length) {
     }
     if (tap->carry->active != 0) {
         conversation->used = true;
-        offered = none_held(tap, (uint16_t)number) ? offer(tap->carry, conversation, (uint16_t)number) : WAITS;
+        offered = none_held(tap->process, &tap->held, (uint16_t)number) ? offer_frame(tap->carry, conversation, (uint16_t)number) : WAITS;
     }
-    if (offered == WAITS) keep(tap, (uint16_t)number, packet, length);
-    if (offered == GOES) send_on(tap, conversation, packet, length);
+    if (offered == WAITS) hold_frame(tap->carry, &tap->held, (uint16_t)number, packet, length);
+    if (offered == GOES) send_by_port(tap, conversation, packet, length);
     if (offered == LOST) tap->carry->counts[NONE_CARRIES]++;
 }
 
@@ -66,7 +69,7 @@ uint64_t frames_handed_up(struct plane *plane, bool counts_now) {
     return carry->counts[HANDED_UP] + carry->counts[HOST_UNTAKEN];
 }
 
-void hand_up(struct tap_plane *tap, uint32_t aggregator, uint8_t *packet, size_t length) {
+void hand_up_frame(struct tap_plane *tap, uint32_t aggregator, uint8_t *packet, size_t length) {
     if (aggregator == tap->carry->active) {
         put_host(tap, packet, length);
         return;
@@ -76,39 +79,43 @@ void hand_up(struct tap_plane *tap, uint32_t aggregator, uint8_t *packet, size_t
 }
 
 /* Offers the oldest frame of a conversation again, of which one waits; answers whether it left. */
-static bool release_one(struct tap_plane *tap, struct conversation *conversation, uint16_t number) {
-    enum offered offered = tap->carry->active == 0 ? WAITS : offer(tap->carry, conversation, number);
+static bool offer_oldest_again(struct tap_plane *tap, struct conversation *conversation, uint16_t number) {
+    enum offered offered = tap->carry->active == 0 ? WAITS : offer_frame(tap->carry, conversation, number);
     size_t length;
     if (offered == WAITS) return false;
     conversation->fast.touched = true;
-    if (offered == LOST) return drop_held(tap, number, NONE_CARRIES);
-    uint8_t *packet = remove_held(tap, number, &length);
+    if (offered == LOST) {
+        bool dropped = drop_held(tap->process, &tap->held, number);
+        tap->carry->counts[NONE_CARRIES] += dropped;
+        return dropped;
+    }
+    uint8_t *packet = remove_held(tap->process, &tap->held, number, &length);
     if (!packet) return false;
     conversation->used = true; /* from now on it is on its way */
-    send_on(tap, conversation, packet, length);
+    send_by_port(tap, conversation, packet, length);
     return true;
 }
 
 /* Offers again what waits, of each conversation until one is held. */
-static void release(struct tap_plane *tap) {
+static void offer_held_again(struct tap_plane *tap) {
     uint64_t unseen; /* the frames of the conversations that were not looked at yet */
     bool any_left = false;
-    if (!count_all_held(tap, &unseen)) return;
+    if (!count_all_held(tap->process, &tap->held, &unseen)) return;
     for (uint16_t number = 0; unseen > 0 && number < CONVERSATIONS; number++) {
         uint64_t left;
-        any_left = !count_held(tap, number, &left) || any_left;
+        any_left = !count_held(tap->process, &tap->held, number, &left) || any_left;
         unseen -= left;
-        while (left > 0 && release_one(tap, &tap->carry->conversations[number], number)) left--;
+        while (left > 0 && offer_oldest_again(tap, &tap->carry->conversations[number], number)) left--;
         if (left > 0) any_left = true;
     }
-    tap->carry->waiting = any_left;
+    tap->held.any_waits = any_left;
     flush_data(tap);
     CALL(tap->plane->passing->pass_on, tap);
 }
 
 void tell_speed_and_carrier(struct plane *plane) {
     struct tap_plane *tap = plane->tap;
-    set_speed(tap->device, sum_speeds(tap));
+    set_speed(tap->device, sum_speeds(tap->carry, tap->members));
     set_carrier(tap->device, tap->carry->active != 0);
 }
 
@@ -120,7 +127,7 @@ void settle_frames(struct plane *plane) {
     leave_previous(tap->carry);
     CALL(plane->passing->set_collecting, tap);
     look_at_partner(&tap->carry->probe, tap->carry);
-    if (tap->carry->waiting) release(tap);
+    if (tap->held.any_waits) offer_held_again(tap);
     if (tap->carry->to_balance) balance(tap->carry);
     if (tap->carry->to_balance) CALL(plane->passing->read_host, tap);
     tap->carry->to_balance = false;

@@ -19,36 +19,36 @@ static bool wait_for_programs(void) {
     return syscall(SYS_membarrier, MEMBARRIER_CMD_GLOBAL, 0, 0) == 0;
 }
 
-/* Loads a program of the kernel; a fault ends the daemon. */
-static int load(const struct settings *settings, const char *name, const struct fast_maps *maps) {
-    int program = load_program(settings, name, maps);
-    if (program < 0) stop(REFUSED, "fast: the kernel takes no program", program_fault());
+static int load_or_stop(const struct settings *settings, const char *name, const struct fast_maps *maps) {
+    char reason[REASON_ROOM];
+    int program = load_program(settings, name, maps, reason);
+    if (program < 0) stop(REFUSED, "fast: the kernel takes no program", reason);
     return program;
 }
 
 /* Has a program run at the TAP device; answers what keeps it there. */
-static int keep_program(struct tap_plane *tap, const char *name, const struct fast_maps *maps, bool egress) {
-    CLOSED_FILE int program = load(tap->settings, name, maps);
-    int opened = attach_stored(&tap->process->store, name, program, tap->device->index, egress);
+static int keep_program(struct process *process, int device, const char *name, const struct fast_maps *maps, bool egress) {
+    CLOSED_FILE int program = load_or_stop(process->settings, name, maps);
+    int opened = attach_stored(&process->store, name, program, device, egress);
     if (opened < 0) stop(REFUSED, "fast: no program of an interface, which Linux has from 6.6 on", strerror(-opened));
     return opened;
 }
 
 /* A table that the programs share with the daemon: that of the last daemon, where that left one for this device, or a new one. */
-static void *open_map(struct tap_plane *tap, int number, uint32_t size, uint32_t count, int *map) {
-    int left = tap->process->inherited->tap;
-    *map = claim_stored(&tap->process->store, "map", number);
-    void *at = *map >= 0 && left != 0 && left == tap->device->index ? map_again(size, count, *map) : NULL;
+static void *open_map(struct process *process, int device, int number, uint32_t size, uint32_t count, int *map) {
+    int left = process->inherited->tap;
+    *map = claim_stored(&process->store, "map", number);
+    void *at = *map >= 0 && left != 0 && left == device ? map_again(size, count, *map) : NULL;
     if (at) return at;
-    if (*map >= 0) close_stored(&tap->process->store, "map", number, *map);
+    if (*map >= 0) close_stored(&process->store, "map", number, *map);
     at = make_map(size, count, map);
     need(at != NULL, "fast: no table of the kernel");
-    put_stored(&tap->process->store, "map", number, *map);
+    put_stored(&process->store, "map", number, *map);
     return at;
 }
 
 /* What a count of the kernel has since it was taken last. */
-static uint64_t take(uint64_t *count) {
+static uint64_t take_count(uint64_t *count) {
     return __atomic_exchange_n(count, 0, __ATOMIC_SEQ_CST);
 }
 
@@ -63,20 +63,20 @@ static void begin_tables(struct fast_programs *own, uint16_t ports) {
     own->host->overflowed = own->host->unfit = 0;
 }
 
-/* Loads all that the kernel is to run, while the daemon may. */
 static void start_fast(struct tap_plane *tap) {
     struct fast_programs *own = &tap->fast;
     struct fast_maps maps;
+    int device = tap->device->index;
     need(wait_for_programs(), "fast: the kernel cannot wait for its programs (membarrier)");
-    own->rows = open_map(tap, 0, sizeof *own->rows, CONVERSATIONS, &maps.rows);
-    own->entries = open_map(tap, 1, sizeof *own->entries, NIW_MOST_PORTS, &maps.members);
-    own->host = open_map(tap, 2, sizeof *own->host, 1, &maps.host);
-    own->places = open_map(tap, 3, sizeof *own->places, PLACES, &maps.places);
+    own->rows = open_map(tap->process, device, 0, sizeof *own->rows, CONVERSATIONS, &maps.rows);
+    own->entries = open_map(tap->process, device, 1, sizeof *own->entries, NIW_MOST_PORTS, &maps.members);
+    own->host = open_map(tap->process, device, 2, sizeof *own->host, 1, &maps.host);
+    own->places = open_map(tap->process, device, 3, sizeof *own->places, PLACES, &maps.places);
     begin_tables(own, tap->ports->count);
     if (own->host->mac == 0) memcpy(&own->host->mac, tap->settings->config.mac, ETH_ALEN);
-    own->receiver = load(tap->settings, "receiver", &maps);
-    own->handover = keep_program(tap, "handover", &maps, false);
-    own->sender = keep_program(tap, "sender", &maps, true);
+    own->receiver = load_or_stop(tap->settings, "receiver", &maps);
+    own->handover = keep_program(tap->process, device, "handover", &maps, false);
+    own->sender = keep_program(tap->process, device, "sender", &maps, true);
 }
 
 /* The kernel passes nothing on any more by this row. */
@@ -113,12 +113,12 @@ static uint64_t place_word(const struct link *link) {
 }
 
 /* Has what comes at a member go up by the kernel, as long as the answer is open; or -errno, as where another member has its place. */
-int open_fast_receiver(struct tap_plane *tap, const struct link *wanted) {
-    uint64_t *place = place_at(&tap->fast, wanted), taken = __atomic_load_n(place, __ATOMIC_SEQ_CST);
-    EACH_LINK_AS_IS(link, tap->ports)
+int open_fast_receiver(struct store *store, struct fast_programs *own, const struct ports *ports, const struct link *wanted) {
+    uint64_t *place = place_at(own, wanted), taken = __atomic_load_n(place, __ATOMIC_SEQ_CST);
+    EACH_LINK_AS_IS(link, ports)
         if (link != wanted && link->socket >= 0 && place_word(link) == taken) return -EBUSY;
     __atomic_store_n(place, place_word(wanted), __ATOMIC_SEQ_CST);
-    return attach_stored(&tap->process->store, "guard", tap->fast.receiver, wanted->index, false);
+    return attach_stored(store, "guard", own->receiver, wanted->index, false);
 }
 
 void close_fast_receiver(struct fast_programs *own, const struct link *link) {
@@ -138,8 +138,7 @@ static uint64_t word_of(const struct fast_row *row) {
 }
 
 /* So many segments that were left to the daemon are dealt with. What counts less was of segments that nobody had counted. */
-static void subtract(struct tap_plane *tap, struct conversation *conversation, uint64_t segments) {
-    struct fast_row *row = row_of(tap, conversation);
+static void subtract_segments(struct fast_row *row, struct conversation *conversation, uint64_t segments) {
     uint64_t before = word_of(row), after;
     if (segments == 0) return;
     do {
@@ -149,34 +148,34 @@ static void subtract(struct tap_plane *tap, struct conversation *conversation, u
     conversation->fast.suspected = false;
 }
 
-static void count_passed(struct tap_plane *tap, struct conversation *conversation) {
-    uint64_t passed = take(&row_of(tap, conversation)->passed);
-    if (passed == 0 || conversation->fast.port == 0) return;
-    uint64_t *counts = tap->members[conversation->fast.port - 1].counts;
+/* Counts what the kernel passed on of a conversation; answers how many frames that were. */
+static uint64_t count_passed(struct fast_row *row, struct conversation *conversation, struct member *members) {
+    uint64_t passed = take_count(&row->passed);
+    if (passed == 0 || conversation->fast.port == 0) return 0;
     conversation->used = true;
-    counts[DATA_SENT] += passed;
-    counts[PASSED_ON] += passed;
-    tap->carry->counts[FROM_HOST] += passed;
+    members[conversation->fast.port - 1].counts[DATA_SENT] += passed;
+    members[conversation->fast.port - 1].counts[PASSED_ON] += passed;
+    return passed;
 }
 
 /* Counts what the kernel handed up, or lost, of what came on a port. */
-static void count_handed_up(struct tap_plane *tap, uint16_t port) {
-    struct fast_member *entry = &tap->fast.entries[port - 1];
-    uint64_t *counts = tap->members[port - 1].counts;
-    uint64_t passed_up = take(&entry->passed_up), uncollected = take(&entry->uncollected), wrong_length = take(&entry->wrong_length);
+static void count_handed_up(struct carry *carry, struct fast_member *entry, uint64_t counts[static MEMBER_COUNTS], uint32_t aggregator) {
+    uint64_t passed_up = take_count(&entry->passed_up), uncollected = take_count(&entry->uncollected), wrong_length = take_count(&entry->wrong_length);
     counts[DATA_RECEIVED] += passed_up + uncollected + wrong_length;
     counts[PASSED_UP] += passed_up;
     counts[UNCOLLECTED] += uncollected;
     counts[WRONG_LENGTH] += wrong_length;
-    tap->carry->counts[HANDED_UP] += passed_up;
-    if (uncollected > 0) suspect_aggregator(tap->carry, tap->ports->links[port - 1].view.aggregator);
+    carry->counts[HANDED_UP] += passed_up;
+    if (uncollected > 0) suspect_aggregator(carry, aggregator);
 }
 
 static void count_fast_frames(struct tap_plane *tap) {
-    uint64_t overflowed = take(&tap->fast.host->overflowed), unfit = take(&tap->fast.host->unfit);
-    EACH_CONVERSATION(conversation, tap->carry) count_passed(tap, conversation);
-    for (uint16_t port = 1; port <= tap->ports->count; port++) count_handed_up(tap, port);
-    tap->carry->counts[FROM_HOST] += overflowed + unfit;
+    uint64_t overflowed = take_count(&tap->fast.host->overflowed), unfit = take_count(&tap->fast.host->unfit);
+    uint64_t passed = overflowed + unfit;
+    EACH_CONVERSATION(conversation, tap->carry) passed += count_passed(row_of(tap, conversation), conversation, tap->members);
+    for (uint16_t i = 0; i < tap->ports->count; i++)
+        count_handed_up(tap->carry, &tap->fast.entries[i], tap->members[i].counts, tap->ports->links[i].view.aggregator);
+    tap->carry->counts[FROM_HOST] += passed;
     tap->carry->counts[OVERFLOWED] += overflowed;
     tap->carry->counts[UNFIT] += unfit;
 }
@@ -186,8 +185,7 @@ static bool may_pass(struct tap_plane *tap, const struct conversation *conversat
     uint16_t port = conversation->port;
     struct niw_assignment state;
     return tap->fast.sender >= 0 && !tap->fast.queue_holds && tap->carry->active != 0 && conversation->home == tap->carry->active
-        && is_fast(&tap->members[port - 1])
-        && ask_state(tap->process, &tap->protocol->own_system, conversation->home, number_in(tap->carry, conversation), &state)
+        && is_fast(&tap->members[port - 1]) && ask_state(tap->process, &tap->protocol->own_system, conversation->home, number_in(tap->carry, conversation), &state)
         && state.what == NIW_CONVERSATION_ON && state.port == port;
 }
 
@@ -205,10 +203,11 @@ static void wait_or_end(struct tap_plane *tap) {
 static void settle_cleared(struct tap_plane *tap) {
     bool waited = false;
     EACH_CONVERSATION(conversation, tap->carry) {
-        if (conversation->fast.port == 0 || (uint32_t)word_of(row_of(tap, conversation)) != 0) continue;
+        struct fast_row *row = row_of(tap, conversation);
+        if (conversation->fast.port == 0 || (uint32_t)word_of(row) != 0) continue;
         if (!waited) wait_or_end(tap);
         waited = true;
-        count_passed(tap, conversation);
+        tap->carry->counts[FROM_HOST] += count_passed(row, conversation, tap->members);
         conversation->fast.port = 0;
         tap->carry->counts[WITHDRAWN]++;
     }
@@ -237,7 +236,7 @@ static void resume_fast(struct tap_plane *tap) {
 }
 
 /* Takes back what is no longer on the port where the kernel passes it on, before a marker goes there; all, where the library does not tell. */
-static void withdraw(struct tap_plane *tap) {
+static void withdraw_moved(struct tap_plane *tap) {
     bool told = ask_ports(tap->process, &tap->protocol->own_system, tap->carry->active, tap->carry->port_of);
     EACH_CONVERSATION(conversation, tap->carry) {
         uint16_t port = conversation->fast.port, now = told ? tap->carry->port_of[number_in(tap->carry, conversation)] : 0;
@@ -258,7 +257,7 @@ static void withdraw_port(struct tap_plane *tap, uint16_t port) {
 
 /* The TAP device has this queueing discipline now. One that may hold frames holds them behind the program that counts them, where nobody
  * sees them, and would not have what the kernel passes on: with it the daemon has all data. */
-static void follow_host_queue(struct tap_plane *tap, const char *discipline) {
+static void follow_host_discipline(struct tap_plane *tap, const char *discipline) {
     struct fast_programs *own = &tap->fast;
     bool holds = !keeps_order(discipline) && strcmp(discipline, "pfifo_fast") != 0
         && strcmp(discipline, "noop") != 0; /* it has that one until it is up */
@@ -284,31 +283,30 @@ static void set_collecting(struct tap_plane *tap) {
 }
 
 /* Lets the kernel pass on a conversation of which nothing waits here, if nothing is on its way here. */
-static void pass(struct tap_plane *tap, struct conversation *conversation) {
-    struct fast_row *row = row_of(tap, conversation);
-    uint64_t none = 0, member = (uint32_t)tap->ports->links[conversation->port - 1].index;
-    if (__atomic_load_n(&row->opaque, __ATOMIC_SEQ_CST) != 0) return;
-    if (!__atomic_compare_exchange_n(&row->word, &none, member, false, __ATOMIC_SEQ_CST, __ATOMIC_SEQ_CST)) return;
-    conversation->fast.port = conversation->port;
+static void name_member(struct fast_row *row, struct conversation *conversation, int member) {
+    uint64_t none = 0;
+    if (__atomic_load_n(&row->opaque, __ATOMIC_SEQ_CST) == 0
+        && __atomic_compare_exchange_n(&row->word, &none, (uint32_t)member, false, __ATOMIC_SEQ_CST, __ATOMIC_SEQ_CST))
+        conversation->fast.port = conversation->port;
 }
 
 /* After all that was put was sent: what was taken counts no more, and the kernel gets what it may pass on. */
 static void pass_on(struct tap_plane *tap) {
     EACH_CONVERSATION(conversation, tap->carry) {
+        struct fast_row *row = row_of(tap, conversation);
         if (!conversation->fast.touched) continue;
         conversation->fast.touched = false;
-        subtract(tap, conversation, take(&row_of(tap, conversation)->overflowed) + conversation->fast.taken);
+        subtract_segments(row, conversation, take_count(&row->overflowed) + conversation->fast.taken);
         conversation->fast.taken = 0;
-        if (conversation->port != 0 && conversation->fast.port == 0 && none_held(tap, number_in(tap->carry, conversation))
-            && may_pass(tap, conversation))
-            pass(tap, conversation);
+        if (conversation->port != 0 && conversation->fast.port == 0
+            && none_held(tap->process, &tap->held, number_in(tap->carry, conversation)) && may_pass(tap, conversation))
+            name_member(row, conversation, tap->ports->links[conversation->port - 1].index);
     }
 }
 
 /* Counts no more what was lost on its way to the daemon: since it was suspected, no frame of it came and none was left (programs only ever
  * raise the count of a row without a member), all programs ended, and the TAP device had nothing more. */
-static void confirm_loss(struct tap_plane *tap, struct conversation *conversation) {
-    struct fast_row *row = row_of(tap, conversation);
+static void confirm_loss(struct fast_row *row, struct conversation *conversation) {
     uint64_t word = conversation->fast.suspected_word, overflowed = __atomic_load_n(&row->overflowed, __ATOMIC_SEQ_CST);
     conversation->fast.suspected = false;
     if (__atomic_load_n(&row->opaque, __ATOMIC_SEQ_CST) != conversation->fast.suspected_opaque) return;
@@ -329,13 +327,12 @@ static void note_read(struct tap_plane *tap, unsigned packets, bool drained) {
     if (drained && (left > MOST_BETWEEN || left < 0)) (void)__atomic_sub_fetch(&own->host->left, left, __ATOMIC_SEQ_CST);
     if (!drained || own->queue_holds) return;
     EACH_CONVERSATION(conversation, tap->carry)
-        if (conversation->fast.suspected && conversation->fast.taken == 0) confirm_loss(tap, conversation);
+        if (conversation->fast.suspected && conversation->fast.taken == 0) confirm_loss(row_of(tap, conversation), conversation);
 }
 
 /* Suspects a row with frames that do not come: none came since the last tick. */
-static bool suspect(struct tap_plane *tap, struct conversation *conversation) {
-    struct fast_row *row = row_of(tap, conversation);
-    subtract(tap, conversation, take(&row->overflowed));
+static bool suspect_row(struct fast_row *row, struct conversation *conversation) {
+    subtract_segments(row, conversation, take_count(&row->overflowed));
     uint64_t word = word_of(row), opaque = __atomic_load_n(&row->opaque, __ATOMIC_SEQ_CST);
     if (conversation->fast.port > 0 || conversation->used || conversation->fast.suspected || (word == 0 && opaque == 0)) return false;
     conversation->fast.suspected = true;
@@ -355,11 +352,11 @@ static void withdraw_resting(struct tap_plane *tap) {
 static void pass_fast_tick(struct tap_plane *tap) {
     bool any = false;
     (void)read_tap_mac(tap->device, (uint8_t *)&tap->fast.host->mac);
-    withdraw(tap);
+    withdraw_moved(tap);
     open_host(tap, has_carrier(tap->device));
     count_fast_frames(tap);
     if (tap->carry->probe.peer == MUTE) withdraw_resting(tap);
-    EACH_CONVERSATION(conversation, tap->carry) any = suspect(tap, conversation) || any;
+    EACH_CONVERSATION(conversation, tap->carry) any = suspect_row(row_of(tap, conversation), conversation) || any;
     if (any) wait_or_end(tap);
 }
 
@@ -369,7 +366,7 @@ static int check_fast(struct process *process, struct plane *plane UNUSED, const
 
 const struct passing BY_KERNEL = {
     .check = check_fast, .start = start_fast, .end = end_fast, .set_up_device = give_no_queue, .run_programs = run_fast_programs,
-    .count = count_fast_frames, .withdraw = withdraw, .withdraw_port = withdraw_port, .pass_on = pass_on, .note_read = note_read,
-    .open_host = open_host, .follow_discipline = follow_host_queue, .set_collecting = set_collecting, .read_host = read_host,
+    .count = count_fast_frames, .withdraw = withdraw_moved, .withdraw_port = withdraw_port, .pass_on = pass_on, .note_read = note_read,
+    .open_host = open_host, .follow_discipline = follow_host_discipline, .set_collecting = set_collecting, .read_host = read_host,
     .tick = pass_fast_tick, .resume = resume_fast, .steers = true,
 };

@@ -14,23 +14,23 @@ bool is_told_distributing(struct process *process, struct niw_system *system, ui
 
 /* Frees what is held on a port that does not distribute with a partner, and had no frame, for longer than frames can be on their way. A link that
  * fell silent distributes again, on defaults, 5 s after it stopped, and nobody answers its markers. */
-static void watch_port(struct tap_plane *tap, uint16_t port) {
-    struct carry *carry = tap->carry;
-    uint64_t held, freed, *since = &tap->silent_since[port - 1];
-    bool holds = (tap->ports->links[port - 1].view.defaulted || is_told_distributing(tap->process, &tap->protocol->own_system, port, false))
-        && is_told(tap->process, niw_held(&tap->protocol->own_system, port), "niw_held", &held) && held > 0;
+static void watch_silent_port(struct carry *carry, uint16_t port, uint64_t *since) {
+    const struct link *link = &carry->ports->links[port - 1];
+    uint64_t held, freed;
+    bool holds = (link->view.defaulted || is_told_distributing(carry->process, &carry->protocol->own_system, port, false))
+        && is_told(carry->process, niw_held(&carry->protocol->own_system, port), "niw_held", &held) && held > 0;
     if (!holds || *since == 0) *since = holds ? carry->time : 0;
-    if (!holds || carry->time - *since < tap->settings->flight) return;
+    if (!holds || carry->time - *since < carry->settings->flight) return;
     *since = 0;
-    if (!is_told(tap->process, niw_force_port(&tap->protocol->own_system, port), "niw_force_port", &freed)) return;
+    if (!is_told(carry->process, niw_force_port(&carry->protocol->own_system, port), "niw_force_port", &freed)) return;
     carry->counts[FORCED] += freed;
-    (void)say(tap->process, LOG_WARNING | ABOUT_DATA, "port %u %s: it carries no more, and %" PRIu64 " conversations leave it", port,
-        tap->ports->links[port - 1].name, freed);
+    (void)say(carry->process, LOG_WARNING | ABOUT_DATA, "port %u %s: it carries no more, and %" PRIu64 " conversations leave it", port, link->name,
+        freed);
 }
 
 /* Frees a conversation from the port that it is on, or that holds it since nobody answered its marker (`held`): nothing of it was sent for a
  * flight, so its next frame overtakes none. */
-static void set_free(struct carry *carry, struct conversation *conversation, uint16_t number, bool held) {
+static void free_conversation(struct carry *carry, struct conversation *conversation, uint16_t number, bool held) {
     struct niw_system *system = &carry->protocol->own_system;
     uint32_t status = held ? niw_force(system, conversation->home, number) : niw_rest(system, conversation->home, number);
     if (!is_done(carry->process, status, held ? "niw_force" : "niw_rest")) return;
@@ -41,44 +41,46 @@ static void set_free(struct carry *carry, struct conversation *conversation, uin
 }
 
 /* A conversation that is held for long goes on: nothing of it was sent since. It waits for a peer that answers markers, which may have
- * been stopped for a while, and for a flight else. What is held on a port that does not distribute is for watch_port. */
+ * been stopped for a while, and for a flight else. What is held on a port that does not distribute is for watch_silent_port. */
 static void watch_held(struct carry *carry, struct conversation *conversation, uint16_t number, const struct niw_assignment *state) {
     bool held = is_held(state), answered = held && carry->probe.peer != MUTE && carry->settings->flight < UNANSWERED;
     if (conversation->since == 0) conversation->since = carry->time;
     if (carry->time - conversation->since < (answered ? UNANSWERED : carry->settings->flight)) return;
     if (held && !is_told_distributing(carry->process, &carry->protocol->own_system, state->port, true)) return;
-    set_free(carry, conversation, number, held);
+    free_conversation(carry, conversation, number, held);
 }
 
-static void watch_conversation(struct tap_plane *tap, uint16_t number, uint64_t *again) {
-    struct conversation *conversation = &tap->carry->conversations[number];
+static void watch_conversation(struct carry *carry, struct held *held, uint16_t number, uint64_t *again) {
+    struct conversation *conversation = &carry->conversations[number];
     struct niw_assignment state;
-    uint64_t came, longest = tap->settings->flight + 1000u;
-    while (oldest_held(tap, number, &came) && tap->carry->time - came >= longest && drop_held(tap, number, HELD_TOO_LONG)) continue;
-    if (conversation->used) conversation->last = tap->carry->time;
+    uint64_t came, longest = carry->settings->flight + 1000u;
+    while (oldest_held(carry->process, held, number, &came) && carry->time - came >= longest
+        && drop_held(carry->process, held, number))
+        carry->counts[HELD_TOO_LONG]++;
+    if (conversation->used) conversation->last = carry->time;
     conversation->used = false;
-    if (conversation->home == 0 || !ask_state(tap->process, &tap->protocol->own_system, conversation->home, number, &state)) return;
-    bool away = conversation->home != tap->carry->active && tap->carry->active != 0 && state.what == NIW_CONVERSATION_ON;
+    if (conversation->home == 0 || !ask_state(carry->process, &carry->protocol->own_system, conversation->home, number, &state)) return;
+    bool away = conversation->home != carry->active && carry->active != 0 && state.what == NIW_CONVERSATION_ON;
     if (state.what == NIW_CONVERSATION_FLUSHING && state.age > 0 && state.age % AGAIN_TICKS == 0)
         *again |= (uint64_t)1 << (state.port - 1);
-    if (is_held(&state) || (away && !none_held(tap, number))) {
-        watch_held(tap->carry, conversation, number, &state);
+    if (is_held(&state) || (away && !none_held(carry->process, held, number))) {
+        watch_held(carry, conversation, number, &state);
         return;
     }
     conversation->since = 0;
     /* Towards a peer that answers no markers, what is still for a flight may go elsewhere, once the kernel passes nothing of it. */
-    if (tap->carry->probe.peer == MUTE && state.what == NIW_CONVERSATION_ON && conversation->fast.port == 0
-        && tap->carry->time - conversation->last >= tap->settings->flight)
-        set_free(tap->carry, conversation, number, false);
+    if (carry->probe.peer == MUTE && state.what == NIW_CONVERSATION_ON && conversation->fast.port == 0
+        && carry->time - conversation->last >= carry->settings->flight)
+        free_conversation(carry, conversation, number, false);
 }
 
 void pass_flight_tick(struct tap_plane *tap) {
     uint64_t again = 0;
-    for (uint16_t number = 0; !tap->process->broken && number < CONVERSATIONS; number++) watch_conversation(tap, number, &again);
+    for (uint16_t number = 0; !tap->process->broken && number < CONVERSATIONS; number++) watch_conversation(tap->carry, &tap->held, number, &again);
     if (tap->process->broken) return;
     pass_probe_tick(tap);
     for (uint16_t port = 1; port <= tap->ports->count; port++) {
-        watch_port(tap, port);
+        watch_silent_port(tap->carry, port, &tap->silent_since[port - 1]);
         if (again >> (port - 1) & 1 && send_marker_again(tap, port)) tap->carry->counts[MARKERS_AGAIN]++;
     }
 }

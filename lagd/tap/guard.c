@@ -16,7 +16,7 @@
 #define STACKED "it stands on another interface, whose queues are not seen"
 
 /* A line about what troubles the data of a member, and why, where there is more to tell. */
-static void warn_of(struct process *process, const struct link *link, const char *what, const char *why) {
+static void warn_of_data(struct process *process, const struct link *link, const char *what, const char *why) {
     (void)say(process, LOG_WARNING | ABOUT_DATA, "port %u %s: %s%s%s", link->settings.number, link->name, what, why ? ": " : "", why ? why : "");
 }
 
@@ -27,21 +27,21 @@ static void warn_of(struct process *process, const struct link *link, const char
 #define MOST_PROCESSORS 32
 #define PATH_OCTETS 64
 /* Which processors take what an interface of one queue receives (RPS). */
-#define STEERING "rx-0/rps_cpus"
+#define RPS_FILE "rx-0/rps_cpus"
 
 /* What a queue has: the processors that take what it received (RPS), and those, and the queues that received, whose frames it sends (XPS). */
 enum setting { TAKEN_BY, SENT_FOR, SENT_BEHIND, SETTINGS };
 
 /* Opens what the queues of an interface have in /sys; or -1. */
-static int open_of_queue(int index, const char *what, int flags) {
+static int open_in_queues(int index, const char *what, int flags) {
     char path[PATH_OCTETS];
     snprintf(path, sizeof path, "queues/%s", what);
     return open_in_sys(index, path, flags);
 }
 
-static unsigned count_entries(int index, const char *begin) {
+static unsigned count_queues(int index, const char *begin) {
     unsigned count = 0;
-    int file = open_of_queue(index, "", O_RDONLY | O_DIRECTORY);
+    int file = open_in_queues(index, "", O_RDONLY | O_DIRECTORY);
     DIR *folder = file < 0 ? NULL : fdopendir(file); /* which has the file then */
     for (const struct dirent *entry; folder && (entry = readdir(folder));) count += strncmp(entry->d_name, begin, strlen(begin)) == 0;
     if (folder) closedir(folder);
@@ -50,79 +50,74 @@ static unsigned count_entries(int index, const char *begin) {
 }
 
 unsigned count_sending_queues(int index) {
-    return count_entries(index, "tx-");
+    return count_queues(index, "tx-");
 }
 
 /* Reads the line of a file: of a queue, the processors as a mask in hexadecimal. One that is too long is none. */
 static bool read_line(int index, const char *what, char line[static PROCESSORS_ROOM]) {
-    CLOSED_FILE int file = open_of_queue(index, what, O_RDONLY);
+    CLOSED_FILE int file = open_in_queues(index, what, O_RDONLY);
     bool done = read_text(file, line, PROCESSORS_ROOM) && strchr(line, '\n');
     if (done) line[strcspn(line, "\n")] = 0;
     return done;
 }
 
-static bool set_processors(int index, const char *what, const char *mask) {
-    CLOSED_FILE int file = open_of_queue(index, what, O_WRONLY | O_TRUNC);
+static bool write_line(int index, const char *what, const char *mask) {
+    CLOSED_FILE int file = open_in_queues(index, what, O_WRONLY | O_TRUNC);
     return file >= 0 && write(file, mask, strlen(mask)) == (ssize_t)strlen(mask);
 }
 
-/* Whether GRO of an interface keeps frames for less than half the time for which a response to a marker waits. Without a time of its own it
- * does so until the end of a turn. */
-static bool keeps_briefly(const struct settings *settings, int index) {
-    char nanoseconds[PROCESSORS_ROOM];
-    return read_line(index, "../gro_flush_timeout", nanoseconds) && strtoull(nanoseconds, NULL, 10) < settings->answer_after * 500000ull;
-}
-
-static bool is_none(const char *mask) {
+static bool has_no_processor(const char *mask) {
     return strspn(mask, "0,") == strlen(mask);
 }
 
-static bool is_one(const char *mask) {
+static bool has_one_processor(const char *mask) {
     const char *digit = mask + strspn(mask, "0,");
-    return *digit && strchr("1248", *digit) && is_none(digit + 1);
+    return *digit && strchr("1248", *digit) && has_no_processor(digit + 1);
 }
 
 /* A mask of one processor: another one for each place, in turn. */
-static void mask_of(unsigned place, char mask[static 16]) {
+static void mask_of_processor(unsigned place, char mask[static 16]) {
     long processors = sysconf(_SC_NPROCESSORS_ONLN);
     if (processors > MOST_PROCESSORS) processors = MOST_PROCESSORS;
     snprintf(mask, 16, "%x", 1u << (place % (unsigned)(processors > 0 ? processors : 1)));
 }
 
 /* Reads which processors take what an interface of one queue receives; answers whether that is known, and not one alone. */
-static bool read_steering(int index, char mask[static PROCESSORS_ROOM]) {
-    return read_line(index, STEERING, mask) && !is_one(mask);
+static bool read_rps(int index, char mask[static PROCESSORS_ROOM]) {
+    return read_line(index, RPS_FILE, mask) && !has_one_processor(mask);
 }
 
 /* Has one processor take all that an interface receives, so that it stands in one row, whatever processors it was sent from. */
-static bool steer(const struct link *link) {
+static bool set_rps_to_one(const struct link *link) {
     char mask[16], now[PROCESSORS_ROOM];
-    if (!read_line(link->index, STEERING, now)) return false;
-    mask_of(link->settings.number - 1u, mask);
-    return is_one(now) || set_processors(link->index, STEERING, mask);
+    if (!read_line(link->index, RPS_FILE, now)) return false;
+    mask_of_processor(link->settings.number - 1u, mask);
+    return has_one_processor(now) || write_line(link->index, RPS_FILE, mask);
 }
 
 /* What goes up is not spread over processors at the TAP device: a marker would be answered before the data that came before it went up. */
-void gather(struct process *process, int index) {
+void stop_device_rps(struct process *process, int index) {
     char now[PROCESSORS_ROOM];
-    if (!read_steering(index, now) || is_none(now) || set_processors(index, STEERING, "0")) return;
+    if (!read_rps(index, now) || has_no_processor(now) || write_line(index, RPS_FILE, "0")) return;
     (void)say(process, LOG_WARNING | ABOUT_DATA, "carry %s: RPS spreads what goes up over processors, and markers may be answered before data",
         process->settings->carry);
 }
 
-/* Sets back which processors take what an interface receives; answers whether these do now. */
-static bool steer_back(int index, const char *mask) {
+/* Writes a line that a file is to have again; answers whether that is not another one now. */
+static bool restore_line(int index, const char *what, const char *line, bool if_unread) {
     char now[PROCESSORS_ROOM];
-    return set_processors(index, STEERING, mask) || (read_line(index, STEERING, now) && strcmp(now, mask) == 0);
+    if (write_line(index, what, line)) return true;
+    return read_line(index, what, now) ? strcmp(now, line) == 0 : if_unread;
 }
 
 /* Loads the program that chooses queues, while the daemon may, and opens what wakes it for responses. */
 void start_all_queues(struct tap_plane *tap) {
+    char reason[REASON_ROOM];
     int fault = fault_of_programs(tap->settings);
     if (fault != 0) stop(REFUSED, "queues=all: no program of an interface, which Linux has from 6.6 on", strerror(-fault));
-    tap->chooser = load_program(tap->settings, "chooser", NULL);
-    if (tap->chooser < 0) stop(REFUSED, "queues=all: the kernel takes no program", program_fault());
-    start_answers(tap);
+    tap->chooser = load_program(tap->settings, "chooser", NULL, reason);
+    if (tap->chooser < 0) stop(REFUSED, "queues=all: the kernel takes no program", reason);
+    tap->answer_timer = open_answer_timer(tap->process->epoll_file);
 }
 
 static void name_setting(enum setting setting, unsigned queue, char name[static NAME_OCTETS]) {
@@ -148,18 +143,11 @@ static bool is_card(int index) {
 }
 
 /* What a queue is to have in the place of what it has now, for which `mask` is room: NULL where that may stay. */
-static const char *wanted_of(const struct link *link, enum setting setting, unsigned queue, const char *now, char mask[static 16]) {
-    if (setting != TAKEN_BY) return is_none(now) ? NULL : "0";
-    if (is_one(now) || (is_card(link->index) && is_none(now))) return NULL;
-    mask_of(link->settings.number - 1u + queue, mask);
+static const char *wanted_line(const struct link *link, enum setting setting, unsigned queue, const char *now, char mask[static 16]) {
+    if (setting != TAKEN_BY) return has_no_processor(now) ? NULL : "0";
+    if (has_one_processor(now) || (is_card(link->index) && has_no_processor(now))) return NULL;
+    mask_of_processor(link->settings.number - 1u + queue, mask);
     return mask;
-}
-
-/* Copies what is known of queues; answers whether all of it was read. */
-static bool copy_known(FILE *file, FILE *next) {
-    char name[NAME_OCTETS], mask[PROCESSORS_ROOM];
-    while (fscanf(file, READ_LINE, name, mask) == 2) fprintf(next, "%s %s\n", name, mask);
-    return !ferror(file);
 }
 
 /* Whether it is known what a setting was before an earlier daemon changed it. */
@@ -171,69 +159,62 @@ static bool is_known(int folder, const struct link *link, const char *wanted) {
     return found;
 }
 
-/* Changes each setting of an interface that is to be another one, or, with `next`, keeps there what it is now; answers whether all was done. One
- * that the kernel does not show for an interface, as XPS for one queue, is off. */
-static bool change_processors(int folder, const struct link *link, FILE *next) {
+/* Changes each setting of an interface that is to be another one, or, with `next`, keeps there what it is now; with `lost`, what the queues have that
+ * the interface loses where it gets one, which the kernel forgets with them. Answers whether all was done. One that the kernel does not show for an
+ * interface, as XPS for one queue, is off. */
+static bool change_or_keep(int folder, const struct link *link, bool lost, FILE *next) {
     char name[NAME_OCTETS], now[PROCESSORS_ROOM], mask[16];
     bool done = true;
     for (enum setting setting = 0; setting < SETTINGS; setting++) {
-        unsigned count = count_entries(link->index, setting == TAKEN_BY ? "rx-" : "tx-");
-        for (unsigned queue = 0; queue < count; queue++) {
+        unsigned count = count_queues(link->index, setting == TAKEN_BY ? "rx-" : "tx-");
+        for (unsigned queue = lost ? 1 : 0; queue < count; queue++) {
             name_setting(setting, queue, name);
             if (!read_line(link->index, name, now)) continue;
-            const char *wanted = wanted_of(link, setting, queue, now, mask);
-            if (wanted && next) done = (is_known(folder, link, name) || fprintf(next, "%s %s\n", name, now) > 0) && done;
-            if (wanted && !next) done = set_processors(link->index, name, wanted) && done;
+            const char *wanted = wanted_line(link, setting, queue, now, mask);
+            if (lost ? has_no_processor(now) : wanted == NULL) continue;
+            if (next) done = (is_known(folder, link, name) || fprintf(next, "%s %s\n", name, now) > 0) && done;
+            else done = write_line(link->index, name, wanted) && done;
         }
     }
     return done;
 }
 
-/* Keeps what the queues have that an interface loses where it gets one: the kernel forgets it with them. Answers whether all was done. */
-static bool keep_lost(int folder, const struct link *link, FILE *next) {
-    char name[NAME_OCTETS], now[PROCESSORS_ROOM];
-    bool done = true;
-    for (enum setting setting = 0; setting < SETTINGS; setting++) {
-        unsigned count = count_entries(link->index, setting == TAKEN_BY ? "rx-" : "tx-");
-        for (unsigned queue = 1; queue < count; queue++) {
-            name_setting(setting, queue, name);
-            if (!read_line(link->index, name, now) || is_none(now)) continue;
-            done = (is_known(folder, link, name) || fprintf(next, "%s %s\n", name, now) > 0) && done;
-        }
-    }
-    return done;
-}
+/* What is kept of queues beside what is known of them already. */
+enum added { NOTHING_MORE, WHAT_CHANGES, WHAT_IS_LOST };
 
-/* Writes the file anew, from what is known, which is closed, and what `keep` adds of what the queues have now, before it is changed; answers whether
+/* Writes the file anew, from what is known, which is closed, and what is added of what the queues have now, before it is changed; answers whether
  * it did. */
-static bool rewrite_known(int folder, const struct link *link, FILE *file, bool (*keep)(int folder, const struct link *link, FILE *next)) {
+static bool rewrite_known(int folder, const struct link *link, FILE *file, enum added added) {
+    char name[NAME_OCTETS], line[PROCESSORS_ROOM];
     FILE *next = begin_kept(folder, link, "queues");
-    bool done = next && (!file || copy_known(file, next));
+    while (file && next && fscanf(file, READ_LINE, name, line) == 2) fprintf(next, "%s %s\n", name, line);
+    bool done = !file || !ferror(file);
     if (file) fclose(file);
-    return next && end_kept(folder, link, "queues", next, (!keep || keep(folder, link, next)) && done);
+    if (next && added != NOTHING_MORE) done = change_or_keep(folder, link, added == WHAT_IS_LOST, next) && done;
+    return next && end_kept(folder, link, "queues", next, done);
 }
 
 /* An interface has another MAC address from now on: what its queues had stays known by that one. */
-void move_former(struct process *process, struct link *link, const uint8_t *mac) {
+void move_kept_queues(struct process *process, struct link *link, const uint8_t *mac) {
     FILE *file = read_kept(process->folder, link, "queues");
     memcpy(link->mac, mac, sizeof link->mac);
-    if (file && !rewrite_known(process->folder, link, file, NULL))
-        warn_of(process, link, "nobody knows any more what its queues had", strerror(errno));
+    if (file && !rewrite_known(process->folder, link, file, NOTHING_MORE))
+        warn_of_data(process, link, "nobody knows any more what its queues had", strerror(errno));
 }
 
 /* How many queues an interface has, those that send above those that receive; 0 where the kernel does not tell of both. */
-static unsigned channels_of(int index) {
-    unsigned sends = count_sending_queues(index), receives = count_entries(index, "rx-");
+static unsigned read_queue_counts(int index) {
+    unsigned sends = count_sending_queues(index), receives = count_queues(index, "rx-");
     return sends > 0 && receives > 0 ? sends << 16 | receives : 0;
 }
 
 /* Sets what all queues of a member are to have, where it may keep them; answers why it may not, or NULL. */
-static const char *try_spreading(int folder, const struct link *link, const struct guard *guard, unsigned count) {
+static const char *fault_of_spreading(int folder, const struct link *link, const struct guard *guard, unsigned count) {
     if (link->stacked) return STACKED;
     if (count == 0) return "/sys does not show its queues";
     if (!guard->in_order) return DISORDER;
-    if (!rewrite_known(folder, link, read_kept(folder, link, "queues"), change_processors)) return "what its queues have cannot be kept";
-    if (!change_processors(folder, link, NULL)) return "RPS or XPS of its queues cannot be set";
+    if (!rewrite_known(folder, link, read_kept(folder, link, "queues"), WHAT_CHANGES)) return "what its queues have cannot be kept";
+    if (!change_or_keep(folder, link, false, NULL)) return "RPS or XPS of its queues cannot be set";
     return NULL;
 }
 
@@ -243,8 +224,8 @@ static bool may_spread(int folder, const struct link *link) {
     char name[NAME_OCTETS];
     CLOSED_STREAM FILE *file = read_kept(folder, link, "queues");
     bool changes = file && fscanf(file, "%31s", name) == 1;
-    CLOSED_FILE int opened = changes ? open_of_queue(link->index, "tx-0/xps_cpus", O_WRONLY) : -1;
-    return !link->stacked && may_have_order(link->index) && (!changes || opened >= 0);
+    CLOSED_FILE int opened = changes ? open_in_queues(link->index, "tx-0/xps_cpus", O_WRONLY) : -1;
+    return !link->stacked && may_all_queues_keep_order(link->index) && (!changes || opened >= 0);
 }
 
 /* Frames of the daemon go by any queue again. */
@@ -254,51 +235,50 @@ static void stop_spreading(struct store *store, const struct link *link, struct 
     guard->spread = false;
 }
 
-static void spread(struct tap_plane *tap, const struct link *link, struct guard *guard) {
+static void spread_over_queues(struct process *process, int chooser, const struct link *link, struct guard *guard) {
     unsigned count = count_sending_queues(link->index);
-    const char *fault = try_spreading(tap->process->folder, link, guard, count);
+    const char *fault = fault_of_spreading(process->folder, link, guard, count);
     guard->queues = fault ? 1 : count < MOST_QUEUES ? count : MOST_QUEUES;
     if (guard->queues > 1 && guard->chooser < 0) /* a program chooses the queue of each frame that the daemon sends there */
-        guard->chooser = attach_stored(&tap->process->store, "queues", tap->chooser, link->index, true);
+        guard->chooser = attach_stored(&process->store, "queues", chooser, link->index, true);
     if (guard->queues > 1 && guard->chooser < 0) fault = strerror(-guard->chooser);
     guard->spread = !fault;
     if (!fault) return;
     guard->queues = 1;
-    stop_spreading(&tap->process->store, link, guard);
-    warn_of(tap->process, link, "it gets one queue", fault);
+    stop_spreading(&process->store, link, guard);
+    warn_of_data(process, link, "it gets one queue", fault);
 }
 
 /* Whether somebody else changed the queues of a member, or what chooses them. Each time another queue is looked at. */
-bool is_spread_anew(uint64_t seconds, const struct link *link, const struct guard *guard) {
+bool is_changed_by_others(uint64_t seconds, const struct link *link, const struct guard *guard) {
     char name[NAME_OCTETS], now[PROCESSORS_ROOM], mask[16];
-    unsigned channels = channels_of(link->index);
+    unsigned channels = read_queue_counts(link->index);
     if (channels == 0) return false;
     if (channels != guard->channels) return true;
     for (enum setting setting = 0; guard->spread && setting < SETTINGS; setting++) {
         unsigned queue = (unsigned)seconds % (setting == TAKEN_BY ? channels & 0xffff : channels >> 16);
         name_setting(setting, queue, name);
-        if (read_line(link->index, name, now) && wanted_of(link, setting, queue, now, mask)) return true;
+        if (read_line(link->index, name, now) && wanted_line(link, setting, queue, now, mask)) return true;
     }
     return false;
 }
 
 /* Chooses how many queues members have of which the kernel passes data on, by the first one; answers whether a member has as many. The kernel
  * keeps the queue of a connection, also where that goes on by another member. */
-bool choose_usual_queues(struct tap_plane *tap, const struct guard *guard) {
+bool choose_usual_queues(unsigned *usual, const struct member *members, uint16_t count, unsigned queues) {
     bool any = false;
-    for (uint16_t port = 1; port <= tap->ports->count; port++) any = any || is_fast(&tap->members[port - 1]);
-    if (!any) tap->usual_queues = guard->queues;
-    return guard->queues == tap->usual_queues;
+    for (uint16_t i = 0; i < count; i++) any = any || is_fast(&members[i]);
+    if (!any) *usual = queues;
+    return queues == *usual;
 }
 
 /* The queues of an interface get back what they had before. What cannot be set back stays kept: all of it, where not all are back (`whole`). */
-static void gather_back(int folder, const struct link *link, bool whole) {
-    char name[NAME_OCTETS], interface[IF_NAMESIZE], mask[PROCESSORS_ROOM], now[PROCESSORS_ROOM];
+static void restore_queue_settings(int folder, const struct link *link, bool whole) {
+    char name[NAME_OCTETS], interface[IF_NAMESIZE], mask[PROCESSORS_ROOM];
     bool done = whole && if_indextoname((unsigned)link->index, interface);
     CLOSED_STREAM FILE *file = read_kept(folder, link, "queues");
     while (file && fscanf(file, READ_LINE, name, mask) == 2) {
-        if (!is_setting(name) || set_processors(link->index, name, mask)) continue;
-        if (read_line(link->index, name, now) && strcmp(now, mask) != 0) done = false;
+        if (is_setting(name)) done = restore_line(link->index, name, mask, true) && done;
     }
     if (file && done) drop_kept(folder, link, "queues");
 }
@@ -314,17 +294,14 @@ static const char *const joining[] = {"rx-gro", "rx-gro-hw", "rx-lro"};
 /* A question to a driver, with room for what it answers. */
 #define QUESTION(kind, octets) union { uint8_t room[sizeof(struct kind) + (octets)]; struct kind about; }
 
-static uint32_t count_features(int index) {
-    QUESTION(ethtool_sset_info, sizeof(uint32_t)) told = {{0}};
-    told.about.cmd = ETHTOOL_GSSET_INFO;
-    told.about.sset_mask = 1ULL << ETH_SS_FEATURES;
-    return ask_driver(index, &told) && told.about.sset_mask != 0 && told.about.data[0] <= MOST_FEATURES ? told.about.data[0] : 0;
-}
-
 /* Writes the number that the kernel has for each way; for one that it does not know, how many features it has, which is the answer. */
-static uint32_t find_joining(int index, uint32_t places[static JOINING]) {
+static uint32_t find_features(int index, uint32_t places[static JOINING]) {
+    QUESTION(ethtool_sset_info, sizeof(uint32_t)) known = {{0}};
     QUESTION(ethtool_gstrings, MOST_FEATURES * ETH_GSTRING_LEN) told = {{0}};
-    uint32_t count = count_features(index);
+    known.about.cmd = ETHTOOL_GSSET_INFO;
+    known.about.sset_mask = 1ULL << ETH_SS_FEATURES;
+    if (!ask_driver(index, &known) || known.about.sset_mask == 0 || known.about.data[0] > MOST_FEATURES) return 0;
+    uint32_t count = known.about.data[0];
     told.about.cmd = ETHTOOL_GSTRINGS;
     told.about.string_set = ETH_SS_FEATURES;
     told.about.len = count;
@@ -340,9 +317,9 @@ struct joins {
 };
 
 /* Which of the ways to join frames are on, and which are wanted: one that is wanted may be off while another one is on. */
-static struct joins read_joins(int index) {
+static struct joins read_gro_and_lro(int index) {
     QUESTION(ethtool_gfeatures, WORDS * sizeof(struct ethtool_get_features_block)) told = {{0}};
-    uint32_t places[JOINING], count = find_joining(index, places);
+    uint32_t places[JOINING], count = find_features(index, places);
     struct joins joins = {0};
     told.about.cmd = ETHTOOL_GFEATURES;
     told.about.size = WORDS;
@@ -356,9 +333,9 @@ static struct joins read_joins(int index) {
 }
 
 /* Has these ways wanted, and no other one. */
-static void set_joins(int index, unsigned wanted) {
+static void set_gro_and_lro(int index, unsigned wanted) {
     QUESTION(ethtool_sfeatures, WORDS * sizeof(struct ethtool_set_features_block)) told = {{0}};
-    uint32_t places[JOINING], count = find_joining(index, places);
+    uint32_t places[JOINING], count = find_features(index, places);
     told.about.cmd = ETHTOOL_SFEATURES;
     told.about.size = (count + 31) / 32;
     for (size_t i = 0; count > 0 && i < JOINING; i++) {
@@ -371,20 +348,20 @@ static void set_joins(int index, unsigned wanted) {
 
 /* How many queues an interface has for one direction, as `channels` tells in full: in several of them a marker may overtake data. Of a driver
  * that does not tell, those that the kernel has. */
-static unsigned queues_of(int index, struct ethtool_channels *channels) {
+static unsigned read_channels(int index, struct ethtool_channels *channels) {
     *channels = (struct ethtool_channels){.cmd = ETHTOOL_GCHANNELS};
     bool told = ask_driver(index, channels);
-    unsigned sends = told ? channels->tx_count : count_sending_queues(index), receives = told ? channels->rx_count : count_entries(index, "rx-");
+    unsigned sends = told ? channels->tx_count : count_sending_queues(index), receives = told ? channels->rx_count : count_queues(index, "rx-");
     if (!told && receives == 0) receives = 1;
     return channels->combined_count + (sends > receives ? sends : receives);
 }
 
 /* Gives an interface one queue for each direction. What the others have has to be known, so that they get it back. */
-static void give_one_queue(struct process *process, const struct link *link) {
+static void reduce_to_one_queue(struct process *process, const struct link *link) {
     struct ethtool_channels wanted;
-    if (queues_of(link->index, &wanted) <= 1) return;
-    if (!rewrite_known(process->folder, link, read_kept(process->folder, link, "queues"), keep_lost))
-        warn_of(process, link, "nobody knows what its queues had", strerror(errno));
+    if (read_channels(link->index, &wanted) <= 1) return;
+    if (!rewrite_known(process->folder, link, read_kept(process->folder, link, "queues"), WHAT_IS_LOST))
+        warn_of_data(process, link, "nobody knows what its queues had", strerror(errno));
     wanted.cmd = ETHTOOL_SCHANNELS;
     wanted.rx_count = wanted.tx_count = wanted.combined_count == 0;
     wanted.combined_count = wanted.combined_count > 0;
@@ -393,12 +370,12 @@ static void give_one_queue(struct process *process, const struct link *link) {
 
 static bool has_channels(int index, const struct ethtool_channels *wanted) {
     struct ethtool_channels now;
-    (void)queues_of(index, &now);
+    (void)read_channels(index, &now);
     return now.combined_count == wanted->combined_count && now.rx_count == wanted->rx_count && now.tx_count == wanted->tx_count;
 }
 
 /* Gives an interface its queues back; answers whether it has them now. A driver that could not change them, as vmxnet3, has them still. */
-static bool part_queues(int index, struct ethtool_channels *wanted) {
+static bool restore_channels(int index, struct ethtool_channels *wanted) {
     wanted->cmd = ETHTOOL_SCHANNELS;
     if (wanted->combined_count + wanted->rx_count + wanted->tx_count == 0) return true;
     return has_channels(index, wanted) || ask_driver(index, wanted) || has_channels(index, wanted);
@@ -411,16 +388,16 @@ static bool is_unqueued(const struct link *link) {
 
 /* Sees whether what is sent at an interface keeps its order in its queueing discipline. Frames of several segments have to go through
  * that, since it segments them for an interface that cannot: so they get one that does. */
-void look_at_discipline(struct tap_plane *tap, struct link *link, struct guard *guard) {
+void look_at_discipline(struct process *process, const struct plane *plane, struct link *link, struct guard *guard) {
     bool given = false;
     (void)read_discipline(link->index, link->discipline);
-    if (tap->plane->wants_fifo && !is_unqueued(link) && strcmp(link->discipline, "noqueue") != 0)
-        given = give_each_fifo(link->index, ASK(tap->plane->queueing->fifos_of, 1, link->index), read_speed(link->socket, link->index).megabits);
+    if (plane->wants_fifo && !is_unqueued(link) && strcmp(link->discipline, "noqueue") != 0)
+        given = give_each_fifo(link->index, ASK(plane->queueing->fifos_of, 1, link->index), read_speed(link->socket, link->index).megabits);
     if (given) (void)read_discipline(link->index, link->discipline);
     link->has_fifos = given && strcmp(link->discipline, "mq") == 0;
     guard->in_order = keeps_order(link->discipline) || link->has_fifos;
-    if (tap->plane->segments && !guard->in_order && !is_unqueued(link))
-        warn_of(tap->process, link, DISORDER, "it loses frames of several segments, if its card cannot cut them");
+    if (plane->segments && !guard->in_order && !is_unqueued(link))
+        warn_of_data(process, link, DISORDER, "it loses frames of several segments, if its card cannot cut them");
 }
 
 /* The link comes up: the queue of its interface, if that is one of the daemon, has the length of its speed from now on. */
@@ -430,13 +407,13 @@ void fit_queue(const struct plane *plane, const struct link *link) {
 }
 
 /* Has one processor take what comes at an interface; answers why the kernel may not pass it on, or NULL: a marker would overtake data. */
-static const char *try_fast(const struct link *link, const struct guard *guard) {
+static const char *fault_of_fast(const struct link *link, const struct guard *guard) {
     struct ethtool_channels queues;
     if (link->stacked) return STACKED;
-    if (!guard->spread && queues_of(link->index, &queues) > 1) return "it has several queues";
+    if (!guard->spread && read_channels(link->index, &queues) > 1) return "it has several queues";
     if (guard->unusual) return "it has another number of queues than the first member";
     if (!guard->in_order) return DISORDER;
-    if (!guard->spread && !steer(link)) return "RPS cannot be set to one processor";
+    if (!guard->spread && !set_rps_to_one(link)) return "RPS cannot be set to one processor";
     return NULL;
 }
 
@@ -445,60 +422,64 @@ void keep_from_stack(struct tap_plane *tap, const struct link *link, struct guar
     if (tap->dropper >= 0) guard->opened = attach_stored(&tap->process->store, "guard", tap->dropper, link->index, false);
     if (tap->dropper >= 0 && guard->opened < 0) guard->classifier = set_classifier(tap->dropper, link->index);
     if (guard->classifier == CLASSIFIER_BEHIND_OTHERS)
-        warn_of(tap->process, link, "it has a clsact already", "its own network stack has what filters there accept");
-    if (guard->opened < 0 && guard->classifier == NO_CLASSIFIER) warn_of(tap->process, link, "its own network stack has its frames, too", NULL);
+        warn_of_data(tap->process, link, "it has a clsact already", "its own network stack has what filters there accept");
+    if (guard->opened < 0 && guard->classifier == NO_CLASSIFIER) warn_of_data(tap->process, link, "its own network stack has its frames, too", NULL);
 }
 
 /* Has the kernel pass on what goes and comes at a member, where it may; a line says why not. */
 void run_fast_programs(struct tap_plane *tap, const struct link *link, struct guard *guard) {
-    guard->unusual = guard->spread && !choose_usual_queues(tap, guard);
-    const char *fault = try_fast(link, guard);
-    if (!fault) guard->opened = open_fast_receiver(tap, link);
+    guard->unusual = guard->spread && !choose_usual_queues(&tap->usual_queues, tap->members, tap->ports->count, guard->queues);
+    const char *fault = fault_of_fast(link, guard);
+    if (!fault) guard->opened = open_fast_receiver(&tap->process->store, &tap->fast, tap->ports, link);
     guard->fast = guard->opened >= 0;
     if (guard->fast) return;
     if (!is_unqueued(link)) /* it is looked at again then */
-        warn_of(tap->process, link, "its data stays with the daemon", fault ? fault : strerror(-guard->opened));
+        warn_of_data(tap->process, link, "its data stays with the daemon", fault ? fault : strerror(-guard->opened));
     keep_from_stack(tap, link, guard);
 }
 
-/* Which ways to put frames together may stay: GRO of the kernel, where responses wait for longer than it keeps a frame. Where the daemon
- * takes the frames, it does not: a socket cannot tell of each frame what it was made of. */
-static unsigned joins_allowed(const struct settings *settings, const struct link *link, const struct guard *guard) {
-    return guard->spread && guard->fast && keeps_briefly(settings, link->index) ? JOINED_BY_KERNEL : 0;
+/* Which ways to put frames together may stay: GRO of the kernel, where that keeps a frame for less than half the time for which a response to a marker
+ * waits. Without a time of its own it does so until the end of a turn. Where the daemon takes the frames, it does not: a socket cannot tell of each
+ * frame what it was made of. */
+static unsigned gro_allowed(uint32_t answer_after, int index, const struct guard *guard) {
+    char nanoseconds[PROCESSORS_ROOM];
+    bool is_brief = guard->spread && guard->fast && read_line(index, "../gro_flush_timeout", nanoseconds)
+        && strtoull(nanoseconds, NULL, 10) < answer_after * 500000ull;
+    return is_brief ? JOINED_BY_KERNEL : 0;
 }
 
-bool join_queues(struct tap_plane *tap, struct link *link, struct guard *guard, bool again) {
-    look_at_discipline(tap, link, guard);
-    if (!again) give_one_queue(tap->process, link);
+bool set_one_queue(struct tap_plane *tap, struct link *link, struct guard *guard, bool again) {
+    look_at_discipline(tap->process, tap->plane, link, guard);
+    if (!again) reduce_to_one_queue(tap->process, link);
     return true;
 }
 
 /* Lets a member keep all its queues, where it can, or gives it one. One that has one queue, as this daemon or an earlier one gave it, gets back
  * what it had. How many others give it meanwhile, it is to have behind the daemon. */
-bool keep_queues(struct tap_plane *tap, struct link *link, struct guard *guard, bool again UNUSED) {
+bool set_all_queues(struct tap_plane *tap, struct link *link, struct guard *guard, bool again UNUSED) {
     struct ethtool_channels now, *before = &guard->before.queues;
-    if (queues_of(link->index, &now) > 1)
+    if (read_channels(link->index, &now) > 1)
         *before = now;
     else if (may_spread(tap->process->folder, link))
-        (void)part_queues(link->index, before);
-    look_at_discipline(tap, link, guard);
+        (void)restore_channels(link->index, before);
+    look_at_discipline(tap->process, tap->plane, link, guard);
     if (is_unqueued(link)) return false;
-    spread(tap, link, guard);
+    spread_over_queues(tap->process, tap->chooser, link, guard);
     if (guard->spread && has_channels(link->index, before)) *before = (struct ethtool_channels){0};
     write_settings(tap->process, link, &guard->before);
-    if (!guard->spread) give_one_queue(tap->process, link);
+    if (!guard->spread) reduce_to_one_queue(tap->process, link);
     return true;
 }
 
 static void run_programs(struct tap_plane *tap, const struct link *link, struct guard *guard) {
     tap->plane->passing->run_programs(tap, link, guard);
-    if (guard->before.joins != 0) set_joins(link->index, guard->before.joins & joins_allowed(tap->settings, link, guard));
-    guard->channels = channels_of(link->index);
+    if (guard->before.joins != 0) set_gro_and_lro(link->index, guard->before.joins & gro_allowed(tap->settings->answer_after, link->index, guard));
+    guard->channels = read_queue_counts(link->index);
 }
 
-static void stop_programs(struct tap_plane *tap, const struct link *link, struct guard *guard) {
-    if (guard->opened >= 0) detach_stored(&tap->process->store, "guard", link->index, guard->opened);
-    if (guard->fast) close_fast_receiver(&tap->fast, link);
+static void stop_programs(struct store *store, struct fast_programs *fast, const struct link *link, struct guard *guard) {
+    if (guard->opened >= 0) detach_stored(store, "guard", link->index, guard->opened);
+    if (guard->fast) close_fast_receiver(fast, link);
     if (guard->classifier != NO_CLASSIFIER) drop_classifier(link->index);
     guard->opened = -1;
     guard->classifier = NO_CLASSIFIER;
@@ -507,7 +488,7 @@ static void stop_programs(struct tap_plane *tap, const struct link *link, struct
 
 /* An interface has another queueing discipline: its programs are chosen anew. What it had before it was a member stays kept. */
 void reopen_guard(struct tap_plane *tap, struct link *link, struct guard *guard) {
-    stop_programs(tap, link, guard);
+    stop_programs(&tap->process->store, &tap->fast, link, guard);
     (void)tap->plane->queueing->set(tap, link, guard, true);
     run_programs(tap, link, guard);
 }
@@ -516,46 +497,46 @@ void reopen_guard(struct tap_plane *tap, struct link *link, struct guard *guard)
 void open_guard(struct tap_plane *tap, struct link *link, struct guard *guard) {
     struct ethtool_channels queues;
     struct kept *before = &guard->before;
-    *guard = (struct guard){.opened = -1, .chooser = -1, .queues = 1, .before.joins = read_joins(link->index).wanted};
-    if (queues_of(link->index, &before->queues) <= 1) before->queues = (struct ethtool_channels){0};
-    if (!read_steering(link->index, before->steered)) before->steered[0] = 0;
-    if (!tap->plane->passing->steers && is_none(before->steered)) before->steered[0] = 0;
+    *guard = (struct guard){.opened = -1, .chooser = -1, .queues = 1, .before.joins = read_gro_and_lro(link->index).wanted};
+    if (read_channels(link->index, &before->queues) <= 1) before->queues = (struct ethtool_channels){0};
+    if (!read_rps(link->index, before->steered)) before->steered[0] = 0;
+    if (!tap->plane->passing->steers && has_no_processor(before->steered)) before->steered[0] = 0;
     bool gathers = before->steered[0] && !tap->plane->passing->steers; /* where the kernel passes data on, it does so only then */
     keep_settings(tap->process, link, before);
     bool has_queues = tap->plane->queueing->set(tap, link, guard, false);
-    if (gathers && !guard->spread && !steer(link)) warn_of(tap->process, link, SPREADS, NULL);
+    if (gathers && !guard->spread && !set_rps_to_one(link)) warn_of_data(tap->process, link, SPREADS, NULL);
     run_programs(tap, link, guard);
-    if ((read_joins(link->index).on & ~joins_allowed(tap->settings, link, guard)) != 0)
-        warn_of(tap->process, link, "GRO or LRO stays on, and markers may overtake data", NULL);
-    if (link->stacked && !tap->plane->passing->steers) warn_of(tap->process, link, STACKED, "markers may overtake data");
-    if (!guard->spread && has_queues && queues_of(link->index, &queues) > 1)
-        warn_of(tap->process, link, "it has several queues, and markers may overtake data", NULL);
+    if ((read_gro_and_lro(link->index).on & ~gro_allowed(tap->settings->answer_after, link->index, guard)) != 0)
+        warn_of_data(tap->process, link, "GRO or LRO stays on, and markers may overtake data", NULL);
+    if (link->stacked && !tap->plane->passing->steers) warn_of_data(tap->process, link, STACKED, "markers may overtake data");
+    if (!guard->spread && has_queues && read_channels(link->index, &queues) > 1)
+        warn_of_data(tap->process, link, "it has several queues, and markers may overtake data", NULL);
 }
 
 /* The interface is no member any more. What cannot be set back stays kept, as without CAP_NET_ADMIN. */
-void close_guard(struct tap_plane *tap, const struct link *link, struct guard *guard) {
+void close_guard(struct process *process, struct fast_programs *fast, const struct link *link, struct guard *guard) {
     struct kept *before = &guard->before;
-    stop_programs(tap, link, guard);
-    stop_spreading(&tap->process->store, link, guard);
-    bool done = part_queues(link->index, &before->queues);
-    gather_back(tap->process->folder, link, done);
-    if (before->joins != 0) set_joins(link->index, before->joins);
-    if (before->joins != 0) done = (before->joins & ~read_joins(link->index).wanted) == 0 && done;
+    stop_programs(&process->store, fast, link, guard);
+    stop_spreading(&process->store, link, guard);
+    bool done = restore_channels(link->index, &before->queues);
+    restore_queue_settings(process->folder, link, done);
+    if (before->joins != 0) set_gro_and_lro(link->index, before->joins);
+    if (before->joins != 0) done = (before->joins & ~read_gro_and_lro(link->index).wanted) == 0 && done;
     drop_fifo(link->index); /* with all its queues the kernel gives each of them what it chooses */
-    if (before->steered[0]) done = steer_back(link->index, before->steered) && done;
-    if (done) drop_kept(tap->process->folder, link, "member");
+    if (before->steered[0]) done = restore_line(link->index, RPS_FILE, before->steered, false) && done;
+    if (done) drop_kept(process->folder, link, "member");
 }
 
 /* An interface was a member of the last daemon, and is none of this one: it gets what it had, unless somebody else has it by now. */
-void put_back(struct tap_plane *tap, const struct inherited_link *was) {
+void put_back_former(struct process *process, struct fast_programs *fast, const struct inherited_link *was) {
     struct link link = {.index = was->index};
     struct guard guard = {.classifier = CLASSIFIER_ALONE};
-    int lock = lock_interface(&tap->process->store, tap->process->inherited, was->index);
+    int lock = lock_interface(&process->store, process->inherited, was->index);
     if (lock < 0) return;
-    guard.opened = claim_stored(&tap->process->store, "guard", was->index);
-    guard.chooser = claim_stored(&tap->process->store, "queues", was->index);
+    guard.opened = claim_stored(&process->store, "guard", was->index);
+    guard.chooser = claim_stored(&process->store, "queues", was->index);
     memcpy(link.mac, was->mac, sizeof link.mac);
-    recall_settings(tap->process->folder, &link, &guard.before);
-    close_guard(tap, &link, &guard);
-    return_stored(&tap->process->store, "lock", was->index, lock);
+    recall_settings(process->folder, &link, &guard.before);
+    close_guard(process, fast, &link, &guard);
+    return_stored(&process->store, "lock", was->index, lock);
 }

@@ -70,25 +70,25 @@ static void free_slot(struct held *own, uint32_t at) {
 }
 
 /* Writes how many frames of a conversation wait; answers whether that is known. While no frame waits at all, the library is not asked. */
-bool count_held(struct tap_plane *tap, uint16_t number, uint64_t *waiting) {
+bool count_held(struct process *process, struct held *own, uint16_t number, uint64_t *waiting) {
     *waiting = 0;
-    return !tap->carry->waiting || is_told(tap->process, niw_queue_waiting(&tap->held.queues, number), "niw_queue_waiting", waiting);
+    return !own->any_waits || is_told(process, niw_queue_waiting(&own->queues, number), "niw_queue_waiting", waiting);
 }
 
-bool none_held(struct tap_plane *tap, uint16_t number) {
+bool none_held(struct process *process, struct held *own, uint16_t number) {
     uint64_t waiting;
-    return count_held(tap, number, &waiting) && waiting == 0;
+    return count_held(process, own, number, &waiting) && waiting == 0;
 }
 
-bool count_all_held(struct tap_plane *tap, uint64_t *waiting) {
-    struct niw_counts counts = niw_queue_counts(&tap->held.queues);
+bool count_all_held(struct process *process, struct held *own, uint64_t *waiting) {
+    struct niw_counts counts = niw_queue_counts(&own->queues);
     *waiting = counts.waiting;
-    return is_done(tap->process, counts.status, "niw_queue_counts");
+    return is_done(process, counts.status, "niw_queue_counts");
 }
 
 unsigned count_frames_waiting(struct plane *plane) {
     uint64_t waiting;
-    return count_all_held(plane->tap, &waiting) ? (unsigned)waiting : 0;
+    return count_all_held(plane->tap->process, &plane->tap->held, &waiting) ? (unsigned)waiting : 0;
 }
 
 /* The slot of a frame that the library tells, or NONE where it tells none. */
@@ -97,47 +97,43 @@ static uint32_t slot_told(struct process *process, const struct niw_queued *queu
 }
 
 /* Writes the time at which the oldest frame of a conversation came; answers whether one waits. */
-bool oldest_held(struct tap_plane *tap, uint16_t number, uint64_t *came) {
-    if (!tap->carry->waiting) return false;
-    struct niw_queued queued = niw_queue_oldest(&tap->held.queues, number);
-    uint32_t at = slot_told(tap->process, &queued, "niw_queue_oldest");
-    if (at != NONE) *came = slot_of(&tap->held, at)->came;
+bool oldest_held(struct process *process, struct held *own, uint16_t number, uint64_t *came) {
+    if (!own->any_waits) return false;
+    struct niw_queued queued = niw_queue_oldest(&own->queues, number);
+    uint32_t at = slot_told(process, &queued, "niw_queue_oldest");
+    if (at != NONE) *came = slot_of(own, at)->came;
     return at != NONE;
 }
 
-/* Puts a packet behind those of its conversation; answers whether there was room. */
-bool put_held(struct tap_plane *tap, uint16_t number, const uint8_t *packet, size_t length) {
-    struct held *own = &tap->held;
+/* Puts a packet that came at a time behind those of its conversation; answers whether there was room. */
+bool put_held(struct process *process, struct held *own, uint16_t number, uint64_t came, const uint8_t *packet, size_t length) {
     uint32_t at = claim_slot(own, length > SMALL_ROOM ? &own->large : &own->small);
     if (at == NONE) return false;
     uint32_t status = niw_queue_put(&own->queues, number, at);
-    if (status == NIW_CONVERSATION_FULL || status == NIW_ALL_FULL || !is_done(tap->process, status, "niw_queue_put")) {
+    if (status == NIW_CONVERSATION_FULL || status == NIW_ALL_FULL || !is_done(process, status, "niw_queue_put")) {
         free_slot(own, at);
         return false;
     }
     struct slot *slot = slot_of(own, at);
     slot->length = (uint32_t)length;
-    slot->came = tap->carry->time;
+    slot->came = came;
     memcpy(slot->packet, packet, length);
-    tap->carry->waiting = true;
+    own->any_waits = true;
     return true;
 }
 
 /* Loses the oldest frame of a conversation; answers whether one waits. */
-bool drop_held(struct tap_plane *tap, uint16_t number, enum carry_count why) {
-    struct niw_queued queued = niw_queue_drop(&tap->held.queues, number);
-    uint32_t at = slot_told(tap->process, &queued, "niw_queue_drop");
-    if (at == NONE) return false;
-    free_slot(&tap->held, at);
-    tap->carry->counts[why]++;
-    return true;
+bool drop_held(struct process *process, struct held *own, uint16_t number) {
+    struct niw_queued queued = niw_queue_drop(&own->queues, number);
+    uint32_t at = slot_told(process, &queued, "niw_queue_drop");
+    if (at != NONE) free_slot(own, at);
+    return at != NONE;
 }
 
 /* Takes the oldest frame of a conversation out, to be sent; answers NULL where none is told. Its packet stays there until free_left. */
-uint8_t *remove_held(struct tap_plane *tap, uint16_t number, size_t *length) {
-    struct held *own = &tap->held;
+uint8_t *remove_held(struct process *process, struct held *own, uint16_t number, size_t *length) {
     struct niw_queued queued = niw_queue_next(&own->queues, number);
-    uint32_t at = slot_told(tap->process, &queued, "niw_queue_next");
+    uint32_t at = slot_told(process, &queued, "niw_queue_next");
     if (at == NONE) return NULL;
     struct slot *slot = slot_of(own, at);
     slot->next = own->leaving;

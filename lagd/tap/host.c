@@ -24,8 +24,8 @@ void lose_device(struct plane *plane) {
         "the peers are told, and the daemon ends", tap->settings->carry);
 }
 
-bool is_cutting(const struct tap_plane *tap) {
-    return tap->host.count > 0 && !tap->process->broken;
+bool is_cutting(const struct process *process, const struct host *own) {
+    return own->count > 0 && !process->broken;
 }
 
 /* Takes up to `most` segments of a packet from this one on; answers how many. */
@@ -42,14 +42,13 @@ static unsigned cut_segments(struct tap_plane *tap, const struct cut *cut, uint3
 }
 
 /* Has a packet wait behind those that do. Where there is no room for it, it is lost. */
-static void wait_uncut(struct tap_plane *tap, const uint8_t *packet, size_t length, uint16_t number) {
-    struct host *own = &tap->host;
+static void wait_uncut(struct carry *carry, struct host *own, const uint8_t *packet, size_t length, uint16_t number) {
     unsigned place = (own->first + own->count) % BATCH;
     struct uncut *uncut = &own->waiting[place];
     uint8_t *room = room_at(own->rooms, place);
     if (own->count == BATCH || own->of_one[number] == MOST_OF_ONE) {
-        tap->carry->counts[FROM_HOST]++;
-        tap->carry->counts[QUEUE_FULL]++;
+        carry->counts[FROM_HOST]++;
+        carry->counts[QUEUE_FULL]++;
         return;
     }
     memcpy(room, packet, length);
@@ -76,7 +75,7 @@ static unsigned accept_whole(struct tap_plane *tap, uint8_t *packet, size_t leng
 /* Takes of the packets that wait, the oldest ones first, so many segments at most. */
 static void cut_waiting(struct tap_plane *tap, unsigned most) {
     struct host *own = &tap->host;
-    for (unsigned taken = 0; taken < most && is_cutting(tap);) {
+    for (unsigned taken = 0; taken < most && is_cutting(tap->process, &tap->host);) {
         struct uncut *uncut = &own->waiting[own->first];
         if (uncut->cut.count > 0 && uncut->next == 0) tap->carry->counts[SEGMENTED]++;
         unsigned now = uncut->cut.count > 0 ? cut_segments(tap, &uncut->cut, uncut->next, most - taken)
@@ -97,11 +96,11 @@ static unsigned accept_in_turn(struct tap_plane *tap, uint8_t *packet, size_t le
     size_t head = head_octets();
     if (length < head + ETH_HLEN) return accept_whole(tap, packet, length);
     bool is_long = has_segments(packet) && read_cut(packet, length, &cut) && cut.count > MOST_AT_ONCE;
-    if (!is_long && !is_cutting(tap)) return accept_whole(tap, packet, length);
+    if (!is_long && !is_cutting(tap->process, &tap->host)) return accept_whole(tap, packet, length);
     struct niw_number told = conversation_of(tap->protocol, packet + head, length - head);
     uint16_t number = (uint16_t)(told.number % CONVERSATIONS);
     if (told.status != NIW_OK || (!is_long && tap->host.of_one[number] == 0)) return accept_whole(tap, packet, length);
-    wait_uncut(tap, packet, length, number);
+    wait_uncut(tap->carry, &tap->host, packet, length, number);
     return 1;
 }
 
@@ -128,14 +127,14 @@ void read_host(struct tap_plane *tap) {
     flush_data(tap);
     cut_waiting(tap, MOST_CUT);
     flush_data(tap);
-    if (left == 0 || is_cutting(tap)) tap->carry->more_waits = true;
+    if (left == 0 || is_cutting(tap->process, &tap->host)) tap->carry->more_waits = true;
     CALL(tap->plane->passing->note_read, tap, got, left > 0);
     CALL(tap->plane->passing->pass_on, tap);
 }
 
 /* Hands a packet up, which lies in parts; answers whether the device took it. */
-bool give_host(const struct tap_plane *tap, const struct iovec *parts, unsigned count, size_t length) {
-    return !tap->process->broken && writev(tap->host.tap, parts, (int)count) == (ssize_t)length;
+bool give_host(const struct process *process, int tap, const struct iovec *parts, unsigned count, size_t length) {
+    return !process->broken && writev(tap, parts, (int)count) == (ssize_t)length;
 }
 
 /* Serves what is ready: a member, or the TAP device, whose frames come after what was released. */
@@ -165,11 +164,11 @@ void open_tap_plane(struct plane *plane) {
     own->rooms = make_rooms();
     start_held(tap->process, &tap->held);
     tap->rooms = make_rooms();
-    tap->dropper = load_program(tap->settings, "dropper", NULL);
+    tap->dropper = load_program(tap->settings, "dropper", NULL, NULL);
     CALL(plane->queueing->start, tap);
     need(on_exit(put_back_members, tap) == 0, "on_exit");
     own->tap = open_tap(tap->device, tap->settings->carry, tap->settings->config.mac);
-    gather(tap->process, tap->device->index);
+    stop_device_rps(tap->process, tap->device->index);
     CALL(plane->passing->start, tap);
     if (!await_input(tap->process->epoll_file, own->tap, HOST)) stop(REFUSED, "epoll", strerror(errno));
 }

@@ -22,15 +22,15 @@ static struct member *member_of(struct tap_plane *tap, const struct link *link) 
     return &tap->members[link - tap->ports->links];
 }
 
-static bool attach(int fd, struct sock_filter *code, unsigned short count) {
+static bool attach_filter(int fd, struct sock_filter *code, unsigned short count) {
     struct sock_fprog wanted = {count, code};
     return setsockopt(fd, SOL_SOCKET, SO_ATTACH_FILTER, &wanted, sizeof wanted) == 0;
 }
 
 /* Lets a socket have data and markers, or all slow protocols but markers: so a marker comes in one row with the data before it, and no
  * flood of data costs an LACPDU. What concerns the member alone is no data. */
-static bool filter(int fd, bool data) {
-    const uint32_t taken = data ? UINT32_MAX : 0;
+static bool filter_markers(int fd, bool with_data) {
+    const uint32_t taken = with_data ? UINT32_MAX : 0;
     struct sock_filter code[] = {
         BPF_STMT(BPF_LD | BPF_H | BPF_ABS, 2 * ETH_ALEN),
         BPF_JUMP(BPF_JMP | BPF_JEQ | BPF_K, ETH_P_SLOW, 0, 3),
@@ -49,11 +49,11 @@ static bool filter(int fd, bool data) {
         BPF_STMT(BPF_RET | BPF_K, taken), /* data */
         BPF_STMT(BPF_RET | BPF_K, ~taken), /* another of the slow protocols */
     };
-    return attach(fd, code, sizeof code / sizeof code[0]);
+    return attach_filter(fd, code, sizeof code / sizeof code[0]);
 }
 
 /* Lets a socket of the TAP device have the markers that a program marked with the number of a port; with 0, let a socket have nothing. */
-static bool filter_marked(int fd, uint16_t port) {
+static bool filter_by_mark(int fd, uint16_t port) {
     struct sock_filter code[] = {
         BPF_STMT(BPF_LD | BPF_W | BPF_ABS, (uint32_t)(SKF_AD_OFF + SKF_AD_MARK)),
         BPF_JUMP(BPF_JMP | BPF_JEQ | BPF_K, port, 0, 3),
@@ -62,10 +62,10 @@ static bool filter_marked(int fd, uint16_t port) {
         BPF_STMT(BPF_RET | BPF_K, port > 0 ? UINT32_MAX : 0),
         BPF_STMT(BPF_RET | BPF_K, 0),
     };
-    return attach(fd, code, sizeof code / sizeof code[0]);
+    return attach_filter(fd, code, sizeof code / sizeof code[0]);
 }
 
-static void enlarge(int fd, int forced, int plain) {
+static void set_buffer(int fd, int forced, int plain) {
     if (setsockopt(fd, SOL_SOCKET, forced, &(int){SOCKET_ROOM}, sizeof(int)) < 0)
         (void)setsockopt(fd, SOL_SOCKET, plain, &(int){SOCKET_ROOM}, sizeof(int));
 }
@@ -83,35 +83,35 @@ static bool set_bypass(int fd, const struct guard *guard) {
 /* What the socket for data has more: room, frames to all addresses, and a head before each frame. */
 static bool set_up_data(int fd, int index, const struct guard *guard) {
     struct packet_mreq all = {index, PACKET_MR_PROMISC, 0, {0}};
-    enlarge(fd, SO_RCVBUFFORCE, SO_RCVBUF);
-    enlarge(fd, SO_SNDBUFFORCE, SO_SNDBUF);
+    set_buffer(fd, SO_RCVBUFFORCE, SO_RCVBUF);
+    set_buffer(fd, SO_SNDBUFFORCE, SO_SNDBUF);
     return set_bypass(fd, guard) && set_packet(fd, PACKET_VNET_HDR, 1) && setsockopt(fd, SOL_PACKET, PACKET_ADD_MEMBERSHIP, &all, sizeof all) == 0;
 }
 
 /* Opens a socket of a member; answers it, or -errno. One for all protocols has markers before the filters and bridges of an administrator,
  * which may take frames away there. Where the kernel hands up what comes, nothing comes by that for data. */
-static int open_socket(struct tap_plane *tap, const struct link *link, const struct guard *guard, enum socket_kind kind) {
-    int index = kind == MARKERS ? tap->device->index : link->index;
+static int open_socket(struct process *process, int device, const struct link *link, const struct guard *guard, enum socket_kind kind) {
+    int index = kind == MARKERS ? device : link->index;
     struct sockaddr_ll address = {.sll_family = AF_PACKET, .sll_protocol = htons(kind == DIRECT ? ETH_P_SLOW : ETH_P_ALL), .sll_ifindex = index};
-    int fd = packet_socket(&tap->process->store, tap->process->inherited, SOCKET_NAMES[kind], link->index, index, SOCK_RAW);
+    int fd = packet_socket(&process->store, process->inherited, SOCKET_NAMES[kind], link->index, index, SOCK_RAW);
     bool only_sends = kind == DATA && guard->fast, filtered;
     if (fd < 0) return fd;
     (void)set_packet(fd, PACKET_IGNORE_OUTGOING, 1);
     if (only_sends || kind == MARKERS)
-        filtered = filter_marked(fd, only_sends ? 0 : link->settings.number);
+        filtered = filter_by_mark(fd, only_sends ? 0 : link->settings.number);
     else
-        filtered = filter(fd, true);
+        filtered = filter_markers(fd, true);
     if (filtered && (kind != DATA || set_up_data(fd, index, guard)) && set_packet(fd, PACKET_AUXDATA, 1)
         && bind(fd, (struct sockaddr *)&address, sizeof address) == 0
-        && (only_sends || await_input(tap->process->epoll_file, fd, MEMBERS + link->settings.number - 1u))) {
-        put_stored(&tap->process->store, SOCKET_NAMES[kind], link->index, fd);
+        && (only_sends || await_input(process->epoll_file, fd, MEMBERS + link->settings.number - 1u))) {
+        put_stored(&process->store, SOCKET_NAMES[kind], link->index, fd);
         return fd;
     }
-    close_stored(&tap->process->store, SOCKET_NAMES[kind], link->index, fd);
+    close_stored(&process->store, SOCKET_NAMES[kind], link->index, fd);
     return last_fault();
 }
 
-static void close_sockets(struct store *store, const struct link *link, struct member *member) {
+static void close_all_sockets(struct store *store, const struct link *link, struct member *member) {
     for (enum socket_kind kind = DATA; kind < SOCKETS; kind++) {
         if (member->sockets[kind] >= 0) close_stored(store, SOCKET_NAMES[kind], link->index, member->sockets[kind]);
         member->sockets[kind] = -1;
@@ -119,17 +119,17 @@ static void close_sockets(struct store *store, const struct link *link, struct m
 }
 
 /* An interface is no member any more, and has what it had before. */
-static void release_member(struct tap_plane *tap, const struct link *link, struct member *member) {
-    close_sockets(&tap->process->store, link, member);
-    close_guard(tap, link, &member->guard);
+static void release_member(struct process *process, struct fast_programs *fast, const struct link *link, struct member *member) {
+    close_all_sockets(&process->store, link, member);
+    close_guard(process, fast, link, &member->guard);
 }
 
 /* Opens the sockets of a member whose programs run; answers 0, or -errno, and then it is no member any more. */
-static int open_sockets(struct tap_plane *tap, const struct link *link, struct member *member) {
+static int open_all_sockets(struct tap_plane *tap, const struct link *link, struct member *member) {
     for (enum socket_kind kind = DATA; kind < (member->guard.fast ? SOCKETS : MARKERS); kind++) {
-        int opened = member->sockets[kind] = open_socket(tap, link, &member->guard, kind);
+        int opened = member->sockets[kind] = open_socket(tap->process, tap->device->index, link, &member->guard, kind);
         if (opened >= 0) continue;
-        release_member(tap, link, member);
+        release_member(tap->process, &tap->fast, link, member);
         return opened;
     }
     begin_queues(&tap->queues[link->settings.number - 1], member->guard.queues);
@@ -139,14 +139,14 @@ static int open_sockets(struct tap_plane *tap, const struct link *link, struct m
 static int open_member(struct plane *plane, struct link *link) {
     struct tap_plane *tap = plane->tap;
     struct member *member = member_of(tap, link);
-    if (!filter(link->socket, false)) return last_fault();
+    if (!filter_markers(link->socket, false)) return last_fault();
     open_guard(tap, link, &member->guard);
     member->has_marker = false;
-    return open_sockets(tap, link, member);
+    return open_all_sockets(tap, link, member);
 }
 
 /* Frames that came while the socket was full. */
-static void count_loss(struct member *member) {
+static void count_socket_losses(struct member *member) {
     struct tpacket_stats stats = {0};
     socklen_t length = sizeof stats;
     if (is_open(member) && getsockopt(member->sockets[DATA], SOL_PACKET, PACKET_STATISTICS, &stats, &length) == 0)
@@ -157,11 +157,11 @@ static void count_loss(struct member *member) {
 static bool renew_member(struct tap_plane *tap, struct link *link) {
     struct member *member = member_of(tap, link);
     CALL(tap->plane->passing->withdraw_port, tap, link->settings.number);
-    count_loss(member);
-    close_sockets(&tap->process->store, link, member);
+    count_socket_losses(member);
+    close_all_sockets(&tap->process->store, link, member);
     reopen_guard(tap, link, &member->guard);
     tap->plane->changed = true;
-    return open_sockets(tap, link, member) == 0;
+    return open_all_sockets(tap, link, member) == 0;
 }
 
 static bool tell_and_renew(struct tap_plane *tap, struct link *link) {
@@ -182,7 +182,7 @@ static bool renew_for_discipline(struct plane *plane, struct link *link) {
     struct member *member = member_of(tap, link);
     if (!is_open(member)) return true;
     if (plane->renews) return renew_member(tap, link);
-    look_at_discipline(tap, link, &member->guard);
+    look_at_discipline(tap->process, plane, link, &member->guard);
     return set_bypass(member->sockets[DATA], &member->guard);
 }
 
@@ -196,14 +196,14 @@ void follow_address(struct plane *plane, struct link *link, const uint8_t *mac) 
 static void move_member(struct plane *plane, struct link *link, const uint8_t *mac) {
     const struct member *member = member_of(plane->tap, link);
     if (!is_open(member)) return;
-    move_former(plane->tap->process, link, mac);
+    move_kept_queues(plane->tap->process, link, mac);
     write_settings(plane->tap->process, link, &member->guard.before);
 }
 
 /* A queueing discipline of an interface changed: where each queue has one of the daemon, others may have put another one there, or taken theirs. */
 static bool follow_member_queues(struct tap_plane *tap, struct link *link) {
     struct member *member = member_of(tap, link);
-    bool kept = link->has_fifos ? have_order(link->index) : member->guard.in_order || !may_have_order(link->index);
+    bool kept = link->has_fifos ? all_queues_keep_order(link->index) : member->guard.in_order || !may_all_queues_keep_order(link->index);
     if (!is_open(member) || kept) return true;
     return tell_and_renew(tap, link);
 }
@@ -214,8 +214,8 @@ static void watch_queues(struct tap_plane *tap) {
     EACH_LINK(link, tap->ports) {
         const struct member *member = member_of(tap, link);
         if (!is_open(member)) continue;
-        bool changed = is_spread_anew(seconds_since(tap->protocol->began), link, &member->guard);
-        if (!changed && !(member->guard.unusual && choose_usual_queues(tap, &member->guard))) continue;
+        bool changed = is_changed_by_others(seconds_since(tap->protocol->began), link, &member->guard);
+        if (!changed && !(member->guard.unusual && choose_usual_queues(&tap->usual_queues, tap->members, tap->ports->count, member->guard.queues))) continue;
         if (!(changed ? tell_and_renew(tap, link) : renew_member(tap, link))) lose_member(tap->protocol, link);
     }
 }
@@ -229,7 +229,7 @@ bool is_fast(const struct member *member) {
 }
 
 void count_full_sockets(struct member *members, uint16_t count) {
-    for (uint16_t i = 0; i < count; i++) count_loss(&members[i]);
+    for (uint16_t i = 0; i < count; i++) count_socket_losses(&members[i]);
 }
 
 static void close_member(struct plane *plane, const struct link *link) {
@@ -237,8 +237,8 @@ static void close_member(struct plane *plane, const struct link *link) {
     struct member *member = member_of(tap, link);
     if (!is_open(member)) return;
     lose_data(plane, link);
-    count_loss(member);
-    release_member(tap, link, member);
+    count_socket_losses(member);
+    release_member(tap->process, &tap->fast, link, member);
 }
 
 static void forget_member(struct plane *plane, const struct link *link) {
@@ -253,7 +253,7 @@ void put_back_members(int status UNUSED, void *given) {
     struct tap_plane *tap = given;
     EACH_LINK(link, tap->ports) {
         struct member *member = member_of(tap, link);
-        if (!tap->process->has_left && is_open(member)) release_member(tap, link, member);
+        if (!tap->process->has_left && is_open(member)) release_member(tap->process, &tap->fast, link, member);
     }
 }
 
@@ -277,9 +277,9 @@ static void follow_speed(struct plane *plane, const struct link *link) {
 }
 
 /* How fast the ports that carry are together, in Mb/s. One whose speed is not known counts nothing; where none is, that is SPEED_UNKNOWN. */
-uint32_t sum_speeds(const struct tap_plane *tap) {
+uint32_t sum_speeds(const struct carry *carry, const struct member *members) {
     uint64_t sum = 0;
-    for (uint16_t i = 0; i < tap->carry->active_count; i++) sum += tap->members[tap->carry->active_ports[i] - 1].megabits;
+    for (uint16_t i = 0; i < carry->active_count; i++) sum += members[carry->active_ports[i] - 1].megabits;
     if (sum == 0) return (uint32_t)SPEED_UNKNOWN;
     return sum < INT32_MAX ? (uint32_t)sum : INT32_MAX;
 }
@@ -307,13 +307,12 @@ void put_data(struct tap_plane *tap, uint16_t port, uint16_t number, uint8_t *pa
     if (member->out == BATCH) flush_member(&tap->protocol->changes, member);
     member->parts[member->out] = (struct iovec){packet, length};
     member->messages[member->out].msg_hdr = (struct msghdr){.msg_iov = &member->parts[member->out], .msg_iovlen = 1};
-    CALL(tap->plane->queueing->mark, tap, port, number, &member->messages[member->out].msg_hdr);
+    CALL(tap->plane->queueing->mark, &tap->queues[port - 1], number, &member->messages[member->out].msg_hdr);
     member->out++;
 }
 
 /* Gives the kernel a marker for a member, as the message has it beside the frame; answers whether it took it. */
-bool give_marker(struct tap_plane *tap, struct link *link, const uint8_t *marker, struct msghdr *message) {
-    const struct member *member = member_of(tap, link);
+bool give_marker(struct process *process, const struct member *member, struct link *link, const uint8_t *marker, struct msghdr *message) {
     uint8_t sent[sizeof(struct virtio_net_hdr) + NIW_FRAME] = {0};
     struct iovec part = {sent, head_octets() + NIW_FRAME};
     message->msg_iov = &part;
@@ -321,12 +320,12 @@ bool give_marker(struct tap_plane *tap, struct link *link, const uint8_t *marker
     memcpy(sent + head_octets(), marker, NIW_FRAME);
     memcpy(sent + head_octets() + ETH_ALEN, link->mac, ETH_ALEN);
     if (!is_open(member) || sendmsg(member->sockets[DATA], message, 0) != (ssize_t)part.iov_len) return false;
-    return is_done(tap->process, niw_count_sent(&link->counters, marker, NIW_FRAME), "niw_count_sent");
+    return is_done(process, niw_count_sent(&link->counters, marker, NIW_FRAME), "niw_count_sent");
 }
 
 static bool send_by_one_queue(struct tap_plane *tap, struct link *link, const uint8_t *marker, bool again UNUSED) {
     struct msghdr message = {0};
-    return give_marker(tap, link, marker, &message);
+    return give_marker(tap->process, member_of(tap, link), link, marker, &message);
 }
 
 /* Sends a marker behind the data of its port, by the same socket: by another one, of another priority, it would overtake them. What the
@@ -371,13 +370,13 @@ static void accept_response_of_queue(struct tap_plane *tap, struct link *link, c
 }
 
 /* Hands a frame of data to the library, and up. */
-static void deliver(struct tap_plane *tap, const struct link *link, uint8_t *packet, size_t length) {
+static void accept_data(struct tap_plane *tap, const struct link *link, uint8_t *packet, size_t length) {
     const uint8_t *frame = packet + head_octets();
     uint8_t response[NIW_FRAME];
     size_t shown = length - head_octets() < LONGEST_SHOWN ? length - head_octets() : LONGEST_SHOWN;
     struct niw_received received = niw_receive(&tap->protocol->own_system, link->settings.number, frame, shown, response, sizeof response);
     if (is_done(tap->process, received.status, "niw_receive") && received.what == NIW_RECEIVED_HANDED_UP)
-        hand_up(tap, received.number, packet, length);
+        hand_up_frame(tap, received.number, packet, length);
     else
         member_of(tap, link)->counts[UNCOLLECTED]++;
 }
@@ -410,7 +409,7 @@ static void accept_packet(struct tap_plane *tap, struct link *link, struct mmsgh
     if (message->msg_hdr.msg_flags & MSG_TRUNC || !has_right_length(packet, length, member->mtu != 0 ? member->mtu : ETH_DATA_LEN))
         member->counts[WRONG_LENGTH]++;
     else
-        deliver(tap, link, packet, length);
+        accept_data(tap, link, packet, length);
 }
 
 /* Takes the packets that wait in a socket of a member, some at most. What the kernel tells of links comes before them: what was sent after
@@ -475,7 +474,7 @@ const struct carrying TAP_DEVICE = {
 };
 
 const struct queueing ONE_QUEUE = {
-    .set = join_queues, .send_marker = send_by_one_queue, .accept_response = accept_only_response, .answer = answer_at_once, .text = "",
+    .set = set_one_queue, .send_marker = send_by_one_queue, .accept_response = accept_only_response, .answer = answer_at_once, .text = "",
     .markers_at_once = 1,
 };
 
@@ -484,7 +483,7 @@ static int check_all_queues(struct process *process, struct plane *plane UNUSED,
 }
 
 const struct queueing ALL_QUEUES = {
-    .check = check_all_queues, .start = start_all_queues, .fifos_of = count_sending_queues, .set = keep_queues, .follow = follow_member_queues,
+    .check = check_all_queues, .start = start_all_queues, .fifos_of = count_sending_queues, .set = set_all_queues, .follow = follow_member_queues,
     .watch = watch_queues, .mark = mark_conversation, .send_marker = send_by_queues, .accept_response = accept_response_of_queue,
     .answer = answer_later, .show = show_queues, .text = ", all queues", .markers_at_once = MARKERS_AT_ONCE,
 };

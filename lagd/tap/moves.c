@@ -10,7 +10,7 @@ static bool none_moves(struct carry *carry) {
     return true;
 }
 
-static bool move(struct carry *carry, uint16_t number, uint16_t port) {
+static bool move_conversation(struct carry *carry, uint16_t number, uint16_t port) {
     uint32_t status = niw_move_conversation(&carry->protocol->own_system, carry->active, number, port);
     if (status >= NIW_HELD && status <= NIW_MARKERS_SPENT) return false;
     if (!is_done(carry->process, status, "niw_move_conversation")) return false;
@@ -19,7 +19,7 @@ static bool move(struct carry *carry, uint16_t number, uint16_t port) {
     return ask_ports(carry->process, &carry->protocol->own_system, carry->active, carry->port_of);
 }
 
-static uint16_t next_port(const struct carry *carry, uint16_t port) {
+static uint16_t port_behind(const struct carry *carry, uint16_t port) {
     for (uint16_t i = 0; i < carry->active_count; i++)
         if (carry->active_ports[i] > port) return carry->active_ports[i];
     return carry->active_ports[0];
@@ -32,27 +32,26 @@ static bool move_asked(struct carry *carry) {
         uint16_t port = carry->port_of[number];
         bool wanted = conversation->asked && is_busy(carry, conversation) && port != 0;
         conversation->asked = false;
-        any = (wanted && move(carry, number, next_port(carry, port))) || any;
+        any = (wanted && move_conversation(carry, number, port_behind(carry, port))) || any;
     }
     return any;
 }
 
 /* Moves busy conversations from ports that have most of them to one that has fewest, until the numbers differ by one at most. The
  * library tells each move. A conversation that is on no port counts for none, until its next frame. */
-static bool level(struct carry *carry) {
+static bool level_loads(struct carry *carry) {
     struct niw_carried carried[CONVERSATIONS];
     bool any = false;
     for (uint16_t number = 0; number < CONVERSATIONS; number++)
         carried[number] = (struct niw_carried){carry->port_of[number], is_busy(carry, &carry->conversations[number])};
     for (;;) {
         struct niw_move next = niw_next_move(carry->active_ports, carry->active_count, carried, CONVERSATIONS);
-        if (!is_done(carry->process, next.status, "niw_next_move") || !next.is || !move(carry, next.conversation, next.port)) return any;
+        if (!is_done(carry->process, next.status, "niw_next_move") || !next.is || !move_conversation(carry, next.conversation, next.port)) return any;
         carried[next.conversation].port = next.port;
         any = true;
     }
 }
 
-/* Whether the conversations of a port can move behind markers to others that carry. */
 bool can_empty(const struct plane *plane, const struct link *link) {
     const struct carry *carry = plane->carry;
     unsigned others = 0;
@@ -73,7 +72,7 @@ bool empty_port(struct plane *plane, const struct link *link) {
         uint16_t other = carry->active_ports[0];
         for (uint16_t i = 1; i < carry->active_count; i++)
             if (loads[carry->active_ports[i]] < loads[other]) other = carry->active_ports[i];
-        if (move(carry, number, other)) loads[other]++;
+        if (move_conversation(carry, number, other)) loads[other]++;
     }
     send_due(carry->protocol);
     return is_told(carry->process, niw_load(&carry->protocol->own_system, port), "niw_load", &load) && load == 0
@@ -87,7 +86,7 @@ void balance(struct carry *carry) {
     if (carry->active_count < 2 || carry->probe.peer != ANSWERS || !none_moves(carry)
         || !ask_ports(carry->process, &carry->protocol->own_system, carry->active, carry->port_of))
         return;
-    if (move_asked(carry) || level(carry)) send_due(carry->protocol);
+    if (move_asked(carry) || level_loads(carry)) send_due(carry->protocol);
 }
 
 void ask_moves(struct carry *carry) {

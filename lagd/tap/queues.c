@@ -9,20 +9,20 @@
 #define IDENTIFIER_BITS ((1u << QUEUE_SHIFT) - 1)
 #define LONGEST_FLIGHT 3500
 
-static uint32_t all_of(unsigned count) {
+static uint32_t bits_of_queues(unsigned count) {
     return (1u << count) - 1;
 }
 
 /* A member is taken up: nobody knows what its queues have. */
 void begin_queues(struct queues *queues, unsigned count) {
     queues->count = count;
-    queues->dirty = all_of(count);
+    queues->dirty = bits_of_queues(count);
     for (size_t i = 0; i < MOST_FLIGHTS; i++)
-        if (queues->flights[i].waiting != 0) queues->flights[i].waiting = all_of(count);
+        if (queues->flights[i].waiting != 0) queues->flights[i].waiting = bits_of_queues(count);
 }
 
 /* Has a frame go by a queue of a member, if there are several. */
-static void mark_queue(struct queues *queues, unsigned queue, struct msghdr *message) {
+static void set_mark(struct queues *queues, unsigned queue, struct msghdr *message) {
     uint32_t mark = QUEUE_MARK | (queue + 1);
     if (queues->count < 2) return;
     message->msg_control = queues->marks[queue];
@@ -35,11 +35,10 @@ static void mark_queue(struct queues *queues, unsigned queue, struct msghdr *mes
 }
 
 /* Has a frame of a conversation go by its queue, as the programs of the kernel have it. */
-void mark_conversation(struct tap_plane *tap, uint16_t port, uint16_t number, struct msghdr *message) {
-    struct queues *queues = &tap->queues[port - 1];
+void mark_conversation(struct queues *queues, uint16_t number, struct msghdr *message) {
     unsigned queue = number % MOST_QUEUES % queues->count;
     queues->dirty |= 1u << queue;
-    mark_queue(queues, queue, message);
+    set_mark(queues, queue, message);
 }
 
 void set_identifier(uint8_t *frame, uint32_t id) {
@@ -47,8 +46,8 @@ void set_identifier(uint8_t *frame, uint32_t id) {
 }
 
 /* Sends the marker of a flight by each queue that has no response yet; answers whether all went. */
-static bool send_flight(struct tap_plane *tap, struct link *link, const uint8_t *marker, const struct flight *flight) {
-    struct queues *queues = &tap->queues[link->settings.number - 1];
+static bool send_flight(struct process *process, const struct member *member, struct link *link, struct queues *queues, const struct flight *flight,
+    const uint8_t *marker) {
     uint8_t frame[NIW_FRAME];
     bool done = true;
     memcpy(frame, marker, sizeof frame);
@@ -56,8 +55,8 @@ static bool send_flight(struct tap_plane *tap, struct link *link, const uint8_t 
         struct msghdr message = {0};
         if (!(flight->waiting >> queue & 1)) continue;
         set_identifier(frame, (flight->id & IDENTIFIER_BITS) | (uint32_t)queue << QUEUE_SHIFT);
-        mark_queue(queues, queue, &message);
-        done = give_marker(tap, link, frame, &message) && done;
+        set_mark(queues, queue, &message);
+        done = give_marker(process, member, link, frame, &message) && done;
     }
     return done;
 }
@@ -82,37 +81,37 @@ static uint32_t recount_unanswered(const struct member *member, int index, struc
         unsigned now = count_sending_queues(index);
         if (now > MOST_QUEUES) now = MOST_QUEUES;
         if (now > queues->count && queues->count > 1) queues->count = now;
-        found = all_of(queues->count);
+        found = bits_of_queues(queues->count);
     }
     return found != 0 ? found : 1;
 }
 
-/* Sends again what has no response, of each marker that may still get one; answers whether all of it went. */
-static bool send_again_by_queues(struct tap_plane *tap, struct link *link, const uint8_t *marker) {
-    struct queues *queues = &tap->queues[link->settings.number - 1];
-    bool done = true;
+/* The queues of a flight that is too old for a response have frames of which nothing tells. */
+static void end_old_flights(struct queues *queues, uint64_t time) {
     for (size_t i = 0; i < MOST_FLIGHTS; i++) {
         struct flight *flight = &queues->flights[i];
-        if (flight->waiting != 0 && tap->carry->time - flight->since > LONGEST_FLIGHT) {
-            queues->dirty |= flight->waiting;
-            flight->waiting = 0;
-        }
-        if (flight->waiting != 0) done = send_flight(tap, link, marker, flight) && done;
+        if (flight->waiting == 0 || time - flight->since <= LONGEST_FLIGHT) continue;
+        queues->dirty |= flight->waiting;
+        flight->waiting = 0;
     }
-    return done;
 }
 
-/* Sends a marker by each queue that may have frames before it, or again by those that have no response; answers whether all of it went. */
+/* Sends a marker by each queue that may have frames before it, or each that may still get a response again by those that have none; answers whether all
+ * of it went. */
 bool send_by_queues(struct tap_plane *tap, struct link *link, const uint8_t *marker, bool again) {
-    uint16_t port = link->settings.number;
-    struct queues *queues = &tap->queues[port - 1];
-    if (again) return send_again_by_queues(tap, link, marker);
-    uint32_t waiting = recount_unanswered(&tap->members[port - 1], link->index, queues);
-    struct flight flight = {read32(marker + IDENTIFIER_AT), waiting, tap->carry->time, queues->sent++};
-    struct flight *place = next_flight(queues);
-    queues->dirty = 0;
-    *place = flight;
-    return send_flight(tap, link, marker, place);
+    const struct member *member = &tap->members[link->settings.number - 1];
+    struct queues *queues = &tap->queues[link->settings.number - 1];
+    bool done = true;
+    if (!again) {
+        uint32_t waiting = recount_unanswered(member, link->index, queues);
+        struct flight *place = next_flight(queues);
+        *place = (struct flight){read32(marker + IDENTIFIER_AT), waiting, tap->carry->time, queues->sent++};
+        queues->dirty = 0;
+        return send_flight(tap->process, member, link, queues, place, marker);
+    }
+    end_old_flights(queues, tap->carry->time);
+    for (size_t i = 0; i < MOST_FLIGHTS; i++) done = send_flight(tap->process, member, link, queues, &queues->flights[i], marker) && done;
+    return done;
 }
 
 /* A response to the marker of a queue came: answers whether it is the last one that was missing, and gives back the identifier of the library. */

@@ -54,7 +54,7 @@ static void write_tcp(const struct cut *cut, uint32_t number, uint8_t *packet, c
     if (number > 0) tcp[TCP_FLAGS] &= (uint8_t)~FLAG_CWR;
     if (number + 1 < cut->count) tcp[TCP_FLAGS] &= (uint8_t)~(FLAG_FIN | FLAG_PSH);
     memcpy(&sum, tcp + TCP_SUM, sizeof sum);
-    sum = fold((uint64_t)sum + length + (uint16_t)~of_all);
+    sum = fold_sum((uint64_t)sum + length + (uint16_t)~of_all);
     memcpy(tcp + TCP_SUM, &sum, sizeof sum);
     put_sum(tcp, own->length - own->transport, TCP_SUM);
 }
@@ -88,7 +88,7 @@ void finish_sum(uint8_t *packet, size_t length) {
 static size_t ip_octets(unsigned type, const uint8_t *ip, size_t length) {
     if (type == ETH_P_IP && length >= IPV4_OCTETS && ip[0] == 0x45 && read16(ip + IPV4_LENGTH) == length
         && read16(ip + IPV4_FRAGMENT) == DONT_FRAGMENT && ip[IPV4_PROTOCOL] == IPPROTO_TCP
-        && fold(add_octets(0, ip, IPV4_OCTETS)) == UINT16_MAX)
+        && fold_sum(add_to_sum(0, ip, IPV4_OCTETS)) == UINT16_MAX)
         return IPV4_OCTETS;
     if (type == ETH_P_IPV6 && length >= IPV6_OCTETS && ip[0] >> 4 == 6 && read16(ip + IPV6_LENGTH) == length - IPV6_OCTETS
         && ip[IPV6_NEXT] == IPPROTO_TCP)
@@ -113,7 +113,7 @@ static bool read_tcp(const uint8_t *packet, size_t length, struct tcp_packet *tc
 static uint64_t sum_of_pseudo_header(const uint8_t *packet, const struct tcp_packet *tcp) {
     bool six = has_ipv6(packet, tcp);
     uint64_t sum = (uint64_t)htons(IPPROTO_TCP) + htons((uint16_t)(tcp->length - tcp->transport));
-    return add_octets(sum, packet + tcp->network + (six ? IPV6_ADDRESSES : IPV4_ADDRESSES), six ? 32 : 8);
+    return add_to_sum(sum, packet + tcp->network + (six ? IPV6_ADDRESSES : IPV4_ADDRESSES), six ? 32 : 8);
 }
 
 /* Whether a packet is as it was sent, as the card says, or its checksum; or whether that is still to be made. */
@@ -121,7 +121,7 @@ static bool is_as_sent(const uint8_t *packet, const struct tcp_packet *tcp) {
     struct virtio_net_hdr told = head_of(packet);
     if (told.flags & VIRTIO_NET_HDR_F_NEEDS_CSUM) return told.csum_start + head_octets() == tcp->transport && told.csum_offset == TCP_SUM;
     if (told.flags & VIRTIO_NET_HDR_F_DATA_VALID) return true;
-    return fold(add_octets(sum_of_pseudo_header(packet, tcp), packet + tcp->transport, tcp->length - tcp->transport)) == UINT16_MAX;
+    return fold_sum(add_to_sum(sum_of_pseudo_header(packet, tcp), packet + tcp->transport, tcp->length - tcp->transport)) == UINT16_MAX;
 }
 
 static bool is_same(const uint8_t *one, const uint8_t *other, size_t from, size_t to) {
@@ -150,8 +150,7 @@ static bool continues_stream(const struct gro *own, const uint8_t *packet, const
 }
 
 /* Hands up as one what waits; answers whether the device took it. */
-static bool give_all(const struct tap_plane *tap) {
-    const struct gro *own = &tap->gro;
+static bool give_all(const struct process *process, int tap, const struct gro *own) {
     const struct tcp_packet *all = &own->all;
     const uint8_t *first = own->packets[0].iov_base, *last = own->packets[own->count - 1].iov_base;
     bool six = has_ipv6(first, all);
@@ -163,20 +162,20 @@ static bool give_all(const struct tap_plane *tap) {
     memcpy(headers, first, all->payload);
     memcpy(headers, &told, sizeof told);
     write_length(headers, all);
-    uint16_t sum = fold(sum_of_pseudo_header(headers, all));
+    uint16_t sum = fold_sum(sum_of_pseudo_header(headers, all));
     memcpy(headers + all->transport + TCP_SUM, &sum, sizeof sum);
     headers[all->transport + TCP_FLAGS] |= last[all->transport + TCP_FLAGS];
     for (unsigned i = 0; i < own->count; i++) {
         uint8_t *packet = own->packets[i].iov_base;
         parts[1 + i] = (struct iovec){packet + all->payload, own->packets[i].iov_len - all->payload};
     }
-    return give_host(tap, parts, 1 + own->count, all->length);
+    return give_host(process, tap, parts, 1 + own->count, all->length);
 }
 
 void flush_host(struct tap_plane *tap) {
     struct gro *own = &tap->gro;
-    unsigned given = own->count > 1 && give_all(tap) ? own->count : 0, first = given;
-    for (unsigned i = first; i < own->count; i++) given += give_host(tap, &own->packets[i], 1, own->packets[i].iov_len);
+    unsigned given = own->count > 1 && give_all(tap->process, tap->host.tap, own) ? own->count : 0, first = given;
+    for (unsigned i = first; i < own->count; i++) given += give_host(tap->process, tap->host.tap, &own->packets[i], 1, own->packets[i].iov_len);
     tap->carry->counts[HANDED_UP] += given;
     tap->carry->counts[HOST_UNTAKEN] += own->count - given;
     own->count = 0;

@@ -65,7 +65,7 @@ struct queues {
         uint64_t place; /* which one it is of all that were sent */
     } flights[MOST_FLIGHTS];
     uint64_t sent; /* markers */
-    _Alignas(struct cmsghdr) uint8_t marks[MOST_QUEUES][CMSG_SPACE(sizeof(uint32_t))]; /* of mark_queue */
+    _Alignas(struct cmsghdr) uint8_t marks[MOST_QUEUES][CMSG_SPACE(sizeof(uint32_t))]; /* of set_mark */
 };
 
 /* The most responses that wait for a port. */
@@ -127,7 +127,8 @@ struct held {
     } small, large;
     uint32_t leaving; /* the first of those that are in use until they were sent */
     struct niw_queue queues;
-    size_t octets; /* of all slots, while the queues are there */
+    size_t octets;  /* of all slots, while the queues are there */
+    bool any_waits; /* false only where no frame waits */
 };
 
 /* The programs of the kernel, and the tables that they share with the daemon. */
@@ -165,7 +166,7 @@ void tell_speed_and_carrier(struct plane *plane);
 void settle_frames(struct plane *plane);
 void pass_tick_of_frames(struct plane *plane);
 void accept_from_host(struct tap_plane *tap, uint8_t *packet, size_t length);
-void hand_up(struct tap_plane *tap, uint32_t aggregator, uint8_t *packet, size_t length);
+void hand_up_frame(struct tap_plane *tap, uint32_t aggregator, uint8_t *packet, size_t length);
 
 /* probe.c */
 void pass_probe_tick(struct tap_plane *tap);
@@ -177,13 +178,13 @@ void pass_flight_tick(struct tap_plane *tap);
 bool note_queue_response(struct queues *queues, uint32_t *id);
 void set_identifier(uint8_t *frame, uint32_t id);
 void begin_queues(struct queues *queues, unsigned count);
-void mark_conversation(struct tap_plane *tap, uint16_t port, uint16_t number, struct msghdr *message);
+void mark_conversation(struct queues *queues, uint16_t number, struct msghdr *message);
 bool send_by_queues(struct tap_plane *tap, struct link *link, const uint8_t *marker, bool again);
 
 /* answers.c: responses to markers that wait */
 bool answer_at_once(struct tap_plane *tap, struct link *link, const uint8_t *response);
 bool answer_later(struct tap_plane *tap, struct link *link, const uint8_t *response);
-void start_answers(struct tap_plane *tap);
+int open_answer_timer(int epoll_file);
 void serve_answers(struct tap_plane *tap);
 void note_unread(struct answers *answers, unsigned packets, bool drained);
 
@@ -203,14 +204,14 @@ void lose_data(struct plane *plane, const struct link *link);
 void open_tap_plane(struct plane *plane);
 void end_tap_plane(struct plane *plane);
 void read_host(struct tap_plane *tap);
-bool is_cutting(const struct tap_plane *tap);
-bool give_host(const struct tap_plane *tap, const struct iovec *parts, unsigned count, size_t length);
+bool is_cutting(const struct process *process, const struct host *host);
+bool give_host(const struct process *process, int tap, const struct iovec *parts, unsigned count, size_t length);
 
 /* traffic.c: queueing disciplines and classifiers of members */
 bool keeps_order(const char *discipline);
 bool read_discipline(int index, char name[static DISCIPLINE_ROOM]);
-bool have_order(int index);
-bool may_have_order(int index);
+bool all_queues_keep_order(int index);
+bool may_all_queues_keep_order(int index);
 bool give_each_fifo(int index, unsigned queues, uint32_t megabits);
 void fit_each_fifo(int index, unsigned queues, uint32_t megabits);
 void drop_fifo(int index);
@@ -220,30 +221,30 @@ void drop_classifier(int index);
 
 /* guard.c */
 unsigned count_sending_queues(int index);
-void gather(struct process *process, int index);
+void stop_device_rps(struct process *process, int index);
 void start_all_queues(struct tap_plane *tap);
-bool choose_usual_queues(struct tap_plane *tap, const struct guard *guard);
-bool is_spread_anew(uint64_t seconds, const struct link *link, const struct guard *guard);
-void move_former(struct process *process, struct link *link, const uint8_t *mac);
+bool choose_usual_queues(unsigned *usual, const struct member *members, uint16_t count, unsigned queues);
+bool is_changed_by_others(uint64_t seconds, const struct link *link, const struct guard *guard);
+void move_kept_queues(struct process *process, struct link *link, const uint8_t *mac);
 void open_guard(struct tap_plane *tap, struct link *link, struct guard *guard);
 void keep_from_stack(struct tap_plane *tap, const struct link *link, struct guard *guard);
 void run_fast_programs(struct tap_plane *tap, const struct link *link, struct guard *guard);
-bool join_queues(struct tap_plane *tap, struct link *link, struct guard *guard, bool again);
-bool keep_queues(struct tap_plane *tap, struct link *link, struct guard *guard, bool again);
-void look_at_discipline(struct tap_plane *tap, struct link *link, struct guard *guard);
+bool set_one_queue(struct tap_plane *tap, struct link *link, struct guard *guard, bool again);
+bool set_all_queues(struct tap_plane *tap, struct link *link, struct guard *guard, bool again);
+void look_at_discipline(struct process *process, const struct plane *plane, struct link *link, struct guard *guard);
 void reopen_guard(struct tap_plane *tap, struct link *link, struct guard *guard);
-void close_guard(struct tap_plane *tap, const struct link *link, struct guard *guard);
-void put_back(struct tap_plane *tap, const struct inherited_link *was);
+void close_guard(struct process *process, struct fast_programs *fast, const struct link *link, struct guard *guard);
+void put_back_former(struct process *process, struct fast_programs *fast, const struct inherited_link *was);
 
 /* members.c */
 extern const struct carrying TAP_DEVICE;
 extern const struct queueing ONE_QUEUE, ALL_QUEUES;
 void send_new_marker(struct plane *plane, struct link *link, const uint8_t *frame);
-bool give_marker(struct tap_plane *tap, struct link *link, const uint8_t *marker, struct msghdr *message);
+bool give_marker(struct process *process, const struct member *member, struct link *link, const uint8_t *marker, struct msghdr *message);
 unsigned member_queues(const struct member *member);
 void put_back_members(int status, void *given);
 bool is_fast(const struct member *member);
-uint32_t sum_speeds(const struct tap_plane *tap);
+uint32_t sum_speeds(const struct carry *carry, const struct member *members);
 void put_data(struct tap_plane *tap, uint16_t port, uint16_t number, uint8_t *packet, size_t length);
 void flush_data(struct tap_plane *tap);
 void receive_data(struct tap_plane *tap, struct link *link);
@@ -267,8 +268,8 @@ bool has_right_length(const uint8_t *packet, size_t length, uint32_t mtu);
 uint8_t *put_tag(uint8_t *packet, uint16_t type, uint16_t tag);
 
 /* sums.c */
-uint64_t add_octets(uint64_t sum, const uint8_t *octets, size_t length);
-uint16_t fold(uint64_t sum);
+uint64_t add_to_sum(uint64_t sum, const uint8_t *octets, size_t length);
+uint16_t fold_sum(uint64_t sum);
 void put_sum(uint8_t *octets, size_t length, size_t field);
 
 /* segments.c */
@@ -279,29 +280,29 @@ void put_host(struct tap_plane *tap, uint8_t *packet, size_t length);
 void flush_host(struct tap_plane *tap);
 
 /* programs.c: what the kernel runs for frames */
+#define REASON_ROOM 160 /* of why the kernel does not take a program */
 struct fast_maps {
     int rows, members, host, places;
 };
-int load_program(const struct settings *settings, const char *name, const struct fast_maps *maps);
-const char *program_fault(void);
+int load_program(const struct settings *settings, const char *name, const struct fast_maps *maps, char *reason);
 
 /* fast.c */
 extern const struct passing BY_KERNEL;
-int open_fast_receiver(struct tap_plane *tap, const struct link *link);
+int open_fast_receiver(struct store *store, struct fast_programs *own, const struct ports *ports, const struct link *wanted);
 void close_fast_receiver(struct fast_programs *own, const struct link *link);
 int fast_member_of(const struct plane *plane, uint16_t number);
 
 /* held.c */
 void start_held(struct process *process, struct held *own);
 void end_held(struct process *process, struct held *own);
-bool count_held(struct tap_plane *tap, uint16_t number, uint64_t *waiting) MUST_USE;
-bool none_held(struct tap_plane *tap, uint16_t number);
-bool count_all_held(struct tap_plane *tap, uint64_t *waiting) MUST_USE;
+bool count_held(struct process *process, struct held *own, uint16_t number, uint64_t *waiting) MUST_USE;
+bool none_held(struct process *process, struct held *own, uint16_t number);
+bool count_all_held(struct process *process, struct held *own, uint64_t *waiting) MUST_USE;
 unsigned count_frames_waiting(struct plane *plane);
-bool oldest_held(struct tap_plane *tap, uint16_t number, uint64_t *came);
-bool put_held(struct tap_plane *tap, uint16_t number, const uint8_t *packet, size_t length);
-bool drop_held(struct tap_plane *tap, uint16_t number, enum carry_count why);
-uint8_t *remove_held(struct tap_plane *tap, uint16_t number, size_t *length);
+bool oldest_held(struct process *process, struct held *own, uint16_t number, uint64_t *came);
+bool put_held(struct process *process, struct held *own, uint16_t number, uint64_t came, const uint8_t *packet, size_t length);
+bool drop_held(struct process *process, struct held *own, uint16_t number) MUST_USE;
+uint8_t *remove_held(struct process *process, struct held *own, uint16_t number, size_t *length);
 void free_left(struct held *own);
 
 #endif

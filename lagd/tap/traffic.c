@@ -90,13 +90,13 @@ static struct disciplines read_disciplines(int index) {
 }
 
 /* Whether each queue of an interface has a discipline still, and that keeps the order, whatever others put there. A queue without one loses all. */
-bool have_order(int index) {
+bool all_queues_keep_order(int index) {
     struct disciplines seen = read_disciplines(index);
     return seen.in_order && seen.queues == seen.sends;
 }
 
 /* Whether each queue of an interface keeps the order, or would as soon as give_each_fifo gave it a discipline. */
-bool may_have_order(int index) {
+bool may_all_queues_keep_order(int index) {
     return read_disciplines(index).changeable;
 }
 
@@ -109,7 +109,7 @@ bool give_each_fifo(int index, unsigned queues, uint32_t megabits) {
     if (!given) drop_fifo(index);
     if (!given && !change_root(RTM_NEWQDISC, NLM_F_CREATE, index, FIFO, "mq")) return false;
     fit_each_fifo(index, queues, megabits);
-    return have_order(index);
+    return all_queues_keep_order(index);
 }
 
 /* The link has this speed now: each queue of an interface gets its length, if it is one of the daemon. Where an administrator set another one, the

@@ -94,7 +94,7 @@ static bool force_free(struct carry *carry, uint16_t aggregator, uint16_t number
 }
 
 /* The port by which the frames of a conversation go from now on; 0 where the library tells none. */
-static uint16_t place(struct carry *carry, uint16_t number) {
+static uint16_t place_conversation(struct carry *carry, uint16_t number) {
     struct niw_number answer = niw_offer_conversation(&carry->protocol->own_system, carry->active, number);
     if (answer.status == NIW_HELD && force_free(carry, carry->active, number))
         answer = niw_offer_conversation(&carry->protocol->own_system, carry->active, number);
@@ -118,9 +118,8 @@ static void leave_last_aggregator(struct team_plane *team) {
 }
 
 /* The driver refused what it was told of a port, which is taken up anew. Where the kernel has no memory, the next tick tells it again. */
-static void note_refusal(struct team_plane *team, uint16_t port) {
+static void note_refusal(struct team_plane *team, uint16_t port, int fault) {
     struct link *link = &team->ports->links[port - 1];
-    int fault = errno;
     bool is_short = fault == ENOBUFS || fault == ENOMEM;
     char name[IF_NAMESIZE];
     team->shortages = is_short ? team->shortages + 1 : 0;
@@ -132,10 +131,10 @@ static void note_refusal(struct team_plane *team, uint16_t port) {
 }
 
 /* Has the driver pass data on a port, or none; answers whether it does so. */
-static bool set_passes(struct team_plane *team, uint16_t port, bool wanted) {
+static bool pass_data_on_port(struct team_plane *team, uint16_t port, bool wanted) {
     if (team->passes[port - 1] == (wanted ? PASSES : PASSES_NOT)) return true;
-    if (!set_port_enabled(team, team->ports->links[port - 1].index, wanted)) {
-        note_refusal(team, port);
+    if (!set_port_enabled(team->family, team->device->index, team->ports->links[port - 1].index, wanted)) {
+        note_refusal(team, port, errno);
         return false;
     }
     team->passes[port - 1] = wanted ? PASSES : PASSES_NOT;
@@ -145,10 +144,10 @@ static bool set_passes(struct team_plane *team, uint16_t port, bool wanted) {
 /* Has the frames of each bucket go by the port that the library tells; answers whether all do. */
 static bool place_buckets(struct team_plane *team) {
     for (uint16_t number = 0; number < CONVERSATIONS; number++) {
-        uint16_t port = place(team->carry, number);
+        uint16_t port = place_conversation(team->carry, number);
         if (port == 0 || port == team->buckets[number].port) continue;
-        if (!set_bucket(team, number, team->ports->links[port - 1].index)) {
-            note_refusal(team, port);
+        if (!set_bucket(team->family, team->device->index, number, team->ports->links[port - 1].index)) {
+            note_refusal(team, port, errno);
             return false;
         }
         if (team->buckets[number].port != 0) team->carry->counts[MOVES]++;
@@ -166,11 +165,11 @@ static void place_in_active(struct team_plane *team) {
     leave_last_aggregator(team);
     for (uint16_t i = 0; i < carry->active_count; i++) {
         is_active[carry->active_ports[i] - 1] = true;
-        if (!set_passes(team, carry->active_ports[i], true)) return;
+        if (!pass_data_on_port(team, carry->active_ports[i], true)) return;
     }
     if (carry->active != 0 && !place_buckets(team)) return;
     for (uint16_t i = 0; i < team->ports->count; i++)
-        if (team->taken[i] && !is_active[i] && !set_passes(team, (uint16_t)(i + 1), false)) return;
+        if (team->taken[i] && !is_active[i] && !pass_data_on_port(team, (uint16_t)(i + 1), false)) return;
     team->shortages = 0;
     for (uint16_t number = 0; carry->active == 0 && number < CONVERSATIONS; number++) team->buckets[number].port = 0;
     if (carry->active != 0) set_carrier(team->device, true);
@@ -186,7 +185,7 @@ void settle_team(struct plane *plane) {
 }
 
 /* Whether a bucket is to go to the port of its number, once it is still. */
-static bool waits(const struct team_plane *team, uint16_t number) {
+static bool has_to_move(const struct team_plane *team, uint16_t number) {
     const struct carry *carry = team->carry;
     uint16_t port = team->buckets[number].port;
     return carry->active_count > 0 && port != 0 && port != carry->active_ports[number % carry->active_count];
@@ -196,7 +195,7 @@ static bool waits(const struct team_plane *team, uint16_t number) {
 static void rest_still(struct team_plane *team) {
     for (uint16_t number = 0; number < CONVERSATIONS; number++) {
         struct niw_assignment state;
-        if (!waits(team, number) || team->counted_until < team->buckets[number].moved_at + team->settings->flight) continue;
+        if (!has_to_move(team, number) || team->counted_until < team->buckets[number].moved_at + team->settings->flight) continue;
         if (!ask_state(team->process, &team->protocol->own_system, team->carry->active, number, &state)) return;
         if (state.what != NIW_CONVERSATION_ON) continue;
         if (!is_done(team->process, niw_rest(&team->protocol->own_system, team->carry->active, number), "niw_rest")) return;
@@ -206,7 +205,7 @@ static void rest_still(struct team_plane *team) {
 
 unsigned count_waiting_buckets(const struct team_plane *team) {
     unsigned count = 0;
-    for (uint16_t number = 0; number < CONVERSATIONS; number++) count += waits(team, number);
+    for (uint16_t number = 0; number < CONVERSATIONS; number++) count += has_to_move(team, number);
     return count;
 }
 

@@ -15,11 +15,11 @@
 #define MOST_TRIES 10
 
 /* Tries whether the driver takes the mode: at a device of its own, which stays. */
-static bool try_team_mode(const struct team_plane *team) {
+static bool try_team_mode(uint16_t family) {
     static const uint8_t mac[ETH_ALEN] = {2, 0, 0, 0, 0, 1};
     struct interface device;
     return make_team_device("team0", mac, ETH_DATA_LEN) && ask_interface(0, "team0", &device)
-        && set_option(team, device.index, "mode", TYPE_STRING, MODE, sizeof MODE);
+        && set_option(family, device.index, "mode", TYPE_STRING, MODE, sizeof MODE);
 }
 
 /* The lowest MTU of the interfaces that are there: the driver gives its ports that of the device. */
@@ -91,15 +91,14 @@ static bool drop_tap_and_find(struct process *process, const char *name, struct 
 }
 
 /* Has the driver spread frames over buckets, and tell what each of them sent. */
-static void configure_driver(const struct team_plane *team, const char *mode_now) {
+static void configure_driver(uint16_t family, int index, const struct settings *settings, const char *mode_now) {
     const uint32_t counted_every = 1; /* what each bucket has sent, in units of 100 ms */
     struct sock_filter steps[MOST_HASH_STEPS];
-    int index = team->device->index;
-    size_t octets = make_team_hash(team->settings, steps) * sizeof *steps;
-    need(strcmp(mode_now, MODE) == 0 || set_option(team, index, "mode", TYPE_STRING, MODE, sizeof MODE), "team: mode " MODE);
-    need(set_option(team, index, "bpf_hash_func", TYPE_BINARY, steps, octets), "team: bpf_hash_func");
-    need(set_option(team, index, "lb_tx_method", TYPE_STRING, METHOD, sizeof METHOD), "team: lb_tx_method");
-    need(set_option(team, index, "lb_stats_refresh_interval", TYPE_U32, &counted_every, sizeof counted_every), "team: lb_stats_refresh_interval");
+    size_t octets = make_team_hash(settings, steps) * sizeof *steps;
+    need(strcmp(mode_now, MODE) == 0 || set_option(family, index, "mode", TYPE_STRING, MODE, sizeof MODE), "team: mode " MODE);
+    need(set_option(family, index, "bpf_hash_func", TYPE_BINARY, steps, octets), "team: bpf_hash_func");
+    need(set_option(family, index, "lb_tx_method", TYPE_STRING, METHOD, sizeof METHOD), "team: lb_tx_method");
+    need(set_option(family, index, "lb_stats_refresh_interval", TYPE_U32, &counted_every, sizeof counted_every), "team: lb_stats_refresh_interval");
 }
 
 /* Gives a port the address of the device: frames to that would be of another host for the network stack. The driver puts back what it had. Some
@@ -135,13 +134,8 @@ void leave_team_port(const struct team_plane *team, int index) {
     if ((port.master == 0 || set_master(index, 0)) && up) (void)set_interface_up(index, true);
 }
 
-/* Makes an interface a new port of the device, which takes it while it is down, and passes no data on it until it is told to: the driver would
- * at once. */
-static bool make_port(const struct team_plane *team, int index, bool up) {
-    return (!up || set_interface_up(index, false)) && set_master(index, team->device->index) && set_port_enabled(team, index, false);
-}
-
-/* Makes an interface a port of the device; answers 0, or -errno. One that belongs to another device stays there. */
+/* Makes an interface a port of the device; answers 0, or -errno. One that belongs to another device stays there. The device takes a new one while
+ * that is down, and passes no data on it until it is told to: the driver would at once. */
 static int open_team_port(struct plane *plane, struct link *link) {
     struct team_plane *team = plane->team;
     struct interface port;
@@ -150,7 +144,10 @@ static int open_team_port(struct plane *plane, struct link *link) {
     if (!ask_interface(link->index, NULL, &port) || !read_tap_mac(team->device, mac)) return last_fault();
     bool up = (port.flags & IFF_UP) != 0;
     if (port.master != team->device->index && (port.master != 0 || !may_put_in(team->protocol, link))) return -EBUSY;
-    if (port.master == 0 && !make_port(team, link->index, up)) fault = last_fault();
+    if (port.master == 0
+        && ((up && !set_interface_up(link->index, false)) || !set_master(link->index, team->device->index)
+            || !set_port_enabled(team->family, team->device->index, link->index, false)))
+        fault = last_fault();
     if (fault == 0 && memcmp(port.mac, mac, sizeof mac) != 0) fault = give_address(link->index, mac);
     team->taken[link - team->ports->links] = fault == 0;
     forget_port(team, link->settings.number);
@@ -203,7 +200,7 @@ static void leave_team(struct plane *plane, int index, bool owned) {
 
 /* The program ends, and no other one goes on: its ports are free, also those that a start did not come to, and the device goes if a daemon made
  * it. */
-static void end_team(int status UNUSED, void *given) {
+static void release_team(int status UNUSED, void *given) {
     struct team_plane *team = given;
     if (!team->opened || team->process->has_left) return;
     EACH_LINK(link, team->ports) close_team_port(team->plane, link);
@@ -213,7 +210,6 @@ static void end_team(int status UNUSED, void *given) {
     team->opened = false;
 }
 
-/* Opens the device: it has no carrier, unless the data of the last daemon goes on. */
 static void open_team(struct plane *plane) {
     struct team_plane *team = plane->team;
     const char *name = team->settings->carry;
@@ -221,7 +217,7 @@ static void open_team(struct plane *plane) {
     struct interface device;
     struct team_now now;
     need(load_team_driver(&team->family), "plane=team: this kernel has no team driver");
-    need(on_exit(end_team, team) == 0, "on_exit");
+    need(on_exit(release_team, team) == 0, "on_exit");
     team->opened = true;
     if (drop_tap_and_find(team->process, name, &device)) {
         adopt_device(team, &device, mac);
@@ -232,7 +228,7 @@ static void open_team(struct plane *plane) {
         use_team_device(team->device, device.index);
     }
     need(read_team(team->family, team->device->index, &now), "team");
-    configure_driver(team, now.mode);
+    configure_driver(team->family, team->device->index, team->settings, now.mode);
     start_buckets(team);
 }
 
@@ -240,7 +236,7 @@ static void end_team_plane(struct plane *plane) {
     struct team_plane *team = plane->team;
     set_carrier(team->device, false);
     remove_all_members(plane, team->ports);
-    end_team(DONE, team);
+    release_team(DONE, team);
 }
 
 /* Whether the kernel has the team driver, and its mode, which is another module: answers how the program ends. The mode is tried in a network
@@ -250,7 +246,7 @@ static int check_team(struct process *process, struct plane *plane, const struct
     bool is_apart = unshare(CLONE_NEWNET) == 0, has_driver = load_team_driver(&team->family);
     if (!has_driver && errno == EPERM) return tell_lack(process, options, "plane", "not known without CAP_NET_ADMIN", DONE);
     if (!has_driver) return tell_lack(process, options, "plane", "this kernel has no team driver", REFUSED);
-    if (!is_apart || try_team_mode(team)) return DONE;
+    if (!is_apart || try_team_mode(team->family)) return DONE;
     return tell_lack(process, options, "plane", "the team driver of this kernel has no mode loadbalance", REFUSED);
 }
 

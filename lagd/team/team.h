@@ -56,9 +56,9 @@ bool set_interface_up(int index, bool up);
 bool set_master(int index, int master);
 bool set_address(int index, const uint8_t *mac);
 bool give_team_carrier(const struct plane *plane, bool on);
-bool set_option(const struct team_plane *team, int index, const char *name, enum option_type type, const void *value, size_t length);
-bool set_port_enabled(const struct team_plane *team, int port, bool enabled);
-bool set_bucket(const struct team_plane *team, uint16_t bucket, int port);
+bool set_option(uint16_t family, int index, const char *name, enum option_type type, const void *value, size_t length);
+bool set_port_enabled(uint16_t family, int index, int port, bool enabled);
+bool set_bucket(uint16_t family, int index, uint16_t bucket, int port);
 bool read_team(uint16_t family, int index, struct team_now *now);
 
 /* team_hash.c */

@@ -80,9 +80,8 @@ struct place {
 };
 
 /* Sets an option. The kernel tells who listens to changes; that nobody does is an error for it, though the option is set. */
-static bool set_option_at(const struct team_plane *team, int index, const char *name, struct place place, enum option_type type, const void *value,
-    size_t length) {
-    union message wanted = message_of_team(team->family, TEAM_CMD_OPTIONS_SET, NLM_F_ACK, index);
+static bool set_option_at(uint16_t family, int index, const char *name, struct place place, enum option_type type, const void *value, size_t length) {
+    union message wanted = message_of_team(family, TEAM_CMD_OPTIONS_SET, NLM_F_ACK, index);
     struct nlattr *list = mnl_attr_nest_start(&wanted.head, TEAM_ATTR_LIST_OPTION);
     struct nlattr *item = mnl_attr_nest_start(&wanted.head, TEAM_ATTR_ITEM_OPTION);
     mnl_attr_put_strz(&wanted.head, TEAM_ATTR_OPTION_NAME, name);
@@ -95,16 +94,16 @@ static bool set_option_at(const struct team_plane *team, int index, const char *
     return ask_netlink(NETLINK_GENERIC, &wanted, NULL, NULL) || errno == ESRCH;
 }
 
-bool set_option(const struct team_plane *team, int index, const char *name, enum option_type type, const void *value, size_t length) {
-    return set_option_at(team, index, name, (struct place){0, -1}, type, value, length);
+bool set_option(uint16_t family, int index, const char *name, enum option_type type, const void *value, size_t length) {
+    return set_option_at(family, index, name, (struct place){0, -1}, type, value, length);
 }
 
-bool set_port_enabled(const struct team_plane *team, int port, bool enabled) {
-    return set_option_at(team, team->device->index, "enabled", (struct place){port, -1}, TYPE_FLAG, enabled ? "" : NULL, 0);
+bool set_port_enabled(uint16_t family, int index, int port, bool enabled) {
+    return set_option_at(family, index, "enabled", (struct place){port, -1}, TYPE_FLAG, enabled ? "" : NULL, 0);
 }
 
-bool set_bucket(const struct team_plane *team, uint16_t bucket, int port) {
-    return set_option_at(team, team->device->index, "lb_tx_hash_to_port_mapping", (struct place){0, bucket}, TYPE_U32, &port, sizeof port);
+bool set_bucket(uint16_t family, int index, uint16_t bucket, int port) {
+    return set_option_at(family, index, "lb_tx_hash_to_port_mapping", (struct place){0, bucket}, TYPE_U32, &port, sizeof port);
 }
 
 static bool is_text(const struct nlattr *attribute, const char *text) {

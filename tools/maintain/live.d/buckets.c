@@ -92,7 +92,7 @@ static bool refuses(void) {
     return refusals > 0 && refusals-- > 0;
 }
 
-bool set_port_enabled(const struct team_plane *team, int port, bool wanted) {
+bool set_port_enabled(uint16_t family, int index, int port, bool wanted) {
     uint16_t number = (uint16_t)(port - INDEX);
     if (!lagd->team.taken[number - 1] || refuses()) return false;
     for (uint16_t bucket = 0; !wanted && bucket < CONVERSATIONS; bucket++) {
@@ -104,7 +104,7 @@ bool set_port_enabled(const struct team_plane *team, int port, bool wanted) {
     return true;
 }
 
-bool set_bucket(const struct team_plane *team, uint16_t bucket, int port) {
+bool set_bucket(uint16_t family, int index, uint16_t bucket, int port) {
     uint16_t before = member_of[bucket] == 0 ? 0 : (uint16_t)(member_of[bucket] - INDEX);
     bool leaves = before != 0 && before != port - INDEX && distributes[before] && placed_in == aggregator;
     if (!enabled[port - INDEX] || refuses()) return false;

@@ -43,7 +43,7 @@ static uint32_t mark_of(struct msghdr *message) {
     return mark;
 }
 
-bool give_marker(struct tap_plane *tap, struct link *link, const uint8_t *marker, struct msghdr *message) {
+bool give_marker(struct process *process, const struct member *member, struct link *link, const uint8_t *marker, struct msghdr *message) {
     const uint8_t *at = marker + AT;
     ids[sent % 64] = (uint32_t)at[0] << 24 | (uint32_t)at[1] << 16 | (uint32_t)at[2] << 8 | at[3];
     marks[sent++ % 64] = mark_of(message);
@@ -54,7 +54,7 @@ bool give_marker(struct tap_plane *tap, struct link *link, const uint8_t *marker
 /* A frame of a conversation goes; answers the mark that it has. */
 static uint32_t go(uint16_t number) {
     struct msghdr message = {0};
-    mark_conversation(&lagd->tap, PORT, number, &message);
+    mark_conversation(&lagd->tap.queues[PORT - 1], number, &message);
     return mark_of(&message);
 }
 
@@ -115,7 +115,7 @@ static void try_many(void) {
 static void try_answers(void) {
     uint8_t frame[NIW_FRAME] = {0};
     unsigned taken = 0;
-    start_answers(&lagd->tap);
+    lagd->tap.answer_timer = open_answer_timer(lagd->process.epoll_file);
     while (taken < 100 && answer_later(&lagd->tap, &lagd->ports.links[PORT - 1], frame)) taken++;
     check(taken == 64, __func__, "sixty-four responses wait, and no more");
     serve_answers(&lagd->tap);

@@ -273,7 +273,7 @@ NOTHING(count_full_sockets, struct member *members, uint16_t count)
 NOTHING(pass_announcing_tick, struct process *process, struct announce *own, const struct device *device)
 NOTHING(pass_tap_tick, struct device *device)
 NOTHING(announce_soon, struct announce *own)
-ANSWERS(uint32_t sum_speeds, 1000, const struct tap_plane *tap)
+ANSWERS(uint32_t sum_speeds, 1000, const struct carry *carry, const struct member *members)
 NOTHING(set_speed, struct device *device, uint32_t megabits)
 /* The device is up here, and no port comes or goes. */
 ANSWERS(uint16_t count_links, PORTS, const struct ports *ports)
@@ -328,7 +328,7 @@ static void make_end(struct end *end, uint8_t which) {
 static void check_counts(struct end *end) {
     const uint64_t *counts = end->lagd.carry.counts;
     uint64_t waiting = 0;
-    CHECK(count_all_held(&end->lagd.tap, &waiting));
+    CHECK(count_all_held(&end->lagd.process, &end->lagd.tap.held, &waiting));
     CHECK(counts[FROM_HOST] == counts[UNFIT] + counts[NONE_CARRIES] + counts[QUEUE_FULL] + counts[HELD_TOO_LONG] + waiting + end->given);
     CHECK(end->out_count == 0 && counts[UNFIT] == 0);
     if (waiting > most_waited) most_waited = waiting;
@@ -338,7 +338,7 @@ static void check_counts(struct end *end) {
 static void check_waiting(struct end *end) {
     uint64_t came;
     for (uint16_t number = 0; number < CONVERSATIONS; number++)
-        if (oldest_held(&end->lagd.tap, number, &came)) CHECK(now - came < FLIGHT + 1000);
+        if (oldest_held(&end->lagd.process, &end->lagd.tap.held, number, &came)) CHECK(now - came < FLIGHT + 1000);
 }
 
 /* Frames of the host come. */
@@ -376,7 +376,7 @@ static void take(struct end *end, uint16_t port, uint8_t *frame, size_t length) 
     } else {
         received = niw_receive(&lagd->protocol.own_system, port, frame, length, response, sizeof response);
         if (is_done(&lagd->process, received.status, "niw_receive") && received.what == NIW_RECEIVED_HANDED_UP)
-            hand_up(&lagd->tap, received.number, frame, length);
+            hand_up_frame(&lagd->tap, received.number, frame, length);
     }
     settle_carry(&lagd->plane);
 }
@@ -544,7 +544,7 @@ static void calm_down(void) {
     come_together();
     for (unsigned which = 0; which < 2; which++) {
         arrived[which] = ends[which].arrived;
-        CHECK(ends[which].carrier && ends[which].lagd.protocol.bundle.state != BUNDLE_DOWN && !ends[which].lagd.carry.waiting);
+        CHECK(ends[which].carrier && ends[which].lagd.protocol.bundle.state != BUNDLE_DOWN && !ends[which].lagd.tap.held.any_waits);
         send_burst(&ends[which], 1);
     }
     for (until = now + 2000; now < until;) step(true);

@@ -278,16 +278,18 @@ static void check_dropper(int dropper) {
 /* A table of another form is not taken, and for a program that is not taken there is a reason. */
 static void check_refusals(void) {
     struct fast_maps wrong = maps;
+    char reason[REASON_ROOM] = "";
     CHECK(map_again(sizeof *rows, CONVERSATIONS, maps.rows) != NULL && map_again(sizeof *rows, CONVERSATIONS, maps.members) == NULL);
     CHECK(map_again(sizeof *rows + 8, CONVERSATIONS, maps.rows) == NULL && map_again(sizeof *rows, CONVERSATIONS, 0) == NULL);
     CHECK(make_map(8, CONVERSATIONS, &wrong.rows) != NULL);
-    CHECK(load_program(&lagd->settings, "sender", &wrong) == -EACCES);
-    CHECK(strstr(program_fault(), "outside of the allowed memory range") || strstr(program_fault(), "invalid access to map value"));
+    CHECK(load_program(&lagd->settings, "sender", &wrong, reason) == -EACCES);
+    CHECK(strstr(reason, "outside of the allowed memory range") || strstr(reason, "invalid access to map value"));
 }
 
 static int loaded(const char *name, const struct fast_maps *of) {
-    int fd = load_program(&lagd->settings, name, of);
-    if (fd < 0) printf("%s: failed: %s: %s\n", program, name, program_fault());
+    char reason[REASON_ROOM];
+    int fd = load_program(&lagd->settings, name, of, reason);
+    if (fd < 0) printf("%s: failed: %s: %s\n", program, name, reason);
     CHECK(fd >= 0);
     return fd;
 }
