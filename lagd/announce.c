@@ -105,8 +105,8 @@ static void read_forwarding(const struct nlmsghdr *message, void *into) {
     place->is_router = *forwarding != 0;
 }
 
-/* The kernel told of an address. One of IPv6 that may be another host's is not announced. */
-static void read_address(const struct nlmsghdr *message, void *into) {
+/* The kernel told of an address: it is announced. One of IPv6 that may be another host's is not announced. */
+static void announce_address(const struct nlmsghdr *message, void *into) {
     struct announce *own = into;
     const struct ifaddrmsg *about = mnl_nlmsg_get_payload(message);
     if (mnl_nlmsg_get_payload_len(message) < sizeof *about) return;
@@ -147,7 +147,7 @@ static void announce(struct process *process, struct announce *own, const struct
     if (own->sender >= 0) find_places(own, device);
     if (own->place_count > 0) {
         (void)ask_all(own, RTM_GETNETCONF, AF_INET6, read_forwarding);
-        done = ask_all(own, RTM_GETADDR, AF_UNSPEC, read_address);
+        done = ask_all(own, RTM_GETADDR, AF_UNSPEC, announce_address);
     }
     if (!done)
         (void)say(process, LOG_WARNING | ABOUT_CARRIER, "carry %s: its addresses were not announced: %s", process->settings->carry,
