@@ -209,7 +209,7 @@ static unsigned read_queue_counts(int index) {
 }
 
 /* Sets what all queues of a member are to have, where it may keep them; answers why it may not, or NULL. */
-static const char *fault_of_spreading(int folder, const struct link *link, const struct guard *guard, unsigned count) {
+static const char *prepare_for_all_queues(int folder, const struct link *link, const struct guard *guard, unsigned count) {
     if (link->stacked) return STACKED;
     if (count == 0) return "/sys does not show its queues";
     if (!guard->in_order) return DISORDER;
@@ -237,7 +237,7 @@ static void stop_spreading(struct store *store, const struct link *link, struct 
 
 static void spread_over_queues(struct process *process, int chooser, const struct link *link, struct guard *guard) {
     unsigned count = count_sending_queues(link->index);
-    const char *fault = fault_of_spreading(process->folder, link, guard, count);
+    const char *fault = prepare_for_all_queues(process->folder, link, guard, count);
     guard->queues = fault ? 1 : count < MOST_QUEUES ? count : MOST_QUEUES;
     if (guard->queues > 1 && guard->chooser < 0) /* a program chooses the queue of each frame that the daemon sends there */
         guard->chooser = attach_stored(&process->store, "queues", chooser, link->index, true);
@@ -407,7 +407,7 @@ void fit_queue(const struct plane *plane, const struct link *link) {
 }
 
 /* Has one processor take what comes at an interface; answers why the kernel may not pass it on, or NULL: a marker would overtake data. */
-static const char *fault_of_fast(const struct link *link, const struct guard *guard) {
+static const char *prepare_for_fast(const struct link *link, const struct guard *guard) {
     struct ethtool_channels queues;
     if (link->stacked) return STACKED;
     if (!guard->spread && read_channels(link->index, &queues) > 1) return "it has several queues";
@@ -429,7 +429,7 @@ void keep_from_stack(struct tap_plane *tap, const struct link *link, struct guar
 /* Has the kernel pass on what goes and comes at a member, where it may; a line says why not. */
 void run_fast_programs(struct tap_plane *tap, const struct link *link, struct guard *guard) {
     guard->unusual = guard->spread && !choose_usual_queues(&tap->usual_queues, tap->members, tap->ports->count, guard->queues);
-    const char *fault = fault_of_fast(link, guard);
+    const char *fault = prepare_for_fast(link, guard);
     if (!fault) guard->opened = open_fast_receiver(&tap->process->store, &tap->fast, tap->ports, link);
     guard->fast = guard->opened >= 0;
     if (guard->fast) return;

@@ -155,7 +155,6 @@ void lose_data(struct plane *plane, const struct link *link) {
     tap->answers[link - tap->ports->links].count = 0; /* whoever asked there asks again */
 }
 
-/* Makes the device, and all room that frames ever take. */
 void open_tap_plane(struct plane *plane) {
     struct tap_plane *tap = plane->tap;
     struct host *own = &tap->host;

@@ -369,7 +369,6 @@ static void accept_response_of_queue(struct tap_plane *tap, struct link *link, c
     accept_response(tap->protocol, link, &last);
 }
 
-/* Hands a frame of data to the library, and up. */
 static void accept_data(struct tap_plane *tap, const struct link *link, uint8_t *packet, size_t length) {
     const uint8_t *frame = packet + head_octets();
     uint8_t response[NIW_FRAME];

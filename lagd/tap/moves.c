@@ -59,7 +59,6 @@ bool can_empty(const struct plane *plane, const struct link *link) {
     return others > 0 && carry->probe.peer == ANSWERS && carry->active != 0 && link->view.aggregator == carry->active;
 }
 
-/* Moves the conversations of a port to those that carry fewest; answers whether none is left there, or can leave so. */
 bool empty_port(struct plane *plane, const struct link *link) {
     struct carry *carry = plane->carry;
     uint16_t port = link->settings.number;

@@ -37,7 +37,6 @@ uint8_t *room_at(uint8_t *rooms, unsigned number) {
     return rooms + number * room_octets() + TAG_OCTETS;
 }
 
-/* Whether a frame has several segments, into which it is cut later. */
 bool has_segments(const uint8_t *packet) {
     return head_of(packet).gso_type != VIRTIO_NET_HDR_GSO_NONE;
 }

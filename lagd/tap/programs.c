@@ -28,7 +28,6 @@ static void copy_last(char reason[static REASON_ROOM], char *log) {
             copy_line(reason, line);
 }
 
-/* Has the programs use a table of the daemon, or none. */
 static bool reuse_map(struct bpf_map *map, const int *table) {
     return (table ? bpf_map__reuse_fd(map, *table) : bpf_map__set_autocreate(map, false)) == 0;
 }

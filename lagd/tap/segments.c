@@ -109,7 +109,6 @@ static bool read_tcp(const uint8_t *packet, size_t length, struct tcp_packet *tc
         && (packet[tcp->transport + TCP_LENGTH] & 15) == 0 && (*flags & ~FLAG_PSH) == FLAG_ACK;
 }
 
-/* The sum of the addresses and of the length of a packet of TCP, as its checksum has it. */
 static uint64_t sum_of_pseudo_header(const uint8_t *packet, const struct tcp_packet *tcp) {
     bool six = has_ipv6(packet, tcp);
     uint64_t sum = (uint64_t)htons(IPPROTO_TCP) + htons((uint16_t)(tcp->length - tcp->transport));

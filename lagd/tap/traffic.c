@@ -49,14 +49,12 @@ static bool set_fifo(int index, uint32_t megabits, unsigned flags, uint32_t pare
     return ask_kernel(&question);
 }
 
-/* Changes the discipline of all queues of an interface. */
 static bool change_root(uint16_t type, unsigned flags, int index, uint32_t handle, const char *kind) {
     union message question = question_of(type, flags, index, TC_H_ROOT, handle);
     if (kind) mnl_attr_put_strz(&question.head, TCA_KIND, kind);
     return ask_kernel(&question);
 }
 
-/* What is seen of the queueing disciplines of an interface. */
 struct disciplines {
     int index;
     unsigned sends;  /* how many queues send now: the kernel tells of those that do not, too */

@@ -18,7 +18,6 @@ int bucket_member_of(const struct plane *plane, uint16_t number) {
     return plane->team->members_at_start[number];
 }
 
-/* What is known of a port is so no more. */
 void forget_port(struct team_plane *team, uint16_t port) {
     team->passes[port - 1] = UNKNOWN;
     for (uint16_t number = 0; number < CONVERSATIONS; number++)
@@ -130,7 +129,6 @@ static void note_refusal(struct team_plane *team, uint16_t port, int fault) {
     lose_member(team->protocol, link);
 }
 
-/* Has the driver pass data on a port, or none; answers whether it does so. */
 static bool pass_data_on_port(struct team_plane *team, uint16_t port, bool wanted) {
     if (team->passes[port - 1] == (wanted ? PASSES : PASSES_NOT)) return true;
     if (!set_port_enabled(team->family, team->device->index, team->ports->links[port - 1].index, wanted)) {
@@ -175,7 +173,6 @@ static void place_in_active(struct team_plane *team) {
     if (carry->active != 0) set_carrier(team->device, true);
 }
 
-/* After calls that may have changed something: the active aggregator, and by which ports buckets go. */
 void settle_team(struct plane *plane) {
     struct carry *carry = plane->carry;
     uint16_t before = carry->active;
