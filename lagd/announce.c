@@ -21,7 +21,7 @@ enum { ADVERTISED_OCTETS = 32, HOP_LIMIT = 255, ADVERTISEMENT = 136, FROM_ROUTER
 #define MOST_LEVELS 4
 
 /* Sends a frame by an interface, as the host does: it comes from the device with the others. One that is not taken is lost, as on a wire. */
-static void send_from(struct announce *own, const struct announced_place *place, const uint8_t *frame, size_t length) {
+static void send_announcement(struct announce *own, const struct announced_place *place, const uint8_t *frame, size_t length) {
     struct sockaddr_ll to = {.sll_family = AF_PACKET, .sll_ifindex = place->index};
     if (own->announced++ < MOST_ANNOUNCED) (void)sendto(own->sender, frame, length, 0, (struct sockaddr *)&to, sizeof to);
 }
@@ -42,7 +42,7 @@ static void announce_ipv4(struct announce *own, const struct announced_place *pl
     memcpy(at + 8, place->mac, ETH_ALEN);
     memcpy(at + 14, address, 4);
     memcpy(at + 24, address, 4);
-    send_from(own, place, frame, sizeof frame);
+    send_announcement(own, place, frame, sizeof frame);
 }
 
 /* An advertisement of an address to all nodes, which overrides what they know. */
@@ -63,7 +63,7 @@ static void announce_ipv6(struct announce *own, const struct announced_place *pl
     uint16_t sum = fold_sum(add_to_sum(htons(ADVERTISED_OCTETS + IPPROTO_ICMPV6), ip + IPV6_ADDRESSES, 32));
     memcpy(at + 2, &sum, sizeof sum);
     put_sum(at, ADVERTISED_OCTETS, 2);
-    send_from(own, place, frame, sizeof frame);
+    send_announcement(own, place, frame, sizeof frame);
 }
 
 static struct announced_place *place_of(struct announce *own, int index) {
@@ -105,8 +105,8 @@ static void read_forwarding(const struct nlmsghdr *message, void *into) {
     place->is_router = *forwarding != 0;
 }
 
-/* The kernel told of an address. One of IPv6 that may be another host's is not announced. */
-static void read_address(const struct nlmsghdr *message, void *into) {
+/* The kernel told of an address: it is announced. One of IPv6 that may be another host's is not announced. */
+static void announce_address(const struct nlmsghdr *message, void *into) {
     struct announce *own = into;
     const struct ifaddrmsg *about = mnl_nlmsg_get_payload(message);
     if (mnl_nlmsg_get_payload_len(message) < sizeof *about) return;
@@ -127,12 +127,11 @@ static bool ask_all(struct announce *own, uint16_t what, uint8_t family, message
 }
 
 /* Finds the device, and what stands above it, level by level. */
-static void find_places(struct carry *carry) {
-    struct announce *own = &carry->announce;
+static void find_places(struct announce *own, const struct device *device) {
     unsigned before = 0;
     memset(own->places, 0, sizeof own->places);
-    own->places[0].index = carry->device->index;
-    own->place_count = read_tap_mac(carry->device, own->places[0].mac) ? 1 : 0;
+    own->places[0].index = device->index;
+    own->place_count = read_tap_mac(device, own->places[0].mac) ? 1 : 0;
     for (unsigned level = 0; level < MOST_LEVELS && before != own->place_count; level++) {
         before = level == 0 ? 0 : own->place_count; /* the first one tells the bridge of the device alone, where that has a lower number */
         (void)ask_all(own, RTM_GETLINK, AF_UNSPEC, read_place);
@@ -141,18 +140,17 @@ static void find_places(struct carry *carry) {
 
 /* Announces the addresses of the device, and of what stands above it. Where the kernel has no IPv6, it does not tell who is a router, and has
  * no address. */
-static void announce(struct carry *carry) {
-    struct announce *own = &carry->announce;
+static void announce(struct process *process, struct announce *own, const struct device *device) {
     bool done = false;
     own->sender = socket(AF_PACKET, SOCK_RAW | SOCK_NONBLOCK | SOCK_CLOEXEC, 0);
     own->announced = own->place_count = 0;
-    if (own->sender >= 0) find_places(carry);
+    if (own->sender >= 0) find_places(own, device);
     if (own->place_count > 0) {
         (void)ask_all(own, RTM_GETNETCONF, AF_INET6, read_forwarding);
-        done = ask_all(own, RTM_GETADDR, AF_UNSPEC, read_address);
+        done = ask_all(own, RTM_GETADDR, AF_UNSPEC, announce_address);
     }
     if (!done)
-        (void)say(carry->process, LOG_WARNING | ABOUT_CARRIER, "carry %s: its addresses were not announced: %s", carry->settings->carry,
+        (void)say(process, LOG_WARNING | ABOUT_CARRIER, "carry %s: its addresses were not announced: %s", process->settings->carry,
             strerror(errno));
     if (own->sender >= 0) close(own->sender);
 }
@@ -163,11 +161,10 @@ void announce_soon(struct announce *own) {
 }
 
 /* 100 ms passed. While the device has no carrier, nothing that is sent there goes. */
-void pass_announcing_tick(struct carry *carry) {
-    struct announce *own = &carry->announce;
-    if (own->times == 0 || !has_carrier(carry->device)) return;
+void pass_announcing_tick(struct process *process, struct announce *own, const struct device *device) {
+    if (own->times == 0 || !has_carrier(device)) return;
     if (own->wait_ticks > 0 && --own->wait_ticks > 0) return;
-    announce(carry);
+    announce(process, own, device);
     own->times--;
     own->wait_ticks = SECOND;
 }

@@ -27,7 +27,7 @@ struct asking {
 #define EACH_DAEMON(it, own) for (struct daemon *it = (own)->daemons; it < (own)->daemons + (own)->count; it++)
 
 /* Connects with a daemon and asks it; or -errno. It waits no longer than PATIENCE: one that is stopped may answer nobody. */
-static int ask(const char *path, const char *question) {
+static int ask_socket(const char *path, const char *question) {
     struct timeval patience = {PATIENCE / 1000, 0};
     CLOSED_FILE int opened = socket(AF_UNIX, SOCK_STREAM | SOCK_CLOEXEC, 0);
     if (opened < 0 || setsockopt(opened, SOL_SOCKET, SO_SNDTIMEO, &patience, sizeof patience) < 0) return last_fault();
@@ -45,7 +45,7 @@ static bool tell_refusal(struct process *process, const char *path, const char *
 }
 
 /* Reads until the daemon ends the connection; NULL where it does not in time, or refuses, as a line says. */
-static char *read_answer(struct process *process, int fd, const char *path) {
+static char *read_whole_answer(struct process *process, int fd, const char *path) {
     size_t size = PART_OF_ANSWER, used = 0;
     char *whole = malloc(size + 1);
     ssize_t got = 1;
@@ -64,7 +64,7 @@ static char *read_answer(struct process *process, int fd, const char *path) {
 }
 
 /* Prints text of a daemon. Whoever made a socket in the folder may be no daemon: a terminal only shows what it says. */
-static void print(const char *text, size_t length) {
+static void print_shown(const char *text, size_t length) {
     char shown[4096];
     for (size_t part; length > 0; text += part, length -= part) {
         part = length < 1000 ? length : 1000;
@@ -83,7 +83,7 @@ static void print_metrics(const struct asking *own) {
             const char *next;
             for (unsigned line = 0; *at[i] && (line < 2 || *at[i] != '#'); line++, at[i] = *next ? next + 1 : next) {
                 next = at[i] + strcspn(at[i], "\n");
-                if (line >= 2 || first) print(at[i], (size_t)(next - at[i]) + (*next != 0));
+                if (line >= 2 || first) print_shown(at[i], (size_t)(next - at[i]) + (*next != 0));
             }
             more = more || first;
         }
@@ -98,7 +98,7 @@ static void print_who_answers(struct asking *own) {
         if (it->may_ask) add_value_of(own->report, "up", it->bundle, it->answer != NULL);
     add_head(own->report, "time_seconds", "gauge", "when this was asked");
     add(own->report, "lagd_time_seconds %llu\n", (unsigned long long)time(NULL));
-    print(own->report->text, own->report->length);
+    print_shown(own->report->text, own->report->length);
 }
 
 static _Noreturn void refuse_all(const struct asking *own) {
@@ -120,7 +120,7 @@ static int print_changes_of_all(struct asking *own) {
             if (!waits[i].revents) continue;
             ssize_t got = recv(waits[i].fd, text, sizeof text - 1, 0);
             text[got > 0 ? got : 0] = 0;
-            if (got > 0 && !tell_refusal(own->process, own->daemons[i].path, text)) print(text, (size_t)got);
+            if (got > 0 && !tell_refusal(own->process, own->daemons[i].path, text)) print_shown(text, (size_t)got);
             if (got <= 0) waits[i].fd = -1;
             left -= got <= 0;
         }
@@ -129,7 +129,7 @@ static int print_changes_of_all(struct asking *own) {
     return DONE;
 }
 
-static const char *question_of(const struct options *options) {
+static const char *status_question(const struct options *options) {
     if (options->action == METRICS) return "metrics\n";
     if (options->action == SHOW_CONFIG) return "config\n";
     return options->json ? "json\n" : "text\n";
@@ -138,12 +138,12 @@ static const char *question_of(const struct options *options) {
 /* Asks a daemon, and whether it answers before it is watched. One that does not has a line. */
 static bool ask_one(struct asking *own, struct daemon *daemon) {
     bool watched = own->options->action == WATCH;
-    CLOSED_FILE int fd = ask(daemon->path, question_of(own->options));
+    CLOSED_FILE int fd = ask_socket(daemon->path, status_question(own->options));
     daemon->may_ask = fd != -EACCES && fd != -EPERM;
     if (!daemon->may_ask) own->denied = daemon->path;
     if (fd < 0) complain(own->process, "%s: its daemon does not answer: %s", daemon->path, strerror(-fd));
-    if (fd >= 0) daemon->answer = read_answer(own->process, fd, daemon->path);
-    daemon->fd = watched && fd >= 0 ? ask(daemon->path, own->options->json ? "watch-json\n" : "watch\n") : -1;
+    if (fd >= 0) daemon->answer = read_whole_answer(own->process, fd, daemon->path);
+    daemon->fd = watched && fd >= 0 ? ask_socket(daemon->path, own->options->json ? "watch-json\n" : "watch\n") : -1;
     return watched ? daemon->fd >= 0 : daemon->answer != NULL;
 }
 
@@ -153,9 +153,9 @@ static char *tell_order(struct asking *own, const char *path, const char *what) 
     char order[QUESTION_ROOM], *answer;
     if (snprintf(order, sizeof order, "%s %s\n", what, interface) >= (int)sizeof order || strchr(interface, '\n'))
         stop(WRONG_WORD, "expected the name of an interface", interface);
-    CLOSED_FILE int fd = ask(path, order);
+    CLOSED_FILE int fd = ask_socket(path, order);
     if (fd < 0) stop(REFUSED, path, strerror(-fd));
-    answer = read_answer(own->process, fd, path);
+    answer = read_whole_answer(own->process, fd, path);
     if (answer) answer[strcspn(answer, "\n")] = 0;
     return answer;
 }
@@ -164,7 +164,7 @@ static char *tell_order(struct asking *own, const char *path, const char *what) 
 static const char *find_daemon(struct asking *own) {
     const char *found = NULL;
     EACH_DAEMON(it, own) {
-        CLOSED_FILE int fd = ask(it->path, "");
+        CLOSED_FILE int fd = ask_socket(it->path, "");
         if (fd == -EACCES) own->denied = it->path;
         if (fd < 0) continue;
         if (found) stop(WRONG_WORD, "more than one lagd is here: give the folder of one by --folder", own->options->folder);
@@ -182,7 +182,7 @@ static int order_daemon(struct asking *own) {
         char *answer = tell_order(own, path, what);
         if (!answer) return REFUSED;
         waits = strncmp(answer, "wait: ", 6) == 0;
-        if (!waits) print(answer, strlen(answer));
+        if (!waits) print_shown(answer, strlen(answer));
         free(answer);
         if (waits && strcmp(what, "remove") == 0) what = "removed"; /* another one may add it anew meanwhile */
         if (waits) (void)poll(NULL, 0, NIW_TICK_MILLISECONDS);
@@ -209,6 +209,6 @@ int ask_daemons(struct process *process, struct report *report, const struct opt
         print_who_answers(&own);
     } else
         EACH_DAEMON(it, &own)
-            if (it->answer) print(it->answer, strlen(it->answer));
+            if (it->answer) print_shown(it->answer, strlen(it->answer));
     return fflush(stdout) == 0 ? DONE : REFUSED;
 }

@@ -9,7 +9,7 @@
 #define TCX_EGRESS 47
 
 /* Where a table of `count` values of `size` octets is in this program, or NULL, and errno. */
-static void *show_map(uint32_t size, uint32_t count, int map) {
+static void *map_values(uint32_t size, uint32_t count, int map) {
     size_t page = (size_t)sysconf(_SC_PAGESIZE), length = ((size_t)size * count + page - 1) / page * page;
     void *at = map < 0 ? MAP_FAILED : mmap(NULL, length, PROT_READ | PROT_WRITE, MAP_SHARED, map, 0);
     return at == MAP_FAILED ? NULL : at;
@@ -19,7 +19,7 @@ static void *show_map(uint32_t size, uint32_t count, int map) {
 void *make_map(uint32_t size, uint32_t count, int *map) {
     const struct bpf_map_create_opts options = {.sz = sizeof options, .map_flags = BPF_F_MMAPABLE};
     *map = bpf_map_create(BPF_MAP_TYPE_ARRAY, NULL, sizeof(uint32_t), size, count, &options);
-    return show_map(size, count, *map);
+    return map_values(size, count, *map);
 }
 
 /* Takes a table of the last daemon, if it is such a one; answers where it is here, or NULL. */
@@ -29,7 +29,7 @@ void *map_again(uint32_t size, uint32_t count, int map) {
     if (bpf_obj_get_info_by_fd(map, &told, &room) != 0) return NULL;
     if (told.type != BPF_MAP_TYPE_ARRAY || told.value_size != size || told.max_entries != count || !(told.map_flags & BPF_F_MMAPABLE))
         return NULL;
-    return show_map(size, count, map);
+    return map_values(size, count, map);
 }
 
 /* Has a program run for what an interface sends, or for what it receives, as long as what it answers is open; or -errno. */

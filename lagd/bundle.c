@@ -7,8 +7,8 @@
 #include <sys/prctl.h>
 
 /* Starts a program in a session of its own, which has no signal blocked or ignored, reads nothing, and prints to standard error. It has the timer
- * slack that the daemon was started with: a child inherits what holds at its start. Answers 0, or errno. */
-static int start(const char *path, char *const *environment) {
+ * slack that the daemon was started with: a child inherits what holds at its start. Answers 0, or -errno. */
+static int start_program(const char *path, char *const *environment) {
     char *words[] = {(char *)(uintptr_t)path, NULL};
     posix_spawnattr_t attributes;
     posix_spawn_file_actions_t files;
@@ -28,36 +28,37 @@ static int start(const char *path, char *const *environment) {
     (void)prctl(PR_SET_TIMERSLACK, TIMER_SLACK);
     posix_spawn_file_actions_destroy(&files);
     posix_spawnattr_destroy(&attributes);
-    return fault;
+    return -fault;
 }
 
 /* Runs the program. Nobody waits for it. */
-static void run_hook(struct protocol *protocol, const char *path, enum bundle_state before) {
+static void run_hook(struct process *process, const struct bundle *now, enum bundle_state before) {
     char name[NAME_ROOM + 16], state[32], previous[32], links_text[32], carrying[32], aggregator[32];
     char *environment[] = {"PATH=/usr/sbin:/usr/bin:/sbin:/bin", name, state, previous, links_text, carrying, aggregator, NULL};
-    snprintf(name, sizeof name, "LAGD_BUNDLE=%s", protocol->settings->name);
-    snprintf(state, sizeof state, "LAGD_STATE=%s", BUNDLE_STATE_TEXTS[protocol->bundle.state]);
+    snprintf(name, sizeof name, "LAGD_BUNDLE=%s", process->settings->name);
+    snprintf(state, sizeof state, "LAGD_STATE=%s", BUNDLE_STATE_TEXTS[now->state]);
     snprintf(previous, sizeof previous, "LAGD_PREVIOUS=%s", BUNDLE_STATE_TEXTS[before]);
-    snprintf(links_text, sizeof links_text, "LAGD_LINKS=%u", protocol->bundle.links);
-    snprintf(carrying, sizeof carrying, "LAGD_CARRYING=%u", protocol->bundle.carrying);
-    snprintf(aggregator, sizeof aggregator, "LAGD_AGGREGATOR=%u", protocol->bundle.aggregator);
-    int fault = start(path, environment);
-    if (fault) (void)say(protocol->process, LOG_WARNING | ABOUT_HOOK, "hook %s: %s", path, strerror(fault));
+    snprintf(links_text, sizeof links_text, "LAGD_LINKS=%u", now->links);
+    snprintf(carrying, sizeof carrying, "LAGD_CARRYING=%u", now->carrying);
+    snprintf(aggregator, sizeof aggregator, "LAGD_AGGREGATOR=%u", now->aggregator);
+    int fault = start_program(process->settings->hook, environment);
+    if (fault < 0) (void)say(process, LOG_WARNING | ABOUT_HOOK, "hook %s: %s", process->settings->hook, strerror(-fault));
 }
 
-static void enter(struct protocol *protocol, const struct bundle *now) {
-    enum bundle_state before = protocol->bundle.state;
-    protocol->bundle = *now;
+static void enter_state(struct process *process, struct bundle *own, const struct bundle *now, const struct control *control) {
+    const struct settings *settings = process->settings;
+    enum bundle_state before = own->state;
+    *own = *now;
     if (now->state != before) {
-        protocol->bundle.changed_at = time(NULL);
-        protocol->bundle.counts[now->state]++;
+        own->changed_at = time(NULL);
+        own->counts[now->state]++;
     }
-    (void)say(protocol->process, (now->state == BUNDLE_UP ? LOG_NOTICE : LOG_WARNING) | ABOUT_BUNDLE,
-        "bundle %s: %s, %u of %u links carry, aggregator %u", protocol->settings->name, BUNDLE_STATE_TEXTS[now->state], now->carrying, now->links,
+    (void)say(process, (now->state == BUNDLE_UP ? LOG_NOTICE : LOG_WARNING) | ABOUT_BUNDLE,
+        "bundle %s: %s, %u of %u links carry, aggregator %u", settings->name, BUNDLE_STATE_TEXTS[now->state], now->carrying, now->links,
         now->aggregator);
-    tell_watchers_of(protocol->control, NULL);
-    notify_bundle(&protocol->bundle, "");
-    if (now->state != before && protocol->settings->hook[0]) run_hook(protocol, protocol->settings->hook, before);
+    tell_watchers_of(process, control, NULL);
+    notify_bundle(own, "");
+    if (now->state != before && settings->hook[0]) run_hook(process, own, before);
 }
 
 /* Looks at the ports, and tells what became of the bundle. What changes too often is told later, but not that its device is down. */
@@ -74,12 +75,12 @@ void look_at_bundle(struct protocol *protocol) {
     if (now.changed_at == 0) now.changed_at = time(NULL);
     now.reported = true;
     if (now.lines > 0) now.lines--;
-    enter(protocol, &now);
+    enter_state(protocol->process, &protocol->bundle, &now, protocol->control);
 }
 
-void end_bundle(struct protocol *protocol) {
-    struct bundle now = protocol->bundle;
+void end_bundle(struct process *process, struct bundle *own, const struct control *control) {
+    struct bundle now = *own;
     now.state = BUNDLE_DOWN;
     now.aggregator = now.carrying = 0;
-    if (protocol->bundle.state != BUNDLE_DOWN) enter(protocol, &now);
+    if (own->state != BUNDLE_DOWN) enter_state(process, own, &now, control);
 }

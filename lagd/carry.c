@@ -9,18 +9,18 @@
 #define LAST_WAKE 300
 
 /* Writes what a conversation of an aggregator is doing; answers whether the library told it. */
-bool ask_state(struct protocol *protocol, uint16_t aggregator, uint16_t number, struct niw_assignment *state) {
-    *state = niw_conversation_state(&protocol->own_system, aggregator, number);
-    return is_done(protocol->process, state->status, "niw_conversation_state");
+bool ask_state(struct process *process, struct niw_system *system, uint16_t aggregator, uint16_t number, struct niw_assignment *state) {
+    *state = niw_conversation_state(system, aggregator, number);
+    return is_done(process, state->status, "niw_conversation_state");
 }
 
 /* Writes the port of each conversation of an aggregator: 0 where it is free or held there, or there is no aggregator. Answers whether the
  * library told them. */
-bool ask_ports(struct protocol *protocol, uint16_t aggregator, uint16_t *ports) {
+bool ask_ports(struct process *process, struct niw_system *system, uint16_t aggregator, uint16_t *ports) {
     bool changed[CONVERSATIONS] = {false};
     memset(ports, 0, CONVERSATIONS * sizeof *ports);
     return aggregator == 0
-        || is_done(protocol->process, niw_conversation_ports(&protocol->own_system, aggregator, ports, CONVERSATIONS, changed, CONVERSATIONS).status,
+        || is_done(process, niw_conversation_ports(system, aggregator, ports, CONVERSATIONS, changed, CONVERSATIONS).status,
             "niw_conversation_ports");
 }
 
@@ -74,7 +74,7 @@ void choose_ports(struct plane *plane) {
     struct carry *carry = plane->carry;
     struct bundle now = {0};
     uint16_t before = carry->active;
-    read_views(carry->protocol);
+    read_views(carry->process, &carry->protocol->own_system, carry->ports);
     choose_aggregator(carry->protocol, &now);
     carry->active = now.carrying >= carry->settings->min_links ? now.aggregator : 0;
     note_active_ports(carry, false);
@@ -102,7 +102,7 @@ void leave_previous(struct carry *carry) {
     uint16_t ports[CONVERSATIONS];
     if (carry->active == 0 || carry->active == left) return;
     carry->previous = carry->active;
-    if (!ask_ports(carry->protocol, left, ports)) return;
+    if (!ask_ports(carry->process, &carry->protocol->own_system, left, ports)) return;
     for (uint16_t number = 0; number < CONVERSATIONS; number++) {
         uint32_t status = ports[number] == 0 ? NIW_OK : niw_leave_conversation(&carry->protocol->own_system, left, number);
         if (status != NIW_MARKERS_SPENT && !is_done(carry->process, status, "niw_leave_conversation")) return;
@@ -146,7 +146,7 @@ static void wake_sleeper(struct carry *carry, const struct link *link) {
 void begin_carry_tick(struct carry *carry) {
     carry->time = milliseconds();
     pass_tap_tick(carry->device);
-    pass_announcing_tick(carry);
+    pass_announcing_tick(carry->process, &carry->announce, carry->device);
 }
 
 void end_carry_tick(struct carry *carry) {

@@ -54,7 +54,7 @@ static bool take_up_or_end(struct protocol *protocol, struct link *link, const s
     memcpy(link->discipline, interface->discipline, sizeof link->discipline);
     if (interface->has_mac) memcpy(link->mac, interface->mac, sizeof link->mac);
     link->stacked = is_stacked(interface);
-    if (open_link(protocol->process, protocol->plane, link, interface->index)) {
+    if (take_up_interface(protocol->process, protocol->plane, link, interface->index)) {
         link->kernel_losses = interface->losses;
         link->puts_in = false;
         return true;
@@ -123,7 +123,7 @@ static void follow_present(struct protocol *protocol, const struct interface *in
     }
     EACH_LINK(link, protocol->ports) {
         bool named = is_named(interface, link->name), same = link->socket >= 0 && link->index == interface->index;
-        named = named || (same && accept_name(protocol, link, interface));
+        named = named || (same && take_new_name(protocol, link, interface));
         if (link->socket >= 0 && (same != named || (same && !is_bound(link->socket, link->index)))) lose_interface(protocol, link);
         if (same && link->socket >= 0 && !ASK(protocol->plane->carrying->see_port, true, protocol->plane, link, interface->master)) {
             tell_taken_out(protocol, link);
@@ -147,14 +147,14 @@ static void follow_absent(struct protocol *protocol, const struct interface *int
 }
 
 /* Queueing disciplines came or went. Which one an interface has now is asked: of its usual one the kernel does not tell. */
-static void note_discipline(struct protocol *protocol, const struct tcmsg *info) {
-    bool ours = info->tcm_ifindex == protocol->device->index;
-    EACH_LINK(link, protocol->ports) {
+static void note_discipline(struct changes *own, struct ports *ports, int device, const struct tcmsg *info) {
+    bool ours = info->tcm_ifindex == device;
+    EACH_LINK(link, ports) {
         if (link->socket < 0 || link->index != info->tcm_ifindex) continue;
         link->has_new_queues = true;
         ours = true;
     }
-    if (ours && info->tcm_parent == TC_H_ROOT) (void)ask_for(&protocol->changes, info->tcm_ifindex, 0);
+    if (ours && info->tcm_parent == TC_H_ROOT) (void)ask_for(own, info->tcm_ifindex, 0);
 }
 
 /* The answer to the last question has ended. What a whole one did not name is gone. One that ends with an error ends the program at
@@ -180,7 +180,8 @@ static void parse_change(struct protocol *protocol, const struct nlmsghdr *messa
     bool answers = own->asking && message->nlmsg_seq == own->asked && message->nlmsg_pid == mnl_socket_get_portid(own->route);
     if (answers && (message->nlmsg_flags & NLM_F_DUMP_INTR)) own->interrupted = true;
     if (answers && (type == NLMSG_DONE || type == NLMSG_ERROR)) end_answer(protocol, error_of(message));
-    if ((type == RTM_NEWQDISC || type == RTM_DELQDISC) && length >= sizeof *discipline) note_discipline(protocol, discipline);
+    if ((type == RTM_NEWQDISC || type == RTM_DELQDISC) && length >= sizeof *discipline)
+        note_discipline(own, protocol->ports, protocol->device->index, discipline);
     if ((type != RTM_NEWLINK && type != RTM_DELLINK) || length < sizeof *info || info->ifi_family != AF_UNSPEC) return;
     struct interface interface = read_interface(message);
     if (type == RTM_NEWLINK && interface.name[0]) follow_present(protocol, &interface);
@@ -219,19 +220,17 @@ void receive_changes(struct protocol *protocol) {
 }
 
 /* Asks for all interfaces again, where something was missed, or could not be taken up; once a second. */
-void watch_changes(struct protocol *protocol) {
-    struct changes *own = &protocol->changes;
+void watch_changes(struct changes *own, struct ports *ports) {
     if (!own->ask_again || own->asking) return;
-    EACH_LINK(link, protocol->ports) link->present = false;
+    EACH_LINK(link, ports) link->present = false;
     own->tap_named = own->ask_again = own->interrupted = false;
     own->asking = ask_for(own, 0, ++own->asked);
-    if (!own->asking && !protocol->process->has_started) stop(REFUSED, "the kernel takes no question", strerror(errno));
 }
 
 /* Interfaces are to be taken up as soon as can be. */
-void ask_now(struct protocol *protocol) {
-    protocol->changes.ask_again = true;
-    watch_changes(protocol);
+void ask_now(struct changes *own, struct ports *ports) {
+    own->ask_again = true;
+    watch_changes(own, ports);
 }
 
 void ask_links(struct changes *own, const struct ports *ports) {
@@ -259,7 +258,8 @@ int open_changes(struct protocol *protocol) {
     own->route = mnl_socket_open2(NETLINK_ROUTE, SOCK_NONBLOCK | SOCK_CLOEXEC);
     if (!own->route || mnl_socket_bind(own->route, RTMGRP_LINK | RTMGRP_TC, MNL_SOCKET_AUTOPID) < 0)
         stop(REFUSED, "no changes of interfaces", strerror(errno));
-    for (ask_now(protocol); own->asking || own->ask_again; watch_changes(protocol)) {
+    for (ask_now(own, protocol->ports); own->asking || own->ask_again; watch_changes(own, protocol->ports)) {
+        if (!own->asking) stop(REFUSED, "the kernel takes no question", strerror(errno));
         if (poll(&(struct pollfd){mnl_socket_get_fd(own->route), POLLIN, 0}, 1, PATIENCE) != 1) stop(REFUSED, "no answer", "interfaces");
         if (own->asked > MOST_ASKED) stop(REFUSED, "no whole answer", "interfaces");
         receive_changes(protocol);

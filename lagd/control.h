@@ -10,6 +10,8 @@
 struct report {
     char text[REPORT_ROOM];
     size_t length;
+    uint32_t refusal; /* the status of the first call that the library refused, or NIW_OK; */
+    const char *refused; /* and that call: what it refuses to tell is not told half */
 };
 
 /* What is told of a daemon, and what is done for who asks. */
@@ -23,7 +25,7 @@ struct control {
 void read_options(struct process *process, int argc, char **argv, struct options *options);
 
 /* possible.c */
-int check_machine(struct control *control, const struct options *options);
+int check_machine(struct process *process, struct plane *plane, const struct options *options);
 int tell_lack(struct process *process, const struct options *options, const char *key, const char *what, int status);
 int check_programs(struct process *process, const struct options *options, const char *key, bool waits);
 
@@ -31,25 +33,26 @@ int check_programs(struct process *process, const struct options *options, const
 void serve_caller(struct control *control, uint32_t caller);
 
 /* carry_show.c */
-void show_carry(struct control *control, enum form form);
-void show_member(struct control *control, const struct link *link, enum form form);
-void show_markers(struct control *control);
-void show_queues(struct control *control, const struct link *link, enum form form);
-void show_frames_waiting(struct control *control, enum form form);
-void show_waiting_buckets(struct control *control, enum form form);
+void show_carry(struct report *report, const struct control *control, enum form form);
+void show_member(struct report *report, const struct control *control, const struct link *link, enum form form);
+void show_markers(struct report *report, const struct control *control);
+void show_queues(struct report *report, const struct control *control, const struct link *link, enum form form);
+void show_frames_waiting(struct report *report, const struct control *control, enum form form);
+void show_waiting_buckets(struct report *report, const struct control *control, enum form form);
 
 /* show.c, metrics.c */
 void add(struct report *report, const char *format, ...) __attribute__((format(printf, 2, 3)));
 void add_string(struct report *report, const char *text);
-void write_text(struct control *control);
-void write_config(struct control *control);
-void write_json(struct control *control);
-void write_json_event(struct control *control, const struct link *link);
-void write_metrics(struct control *control);
+bool note_answer(struct report *report, uint32_t status, const char *call);
+void write_text(struct report *report, const struct control *control);
+void write_config(struct report *report, const struct control *control);
+void write_json(struct report *report, const struct control *control);
+void write_json_event(struct report *report, const struct control *control, const struct link *link);
+void write_metrics(struct report *report, const struct control *control);
 void add_head(struct report *report, const char *name, const char *kind, const char *help);
-void add_bundle_value(struct control *control, const char *name, const char *kind, const char *help, uint64_t value);
+void add_bundle_value(struct report *report, const char *bundle, const char *name, const char *kind, const char *help, uint64_t value);
 void add_value_of(struct report *report, const char *name, const char *bundle, uint64_t value);
-void add_port_value(struct control *control, const char *name, const struct link *link, uint64_t value);
+void add_port_value(struct report *report, const char *bundle, const char *name, const struct link *link, uint64_t value);
 
 /* asking.c */
 int ask_daemons(struct process *process, struct report *report, const struct options *options);

@@ -154,7 +154,7 @@ static void set_up(struct device *own, const uint8_t *mac) {
 }
 
 /* Takes the device that the last daemon left with the manager of services, whatever an administrator named it since; answers whether there is one. */
-static bool take_stored(struct device *own, const char *name) {
+static bool take_stored_tap(struct device *own, const char *name) {
     const struct inherited *inherited = own->process->inherited;
     struct ifreq device = {0};
     int fd = claim_stored(&own->process->store, "tap", 0);
@@ -197,7 +197,7 @@ int open_tap(struct device *own, const char *name, const uint8_t *mac) {
     if (own->asker < 0) stop(REFUSED, "no TAP device", strerror(errno));
     const struct inherited *inherited = own->process->inherited;
     uint8_t scrap[ETH_HLEN];
-    bool was_stored = take_stored(own, name), goes_on = was_stored ? own->index == inherited->tap : make_tap(own, name);
+    bool was_stored = take_stored_tap(own, name), goes_on = was_stored ? own->index == inherited->tap : make_tap(own, name);
     own->carrier = true; /* which older kernels set of a device that is made */
     if (!was_stored || !goes_on || !own->process->resuming) set_carrier(own, false);
     bool is_old = was_stored && !was_away_briefly(inherited);

@@ -24,7 +24,7 @@ struct reading {
 };
 
 /* In the line that was read last. */
-static void expect(struct reading *reading, const char *expected, const char *found) {
+static void note_fault(struct reading *reading, const char *expected, const char *found) {
     reading->faults++;
     complain(reading->process, "%s:%u: expected %s: %s", reading->path, reading->line, expected, found);
 }
@@ -35,7 +35,7 @@ static void parse_section(struct reading *reading, const char *line) {
     bool is_bundle = strcmp(line, "[Bundle]") == 0, is_port = end && !end[1] && strncmp(line, "[Port ", 6) == 0;
     if (is_bundle) fault = reading->has_bundle ? "one section [Bundle]" : NULL;
     if (is_port) fault = add_port(reading->settings, line + 6, (size_t)(end - line) - 6);
-    if (fault) expect(reading, fault, line);
+    if (fault) note_fault(reading, fault, line);
     reading->section = fault ? WRONG_SECTION : is_port ? PORT_SECTION : BUNDLE_SECTION;
     reading->has_bundle = reading->has_bundle || is_bundle;
 }
@@ -61,7 +61,7 @@ static char *next_line(char *into, int room, void *given) {
         reading->line++;
         while (got > 0 && (line[got - 1] == '\n' || line[got - 1] == '\r' || line[got - 1] == ' ')) line[--got] = 0;
         fault = fault_of(line, (size_t)got);
-        if (fault) expect(reading, fault, line);
+        if (fault) note_fault(reading, fault, line);
         if (!fault && line[0] == '[') parse_section(reading, line);
         snprintf(into, (size_t)room, "%s\n", fault || line[0] == '[' ? "" : line);
     }
@@ -84,7 +84,7 @@ static int parse_pair(void *given, const char *section UNUSED, const char *name,
     if (expected) {
         char found[2 * LONGEST_FILE_LINE];
         snprintf(found, sizeof found, "%s=%s", name, value);
-        expect(reading, expected, found);
+        note_fault(reading, expected, found);
     }
     return expected == NULL;
 }
@@ -109,17 +109,17 @@ static FILE *open_file(struct process *process, const char *path) {
 }
 
 /* Looks at what only all lines say together; answers whether that is right. */
-bool look_at_all(struct process *process, const char *path, const struct settings *settings) {
+bool check_whole_bundle(struct process *process, const char *path, const struct settings *settings) {
     struct lack lack = lack_of(settings);
     if (lack.key)
-        complain(process, "%s:%u: expected %s: %s", path, line_of(settings, lack.key), lack.expected, lack.key);
+        complain(process, "%s:%u: expected %s: %s", path, line_of_key(settings, lack.key), lack.expected, lack.key);
     else if (lack.expected)
         complain(process, "%s: expected %s", path, lack.expected);
     return !lack.expected;
 }
 
 /* Reads a file; answers whether it is right. There is a line for each fault. */
-bool read_file(struct process *process, const char *path, struct settings *wanted) {
+bool read_bundle_file(struct process *process, const char *path, struct settings *wanted) {
     CLOSED_STREAM FILE *file = open_file(process, path);
     struct reading reading = {.process = process, .file = file, .path = path, .settings = wanted};
     *wanted = usual_settings();
@@ -128,5 +128,5 @@ bool read_file(struct process *process, const char *path, struct settings *wante
     ini_allow_multiline = false;
     ini_allow_inline_comments = false;
     (void)ini_parse_stream(next_line, &reading, parse_pair, &reading);
-    return reading.faults == 0 && look_at_all(process, path, wanted);
+    return reading.faults == 0 && check_whole_bundle(process, path, wanted);
 }

@@ -14,10 +14,6 @@
 
 static const uint8_t GROUP[6] = {0x01, 0x80, 0xc2, 0x00, 0x00, 0x02};
 
-static bool is_same_system(const struct system_id *one, const struct system_id *other) {
-    return one->priority == other->priority && memcmp(one->mac, other->mac, sizeof one->mac) == 0;
-}
-
 /* The system that an LACPDU names as its actor; answers whether the frame is one. */
 static bool actor_of(const struct arrival *arrival, struct system_id *actor) {
     const uint8_t *at = arrival->frame + ACTOR_SYSTEM;
@@ -70,7 +66,9 @@ static void hand_over(struct protocol *protocol, struct link *link, const struct
         return;
     if (received.what == NIW_RECEIVED_TOOK_LACPDU && actor) note_actor(protocol->settings, link, actor, arrival->frame);
     if (received.what != NIW_RECEIVED_RESPOND) return;
-    if (!spend_answer(protocol->settings, protocol->plane, link, arrival) || !protocol->plane->queueing->answer(protocol->plane->tap, link, response))
+    const struct queueing *queueing = protocol->plane->queueing;
+    const unsigned most = protocol->settings->marker_responses * queueing->markers_at_once;
+    if (!spend_answer(link, arrival, most) || !queueing->answer(protocol->plane->tap, link, response))
         note_odd_marker(link, arrival, RESPONSES_UNSENT);
 }
 

@@ -5,29 +5,24 @@
 /* How many ticks peers are told at most. Where three LACPDUs went within a second, the next one waits. */
 #define MOST_TICKS 15
 
-static void hold_or_release_ports(struct protocol *protocol) {
-    EACH_LINK_AS_IS(link, protocol->ports)
-        if (!apply_hold(protocol, link)) return;
-}
-
 static void fall_silent(struct protocol *protocol) {
     protocol->halt.silent = true;
     EACH_LINK(link, protocol->ports) set_link(protocol, link, false);
 }
 
 /* Tells each peer that its port is out of use, and then nothing more. */
-static void begin_halt(struct protocol *protocol) {
+static void tell_peers_of_halt(struct protocol *protocol) {
     EACH_LINK(link, protocol->ports) expect_lacpdu(link);
-    hold_or_release_ports(protocol);
+    apply_holds(protocol->process, &protocol->own_system, protocol->ports, protocol->halt.down);
     send_due(protocol);
-    read_views(protocol);
+    read_views(protocol->process, &protocol->own_system, protocol->ports);
     protocol->halt.ticks = 0;
     if (end_is_told(protocol->ports)) fall_silent(protocol);
 }
 
 /* The ports go on as new ones, once the kernel told of their interfaces. */
 static void end_halt(struct protocol *protocol) {
-    hold_or_release_ports(protocol);
+    apply_holds(protocol->process, &protocol->own_system, protocol->ports, protocol->halt.down);
     protocol->halt.silent = false;
     ask_links(&protocol->changes, protocol->ports);
 }
@@ -44,15 +39,15 @@ void follow_device(struct protocol *protocol, bool up) {
     if (up)
         end_halt(protocol);
     else
-        begin_halt(protocol);
+        tell_peers_of_halt(protocol);
     protocol->plane->changed = true;
     look_at_bundle(protocol);
 }
 
 /* The device was opened. Where no port goes on, no peer has to be told. */
-void start_halt(struct protocol *protocol) {
-    protocol->halt.down = protocol->device->index != 0 && !is_tap_up(protocol->device);
-    protocol->halt.silent = protocol->halt.down && !protocol->process->resuming;
+void note_halt_at_start(struct halt *own, const struct device *device, bool resuming) {
+    own->down = device->index != 0 && !is_tap_up(device);
+    own->silent = own->down && !resuming;
 }
 
 /* The ports of the last daemon went on. */
@@ -60,7 +55,7 @@ void halt_if_down(struct protocol *protocol) {
     if (protocol->halt.down)
         (void)say(protocol->process, LOG_NOTICE | ABOUT_CARRIER, "carry %s: the device is down: LACP begins once it is up",
             protocol->settings->carry);
-    if (protocol->halt.down && !protocol->halt.silent) begin_halt(protocol);
+    if (protocol->halt.down && !protocol->halt.silent) tell_peers_of_halt(protocol);
     if (!protocol->halt.down && protocol->halt.silent) end_halt(protocol);
 }
 

@@ -34,11 +34,10 @@ uint16_t free_key(const struct keys *own, const struct ports *ports, uint16_t be
 }
 
 /* Chooses how many speeds of one key have aggregators, by how many ports there are, and how many ports there may be. */
-void choose_slots(struct protocol *protocol) {
-    struct keys *own = &protocol->keys;
-    uint16_t fit = (uint16_t)(NIW_MOST_PORTS / (protocol->settings->port_count > 0 ? protocol->settings->port_count : 1));
-    own->speeds = !protocol->settings->key_by_speed ? 1 : fit < MOST_SPEEDS ? fit : MOST_SPEEDS;
-    protocol->ports->slots = (uint16_t)(NIW_MOST_PORTS / own->speeds);
+void choose_slots(struct keys *own, struct ports *ports, const struct settings *settings) {
+    uint16_t fit = (uint16_t)(NIW_MOST_PORTS / (settings->port_count > 0 ? settings->port_count : 1));
+    own->speeds = !settings->key_by_speed ? 1 : fit < MOST_SPEEDS ? fit : MOST_SPEEDS;
+    ports->slots = (uint16_t)(NIW_MOST_PORTS / own->speeds);
 }
 
 /* A key of aggregators, for ports to which this one was given: the first one is that one itself. */
@@ -53,17 +52,18 @@ static void add_key(struct keys *own, uint16_t given, uint16_t key) {
 }
 
 /* Makes the keys of the aggregators: in the order of ports, of which those that are to come have the key of the bundle, one of the key of each,
- * and then as many of each further key that a speed may have. */
-void make_keys(struct protocol *protocol, uint16_t keys[static NIW_MOST_PORTS]) {
-    struct keys *own = &protocol->keys;
-    for (uint16_t i = 0; i < protocol->ports->slots; i++)
-        if (!has_aggregator(own, protocol->ports->links[i].key)) add_key(own, protocol->ports->links[i].key, protocol->ports->links[i].key);
+ * and then as many of each further key that a speed may have; answers how many. */
+uint16_t make_keys(struct keys *own, const struct ports *ports, uint16_t keys[static NIW_MOST_PORTS]) {
+    uint16_t count = 0;
+    for (uint16_t i = 0; i < ports->slots; i++)
+        if (!has_aggregator(own, ports->links[i].key)) add_key(own, ports->links[i].key, ports->links[i].key);
     for (uint16_t i = 0, given = own->known_count; i < given; i++)
         for (uint16_t speed = 1; speed < own->speeds; speed++)
-            add_key(own, own->known[i].given, free_key(own, protocol->ports, own->known[i].key, NULL));
+            add_key(own, own->known[i].given, free_key(own, ports, own->known[i].key, NULL));
     for (uint16_t speed = 0; speed < own->speeds; speed++)
-        for (uint16_t port = 0; port < protocol->ports->slots; port++)
-            keys[protocol->aggregator_count++] = key_for(own, protocol->ports->links[port].key, speed);
+        for (uint16_t port = 0; port < ports->slots; port++)
+            keys[count++] = key_for(own, ports->links[port].key, speed);
+    return count;
 }
 
 static bool is_same_speed(const struct speed *one, const struct speed *other) {
@@ -77,17 +77,16 @@ static bool is_in_use(const struct ports *ports, const struct speed_key *key) {
 }
 
 /* Chooses the key of a port: that of its speed, else one whose speed no port has any more, else one without an aggregator. */
-uint16_t choose_key(struct protocol *protocol, const struct link *link) {
-    struct keys *own = &protocol->keys;
+uint16_t choose_key(struct keys *own, const struct ports *ports, const struct settings *settings, const struct link *link) {
     struct speed_key *unused = NULL;
-    if (!protocol->settings->key_by_speed || !link->has_speed) return link->key;
+    if (!settings->key_by_speed || !link->has_speed) return link->key;
     for (uint16_t i = 0; i < own->known_count; i++) {
         struct speed_key *key = &own->known[i];
         if (key->given != link->key) continue;
         if (key->used && is_same_speed(&key->speed, &link->speed)) return key->key;
-        if (!unused && !is_in_use(protocol->ports, key)) unused = key;
+        if (!unused && !is_in_use(ports, key)) unused = key;
     }
-    if (!unused) return free_key(own, protocol->ports, link->key, link);
+    if (!unused) return free_key(own, ports, link->key, link);
     unused->used = true;
     unused->speed = link->speed;
     return unused->key;
@@ -146,7 +145,7 @@ void apply_speed(struct protocol *protocol, struct link *link) {
     link->has_speed = protocol->plane->changed = true;
     link->speed = now;
     if (!by_speed) return;
-    change.key = choose_key(protocol, link);
+    change.key = choose_key(&protocol->keys, protocol->ports, protocol->settings, link);
     if (is_done(protocol->process, niw_configure(&protocol->own_system, link->settings.number, &change).status, "niw_configure"))
         link->settings.key = change.key;
 }

@@ -185,6 +185,7 @@ struct options {
 struct status {
     struct caller {
         int fd; /* -1: none */
+        uint32_t tag; /* by which the loop knows it */
         uid_t user;
         unsigned ticks; /* that are left for the question */
         bool watches, json;
@@ -279,11 +280,10 @@ struct protocol {
     struct ports *ports;
     struct device *device;
     struct plane *plane;     /* what carries the data */
-    struct control *control; /* who is told of changes */
+    const struct control *control; /* who is told of changes */
     struct niw_system own_system;
     uint16_t aggregator_count;
     struct bundle bundle;
-    uint64_t resumed_at; /* when it went on from the last daemon, in milliseconds of CLOCK_BOOTTIME as that one had it */
     uint64_t began; /* in milliseconds */
     uint64_t ticks; /* since then */
     uint16_t aggregator_keys[NIW_MOST_PORTS];
@@ -302,6 +302,16 @@ struct protocol {
     struct protocol *protocol; \
     struct device *device; \
     struct plane *plane;
+
+static inline bool is_same_system(const struct system_id *one, const struct system_id *other) {
+    return one->priority == other->priority && memcmp(one->mac, other->mac, sizeof one->mac) == 0;
+}
+
+static inline struct system_id partner_of(const struct niw_view *view) {
+    struct system_id partner = {.priority = view->partner_priority};
+    memcpy(partner.mac, view->partner_mac, sizeof partner.mac);
+    return partner;
+}
 
 /* Room of zeros. There is no daemon without it. */
 static inline void *make_room(size_t octets) {
@@ -343,7 +353,7 @@ static inline void close_stream(FILE *const *stream) {
 const char *status_text(unsigned status);
 /* All counts of a port, by their places. */
 #define ALL_COUNTS ((unsigned)LIBRARY_COUNTS + COUNTS)
-struct count_text count_text(unsigned place);
+extern const struct count_text COUNT_TEXTS[ALL_COUNTS];
 uint64_t count_at(const struct link *link, unsigned place);
 extern const char *const BUNDLE_STATE_TEXTS[BUNDLE_STATES];
 const char *system_text(const struct system_id *system, char room[static 32]);
@@ -385,17 +395,17 @@ size_t escape(char *text, size_t room, const char *from, size_t length, bool lin
 void read_own_address(struct settings *settings);
 
 /* locks.c */
-int lock_interface(struct process *process, int index);
+int lock_interface(struct store *store, const struct inherited *inherited, int index);
 #define HOLDER_ROOM 64
 const char *holder_of(const struct ports *ports, int index, char room[static HOLDER_ROOM]);
 
 /* links.c */
-bool open_link(struct process *process, struct plane *plane, struct link *link, int index);
-void close_link(struct plane *plane, struct store *store, struct link *link);
+bool take_up_interface(struct process *process, struct plane *plane, struct link *link, int index);
+void release_interface(struct plane *plane, struct store *store, struct link *link);
 int open_in_sys(int index, const char *what, int flags);
 bool read_text(int fd, char *text, size_t room);
 bool see_new_carrier(struct link *link);
-void send_frame(struct protocol *protocol, struct link *link, const uint8_t *frame);
+void send_frame(struct process *process, struct changes *changes, struct link *link, const uint8_t *frame);
 
 /* frames.c */
 struct arrival {
@@ -419,13 +429,13 @@ void tell_strangers(struct process *process, uint64_t ticks, struct link *link);
 bool read_response(struct process *process, const struct arrival *arrival, struct niw_pdu *pdu);
 bool is_partners_response(const struct settings *settings, const struct link *link, const struct arrival *arrival, const struct niw_pdu *response);
 void note_odd_marker(struct link *link, const struct arrival *arrival, enum count count);
-bool spend_answer(const struct settings *settings, const struct plane *plane, struct link *link, const struct arrival *arrival);
+bool spend_answer(struct link *link, const struct arrival *arrival, unsigned most);
 void tell_markers(struct process *process, uint64_t ticks, struct link *link);
 
 #define MARKERS_AT_ONCE 16 /* how many come in the place of one, of a partner whose members have several queues, where ours have */
 
 /* twins.c */
-void look_for_twins(struct protocol *protocol);
+void look_for_twins(struct process *process, struct ports *ports);
 
 /* restore.c */
 bool choose_whether_restored(struct protocol *protocol, struct link *link);
@@ -442,18 +452,18 @@ void limit_links(struct protocol *protocol, uint16_t most);
 int open_changes(struct protocol *protocol);
 void receive_changes(struct protocol *protocol);
 void read_messages(struct protocol *protocol, const void *messages, size_t length);
-void watch_changes(struct protocol *protocol);
+void watch_changes(struct changes *own, struct ports *ports);
 void lose_member(struct protocol *protocol, struct link *link);
 void ask_links(struct changes *own, const struct ports *ports);
-void ask_now(struct protocol *protocol);
+void ask_now(struct changes *own, struct ports *ports);
 void watch_carriers(struct protocol *protocol, bool tick);
 
 /* keys.c */
-void choose_slots(struct protocol *protocol);
-void make_keys(struct protocol *protocol, uint16_t keys[static NIW_MOST_PORTS]);
+void choose_slots(struct keys *own, struct ports *ports, const struct settings *settings);
+uint16_t make_keys(struct keys *own, const struct ports *ports, uint16_t keys[static NIW_MOST_PORTS]);
 bool has_aggregator(const struct keys *own, uint16_t given);
 uint16_t free_key(const struct keys *own, const struct ports *ports, uint16_t behind, const struct link *but);
-uint16_t choose_key(struct protocol *protocol, const struct link *link);
+uint16_t choose_key(struct keys *own, const struct ports *ports, const struct settings *settings, const struct link *link);
 bool ask_driver(int index, void *value);
 struct speed read_speed(int socket, int index);
 bool write_speed(int socket, int index, uint32_t megabits);
@@ -463,15 +473,15 @@ const char *speed_text(const struct speed *speed, char room[static 40]);
 
 /* system.c */
 void make_system(struct protocol *protocol);
-size_t resume_system(struct protocol *protocol, struct niw_saved *saved, size_t count);
+size_t resume_system(struct process *process, struct niw_system *own, const struct protocol *protocol, struct niw_saved *saved, size_t count);
 void set_link(struct protocol *protocol, struct link *link, bool up);
-bool apply_hold(struct protocol *protocol, const struct link *link) MUST_USE;
-void hold_by_settings(struct protocol *protocol);
+bool apply_hold(struct process *process, struct niw_system *system, const struct link *link, bool down) MUST_USE;
+void apply_holds(struct process *process, struct niw_system *system, const struct ports *ports, bool down);
 void lose_link(struct protocol *protocol, struct link *link);
 void send_due(struct protocol *protocol);
 void settle_calls(struct protocol *protocol);
-void send_again(struct protocol *protocol);
-bool pass_system_tick(struct protocol *protocol);
+void send_again(struct process *process, struct changes *changes, struct ports *ports);
+bool pass_system_tick(struct process *process, struct niw_system *system, struct ports *ports);
 uint64_t seconds_since(uint64_t began);
 uint64_t milliseconds_of(clockid_t clock);
 uint64_t milliseconds(void);
@@ -483,10 +493,10 @@ bool end_system(struct protocol *protocol);
 /* membership.c */
 #define ORDER_ROOM 384
 uint16_t count_links(const struct ports *ports);
-bool place_ports(const struct protocol *protocol, struct settings *settings);
-void keep_left_ports(struct protocol *protocol);
+bool place_ports(const struct process *process, const struct ports *ports, struct settings *settings);
+void keep_left_ports(const struct inherited *inherited, struct ports *ports, struct settings *settings);
 void leave_left_ports(struct protocol *protocol);
-void begin_link(const struct settings *settings, struct ports *ports, uint16_t port);
+void begin_link(const struct settings *settings, struct link *link, uint16_t port);
 void join_port(struct protocol *protocol, struct link *link, const struct port_settings *settings);
 void leave_port(struct protocol *protocol, struct link *link);
 bool begin_hold(struct protocol *protocol, struct link *link);
@@ -497,19 +507,19 @@ bool may_put_in(const struct protocol *protocol, const struct link *link);
 bool note_whether_outside(const struct protocol *protocol, struct link *link, int master);
 void tell_taken_out(struct protocol *protocol, struct link *link);
 void follow_port(struct protocol *protocol, const struct interface *interface);
-bool accept_name(struct protocol *protocol, const struct link *link, const struct interface *interface);
+bool take_new_name(struct protocol *protocol, struct link *link, const struct interface *interface);
 void answer_order(struct protocol *protocol, char *order, char answer[static ORDER_ROOM]);
 
 /* halt.c */
 void follow_device(struct protocol *protocol, bool up);
-void start_halt(struct protocol *protocol);
+void note_halt_at_start(struct halt *own, const struct device *device, bool resuming);
 void halt_if_down(struct protocol *protocol);
 void pass_halt_tick(struct protocol *protocol);
 
 /* ports.c */
-void read_views(struct protocol *protocol);
-void print_all_changes(struct protocol *protocol);
-bool print_change(struct protocol *protocol, struct link *link);
+void read_views(struct process *process, struct niw_system *system, struct ports *ports);
+void print_all_changes(struct process *process, const struct protocol *protocol, struct ports *ports);
+bool print_change(struct process *process, const struct protocol *protocol, struct link *link);
 struct facts facts_of(const struct protocol *protocol, const struct link *link);
 bool carries(const struct protocol *protocol, const struct link *link);
 uint16_t count_away(const struct ports *ports);
@@ -531,7 +541,7 @@ bool is_as_good_as_any(struct protocol *protocol, uint16_t aggregator);
 
 /* bundle.c */
 void look_at_bundle(struct protocol *protocol);
-void end_bundle(struct protocol *protocol);
+void end_bundle(struct process *process, struct bundle *own, const struct control *control);
 
 /* reload.c */
 bool change_port(struct protocol *protocol, struct link *link, const struct settings *wanted);
@@ -561,7 +571,7 @@ uint32_t program_keeper(int attached);
 #define READY "READY=1\n"
 void notify(const char *what);
 void notify_bundle(const struct bundle *bundle, const char *what);
-void open_store(struct process *process);
+void receive_stored(struct process *process);
 bool has_store(void);
 void put_stored(const struct store *own, const char *kind, int number, int fd);
 int claim_stored(struct store *own, const char *kind, int number);
@@ -570,7 +580,7 @@ void drop_stored(struct store *own, const char *kind, int number);
 void close_stored(struct store *own, const char *kind, int number, int fd);
 void drop_unclaimed(struct store *own);
 bool is_bound(int fd, int index);
-int packet_socket(struct process *process, const char *kind, int of, int index, int type);
+int packet_socket(struct store *store, const struct inherited *inherited, const char *kind, int of, int index, int type);
 int attach_stored(struct store *own, const char *kind, int program, int index, bool egress);
 void detach_stored(struct store *own, const char *kind, int index, int attached);
 
@@ -599,17 +609,17 @@ const char *read_port(struct words *words, char *text, struct settings *settings
 /* status.c */
 #define REFUSAL "refused: " /* begins the answer to who has no place */
 void open_status(struct process *process, const char *folder);
-void accept_callers(struct process *process);
-void pass_tick_of_callers(struct process *process);
+void accept_callers(struct status *own, int epoll_file);
+void pass_tick_of_callers(struct status *own, int epoll_file);
 void tell_watchers(struct status *own, const char *text, size_t length, bool json);
-void tell_watchers_of(struct control *control, const struct link *link);
+void tell_watchers_of(struct process *process, const struct control *control, const struct link *link);
 
 /* state.c, resume.c */
 uint64_t boottime(void);
 uint32_t first_marker_left(const struct inherited *inherited);
 bool was_away_briefly(const struct inherited *inherited);
 bool lacpdu_holds(uint64_t now, uint64_t then, bool short_timeout);
-void begin_resuming(struct process *process);
+bool has_carried_links(const struct inherited *inherited);
 unsigned resume(struct protocol *protocol);
 void release_others(struct protocol *protocol);
 void resume_data(struct protocol *protocol, unsigned count);

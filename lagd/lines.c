@@ -88,17 +88,17 @@ bool is_told(struct process *process, struct niw_number answer, const char *call
     return is_done(process, answer.status, call);
 }
 
-/* Hands the journal a line of printable text of the bundle of this name, by its own protocol; answers 0, or errno. */
+/* Hands the journal a line of printable text of the bundle of this name, by its own protocol; answers 0, or -errno. */
 static int tell_journal(int *journal, const char *name, int level, const char *text) {
     static const struct sockaddr_un to = {.sun_family = AF_UNIX, .sun_path = "/run/systemd/journal/socket"};
     char entry[2048], bundle[4 * NAME_ROOM];
     const char *id = MESSAGE_IDS[(level & KINDS) / ABOUT_PORT];
     if (*journal < 0) *journal = socket(AF_UNIX, SOCK_DGRAM | SOCK_NONBLOCK | SOCK_CLOEXEC, 0);
-    if (*journal < 0) return errno;
+    if (*journal < 0) return last_fault();
     (void)escape(bundle, sizeof bundle, name, strlen(name), false);
     int used = snprintf(entry, sizeof entry, "MESSAGE=%s\nPRIORITY=%d\nSYSLOG_IDENTIFIER=lagd\nLAGD_BUNDLE=%s\n", text, level & LOG_PRIMASK, bundle);
     if (id) used += snprintf(entry + used, sizeof entry - (size_t)used, "MESSAGE_ID=%s\n", id);
-    return sendto(*journal, entry, (size_t)used, MSG_NOSIGNAL, (const struct sockaddr *)&to, sizeof to) == used ? 0 : errno;
+    return sendto(*journal, entry, (size_t)used, MSG_NOSIGNAL, (const struct sockaddr *)&to, sizeof to) == used ? 0 : last_fault();
 }
 
 /* Prints a text with the time, in UTC, or for the journal with its priority; watchers get it, too. Answers whether it was printed. */
@@ -110,7 +110,7 @@ static bool say_text(struct process *process, int level, const char *text) {
     if (!(level & WATCHED)) tell_watchers(&process->status, line, (size_t)used, false);
     if (in_journal()) {
         int fault = tell_journal(&process->journal, process->settings->name, level, text);
-        if (fault == 0 || fault == EAGAIN) return fault == 0; /* one that is elsewhere reads standard output */
+        if (fault == 0 || fault == -EAGAIN) return fault == 0; /* one that is elsewhere reads standard output */
         used = snprintf(line, sizeof line, "<%d>%s\n", level & LOG_PRIMASK, text);
     }
     return write_line(open_output(&process->output), line, (size_t)used);

@@ -13,10 +13,10 @@
 #define TROUBLE_TICKS 50
 
 /* A packet socket of an interface, for the frames of the slow protocols alone; or -errno. */
-static int open_socket(struct process *process, int index) {
+static int open_slow_socket(struct process *process, int index) {
     struct sockaddr_ll address = {.sll_family = AF_PACKET, .sll_protocol = htons(ETH_P_SLOW), .sll_ifindex = index};
     struct packet_mreq member = {index, PACKET_MR_MULTICAST, 6, {0x01, 0x80, 0xc2, 0x00, 0x00, 0x02}};
-    int opened = packet_socket(process, "lacp", index, index, SOCK_RAW);
+    int opened = packet_socket(&process->store, process->inherited, "lacp", index, index, SOCK_RAW);
     if (opened < 0) return opened;
     (void)setsockopt(opened, SOL_SOCKET, SO_PRIORITY, &(int){TC_PRIO_CONTROL}, sizeof(int)); /* before data */
     (void)setsockopt(opened, SOL_PACKET, PACKET_IGNORE_OUTGOING, &(int){1}, sizeof(int));
@@ -36,7 +36,7 @@ static bool is_passable(const char *discipline) {
 }
 
 /* Gives the kernel a frame, by its queueing discipline or by none; answers whether it took it. */
-static bool give(int fd, const uint8_t *frame, bool bypass) {
+static bool give_kernel(int fd, const uint8_t *frame, bool bypass) {
     (void)setsockopt(fd, SOL_PACKET, PACKET_QDISC_BYPASS, &(int){bypass}, sizeof(int));
     return send(fd, frame, NIW_FRAME, 0) == NIW_FRAME;
 }
@@ -48,9 +48,9 @@ static bool give(int fd, const uint8_t *frame, bool bypass) {
 static bool give_past_data(struct link *link, const uint8_t *frame) {
     int octets = 0;
     link->queued = link->queued && ioctl(link->socket, SIOCOUTQ, &octets) == 0 && octets > 0;
-    if (link->queued || (is_passable(link->discipline) && !link->has_fifos)) return give(link->socket, frame, false);
-    if (give(link->socket, frame, true)) return true;
-    link->queued = errno == ENOBUFS && give(link->socket, frame, false);
+    if (link->queued || (is_passable(link->discipline) && !link->has_fifos)) return give_kernel(link->socket, frame, false);
+    if (give_kernel(link->socket, frame, true)) return true;
+    link->queued = errno == ENOBUFS && give_kernel(link->socket, frame, false);
     return link->queued;
 }
 
@@ -81,7 +81,7 @@ bool see_new_carrier(struct link *link) {
     return true;
 }
 
-static void close_files(struct store *store, struct link *link) {
+static void close_files_of_link(struct store *store, struct link *link) {
     if (link->socket >= 0) close_stored(store, "lacp", link->index, link->socket);
     if (link->lock >= 0) close_stored(store, "lock", link->index, link->lock);
     if (link->carrier_file >= 0) close(link->carrier_file);
@@ -89,19 +89,19 @@ static void close_files(struct store *store, struct link *link) {
 }
 
 /* Opens what an interface that is taken up has; answers 0, or -errno. */
-static int open_files(struct process *process, struct plane *plane, struct link *link, int index) {
+static int open_files_of_link(struct process *process, struct plane *plane, struct link *link, int index) {
     link->index = index;
-    link->lock = lock_interface(process, index);
+    link->lock = lock_interface(&process->store, process->inherited, index);
     if (link->lock < 0) return link->lock;
-    link->socket = open_socket(process, index);
+    link->socket = open_slow_socket(process, index);
     if (link->socket < 0) return link->socket;
     if (!await_input(process->epoll_file, link->socket, link->settings.number)) return last_fault();
     return ASK(plane->carrying->add, 0, plane, link);
 }
 
 /* Takes up the interface of this number; answers whether it did, and else `trouble` has why not. */
-bool open_link(struct process *process, struct plane *plane, struct link *link, int index) {
-    link->trouble = -open_files(process, plane, link, index);
+bool take_up_interface(struct process *process, struct plane *plane, struct link *link, int index) {
+    link->trouble = -open_files_of_link(process, plane, link, index);
     bool taken = link->trouble == 0;
     if (taken) put_stored(&process->store, "lock", index, link->lock);
     if (taken) put_stored(&process->store, "lacp", index, link->socket);
@@ -110,14 +110,14 @@ bool open_link(struct process *process, struct plane *plane, struct link *link, 
     link->trouble_ticks = TROUBLE_TICKS;
     link->unsent = link->queued = false;
     link->changed = true;
-    if (!taken) close_files(&process->store, link);
+    if (!taken) close_files_of_link(&process->store, link);
     return taken;
 }
 
-void close_link(struct plane *plane, struct store *store, struct link *link) {
+void release_interface(struct plane *plane, struct store *store, struct link *link) {
     CALL(plane->carrying->remove, plane, link);
     CALL(plane->carrying->follow_mtu, plane, link, 0);
-    close_files(store, link);
+    close_files_of_link(store, link);
     link->unsent = false;
     link->changed = true;
 }
@@ -125,7 +125,7 @@ void close_link(struct plane *plane, struct store *store, struct link *link) {
 /* Sends a frame, with the address that the interface has now. An LACPDU that the kernel does not take is sent again at each tick,
  * until a newer one is due; so is one for which a second has no room: the library counts ticks, of which two may come at once where one was late. A
  * response is lost, as on a wire. A response tells of what came before its marker, and may pass what goes. */
-void send_frame(struct protocol *protocol, struct link *link, const uint8_t *frame) {
+void send_frame(struct process *process, struct changes *changes, struct link *link, const uint8_t *frame) {
     bool is_lacpdu = frame[SUBTYPE_AT] == SUBTYPE_LACP;
     uint8_t sent[NIW_FRAME];
     if (link->socket < 0) return;
@@ -139,13 +139,13 @@ void send_frame(struct protocol *protocol, struct link *link, const uint8_t *fra
     memcpy(sent + ETH_ALEN, link->mac, ETH_ALEN);
     if (give_past_data(link, sent)) {
         if (is_lacpdu) link->unsent = false;
-        if (!is_done(protocol->process, niw_count_sent(&link->counters, sent, sizeof sent), "niw_count_sent") || !is_lacpdu) return;
+        if (!is_done(process, niw_count_sent(&link->counters, sent, sizeof sent), "niw_count_sent") || !is_lacpdu) return;
         memmove(link->lacpdus_at, link->lacpdus_at + 1, sizeof link->lacpdus_at - sizeof *link->lacpdus_at);
         link->lacpdus_at[MOST_LACPDUS - 1] = boottime();
         return;
     }
     link->counts[FAILED_SENT]++;
-    protocol->changes.suspected = true;
+    changes->suspected = true;
     if (errno == ENETDOWN || errno == ENXIO) return; /* of a link that is down the kernel tells, too */
     link->trouble = errno;
     link->trouble_ticks = TROUBLE_TICKS;

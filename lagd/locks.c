@@ -39,15 +39,15 @@ static int find_lock(int index, int but, struct lock *found) {
 
 /* Takes the lock of an interface; or answers -errno: -EADDRINUSE where somebody has it. Of two that take it at once one at least sees the
  * other one, since each is bound before it looks. It looks twice: of a list that changes the kernel may leave one out. */
-int lock_interface(struct process *process, int index) {
+int lock_interface(struct store *store, const struct inherited *inherited, int index) {
     struct sockaddr_ll address = {.sll_family = AF_PACKET, .sll_protocol = htons(PROTOCOL), .sll_ifindex = index};
-    int opened = packet_socket(process, "lock", index, index, SOCK_DGRAM), fault;
+    int opened = packet_socket(store, inherited, "lock", index, index, SOCK_DGRAM), fault;
     struct lock other = {0};
     if (opened < 0) return opened;
     fault = bind(opened, (struct sockaddr *)&address, sizeof address) < 0 ? last_fault() : find_lock(index, opened, &other);
     if (fault == 0 && other.inode == 0) fault = find_lock(index, opened, &other);
     if (fault == 0 && other.inode == 0) return opened;
-    close_stored(&process->store, "lock", index, opened);
+    close_stored(store, "lock", index, opened);
     return fault == 0 ? -EADDRINUSE : fault;
 }
 

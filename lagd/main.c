@@ -90,8 +90,8 @@ static void drop_privileges(struct process *process, bool administers) {
 }
 
 static void tell_changes(struct protocol *protocol) {
-    read_views(protocol);
-    print_all_changes(protocol);
+    read_views(protocol->process, &protocol->own_system, protocol->ports);
+    print_all_changes(protocol->process, protocol, protocol->ports);
     look_at_bundle(protocol);
 }
 
@@ -99,16 +99,17 @@ static void pass_second(struct lagd *lagd) {
     EACH_LINK(link, &lagd->ports) {
         if (link->lines < MOST_LINES) link->lines++;
     }
-    look_for_twins(&lagd->protocol);
+    look_for_twins(&lagd->process, &lagd->ports);
     if (lagd->protocol.bundle.lines < MOST_LINES) lagd->protocol.bundle.lines++;
     pass_revert_second(&lagd->protocol);
-    watch_changes(&lagd->protocol);
+    watch_changes(&lagd->protocol.changes, &lagd->ports);
     (void)save_state(&lagd->state, false);
     notify("WATCHDOG=1");
 }
 
 static void pass_tick(struct lagd *lagd) {
-    if (!pass_system_tick(&lagd->protocol)) return;
+    lagd->protocol.ticks++;
+    if (!pass_system_tick(&lagd->process, &lagd->protocol.own_system, &lagd->ports)) return;
     pass_halt_tick(&lagd->protocol);
     pass_leaving_tick(&lagd->protocol);
     if (!lagd->process.broken) CALL(lagd->plane.carrying->tick, &lagd->plane);
@@ -116,14 +117,14 @@ static void pass_tick(struct lagd *lagd) {
 }
 
 /* Makes up the ticks that passed, and then sends once. */
-static void pass_time(struct lagd *lagd, int clock) {
+static void make_up_ticks(struct lagd *lagd, int clock) {
     uint64_t passed = 0;
     if (read(clock, &passed, sizeof passed) != sizeof passed) return;
     if (passed > MOST_TICKS) passed = MOST_TICKS;
     for (; passed > 0; passed--) pass_tick(lagd);
     send_due(&lagd->protocol);
-    send_again(&lagd->protocol);
-    pass_tick_of_callers(&lagd->process);
+    send_again(&lagd->process, &lagd->protocol.changes, &lagd->ports);
+    pass_tick_of_callers(&lagd->process.status, lagd->process.epoll_file);
     tell_changes(&lagd->protocol);
 }
 
@@ -157,7 +158,7 @@ static void serve_all_data(struct tap_plane *tap, const struct epoll_event *even
 }
 
 /* The next daemon is to go on, if it can. */
-static void leave_state(struct lagd *lagd) {
+static void hand_over_state(struct lagd *lagd) {
     CALL(lagd->plane.carrying->keep_device, &lagd->plane, true);
     lagd->process.has_left = save_state(&lagd->state, true);
     if (!lagd->process.has_left) {
@@ -174,7 +175,7 @@ static bool serve_signal(struct lagd *lagd, int signals, const char *file) {
     if (read(signals, &signal, sizeof signal) != sizeof signal) return true;
     switch (signal.ssi_signo) {
     case SIGUSR2: ask_moves(&lagd->carry); return false;
-    case SIGUSR1: leave_state(lagd); return !lagd->process.has_left;
+    case SIGUSR1: hand_over_state(lagd); return !lagd->process.has_left;
     case SIGHUP:
         if (file) reload(&lagd->protocol, file);
         return !file;
@@ -190,9 +191,9 @@ static void serve(struct lagd *lagd, const struct epoll_event *events, int count
     serve_all_data(&lagd->tap, events, count);
     for (int i = 0; i < count; i++)
         if (events[i].data.u32 >= CALLERS && events[i].data.u32 < HOST) serve_caller(&lagd->control, events[i].data.u32 - CALLERS);
-    if (is_ready(events, count, STATUS)) accept_callers(&lagd->process);
+    if (is_ready(events, count, STATUS)) accept_callers(&lagd->process.status, lagd->process.epoll_file);
     watch_carriers(&lagd->protocol, tick);
-    if (tick) pass_time(lagd, clock);
+    if (tick) make_up_ticks(lagd, clock);
     settle_carry(&lagd->plane);
 }
 
@@ -242,14 +243,14 @@ static int run_daemon(struct lagd *lagd, const struct options *options) {
     need(lagd->process.epoll_file >= 0, "epoll");
     if (lagd->settings.system_auto) read_own_address(&lagd->settings);
     lagd->process.folder = open_folder(options->folder);
-    open_store(&lagd->process);
+    receive_stored(&lagd->process);
     choose_plane(&lagd->plane, &lagd->settings);
     recall_state(&lagd->state);
     make_system(&lagd->protocol);
-    begin_resuming(&lagd->process);
+    lagd->process.resuming = has_carried_links(&lagd->inherited);
     if (lagd->process.inherited->others && !lagd->plane.carrying->keeps_members) release_former_members(&lagd->plane);
     CALL(lagd->plane.carrying->open, &lagd->plane);
-    start_halt(&lagd->protocol);
+    note_halt_at_start(&lagd->protocol.halt, &lagd->device, lagd->process.resuming);
     need(await_input(lagd->process.epoll_file, open_changes(&lagd->protocol), CHANGES), "epoll");
     open_status(&lagd->process, options->folder);
     int clock = open_clock();
@@ -280,6 +281,6 @@ int main(int argc, char **argv) {
     keep_standard_files();
     read_options(&lagd->process, argc, argv, &options);
     if (options.action == RUN_BUNDLE) return run_daemon(lagd, &options);
-    if (options.action == CHECK) return check_machine(&lagd->control, &options);
+    if (options.action == CHECK) return check_machine(&lagd->process, &lagd->plane, &options);
     return ask_daemons(&lagd->process, lagd->control.report, &options);
 }

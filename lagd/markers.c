@@ -34,11 +34,11 @@ void note_odd_marker(struct link *link, const struct arrival *arrival, enum coun
     memcpy(link->markers.source, arrival->frame + ETH_ALEN, sizeof link->markers.source);
 }
 
-/* Spends an answer on a marker, where one is left: any second has marker-responses of them at most, and a quarter at most for markers that are not
+/* Spends an answer on a marker, where one is left: any second has so many of them at most, and a quarter at most for markers that are not
  * the partner's. Answers whether one was. */
-bool spend_answer(const struct settings *settings, const struct plane *plane, struct link *link, const struct arrival *arrival) {
+bool spend_answer(struct link *link, const struct arrival *arrival, unsigned most) {
     struct answered *answered = &link->markers.answered;
-    unsigned partner = 0, others = 0, most = settings->marker_responses * plane->queueing->markers_at_once;
+    unsigned partner = 0, others = 0;
     bool other = !is_from_partner(link, arrival);
     uint64_t slot = milliseconds() / SLOT;
     for (uint64_t passed = answered->slot + 1; passed <= slot && passed <= answered->slot + ANSWERED_SLOTS; passed++)

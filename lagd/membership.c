@@ -19,14 +19,14 @@ uint16_t count_links(const struct ports *ports) {
     return count;
 }
 
-static struct link *link_of(struct ports *ports, const char *name) {
+static struct link *link_named(struct ports *ports, const char *name) {
     EACH_LINK(link, ports)
         if (link->used && strcmp(link->name, name) == 0) return link;
     return NULL;
 }
 
 /* The number that a port has, or had in the last daemon; 0 for none. */
-static uint16_t number_of(const struct process *process, const struct ports *ports, const char *name) {
+static uint16_t known_port_number(const struct process *process, const struct ports *ports, const char *name) {
     const struct inherited *inherited = process->inherited;
     EACH_LINK_AS_IS(link, ports)
         if (link->used && strcmp(link->name, name) == 0) return link->settings.number;
@@ -36,7 +36,7 @@ static uint16_t number_of(const struct process *process, const struct ports *por
 }
 
 /* Whether the last daemon left a port whose peer takes it for one of the bundle. */
-static bool has_carried(const struct inherited *inherited, const struct inherited_port *port) {
+static bool was_carrying(const struct inherited *inherited, const struct inherited_port *port) {
     for (unsigned i = 0; i < inherited->link_count; i++)
         if (port->index != 0 && inherited->links[i].index == port->index) return inherited->links[i].carried;
     return false;
@@ -44,21 +44,22 @@ static bool has_carried(const struct inherited *inherited, const struct inherite
 
 /* Numbers these ports. One that is there, or was in the last daemon, keeps its number, and a new one has the lowest that is free: that of no port
  * that is there or, where so asked, is still to leave. Answers whether each found one. */
-static bool number_ports(const struct protocol *protocol, const struct port_settings *given, uint16_t count, uint16_t *numbers, bool with_left) {
-    const struct inherited *inherited = protocol->process->inherited;
+static bool number_ports(const struct process *process, const struct ports *ports, const struct port_settings *given,
+    uint16_t count, uint16_t *numbers, bool with_left) {
+    const struct inherited *inherited = process->inherited;
     bool taken[NIW_MOST_PORTS + 1] = {true}; /* by number: there is no port 0 */
-    EACH_LINK_AS_IS(link, protocol->ports) taken[link->settings.number] = link->used;
+    EACH_LINK_AS_IS(link, ports) taken[link->settings.number] = link->used;
     for (unsigned i = 0; with_left && i < inherited->port_count; i++)
-        if (inherited->ports[i].number <= protocol->ports->slots && has_carried(inherited, &inherited->ports[i]))
+        if (inherited->ports[i].number <= ports->slots && was_carrying(inherited, &inherited->ports[i]))
             taken[inherited->ports[i].number] = true;
     for (uint16_t i = 0; i < count; i++) {
-        numbers[i] = number_of(protocol->process, protocol->ports, given[i].name);
+        numbers[i] = known_port_number(process, ports, given[i].name);
         taken[numbers[i]] = true;
     }
     for (uint16_t i = 0, lowest = 0; i < count; i++) {
         if (numbers[i] != 0) continue;
-        while (lowest <= protocol->ports->slots && taken[lowest]) lowest++;
-        if (lowest > protocol->ports->slots) return false;
+        while (lowest <= ports->slots && taken[lowest]) lowest++;
+        if (lowest > ports->slots) return false;
         numbers[i] = lowest++;
     }
     return true;
@@ -66,12 +67,12 @@ static bool number_ports(const struct protocol *protocol, const struct port_sett
 
 /* Puts the ports of settings into the places of their numbers; answers whether each found one. Where there is no room beside ports that the last
  * daemon left, these give way at the start. */
-bool place_ports(const struct protocol *protocol, struct settings *settings) {
+bool place_ports(const struct process *process, const struct ports *ports, struct settings *settings) {
     struct port_settings given[NIW_MOST_PORTS];
     uint16_t numbers[NIW_MOST_PORTS], count = settings->port_count;
     memcpy(given, settings->ports, sizeof given);
-    bool fits = !protocol->process->has_started && number_ports(protocol, given, count, numbers, true);
-    if (!fits && !number_ports(protocol, given, count, numbers, false)) return false;
+    bool fits = !process->has_started && number_ports(process, ports, given, count, numbers, true);
+    if (!fits && !number_ports(process, ports, given, count, numbers, false)) return false;
     for (uint16_t i = 0; i < NIW_MOST_PORTS; i++) settings->ports[i] = unset_port();
     settings->port_count = 0;
     for (uint16_t i = 0; i < count; i++) {
@@ -82,23 +83,20 @@ bool place_ports(const struct protocol *protocol, struct settings *settings) {
 }
 
 /* Ports of the last daemon that the file has no more go on, so that their peers can be told, or as long as they are in the device. */
-void keep_left_ports(struct protocol *protocol) {
-    const struct inherited *inherited = protocol->process->inherited;
-    struct settings *settings = protocol->settings;
+void keep_left_ports(const struct inherited *inherited, struct ports *ports, struct settings *settings) {
     for (const struct inherited_port *port = inherited->ports; port < inherited->ports + inherited->port_count; port++) {
-        struct link *link = &protocol->ports->links[port->number - 1];
-        if (port->number > protocol->ports->slots || link->used || !has_carried(inherited, port)) continue;
+        struct link *link = &ports->links[port->number - 1];
+        if (port->number > ports->slots || link->used || !was_carrying(inherited, port)) continue;
         memcpy(settings->ports[port->number - 1].name, port->name, sizeof port->name);
         if (port->number > settings->port_count) settings->port_count = port->number;
-        begin_link(settings, protocol->ports, port->number);
+        begin_link(settings, link, port->number);
         link->left_over = !settings->follow;
         link->followed = settings->follow;
     }
 }
 
 /* A port begins, as the settings have it. What the library tells of it stays. */
-void begin_link(const struct settings *settings, struct ports *ports, uint16_t port) {
-    struct link *link = &ports->links[port - 1];
+void begin_link(const struct settings *settings, struct link *link, uint16_t port) {
     *link = (struct link){.name = settings->ports[port - 1].name, .settings = port_of(settings, port), .socket = -1, .lock = -1,
         .carrier_file = -1, .lines = MOST_LINES, .changed = true, .view = link->view};
     link->key = link->settings.key;
@@ -108,25 +106,26 @@ void begin_link(const struct settings *settings, struct ports *ports, uint16_t p
 }
 
 /* Gives the library what the settings have of a port; answers whether it took that. */
-static bool configure(struct protocol *protocol, struct link *link) {
-    struct niw_change change = {.key = choose_key(protocol, link), .priority = link->settings.priority, .aggregatable = link->settings.aggregatable};
+static bool configure_port(struct protocol *protocol, struct link *link) {
+    struct niw_change change = {.key = choose_key(&protocol->keys, protocol->ports, protocol->settings, link),
+        .priority = link->settings.priority, .aggregatable = link->settings.aggregatable};
     uint16_t port = link->settings.number;
     link->settings.key = change.key;
     return is_done(protocol->process, niw_configure(&protocol->own_system, port, &change).status, "niw_configure")
         && is_done(protocol->process, niw_set_mode(&protocol->own_system, port, link->settings.active, link->settings.short_timeout), "niw_set_mode")
-        && apply_hold(protocol, link);
+        && apply_hold(protocol->process, &protocol->own_system, link, protocol->halt.down);
 }
 
 void join_port(struct protocol *protocol, struct link *link, const struct port_settings *settings) {
     uint16_t port = link->settings.number;
     protocol->settings->ports[port - 1] = *settings;
     if (port > protocol->ports->count) protocol->settings->port_count = protocol->ports->count = port;
-    begin_link(protocol->settings, protocol->ports, port);
+    begin_link(protocol->settings, link, port);
     link->puts_in = true;
     CALL(protocol->plane->carrying->forget, protocol->plane, link);
-    if (!configure(protocol, link)) return;
+    if (!configure_port(protocol, link)) return;
     (void)say(protocol->process, LOG_NOTICE | ABOUT_PORT, "port %u %s: it joins the bundle", port, link->name);
-    ask_now(protocol);
+    ask_now(&protocol->changes, protocol->ports);
 }
 
 /* The number of a port is free. Its interface is as it was before it was a member. */
@@ -136,7 +135,7 @@ static void end_leaving(struct protocol *protocol, struct link *link) {
     if (link->socket >= 0) lose_link(protocol, link);
     (void)say(protocol->process, LOG_NOTICE | ABOUT_PORT, "port %u %s: it left the bundle", port, link->name);
     protocol->settings->ports[port - 1] = unset_port();
-    begin_link(protocol->settings, protocol->ports, port);
+    begin_link(protocol->settings, link, port);
     protocol->plane->changed = true;
     look_at_bundle(protocol);
 }
@@ -151,7 +150,7 @@ bool begin_hold(struct protocol *protocol, struct link *link) {
     protocol->plane->changed = true;
     if (link->emptying) return true;
     if (out_of_use) CALL(protocol->plane->carrying->drain, protocol->plane, link);
-    return apply_hold(protocol, link);
+    return apply_hold(protocol->process, &protocol->own_system, link, protocol->halt.down);
 }
 
 /* A port that is emptied is held, once it is empty, or after a while. */
@@ -160,7 +159,7 @@ static void end_emptying(struct protocol *protocol, struct link *link) {
     link->emptying = false;
     link->leaves_since = milliseconds();
     CALL(protocol->plane->carrying->drain, protocol->plane, link);
-    if (apply_hold(protocol, link)) settle_calls(protocol);
+    if (apply_hold(protocol->process, &protocol->own_system, link, protocol->halt.down)) settle_calls(protocol);
 }
 
 /* A port goes: its peer is told, and its conversations leave it. One whose link is down is gone at once. */
@@ -184,19 +183,19 @@ void stay_port(struct protocol *protocol, struct link *link) {
 }
 
 /* Whether nothing of ours is on a link that is held, and its partner sends nothing more there, as far as it tells. */
-static bool is_quiet(struct protocol *protocol, const struct link *link) {
+static bool is_quiet(struct process *process, struct niw_system *system, const struct link *link) {
     uint64_t load = 0, held = 0;
     bool stopped = link->view.defaulted || !(link->view.partner_state & (NIW_STATE_COLLECTING | NIW_STATE_DISTRIBUTING));
-    return stopped && is_told(protocol->process, niw_load(&protocol->own_system, link->settings.number), "niw_load", &load) && load == 0
-        && is_told(protocol->process, niw_held(&protocol->own_system, link->settings.number), "niw_held", &held) && held == 0;
+    return stopped && is_told(process, niw_load(system, link->settings.number), "niw_load", &load) && load == 0
+        && is_told(process, niw_held(system, link->settings.number), "niw_held", &held) && held == 0;
 }
 
 /* Notes whether a port has left: it is quiet, and was so while its peer may ask for responses to its markers, or it was waited for long enough. */
-static bool note_whether_left(struct protocol *protocol, struct link *link) {
-    uint64_t now = milliseconds(), most = protocol->settings->flight > MOST_WAIT ? protocol->settings->flight : MOST_WAIT;
+static bool note_whether_left(struct process *process, struct niw_system *system, struct link *link) {
+    uint64_t now = milliseconds(), most = process->settings->flight > MOST_WAIT ? process->settings->flight : MOST_WAIT;
     if (!link->up) return true;
     if (link->emptying) return false;
-    if (link->left_at == 0 && (is_quiet(protocol, link) || now - link->leaves_since >= most)) link->left_at = now;
+    if (link->left_at == 0 && (is_quiet(process, system, link) || now - link->leaves_since >= most)) link->left_at = now;
     return link->left_at != 0 && now - link->left_at >= LINGERS;
 }
 
@@ -206,7 +205,7 @@ void pass_leaving_tick(struct protocol *protocol) {
         if (protocol->process->broken) return;
         if (protocol->settings->follow && link->used && link->followed && link->outside) leave_port(protocol, link);
         if (link->emptying) end_emptying(protocol, link);
-        if (link->leaving && note_whether_left(protocol, link)) end_leaving(protocol, link);
+        if (link->leaving && note_whether_left(protocol->process, &protocol->own_system, link)) end_leaving(protocol, link);
     }
 }
 
@@ -236,7 +235,7 @@ void tell_taken_out(struct protocol *protocol, struct link *link) {
     link->puts_in = false;
     if (!is_done(protocol->process, niw_hold(&protocol->own_system, link->settings.number, true), "niw_hold")) return;
     send_due(protocol);
-    if (apply_hold(protocol, link)) link->changed = true;
+    if (apply_hold(protocol->process, &protocol->own_system, link, protocol->halt.down)) link->changed = true;
 }
 
 /* A number that no port has, as its place, or NULL. */
@@ -262,27 +261,27 @@ void follow_port(struct protocol *protocol, const struct interface *interface) {
 }
 
 /* The interface of a port that the device alone has was given another name: it is the same port. Answers whether it is. */
-bool accept_name(struct protocol *protocol, const struct link *link, const struct interface *interface) {
+bool take_new_name(struct protocol *protocol, struct link *link, const struct interface *interface) {
     char *name = protocol->settings->ports[link->settings.number - 1].name;
-    if (!link->followed || link->leaving || interface->master != protocol->device->index || link_of(protocol->ports, interface->name))
+    if (!link->followed || link->leaving || interface->master != protocol->device->index || link_named(protocol->ports, interface->name))
         return false;
     (void)say(protocol->process, LOG_NOTICE | ABOUT_PORT, "port %u %s: its name is %s now", link->settings.number, name, interface->name);
     memcpy(name, interface->name, sizeof interface->name);
-    tell_watchers_of(protocol->control, link);
+    tell_watchers_of(protocol->process, protocol->control, link);
     return true;
 }
 
 /* Tries the lock of an interface that is to be a port; answers why it can be none now, or NULL. */
-static const char *try_interface(struct protocol *protocol, const char *name) {
+static const char *try_interface(struct process *process, const struct ports *ports, const char *name) {
     struct interface interface;
-    if (strcmp(name, protocol->settings->carry) == 0) return "it is the device itself";
+    if (strcmp(name, process->settings->carry) == 0) return "it is the device itself";
     if (!ask_interface(0, name, &interface)) return "there is no such interface";
     if (interface.type != ARPHRD_ETHER) return "it is no Ethernet interface";
-    EACH_LINK(link, protocol->ports)
+    EACH_LINK_AS_IS(link, ports)
         if (link->used && link->socket >= 0 && link->index == interface.index) return "it is a port by another name";
-    int lock = lock_interface(protocol->process, interface.index);
+    int lock = lock_interface(&process->store, process->inherited, interface.index);
     if (lock < 0) return lock == -EADDRINUSE ? "another lagd has it" : strerror(-lock);
-    close_stored(&protocol->process->store, "lock", interface.index, lock);
+    close_stored(&process->store, "lock", interface.index, lock);
     return NULL;
 }
 
@@ -296,8 +295,8 @@ static const char *add_by_words(struct protocol *protocol, char *text, uint16_t 
         snprintf(room, ORDER_ROOM, "%.32s%sexpected %s", found == text ? "" : found, found == text ? "" : ": ", expected);
         return room;
     }
-    struct link *known = link_of(protocol->ports, settings->name), *link = known ? known : free_place(protocol->ports);
-    const char *fault = known ? NULL : try_interface(protocol, settings->name);
+    struct link *known = link_named(protocol->ports, settings->name), *link = known ? known : free_place(protocol->ports);
+    const char *fault = known ? NULL : try_interface(protocol->process, protocol->ports, settings->name);
     if (known && !known->leaving) return "it is a port already";
     if (fault) return fault;
     if (settings->key != AS_BUNDLE && !has_aggregator(&protocol->keys, (uint16_t)settings->key))
@@ -324,7 +323,7 @@ static bool hold_by_word(struct protocol *protocol, struct link *link, bool hold
         protocol->settings->ports[link->settings.number - 1].hold = hold;
         settle_calls(protocol);
     }
-    return !hold || note_whether_left(protocol, link);
+    return !hold || note_whether_left(protocol->process, &protocol->own_system, link);
 }
 
 /* Does what somebody asks for, `add`, `remove`, `hold` or `release` of an interface, and answers: `done`, `wait` where it is to be asked again, as
@@ -332,7 +331,7 @@ static bool hold_by_word(struct protocol *protocol, struct link *link, bool hold
 void answer_order(struct protocol *protocol, char *order, char answer[static ORDER_ROOM]) {
     char *name = strchr(order, ' ') + 1, room[ORDER_ROOM];
     bool removes = strncmp(order, "remove ", 7) == 0, done = true;
-    struct link *link = link_of(protocol->ports, name);
+    struct link *link = link_named(protocol->ports, name);
     const char *fault = NULL;
     uint16_t port = link ? link->settings.number : 0;
     if (strncmp(order, "add ", 4) == 0) {

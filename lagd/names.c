@@ -2,7 +2,7 @@
 #include "lagd.h"
 
 /* The counts of a port: those of the library, and behind them those of `enum count`. */
-static const struct count_text TEXTS_OF_COUNTS[] = {EACH_LIBRARY_COUNT(COUNT_TEXT) EACH_PORT_COUNT(COUNT_TEXT)};
+const struct count_text COUNT_TEXTS[ALL_COUNTS] = {EACH_LIBRARY_COUNT(COUNT_TEXT) EACH_PORT_COUNT(COUNT_TEXT)};
 
 #define COUNT_PLACE(field, name, help) offsetof(struct link, field),
 static const size_t PLACES_OF_COUNTS[] = {EACH_LIBRARY_COUNT(COUNT_PLACE)};
@@ -13,10 +13,6 @@ static const char *const OWN_STATUSES[] = {"the interface is missing", "it distr
 
 const char *status_text(unsigned status) {
     return status >= MISSING ? OWN_STATUSES[status - MISSING] : niw_port_status_text(status);
-}
-
-struct count_text count_text(unsigned place) {
-    return TEXTS_OF_COUNTS[place];
 }
 
 uint64_t count_at(const struct link *link, unsigned place) {

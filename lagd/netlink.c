@@ -40,22 +40,22 @@ int error_of(const struct nlmsghdr *message) {
     return *error <= 0 && *error >= -LAST_ERROR ? *error : -EPROTO;
 }
 
-/* Reads the answer up to its last message, which the kernel has sent once it took the question; answers its error, or 0. It is EINTR where what was
- * asked for changed meanwhile, so that some of it may be missing. */
+/* Reads the answer up to its last message, which the kernel has sent once it took the question; answers its error, as -errno, or 0. It is -EINTR
+ * where what was asked for changed meanwhile, so that some of it may be missing. */
 static int read_answer(const struct mnl_socket *asked, message_reader read_one, void *into) {
-    static _Alignas(struct nlmsghdr) uint8_t part[PART_ROOM]; /* no reader asks anything itself */
+    _Alignas(struct nlmsghdr) uint8_t part[PART_ROOM];
     bool interrupted = false;
     for (int turn = 0; turn < MOST_PARTS; turn++) {
         int left = (int)mnl_socket_recvfrom(asked, part, sizeof part);
-        if (left < 0) return errno;
+        if (left < 0) return last_fault();
         for (const struct nlmsghdr *message = (void *)part; is_whole(message, left); message = mnl_nlmsg_next(message, &left)) {
             interrupted = interrupted || (message->nlmsg_flags & NLM_F_DUMP_INTR) != 0;
             if (message->nlmsg_type == NLMSG_ERROR || message->nlmsg_type == NLMSG_DONE)
-                return error_of(message) != 0 || !interrupted ? -error_of(message) : EINTR;
+                return error_of(message) != 0 || !interrupted ? error_of(message) : -EINTR;
             if (read_one) read_one(message, into);
         }
     }
-    return EPROTO;
+    return -EPROTO;
 }
 
 /* Asks the kernel; answers whether it did so, and else errno tells why not. The kernel alone may send to the socket: any program of the machine may
@@ -66,9 +66,9 @@ bool ask_netlink(int bus, const union message *question, message_reader read_one
     if (!asked) return false;
     bool is_sent = connect(mnl_socket_get_fd(asked), (const struct sockaddr *)&kernel, sizeof kernel) == 0
         && mnl_socket_sendto(asked, question, question->head.nlmsg_len) >= 0;
-    int fault = is_sent ? read_answer(asked, read_one, into) : errno;
+    int fault = is_sent ? read_answer(asked, read_one, into) : last_fault();
     (void)mnl_socket_close(asked);
-    errno = fault;
+    errno = -fault;
     return fault == 0;
 }
 

@@ -12,7 +12,7 @@ union message {
     uint8_t octets[4096];
 };
 
-/* What is done with each message of an answer. It asks nothing itself. */
+/* What is done with each message of an answer. */
 typedef void (*message_reader)(const struct nlmsghdr *message, void *into);
 
 /* Each attribute behind so many octets of a message, and each within another one; those of libmnl convert numbers without a word, and read up

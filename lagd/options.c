@@ -96,7 +96,7 @@ static void print_help(struct words *words) {
     printf(HELP_ENDS, list_port_words(words, ", "));
 }
 
-static void expect(const char *expected, const char *name, const char *value) {
+static void stop_at_fault(const char *expected, const char *name, const char *value) {
     char found[256];
     if (!expected) return;
     snprintf(found, sizeof found, "%s%sexpected %s", name ? name : "", name ? ": " : "", expected);
@@ -104,8 +104,8 @@ static void expect(const char *expected, const char *name, const char *value) {
 }
 
 /* Gives a key of the bundle a value; `shown` is what a refusal calls it. A command line is one line. */
-static void give(struct words *words, struct options *options, const char *key, const char *shown, const char *text) {
-    expect(set_bundle(words, &options->settings, key, text, 1), shown, text);
+static void set_bundle_key(struct words *words, struct options *options, const char *key, const char *shown, const char *text) {
+    stop_at_fault(set_bundle(words, &options->settings, key, text, 1), shown, text);
 }
 
 /* A text that the library of c/lag.c has, and the native one has not. */
@@ -140,7 +140,7 @@ static void act_on_letter(struct words *words, struct options *options, int lett
     case 'h': print_help(words); exit(fflush(stdout) ? REFUSED : DONE);
     case 'V': print_version(); exit(fflush(stdout) ? REFUSED : DONE);
     case '?': case ':': stop(WRONG_WORD, "not an option, or its word is missing", optopt ? (const char[]){'-', (char)optopt, 0} : last);
-    default: if (key->name) give(words, options, key->name, key->name, optarg ? optarg : "yes");
+    default: if (key->name) set_bundle_key(words, options, key->name, key->name, optarg ? optarg : "yes");
     }
 }
 
@@ -167,17 +167,17 @@ const char *read_port(struct words *words, char *text, struct settings *settings
 }
 
 /* KEY PRIORITY,MAC INTERFACE[:WORD,..].. */
-static void read_bundle(struct words *words, struct options *options, int count, char **given) {
+static void read_operands(struct words *words, struct options *options, int count, char **given) {
     struct settings *settings = &options->settings;
     if (count < 3) stop(WRONG_WORD, "usage", "lagd [OPTION..] KEY PRIORITY,MAC INTERFACE.., or lagd --config FILE; lagd --help tells more");
-    give(words, options, "key", "KEY", given[0]);
-    give(words, options, "system", "system", given[1]);
+    set_bundle_key(words, options, "key", "KEY", given[0]);
+    set_bundle_key(words, options, "system", "system", given[1]);
     for (int i = 2; i < count; i++) {
         const char *found, *expected = read_port(words, given[i], settings, &found);
-        expect(expected, NULL, found);
+        stop_at_fault(expected, NULL, found);
     }
     struct lack lack = lack_of(settings);
-    expect(lack.expected, NULL, lack.key);
+    stop_at_fault(lack.expected, NULL, lack.key);
     strcpy(settings->name, settings->ports[0].name);
 }
 
@@ -206,6 +206,6 @@ void read_options(struct process *process, int argc, char **argv, struct options
         stop(WRONG_WORD, "usage", "lagd --status --json, or lagd --watch --json");
     if ((options->action != RUN_BUNDLE || options->file) && (optind < argc || has_keys))
         stop(WRONG_WORD, "usage", "a file has all of its bundle, and a question has none of it; lagd --help tells more");
-    if (options->file && !read_file(process, options->file, &options->settings)) exit(WRONG_WORD);
-    if (options->action == RUN_BUNDLE && !options->file) read_bundle(&process->words, options, argc - optind, argv + optind);
+    if (options->file && !read_bundle_file(process, options->file, &options->settings)) exit(WRONG_WORD);
+    if (options->action == RUN_BUNDLE && !options->file) read_operands(&process->words, options, argc - optind, argv + optind);
 }

@@ -15,6 +15,8 @@ struct link;
 struct msghdr;
 struct options;
 struct plane;
+struct process;
+struct report;
 struct queues;
 struct settings;
 struct tap_plane;
@@ -61,11 +63,11 @@ struct carrying {
     int (*member_of)(const struct plane *plane, uint16_t number); /* the interface by which the kernel has a conversation go, or 0 */
     void (*end_resuming)(struct plane *plane);           /* what were members of the last daemon, and are no more, have what they had before */
     unsigned (*frames_waiting)(struct plane *plane);     /* in the daemon, as far as that is known */
-    int (*check)(struct control *control, const struct options *options); /* says what this machine lacks: how the program ends */
-    void (*show)(struct control *control, enum form form);   /* the device and its counts */
-    void (*show_member)(struct control *control, const struct link *link, enum form form);
-    void (*show_markers)(struct control *control);           /* in a line of text */
-    void (*show_waiting)(struct control *control, enum form form); /* what waits to go, or to move */
+    int (*check)(struct process *process, struct plane *plane, const struct options *options); /* what this machine lacks: how the program ends */
+    void (*show)(struct report *report, const struct control *control, enum form form);   /* the device and its counts */
+    void (*show_member)(struct report *report, const struct control *control, const struct link *link, enum form form);
+    void (*show_markers)(struct report *report, const struct control *control);           /* in a line of text */
+    void (*show_waiting)(struct report *report, const struct control *control, enum form form); /* what waits to go, or to move */
     unsigned first_count, end_count, member_counts;    /* the counts that it has, and how many of a member */
     bool keeps_members; /* whether what the last daemon set of members may be of use */
     bool administers;   /* whether it changes interfaces as long as it runs, for which it keeps CAP_NET_ADMIN */
@@ -74,7 +76,7 @@ struct carrying {
 
 /* Who passes frames on: the daemon alone, or the kernel, too (`fast`). */
 struct passing {
-    int (*check)(struct control *control, const struct options *options); /* as that of the device */
+    int (*check)(struct process *process, struct plane *plane, const struct options *options); /* as that of the device */
     void (*start)(struct tap_plane *tap);                         /* loads what the kernel is to run; a fault ends the program */
     void (*end)(struct tap_plane *tap);                           /* the kernel passes nothing on any more */
     void (*set_up_device)(int index);                         /* it is new */
@@ -95,7 +97,7 @@ struct passing {
 
 /* By how many queues of a member its data goes: one, or all. */
 struct queueing {
-    int (*check)(struct control *control, const struct options *options); /* as that of the device */
+    int (*check)(struct process *process, struct plane *plane, const struct options *options); /* as that of the device */
     void (*start)(struct tap_plane *tap); /* a fault ends the program */
     unsigned (*fifos_of)(int index); /* how many disciplines that keep the order a member gets */
     /* False where that is looked at again once it has queues; `again`: after its discipline changed. */
@@ -106,7 +108,7 @@ struct queueing {
     bool (*send_marker)(struct tap_plane *tap, struct link *link, const uint8_t *marker, bool again); /* false where not all of it went */
     void (*accept_response)(struct tap_plane *tap, struct link *link, const struct arrival *arrival, uint32_t id);
     bool (*answer)(struct tap_plane *tap, struct link *link, const uint8_t *response); /* false where too many wait */
-    void (*show)(struct control *control, const struct link *link, enum form form);
+    void (*show)(struct report *report, const struct control *control, const struct link *link, enum form form);
     const char *text;         /* behind the way, in the status */
     unsigned markers_at_once; /* how many come in the place of one, of a peer whose members are like ours */
 };

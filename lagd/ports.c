@@ -27,17 +27,15 @@ uint16_t count_away(const struct ports *ports) {
 
 struct facts facts_of(const struct protocol *protocol, const struct link *link) {
     const struct niw_view *view = &link->view;
-    struct facts facts = {
+    return (struct facts){
         .status = status_of(protocol, link),
         .aggregator = view->aggregator,
         .defaulted = view->defaulted,
-        .partner = {.priority = view->partner_priority},
+        .partner = partner_of(view),
         .partner_key = view->partner_key,
         .partner_port = view->partner_port,
         .trouble = link->trouble,
     };
-    memcpy(facts.partner.mac, view->partner_mac, sizeof facts.partner.mac);
-    return facts;
 }
 
 /* Counts what became of a port. Its link that comes up has it EXPIRED, as one does of which no LACPDU came in time. */
@@ -52,23 +50,22 @@ static void count_change(const struct settings *settings, struct link *link, con
         link->counts[DISTRIBUTED]++;
 }
 
-void read_views(struct protocol *protocol) {
+void read_views(struct process *process, struct niw_system *system, struct ports *ports) {
     struct niw_view views[NIW_MOST_PORTS];
     uint64_t changed;
-    if (!is_told(protocol->process, niw_views(&protocol->own_system, views, NIW_MOST_PORTS), "niw_views", &changed)) return;
-    EACH_LINK(link, protocol->ports) {
+    if (!is_told(process, niw_views(system, views, NIW_MOST_PORTS), "niw_views", &changed)) return;
+    EACH_LINK(link, ports) {
         const struct niw_view *now = &views[link->settings.number - 1];
         if (!(changed >> (link->settings.number - 1) & 1)) continue;
-        count_change(protocol->settings, link, now);
+        count_change(process->settings, link, now);
         link->view = *now;
         link->changed = true;
     }
 }
 
-static bool is_same(const struct facts *one, const struct facts *other) {
+static bool is_same_facts(const struct facts *one, const struct facts *other) {
     return one->status == other->status && one->aggregator == other->aggregator && one->defaulted == other->defaulted
-        && one->trouble == other->trouble && one->partner.priority == other->partner.priority
-        && memcmp(one->partner.mac, other->partner.mac, sizeof one->partner.mac) == 0 && one->partner_key == other->partner_key
+        && one->trouble == other->trouble && is_same_system(&one->partner, &other->partner) && one->partner_key == other->partner_key
         && one->partner_port == other->partner_port;
 }
 
@@ -86,17 +83,17 @@ static bool print_facts(struct process *process, const struct ports *ports, cons
 }
 
 /* Looks at a port, and prints it if it changed; answers whether it did. What could not be printed is looked at again. */
-bool print_change(struct protocol *protocol, struct link *link) {
+bool print_change(struct process *process, const struct protocol *protocol, struct link *link) {
     struct facts facts = facts_of(protocol, link);
-    bool same = link->reported && is_same(&facts, &link->printed), watched = link->watched && is_same(&facts, &link->shown);
-    if (!protocol->process->has_started || !link->used) return false;
+    bool same = link->reported && is_same_facts(&facts, &link->printed), watched = link->watched && is_same_facts(&facts, &link->shown);
+    if (!process->has_started || !link->used) return false;
     if (!same && !watched) {
         link->changed_at = time(NULL);
-        tell_watchers_of(protocol->control, link);
+        tell_watchers_of(process, protocol->control, link);
     }
     link->watched = true;
     link->shown = facts;
-    link->changed = !same && !print_facts(protocol->process, protocol->ports, link, &facts, watched);
+    link->changed = !same && !print_facts(process, protocol->ports, link, &facts, watched);
     if (same || link->changed) return false;
     link->reported = true;
     link->printed = facts;
@@ -104,10 +101,10 @@ bool print_change(struct protocol *protocol, struct link *link) {
 }
 
 /* Prints the ports that changed. What is printed too often is printed later. */
-void print_all_changes(struct protocol *protocol) {
-    EACH_LINK(link, protocol->ports) {
-        if (link->changed && link->lines > 0 && print_change(protocol, link)) link->lines--;
-        tell_strangers(protocol->process, protocol->ticks, link);
-        tell_markers(protocol->process, protocol->ticks, link);
+void print_all_changes(struct process *process, const struct protocol *protocol, struct ports *ports) {
+    EACH_LINK(link, ports) {
+        if (link->changed && link->lines > 0 && print_change(process, protocol, link)) link->lines--;
+        tell_strangers(process, protocol->ticks, link);
+        tell_markers(process, protocol->ticks, link);
     }
 }

@@ -10,7 +10,7 @@
 
 /* Tells what is lacking, or not known, for a key of the file; answers how the program ends. */
 int tell_lack(struct process *process, const struct options *options, const char *key, const char *what, int status) {
-    complain(process, "%s:%u: %s: %s", options->file, line_of(&options->settings, key), key, what);
+    complain(process, "%s:%u: %s: %s", options->file, line_of_key(&options->settings, key), key, what);
     return status;
 }
 
@@ -32,10 +32,9 @@ int check_programs(struct process *process, const struct options *options, const
 }
 
 /* Says what this machine lacks for a file that is right: answers how the program ends. */
-int check_machine(struct control *control, const struct options *options) {
-    const struct plane *plane = control->plane;
-    choose_plane(control->plane, &options->settings);
-    int status = ASK(plane->carrying->check, DONE, control, options);
-    if (status == DONE) status = ASK(plane->passing->check, DONE, control, options);
-    return status == DONE ? ASK(plane->queueing->check, DONE, control, options) : status;
+int check_machine(struct process *process, struct plane *plane, const struct options *options) {
+    choose_plane(plane, &options->settings);
+    int status = ASK(plane->carrying->check, DONE, process, plane, options);
+    if (status == DONE) status = ASK(plane->passing->check, DONE, process, plane, options);
+    return status == DONE ? ASK(plane->queueing->check, DONE, process, plane, options) : status;
 }

@@ -7,21 +7,18 @@
 #define LATER 60000
 
 /* The last daemon found that out of this partner. */
-void go_on_answering(struct carry *carry, enum answering last) {
-    struct probe *own = &carry->probe;
+void recall_answering(struct probe *own, const struct carry *carry, enum answering last) {
     if (carry->active == 0 || (last != ANSWERS && last != MUTE)) return;
-    look_at_partner(carry);
+    look_at_partner(own, carry);
     own->peer = own->reported = last;
 }
 
 /* Another partner may answer markers where the last one did not. */
-void look_at_partner(struct carry *carry) {
-    struct probe *own = &carry->probe;
+void look_at_partner(struct probe *own, const struct carry *carry) {
     if (carry->active == 0) return;
     const struct niw_view *view = &carry->ports->links[carry->active_ports[0] - 1].view;
-    struct system_id partner = {.priority = view->partner_priority};
-    memcpy(partner.mac, view->partner_mac, sizeof partner.mac);
-    if (view->partner_key == own->partner_key && memcmp(&partner, &own->partner, sizeof partner) == 0) return;
+    struct system_id partner = partner_of(view);
+    if (view->partner_key == own->partner_key && is_same_system(&partner, &own->partner)) return;
     own->partner_key = view->partner_key;
     own->partner = partner;
     own->peer = own->reported = NOT_ASKED;
@@ -43,18 +40,17 @@ static void ask_peer(struct carry *carry) {
 }
 
 /* It is known whether the peer answers: says so, if that is new. */
-static void judge(struct carry *carry, enum answering now) {
-    struct probe *own = &carry->probe;
+static void note_answering(struct process *process, struct probe *own, enum answering now) {
     own->asking = false;
     own->peer = now;
     if (own->peer == own->reported) return;
     own->reported = own->peer;
     if (own->peer == ANSWERS)
-        (void)say(carry->process, LOG_NOTICE | ABOUT_MARKERS, "carry %s: the peer answers markers", carry->settings->carry);
+        (void)say(process, LOG_NOTICE | ABOUT_MARKERS, "carry %s: the peer answers markers", process->settings->carry);
     else
-        (void)say(carry->process, LOG_WARNING | ABOUT_MARKERS,
-            "carry %s: the peer answers no markers, so conversations move once they rested for %u ms", carry->settings->carry,
-            carry->settings->flight);
+        (void)say(process, LOG_WARNING | ABOUT_MARKERS,
+            "carry %s: the peer answers no markers, so conversations move once they rested for %u ms", process->settings->carry,
+            process->settings->flight);
 }
 
 /* The partner sent a response on a link: to the last marker there, however late, or to another one. */
@@ -63,7 +59,7 @@ void note_response(struct plane *plane, const struct link *link) {
     uint16_t port = link->settings.number;
     uint64_t answers;
     if (carry->probe.asked_on != port || !is_told(carry->process, niw_answers(&carry->protocol->own_system, port), "niw_answers", &answers)) return;
-    if (answers == NIW_ANSWERS_ANSWERED) judge(carry, ANSWERS);
+    if (answers == NIW_ANSWERS_ANSWERED) note_answering(carry->process, &carry->probe, ANSWERS);
 }
 
 void pass_probe_tick(struct tap_plane *tap) {
@@ -73,7 +69,7 @@ void pass_probe_tick(struct tap_plane *tap) {
         own->asking = false; /* its link went: the peer is asked by another one */
         own->peer = NOT_ASKED;
     } else if (own->asking && carry->time - own->asked_at >= PATIENCE) {
-        judge(carry, MUTE);
+        note_answering(carry->process, &carry->probe, MUTE);
     } else if (own->asking && carry->time - own->sent_at >= AGAIN) {
         own->sent_at = carry->time;
         if (send_marker_again(tap, own->asked_on)) carry->counts[MARKERS_AGAIN]++;

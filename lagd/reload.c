@@ -14,16 +14,16 @@ static const char *restart_for(const struct settings *now, const struct keys *ke
  * 802.1AX-2014, 6.4.4), and current_while has the rest of the short timeout: the last LACPDU comes again, as the partner will send it, and starts the
  * timer with the long one. It is kept so for the next daemon. No frame came, so nothing is counted. An LACPDU that is too old for the short timeout
  * does not come again, nor one whose actor may no longer be the partner. Answers whether the library took that. */
-static bool take_again(struct protocol *protocol, struct link *link) {
+static bool take_again(struct process *process, struct niw_system *system, struct link *link) {
     uint16_t port = link->settings.number;
     uint8_t response[NIW_FRAME];
     struct system_id actor;
-    uint64_t state;
-    if (!is_told(protocol->process, niw_receive_state(&protocol->own_system, port), "niw_receive_state", &state)) return false;
-    if (state != NIW_RECEIVE_CURRENT || !lacpdu_holds(boottime(), link->lacpdu_at, true) || !may_be_partner(link, link->lacpdu, &actor)) return true;
+    if (link->view.receive_state != NIW_RECEIVE_CURRENT || !lacpdu_holds(boottime(), link->lacpdu_at, true)
+        || !may_be_partner(link, link->lacpdu, &actor))
+        return true;
     link->lacpdu[PARTNER_STATE] &= (uint8_t)~NIW_STATE_TIMEOUT;
-    struct niw_received received = niw_receive(&protocol->own_system, port, link->lacpdu, sizeof link->lacpdu, response, sizeof response);
-    return is_done(protocol->process, received.status, "niw_receive");
+    struct niw_received received = niw_receive(system, port, link->lacpdu, sizeof link->lacpdu, response, sizeof response);
+    return is_done(process, received.status, "niw_receive");
 }
 
 /* Gives a port what the library can change; answers whether anything differs. The aggregators keep the keys that they were made with: a port
@@ -33,8 +33,9 @@ bool change_port(struct protocol *protocol, struct link *link, const struct sett
     struct niw_port *now = &link->settings, next = port_of(wanted, port);
     struct niw_change change = {.priority = next.priority, .aggregatable = next.aggregatable};
     bool hold = wants_hold(wanted, port);
+    read_views(protocol->process, &protocol->own_system, protocol->ports);
     if (has_aggregator(&protocol->keys, next.key)) link->key = next.key;
-    change.key = choose_key(protocol, link);
+    change.key = choose_key(&protocol->keys, protocol->ports, protocol->settings, link);
     struct niw_truth answer = niw_configure(&protocol->own_system, port, &change);
     bool changed = is_done(protocol->process, answer.status, "niw_configure") && answer.is;
     if (changed) {
@@ -44,7 +45,7 @@ bool change_port(struct protocol *protocol, struct link *link, const struct sett
     }
     if ((next.active != now->active || next.short_timeout != now->short_timeout)
         && is_done(protocol->process, niw_set_mode(&protocol->own_system, port, next.active, next.short_timeout), "niw_set_mode")
-        && (!now->short_timeout || next.short_timeout || take_again(protocol, link))) {
+        && (!now->short_timeout || next.short_timeout || take_again(protocol->process, &protocol->own_system, link))) {
         now->active = next.active;
         now->short_timeout = next.short_timeout;
         changed = true;
@@ -56,7 +57,7 @@ bool change_port(struct protocol *protocol, struct link *link, const struct sett
 
 /* Who may be the partner changes for each link at once. One that is no longer pinned is so by who speaks next. */
 static void change_policy(struct settings *now, struct ports *ports, const struct settings *wanted) {
-    bool same = wanted->policy == now->policy && memcmp(&wanted->partner, &now->partner, sizeof wanted->partner) == 0;
+    bool same = wanted->policy == now->policy && is_same_system(&wanted->partner, &now->partner);
     now->policy = wanted->policy;
     now->partner = wanted->partner;
     if (same) return;
@@ -64,8 +65,7 @@ static void change_policy(struct settings *now, struct ports *ports, const struc
         forget_partner(now, link);
         if (now->policy != PARTNER_FIRST || !link->up || link->view.defaulted) continue;
         link->pinned = true;
-        link->partner.priority = link->view.partner_priority;
-        memcpy(link->partner.mac, link->view.partner_mac, sizeof link->partner.mac);
+        link->partner = partner_of(&link->view);
     }
 }
 
@@ -117,20 +117,20 @@ static unsigned apply_settings(struct protocol *protocol, const struct settings 
 }
 
 /* Reads a file; answers whether it is right. The system that an interface gave its address at the start keeps it. */
-static bool read_again(struct process *process, const char *file, struct settings *wanted) {
-    if (!read_file(process, file, wanted)) return false;
+static bool read_file_again(struct process *process, const char *file, struct settings *wanted) {
+    if (!read_bundle_file(process, file, wanted)) return false;
     if (!wanted->system_auto || !process->settings->system_auto) return true;
     memcpy(wanted->config.mac, process->settings->config.mac, sizeof wanted->config.mac);
-    return look_at_all(process, file, wanted);
+    return check_whole_bundle(process, file, wanted);
 }
 
 /* Reads the file again. One that is wrong changes nothing. */
 void reload(struct protocol *protocol, const char *file) {
     struct settings wanted;
     notify("RELOADING=1");
-    if (!read_again(protocol->process, file, &wanted)) {
+    if (!read_file_again(protocol->process, file, &wanted)) {
         complain(protocol->process, "%s: the file is wrong, and nothing is changed", file);
-    } else if (!place_ports(protocol, &wanted)) {
+    } else if (!place_ports(protocol->process, protocol->ports, &wanted)) {
         (void)say(protocol->process, LOG_WARNING | ABOUT_RESTART,
             "%s: more ports than there is room for: a restart of this bundle is needed, and nothing is changed", file);
     } else {
@@ -138,9 +138,7 @@ void reload(struct protocol *protocol, const char *file) {
         unsigned changed = apply_settings(protocol, &wanted);
         (void)say(protocol->process, LOG_NOTICE | ABOUT_RELOAD, "%s: read again, %u ports changed", file, changed);
         if (rest) (void)say(protocol->process, LOG_WARNING | ABOUT_RESTART, "%s: %s: a restart of this bundle is needed", file, rest);
-        send_due(protocol);
-        read_views(protocol);
-        protocol->plane->changed = true;
+        settle_calls(protocol);
     }
     notify_bundle(&protocol->bundle, READY);
 }

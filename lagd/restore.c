@@ -38,20 +38,20 @@ void note_carrier(const struct settings *settings, struct link *link) {
 }
 
 /* Whether a carrier was not steady for as long as delay-down has it. */
-static bool is_lost(uint16_t delay_down, const struct link *link) {
+static bool is_away_too_long(uint16_t delay_down, const struct link *link) {
     return milliseconds() - link->carried_at >= delay_down;
 }
 
 /* Answers whether a link waits no longer, as choose_whether_over does: the kernel is asked then whether its carrier is still there, or away. */
 bool choose_whether_waited(struct protocol *protocol, const struct link *link) {
-    return (link->waits && choose_whether_over(protocol, link)) || (link->away && is_lost(protocol->settings->delay_down, link));
+    return (link->waits && choose_whether_over(protocol, link)) || (link->away && is_away_too_long(protocol->settings->delay_down, link));
 }
 
 /* The kernel told of a link whether its carrier is there, and whether it was lost since: answers whether the link stays up all the same. What is
  * there at the start counts as steady. For the library its port is operable for so long (port_enabled of IEEE 802.1AX-2014, 6.4.12, leaves to the
  * hardware when it is not). */
 bool note_whether_spared(const struct process *process, struct link *link, bool carrier, bool lost) {
-    bool spared = link->up && (lost || !carrier) && !is_lost(process->settings->delay_down, link);
+    bool spared = link->up && (lost || !carrier) && !is_away_too_long(process->settings->delay_down, link);
     if (spared && !carrier && !link->away && !lost) link->counts[LOSSES]++; /* of a kernel that does not count them */
     if (carrier && (lost || link->away || (!link->up && !link->waits && process->has_started))) link->returned_at = milliseconds();
     if (carrier) note_carrier(process->settings, link);

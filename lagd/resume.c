@@ -22,12 +22,12 @@ bool lacpdu_holds(uint64_t now, uint64_t then, bool short_timeout) {
 }
 
 /* Whether a port goes on: its carrier did not go, neither end has given the other one up, and its partner may be that. */
-static bool goes_on(const struct protocol *protocol, const struct link *link) {
-    const struct inherited_link *was = link->up && !link->held ? inherited_of(protocol->process->inherited, link) : NULL;
+static bool goes_on(const struct inherited *inherited, const struct link *link, uint64_t now) {
+    const struct inherited_link *was = link->up && !link->held ? inherited_of(inherited, link) : NULL;
     struct system_id actor;
-    return was && was->carried && (was->losses == link->kernel_losses || protocol->process->inherited->ahead != 0)
-        && lacpdu_holds(protocol->resumed_at, was->heard, link->settings.short_timeout)
-        && lacpdu_holds(protocol->resumed_at, was->spoken, (was->lacpdu[ACTOR_STATE] & NIW_STATE_TIMEOUT) != 0)
+    return was && was->carried && (was->losses == link->kernel_losses || inherited->ahead != 0)
+        && lacpdu_holds(now, was->heard, link->settings.short_timeout)
+        && lacpdu_holds(now, was->spoken, (was->lacpdu[ACTOR_STATE] & NIW_STATE_TIMEOUT) != 0)
         && may_be_partner(link, was->lacpdu, &actor);
 }
 
@@ -51,9 +51,11 @@ static void recall_partner(const struct process *process, struct link *link) {
     link->lacpdus_at[MOST_LACPDUS - 1] = was->spoken - process->inherited->ahead;
 }
 
-/* Before the interfaces are taken up: whether there is something to go on with. */
-void begin_resuming(struct process *process) {
-    for (unsigned i = 0; i < process->inherited->link_count; i++) process->resuming = process->resuming || process->inherited->links[i].carried;
+/* Whether there is something to go on with. */
+bool has_carried_links(const struct inherited *inherited) {
+    bool found = false;
+    for (unsigned i = 0; i < inherited->link_count; i++) found = found || inherited->links[i].carried;
+    return found;
 }
 
 /* Tells what became of the links of the last daemon, if some are there. */
@@ -71,11 +73,11 @@ static void tell_links(struct process *process, const struct ports *ports, unsig
 unsigned resume(struct protocol *protocol) {
     struct niw_saved saved[NIW_MOST_PORTS];
     size_t count = 0;
-    protocol->resumed_at = boottime() + protocol->process->inherited->ahead;
+    const struct inherited *inherited = protocol->process->inherited;
+    const uint64_t now = boottime() + inherited->ahead; /* as the last daemon had it */
     EACH_LINK(link, protocol->ports)
-        if (protocol->process->resuming && goes_on(protocol, link))
-            saved[count++] = saved_of(protocol->process->inherited, link, protocol->resumed_at);
-    count = resume_system(protocol, saved, count);
+        if (protocol->process->resuming && goes_on(inherited, link, now)) saved[count++] = saved_of(inherited, link, now);
+    count = resume_system(protocol->process, &protocol->own_system, protocol, saved, count);
     for (size_t i = 0; i < count; i++) recall_partner(protocol->process, &protocol->ports->links[saved[i].port - 1]);
     tell_links(protocol->process, protocol->ports, (unsigned)count);
     return (unsigned)count;
@@ -84,7 +86,7 @@ unsigned resume(struct protocol *protocol) {
 /* Behind the conversations that stay: the settings hold ports, and the links that are up come up for the library, too. Those that went on were up
  * before, so none of the others takes the place of one where links are limited. */
 void release_others(struct protocol *protocol) {
-    hold_by_settings(protocol);
+    apply_holds(protocol->process, &protocol->own_system, protocol->ports, false);
     EACH_LINK(link, protocol->ports)
         if (protocol->process->resuming && link->up
             && !is_done(protocol->process, niw_set_link(&protocol->own_system, link->settings.number, true), "niw_set_link"))
@@ -93,7 +95,7 @@ void release_others(struct protocol *protocol) {
     settle_calls(protocol);
 }
 
-static void stay(struct carry *carry, uint16_t number, uint16_t port) {
+static void stay_on_port(struct carry *carry, uint16_t number, uint16_t port) {
     if (niw_adopt(&carry->protocol->own_system, carry->active, number, port) != NIW_OK) return;
     carry->conversations[number].home = carry->active;
     carry->conversations[number].port = port;
@@ -101,10 +103,10 @@ static void stay(struct carry *carry, uint16_t number, uint16_t port) {
 }
 
 /* The port of an interface that carries in the active aggregator, or 0. */
-static uint16_t port_on(struct carry *carry, int index) {
+static uint16_t port_carrying_on(struct carry *carry, int index) {
     EACH_LINK(link, carry->ports)
         if (index != 0 && link->socket >= 0 && link->index == index && link->view.aggregator == carry->active
-            && is_told_distributing(carry->protocol, link->settings.number, true))
+            && is_told_distributing(carry->process, &carry->protocol->own_system, link->settings.number, true))
             return link->settings.number;
     return 0;
 }
@@ -114,12 +116,12 @@ void resume_conversations(struct plane *plane, bool goes_on) {
     struct carry *carry = plane->carry;
     if (goes_on) {
         go_on_in(carry, carry->process->inherited->bundle.aggregator);
-        go_on_answering(carry, (enum answering)carry->process->inherited->answering);
+        recall_answering(&carry->probe, carry, (enum answering)carry->process->inherited->answering);
     }
     for (uint16_t number = 0; goes_on && number < CONVERSATIONS; number++) {
         int member = ASK(plane->carrying->member_of, 0, plane, number);
-        uint16_t port = port_on(carry, member != 0 ? member : carry->process->inherited->members[number]);
-        if (port != 0) stay(carry, number, port);
+        uint16_t port = port_carrying_on(carry, member != 0 ? member : carry->process->inherited->members[number]);
+        if (port != 0) stay_on_port(carry, number, port);
     }
     CALL(plane->passing->resume, plane->tap);
 }
@@ -127,7 +129,7 @@ void resume_conversations(struct plane *plane, bool goes_on) {
 void resume_data(struct protocol *protocol, unsigned count) {
     const struct inherited *inherited = protocol->process->inherited;
     bool goes_on = count > 0 && inherited->bundle.aggregator <= protocol->aggregator_count;
-    read_views(protocol);
+    read_views(protocol->process, &protocol->own_system, protocol->ports);
     if (goes_on) { /* which is no change of the bundle */
         protocol->bundle.state = inherited->bundle.state;
         protocol->bundle.changed_at = inherited->bundle.changed_at;

@@ -7,7 +7,7 @@
 #define PATIENCE 3000
 
 /* A system as a number: the lower one is the better one (IEEE 802.1AX-2014, 6.3.2). */
-static uint64_t number_of(uint16_t priority, const uint8_t *mac) {
+static uint64_t system_as_number(uint16_t priority, const uint8_t *mac) {
     uint64_t number = priority;
     for (unsigned i = 0; i < 6; i++) number = number << 8 | mac[i];
     return number;
@@ -16,12 +16,12 @@ static uint64_t number_of(uint16_t priority, const uint8_t *mac) {
 /* What an aggregator is worth: all 0 where none of its ports carries. The identifier of a port is that of the end with the better system, so that
  * both ends put ports into the same order. */
 struct worth worth_of(const struct protocol *protocol, uint16_t aggregator) {
-    uint64_t own = number_of(protocol->settings->config.priority, protocol->settings->config.mac);
+    uint64_t own = system_as_number(protocol->settings->config.priority, protocol->settings->config.mac);
     struct worth worth = {0};
     EACH_LINK(link, protocol->ports) {
         const struct niw_view *view = &link->view;
         if (aggregator == 0 || view->aggregator != aggregator || !carries(protocol, link)) continue;
-        uint64_t other = number_of(view->partner_priority, view->partner_mac);
+        uint64_t other = system_as_number(view->partner_priority, view->partner_mac);
         bool is_own = view->defaulted || own < other;
         uint64_t system = is_own ? own : other;
         uint32_t port = is_own ? (uint32_t)link->settings.priority << 16 | link->settings.number
@@ -93,7 +93,7 @@ bool is_as_good_as_any(struct protocol *protocol, uint16_t aggregator) {
  * The end with the better system waits for longer, so that not both go. */
 uint64_t patience_with(const struct protocol *protocol, uint16_t active, uint16_t other) {
     struct worth now = worth_of(protocol, active), next = worth_of(protocol, other);
-    uint64_t own = number_of(protocol->settings->config.priority, protocol->settings->config.mac);
+    uint64_t own = system_as_number(protocol->settings->config.priority, protocol->settings->config.mac);
     if (protocol->settings->select == SELECT_COUNT || !next.has_partner || now.partner != next.partner) return 0;
     return own < now.partner ? 2 * PATIENCE : PATIENCE;
 }

@@ -64,14 +64,14 @@ static bool is_path_of_program(const char *text) {
 }
 
 /* Whether the kernel would take a name of an interface. */
-static bool is_name(const char *text, size_t length) {
+static bool is_interface_name(const char *text, size_t length) {
     bool right = length > 0 && length < NAME_ROOM && !(length == 1 && text[0] == '.') && !(length == 2 && memcmp(text, "..", 2) == 0);
     for (size_t i = 0; i < length; i++) right = right && text[i] && text[i] != '/' && text[i] != ':' && !isspace((unsigned char)text[i]);
     return right;
 }
 
 static bool is_name_of_device(const char *text) {
-    return strlen(text) < DEVICE_ROOM && !strchr(text, '%') && is_name(text, strlen(text));
+    return strlen(text) < DEVICE_ROOM && !strchr(text, '%') && is_interface_name(text, strlen(text));
 }
 
 const char *const HASHES[] = {[HASH_LAYER2] = "layer2", [HASH_LAYER2_3] = "layer2+3", [HASH_LAYER3_4] = "layer3+4",
@@ -166,7 +166,7 @@ static int *value_of_port(const struct key *key, const struct port_settings *por
 }
 
 /* What a text stands for, if that is a number, a switch or a word: else -1. */
-static int number_of(const struct key *key, const char *text) {
+static int number_for_text(const struct key *key, const char *text) {
     if (key->kind == A_NUMBER) return read_number(text, strlen(text), key->least, key->most);
     for (int i = 0; key->words[i]; i++)
         if (strcmp(text, key->words[i]) == 0) return key->kind == A_SWITCH ? i == 0 : i;
@@ -192,7 +192,7 @@ static bool read_value(const struct key *key, const char *text, struct settings 
         if (!key->is_right(text)) return false;
         strncpy(value_in(key, settings), text, key->size); /* which has room for a zero, as is_right knows */
         return true;
-    default: return put_number(key, number_of(key, text), settings);
+    default: return put_number(key, number_for_text(key, text), settings);
     }
 }
 
@@ -277,7 +277,7 @@ const char *set_bundle(struct words *words, struct settings *settings, const cha
     return read_value(key, text, settings) ? NULL : expected_of(words, key);
 }
 
-unsigned line_of(const struct settings *settings, const char *name) {
+unsigned line_of_key(const struct settings *settings, const char *name) {
     const struct key *key = find_key(BUNDLE_KEYS, name);
     return key ? settings->lines[key - BUNDLE_KEYS] : 0;
 }
@@ -286,7 +286,7 @@ unsigned line_of(const struct settings *settings, const char *name) {
 const char *set_port(struct words *words, struct port_settings *port, const char *name, const char *text) {
     const struct key *key = find_key(PORT_KEYS, name);
     if (!key) return list_keys(words, PORT_KEYS, "[Port]");
-    int *value = value_of_port(key, port), number = number_of(key, text);
+    int *value = value_of_port(key, port), number = number_for_text(key, text);
     if (*value != AS_BUNDLE) return EACH_KEY_ONCE;
     if (number < 0) return expected_of(words, key);
     *value = number;
@@ -308,7 +308,7 @@ static bool has_port(const struct settings *settings, const char *name, size_t l
 /* Answers NULL, or what was expected. */
 const char *add_port(struct settings *settings, const char *name, size_t length) {
     struct port_settings *port = &settings->ports[settings->port_count];
-    if (!is_name(name, length)) return "the name of an interface";
+    if (!is_interface_name(name, length)) return "the name of an interface";
     if (has_port(settings, name, length)) return "each interface once";
     if (settings->port_count == NIW_MOST_PORTS) return "at most 64 interfaces";
     *port = unset_port();
@@ -331,7 +331,7 @@ static const char *key_of_data(const struct settings *settings) {
     if (settings->fast) return "fast";
     if (settings->offload) return "offload";
     for (size_t i = 0; i < sizeof keys / sizeof *keys; i++)
-        if (line_of(settings, keys[i])) return keys[i];
+        if (line_of_key(settings, keys[i])) return keys[i];
     return NULL;
 }
 
@@ -346,8 +346,8 @@ struct lack lack_of(const struct settings *settings) {
         bool is_so;
         struct lack lack;
     } rules[] = {
-        {!line_of(settings, "key"), {"key=NUMBER in [Bundle]", NULL}},
-        {!line_of(settings, "system"), {"system=auto or system=PRIORITY,MAC in [Bundle]", NULL}},
+        {!line_of_key(settings, "key"), {"key=NUMBER in [Bundle]", NULL}},
+        {!line_of_key(settings, "system"), {"system=auto or system=PRIORITY,MAC in [Bundle]", NULL}},
         {settings->port_count == 0 && settings->system_auto,
             {"system=PRIORITY,MAC beside no section [Port INTERFACE]: by auto it is the address of the first one", "system"}},
         {carry[0] && has_port(settings, carry, strlen(carry)), {"carry=NAME that is not the interface of a port", "carry"}},
@@ -357,12 +357,12 @@ struct lack lack_of(const struct settings *settings) {
         {team && settings->select != SELECT_COUNT, {"select=count beside plane=team, which does not see in which group the peer sends", "select"}},
         {settings->follow && !team, {"plane=team beside members=follow", "members"}},
         {team && settings->all_queues, {"no queues=all beside plane=team, which leaves queues as they are", "queues"}},
-        {line_of(settings, "answer-after") && !settings->all_queues, {"queues=all beside answer-after", "answer-after"}},
+        {line_of_key(settings, "answer-after") && !settings->all_queues, {"queues=all beside answer-after", "answer-after"}},
         {team && settings->hash == HASH_ENCAP3_4, {"another hash than encap3+4 beside plane=team", "hash"}},
         {most && settings->min_links > most, {"min-links that is at most max-links", "min-links"}},
         {settings->revert && !most, {"max-links=N beside revert", "revert"}},
         /* LACPDUs of its own system are not taken. */
-        {settings->policy == PARTNER_GIVEN && memcmp(&settings->partner, &own, sizeof own) == 0, {"a partner that is not this system", "partner"}},
+        {settings->policy == PARTNER_GIVEN && is_same_system(&settings->partner, &own), {"a partner that is not this system", "partner"}},
         {true, {NULL, NULL}},
     };
     size_t first = 0;
@@ -370,7 +370,7 @@ struct lack lack_of(const struct settings *settings) {
     return rules[first].lack;
 }
 
-static int value_of(int own, int all) {
+static int own_or_bundle(int own, int all) {
     return own == AS_BUNDLE ? all : own;
 }
 
@@ -378,14 +378,14 @@ struct niw_port port_of(const struct settings *settings, uint16_t port) {
     const struct port_settings *own = &settings->ports[port - 1];
     return (struct niw_port){
         .number = port,
-        .priority = (uint16_t)value_of(own->priority, settings->port_priority),
-        .key = (uint16_t)value_of(own->key, settings->key),
-        .aggregatable = value_of(own->individual, false) == 0,
-        .active = value_of(own->active, settings->active) != 0,
-        .short_timeout = value_of(own->short_timeout, settings->short_timeout) != 0,
+        .priority = (uint16_t)own_or_bundle(own->priority, settings->port_priority),
+        .key = (uint16_t)own_or_bundle(own->key, settings->key),
+        .aggregatable = own_or_bundle(own->individual, false) == 0,
+        .active = own_or_bundle(own->active, settings->active) != 0,
+        .short_timeout = own_or_bundle(own->short_timeout, settings->short_timeout) != 0,
     };
 }
 
 bool wants_hold(const struct settings *settings, uint16_t port) {
-    return value_of(settings->ports[port - 1].hold, false) != 0;
+    return own_or_bundle(settings->ports[port - 1].hold, false) != 0;
 }

@@ -138,7 +138,7 @@ const char *partner_text(const struct settings *settings, char room[static 32]);
 void add_word(struct words *words, const char *joint, const char *word);
 const char *list_choice(struct words *words, const struct key *key, const char *joint, const char *last_joint);
 const char *set_bundle(struct words *words, struct settings *settings, const char *name, const char *text, unsigned line);
-unsigned line_of(const struct settings *settings, const char *name);
+unsigned line_of_key(const struct settings *settings, const char *name);
 const char *set_port(struct words *words, struct port_settings *port, const char *name, const char *text);
 bool is_same_value(const struct key *key, const struct settings *one, const struct settings *other);
 void copy_setting(const struct key *key, const struct settings *from, struct settings *to);
@@ -151,7 +151,7 @@ struct niw_port port_of(const struct settings *settings, uint16_t port);
 bool wants_hold(const struct settings *settings, uint16_t port);
 
 /* file.c */
-bool look_at_all(struct process *process, const char *path, const struct settings *settings);
-bool read_file(struct process *process, const char *path, struct settings *wanted);
+bool check_whole_bundle(struct process *process, const char *path, const struct settings *settings);
+bool read_bundle_file(struct process *process, const char *path, struct settings *wanted);
 
 #endif

@@ -32,22 +32,22 @@ static void add_row(struct report *report, enum form form, const char *text, con
 }
 
 /* The same of a value that is a text. */
-static void add_words(struct report *report, enum form form, const char *text, const char *json, const char *words) {
+static void add_text_row(struct report *report, enum form form, const char *text, const char *json, const char *words) {
     const char *name = form == AS_TEXT ? text : json;
     if (!words) add_row(report, form, text, json, NULL);
     if (words && name) add(report, form == AS_TEXT ? "  %s: %s\n" : ",\"%s\":\"%s\"", name, words);
 }
 
-static void add_number(struct report *report, enum form form, const char *text, const char *json, uint64_t number) {
+static void add_number_row(struct report *report, enum form form, const char *text, const char *json, uint64_t number) {
     char digits[32];
     snprintf(digits, sizeof digits, "%" PRIu64, number);
     add_row(report, form, text, json, digits);
 }
 
-static void add_time(struct report *report, enum form form, time_t time) {
+static void add_time_row(struct report *report, enum form form, time_t time) {
     char zoned[40];
     snprintf(zoned, sizeof zoned, "%sZ", time_text(time, TEXT_ROOM));
-    add_words(report, form, "last change", "last_change", time ? zoned : NULL);
+    add_text_row(report, form, "last change", "last_change", time ? zoned : NULL);
 }
 
 /* Which aggregator carries, and what each one has of what decides that. */
@@ -66,21 +66,21 @@ static void add_selection(struct report *report, const struct protocol *protocol
     add(report, "\n");
 }
 
-static void add_bundle(struct control *control) {
+static void add_text_of_bundle(struct report *report, const struct control *control) {
     const struct settings *settings = control->settings;
     const struct bundle *bundle = &control->protocol->bundle;
-    add(control->report, "---- %s ----\n", settings->name);
-    add(control->report, "  status: %s, %u of %u links carry", BUNDLE_STATE_TEXTS[bundle->state], bundle->carrying, bundle->links);
-    EACH_LINK(link, control->ports)
-        if (link->away) add(control->report, ", but the carrier of %s is away", link->name);
-    add(control->report, "\n");
-    add(control->report, "  sys_id: %s\n  sys_priority: %u\n", mac_text(settings->config.mac, TEXT_ROOM), settings->config.priority);
-    add(control->report, "  aggregation key: %u\n  lacp_time: %s\n", settings->key, settings->short_timeout ? "fast" : "slow");
-    add(control->report, "  aggregator: %u\n  min_links: %u\n  max_links: %u\n", bundle->aggregator, settings->min_links, settings->config.max_links);
-    add_selection(control->report, control->protocol);
-    add(control->report, "  partner: %s%s\n", partner_text(settings, TEXT_ROOM), settings->partner_required ? ", required" : "");
-    add_time(control->report, AS_TEXT, bundle->changed_at);
-    add(control->report, "  uptime: %" PRIu64 " s, lagd %s\n", seconds_since(control->protocol->began), VERSION);
+    add(report, "---- %s ----\n", settings->name);
+    add(report, "  status: %s, %u of %u links carry", BUNDLE_STATE_TEXTS[bundle->state], bundle->carrying, bundle->links);
+    EACH_LINK_AS_IS(link, control->ports)
+        if (link->away) add(report, ", but the carrier of %s is away", link->name);
+    add(report, "\n");
+    add(report, "  sys_id: %s\n  sys_priority: %u\n", mac_text(settings->config.mac, TEXT_ROOM), settings->config.priority);
+    add(report, "  aggregation key: %u\n  lacp_time: %s\n", settings->key, settings->short_timeout ? "fast" : "slow");
+    add(report, "  aggregator: %u\n  min_links: %u\n  max_links: %u\n", bundle->aggregator, settings->min_links, settings->config.max_links);
+    add_selection(report, control->protocol);
+    add(report, "  partner: %s%s\n", partner_text(settings, TEXT_ROOM), settings->partner_required ? ", required" : "");
+    add_time_row(report, AS_TEXT, bundle->changed_at);
+    add(report, "  uptime: %" PRIu64 " s, lagd %s\n", seconds_since(control->protocol->began), VERSION);
 }
 
 static void add_state(struct report *report, enum form form, uint64_t state) {
@@ -105,54 +105,39 @@ static void add_side(struct report *report, enum form form, const char *whose, c
     add_state(report, form, state);
 }
 
-/* What the library tells of a port. */
-struct view {
-    struct facts facts;
-    uint64_t receive, mux, current_while, wait_while, state; /* the last one: the state octet of its own side */
-    struct niw_actor own;
-    struct niw_info partner;
-};
-
-/* Asks for that; answers whether the library told it. */
-static bool read_view(struct protocol *protocol, const struct link *link, struct view *view) {
-    struct niw_system *system = &protocol->own_system;
-    uint16_t port = link->settings.number;
-    view->facts = facts_of(protocol, link);
-    view->own = niw_party(system, port);
-    view->partner = niw_partner(system, port);
-    return is_done(protocol->process, view->own.status, "niw_party") && is_done(protocol->process, view->partner.status, "niw_partner")
-        && is_told(protocol->process, niw_receive_state(system, port), "niw_receive_state", &view->receive)
-        && is_told(protocol->process, niw_mux_state(system, port), "niw_mux_state", &view->mux)
-        && is_told(protocol->process, niw_current_while(system, port), "niw_current_while", &view->current_while)
-        && is_told(protocol->process, niw_wait_while(system, port), "niw_wait_while", &view->wait_while)
-        && is_told(protocol->process, niw_state(system, port), "niw_state", &view->state);
+/* Answers whether the library told something; of what it refuses the report keeps the first call. */
+bool note_answer(struct report *report, uint32_t status, const char *call) {
+    if (status == NIW_OK) return true;
+    if (report->refusal == NIW_OK) {
+        report->refusal = status;
+        report->refused = call;
+    }
+    return false;
 }
 
-static void add_both_ends(struct report *report, enum form form, const struct view *view) {
-    const struct niw_actor *own = &view->own;
-    const struct niw_info *partner = &view->partner;
+static void add_both_ends(struct report *report, enum form form, const struct niw_actor *own, const struct niw_view *view) {
     if (form == AS_JSON) add(report, ",\"actor\":{");
     add_side(report, form, "actor", own->system_mac, (unsigned[]){own->system_priority, own->port, own->port_priority, own->key}, view->state);
     if (form == AS_JSON)
-        add(report, ",\"partner\":{\"defaulted\":%s,\"system_priority\":%u,\"system\":\"%s\",", view->facts.defaulted ? "true" : "false",
-            partner->system_priority, mac_text(partner->system_mac, TEXT_ROOM));
-    add_side(report, form, "partner", partner->system_mac,
-        (unsigned[]){partner->system_priority, partner->port, partner->port_priority, partner->key}, partner->state);
+        add(report, ",\"partner\":{\"defaulted\":%s,\"system_priority\":%u,\"system\":\"%s\",", view->defaulted ? "true" : "false",
+            view->partner_priority, mac_text(view->partner_mac, TEXT_ROOM));
+    add_side(report, form, "partner", view->partner_mac,
+        (unsigned[]){view->partner_priority, view->partner_port, view->partner_port_priority, view->partner_key}, view->partner_state);
 }
 
-static void add_strangers(struct control *control, const struct link *link, enum form form) {
+static void add_strangers(struct report *report, const struct ports *ports, const struct link *link, enum form form) {
     const struct strangers *others = &link->strangers;
-    const char *twin = link->twin > 0 ? control->ports->links[link->twin - 1].name : NULL;
-    add_words(control->report, form, "pinned to", "pinned", link->pinned ? system_text(&link->partner, TEXT_ROOM) : NULL);
-    if (form == AS_TEXT && twin) add(control->report, "  partner port: that of %s, too\n", twin);
+    const char *twin = link->twin > 0 ? ports->links[link->twin - 1].name : NULL;
+    add_text_row(report, form, "pinned to", "pinned", link->pinned ? system_text(&link->partner, TEXT_ROOM) : NULL);
+    if (form == AS_TEXT && twin) add(report, "  partner port: that of %s, too\n", twin);
     if (form == AS_JSON) {
-        add_row(control->report, form, NULL, "same_partner_port", twin ? "" : NULL);
-        if (twin) add_string(control->report, twin);
+        add_row(report, form, NULL, "same_partner_port", twin ? "" : NULL);
+        if (twin) add_string(report, twin);
     }
     if (!others->seen)
-        add_row(control->report, form, NULL, "other_system", NULL);
+        add_row(report, form, NULL, "other_system", NULL);
     else
-        add(control->report, form == AS_TEXT ? "  other system: %s from %s\n" : ",\"other_system\":{\"system\":\"%s\",\"source\":\"%s\"}",
+        add(report, form == AS_TEXT ? "  other system: %s from %s\n" : ",\"other_system\":{\"system\":\"%s\",\"source\":\"%s\"}",
             system_text(&others->system, TEXT_ROOM), mac_text(others->source, TEXT_ROOM));
 }
 
@@ -160,9 +145,9 @@ static void add_counts(struct report *report, const struct link *link, enum form
     add(report, form == AS_TEXT ? "\n" : ",\"counters\":{");
     for (unsigned i = 0; i < ALL_COUNTS; i++) {
         if (form == AS_TEXT)
-            add(report, "%s %s %" PRIu64 "%s", i % 4 == 0 ? " " : "", count_text(i).name, count_at(link, i), i % 4 == 3 || i == ALL_COUNTS - 1 ? "\n" : "");
+            add(report, "%s %s %" PRIu64 "%s", i % 4 == 0 ? " " : "", COUNT_TEXTS[i].name, count_at(link, i), i % 4 == 3 || i == ALL_COUNTS - 1 ? "\n" : "");
         else
-            add(report, "%s\"%s\":%" PRIu64, i ? "," : "", count_text(i).name, count_at(link, i));
+            add(report, "%s\"%s\":%" PRIu64, i ? "," : "", COUNT_TEXTS[i].name, count_at(link, i));
     }
     if (form == AS_JSON) add(report, "}");
 }
@@ -175,113 +160,115 @@ static void add_json_name(struct report *report, const struct link *link) {
     add(report, ",\"key\":%u", link->key);
 }
 
-static void add_link(struct control *control, const struct link *link, enum form form) {
+static void add_link(struct report *report, const struct link *link, enum form form, uint16_t delay_down) {
     const char *name = link->socket < 0 ? "missing" : link->away ? "away" : link->up ? "up" : link->waits ? "waiting" : "down";
     char text[64];
     snprintf(text, sizeof text, link->away && form == AS_TEXT ? "%s for %" PRIu64 " of %u ms, while it counts as up" : "%s", name,
-        milliseconds() - link->carried_at, control->settings->delay_down);
-    add_words(control->report, form, "link", "link", text);
+        milliseconds() - link->carried_at, delay_down);
+    add_text_row(report, form, "link", "link", text);
 }
 
-static void add_member(struct control *control, const struct link *link, enum form form) {
-    struct report *report = control->report;
-    struct view view;
+static void add_member(struct report *report, const struct control *control, const struct link *link, enum form form) {
+    struct niw_system *system = &control->protocol->own_system;
+    const uint16_t port = link->settings.number;
+    const struct niw_actor own = niw_party(system, port);
+    const struct niw_number current_while = niw_current_while(system, port), wait_while = niw_wait_while(system, port);
+    const char *receive = niw_receive_state_text(link->view.receive_state), *mux = niw_mux_state_text(link->view.mux_state);
     char text[40];
-    if (!read_view(control->protocol, link, &view)) return;
-    const char *receive = niw_receive_state_text((uint32_t)view.receive);
-    const char *mux = niw_mux_state_text((uint32_t)view.mux);
+    if (!note_answer(report, own.status, "niw_party") || !note_answer(report, current_while.status, "niw_current_while")
+        || !note_answer(report, wait_while.status, "niw_wait_while"))
+        return;
     if (form == AS_TEXT) add(report, "\nmember: %s: %s, %s\n", link->name, receive, mux);
     else add_json_name(report, link);
-    add_words(report, form, "status", "status", status_text(view.facts.status));
+    add_text_row(report, form, "status", "status", status_text(facts_of(control->protocol, link).status));
     add_row(report, form, "may_enable", "carries", carries(control->protocol, link) ? "true" : "false");
     if (form == AS_TEXT && link->trouble) add(report, "  trouble: %s\n", strerror(link->trouble));
-    add_link(control, link, form);
-    add_words(report, form, "address", "address", mac_text(link->mac, text));
-    add_number(report, form, "port_id", NULL, view.own.port);
-    add_number(report, form, "port_priority", NULL, view.own.port_priority);
-    add_number(report, form, "aggregator", "aggregator", view.facts.aggregator);
-    add_words(report, form, NULL, "receive", receive);
-    add_words(report, form, NULL, "mux", mux);
-    add_number(report, form, "current_while", "current_while", view.current_while);
-    add_number(report, form, "wait_while", "wait_while", view.wait_while);
-    add_words(report, form, "actor_churn", "actor_churn", niw_churn_state_text(link->churn.actor.state));
-    add_words(report, form, "partner_churn", "partner_churn", niw_churn_state_text(link->churn.partner.state));
-    add_words(report, form, "speed", "speed", link->has_speed ? speed_text(&link->speed, text) : NULL);
-    add_time(report, form, link->changed_at);
-    add_strangers(control, link, form);
-    add_both_ends(report, form, &view);
+    add_link(report, link, form, control->settings->delay_down);
+    add_text_row(report, form, "address", "address", mac_text(link->mac, text));
+    add_number_row(report, form, "port_id", NULL, own.port);
+    add_number_row(report, form, "port_priority", NULL, own.port_priority);
+    add_number_row(report, form, "aggregator", "aggregator", link->view.aggregator);
+    add_text_row(report, form, NULL, "receive", receive);
+    add_text_row(report, form, NULL, "mux", mux);
+    add_number_row(report, form, "current_while", "current_while", current_while.number);
+    add_number_row(report, form, "wait_while", "wait_while", wait_while.number);
+    add_text_row(report, form, "actor_churn", "actor_churn", niw_churn_state_text(link->churn.actor.state));
+    add_text_row(report, form, "partner_churn", "partner_churn", niw_churn_state_text(link->churn.partner.state));
+    add_text_row(report, form, "speed", "speed", link->has_speed ? speed_text(&link->speed, text) : NULL);
+    add_time_row(report, form, link->changed_at);
+    add_strangers(report, control->ports, link, form);
+    add_both_ends(report, form, &own, &link->view);
     add_counts(report, link, form);
-    CALL(control->plane->carrying->show_member, control, link, form);
+    CALL(control->plane->carrying->show_member, report, control, link, form);
     if (form == AS_TEXT) return;
     add_row(report, form, NULL, "trouble", "");
     add_string(report, link->trouble ? strerror(link->trouble) : "");
     add(report, "}");
 }
 
-void write_text(struct control *control) {
-    add_bundle(control);
-    CALL(control->plane->carrying->show, control, AS_TEXT);
-    EACH_LINK(link, control->ports)
-        if (link->used) add_member(control, link, AS_TEXT);
+void write_text(struct report *report, const struct control *control) {
+    add_text_of_bundle(report, control);
+    CALL(control->plane->carrying->show, report, control, AS_TEXT);
+    EACH_LINK_AS_IS(link, control->ports)
+        if (link->used) add_member(report, control, link, AS_TEXT);
 }
 
-static void add_json_bundle(struct control *control) {
-    add(control->report, "\"bundle\":");
-    add_string(control->report, control->settings->name);
-    add(control->report, ",\"state\":\"%s\",\"links\":%u,\"carrying\":%u,\"away\":%u,\"aggregator\":%u",
+static void add_json_bundle(struct report *report, const struct control *control) {
+    add(report, "\"bundle\":");
+    add_string(report, control->settings->name);
+    add(report, ",\"state\":\"%s\",\"links\":%u,\"carrying\":%u,\"away\":%u,\"aggregator\":%u",
         BUNDLE_STATE_TEXTS[control->protocol->bundle.state], control->protocol->bundle.links,
         control->protocol->bundle.carrying, count_away(control->ports), control->protocol->bundle.aggregator);
-    add_time(control->report, AS_JSON, control->protocol->bundle.changed_at);
+    add_time_row(report, AS_JSON, control->protocol->bundle.changed_at);
 }
 
 /* The whole status as JSON, in a line. */
-void write_json(struct control *control) {
-    struct report *report = control->report;
+void write_json(struct report *report, const struct control *control) {
     const struct settings *settings = control->settings;
     const char *between = "";
     add(report, "{\"lagd\":\"%s\",", VERSION);
-    add_json_bundle(control);
+    add_json_bundle(report, control);
     add(report, ",\"system_priority\":%u,\"system\":\"%s\"", settings->config.priority, mac_text(settings->config.mac, TEXT_ROOM));
     add(report, ",\"key\":%u,\"collector_max_delay\":%u", settings->key, settings->config.max_delay);
     add(report, ",\"min_links\":%u,\"max_links\":%u", settings->min_links, settings->config.max_links);
     add(report, ",\"select\":\"%s\",\"follows_peer\":%s,\"seconds\":%" PRIu64 ",", SELECTIONS[settings->select],
         control->protocol->choice.followed != 0 ? "true" : "false", seconds_since(control->protocol->began));
-    CALL(control->plane->carrying->show, control, AS_JSON);
+    CALL(control->plane->carrying->show, report, control, AS_JSON);
     add(report, "\"ports\":[");
-    EACH_LINK(link, control->ports) {
+    EACH_LINK_AS_IS(link, control->ports) {
         if (!link->used) continue;
         add(report, "%s", between);
-        add_member(control, link, AS_JSON);
+        add_member(report, control, link, AS_JSON);
         between = ",";
     }
     add(report, "]}\n");
 }
 
 /* A change of a port, or of the bundle, where `link` is null, in a line. */
-void write_json_event(struct control *control, const struct link *link) {
-    add(control->report, "{\"time\":\"%sZ\",\"event\":\"%s\",", time_text(time(NULL), TEXT_ROOM), link ? "port" : "bundle");
+void write_json_event(struct report *report, const struct control *control, const struct link *link) {
+    add(report, "{\"time\":\"%sZ\",\"event\":\"%s\",", time_text(time(NULL), TEXT_ROOM), link ? "port" : "bundle");
     if (link) {
-        add(control->report, "\"bundle\":");
-        add_string(control->report, control->settings->name);
-        add(control->report, ",\"port\":");
-        add_member(control, link, AS_JSON);
+        add(report, "\"bundle\":");
+        add_string(report, control->settings->name);
+        add(report, ",\"port\":");
+        add_member(report, control, link, AS_JSON);
     } else {
-        add_json_bundle(control);
+        add_json_bundle(report, control);
     }
-    add(control->report, "}\n");
+    add(report, "}\n");
 }
 
 /* The settings that hold now, as a file has them: without ports that leave, and those that the device alone has. */
-void write_config(struct control *control) {
+void write_config(struct report *report, const struct control *control) {
     const char *value;
-    add(control->report, "# %s\n[Bundle]\n", control->settings->name);
+    add(report, "# %s\n[Bundle]\n", control->settings->name);
     for (const struct key *key = BUNDLE_KEYS; key->name; key++)
-        if ((value = value_to_give(key, control->settings, TEXT_ROOM))) add(control->report, "%s=%s\n", key->name, value);
-    EACH_LINK(link, control->ports) {
+        if ((value = value_to_give(key, control->settings, TEXT_ROOM))) add(report, "%s=%s\n", key->name, value);
+    EACH_LINK_AS_IS(link, control->ports) {
         const struct port_settings *port = &control->settings->ports[link - control->ports->links];
         if (!link->used || link->leaving || link->followed) continue;
-        add(control->report, "\n[Port %s]\n", port->name);
+        add(report, "\n[Port %s]\n", port->name);
         for (const struct key *key = PORT_KEYS; key->name; key++)
-            if ((value = value_of_own(key, port, TEXT_ROOM))) add(control->report, "%s=%s\n", key->name, value);
+            if ((value = value_of_own(key, port, TEXT_ROOM))) add(report, "%s=%s\n", key->name, value);
     }
 }

@@ -36,7 +36,7 @@ uint64_t boottime(void) {
 }
 
 /* The settings by which the rest means something. */
-static const char *way(const struct carry *carry, char room[static WAY_ROOM]) {
+static const char *way_text(const struct carry *carry, char room[static WAY_ROOM]) {
     const struct settings *settings = carry->settings;
     struct system_id own = own_system(settings);
     snprintf(room, WAY_ROOM, "%s/%s%s/%s/%u/%s", system_text(&own, TEXT_ROOM), settings->carry, carry->plane->carrying->nameless,
@@ -56,7 +56,9 @@ static void write_conversations(struct state *own, FILE *file) {
     for (uint16_t number = 0; number < CONVERSATIONS; number++) {
         struct niw_assignment assigned;
         uint16_t home = carry->conversations[number].home;
-        if (home == 0 || !ask_state(carry->protocol, home, number, &assigned) || assigned.what == NIW_CONVERSATION_FREE) continue;
+        if (home == 0 || !ask_state(carry->process, &carry->protocol->own_system, home, number, &assigned)
+            || assigned.what == NIW_CONVERSATION_FREE)
+            continue;
         if (assigned.port == 0 || assigned.port > carry->ports->count) continue;
         own->members[number] = carry->ports->links[assigned.port - 1].index;
         fprintf(file, "on %u %d\n", number, own->members[number]);
@@ -68,7 +70,7 @@ static void write_state(struct state *own, FILE *file) {
     struct protocol *protocol = carry->protocol;
     struct niw_marker marker = niw_next_marker(&protocol->own_system);
     char boot[BOOT_ROOM], room[WAY_ROOM], mac[32];
-    fprintf(file, "lagd %u\nboot %s\nway %s\n", FORM_VERSION, boot_id(boot), way(carry, room));
+    fprintf(file, "lagd %u\nboot %s\nway %s\n", FORM_VERSION, boot_id(boot), way_text(carry, room));
     fprintf(file, "space %" PRIu64 "\nwritten %" PRIu64 "\n", own->space, boottime());
     if (own->copy_folder >= 0) fprintf(file, "wall %" PRIu64 "\n", milliseconds_of(CLOCK_REALTIME));
     fprintf(file, "marker %" PRIu32 "\n", is_done(carry->process, marker.status, "niw_next_marker") && marker.left ? marker.id : 0);
@@ -128,7 +130,7 @@ static FILE *replace_file(struct state *own, int folder, const char *name, bool 
 }
 
 /* It could not be written: there is none. */
-static void lose_file(struct state *own) {
+static void give_up_file(struct state *own) {
     if (!own->failed)
         (void)say(own->carry->process, LOG_WARNING | ABOUT_HANDOVER, "its state cannot be kept, so the next daemon starts anew: %s",
             strerror(-last_fault()));
@@ -142,7 +144,7 @@ void keep_port(struct state *own, uint16_t number, uint16_t port) {
     int index = own->carry->ports->links[port - 1].index;
     if (!own->file || own->members[number] == index) return;
     own->members[number] = index;
-    if (fprintf(own->file, "on %u %d\n", number, index) < 0 || fflush(own->file) != 0) lose_file(own);
+    if (fprintf(own->file, "on %u %d\n", number, index) < 0 || fflush(own->file) != 0) give_up_file(own);
 }
 
 /* Removes a state, or what it has, on the disk too if it `lasts`; answers 0, or -errno. */
@@ -158,7 +160,7 @@ static const char *fault_text(int fault) {
     return fault == HANGS ? "its disk does not answer" : strerror(-fault);
 }
 
-static void note_removal(struct process *process, const char *name, int fault) {
+static void tell_failed_removal(struct process *process, const char *name, int fault) {
     if (fault < 0)
         (void)say(process, LOG_ERR | ABOUT_HANDOVER,
             "its state cannot be removed: %s: remove %s, or start no daemon for as long as a partner is waited for", fault_text(fault), name);
@@ -177,7 +179,7 @@ static void note_copy(struct state *own, struct copied copied) {
     if (copied.written < 0 && !own->copy_failed)
         (void)say(process, LOG_WARNING | ABOUT_HANDOVER, "its state cannot be kept in %s, and what is there may stay: %s", folder,
             fault_text(copied.written));
-    if (!own->copy_failed) note_removal(process, own->copy_name, copied.removed);
+    if (!own->copy_failed) tell_failed_removal(process, own->copy_name, copied.removed);
     if (own->copy_failed && !failed) (void)say(process, LOG_NOTICE | ABOUT_HANDOVER, "its state can be kept in %s again", folder);
     own->copy_failed = failed;
 }
@@ -287,7 +289,7 @@ bool save_state(struct state *own, bool leaves) {
     struct process *process = own->carry->process;
     if (own->over || process->broken || !process->has_started) return false;
     FILE *file = replace_file(own, process->folder, own->name, false);
-    if (!file) lose_file(own);
+    if (!file) give_up_file(own);
     if (file) own->failed = false;
     keep_file(own, file);
     if (own->copy_folder >= 0 && leaves && file) finish_copy(own, true);
@@ -300,11 +302,11 @@ void end_state(struct state *own) {
     struct process *process = own->carry->process;
     own->over = true;
     keep_file(own, NULL);
-    note_removal(process, own->name, remove_file(process->folder, own->name, false));
+    tell_failed_removal(process, own->name, remove_file(process->folder, own->name, false));
     if (own->copy_folder >= 0) finish_copy(own, false);
 }
 
-static bool read_link(struct inherited *inherited, FILE *file) {
+static bool read_inherited_link(struct inherited *inherited, FILE *file) {
     struct inherited_link *link = &inherited->links[inherited->link_count];
     uint8_t *mac = link->mac;
     int carried;
@@ -350,7 +352,7 @@ static bool read_bundle(struct inherited *inherited, FILE *file) {
     return true;
 }
 
-static bool read_line(struct inherited *inherited, const char *word, FILE *file) {
+static bool read_state_line(struct inherited *inherited, const char *word, FILE *file) {
     if (strcmp(word, "space") == 0) return fscanf(file, "%" SCNu64, &inherited->space) == 1;
     if (strcmp(word, "written") == 0) return fscanf(file, "%" SCNu64, &inherited->written) == 1;
     if (strcmp(word, "wall") == 0) return fscanf(file, "%" SCNu64, &inherited->wall) == 1;
@@ -361,18 +363,18 @@ static bool read_line(struct inherited *inherited, const char *word, FILE *file)
         return fscanf(file, "%d %d %" SCNu32 " %u", &inherited->tap, &inherited->persists, &inherited->mtu, &inherited->answering) == 4
             && inherited->answering <= MUTE;
     if (strcmp(word, "port") == 0) return read_port_number(inherited, file);
-    if (strcmp(word, "link") == 0) return read_link(inherited, file);
+    if (strcmp(word, "link") == 0) return read_inherited_link(inherited, file);
     return strcmp(word, "on") == 0 && read_conversation(inherited, file);
 }
 
 /* Reads the lines behind the first three; answers whether the last one is there. Behind that stand the conversations that went to another link
  * since the state was written. */
-static bool read_rest(struct inherited *inherited, FILE *file) {
+static bool read_state_lines(struct inherited *inherited, FILE *file) {
     char word[16];
     bool whole = false;
     while (!whole && fscanf(file, "%15s", word) == 1) {
         whole = strcmp(word, "end") == 0;
-        if (!whole && !read_line(inherited, word, file)) return false;
+        if (!whole && !read_state_line(inherited, word, file)) return false;
     }
     while (whole && fscanf(file, "%15s", word) == 1 && strcmp(word, "on") == 0 && read_conversation(inherited, file)) continue;
     return whole;
@@ -380,10 +382,10 @@ static bool read_rest(struct inherited *inherited, FILE *file) {
 
 /* By other settings nothing goes on: what stays to be done is to put back what the last daemon changed. It has a line once these interfaces
  * are found. `way` is that of the last daemon. */
-static void leave_all_but_interfaces(struct state *own, const char *way) {
-    struct inherited *inherited = own->carry->process->inherited, last = *inherited;
+static void leave_all_but_interfaces(struct inherited *inherited, struct plane *plane, const char *way) {
+    const struct inherited last = *inherited;
     const char *word = strrchr(way, '/');
-    leave_device(own->carry->plane, word ? word + 1 : way, last.tap, last.persists);
+    leave_device(plane, word ? word + 1 : way, last.tap, last.persists);
     *inherited = (struct inherited){.others = true, .link_count = last.link_count, .space = last.space, .written = last.written, .wall = last.wall,
         .marker = last.marker};
     memcpy(inherited->links, last.links, sizeof inherited->links);
@@ -422,17 +424,17 @@ static const char *take_over_state(struct state *own, FILE *file, bool is_copy) 
     if (version != FORM_VERSION && version != FORM_WITHOUT_SPACE) return "it is of another version";
     if (fscanf(file, " boot %63s way %95s", boot, given) != 2) return "it is cut off";
     if (!is_copy && strcmp(boot, boot_id(now)) != 0) return "it is of another boot";
-    if (!read_rest(inherited, file)) return "it is cut off, or wrong";
+    if (!read_state_lines(inherited, file)) return "it is cut off, or wrong";
     if (ferror(file)) return "it cannot be read";
-    bool is_same_way = strcmp(given, way(own->carry, room)) == 0;
+    bool is_same_way = strcmp(given, way_text(own->carry, room)) == 0;
     if (is_copy) return is_same_way ? bring_over(inherited) : "it belongs to other settings";
     if (inherited->space != 0 && inherited->space != own->space) return "it is of another network namespace";
-    if (!is_same_way) leave_all_but_interfaces(own, given);
+    if (!is_same_way) leave_all_but_interfaces(inherited, own->carry->plane, given);
     return NULL;
 }
 
 /* Opens the file, if it is one of root or of this user, who alone may write it. */
-static FILE *open_state(int folder, const char *name) {
+static FILE *open_owned_state(int folder, const char *name) {
     FILE *file = open_in(folder, name, O_RDONLY, "r");
     if (!file) return NULL;
     if (!fault_of_owner(fileno(file))) return file;
@@ -470,9 +472,9 @@ void recall_state(struct state *own) {
     snprintf(own->copy_name, sizeof own->copy_name, "%s.state", settings->name);
     own->space = namespace_cookie();
     open_copy_folder(own);
-    CLOSED_STREAM FILE *file = open_state(own->carry->process->folder, own->name);
+    CLOSED_STREAM FILE *file = open_owned_state(own->carry->process->folder, own->name);
     bool is_copy = !file && own->copy_folder >= 0;
-    if (is_copy) file = open_state(own->copy_folder, own->copy_name);
+    if (is_copy) file = open_owned_state(own->copy_folder, own->copy_name);
     const char *fault = file ? take_over_state(own, file, is_copy) : NULL;
     if (!fault) return;
     *own->carry->process->inherited = (struct inherited){0};

@@ -19,7 +19,7 @@ static void close_caller(struct caller *caller) {
 }
 
 /* A free place for a user, or NULL, and why there is none. */
-static struct caller *place_for(struct status *own, uid_t user, const char **why) {
+static struct caller *free_caller(struct status *own, uid_t user, const char **why) {
     struct caller *found = NULL;
     unsigned free_ones = 0, of_user = 0;
     EACH_CALLER(caller, own) {
@@ -42,13 +42,13 @@ static void end_with(struct caller *caller, const char *text) {
     close_caller(caller);
 }
 
-static void accept_one(struct process *process, int fd) {
+static void accept_one(struct status *own, int epoll_file, int fd) {
     struct ucred who = {0};
     socklen_t length = sizeof who;
     const char *why = NULL;
-    struct caller *place = getsockopt(fd, SOL_SOCKET, SO_PEERCRED, &who, &length) == 0 ? place_for(&process->status, who.uid, &why) : NULL;
-    struct caller caller = {.fd = fd, .user = who.uid, .ticks = PATIENCE};
-    if (place && await_input(process->epoll_file, fd, CALLERS + (uint32_t)(place - process->status.callers))) {
+    struct caller *place = getsockopt(fd, SOL_SOCKET, SO_PEERCRED, &who, &length) == 0 ? free_caller(own, who.uid, &why) : NULL;
+    struct caller caller = {.fd = fd, .tag = place ? CALLERS + (uint32_t)(place - own->callers) : 0, .user = who.uid, .ticks = PATIENCE};
+    if (place && await_input(epoll_file, fd, caller.tag)) {
         *place = caller;
         return;
     }
@@ -58,30 +58,27 @@ static void accept_one(struct process *process, int fd) {
 }
 
 /* Takes connections, in the order in which they came. Those for which there is no room now are taken at the next tick. */
-void accept_callers(struct process *process) {
-    struct status *own = &process->status;
+void accept_callers(struct status *own, int epoll_file) {
     while (own->left_in_tick > 0) {
         int fd = accept4(own->listener, NULL, NULL, SOCK_NONBLOCK | SOCK_CLOEXEC);
         if (fd < 0 && (errno == EAGAIN || errno == EINTR || errno == ECONNABORTED)) return;
         if (fd < 0) break; /* without a file for it, it waits for the next tick */
         own->left_in_tick--;
-        accept_one(process, fd);
+        accept_one(own, epoll_file, fd);
     }
-    if (own->listens) await_no_more(process->epoll_file, own->listener);
+    if (own->listens) await_no_more(epoll_file, own->listener);
     own->listens = false;
 }
 
 /* Sends what is left of an answer, as far as the socket has room, and closes the connection behind it. */
-static void send_rest(const struct process *process, struct caller *caller) {
+static void send_rest(struct caller *caller, int epoll_file) {
     ssize_t sent = send(caller->fd, caller->rest + caller->sent, caller->answer_length - caller->sent, MSG_NOSIGNAL | MSG_DONTWAIT);
     bool waits = sent >= 0 || errno == EAGAIN || errno == EINTR;
     if (sent > 0) {
         caller->sent += (size_t)sent;
         caller->ticks = PATIENCE;
     }
-    if (!waits || caller->sent == caller->answer_length
-        || !await_output(process->epoll_file, caller->fd, CALLERS + (uint32_t)(caller - process->status.callers)))
-        close_caller(caller);
+    if (!waits || caller->sent == caller->answer_length || !await_output(epoll_file, caller->fd, caller->tag)) close_caller(caller);
 }
 
 static bool is_order(const char *asked) {
@@ -100,30 +97,27 @@ static void let_watch(const struct status *own, struct caller *caller) {
     if (!caller->watches) end_with(caller, REFUSAL "this user watches too often\n");
 }
 
-/* Does what root asks for, and tells what became of it. */
-static void obey(struct protocol *protocol, struct caller *caller) {
-    char answer[ORDER_ROOM] = REFUSAL "root alone may change a bundle\n";
-    if (caller->user == 0) answer_order(protocol, caller->question, answer);
-    end_with(caller, answer);
-}
-
-/* Answers a question by a report; one that is not known has none. */
+/* Answers a question by a report, of what the library and the kernel tell now; one that is not known has none. */
 static void send_report(struct control *control, struct caller *caller) {
     const char *asked = caller->question;
-    control->report->length = 0;
-    if (strcmp(asked, "text") == 0) write_text(control);
-    if (strcmp(asked, "config") == 0) write_config(control);
-    if (strcmp(asked, "json") == 0) write_json(control);
-    if (strcmp(asked, "metrics") == 0) write_metrics(control);
-    if (control->process->broken) control->report->length = 0; /* what the library refuses to tell is not told half */
-    caller->rest = control->report->length > 0 ? malloc(control->report->length) : NULL;
-    caller->answer_length = control->report->length;
+    struct report *report = control->report;
+    report->length = 0;
+    report->refusal = NIW_OK;
+    read_views(control->process, &control->protocol->own_system, control->ports);
+    CALL(control->plane->passing->count, control->plane->tap);
+    if (strcmp(asked, "text") == 0) write_text(report, control);
+    if (strcmp(asked, "config") == 0) write_config(report, control);
+    if (strcmp(asked, "json") == 0) write_json(report, control);
+    if (strcmp(asked, "metrics") == 0) write_metrics(report, control);
+    if (!is_done(control->process, report->refusal, report->refused) || control->process->broken) report->length = 0;
+    caller->rest = report->length > 0 ? malloc(report->length) : NULL;
+    caller->answer_length = report->length;
     if (!caller->rest) {
         close_caller(caller);
         return;
     }
-    memcpy(caller->rest, control->report->text, control->report->length);
-    send_rest(control->process, caller);
+    memcpy(caller->rest, report->text, report->length);
+    send_rest(caller, control->process->epoll_file);
 }
 
 static void read_question(struct control *control, struct caller *caller) {
@@ -137,12 +131,15 @@ static void read_question(struct control *control, struct caller *caller) {
         return;
     }
     *end = 0;
-    if (strcmp(caller->question, "watch") == 0 || strcmp(caller->question, "watch-json") == 0)
+    if (strcmp(caller->question, "watch") == 0 || strcmp(caller->question, "watch-json") == 0) {
         let_watch(&control->process->status, caller);
-    else if (is_order(caller->question))
-        obey(control->protocol, caller);
-    else
+    } else if (is_order(caller->question)) {
+        char answer[ORDER_ROOM] = REFUSAL "root alone may change a bundle\n";
+        if (caller->user == 0) answer_order(control->protocol, caller->question, answer);
+        end_with(caller, answer);
+    } else {
         send_report(control, caller);
+    }
 }
 
 /* Takes what somebody sends, or goes on with an answer. Who watches sends nothing more, but for the end. */
@@ -151,7 +148,7 @@ void serve_caller(struct control *control, uint32_t number) {
     char scrap[64];
     if (caller->fd < 0) return;
     if (caller->rest)
-        send_rest(control->process, caller);
+        send_rest(caller, control->process->epoll_file);
     else if (!caller->watches)
         read_question(control, caller);
     else if (recv(caller->fd, scrap, sizeof scrap, MSG_DONTWAIT) <= 0)
@@ -159,12 +156,11 @@ void serve_caller(struct control *control, uint32_t number) {
 }
 
 /* 100 ms passed: who asked nothing for 2 s is let go, and more may come. */
-void pass_tick_of_callers(struct process *process) {
-    struct status *own = &process->status;
+void pass_tick_of_callers(struct status *own, int epoll_file) {
     EACH_CALLER(caller, own)
         if (caller->fd >= 0 && !caller->watches && --caller->ticks == 0) close_caller(caller);
     own->left_in_tick = MOST_IN_TICK;
-    if (!own->listens) own->listens = await_input(process->epoll_file, own->listener, STATUS);
+    if (!own->listens) own->listens = await_input(epoll_file, own->listener, STATUS);
 }
 
 /* Tells those who watch, by lines or in JSON; who does not keep up is let go. */
@@ -174,15 +170,18 @@ void tell_watchers(struct status *own, const char *text, size_t length, bool jso
             close_caller(caller);
 }
 
-/* Tells those who watch in JSON how a port is now, or the bundle, where `link` is null. */
-void tell_watchers_of(struct control *control, const struct link *link) {
-    struct status *own = &control->process->status;
+/* Tells those who watch in JSON how a port is now, or the bundle, where `link` is null, by the report of `control`. */
+void tell_watchers_of(struct process *process, const struct control *control, const struct link *link) {
+    struct status *own = &process->status;
+    struct report *report = control->report;
     bool any = false;
     EACH_CALLER(caller, own) any = any || (caller->watches && caller->json);
     if (!any) return;
-    control->report->length = 0;
-    write_json_event(control, link);
-    if (!control->process->broken) tell_watchers(own, control->report->text, control->report->length, true);
+    report->length = 0;
+    report->refusal = NIW_OK;
+    write_json_event(report, control, link);
+    if (is_done(process, report->refusal, report->refused) && !process->broken)
+        tell_watchers(own, report->text, report->length, true);
 }
 
 static void remove_socket(int status UNUSED, void *given) {

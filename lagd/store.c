@@ -115,7 +115,7 @@ static void empty_store(int status UNUSED, void *given) {
     EACH_STORED(it, &process->store) tell_store("FDSTOREREMOVE", it->name, -1);
 }
 
-void open_store(struct process *process) {
+void receive_stored(struct process *process) {
     struct store *own = &process->store;
     char **names = NULL;
     int found = sd_listen_fds_with_names(1, &names);
@@ -153,10 +153,10 @@ bool is_bound(int fd, int index) {
 
 /* A packet socket for an interface, stored for a link with an index: the one that the last daemon left, with what came meanwhile unless that
  * is old, or a new one, which takes nothing before it is bound; or -errno. */
-int packet_socket(struct process *process, const char *kind, int of, int index, int type) {
-    int fd = claim_stored(&process->store, kind, of);
-    if (fd >= 0 && is_bound(fd, index) && (type == SOCK_DGRAM || was_away_briefly(process->inherited))) return fd;
-    if (fd >= 0) close_stored(&process->store, kind, of, fd);
+int packet_socket(struct store *store, const struct inherited *inherited, const char *kind, int of, int index, int type) {
+    int fd = claim_stored(store, kind, of);
+    if (fd >= 0 && is_bound(fd, index) && (type == SOCK_DGRAM || was_away_briefly(inherited))) return fd;
+    if (fd >= 0) close_stored(store, kind, of, fd);
     fd = socket(AF_PACKET, type | SOCK_NONBLOCK | SOCK_CLOEXEC, 0);
     return fd < 0 ? -errno : fd;
 }

@@ -28,54 +28,53 @@ static uint32_t random_marker(void) {
 }
 
 /* Holds a port that nothing may use, whatever its link does, or lets it go; answers whether that is done. */
-bool apply_hold(struct protocol *protocol, const struct link *link) {
-    bool hold = ((link->held || link->leaving) && !link->emptying) || protocol->halt.down;
-    return is_done(protocol->process, niw_hold(&protocol->own_system, link->settings.number, hold), "niw_hold");
+bool apply_hold(struct process *process, struct niw_system *system, const struct link *link, bool down) {
+    bool hold = ((link->held || link->leaving) && !link->emptying) || down;
+    return is_done(process, niw_hold(system, link->settings.number, hold), "niw_hold");
 }
 
 /* Puts a system into the empty handle, whose ports have their settings and keys of now: a warm one, where some of them were saved. */
-static struct niw_made put_system(struct protocol *protocol, const struct niw_saved *saved, size_t count) {
+static struct niw_made put_system(struct niw_system *own, const struct protocol *protocol, const struct niw_saved *saved, size_t count) {
     const struct niw_config *config = &protocol->settings->config;
     struct niw_port ports[NIW_MOST_PORTS];
-    struct niw_system *own = &protocol->own_system;
     uint16_t slots = protocol->ports->slots;
     for (uint16_t i = 0; i < slots; i++) ports[i] = protocol->ports->links[i].settings;
     if (count == 0) return niw_new(own, config, protocol->aggregator_keys, protocol->aggregator_count, ports, slots);
     return niw_resume(own, config, protocol->aggregator_keys, protocol->aggregator_count, ports, slots, saved, count);
 }
 
-void hold_by_settings(struct protocol *protocol) {
-    EACH_LINK_AS_IS(link, protocol->ports)
-        if (link->held && !apply_hold(protocol, link)) return;
+void apply_holds(struct process *process, struct niw_system *system, const struct ports *ports, bool down) {
+    EACH_LINK_AS_IS(link, ports)
+        if (!apply_hold(process, system, link, down)) return;
 }
 
 /* Makes the system anew, with these ports as they were. One that the library refuses comes up as the others do. Answers how many are back. */
-size_t resume_system(struct protocol *protocol, struct niw_saved *saved, size_t count) {
-    if (count == 0 || !is_done(protocol->process, niw_free(&protocol->own_system), "niw_free")) return 0;
-    struct niw_made made = put_system(protocol, saved, count);
+size_t resume_system(struct process *process, struct niw_system *own, const struct protocol *protocol, struct niw_saved *saved, size_t count) {
+    if (count == 0 || !is_done(process, niw_free(own), "niw_free")) return 0;
+    struct niw_made made = put_system(own, protocol, saved, count);
     while (made.status == NIW_STALE || made.status == NIW_NOT_DISTRIBUTING) {
         size_t at = 0;
         while (at < count && saved[at].port != made.place) at++;
         if (at < count) memmove(saved + at, saved + at + 1, (count - at - 1) * sizeof *saved);
         count = at < count ? count - 1 : 0;
-        made = put_system(protocol, saved, count);
+        made = put_system(own, protocol, saved, count);
     }
-    return is_done(protocol->process, made.status, "niw_resume") ? count : 0;
+    return is_done(process, made.status, "niw_resume") ? count : 0;
 }
 
 void make_system(struct protocol *protocol) {
     protocol->began = milliseconds();
     protocol->settings->config.first_marker = first_marker_left(protocol->process->inherited);
     if (protocol->settings->config.first_marker == 0) protocol->settings->config.first_marker = random_marker();
-    choose_slots(protocol);
-    if (!place_ports(protocol, protocol->settings)) stop(WRONG_WORD, "too many interfaces", protocol->settings->name);
-    for (uint16_t port = 1; port <= NIW_MOST_PORTS; port++) begin_link(protocol->settings, protocol->ports, port);
-    keep_left_ports(protocol);
+    choose_slots(&protocol->keys, protocol->ports, protocol->settings);
+    if (!place_ports(protocol->process, protocol->ports, protocol->settings)) stop(WRONG_WORD, "too many interfaces", protocol->settings->name);
+    for (uint16_t port = 1; port <= NIW_MOST_PORTS; port++) begin_link(protocol->settings, &protocol->ports->links[port - 1], port);
+    keep_left_ports(protocol->process->inherited, protocol->ports, protocol->settings);
     protocol->ports->count = protocol->settings->port_count;
-    make_keys(protocol, protocol->aggregator_keys);
-    if (!is_done(protocol->process, put_system(protocol, NULL, 0).status, "niw_new")) return;
-    hold_by_settings(protocol);
-    read_views(protocol);
+    protocol->aggregator_count = make_keys(&protocol->keys, protocol->ports, protocol->aggregator_keys);
+    if (!is_done(protocol->process, put_system(&protocol->own_system, protocol, NULL, 0).status, "niw_new")) return;
+    apply_holds(protocol->process, &protocol->own_system, protocol->ports, false);
+    read_views(protocol->process, &protocol->own_system, protocol->ports);
 }
 
 static void send_due_of(struct protocol *protocol, struct link *link) {
@@ -86,7 +85,7 @@ static void send_due_of(struct protocol *protocol, struct link *link) {
         if (due.what == NIW_SENT_MARKER)
             CALL(protocol->plane->carrying->send_marker, protocol->plane, link, frame);
         else
-            send_frame(protocol, link, frame);
+            send_frame(protocol->process, &protocol->changes, link, frame);
     }
 }
 
@@ -101,14 +100,14 @@ void send_due(struct protocol *protocol) {
 /* After calls that may have changed ports: what is due goes out, their views are read, and the plane looks at them again. */
 void settle_calls(struct protocol *protocol) {
     send_due(protocol);
-    read_views(protocol);
+    read_views(protocol->process, &protocol->own_system, protocol->ports);
     protocol->plane->changed = true;
 }
 
 /* Sends again what did not go before this tick, if nothing newer was due since. */
-void send_again(struct protocol *protocol) {
-    EACH_LINK(link, protocol->ports)
-        if (link->unsent && !link->tried) send_frame(protocol, link, link->frame);
+void send_again(struct process *process, struct changes *changes, struct ports *ports) {
+    EACH_LINK(link, ports)
+        if (link->unsent && !link->tried) send_frame(process, changes, link, link->frame);
 }
 
 void set_link(struct protocol *protocol, struct link *link, bool up) {
@@ -126,32 +125,31 @@ void set_link(struct protocol *protocol, struct link *link, bool up) {
         || !is_done(protocol->process, niw_set_link(&protocol->own_system, link->settings.number, up), "niw_set_link"))
         return;
     settle_calls(protocol);
-    (void)print_change(protocol, link);
+    (void)print_change(protocol->process, protocol, link);
 }
 
 void lose_link(struct protocol *protocol, struct link *link) {
     set_waiting(link, false);
     set_link(protocol, link, false);
-    close_link(protocol->plane, &protocol->process->store, link);
-    (void)print_change(protocol, link);
+    release_interface(protocol->plane, &protocol->process->store, link);
+    (void)print_change(protocol->process, protocol, link);
 }
 
 /* 100 ms passed; answers whether the library took that. Churn detection goes by what it tells of the ports then, and what failed of a link is
  * forgotten after a while. */
-bool pass_system_tick(struct protocol *protocol) {
-    bool taken = is_done(protocol->process, niw_tick(&protocol->own_system), "niw_tick");
+bool pass_system_tick(struct process *process, struct niw_system *system, struct ports *ports) {
+    bool taken = is_done(process, niw_tick(system), "niw_tick");
     if (!taken) return false;
-    read_views(protocol);
-    EACH_LINK(link, protocol->ports) {
+    read_views(process, system, ports);
+    EACH_LINK(link, ports) {
         const struct niw_view *view = &link->view;
         uint32_t status = niw_churn_tick(&link->churn, view->up, view->state, view->partner_state);
-        taken = is_done(protocol->process, status, "niw_churn_tick") && taken;
+        taken = is_done(process, status, "niw_churn_tick") && taken;
         link->tried = false;
         if (link->trouble_ticks == 0 || --link->trouble_ticks > 0) continue;
         link->trouble = 0;
         link->changed = true;
     }
-    protocol->ticks++;
     return taken;
 }
 
@@ -184,6 +182,6 @@ bool end_is_told(const struct ports *ports) {
 bool end_system(struct protocol *protocol) {
     EACH_LINK(link, protocol->ports)
         if (link->used) (void)say(protocol->process, LOG_NOTICE | ABOUT_END, "port %u %s: ended", link->settings.number, link->name);
-    end_bundle(protocol);
+    end_bundle(protocol->process, &protocol->bundle, protocol->control);
     return is_done(protocol->process, niw_free(&protocol->own_system), "niw_free") && !protocol->process->broken;
 }

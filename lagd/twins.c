@@ -17,15 +17,15 @@ static uint16_t twin_of(const struct ports *ports, const struct link *link) {
     return 0;
 }
 
-void look_for_twins(struct protocol *protocol) {
-    EACH_LINK(link, protocol->ports) {
-        uint16_t twin = twin_of(protocol->ports, link);
+void look_for_twins(struct process *process, struct ports *ports) {
+    EACH_LINK(link, ports) {
+        uint16_t twin = twin_of(ports, link);
         link->twin_seconds = twin == 0 ? 0 : link->twin_seconds + 1;
         if (twin == 0 || link->twin_seconds >= SECONDS) link->twin = twin;
         if (link->twin_seconds != SECONDS) continue;
-        struct facts facts = facts_of(protocol, link);
-        (void)say(protocol->process, LOG_WARNING | ABOUT_STRANGER,
+        struct system_id partner = partner_of(&link->view);
+        (void)say(process, LOG_WARNING | ABOUT_STRANGER,
             "port %u %s: its partner is port %u of %s, and so is that of port %u %s: two hosts may have this system", link->settings.number,
-            link->name, facts.partner_port, system_text(&facts.partner, TEXT_ROOM), twin, protocol->ports->links[twin - 1].name);
+            link->name, link->view.partner_port, system_text(&partner, TEXT_ROOM), twin, ports->links[twin - 1].name);
     }
 }

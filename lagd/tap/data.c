@@ -126,7 +126,7 @@ void settle_frames(struct plane *plane) {
     CALL(plane->passing->withdraw, tap);
     leave_previous(tap->carry);
     CALL(plane->passing->set_collecting, tap);
-    look_at_partner(tap->carry);
+    look_at_partner(&tap->carry->probe, tap->carry);
     if (tap->held.any_waits) offer_held_again(tap);
     if (tap->carry->to_balance) balance(tap->carry);
     if (tap->carry->to_balance) CALL(plane->passing->read_host, tap);

@@ -185,7 +185,7 @@ static bool may_pass(struct tap_plane *tap, const struct conversation *conversat
     uint16_t port = conversation->port;
     struct niw_assignment state;
     return tap->fast.sender >= 0 && !tap->fast.queue_holds && tap->carry->active != 0 && conversation->home == tap->carry->active
-        && is_fast(&tap->members[port - 1]) && ask_state(tap->protocol, conversation->home, number_in(tap->carry, conversation), &state)
+        && is_fast(&tap->members[port - 1]) && ask_state(tap->process, &tap->protocol->own_system, conversation->home, number_in(tap->carry, conversation), &state)
         && state.what == NIW_CONVERSATION_ON && state.port == port;
 }
 
@@ -237,7 +237,7 @@ static void resume_fast(struct tap_plane *tap) {
 
 /* Takes back what is no longer on the port where the kernel passes it on, before a marker goes there; all, where the library does not tell. */
 static void withdraw_moved(struct tap_plane *tap) {
-    bool told = ask_ports(tap->protocol, tap->carry->active, tap->carry->port_of);
+    bool told = ask_ports(tap->process, &tap->protocol->own_system, tap->carry->active, tap->carry->port_of);
     EACH_CONVERSATION(conversation, tap->carry) {
         uint16_t port = conversation->fast.port, now = told ? tap->carry->port_of[number_in(tap->carry, conversation)] : 0;
         if (port != 0 && (port != now || !is_fast(&tap->members[port - 1]))) clear_row(row_of(tap, conversation));
@@ -360,8 +360,8 @@ static void pass_fast_tick(struct tap_plane *tap) {
     if (any) wait_or_end(tap);
 }
 
-static int check_fast(struct control *control, const struct options *options) {
-    return check_programs(control->process, options, "fast", true);
+static int check_fast(struct process *process, struct plane *plane UNUSED, const struct options *options) {
+    return check_programs(process, options, "fast", true);
 }
 
 const struct passing BY_KERNEL = {

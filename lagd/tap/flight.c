@@ -7,9 +7,9 @@
 #define UNANSWERED 3000
 
 /* Whether the library tells that a port distributes, or that it does not. */
-bool is_told_distributing(struct protocol *protocol, uint16_t port, bool wanted) {
-    struct niw_truth answer = niw_distributes(&protocol->own_system, port);
-    return is_done(protocol->process, answer.status, "niw_distributes") && answer.is == wanted;
+bool is_told_distributing(struct process *process, struct niw_system *system, uint16_t port, bool wanted) {
+    struct niw_truth answer = niw_distributes(system, port);
+    return is_done(process, answer.status, "niw_distributes") && answer.is == wanted;
 }
 
 /* Frees what is held on a port that does not distribute with a partner, and had no frame, for longer than frames can be on their way. A link that
@@ -17,7 +17,7 @@ bool is_told_distributing(struct protocol *protocol, uint16_t port, bool wanted)
 static void watch_silent_port(struct carry *carry, uint16_t port, uint64_t *since) {
     const struct link *link = &carry->ports->links[port - 1];
     uint64_t held, freed;
-    bool holds = (link->view.defaulted || is_told_distributing(carry->protocol, port, false))
+    bool holds = (link->view.defaulted || is_told_distributing(carry->process, &carry->protocol->own_system, port, false))
         && is_told(carry->process, niw_held(&carry->protocol->own_system, port), "niw_held", &held) && held > 0;
     if (!holds || *since == 0) *since = holds ? carry->time : 0;
     if (!holds || carry->time - *since < carry->settings->flight) return;
@@ -46,7 +46,7 @@ static void watch_held(struct carry *carry, struct conversation *conversation, u
     bool held = is_held(state), answered = held && carry->probe.peer != MUTE && carry->settings->flight < UNANSWERED;
     if (conversation->since == 0) conversation->since = carry->time;
     if (carry->time - conversation->since < (answered ? UNANSWERED : carry->settings->flight)) return;
-    if (held && !is_told_distributing(carry->protocol, state->port, true)) return;
+    if (held && !is_told_distributing(carry->process, &carry->protocol->own_system, state->port, true)) return;
     free_conversation(carry, conversation, number, held);
 }
 
@@ -59,7 +59,7 @@ static void watch_conversation(struct carry *carry, struct held *held, uint16_t 
         carry->counts[HELD_TOO_LONG]++;
     if (conversation->used) conversation->last = carry->time;
     conversation->used = false;
-    if (conversation->home == 0 || !ask_state(carry->protocol, conversation->home, number, &state)) return;
+    if (conversation->home == 0 || !ask_state(carry->process, &carry->protocol->own_system, conversation->home, number, &state)) return;
     bool away = conversation->home != carry->active && carry->active != 0 && state.what == NIW_CONVERSATION_ON;
     if (state.what == NIW_CONVERSATION_FLUSHING && state.age > 0 && state.age % AGAIN_TICKS == 0)
         *again |= (uint64_t)1 << (state.port - 1);

@@ -531,7 +531,7 @@ void close_guard(struct process *process, struct fast_programs *fast, const stru
 void put_back_former(struct process *process, struct fast_programs *fast, const struct inherited_link *was) {
     struct link link = {.index = was->index};
     struct guard guard = {.classifier = CLASSIFIER_ALONE};
-    int lock = lock_interface(process, was->index);
+    int lock = lock_interface(&process->store, process->inherited, was->index);
     if (lock < 0) return;
     guard.opened = claim_stored(&process->store, "guard", was->index);
     guard.chooser = claim_stored(&process->store, "queues", was->index);

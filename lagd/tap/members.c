@@ -93,7 +93,7 @@ static bool set_up_data(int fd, int index, const struct guard *guard) {
 static int open_socket(struct process *process, int device, const struct link *link, const struct guard *guard, enum socket_kind kind) {
     int index = kind == MARKERS ? device : link->index;
     struct sockaddr_ll address = {.sll_family = AF_PACKET, .sll_protocol = htons(kind == DIRECT ? ETH_P_SLOW : ETH_P_ALL), .sll_ifindex = index};
-    int fd = packet_socket(process, SOCKET_NAMES[kind], link->index, index, SOCK_RAW);
+    int fd = packet_socket(&process->store, process->inherited, SOCKET_NAMES[kind], link->index, index, SOCK_RAW);
     bool only_sends = kind == DATA && guard->fast, filtered;
     if (fd < 0) return fd;
     (void)set_packet(fd, PACKET_IGNORE_OUTGOING, 1);
@@ -456,8 +456,8 @@ void receive_data(struct tap_plane *tap, struct link *link) {
         if (member->sockets[kind] >= 0) receive_packets(tap, link, kind);
 }
 
-static int check_tap(struct control *control, const struct options *options) {
-    return access("/dev/net/tun", F_OK) == 0 ? DONE : tell_lack(control->process, options, "carry", "there is no /dev/net/tun", REFUSED);
+static int check_tap(struct process *process, struct plane *plane UNUSED, const struct options *options) {
+    return access("/dev/net/tun", F_OK) == 0 ? DONE : tell_lack(process, options, "carry", "there is no /dev/net/tun", REFUSED);
 }
 
 const struct carrying TAP_DEVICE = {
@@ -477,8 +477,8 @@ const struct queueing ONE_QUEUE = {
     .markers_at_once = 1,
 };
 
-static int check_all_queues(struct control *control, const struct options *options) {
-    return check_programs(control->process, options, "queues", false);
+static int check_all_queues(struct process *process, struct plane *plane UNUSED, const struct options *options) {
+    return check_programs(process, options, "queues", false);
 }
 
 const struct queueing ALL_QUEUES = {

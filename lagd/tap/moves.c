@@ -16,7 +16,7 @@ static bool move_conversation(struct carry *carry, uint16_t number, uint16_t por
     if (!is_done(carry->process, status, "niw_move_conversation")) return false;
     carry->conversations[number].port = port;
     carry->counts[MOVES]++;
-    return ask_ports(carry->protocol, carry->active, carry->port_of);
+    return ask_ports(carry->process, &carry->protocol->own_system, carry->active, carry->port_of);
 }
 
 static uint16_t port_behind(const struct carry *carry, uint16_t port) {
@@ -64,7 +64,7 @@ bool empty_port(struct plane *plane, const struct link *link) {
     uint16_t port = link->settings.number;
     unsigned loads[NIW_MOST_PORTS + 1] = {0};
     uint64_t load, held;
-    if (!can_empty(plane, link) || !ask_ports(carry->protocol, carry->active, carry->port_of)) return true;
+    if (!can_empty(plane, link) || !ask_ports(carry->process, &carry->protocol->own_system, carry->active, carry->port_of)) return true;
     for (uint16_t number = 0; number < CONVERSATIONS; number++) loads[carry->port_of[number]]++;
     for (uint16_t number = 0; number < CONVERSATIONS; number++) {
         if (carry->port_of[number] != port) continue;
@@ -83,7 +83,7 @@ void balance(struct carry *carry) {
     EACH_LINK_AS_IS(link, carry->ports)
         if (link->emptying) return;
     if (carry->active_count < 2 || carry->probe.peer != ANSWERS || !none_moves(carry)
-        || !ask_ports(carry->protocol, carry->active, carry->port_of))
+        || !ask_ports(carry->process, &carry->protocol->own_system, carry->active, carry->port_of))
         return;
     if (move_asked(carry) || level_loads(carry)) send_due(carry->protocol);
 }

@@ -109,7 +109,7 @@ static void leave_last_aggregator(struct team_plane *team) {
     if (left == team->carry->active) return;
     for (uint16_t number = 0; left != 0 && number < CONVERSATIONS; number++) {
         struct niw_assignment state;
-        if (!ask_state(team->protocol, left, number, &state)) return;
+        if (!ask_state(team->process, &team->protocol->own_system, left, number, &state)) return;
         if (is_held(&state) && !force_free(team->carry, left, number)) return;
         if (state.what == NIW_CONVERSATION_ON && !is_done(team->process, niw_rest(&team->protocol->own_system, left, number), "niw_rest")) return;
     }
@@ -193,7 +193,7 @@ static void rest_still(struct team_plane *team) {
     for (uint16_t number = 0; number < CONVERSATIONS; number++) {
         struct niw_assignment state;
         if (!has_to_move(team, number) || team->counted_until < team->buckets[number].moved_at + team->settings->flight) continue;
-        if (!ask_state(team->protocol, team->carry->active, number, &state)) return;
+        if (!ask_state(team->process, &team->protocol->own_system, team->carry->active, number, &state)) return;
         if (state.what != NIW_CONVERSATION_ON) continue;
         if (!is_done(team->process, niw_rest(&team->protocol->own_system, team->carry->active, number), "niw_rest")) return;
         team->carry->counts[RESTED]++;

@@ -36,7 +36,7 @@ static uint32_t least_mtu(const struct settings *settings) {
 
 static void lock_device(struct team_plane *team, int index) {
     char what[128], holder[HOLDER_ROOM];
-    team->lock = lock_interface(team->process, index);
+    team->lock = lock_interface(&team->process->store, team->process->inherited, index);
     if (team->lock == -EADDRINUSE) {
         snprintf(what, sizeof what, "another lagd has the interface, %s", holder_of(team->ports, index, holder));
         stop(REFUSED, what, team->settings->carry);
@@ -191,7 +191,7 @@ static void leave_team(struct plane *plane, int index, bool owned) {
     struct team_plane *team = plane->team;
     struct interface device;
     if (!load_team_driver(&team->family) || !ask_interface(index, NULL, &device) || strcmp(device.kind, TEAM_KIND) != 0) return;
-    int held = lock_interface(team->process, index);
+    int held = lock_interface(&team->process->store, team->process->inherited, index);
     if (held < 0) return;
     free_inherited_ports(team->process->inherited, index);
     if (owned) (void)remove_device(index);
@@ -241,13 +241,13 @@ static void end_team_plane(struct plane *plane) {
 
 /* Whether the kernel has the team driver, and its mode, which is another module: answers how the program ends. The mode is tried in a network
  * namespace that ends with the program, where that may be made. */
-static int check_team(struct control *control, const struct options *options) {
-    struct team_plane *team = control->plane->team;
+static int check_team(struct process *process, struct plane *plane, const struct options *options) {
+    struct team_plane *team = plane->team;
     bool is_apart = unshare(CLONE_NEWNET) == 0, has_driver = load_team_driver(&team->family);
-    if (!has_driver && errno == EPERM) return tell_lack(team->process, options, "plane", "not known without CAP_NET_ADMIN", DONE);
-    if (!has_driver) return tell_lack(team->process, options, "plane", "this kernel has no team driver", REFUSED);
+    if (!has_driver && errno == EPERM) return tell_lack(process, options, "plane", "not known without CAP_NET_ADMIN", DONE);
+    if (!has_driver) return tell_lack(process, options, "plane", "this kernel has no team driver", REFUSED);
     if (!is_apart || try_team_mode(team->family)) return DONE;
-    return tell_lack(team->process, options, "plane", "the team driver of this kernel has no mode loadbalance", REFUSED);
+    return tell_lack(process, options, "plane", "the team driver of this kernel has no mode loadbalance", REFUSED);
 }
 
 const struct carrying TEAM_DEVICE = {

@@ -75,7 +75,7 @@ uint32_t lagffi_rest(struct niw_system *handle, uint16_t agg, uint16_t conv) {
     return has ? NIW_OK : NIW_NOT_ASSIGNED;
 }
 
-bool ask_state(struct protocol *protocol, uint16_t agg, uint16_t number, struct niw_assignment *state) {
+bool ask_state(struct process *process, struct niw_system *system, uint16_t agg, uint16_t number, struct niw_assignment *state) {
     *state = (struct niw_assignment){.port = on[agg][number], .what = NIW_CONVERSATION_FREE};
     if (on[agg][number] != 0) state->what = is_on(agg, number) ? NIW_CONVERSATION_ON : NIW_CONVERSATION_WANTED;
     return true;

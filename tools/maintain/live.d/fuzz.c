@@ -93,7 +93,7 @@ static void fuzz_file(const uint8_t *octets, size_t length) {
     int file = memfd_create("fuzz", MFD_CLOEXEC);
     if (file >= 0 && write(file, octets, length) == (ssize_t)length) {
         snprintf(path, sizeof path, "/proc/self/fd/%d", file);
-        (void)read_file(&lagd->process, path, &read);
+        (void)read_bundle_file(&lagd->process, path, &read);
     }
     close(file);
 }
@@ -116,7 +116,7 @@ static void fuzz_auxiliary(const uint8_t *octets, size_t length) {
 }
 
 static void serve_all(void) {
-    accept_callers(&lagd->process);
+    accept_callers(&lagd->process.status, lagd->process.epoll_file);
     for (uint32_t caller = 0; caller < MOST_CALLERS; caller++) serve_caller(&lagd->control, caller);
 }
 
@@ -138,7 +138,7 @@ static void fuzz_caller(const uint8_t *octets, size_t length) {
     set_link(&lagd->protocol, &lagd->ports.links[1], !lagd->ports.links[1].up); /* whoever watches is told */
     close(asker);
     serve_all();
-    pass_tick_of_callers(&lagd->process);
+    pass_tick_of_callers(&lagd->process.status, lagd->process.epoll_file);
 }
 
 /* What the last daemon left, behind the number of this boot, or that of another boot; and a daemon that goes on from it. */
@@ -157,7 +157,7 @@ static void fuzz_state(const uint8_t *octets, size_t length) {
     lagd->inherited = (struct inherited){0};
     recall_state(&lagd->state);
     (void)unlink(name);
-    begin_resuming(&lagd->process);
+    lagd->process.resuming = has_carried_links(&lagd->inherited);
     resume_data(&lagd->protocol, resume(&lagd->protocol));
     release_others(&lagd->protocol);
 }

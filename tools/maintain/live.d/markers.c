@@ -106,9 +106,9 @@ static void begin(void) {
     lagd->ports.links[0].view.partner_key++;
     now += MINUTE;
     lagd->carry.time = now;
-    look_at_partner(&lagd->carry);
+    look_at_partner(&lagd->carry.probe, &lagd->carry);
     lagd->ports.links[0].view.partner_key = (uint16_t)now;
-    look_at_partner(&lagd->carry);
+    look_at_partner(&lagd->carry.probe, &lagd->carry);
     sent = again = lines = 0;
     CHECK(lagd->carry.probe.peer == NOT_ASKED);
 }
@@ -149,6 +149,11 @@ static void check_forged(void) {
     CHECK(respond(PARTNER, 1, last_id) && lagd->carry.probe.peer == ANSWERS);
 }
 
+/* A marker comes on port 1; answers whether one more is answered. */
+static bool spends(const struct arrival *arrival) {
+    return spend_answer(&lagd->ports.links[0], arrival, lagd->settings.marker_responses * lagd->plane.queueing->markers_at_once);
+}
+
 /* Markers come each `step` milliseconds for a minute; the most that were answered within any second, and how many in all. */
 static unsigned most_answered(const uint8_t *source, unsigned step, unsigned *all) {
     static uint64_t times[2 * MINUTE];
@@ -158,7 +163,7 @@ static unsigned most_answered(const uint8_t *source, unsigned step, unsigned *al
     write_frame(frame, source, NIW_MARKER_INFORMATION, 1, 1);
     for (unsigned passed = 0; passed < MINUTE; passed += step) {
         now += step;
-        if (spend_answer(&lagd->settings, &lagd->plane, &lagd->ports.links[0], &arrival)) times[count++] = now;
+        if (spends(&arrival)) times[count++] = now;
     }
     for (unsigned first = 0; first < count; first++) {
         unsigned end = first;
@@ -189,8 +194,8 @@ static void check_budgets(void) {
         uint8_t marker[NIW_FRAME];
         struct arrival arrival = {.frame = marker, .length = sizeof marker};
         write_frame(marker, PARTNER, NIW_MARKER_INFORMATION, 1, turn);
-        for (unsigned forged = 0; forged < 30; forged++, now += 5) (void)spend_answer(&lagd->settings, &lagd->plane, &lagd->ports.links[0], &strange);
-        CHECK(spend_answer(&lagd->settings, &lagd->plane, &lagd->ports.links[0], &arrival));
+        for (unsigned forged = 0; forged < 30; forged++, now += 5) (void)spends(&strange);
+        CHECK(spends(&arrival));
     }
     lagd->ports.links[0].heard = false;
     now += MINUTE;

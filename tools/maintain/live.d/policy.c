@@ -185,8 +185,8 @@ bool send_marker_again(struct tap_plane *tap, uint16_t port) {
     put_slow(end, port, end->marker[port]);
     return true;
 }
-void send_frame(struct protocol *protocol, struct link *link, const uint8_t *frame) {
-    struct end *end = end_of(protocol);
+void send_frame(struct process *process, struct changes *changes, struct link *link, const uint8_t *frame) {
+    struct end *end = end_of(process);
     uint8_t sent[NIW_FRAME];
     memcpy(sent, frame, sizeof sent);
     if (sent[SUBTYPE_AT] == SUBTYPE_MARKER && (weather.mute || now < end->mute_until)) return;
@@ -226,12 +226,12 @@ void notify_bundle(const struct bundle *bundle, const char *what) {
 NOTHING(keep_port, struct state *state, uint16_t number, uint16_t port)
 /* the library, */
 ANSWERS(bool carries, link->view.port_status == NIW_PORT_STATUS_DISTRIBUTING, const struct protocol *protocol, const struct link *link)
-void read_views(struct protocol *protocol) {
+void read_views(struct process *process, struct niw_system *system, struct ports *ports) {
     struct niw_view views[NIW_MOST_PORTS];
     uint64_t changed;
-    if (!is_told(protocol->process, niw_views(&protocol->own_system, views, NIW_MOST_PORTS), "niw_views", &changed)) return;
+    if (!is_told(process, niw_views(system, views, NIW_MOST_PORTS), "niw_views", &changed)) return;
     for (uint16_t i = 0; i < PORTS; i++)
-        if (changed >> i & 1) protocol->ports->links[i].view = views[i];
+        if (changed >> i & 1) ports->links[i].view = views[i];
 }
 void send_due(struct protocol *protocol) {
     uint8_t frame[NIW_FRAME];
@@ -261,7 +261,7 @@ struct niw_number conversation_of(struct protocol *protocol, const uint8_t *fram
 
 /* and what is of members with several queues, of which there are none here; */
 static bool answer(struct tap_plane *tap, struct link *link, const uint8_t *response) {
-    send_frame(tap->protocol, link, response);
+    send_frame(tap->process, &tap->protocol->changes, link, response);
     return true;
 }
 static void accept_any(struct tap_plane *tap, struct link *link, const struct arrival *arrival, uint32_t id) {
@@ -270,14 +270,14 @@ static void accept_any(struct tap_plane *tap, struct link *link, const struct ar
 
 /* and what is not here: the settings of the device. */
 NOTHING(count_full_sockets, struct member *members, uint16_t count)
-NOTHING(pass_announcing_tick, struct carry *carry)
+NOTHING(pass_announcing_tick, struct process *process, struct announce *own, const struct device *device)
 NOTHING(pass_tap_tick, struct device *device)
 NOTHING(announce_soon, struct announce *own)
 ANSWERS(uint32_t sum_speeds, 1000, const struct carry *carry, const struct member *members)
 NOTHING(set_speed, struct device *device, uint32_t megabits)
 /* The device is up here, and no port comes or goes. */
 ANSWERS(uint16_t count_links, PORTS, const struct ports *ports)
-NOTHING(tell_watchers_of, struct control *control, const struct link *link)
+NOTHING(tell_watchers_of, struct process *process, const struct control *control, const struct link *link)
 /* The plane: frames come here alone, and members have one queue. */
 static const struct carrying FRAMES = {.settle = settle_frames, .tick = pass_tick_of_frames, .keeps_aggregator = hears_peer,
     .frames_heard = frames_handed_up, .tell_host = tell_speed_and_carrier, .go_on = settle_carry,
@@ -294,7 +294,7 @@ static void set_link_of(struct end *end, uint16_t port, bool up) {
     if (!is_done(&end->lagd.process, niw_set_link(&end->lagd.protocol.own_system, port, up), "niw_set_link")) return;
     end->lagd.plane.changed = true;
     send_due(&end->lagd.protocol);
-    read_views(&end->lagd.protocol);
+    read_views(&end->lagd.process, &end->lagd.protocol.own_system, &end->lagd.ports);
     settle_carry(&end->lagd.plane);
 }
 
@@ -423,7 +423,7 @@ static void hold(struct end *end, uint16_t port, bool held) {
     struct link *link = &end->lagd.ports.links[port - 1];
     link->emptying = false;
     CHECK(niw_hold(&end->lagd.protocol.own_system, port, held) == NIW_OK);
-    read_views(&end->lagd.protocol);
+    read_views(&end->lagd.process, &end->lagd.protocol.own_system, &end->lagd.ports);
     end->lagd.plane.changed = true;
     send_due(&end->lagd.protocol);
     settle_carry(&end->lagd.plane);
@@ -450,7 +450,7 @@ static void pass_time(struct end *end, unsigned ticks) {
     for (; ticks > 0; ticks--) {
         CHECK(niw_tick(&lagd->protocol.own_system) == NIW_OK);
         lagd->protocol.ticks++;
-        read_views(&lagd->protocol);
+        read_views(&lagd->process, &lagd->protocol.own_system, &lagd->ports);
         if (!lagd->process.broken) CALL(lagd->plane.carrying->tick, &lagd->plane);
         end_emptying(end);
         if (now / 1000 != (now - TICK) / 1000 && lagd->protocol.bundle.lines < MOST_LINES) lagd->protocol.bundle.lines++;
@@ -458,7 +458,7 @@ static void pass_time(struct end *end, unsigned ticks) {
     }
     check_waiting(end);
     send_due(&lagd->protocol);
-    read_views(&lagd->protocol);
+    read_views(&lagd->process, &lagd->protocol.own_system, &lagd->ports);
     look_at_bundle(&lagd->protocol);
     settle_carry(&lagd->plane);
     CHECK(!end->carrier || any_distributes(lagd));
