@@ -4,21 +4,16 @@
 #include <getopt.h>
 
 static const char HELP_BEGINS[] = "lagd: Link Aggregation Control Protocol for interfaces of Linux\n"
-    "\n"
-    "  lagd --config FILE [--folder FOLDER]\n"
-    "  lagd --check FILE\n"
+    "  lagd --config FILE [--folder FOLDER] | --check FILE\n"
     "  lagd [OPTION..] KEY PRIORITY,MAC INTERFACE[:WORD,..]..\n"
     "  lagd --status | --show-config | --watch [--json] | --metrics [--folder FOLDER]\n"
-    "\n"
-    "KEY is 0 to 65535. PRIORITY,MAC is the system, as 32768,02:00:00:00:00:01; auto stands for 32768 and the address of the first\n"
-    "interface. The interfaces are ports 1, 2 and on, 1 to 64 of them. One that is missing is waited for. SIGTERM, SIGINT, SIGQUIT\n"
-    "and SIGHUP tell the peers and end it; with --config SIGHUP reads the file again. SIGUSR1 has the next lagd go on from here.\n"
-    "\n";
+    "KEY is 0 to 65535; PRIORITY,MAC the system, as 32768,02:00:00:00:00:01, or auto. Interfaces are ports 1, 2 and on. SIGTERM, SIGINT,\n"
+    "SIGQUIT, SIGHUP tell the peers and end it; with --config SIGHUP reads the file again. SIGUSR1 has the next lagd go on from here.\n";
 
-static const char HELP_ENDS[] = "  -h, --help      -V, --version\n"
+static const char HELP_ENDS[] = "  -j, --json      -h, --help      -V, --version\n"
     "\n"
-    "Words of an interface stand over the options: %s.\n"
-    "Status: 0; 1: the kernel or another lagd is in the way, or none answers; 2: a wrong word or file.\n";
+    "In brackets: what holds if not given. Words of an interface stand over the options: %s.\n"
+    "Status: 0; 1: the kernel or another lagd is in the way, or none answers; 2: a wrong word or file. docs/LAGD.md says more.\n";
 
 /* An option that no file has. */
 struct option_text {
@@ -31,17 +26,16 @@ struct option_text {
 #define LAST_BEFORE_KEYS 'k'
 static const struct option_text OPTIONS[] = {
     {'c', "config", "FILE", "runs the bundle of this file", RUN_BUNDLE},
-    {'k', "check", "FILE", "says what is wrong with a file, or what this machine lacks for it", CHECK},
-    {'f', "folder", "FOLDER", "of status sockets; /run/lagd if not given", RUN_BUNDLE},
-    {'s', "status", NULL, "prints the state of each lagd of this network namespace and folder", SHOW},
-    {'D', "show-config", NULL, "prints the settings that it has now, as a file has them", SHOW_CONFIG},
-    {'w', "watch", NULL, "prints each change of one, as it happens", WATCH},
-    {'j', "json", NULL, "prints either as JSON, a line for each", RUN_BUNDLE},
-    {'M', "metrics", NULL, "prints counts and states in the form of Prometheus", METRICS},
-    {'I', "add", "IFACE[:WORD,..]",
-        "has this interface join the bundle of the one lagd of the folder, until the next reload or\nrestart; root alone may, as the next three", ORDER},
-    {'E', "remove", "IFACE", "has it leave: its peer is told first; the program ends once it left", ORDER},
-    {'L', "hold", "IFACE", "has its data leave it, as before a cable is taken away, and ends once that is so", ORDER},
+    {'k', "check", "FILE", "says what is wrong with a file, or what is missing here", CHECK},
+    {'f', "folder", "FOLDER", "of status sockets (/run/lagd)", RUN_BUNDLE},
+    {'s', "status", NULL, "prints the state of each lagd of the folder", SHOW},
+    {'D', "show-config", NULL, "prints its settings, as a file has them", SHOW_CONFIG},
+    {'w', "watch", NULL, "prints each change, as it happens", WATCH},
+    {'j', "json", NULL, NULL, RUN_BUNDLE},
+    {'M', "metrics", NULL, "prints counts and states for Prometheus", METRICS},
+    {'I', "add", "IFACE[:WORD,..]", "has it join the bundle until a reload or restart; root alone may, as the next three", ORDER},
+    {'E', "remove", "IFACE", "has it leave, and ends then", ORDER},
+    {'L', "hold", "IFACE", "has its data leave it, and ends then", ORDER},
     {'G', "release", "IFACE", "has it used again", ORDER},
     {'h', "help", NULL, NULL, RUN_BUNDLE},
     {'V', "version", NULL, NULL, RUN_BUNDLE},
@@ -66,12 +60,10 @@ enum { PORT_WORD_COUNT = sizeof PORT_WORDS / sizeof *PORT_WORDS, OPTION_ROOM = M
 /* The column of the help in which texts begin, if there is room before it. */
 enum { TEXT_AT = 30, LEAST_GAP = 3 };
 
-/* An option of the help; each line of its text begins in the same column, but behind a long word. */
+/* An option of the help; its text begins in the same column, but behind a long word. */
 static void print_row(char letter, const char *name, const char *value, const char *help) {
     int width = printf("  -%c, --%s%s%s", letter, name, value ? " " : "", value ? value : "");
-    printf("%*s", width + LEAST_GAP > TEXT_AT ? LEAST_GAP : TEXT_AT - width, "");
-    for (size_t length; help[length = strcspn(help, "\n")]; help += length + 1) printf("%.*s\n%*s", (int)length, help, TEXT_AT, "");
-    printf("%s\n", help);
+    printf("%*s%s\n", width + LEAST_GAP > TEXT_AT ? LEAST_GAP : TEXT_AT - width, "", help);
 }
 
 static const char *list_port_words(struct words *words, const char *last_joint) {
