@@ -175,11 +175,7 @@ fn a_file_of_frames(rt: HostRuntime) -> Result<(), Fail> {
     says(&rt, b"", &[], 0)?;
     // No line has a digit; one carriage return at the end of a line is dropped.
     let verdicts = ["runt", "runt", "not hex", "runt"];
-    says(&rt, b"\n\r\n\r\r\n\r", &verdicts, 4)
-}
-
-#[test]
-fn a_file_of_a_thousand_lines(rt: HostRuntime) -> Result<(), Fail> {
+    says(&rt, b"\n\r\n\r\r\n\r", &verdicts, 4)?;
     let file = joined(rt.alloc(), "00\n*1000")?;
     says(&rt, file.as_bytes(), &["runt"; 1_000], 1_000)
 }

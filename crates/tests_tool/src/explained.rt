@@ -83,14 +83,6 @@ const FAILURES: [(ErrorKind, &str); 3] = [
     (ErrorKind::IsADirectory, "a b: is a folder"),
 ];
 
-#[test]
-fn files_that_fail(rt: HostRuntime) -> Result<(), Fail> {
-    for (kind, text) in FAILURES {
-        unread(&rt, &Failing(kind), "a b", text)?;
-    }
-    Ok(())
-}
-
 /// Files, and why they cannot be read.
 const UNREAD: [(&str, &str); 4] = [
     ("-", "standard input: reading failed"),
@@ -101,6 +93,9 @@ const UNREAD: [(&str, &str); 4] = [
 
 #[test]
 fn files_that_cannot_be_read(rt: HostRuntime) -> Result<(), Fail> {
+    for (kind, text) in FAILURES {
+        unread(&rt, &Failing(kind), "a b", text)?;
+    }
     for (file, text) in UNREAD {
         unread(&rt, &rt, file, text)?;
     }
@@ -119,15 +114,6 @@ const NOT_UTF8: [(&str, &[u8], &str); 5] = [
     ("a.toml", b"\n\n", "a.toml:3:1: octet 3 is not UTF-8"),
     ("a.toml", b"abc", "a.toml:1:4: octet 4 is not UTF-8"),
 ];
-
-#[test]
-fn octets_that_are_not_utf8(rt: HostRuntime) -> Result<(), Fail> {
-    for (file, before, text) in NOT_UTF8 {
-        let said = utf8_text(rt.alloc(), file, before)?;
-        same_text(&rt, file, said.as_str(), text);
-    }
-    Ok(())
-}
 
 /// Words, and why they are not an even number of hexadecimal digits.
 const NOT_HEXADECIMAL: [(&str, &str); 5] = [
@@ -156,20 +142,6 @@ const NO_ADDRESSES: [(&str, &str); 5] = [
     ("", "MAC: 0 hexadecimal digits: wanted are 12"),
 ];
 
-#[test]
-fn words_that_are_not_hexadecimal_or_no_address(rt: HostRuntime) -> Result<(), Fail> {
-    for (name, wanted, words) in [
-        ("HEX", "is an even number", NOT_HEXADECIMAL),
-        ("MAC", "are 12", NO_ADDRESSES),
-    ] {
-        for (word, text) in words {
-            let said = digits_text(rt.alloc(), name, word, wanted)?;
-            same_text(&rt, word, said.as_str(), text);
-        }
-    }
-    Ok(())
-}
-
 /// A script whose third entry names no event.
 const NO_EVENT: &str = "events = [\"tick 1 1\", \"tick 2 1\", \"tic 1 10\"]\n";
 
@@ -186,7 +158,20 @@ const REFUSED: [(&str, &str); 2] = [
 ];
 
 #[test]
-fn scripts_that_are_refused(rt: HostRuntime) -> Result<(), Fail> {
+fn texts_of_what_is_refused(rt: HostRuntime) -> Result<(), Fail> {
+    for (file, before, text) in NOT_UTF8 {
+        let said = utf8_text(rt.alloc(), file, before)?;
+        same_text(&rt, file, said.as_str(), text);
+    }
+    for (name, wanted, words) in [
+        ("HEX", "is an even number", NOT_HEXADECIMAL),
+        ("MAC", "are 12", NO_ADDRESSES),
+    ] {
+        for (word, text) in words {
+            let said = digits_text(rt.alloc(), name, word, wanted)?;
+            same_text(&rt, word, said.as_str(), text);
+        }
+    }
     let fault = ScriptFault::Entry(3, EntryFault::Word);
     for (file, text) in REFUSED {
         let said = script_text(rt.alloc(), file, NO_EVENT, fault)?;
