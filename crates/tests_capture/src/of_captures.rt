@@ -192,7 +192,7 @@ fn reads(
 }
 
 #[test]
-fn pcap_is_read_in_both_orders(rt: HostRuntime) -> Result<(), AllocError> {
+fn captures_of_both_formats_are_read(rt: HostRuntime) -> Result<(), AllocError> {
     const LITTLE_SEEN: [Seen<'static>; 2] = [
         (0, LinkType::Ethernet, 124, &[0x01, 0x80, 0xc2, 0, 0]),
         (0, LinkType::Ethernet, 60, &[0xaa, 0xbb]),
@@ -203,11 +203,7 @@ fn pcap_is_read_in_both_orders(rt: HostRuntime) -> Result<(), AllocError> {
         Some(1_597_647_645_000_007_000),
     ];
     reads(&rt, rt.alloc(), &LITTLE, &LITTLE_SEEN, &times)?;
-    reads(&rt, rt.alloc(), &BIG, &BIG_SEEN, &[Some(3_999_999_999)])
-}
-
-#[test]
-fn pcapng_is_read_section_by_section(rt: HostRuntime) -> Result<(), AllocError> {
+    reads(&rt, rt.alloc(), &BIG, &BIG_SEEN, &[Some(3_999_999_999)])?;
     const SEEN: [Seen<'static>; 4] = [
         (0, LinkType::Ethernet, 124, &[0x01, 0x80, 0xc2, 0, 0]),
         (
@@ -225,7 +221,8 @@ fn pcapng_is_read_section_by_section(rt: HostRuntime) -> Result<(), AllocError> 
         Some(1_500_000_000),
         Some(4_294_967_298_000),
     ];
-    reads(&rt, rt.alloc(), &BLOCKS, &SEEN, &times)
+    reads(&rt, rt.alloc(), &BLOCKS, &SEEN, &times)?;
+    Ok(())
 }
 
 /// Whether a block of this type with 16 octets is a record without a packet.
@@ -303,7 +300,9 @@ fn refuses(
 }
 
 #[test]
-fn each_fault_has_its_offset(rt: HostRuntime) -> Result<(), AllocError> {
+fn each_fault_has_its_offset_and_a_section_64_interfaces(
+    rt: HostRuntime,
+) -> Result<(), AllocError> {
     const OF_LITTLE: [Refused; 5] = [
         (0, 0xd5, 0, Cause::Format(0xd5c3_b2a1)),
         (4, 3, 4, Cause::Version(3, 4)),
@@ -332,11 +331,6 @@ fn each_fault_has_its_offset(rt: HostRuntime) -> Result<(), AllocError> {
     refuses(&rt, rt.alloc(), &BLOCKS, &OF_BLOCKS)?;
     let gzip = [0x1f, 0x8b, 8, 0];
     assert_eq!(rt; read(rt.alloc(), &gzip)?.fault, Some((0, Cause::Gzip)));
-    Ok(())
-}
-
-#[test]
-fn a_section_describes_64_interfaces(rt: HostRuntime) -> Result<(), AllocError> {
     let alloc = rt.alloc();
     let mut file = Vec::from_slice(alloc, &BLOCKS[156..204])?;
     for _ in 0..63 {

@@ -121,12 +121,6 @@ fn each_kind_is_filled_to_its_limit_and_past_it(rt: HostRuntime) -> Result<(), F
     Ok(())
 }
 
-#[test]
-fn a_limit_of_0_is_refused(rt: HostRuntime) {
-    let refused = RingCable::new(rt.alloc(), 0).err();
-    same(&rt, "new with limit 0", &refused, &Some(CableFault::Limit));
-}
-
 /// The faults, and the number and the text of each.
 const FAULTS: [(CableFault, u8, &str); 2] = [
     (CableFault::Limit, 1, "the limit is 0"),
@@ -134,7 +128,9 @@ const FAULTS: [(CableFault, u8, &str); 2] = [
 ];
 
 #[test]
-fn faults_have_numbers_and_texts(rt: HostRuntime) -> Result<(), AllocError> {
+fn a_limit_of_0_is_refused_and_faults_have_texts(rt: HostRuntime) -> Result<(), AllocError> {
+    let refused = RingCable::new(rt.alloc(), 0).err();
+    same(&rt, "new with limit 0", &refused, &Some(CableFault::Limit));
     for (fault, number, text) in &FAULTS {
         same(&rt, *text, &fault.number(), number);
         prints(&rt, rt.alloc(), fault, *text)?;

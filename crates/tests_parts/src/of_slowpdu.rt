@@ -192,13 +192,9 @@ fn is_short(rt: &impl Abort, payload: &[u8], have: usize) {
 }
 
 #[test]
-fn payloads_of_fewer_octets_are_short(rt: HostRuntime) {
+fn payloads_are_short_whatever_stands_there(rt: HostRuntime) {
     is_short(&rt, &lacpdu_payload(), 0);
     is_short(&rt, &lacpdu_payload(), 109);
-}
-
-#[test]
-fn a_short_payload_is_short_whatever_stands_there(rt: HostRuntime) {
     let mut bad_length = lacpdu_payload();
     put_octets(&mut bad_length, 3, &[19]);
     is_short(&rt, &[3; 110], 109);
@@ -231,16 +227,6 @@ fn refusals_say_what_stands_there(rt: HostRuntime) -> Result<(), AllocError> {
 }
 
 #[test]
-fn pdus_are_written_as_they_are_read(rt: HostRuntime) {
-    same(&rt, "the LACPDU", &lacpdu().encode(), &lacpdu_payload());
-    same(&rt, "the marker", &marker().encode(), &marker_payload());
-    let read = Pdu::Lacpdu(lacpdu());
-    same(&rt, "read back", &encode_then_decode(&read), &Ok(read));
-    let read = Pdu::Marker(marker());
-    same(&rt, "read back", &encode_then_decode(&read), &Ok(read));
-}
-
-#[test]
 fn parties_are_what_an_end_names(rt: HostRuntime) {
     let rows = [(0x1e, true), (0x04, true), (0xfb, false), (0x00, false)];
     for (place, (octet, aggregatable)) in rows.iter().enumerate() {
@@ -265,7 +251,13 @@ fn parties_are_what_an_end_names(rt: HostRuntime) {
 }
 
 #[test]
-fn markers_are_answered_once(rt: HostRuntime) {
+fn pdus_are_written_as_read_and_markers_answered_once(rt: HostRuntime) {
+    same(&rt, "the LACPDU", &lacpdu().encode(), &lacpdu_payload());
+    same(&rt, "the marker", &marker().encode(), &marker_payload());
+    let read = Pdu::Lacpdu(lacpdu());
+    same(&rt, "read back", &encode_then_decode(&read), &Ok(read));
+    let read = Pdu::Marker(marker());
+    same(&rt, "read back", &encode_then_decode(&read), &Ok(read));
     let response = Marker {
         kind: MarkerKind::Response,
         ..marker()
@@ -331,8 +323,13 @@ fn each_field(first: u8) -> Info {
     }
 }
 
+/// A response in which no two fields are equal.
+const EACH_FIELD_OF_A_MARKER: [u8; 16] = [
+    2, 1, 2, 16, 0x40, 0x41, 0x42, 0x43, 0x44, 0x45, 0x46, 0x47, 0x48, 0x49, 0x4a, 0x4b,
+];
+
 #[test]
-fn each_field_has_its_place(rt: HostRuntime) {
+fn each_field_of_both_pdus_has_its_place(rt: HostRuntime) {
     let mut payload = [0; 110];
     put_octets(&mut payload, 0, &EACH_FIELD);
     let said = Lacpdu {
@@ -342,15 +339,6 @@ fn each_field_has_its_place(rt: HostRuntime) {
     };
     same(&rt, "decode", &decode(&payload), &Ok(Pdu::Lacpdu(said)));
     same(&rt, "encode", &said.encode(), &payload);
-}
-
-/// A response in which no two fields are equal.
-const EACH_FIELD_OF_A_MARKER: [u8; 16] = [
-    2, 1, 2, 16, 0x40, 0x41, 0x42, 0x43, 0x44, 0x45, 0x46, 0x47, 0x48, 0x49, 0x4a, 0x4b,
-];
-
-#[test]
-fn each_field_of_a_marker_has_its_place(rt: HostRuntime) {
     let mut payload = [0; 110];
     put_octets(&mut payload, 0, &EACH_FIELD_OF_A_MARKER);
     let said = Marker {

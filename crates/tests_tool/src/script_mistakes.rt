@@ -39,7 +39,8 @@ ends = [1, 3]
 pub(crate) type Typos = &'static str;
 
 /// Mistakes in an entry.
-const ENTRIES: Typos = r#"tick 1 10 => tic 1 10 => event 3: word => : event 3 "tic 1 10": no event has this name; did you mean tick?
+const ENTRIES: Typos =
+    r#"tick 1 10 => tic 1 10 => event 3: word => : event 3 "tic 1 10": no event has this name; did you mean tick?
 tick 1 10 => delvier 1 1 => event 3: word => : event 3 "delvier 1 1": no event has this name; did you mean deliver?
 tick 1 10 => Tick 1 10 => event 3: word => : event 3 "Tick 1 10": no event has this name; did you mean tick?
 tick 1 10 => sensers 1 1 => event 3: word => : event 3 "sensers 1 1": no event has this name; did you mean sense?
@@ -71,7 +72,8 @@ tick 1 10 => sense 2 2 => event 3: cable => : event 3 "sense 2 2": word 2 "2": w
 tick 1 10 => restart 3 => event 3: system => : event 3 "restart 3": word 2 "3": wanted is a system, 1 or 2 (restart S)"#;
 
 /// Mistakes in a key or a value.
-pub(crate) const TABLES: Typos = r#"[[cable]] => [[cabel]] => extra key => : unknown key "cabel"; did you mean cable?
+pub(crate) const TABLES: Typos =
+    r#"[[cable]] => [[cabel]] => extra key => : unknown key "cabel"; did you mean cable?
 events = [ => event = [ => extra key => : unknown key "event"; did you mean events?
 events = [ => happens = [ => extra key => : unknown key "happens"; the keys here are system, cable, events
 aggregators = [1]||[[system.port]]|number = 3 => agregators = [1]||[[system.port]]|number = 3 => system 2: extra key => : system 2: unknown key "agregators"; did you mean aggregators?

@@ -53,7 +53,8 @@ key = 1
 ";
 
 /// Mistakes in cables.
-const CABLES: Typos = r#"ends = [1, 3] => ends = [1, 3]||[[cable]]|ends = [2, 3] => cable 2: end => : cable 2: ends = [2, 3]: port 3 of system 2 has cable 1 already
+const CABLES: Typos =
+    r#"ends = [1, 3] => ends = [1, 3]||[[cable]]|ends = [2, 3] => cable 2: end => : cable 2: ends = [2, 3]: port 3 of system 2 has cable 1 already
 ends = [1, 3] => ends = [2, 9] => cable 1: end => : cable 1: ends = [2, 9]: system 2 has no port 9
 ends = [1, 3] => ends = [1, 3]||[[cable]]|ends = [2, 4]||[[cable]]|ends = [2, 4] => cable 3: end => : cable 3: ends = [2, 4]: port 2 of system 1 has cable 2 already
 ends = [1, 3] => ends = [1, 3]||[[cable]]|ends = [2] => cable 2: ends => : cable 2: ends = [2]: wanted is two numbers, 0 to 65535: a port of system 1, a port of system 2
@@ -63,7 +64,8 @@ ends = [1, 3] => ends = [1, 3]||[[cable]]|ends = [2, 4]|limit = 65536 => cable 2
 [[cable]]|ends = [1, 3]| => [[cable]]|ends = [1, 3]|[[cable]]|ends = [2, 4]|[[cable]]| => cable 3: ends => : cable 3: ends is missing: wanted is two numbers, 0 to 65535: a port of system 1, a port of system 2"#;
 
 /// Mistakes in systems and ports.
-const SYSTEMS: Typos = r#"number = 4|key = 1 => number = 4|key = 65536 => system 2 port 2: key => : system 2 port 2: key = 65536: wanted is a number, 0 to 65535
+const SYSTEMS: Typos =
+    r#"number = 4|key = 1 => number = 4|key = 65536 => system 2 port 2: key => : system 2 port 2: key = 65536: wanted is a number, 0 to 65535
 number = 4|key = 1 => number = 4|key = 1|prio = 5 => system 2 port 2: extra key => : system 2 port 2: unknown key "prio"; the keys here are number, priority, mac, key, aggregatable, active, short
 number = 2|key = 1 => number = 2|key = 1|mac = "02-00-00-00-00" => system 1 port 2: mac => : system 1 port 2: mac = "02-00-00-00-00": wanted is six two-digit hexadecimal numbers joined by -, as "02-00-00-00-00-01"
 number = 2|key = 1 => number = 2|key = 1|active = 1 => system 1 port 2: active => : system 1 port 2: active = 1: wanted is true or false
@@ -72,7 +74,8 @@ mac = "02-00-00-00-00-02" => mac = "02-00-00-00-00-02"|max_delay = 65536 => syst
 [[system]]|mac = "02-00-00-00-00-02"|aggregators = [1]||[[system.port]]|number = 3|key = 1||[[system.port]]|number = 4|key = 1| =>  => system => : there is 1 table [[system]]: wanted are two"#;
 
 /// Values that are shown in part, or by their kind.
-const VALUES: Typos = r#"aggregators = [1]||[[system.port]]|number = 1 => aggregators = [1, 2, 3, 4, 5, 6, 7, 8, -9]||[[system.port]]|number = 1 => system 1: aggregators => : system 1: aggregators = [1, 2, 3, 4, 5, 6, 7, 8, ..]: wanted is an array of 1 to 64 keys, each 0 to 65535
+const VALUES: Typos =
+    r#"aggregators = [1]||[[system.port]]|number = 1 => aggregators = [1, 2, 3, 4, 5, 6, 7, 8, -9]||[[system.port]]|number = 1 => system 1: aggregators => : system 1: aggregators = [1, 2, 3, 4, 5, 6, 7, 8, ..]: wanted is an array of 1 to 64 keys, each 0 to 65535
 aggregators = [1]||[[system.port]]|number = 1 => aggregators = [1, 2, 3, 4, 5, 6, 7, -8]||[[system.port]]|number = 1 => system 1: aggregators => : system 1: aggregators = [1, 2, 3, 4, 5, 6, 7, -8]: wanted is an array of 1 to 64 keys, each 0 to 65535
 ends = [1, 3] => ends = [[1, 3], 4] => cable 1: ends => : cable 1: ends = [[..], 4]: wanted is two numbers, 0 to 65535: a port of system 1, a port of system 2
 ends = [1, 3] => ends = [{one = 1}, true] => cable 1: ends => : cable 1: ends = [{..}, true]: wanted is two numbers, 0 to 65535: a port of system 1, a port of system 2

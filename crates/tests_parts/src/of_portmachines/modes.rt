@@ -27,7 +27,7 @@ fn another_mode_is_told_to_the_partner(rt: HostRuntime) {
         Step::Take(0x05),
         Step::Is(Fact::CurrentWhile(30)),
     ];
-    walk(&rt, port_after_a_second(), &STEPS);
+    walk(&rt, "modes", port_after_a_second(), &STEPS);
 }
 
 #[test]
@@ -35,11 +35,13 @@ fn timers_by_whose_timeout(rt: HostRuntime) {
     let known = end(1, 0x07);
     walk(
         &rt,
+        "modes",
         quiet_port(true, true),
         &[Step::Told(0x05, known), Step::Is(Fact::CurrentWhile(30))],
     );
     walk(
         &rt,
+        "modes",
         quiet_port(true, false),
         &[Step::Told(0x07, known), Step::Is(Fact::CurrentWhile(900))],
     );
@@ -52,5 +54,5 @@ fn timers_by_whose_timeout(rt: HostRuntime) {
         Step::Is(Fact::PeriodicIn(PeriodicState::Fast)),
         Step::Is(Fact::PeriodicTimer(10)),
     ];
-    walk(&rt, quiet_port(true, true), &steps);
+    walk(&rt, "modes", quiet_port(true, true), &steps);
 }

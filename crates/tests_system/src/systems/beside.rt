@@ -1,4 +1,4 @@
-use crate::systems::{Row, Side, joined, plays_with};
+use crate::systems::{Row, Side, config, joined, plays};
 use lagsystem::{MuxState, PortStatus, SystemFault};
 
 /// Port 2 hears one of two ports of the partner, in turn, as on a wire with a hub: this one.
@@ -54,5 +54,6 @@ fn a_port_waits_for_another_that_begins_anew_for_ever(rt: HostRuntime) -> Result
         rows.extend_from_slice(&STARVES)?;
     }
     rows.extend_from_slice(&COMES_UP)?;
-    plays_with(&rt, rt.alloc(), &[1, 2], 1, &[&rows])
+    let given = config(rt.alloc(), &[1, 2], 1)?;
+    plays(&rt, rt.alloc(), given, "one that begins anew", &rows)
 }

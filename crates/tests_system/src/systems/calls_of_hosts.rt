@@ -36,10 +36,10 @@ const FREE: [Row<'static>; 10] = [
 fn each_kind_of_host_call(rt: HostRuntime) -> Result<(), SystemFault> {
     let alloc = rt.alloc();
     let mut system = System::new(alloc, config(alloc, &[1, 2], 2)?, modulo)?;
-    play(&rt, alloc, &mut system, &PROBED)?;
+    play(&rt, alloc, &mut system, "probed", &PROBED)?;
     let response = frame(mac(9), &Response(1, 1, 1).marker().encode());
     let call = HostCall::Call(Call::Receive(1, Vec::from_slice(alloc, &response)?));
     let reply = HostReply::Call(Reply::Receive(Ok(Received::Released(1))));
     same(&rt, "the response", &system.host_call(&call), &reply);
-    play(&rt, alloc, &mut system, &FREE)
+    play(&rt, alloc, &mut system, "free", &FREE)
 }

@@ -55,7 +55,7 @@ fn is_driven(rt: &impl Abort, alloc: Global, lists: &[&[Row<'_>]]) -> Result<(),
 }
 
 #[test]
-fn every_kind_of_call(rt: HostRuntime) -> Result<(), SystemFault> {
+fn every_kind_of_call_and_a_thousand(rt: HostRuntime) -> Result<(), SystemFault> {
     const ROWS: [Row<'static>; 16] = [
         Row::Links(&[1, 2]),
         Row::Takes(1, Side::Of(2, 1, 1, 0x0d), Side::Of(1, 1, 1, 0x07)),
@@ -74,16 +74,8 @@ fn every_kind_of_call(rt: HostRuntime) -> Result<(), SystemFault> {
         Row::Restart,
         Row::Silent(1),
     ];
-    is_driven(&rt, rt.alloc(), &[&ROWS])
-}
-
-#[test]
-fn no_call_has_no_reply(rt: HostRuntime) -> Result<(), SystemFault> {
-    is_driven(&rt, rt.alloc(), &[])
-}
-
-#[test]
-fn a_thousand_calls(rt: HostRuntime) -> Result<(), SystemFault> {
-    const ROWS: [Row<'static>; 3] = [Row::Link(1, true), Row::Ticks(1000), Row::Silent(2)];
-    is_driven(&rt, rt.alloc(), &[&ROWS])
+    const THOUSAND: [Row<'static>; 3] = [Row::Link(1, true), Row::Ticks(1000), Row::Silent(2)];
+    is_driven(&rt, rt.alloc(), &[&ROWS])?;
+    is_driven(&rt, rt.alloc(), &[])?;
+    is_driven(&rt, rt.alloc(), &[&THOUSAND])
 }

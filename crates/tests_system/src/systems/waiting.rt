@@ -1,4 +1,4 @@
-use crate::systems::{DATA, Row, Side, plays_with};
+use crate::systems::{Case, DATA, Given, ONE, Row, Side, plays_cases};
 use lagsystem::SystemFault;
 
 /// A port with Short Timeout, whose partner has Long Timeout, comes up: its periodic timer, then wait_while, then
@@ -66,16 +66,6 @@ const THREE_ARE_SENT: [Row<'static>; 20] = [
     SENT,
 ];
 
-#[test]
-fn the_first_timer_of_a_port_is_told(rt: HostRuntime) -> Result<(), SystemFault> {
-    plays_with(&rt, rt.alloc(), &[1], 1, &[&ONE_COMES_UP])
-}
-
-#[test]
-fn room_in_the_window_is_told(rt: HostRuntime) -> Result<(), SystemFault> {
-    plays_with(&rt, rt.alloc(), &[1], 1, &[&THREE_ARE_SENT])
-}
-
 /// Two ports of one aggregator distribute, and hear their peer again.
 const BOTH_DISTRIBUTE: [Row<'static>; 14] = [
     Row::Links(&[1, 2]),
@@ -126,13 +116,22 @@ const A_MARKER_IS_LOST: [Row<'static>; 25] = [
     Row::Waits(None),
 ];
 
-#[test]
-fn the_wait_for_a_response_is_told(rt: HostRuntime) -> Result<(), SystemFault> {
-    plays_with(
-        &rt,
-        rt.alloc(),
-        &[1, 2],
-        1,
+const PAIR: Given<'static> = Given {
+    ports: &[1, 2],
+    ..ONE
+};
+
+const CASES: [Case<'static>; 3] = [
+    ("one comes up", ONE, &[&ONE_COMES_UP]),
+    ("the window", ONE, &[&THREE_ARE_SENT]),
+    (
+        "a marker is lost",
+        PAIR,
         &[&BOTH_DISTRIBUTE, &A_MARKER_IS_LOST],
-    )
+    ),
+];
+
+#[test]
+fn the_first_timer_is_told(rt: HostRuntime) -> Result<(), SystemFault> {
+    plays_cases(&rt, rt.alloc(), &CASES)
 }
