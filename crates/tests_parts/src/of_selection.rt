@@ -169,58 +169,6 @@ fn chooses_with(
     Ok(())
 }
 
-#[test]
-fn tells_which_port_is_eligible(rt: HostRuntime) {
-    let eligible = view(1, B);
-    let with = |stage: Stage, choice: Choice| PortView {
-        stage,
-        choice,
-        ..eligible
-    };
-    let down = PortView {
-        enabled: false,
-        ..eligible
-    };
-    let unsettled = PortView {
-        settled: false,
-        ..eligible
-    };
-    let mut other_priority = view(1, A);
-    other_priority.partner.system.priority = 1;
-    let rows = [
-        (eligible, true),
-        (down, false),
-        (unsettled, false),
-        (
-            with(Stage::Waiting { expired: true }, Choice::Unselected),
-            false,
-        ),
-        (with(Stage::Joined, Choice::Unselected), false),
-        (with(Stage::Detached, selected(1)), false),
-        (with(Stage::Detached, standby(1)), false),
-        (view(1, A), false),
-        (other_priority, true),
-    ];
-    for (place, (view, want)) in rows.iter().enumerate() {
-        same_in_row(&rt, place, &view.is_eligible(), want);
-    }
-}
-
-#[test]
-fn tells_which_port_has_waited(rt: HostRuntime) {
-    let rows = [
-        (Stage::Detached, false),
-        (Stage::Waiting { expired: false }, false),
-        (Stage::Waiting { expired: true }, true),
-        (Stage::Joined, false),
-    ];
-    for (place, (stage, want)) in rows.iter().enumerate() {
-        let mut view = view(1, B);
-        view.stage = *stage;
-        same_in_row(&rt, place, &view.has_waited(), want);
-    }
-}
-
 fn standby(agg: u16) -> Choice {
     Choice::Standby(AggId(agg))
 }
@@ -346,13 +294,49 @@ fn members_are_listed_without_standby_ports(rt: HostRuntime) -> Result<(), NoMem
     lists(&rt, &aggregators, 0, 0, &[]);
     lists(&rt, &aggregators, 4, 4, &[]);
     lists(&rt, &aggregators, 3, 3, &[5, 9]);
-    let aggregators = aggregators(rt.alloc())?;
     let views = member_and_standby();
     assert!(rt; are_views(&views));
     let found = aggregators.members(&views, AggId(1));
     let want: &[u16] = &[1];
     same(&rt, "members", &found.as_slice(), &want);
     Ok(())
+}
+
+#[test]
+fn tells_which_port_is_eligible(rt: HostRuntime) {
+    let eligible = view(1, B);
+    let with = |stage: Stage, choice: Choice| PortView {
+        stage,
+        choice,
+        ..eligible
+    };
+    let down = PortView {
+        enabled: false,
+        ..eligible
+    };
+    let unsettled = PortView {
+        settled: false,
+        ..eligible
+    };
+    let mut other_priority = view(1, A);
+    other_priority.partner.system.priority = 1;
+    let rows = [
+        (eligible, true),
+        (down, false),
+        (unsettled, false),
+        (
+            with(Stage::Waiting { expired: true }, Choice::Unselected),
+            false,
+        ),
+        (with(Stage::Joined, Choice::Unselected), false),
+        (with(Stage::Detached, selected(1)), false),
+        (with(Stage::Detached, standby(1)), false),
+        (view(1, A), false),
+        (other_priority, true),
+    ];
+    for (place, (view, want)) in rows.iter().enumerate() {
+        same_in_row(&rt, place, &view.is_eligible(), want);
+    }
 }
 
 #[test]
@@ -375,9 +359,9 @@ fn is_ready_where_all_members_that_wait_have_waited(rt: HostRuntime) -> Result<(
         let ready = aggregators.ready(views, AggId(*agg));
         same_in_row(&rt, place, &ready, want);
     }
-    let aggregators = aggregators(rt.alloc())?;
-    let waited = Stage::Waiting { expired: true };
-    let mut views = members(1, waited, Stage::Waiting { expired: false });
+    let mut views = members(1, waited, waits);
+    same(&rt, "has waited", &views[0].has_waited(), &true);
+    same(&rt, "waits", &views[1].has_waited(), &false);
     let as_member = aggregators.ready(&views, AggId(1));
     same(&rt, "as a member", &as_member, &false);
     views[1].choice = standby(1);
@@ -398,30 +382,4 @@ fn lists(rt: &impl Abort, aggregators: &Aggregators, given: u16, asked: u16, wan
     assert!(rt; are_views(&views));
     let found = aggregators.members(&views, AggId(asked));
     same(rt, "members", &found.as_slice(), &want);
-}
-
-/// Views of ports 1, 2 and so on.
-fn ascending<const N: usize>() -> [PortView; N] {
-    let mut views = [view(0, B); N];
-    let mut number: u16 = 0;
-    for view in views.iter_mut() {
-        number = number.wrapping_add(1);
-        view.number = number;
-    }
-    views
-}
-
-#[test]
-fn tells_what_can_be_views(rt: HostRuntime) {
-    let rows: [(&[PortView], bool); 6] = [
-        (&[], true),
-        (&ascending::<64>(), true),
-        (&ascending::<65>(), false),
-        (&[view(1, B), view(2, C)], true),
-        (&[view(2, B), view(2, C)], false),
-        (&[view(2, B), view(1, C)], false),
-    ];
-    for (place, (views, want)) in rows.iter().enumerate() {
-        same_in_row(&rt, place, &are_views(*views), want);
-    }
 }

@@ -154,6 +154,13 @@ fn is_new<F: Fn(u16, usize) -> usize + Drop>(
     same(rt, "wait_while", &system.wait_while(port), &Some(0));
 }
 
+/// The same configuration without its last port.
+fn of_two_ports(alloc: Global) -> Result<Config, NoMemory> {
+    let mut config = config(alloc, 70)?;
+    let _last = config.ports.pop();
+    Ok(config)
+}
+
 #[test]
 fn ports_come_back_into_their_aggregators(rt: HostRuntime) -> Result<(), Fail> {
     let alloc = rt.alloc();
@@ -170,19 +177,7 @@ fn ports_come_back_into_their_aggregators(rt: HostRuntime) -> Result<(), Fail> {
         let other = if row == 2 { 3 } else { 9 };
         is_new(&rt, &system, &fresh, other);
     }
-    Ok(())
-}
-
-/// The same configuration without its last port.
-fn of_two_ports(alloc: Global) -> Result<Config, NoMemory> {
-    let mut config = config(alloc, 70)?;
-    let _last = config.ports.pop();
-    Ok(config)
-}
-
-#[test]
-fn the_second_port_of_a_group_takes_the_empty_aggregator(rt: HostRuntime) -> Result<(), Fail> {
-    let alloc = rt.alloc();
+    // the second port of a group takes the empty aggregator
     let ports = [of_system(3, 2, 0, 0x99), of_system(7, 2, 600, 0x99)];
     let mut system = resume(alloc, of_two_ports(alloc)?, modulo, &ports)?;
     are_back(&rt, &system, &ports);

@@ -11,15 +11,19 @@ const SELECTED: Choice = Choice::Selected(AggId(1));
 
 const STANDBY: Choice = Choice::Standby(AggId(1));
 
-/// Ports 1, 2 and 3 come up, and an LACPDU of system 2 comes on each; then wait_while expires.
-const THREE_UP: [Row<'static>; 3] = [
+/// Port 1 alone is a member, and distributes; ports 2 and 3 are STANDBY.
+const MEMBER_1: [Row<'static>; 4] = [
+    Row::Chosen(1, SELECTED),
+    Row::Chosen(2, STANDBY),
+    Row::Chosen(3, STANDBY),
+    Row::Distributing(1, &[1]),
+];
+
+/// Ports 1, 2 and 3 come up, and an LACPDU of system 2 comes on each; then wait_while expires, and they are so.
+const ONE_UP: [Row<'static>; 7] = [
     Row::Links(&[1, 2, 3]),
     Row::RankedJoins(2, &[1, 2, 3]),
     Row::Ticks(20),
-];
-
-/// Port 1 alone is a member, and distributes; ports 2 and 3 are STANDBY.
-const ONE_OF_THREE: [Row<'static>; 4] = [
     Row::Chosen(1, SELECTED),
     Row::Chosen(2, STANDBY),
     Row::Chosen(3, STANDBY),
@@ -27,7 +31,7 @@ const ONE_OF_THREE: [Row<'static>; 4] = [
 ];
 
 /// Port 3 has taken the place of port 1, and distributes; port 2 is STANDBY still.
-const THIRD_PROMOTED: [Row<'static>; 4] = [
+const PROMOTED: [Row<'static>; 4] = [
     Row::Chosen(2, STANDBY),
     Row::Chosen(3, SELECTED),
     Row::Mux(2, MuxState::Waiting),
@@ -86,17 +90,9 @@ fn standby_ports_carry_no_frames_and_choose_first(rt: HostRuntime) -> Result<(),
         Row::Mux(1, MuxState::Waiting),
     ];
     let cases: [Case<'_>; 3] = [
-        (
-            "carries",
-            THREE_LIMITED,
-            &[&THREE_UP, &ONE_OF_THREE, &carries],
-        ),
+        ("carries", LIMITED, &[&ONE_UP, &carries]),
         ("answers", PAIR_LIMITED, &[&answers]),
-        (
-            "chooses",
-            THREE_LIMITED,
-            &[&THREE_UP, &ONE_OF_THREE, &chooses, &THIRD_PROMOTED],
-        ),
+        ("chooses", LIMITED, &[&ONE_UP, &chooses, &PROMOTED]),
     ];
     plays_cases(&rt, rt.alloc(), &cases)
 }
@@ -281,7 +277,7 @@ const LEAVES: [Row<'static>; 3] = [
     Row::Mux(1, MuxState::Detached),
 ];
 
-const THREE_LIMITED: Given<'static> = Given {
+const LIMITED: Given<'static> = Given {
     max_links: Some(1),
     ports: &[1, 2, 3],
     ranked: true,
@@ -323,54 +319,35 @@ const LIMITED_TO_64: Given<'static> = Given {
 const CASES: [Case<'static>; 12] = [
     (
         "a link goes down",
-        THREE_LIMITED,
-        &[
-            &THREE_UP,
-            &ONE_OF_THREE,
-            &DOWN,
-            &THIRD_PROMOTED,
-            &BACK,
-            &THIRD_PROMOTED,
-            &SECOND,
-            &FIRST,
-        ],
+        LIMITED,
+        &[&ONE_UP, &DOWN, &PROMOTED, &BACK, &PROMOTED, &SECOND, &FIRST],
     ),
     (
         "a member leaves",
-        THREE_LIMITED,
-        &[&THREE_UP, &ONE_OF_THREE, &CONFIGURED, &THIRD_PROMOTED],
+        LIMITED,
+        &[&ONE_UP, &CONFIGURED, &PROMOTED],
     ),
     (
         "a member leaves",
-        THREE_LIMITED,
-        &[&THREE_UP, &ONE_OF_THREE, &OTHER_KEY, &THIRD_PROMOTED],
+        LIMITED,
+        &[&ONE_UP, &OTHER_KEY, &PROMOTED],
     ),
     (
         "a member leaves",
-        THREE_LIMITED,
-        &[&THREE_UP, &ONE_OF_THREE, &OWN_SYSTEM, &THIRD_PROMOTED],
+        LIMITED,
+        &[&ONE_UP, &OWN_SYSTEM, &PROMOTED],
     ),
     (
         "hears nothing",
-        THREE_LIMITED,
-        &[&THREE_UP, &ONE_OF_THREE, &HEARS_NOTHING, &THIRD_PROMOTED],
+        LIMITED,
+        &[&ONE_UP, &HEARS_NOTHING, &PROMOTED],
     ),
     (
         "the peer restarts",
-        THREE_LIMITED,
-        &[&THREE_UP, &ONE_OF_THREE, &PEER_RESTARTS, &ONE_OF_THREE],
+        LIMITED,
+        &[&ONE_UP, &PEER_RESTARTS, &MEMBER_1],
     ),
-    (
-        "a restart",
-        THREE_LIMITED,
-        &[
-            &THREE_UP,
-            &ONE_OF_THREE,
-            &RESTARTS,
-            &THREE_UP,
-            &ONE_OF_THREE,
-        ],
-    ),
+    ("a restart", LIMITED, &[&ONE_UP, &RESTARTS, &ONE_UP]),
     ("two follow", FOUR_LIMITED_TO_2, &[&FOUR_UP, &TWO_FOLLOW]),
     (
         "two aggregators",
