@@ -160,12 +160,6 @@ fn a_ring_serves_long_after_it_first_was_full(rt: HostRuntime) -> Result<(), Cab
     Ok(())
 }
 
-/// An item that was refused came back, and the list is as long as before.
-fn came_back(rt: &impl Abort, list: &ListCable, back: Item, wanted: Item, before: usize) {
-    same(rt, "push", &back, &wanted);
-    same(rt, "len after a refused push", &list.len(), &before);
-}
-
 /// Reserves a place in a list and puts an item there; if memory is refused, the list stays as it is.
 fn grows(rt: &impl Abort, alloc: Global, list: &mut ListCable, count: u64) {
     let before = list.len();
@@ -193,7 +187,8 @@ fn grows(rt: &impl Abort, alloc: Global, list: &mut ListCable, count: u64) {
                 &reserved,
                 &false,
             );
-            came_back(rt, list, back, control(alloc, count), before);
+            same_at(rt, "push of item", count, &back, &control(alloc, count));
+            same_at(rt, "len after item", count, &list.len(), &before);
         }
     }
 }

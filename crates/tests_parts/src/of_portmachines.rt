@@ -501,31 +501,6 @@ fn what_is_recorded_of_synchronization(rt: HostRuntime) {
     records(&rt, true, 0xf5, end(1, 0x07), 0xf5);
 }
 
-#[test]
-fn each_mux_row_but_the_first_asks(rt: HostRuntime) {
-    let steps = [
-        Step::Told(0x05, end(1, 0x07)),
-        Step::Select(SELECTED),
-        // to WAITING
-        Step::Asks(false, false),
-        Step::Select(Choice::Unselected),
-        // from WAITING to DETACHED
-        Step::Asks(false, true),
-        Step::Select(SELECTED),
-        // to ATTACHED
-        Step::Asks(true, true),
-        Step::Select(Choice::Unselected),
-        // from ATTACHED to DETACHED
-        Step::Asks(false, true),
-    ];
-    walk(
-        &rt,
-        "each mux row but the first asks",
-        quiet_port(true, true),
-        &steps,
-    );
-}
-
 const STANDBY: Choice = Choice::Standby(AggId(1));
 
 /// A port that is in this state becomes STANDBY: this many rows fire, and it comes to WAITING.
@@ -679,7 +654,28 @@ fn timers_count_and_what_is_asked_stays_asked(rt: HostRuntime) {
 }
 
 #[test]
-fn a_start_while_the_link_is_down(rt: HostRuntime) {
+fn mux_rows_ask_and_a_start_while_the_link_is_down(rt: HostRuntime) {
+    let steps = [
+        Step::Told(0x05, end(1, 0x07)),
+        Step::Select(SELECTED),
+        // to WAITING
+        Step::Asks(false, false),
+        Step::Select(Choice::Unselected),
+        // from WAITING to DETACHED
+        Step::Asks(false, true),
+        Step::Select(SELECTED),
+        // to ATTACHED
+        Step::Asks(true, true),
+        Step::Select(Choice::Unselected),
+        // from ATTACHED to DETACHED
+        Step::Asks(false, true),
+    ];
+    walk(
+        &rt,
+        "each mux row but the first asks",
+        quiet_port(true, true),
+        &steps,
+    );
     let mut other = party(8);
     other.port.priority = 9;
     other.aggregatable = false;

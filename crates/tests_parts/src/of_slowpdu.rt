@@ -164,26 +164,6 @@ fn changed<const N: usize>(octets: [u8; N], changes: &[(usize, u8)]) -> [u8; N] 
     all
 }
 
-#[test]
-fn payloads_are_refused_for_the_first_cause(rt: HostRuntime) {
-    let lacpdu = lacpdu_payload();
-    let marker = marker_payload();
-    let bad_length = |at, found| WireFault::BadLength { at, found };
-    let rows = [
-        (lacpdu, [(0, 3), (3, 0)], WireFault::OtherSubtype(3), 2),
-        (lacpdu, [(3, 19), (23, 18)], bad_length(3, 19), 3),
-        (lacpdu, [(43, 15), (23, 19)], bad_length(23, 19), 3),
-        (lacpdu, [(43, 15), (43, 15)], bad_length(43, 15), 3),
-        (marker, [(2, 3), (3, 15)], bad_length(3, 15), 3),
-        (marker, [(2, 3), (2, 3)], WireFault::MarkerTlv(3), 4),
-    ];
-    for (place, (payload, changes, fault, number)) in rows.iter().enumerate() {
-        let answer = decode(&changed(*payload, changes));
-        same_in_row(&rt, place, &answer, &Err(*fault));
-        same_in_row(&rt, place, &fault.number(), number);
-    }
-}
-
 /// This many of the first octets are refused as too few.
 fn is_short(rt: &impl Abort, payload: &[u8], have: usize) {
     let short = WireFault::Short { have };
@@ -201,27 +181,38 @@ fn payloads_are_short_whatever_stands_there(rt: HostRuntime) {
     is_short(&rt, &bad_length, 109);
 }
 
-/// Refusals, and what they print.
-const REFUSALS: [(WireFault, &str); 4] = [
-    (WireFault::Short { have: 109 }, "fewer than 110 octets: 109"),
-    (
-        WireFault::OtherSubtype(3),
-        "octet 0 names neither LACP (1) nor the Marker protocol (2): 3",
-    ),
-    (
-        WireFault::BadLength { at: 43, found: 15 },
-        "the length field at 43 is wrong: 15",
-    ),
-    (
-        WireFault::MarkerTlv(255),
-        "octet 2 of a Marker PDU is neither 1 nor 2: 255",
-    ),
-];
+/// What refusals print.
+const REFUSALS: &str = "fewer than 110 octets: 109
+octet 0 names neither LACP (1) nor the Marker protocol (2): 3
+the length field at 43 is wrong: 15
+octet 2 of a Marker PDU is neither 1 nor 2: 255";
 
 #[test]
-fn refusals_say_what_stands_there(rt: HostRuntime) -> Result<(), AllocError> {
-    for (fault, text) in &REFUSALS {
-        prints(&rt, rt.alloc(), fault, *text)?;
+fn payloads_are_refused_for_the_first_cause_and_say_it(rt: HostRuntime) -> Result<(), AllocError> {
+    let lacpdu = lacpdu_payload();
+    let marker = marker_payload();
+    let bad_length = |at, found| WireFault::BadLength { at, found };
+    let rows = [
+        (lacpdu, [(0, 3), (3, 0)], WireFault::OtherSubtype(3), 2),
+        (lacpdu, [(3, 19), (23, 18)], bad_length(3, 19), 3),
+        (lacpdu, [(43, 15), (23, 19)], bad_length(23, 19), 3),
+        (lacpdu, [(43, 15), (43, 15)], bad_length(43, 15), 3),
+        (marker, [(2, 3), (3, 15)], bad_length(3, 15), 3),
+        (marker, [(2, 3), (2, 3)], WireFault::MarkerTlv(3), 4),
+    ];
+    for (place, (payload, changes, fault, number)) in rows.iter().enumerate() {
+        let answer = decode(&changed(*payload, changes));
+        same_in_row(&rt, place, &answer, &Err(*fault));
+        same_in_row(&rt, place, &fault.number(), number);
+    }
+    let faults = [
+        WireFault::Short { have: 109 },
+        WireFault::OtherSubtype(3),
+        WireFault::BadLength { at: 43, found: 15 },
+        WireFault::MarkerTlv(255),
+    ];
+    for (fault, text) in faults.iter().zip(REFUSALS.lines()) {
+        prints(&rt, rt.alloc(), fault, text)?;
     }
     Ok(())
 }

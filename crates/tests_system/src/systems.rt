@@ -1,5 +1,3 @@
-mod beside;
-mod calls_of_hosts;
 mod configurations;
 mod conversations;
 mod driven;
@@ -14,7 +12,6 @@ mod standby;
 mod statuses;
 mod truncated;
 mod waiting;
-mod wide;
 
 ghost use Rattle.std.specs.Prelude.{◌≡◌, ◌<◌};
 ghost use Rattle.distributor.specs.Calls.{PicksIndexes};

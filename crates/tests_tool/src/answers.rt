@@ -160,24 +160,14 @@ fn markers_are_answered_and_other_frames_are_not(rt: HostRuntime) -> Result<(), 
     Ok(())
 }
 
-/// Neither a payload nor a frame is these digits.
-fn not_hex(rt: &(impl Abort + AllocGlobal), hex: &str) {
-    let wanted = (hex, Err(ToolFault::NotHex));
-    same(rt, "decode", &(hex, shown(rt.alloc(), hex)), &wanted);
-    let said = replied(rt.alloc(), "020000000002", hex);
-    same(rt, "respond", &(hex, said), &wanted);
-}
-
-/// The frame is not hexadecimal either, but the address is checked first.
-fn not_mac(rt: &(impl Abort + AllocGlobal), mac: &str) {
-    let said = replied(rt.alloc(), mac, "zz");
-    same(rt, mac, &said, &Err(ToolFault::NotMac));
-}
-
+/// A frame that is not hexadecimal either is looked at behind the address.
 #[test]
 fn words_that_are_not_hexadecimal_or_no_address(rt: HostRuntime) {
     for hex in ["0", "010", "zz", "0g", "01 1", "0x01", "é1"] {
-        not_hex(&rt, hex);
+        let wanted = Err(ToolFault::NotHex);
+        same(&rt, hex, &shown(rt.alloc(), hex), &wanted);
+        let said = replied(rt.alloc(), "020000000002", hex);
+        same(&rt, hex, &said, &wanted);
     }
     for mac in [
         "",
@@ -186,7 +176,8 @@ fn words_that_are_not_hexadecimal_or_no_address(rt: HostRuntime) {
         "02000000000002",
         "02000000000g",
     ] {
-        not_mac(&rt, mac);
+        let said = replied(rt.alloc(), mac, "zz");
+        same(&rt, mac, &said, &Err(ToolFault::NotMac));
     }
 }
 

@@ -116,46 +116,24 @@ const NOT_UTF8: [(&str, &[u8], &str); 5] = [
 ];
 
 /// Words, and why they are not an even number of hexadecimal digits.
-const NOT_HEXADECIMAL: [(&str, &str); 5] = [
-    ("zz", "HEX: character 1 'z' is no hexadecimal digit"),
-    ("00fFg0", "HEX: character 5 'g' is no hexadecimal digit"),
-    ("01 1", "HEX: character 3 ' ' is no hexadecimal digit"),
-    (
-        "a\u{fc}:",
-        "HEX: character 2 '\u{fc}' is no hexadecimal digit",
-    ),
-    ("010", "HEX: 3 hexadecimal digits: wanted is an even number"),
-];
+const NOT_HEXADECIMAL: &str = "zz => HEX: character 1 'z' is no hexadecimal digit
+00fFg0 => HEX: character 5 'g' is no hexadecimal digit
+01 1 => HEX: character 3 ' ' is no hexadecimal digit
+a\u{fc}: => HEX: character 2 '\u{fc}' is no hexadecimal digit
+010 => HEX: 3 hexadecimal digits: wanted is an even number";
 
 /// Words, and why they are no MAC addresses.
-const NO_ADDRESSES: [(&str, &str); 5] = [
-    (
-        "02:00:00:00:00:01",
-        "MAC: character 3 ':' is no hexadecimal digit",
-    ),
-    (
-        "02000000000O",
-        "MAC: character 12 'O' is no hexadecimal digit",
-    ),
-    ("02000000001", "MAC: 11 hexadecimal digits: wanted are 12"),
-    ("0200000000001", "MAC: 13 hexadecimal digits: wanted are 12"),
-    ("", "MAC: 0 hexadecimal digits: wanted are 12"),
-];
+const NO_ADDRESSES: &str = "02:00:00:00:00:01 => MAC: character 3 ':' is no hexadecimal digit
+02000000000O => MAC: character 12 'O' is no hexadecimal digit
+02000000001 => MAC: 11 hexadecimal digits: wanted are 12
+0200000000001 => MAC: 13 hexadecimal digits: wanted are 12
+ => MAC: 0 hexadecimal digits: wanted are 12";
 
 /// A script whose third entry names no event.
 const NO_EVENT: &str = "events = [\"tick 1 1\", \"tick 2 1\", \"tic 1 10\"]\n";
 
-/// Files with such a script, and what is said of it.
-const REFUSED: [(&str, &str); 2] = [
-    (
-        "lag.toml",
-        "lag.toml: event 3 \"tic 1 10\": no event has this name; did you mean tick?",
-    ),
-    (
-        "-",
-        "standard input: event 3 \"tic 1 10\": no event has this name; did you mean tick?",
-    ),
-];
+/// What is said of it behind the name of the file.
+const NO_EVENT_TEXT: &str = ": event 3 \"tic 1 10\": no event has this name; did you mean tick?";
 
 #[test]
 fn texts_of_what_is_refused(rt: HostRuntime) -> Result<(), Fail> {
@@ -167,15 +145,17 @@ fn texts_of_what_is_refused(rt: HostRuntime) -> Result<(), Fail> {
         ("HEX", "is an even number", NOT_HEXADECIMAL),
         ("MAC", "are 12", NO_ADDRESSES),
     ] {
-        for (word, text) in words {
+        for line in words.lines() {
+            let (word, text) = line.split_once(" => ").unwrap_or((line, ""));
             let said = digits_text(rt.alloc(), name, word, wanted)?;
             same_text(&rt, word, said.as_str(), text);
         }
     }
     let fault = ScriptFault::Entry(3, EntryFault::Word);
-    for (file, text) in REFUSED {
+    for (file, name) in [("lag.toml", "lag.toml"), ("-", "standard input")] {
         let said = script_text(rt.alloc(), file, NO_EVENT, fault)?;
-        same_text(&rt, file, said.as_str(), text);
+        let text = format!(in rt.alloc(); "{name}{NO_EVENT_TEXT}")?;
+        same_text(&rt, file, said.as_str(), text.as_str());
     }
     Ok(())
 }

@@ -1,5 +1,4 @@
-use crate::comparing::same;
-use crate::telling::told;
+use crate::comparing::{same, told};
 use lagtool_jobs::{FaultText, ToolFault, status_of};
 use lagworld::ScriptFault;
 use std::test::Fail;

@@ -1,6 +1,6 @@
-use crate::algorithm::by_number;
 use crate::checks::{four_lines, whole};
 use crate::comparing::{same, same_octets};
+use crate::pieces::by_number;
 use crate::replays::{BOTH_UP, MOVE, TWO_CABLES, TWO_PORTS, script_and_report};
 use lagstreams::{Sink, Source};
 use lagtool_jobs::{ToolFault, check, replay};

@@ -1,8 +1,6 @@
-use crate::algorithm::by_number;
-use crate::comparing::{same, same_at, same_octets, same_text};
-use crate::pieces::one_text;
+use crate::comparing::{same, same_at, same_octets, same_text, told};
+use crate::pieces::{by_number, one_text};
 use crate::slow::sink_of;
-use crate::telling::told;
 use crate::wrong_answers::report;
 use lagstreams::Sink;
 use lagtool_jobs::{

@@ -141,7 +141,7 @@ pub(crate) fn explained(alloc: Global, text: &str) -> Result<String, AllocError>
 }
 
 /// The parts of a line before and behind its first arrow.
-fn parts(line: &str) -> (&str, &str) {
+pub(crate) fn parts(line: &str) -> (&str, &str) {
     line.split_once(" => ").unwrap_or((line, ""))
 }
 

@@ -1,8 +1,8 @@
 ghost use Rattle.std.specs.Prelude.{◌≡◌, false};
 
-use crate::algorithm::by_number;
 use crate::checks::{FILE, Piecewise};
 use crate::comparing::{same, same_at};
+use crate::pieces::by_number;
 use crate::replays::{BOTH_UP, MOVE, TWO_CABLES, TWO_PORTS, script_and_report};
 use lagstreams::{Sink, Source};
 use lagtool_jobs::{ToolFault, check, replay};

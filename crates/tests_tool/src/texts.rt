@@ -1,4 +1,4 @@
-use crate::telling::told;
+use crate::comparing::told;
 use lagsystem::PortChange;
 use lagtypes::{AggId, Key};
 use lagworld::Event;

@@ -1,6 +1,6 @@
 //! Scripts of two ports and of more than one cable, and values and entries that are long.
 
-use crate::script_mistakes::{self, TABLES, Typos, check, explained};
+use crate::script_mistakes::{self, TABLES, Typos, check, explained, parts};
 use std::alloc::{AllocError, Global};
 use std::process::Abort;
 use std::test::Fail;
@@ -171,28 +171,16 @@ fn the_most_entries(rt: HostRuntime) -> Result<(), Fail> {
 }
 
 /// Whole texts with their faults and explanations.
-const TEXTS: [(&str, &str, &str); 3] = [
-    (
-        "",
-        "system",
-        ": system is missing: wanted is two tables [[system]]",
-    ),
-    (
-        "system = [1, 2]\n",
-        "system",
-        ": system holds what is no table: wanted are two tables [[system]]",
-    ),
-    (
-        "system = {}\n",
-        "system",
-        ": system = {..}: wanted is two tables [[system]]",
-    ),
-];
+const TEXTS: &str = " => system => : system is missing: wanted is two tables [[system]]
+system = [1, 2] => system => : system holds what is no table: wanted are two tables [[system]]
+system = {} => system => : system = {..}: wanted is two tables [[system]]";
 
 #[test]
 fn texts_of_other_systems(rt: HostRuntime) -> Result<(), Fail> {
     let alloc = rt.alloc();
-    for (text, fault, why) in TEXTS {
+    for line in TEXTS.lines() {
+        let (text, rest) = parts(line);
+        let (fault, why) = parts(rest);
         says(&rt, text, fault, why)?;
     }
     let ports = times(alloc, "[[system.port]]\nnumber = 1\nkey = 1\n", 65)?;

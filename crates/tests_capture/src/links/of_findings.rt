@@ -19,12 +19,8 @@ fn ends_are_passive_individual_or_lose_synchronization(rt: HostRuntime) {
     // 6.4.15: the port leaves its aggregator.
     let up = a_to_b(FAST, FAST);
     let down = a_to_b(0x07, FAST);
-    shows(
-        &rt,
-        &[at(0, up), at(1000, down), at(2000, down)],
-        3000,
-        &[(13, 2)],
-    );
+    let frames = [at(0, up), at(1000, down), at(2000, down)];
+    shows(&rt, &frames, 3000, &[(13, 2)]);
     shows(&rt, &[at(0, down), at(1000, up), at(2000, up)], 3000, &[]);
 }
 

@@ -282,12 +282,8 @@ fn two_actors_are_on_one_segment(rt: HostRuntime) {
     let mut rival = a_to_b(FAST, FAST);
     rival.actor = info(C, FAST);
     let said = a_to_b(FAST, FAST);
-    shows(
-        &rt,
-        &[at(0, said), at(500, rival), at(1000, said)],
-        2000,
-        &[(16, 3)],
-    );
+    let frames = [at(0, said), at(500, rival), at(1000, said)];
+    shows(&rt, &frames, 2000, &[(16, 3)]);
     // on another interface, or long ago
     let elsewhere = on(1, at(500, rival));
     shows(&rt, &[at(0, said), elsewhere, at(1000, said)], 2000, &[]);

@@ -75,24 +75,16 @@ fn lacpdus_go_in_one_direction_until_an_end_is_heard(rt: HostRuntime) {
     let said = a_to_b(FAST, UP);
     let alone = [at(0, said), at(1500, said), at(3001, said)];
     shows(&rt, &alone, 3400, &[(18, 3)]);
-    shows(
-        &rt,
-        &[at(0, said), at(1500, said), at(3000, said)],
-        3400,
-        &[],
-    );
+    let frames = [at(0, said), at(1500, said), at(3000, said)];
+    shows(&rt, &frames, 3400, &[]);
     let facing = |interface: u32| {
         let mut other = b_to_a(UP, UP);
         other.partner = info(C, UP);
         on(interface, at(500, other))
     };
     shows(&rt, &[alone[0], facing(0), alone[1], alone[2]], 3400, &[]);
-    shows(
-        &rt,
-        &[alone[0], facing(1), alone[1], alone[2]],
-        3400,
-        &[(18, 4)],
-    );
+    let frames = [alone[0], facing(1), alone[1], alone[2]];
+    shows(&rt, &frames, 3400, &[(18, 4)]);
     // The partner starts 10 seconds late: LACPDUs come in both directions.
     let said = a_to_b(FAST, UP);
     let mut facing = b_to_a(UP, UP);

@@ -2,7 +2,7 @@ use crate::of_portmachines::{Fact, Step, end, port_after_a_second, quiet_port, w
 use portmachines::PeriodicState;
 
 #[test]
-fn another_mode_is_told_to_the_partner(rt: HostRuntime) {
+fn modes_are_told_and_timers_run_by_whose_timeout(rt: HostRuntime) {
     const STEPS: [Step; 19] = [
         Step::Sends(Some(0xc7)),
         // active and short, as before
@@ -28,10 +28,6 @@ fn another_mode_is_told_to_the_partner(rt: HostRuntime) {
         Step::Is(Fact::CurrentWhile(30)),
     ];
     walk(&rt, "modes", port_after_a_second(), &STEPS);
-}
-
-#[test]
-fn timers_by_whose_timeout(rt: HostRuntime) {
     let known = end(1, 0x07);
     walk(
         &rt,

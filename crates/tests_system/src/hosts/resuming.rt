@@ -150,8 +150,6 @@ fn is_new<F: Fn(u16, usize) -> usize + Drop>(
 ) {
     same(rt, "is_up", &system.is_up(port), &Some(false));
     same(rt, "the readers", &look(system, port), &look(fresh, port));
-    same(rt, "current_while", &system.current_while(port), &Some(0));
-    same(rt, "wait_while", &system.wait_while(port), &Some(0));
 }
 
 /// The same configuration without its last port.

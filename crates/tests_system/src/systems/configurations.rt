@@ -111,25 +111,20 @@ fn other_limits_and_counts_are_refused_last(rt: HostRuntime) -> Result<(), Syste
 }
 
 /// The reasons to refuse a configuration, in the order of their numbers, from 1 on.
-const REASONS: [(BadConfig, &str); 5] = [
-    (BadConfig::Ports, "the configuration has not 1 to 64 ports"),
-    (
-        BadConfig::Aggregators,
-        "the configuration has not 1 to 64 aggregators",
-    ),
-    (
-        BadConfig::PortNumber(7),
-        "the port at place 7 has the number 0 or one that is not above the number before it",
-    ),
-    (
-        BadConfig::MaxLinks,
-        "the limit of links of an aggregator is not 1 to 64",
-    ),
-    (
-        BadConfig::Conversations,
-        "the configuration has neither 256 nor 4096 conversations",
-    ),
+const REASONS: [BadConfig; 5] = [
+    BadConfig::Ports,
+    BadConfig::Aggregators,
+    BadConfig::PortNumber(7),
+    BadConfig::MaxLinks,
+    BadConfig::Conversations,
 ];
+
+/// Their texts.
+const REASON_TEXTS: &str = "the configuration has not 1 to 64 ports
+the configuration has not 1 to 64 aggregators
+the port at place 7 has the number 0 or one that is not above the number before it
+the limit of links of an aggregator is not 1 to 64
+the configuration has neither 256 nor 4096 conversations";
 
 /// A reason has this number; and it, and the fault that it is the reason of, print this text.
 fn tells_reason(
@@ -150,9 +145,9 @@ fn tells_reason(
 #[test]
 fn reasons_have_numbers_and_texts(rt: HostRuntime) -> Result<(), AllocError> {
     let mut number = 0u8;
-    for (reason, text) in &REASONS {
+    for (reason, text) in REASONS.iter().zip(REASON_TEXTS.lines()) {
         number = number.saturating_add(1);
-        tells_reason(&rt, rt.alloc(), *reason, number, *text)?;
+        tells_reason(&rt, rt.alloc(), *reason, number, text)?;
     }
     Ok(())
 }

@@ -1,7 +1,9 @@
+use crate::comparing::same_in_row;
 use crate::systems::{
-    Case, DATA, Given, LAST, NEXT, ONE, Response, Row, Side, THIRD, TWO, config, plays, plays_cases,
+    Case, DATA, Given, LAST, NEXT, ONE, Response, Row, Side, THIRD, TWO, config, modulo, plays,
+    plays_cases,
 };
-use lagsystem::{Assignment, Received, SystemFault};
+use lagsystem::{Assignment, Received, System, SystemFault};
 
 /// A data frame of conversation 304 if there are 4096 of them, and of conversation 48 if there are 256.
 const WIDE: [u8; 14] = [2, 0, 0, 0, 0xf1, 0x20, 2, 0, 0, 0, 0, 0x10, 8, 0];
@@ -277,11 +279,6 @@ const MANY: Given<'static> = Given {
     ..TWO
 };
 
-const PAIR: Given<'static> = Given {
-    ports: &[1, 2],
-    ..ONE
-};
-
 const CASES: [Case<'static>; 11] = [
     ("leaving", TWO, &[&COMING_UP, &LEAVING]),
     ("refused moves", THREE, &[&COMING_UP, &REFUSED_MOVES]),
@@ -301,10 +298,29 @@ const CASES: [Case<'static>; 11] = [
     ),
     ("four more bits", MANY, &[&COMING_UP, &FOUR_MORE_BITS]),
     ("four more bits", TWO, &[&FEW]),
-    ("load", PAIR, &[&LOADED]),
+    ("load", TWO, &[&LOADED]),
 ];
 
 #[test]
 fn conversations_move_and_are_freed(rt: HostRuntime) -> Result<(), SystemFault> {
     plays_cases(&rt, rt.alloc(), &CASES)
+}
+
+/// A data frame of this conversation of 4096, both of whose addresses count.
+fn frame_of(conv: u16) -> [u8; 14] {
+    let [high, low] = (conv ^ 0x35a5).to_be_bytes();
+    [2, 0, 0, 0, high, low, 2, 0, 0, 0, 0xc5, 0xa5, 8, 0]
+}
+
+/// Each of the twelve bits counts, in either address.
+#[test]
+fn each_of_4096_conversations_has_its_frames(rt: HostRuntime) -> Result<(), SystemFault> {
+    let mut given = config(rt.alloc(), &[1], 1)?;
+    given.conversations = 4096;
+    let system = System::new(rt.alloc(), given, modulo)?;
+    for conv in 0..4096u16 {
+        let found = system.conversation(&frame_of(conv));
+        same_in_row(&rt, usize::from(conv), &found, &Some(conv));
+    }
+    Ok(())
 }

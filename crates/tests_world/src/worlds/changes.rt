@@ -71,10 +71,7 @@ flow 1 1 49 => 1 []
 /// Two cables between ports with Long Timeout, and one marker identifier left.
 const LAST_MARKER: &str = r#"
 system = [
-    { mac = "02-00-00-00-00-01", aggregators = [1], first_marker = 4294967295, port = [
-        { number = 1, key = 1, short = false },
-        { number = 2, key = 1, short = false },
-    ] },
+    { mac = "02-00-00-00-00-01", aggregators = [1], first_marker = 4294967295, port = [{ number = 1, key = 1, short = false }, { number = 2, key = 1, short = false }] },
     { mac = "02-00-00-00-00-02", aggregators = [1], port = [{ number = 1, key = 1, short = false }, { number = 2, key = 1, short = false }] },
 ]
 cable = [{ ends = [1, 1] }, { ends = [2, 2] }]

@@ -187,10 +187,7 @@ fn a_conversation_moves_event_by_event_and_on_full_cables(
 /// `TWO_LONG`, with 4096 conversations in each aggregator of system 1.
 const WIDE: &str = r#"
 system = [
-    { mac = "02-00-00-00-00-01", aggregators = [1], conversations = 4096, port = [
-        { number = 1, key = 1, short = false },
-        { number = 2, key = 1, short = false },
-    ] },
+    { mac = "02-00-00-00-00-01", aggregators = [1], conversations = 4096, port = [{ number = 1, key = 1, short = false }, { number = 2, key = 1, short = false }] },
     { mac = "02-00-00-00-00-02", aggregators = [1], port = [{ number = 1, key = 1, short = false }, { number = 2, key = 1, short = false }] },
 ]
 cable = [{ ends = [1, 1] }, { ends = [2, 2] }]
