@@ -1,33 +1,34 @@
 use crate::of_portmachines::{Fact, Step, end, port_after_a_second, quiet_port, walk};
 use portmachines::PeriodicState;
 
+const MODES: [Step; 19] = [
+    Step::Sends(Some(0xc7)),
+    // active and short, as before
+    Step::Mode(true, true),
+    Step::Is(Fact::Ntt(false)),
+    Step::Mode(true, false),
+    Step::Is(Fact::Ntt(true)),
+    Step::Is(Fact::CurrentWhile(20)),
+    Step::Sends(Some(0xc5)),
+    Step::Mode(false, false),
+    Step::Sends(Some(0xc4)),
+    // three were sent
+    Step::Mode(false, true),
+    Step::Sends(None),
+    Step::Is(Fact::State(0xc6)),
+    // the next LACPDU starts current_while with the time that is set
+    Step::Mode(false, false),
+    Step::Take(0x05),
+    Step::Is(Fact::CurrentWhile(900)),
+    Step::Mode(false, true),
+    Step::Is(Fact::CurrentWhile(900)),
+    Step::Take(0x05),
+    Step::Is(Fact::CurrentWhile(30)),
+];
+
 #[test]
 fn modes_are_told_and_timers_run_by_whose_timeout(rt: HostRuntime) {
-    const STEPS: [Step; 19] = [
-        Step::Sends(Some(0xc7)),
-        // active and short, as before
-        Step::Mode(true, true),
-        Step::Is(Fact::Ntt(false)),
-        Step::Mode(true, false),
-        Step::Is(Fact::Ntt(true)),
-        Step::Is(Fact::CurrentWhile(20)),
-        Step::Sends(Some(0xc5)),
-        Step::Mode(false, false),
-        Step::Sends(Some(0xc4)),
-        // three were sent
-        Step::Mode(false, true),
-        Step::Sends(None),
-        Step::Is(Fact::State(0xc6)),
-        // the next LACPDU starts current_while with the time that is set
-        Step::Mode(false, false),
-        Step::Take(0x05),
-        Step::Is(Fact::CurrentWhile(900)),
-        Step::Mode(false, true),
-        Step::Is(Fact::CurrentWhile(900)),
-        Step::Take(0x05),
-        Step::Is(Fact::CurrentWhile(30)),
-    ];
-    walk(&rt, "modes", port_after_a_second(), &STEPS);
+    walk(&rt, "modes", port_after_a_second(), &MODES);
     let known = end(1, 0x07);
     walk(
         &rt,
