@@ -297,7 +297,7 @@ const CASES: [Case<'static>; 11] = [
         &[&COMING_UP, &LAST_CONVERSATION],
     ),
     ("four more bits", MANY, &[&COMING_UP, &FOUR_MORE_BITS]),
-    ("four more bits", TWO, &[&FEW]),
+    ("few", TWO, &[&FEW]),
     ("load", TWO, &[&LOADED]),
 ];
 

@@ -323,17 +323,17 @@ const CASES: [Case<'static>; 12] = [
         &[&ONE_UP, &DOWN, &PROMOTED, &BACK, &PROMOTED, &SECOND, &FIRST],
     ),
     (
-        "a member leaves",
+        "a member is configured",
         LIMITED,
         &[&ONE_UP, &CONFIGURED, &PROMOTED],
     ),
     (
-        "a member leaves",
+        "a member has another key",
         LIMITED,
         &[&ONE_UP, &OTHER_KEY, &PROMOTED],
     ),
     (
-        "a member leaves",
+        "a member hears its own system",
         LIMITED,
         &[&ONE_UP, &OWN_SYSTEM, &PROMOTED],
     ),
@@ -355,8 +355,8 @@ const CASES: [Case<'static>; 12] = [
         &[&FIVE_UP, &TWO_AGGREGATORS],
     ),
     ("a member alone", PAIR_LIMITED, &[&MEMBER_ALONE]),
-    ("selected stays", RANKED, &[&UP, &STAYS]),
-    ("selected stays", LIMITED_TO_64, &[&UP, &LEAVES]),
+    ("stays", RANKED, &[&UP, &STAYS]),
+    ("leaves", LIMITED_TO_64, &[&UP, &LEAVES]),
 ];
 
 #[test]
