@@ -1,6 +1,6 @@
 use crate::comparing::same_in_row;
 use crate::systems::{
-    Case, DATA, Given, LAST, NEXT, ONE, Response, Row, Side, THIRD, TWO, config, modulo, plays,
+    Case, DATA, Given, LAST, NEXT, Response, Row, Side, THIRD, TWO, config, modulo, plays,
     plays_cases,
 };
 use lagsystem::{Assignment, Received, System, SystemFault};
