@@ -17,28 +17,18 @@ fn median_of(milliseconds: &[u64]) -> Option<usize> {
 }
 
 #[test]
-fn the_median_of_one_time_is_cut_to_a_tenth(rt: HostRuntime) {
-    assert_eq!(rt; median_of(&[]), None);
-    let rows = [
-        (0, 0),
-        (99, 0),
-        (100, 1),
-        (190, 1),
-        (1_000, 10),
-        (1_290, 12),
-        (30_049, 300),
-        (99_990, 999),
-        (100_000, 1000),
-        (7_200_000, 1000),
-    ];
-    for (time, tenths) in rows {
-        assert_eq!(rt; median_of(&[time]), Some(tenths), "{time}");
-    }
-}
-
-#[test]
-fn the_median_of_an_even_number_is_the_lower_one(rt: HostRuntime) {
-    let rows: [(&[u64], usize); 8] = [
+fn medians_are_cut_to_a_tenth_and_the_lower_of_two(rt: HostRuntime) {
+    let rows: [(&[u64], usize); 18] = [
+        (&[0], 0),
+        (&[99], 0),
+        (&[100], 1),
+        (&[190], 1),
+        (&[1_000], 10),
+        (&[1_290], 12),
+        (&[30_049], 300),
+        (&[99_990], 999),
+        (&[100_000], 1000),
+        (&[7_200_000], 1000),
         (&[1_000, 3_000], 10),
         (&[3_000, 1_000], 10),
         (&[1_000, 1_000, 3_000, 3_000], 10),
@@ -48,6 +38,7 @@ fn the_median_of_an_even_number_is_the_lower_one(rt: HostRuntime) {
         (&[100, 100, 90_000, 90_000, 90_000], 900),
         (&[200_000, 300_000, 50], 1000),
     ];
+    assert_eq!(rt; median_of(&[]), None);
     for (times, tenths) in rows {
         assert_eq!(rt; median_of(times), Some(tenths), "{times:?}");
     }
@@ -95,7 +86,7 @@ fn tells(alloc: Global, told: &[Told], texts: &[&str]) -> Result<bool, AllocErro
 }
 
 #[test]
-fn an_end_is_named_on_its_own_interface(rt: HostRuntime) -> Result<(), Fail> {
+fn an_end_is_named_on_its_interface_and_by_its_port(rt: HostRuntime) -> Result<(), Fail> {
     let mut keyed = end(2, 2);
     keyed.key = Key(2);
     let told = [
@@ -112,11 +103,6 @@ fn an_end_is_named_on_its_own_interface(rt: HostRuntime) -> Result<(), Fail> {
         "end 02-00-00-00-00-03 interface 1 port 2 is P1 names P2 lacpdus 1",
     ];
     assert!(rt; tells(rt.alloc(), &told, &texts)?);
-    Ok(())
-}
-
-#[test]
-fn an_end_is_named_by_its_port(rt: HostRuntime) -> Result<(), Fail> {
     let told = [
         (0, end(2, 4), end(1, 2)),
         (0, end(2, 3), end(1, 1)),

@@ -238,7 +238,7 @@ fn what_is_cut_short_is_told_at_every_length(rt: HostRuntime) -> Result<(), Fail
 }
 
 #[test]
-fn refusals_say_where_they_are(rt: HostRuntime) -> Result<(), Fail> {
+fn what_is_no_capture_is_refused_and_says_where(rt: HostRuntime) -> Result<(), Fail> {
     let time = "octet 40: a time before 1970 or after the year 2554";
     for (at, cause, wanted) in [
         (0, Cause::Gzip, "octet 0: packed by gzip: unpack it first"),
@@ -247,11 +247,6 @@ fn refusals_say_where_they_are(rt: HostRuntime) -> Result<(), Fail> {
         let text = format!(in rt.alloc(); "{}", ReadFault { at, cause })?;
         assert_eq!(rt; text.as_str(), wanted);
     }
-    Ok(())
-}
-
-#[test]
-fn what_is_no_capture_is_refused(rt: HostRuntime) -> Result<(), Fail> {
     let alloc = rt.alloc();
     let rows: [(&[u8], Cause); 3] = [
         (&[0x1f, 0x8b, 0x08, 0x00], Cause::Gzip),

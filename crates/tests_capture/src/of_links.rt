@@ -50,7 +50,7 @@ fn told(alloc: Global, all: &[Sent]) -> Result<String, AllocError> {
 fn begins(rt: &impl Abort, alloc: Global, all: &[Sent], lines: &str) -> Result<(), Fail> {
     let text = told(alloc, all)?;
     let behind = text.as_str().strip_prefix(lines).unwrap_or("");
-    assert!(rt; behind.starts_with("P1 = "), "{text}");
+    assert!(rt; behind.starts_with("P1 = "), "{lines}{text}");
     Ok(())
 }
 
@@ -74,21 +74,17 @@ fn two_links(one: [u16; 2], other: [u16; 2]) -> [Sent; 4] {
     ]
 }
 
-// Of one bundle, and of two bundles between two systems, whose keys are no keys apart.
 #[test]
-fn links_that_carry_are_counted(rt: HostRuntime) -> Result<(), Fail> {
+fn links_that_carry_and_keys_of_their_own(rt: HostRuntime) -> Result<(), Fail> {
+    // Of one bundle, and of two bundles between two systems, whose keys are no keys apart.
     let lines = "\
 links 2 carrying 2
 link 02-00-00-00-00-01 port 1 - 02-00-00-00-00-02 port 7: carries, both ways
 link 02-00-00-00-00-01 port 2 - 02-00-00-00-00-02 port 8: carries, both ways
 ";
     begins(&rt, rt.alloc(), &two_links([15, 15], [143, 143]), lines)?;
-    begins(&rt, rt.alloc(), &two_links([1, 2], [8, 9]), lines)
-}
-
-// As of two channel groups at a switch: bonding beside ports with keys 143 and 79 (6.3.6).
-#[test]
-fn a_key_of_its_own_is_told_beside_that_of_a_link_in_use(rt: HostRuntime) -> Result<(), Fail> {
+    begins(&rt, rt.alloc(), &two_links([1, 2], [8, 9]), lines)?;
+    // As of two channel groups at a switch: bonding beside ports with keys 143 and 79 (6.3.6).
     let all = [
         Sent(0, End(1, 15, 1, FAST), End(2, 79, 7, ATTACHED)),
         Sent(0, End(1, 15, 2, UP), End(2, 143, 8, UP)),
@@ -100,17 +96,14 @@ links 2 carrying 1
 link 02-00-00-00-00-01 port 1 - 02-00-00-00-00-02 port 7: does not carry: 02-00-00-00-00-02 has key 79 here, and 143 on a link in use
 link 02-00-00-00-00-01 port 2 - 02-00-00-00-00-02 port 8: carries, both ways
 ";
-    begins(&rt, rt.alloc(), &all, lines)
-}
-
-#[test]
-fn links_in_use_with_two_keys_carry_apart(rt: HostRuntime) -> Result<(), Fail> {
+    begins(&rt, rt.alloc(), &all, lines)?;
     let lines = "\
 links 2 carrying 2
 link 02-00-00-00-00-01 port 1 - 02-00-00-00-00-02 port 7: carries, both ways, apart: 02-00-00-00-00-01 has key 1 here, and 2 on a link in use
 link 02-00-00-00-00-01 port 2 - 02-00-00-00-00-02 port 8: carries, both ways, apart: 02-00-00-00-00-01 has key 2 here, and 1 on a link in use
 ";
-    begins(&rt, rt.alloc(), &two_links([1, 2], [9, 9]), lines)
+    begins(&rt, rt.alloc(), &two_links([1, 2], [9, 9]), lines)?;
+    Ok(())
 }
 
 // 6.4.4: whoever asks for short timeouts waits 3 seconds, else 90.
@@ -140,22 +133,6 @@ link 02-00-00-00-00-01 port 1 - 02-00-00-00-00-02 port 1: does not carry: 02-00-
     };
     begins(&rt, rt.alloc(), &slow(90), up)?;
     begins(&rt, rt.alloc(), &slow(91), dead)
-}
-
-#[test]
-fn a_link_on_which_nobody_sends_is_quiet(rt: HostRuntime) -> Result<(), Fail> {
-    let all = [
-        Sent(0, End(1, 1, 1, UP), End(2, 1, 1, UP)),
-        Sent(0, End(2, 1, 1, UP), End(1, 1, 1, UP)),
-        Sent(9, End(1, 1, 2, UP), End(2, 1, 2, UP)),
-        Sent(9, End(2, 1, 2, UP), End(1, 1, 2, UP)),
-    ];
-    let lines = "\
-links 2 carrying 1
-link 02-00-00-00-00-01 port 1 - 02-00-00-00-00-02 port 1: does not carry: neither end sends any more
-link 02-00-00-00-00-01 port 2 - 02-00-00-00-00-02 port 2: carries, both ways
-";
-    begins(&rt, rt.alloc(), &all, lines)
 }
 
 #[test]
@@ -195,20 +172,28 @@ fn a_state_says_why_a_link_does_not_carry(rt: HostRuntime) -> Result<(), Fail> {
     Ok(())
 }
 
-// Three systems on a hub: each hears the last speaker (6.4.2.3, 6.4.9).
 #[test]
-fn a_link_does_not_carry_to_another_partner(rt: HostRuntime) -> Result<(), Fail> {
+fn links_do_not_carry_to_another_partner_or_none(rt: HostRuntime) -> Result<(), Fail> {
+    let all = [
+        Sent(0, End(1, 1, 1, UP), End(2, 1, 1, UP)),
+        Sent(0, End(2, 1, 1, UP), End(1, 1, 1, UP)),
+        Sent(9, End(1, 1, 2, UP), End(2, 1, 2, UP)),
+        Sent(9, End(2, 1, 2, UP), End(1, 1, 2, UP)),
+    ];
+    let lines = "\
+links 2 carrying 1
+link 02-00-00-00-00-01 port 1 - 02-00-00-00-00-02 port 1: does not carry: neither end sends any more
+link 02-00-00-00-00-01 port 2 - 02-00-00-00-00-02 port 2: carries, both ways
+";
+    begins(&rt, rt.alloc(), &all, lines)?;
+    // Three systems on a hub: each hears the last speaker (6.4.2.3, 6.4.9).
     let (one, two, three) = (End(1, 1, 1, UP), End(2, 1, 1, UP), End(3, 1, 1, UP));
     let all = [Sent(0, one, three), Sent(0, two, one)];
     let lines = "\
 links 1 carrying 0
 link 02-00-00-00-00-01 port 1 - 02-00-00-00-00-02 port 1: does not carry: 02-00-00-00-00-01 has another partner
 ";
-    begins(&rt, rt.alloc(), &all, lines)
-}
-
-#[test]
-fn one_end_alone_says_what_it_can(rt: HostRuntime) -> Result<(), Fail> {
+    begins(&rt, rt.alloc(), &all, lines)?;
     let alone = [Sent(0, End(1, 1, 1, UP), End(2, 1, 1, UP))];
     let lines = "\
 links 1 carrying 0
@@ -220,12 +205,13 @@ link 02-00-00-00-00-01 port 1: not seen: its other end is not in the capture
 links 1 carrying 0
 link 02-00-00-00-00-01 port 1: does not carry: both ends have one system address, a loop or a copied identifier
 ";
-    begins(&rt, rt.alloc(), &looped, lines)
+    begins(&rt, rt.alloc(), &looped, lines)?;
+    Ok(())
 }
 
-// As of bonding beside a static channel: it uses port 1 alone, which its LACPDUs do not say.
 #[test]
-fn a_link_that_nobody_answers_may_be_used_alone(rt: HostRuntime) -> Result<(), Fail> {
+fn a_link_that_nobody_answers_waits_or_is_used_alone(rt: HostRuntime) -> Result<(), Fail> {
+    // As of bonding beside a static channel: it uses port 1 alone, which its LACPDUs do not say.
     let all = [
         Sent(0, End(1, 15, 1, 0x4f), NOBODY),
         Sent(0, End(1, 15, 2, 0x47), NOBODY),
@@ -237,12 +223,8 @@ links 2 carrying 0
 link 02-00-00-00-00-01 port 1: not seen: nobody answers, and its end may use it alone
 link 02-00-00-00-00-01 port 2: not seen: nobody answers, and its end may use it alone
 ";
-    begins(&rt, rt.alloc(), &all, lines)
-}
-
-// 6.4.13: without an active partner it sends nothing, however long the capture goes on.
-#[test]
-fn an_end_that_is_passive_waits_to_be_asked(rt: HostRuntime) -> Result<(), Fail> {
+    begins(&rt, rt.alloc(), &all, lines)?;
+    // 6.4.13: without an active partner it sends nothing, however long the capture goes on.
     let all = [
         Sent(0, End(1, 15, 1, 0xc6), NOBODY),
         Sent(0, End(1, 15, 2, UP), End(2, 7, 2, UP)),
@@ -253,7 +235,8 @@ links 2 carrying 0
 link 02-00-00-00-00-01 port 1: not seen: nobody answers, and its end is passive: one end has to be active
 link 02-00-00-00-00-01 port 2: not seen: its other end is not in the capture
 ";
-    begins(&rt, rt.alloc(), &all, lines)
+    begins(&rt, rt.alloc(), &all, lines)?;
+    Ok(())
 }
 
 // As of bonding, which drops LACPDUs of its own system, and stays Defaulted and Expired then (6.4.12): two machines, a cable
@@ -362,9 +345,9 @@ link 02-00-00-00-00-01 port 1 - 02-00-00-00-00-02 port 1: does not carry: neithe
     begins(&rt, rt.alloc(), &lost(5), lines)
 }
 
-// As of Open vSwitch whose bridge is made anew: its ports have other numbers then.
 #[test]
-fn an_end_that_starts_anew_with_another_number_is_told_once(rt: HostRuntime) -> Result<(), Fail> {
+fn ends_that_start_anew_and_third_ends_hide_no_link(rt: HostRuntime) -> Result<(), Fail> {
+    // As of Open vSwitch whose bridge is made anew: its ports have other numbers then.
     let (one, before, since) = (End(1, 1, 1, UP), End(2, 1, 1, UP), End(2, 1, 3, UP));
     let all = [
         Sent(0, before, one),
@@ -379,12 +362,8 @@ fn an_end_that_starts_anew_with_another_number_is_told_once(rt: HostRuntime) -> 
 links 1 carrying 1
 link 02-00-00-00-00-01 port 1 - 02-00-00-00-00-02 port 3: carries, both ways
 ";
-    begins(&rt, rt.alloc(), &all, lines)
-}
-
-// Of three on one interface the link of two that have each other is told, whoever spoke first.
-#[test]
-fn a_third_end_hides_no_link(rt: HostRuntime) -> Result<(), Fail> {
+    begins(&rt, rt.alloc(), &all, lines)?;
+    // Of three on one interface the link of two that have each other is told, whoever spoke first.
     let (one, two, three) = (End(1, 1, 1, UP), End(2, 1, 1, UP), End(3, 1, 1, UP));
     let all = [Sent(0, three, one), Sent(0, one, two), Sent(0, two, one)];
     let lines = "\
@@ -392,7 +371,8 @@ links 2 carrying 1
 link 02-00-00-00-00-03 port 1 - 02-00-00-00-00-01 port 1: does not carry: 02-00-00-00-00-01 has another partner
 link 02-00-00-00-00-01 port 1 - 02-00-00-00-00-02 port 1: carries, both ways
 ";
-    begins(&rt, rt.alloc(), &all, lines)
+    begins(&rt, rt.alloc(), &all, lines)?;
+    Ok(())
 }
 
 // As of a hub, where the two ends that name the first one change places: it has a fourth as its partner.

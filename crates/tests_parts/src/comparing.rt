@@ -13,6 +13,19 @@ pub(crate) fn same_in_row<T: Debug + PartialEq>(rt: &impl Abort, row: usize, cam
     assert_eq!(rt; *came, *wanted, "row {row}");
 }
 
+/// The case of a row, and the row's number there.
+pub(crate) type Place<'a> = (&'a str, usize);
+
+/// Fails unless the value of a row of a case is the expected one.
+pub(crate) fn same_in_case<T: Debug + PartialEq>(
+    rt: &impl Abort,
+    (case, row): Place<'_>,
+    came: &T,
+    wanted: &T,
+) {
+    assert_eq!(rt; *came, *wanted, "{case}: row {row}");
+}
+
 /// Fails unless a value of the item with this number is the expected one; the text says what was read.
 pub(crate) fn same_at<T: Debug + PartialEq>(
     rt: &impl Abort,

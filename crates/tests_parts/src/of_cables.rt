@@ -121,12 +121,6 @@ fn each_kind_is_filled_to_its_limit_and_past_it(rt: HostRuntime) -> Result<(), F
     Ok(())
 }
 
-#[test]
-fn a_limit_of_0_is_refused(rt: HostRuntime) {
-    let refused = RingCable::new(rt.alloc(), 0).err();
-    same(&rt, "new with limit 0", &refused, &Some(CableFault::Limit));
-}
-
 /// The faults, and the number and the text of each.
 const FAULTS: [(CableFault, u8, &str); 2] = [
     (CableFault::Limit, 1, "the limit is 0"),
@@ -134,7 +128,9 @@ const FAULTS: [(CableFault, u8, &str); 2] = [
 ];
 
 #[test]
-fn faults_have_numbers_and_texts(rt: HostRuntime) -> Result<(), AllocError> {
+fn a_limit_of_0_is_refused_and_faults_have_texts(rt: HostRuntime) -> Result<(), AllocError> {
+    let refused = RingCable::new(rt.alloc(), 0).err();
+    same(&rt, "new with limit 0", &refused, &Some(CableFault::Limit));
     for (fault, number, text) in &FAULTS {
         same(&rt, *text, &fault.number(), number);
         prints(&rt, rt.alloc(), fault, *text)?;
@@ -164,12 +160,6 @@ fn a_ring_serves_long_after_it_first_was_full(rt: HostRuntime) -> Result<(), Cab
     Ok(())
 }
 
-/// An item that was refused came back, and the list is as long as before.
-fn came_back(rt: &impl Abort, list: &ListCable, back: Item, wanted: Item, before: usize) {
-    same(rt, "push", &back, &wanted);
-    same(rt, "len after a refused push", &list.len(), &before);
-}
-
 /// Reserves a place in a list and puts an item there; if memory is refused, the list stays as it is.
 fn grows(rt: &impl Abort, alloc: Global, list: &mut ListCable, count: u64) {
     let before = list.len();
@@ -197,7 +187,8 @@ fn grows(rt: &impl Abort, alloc: Global, list: &mut ListCable, count: u64) {
                 &reserved,
                 &false,
             );
-            came_back(rt, list, back, control(alloc, count), before);
+            same_at(rt, "push of item", count, &back, &control(alloc, count));
+            same_at(rt, "len after item", count, &list.len(), &before);
         }
     }
 }

@@ -37,13 +37,6 @@ const TAKEN: [(Option<AggId>, &[u8], Taken); 7] = [
     (Some(AggId(1)), &[], Taken::Dropped),
 ];
 
-#[test]
-fn data_is_handed_up_where_the_port_collects(rt: HostRuntime) {
-    for (place, (collecting, frame, taken)) in TAKEN.iter().enumerate() {
-        same_in_row(&rt, place, &collect(*collecting, *frame), taken);
-    }
-}
-
 /// Whether the port is enabled, a marker, and the answer to it.
 const ANSWERED: [(bool, Marker, Option<Marker>); 4] = [
     (true, MARKER, Some(RESPONSE)),
@@ -53,7 +46,10 @@ const ANSWERED: [(bool, Marker, Option<Marker>); 4] = [
 ];
 
 #[test]
-fn markers_are_answered_where_the_port_is_enabled(rt: HostRuntime) {
+fn data_is_handed_up_and_markers_are_answered(rt: HostRuntime) {
+    for (place, (collecting, frame, taken)) in TAKEN.iter().enumerate() {
+        same_in_row(&rt, place, &collect(*collecting, *frame), taken);
+    }
     for (place, (enabled, marker, wanted)) in ANSWERED.iter().enumerate() {
         same_in_row(&rt, place, &answer(*enabled, marker), wanted);
     }

@@ -1,10 +1,10 @@
 ghost use Rattle.std.specs.Prelude.{◌≡◌, ◌≤◌, ◌<◌, length};
 ghost use Rattle.distributor.specs.Calls.{PicksIndexes};
 
-use crate::comparing::{prints, same, same_in_row};
+use crate::comparing::{Place, same, same_in_case, same_in_row};
 use distributor::{Assignment, DistFault, Distributor, by_number};
 use lagtypes::{AggId, NoMemory};
-use std::alloc::{AllocError, Global};
+use std::alloc::Global;
 use std::process::Abort;
 
 /// The algorithm of the programs. A function of another crate cannot be handed over itself.
@@ -102,7 +102,7 @@ fn read<F: Fn(u16, usize) -> usize + Drop>(d: &Distributor<F>, agg: AggId, fact:
 /// says.
 fn play<F: Fn(u16, usize) -> usize + Drop>(
     rt: &impl Abort,
-    place: usize,
+    place: Place<'_>,
     d: &mut Distributor<F>,
     agg: AggId,
     ports: &[u16],
@@ -113,18 +113,18 @@ fn play<F: Fn(u16, usize) -> usize + Drop>(
     ensures algorithm { d.new.algorithm ≡ d.old.algorithm }
 {
     match row {
-        Row::Assign(conv, answer) => same_in_row(rt, place, &d.assign(agg, conv, ports), &answer),
+        Row::Assign(conv, answer) => same_in_case(rt, place, &d.assign(agg, conv, ports), &answer),
         Row::Move(conv, to, answer) => {
-            same_in_row(rt, place, &d.move_to(agg, conv, to, ports), &answer);
+            same_in_case(rt, place, &d.move_to(agg, conv, to, ports), &answer);
         }
-        Row::Force(conv, answer) => same_in_row(rt, place, &d.force(agg, conv), &answer),
-        Row::Marker(port, id) => same_in_row(rt, place, &d.marker_for(port), &id),
-        Row::Response(port, id, count) => same_in_row(rt, place, &d.response(port, id), &count),
+        Row::Force(conv, answer) => same_in_case(rt, place, &d.force(agg, conv), &answer),
+        Row::Marker(port, id) => same_in_case(rt, place, &d.marker_for(port), &id),
+        Row::Response(port, id, count) => same_in_case(rt, place, &d.response(port, id), &count),
         Row::Ticks(count) => tick(d, count),
         Row::Leave(port) => d.leave(port),
         Row::Down(port) => d.down(port),
         Row::Clear => d.clear(),
-        Row::Is(fact) => same_in_row(rt, place, &read(d, agg, fact), &fact),
+        Row::Is(fact) => same_in_case(rt, place, &read(d, agg, fact), &fact),
     }
 }
 
@@ -132,13 +132,13 @@ fn play<F: Fn(u16, usize) -> usize + Drop>(
 fn plays(
     rt: &impl Abort,
     alloc: Global,
-    first: u32,
+    (case, first): (&str, u32),
     ports: [u16; 2],
     rows: &[Row],
 ) -> Result<(), NoMemory> {
     let mut d = Distributor::new(alloc, 1, first, by_place)?;
     for (place, row) in rows.iter().enumerate() {
-        play(rt, place, &mut d, AGG, &ports, *row);
+        play(rt, (case, place), &mut d, AGG, &ports, *row);
     }
     Ok(())
 }
@@ -160,7 +160,7 @@ fn plays_apart(
     alloc: Global,
     aggregators: u16,
     count: Count,
-    first: u32,
+    (case, first): (&str, u32),
     rows: &[Put<'_>],
 ) -> Result<(), NoMemory> {
     let mut d = match count {
@@ -174,284 +174,268 @@ fn plays_apart(
     };
     for (place, (agg, ports, row)) in rows.iter().enumerate() {
         if ports.len() <= 64 {
-            play(rt, place, &mut d, AggId(*agg), *ports, *row);
+            play(rt, (case, place), &mut d, AggId(*agg), *ports, *row);
         } else {
-            same_in_row(rt, place, &"ports", &"64 ports at most");
+            same_in_case(rt, (case, place), &"ports", &"64 ports at most");
         }
     }
     Ok(())
 }
 
-#[test]
-fn a_moved_conversation_waits_for_the_response(rt: HostRuntime) -> Result<(), NoMemory> {
-    const ROWS: [Row; 14] = [
-        Row::Assign(48, Ok(1)),
-        Row::Assign(49, Ok(2)),
-        Row::Move(48, 2, Ok(())),
-        Row::Assign(48, Err(DistFault::Held)),
-        Row::Marker(1, Some(1)),
-        Row::Marker(1, None),
-        Row::Ticks(29),
-        Row::Marker(1, None),
-        Row::Ticks(1),
-        Row::Marker(1, Some(2)),
-        Row::Response(1, 1, 0),
-        Row::Response(2, 2, 0),
-        Row::Response(1, 2, 1),
-        Row::Assign(48, Ok(2)),
-    ];
-    plays(&rt, rt.alloc(), 1, [1, 2], &ROWS)
-}
+const MOVED: [Row; 14] = [
+    Row::Assign(48, Ok(1)),
+    Row::Assign(49, Ok(2)),
+    Row::Move(48, 2, Ok(())),
+    Row::Assign(48, Err(DistFault::Held)),
+    Row::Marker(1, Some(1)),
+    Row::Marker(1, None),
+    Row::Ticks(29),
+    Row::Marker(1, None),
+    Row::Ticks(1),
+    Row::Marker(1, Some(2)),
+    Row::Response(1, 1, 0),
+    Row::Response(2, 2, 0),
+    Row::Response(1, 2, 1),
+    Row::Assign(48, Ok(2)),
+];
+
+const NEXT_WANTED: [Row; 23] = [
+    Row::Is(Fact::NextWanted(None)),
+    Row::Assign(48, Ok(1)),
+    Row::Assign(49, Ok(2)),
+    Row::Move(48, 2, Ok(())),
+    Row::Is(Fact::NextWanted(None)),
+    Row::Marker(1, Some(7)),
+    Row::Is(Fact::NextWanted(Some(30))),
+    Row::Ticks(12),
+    Row::Is(Fact::NextWanted(Some(18))),
+    Row::Move(49, 1, Ok(())),
+    Row::Marker(2, Some(8)),
+    Row::Is(Fact::NextWanted(Some(18))),
+    Row::Ticks(5),
+    Row::Response(1, 7, 1),
+    Row::Is(Fact::NextWanted(Some(25))),
+    Row::Ticks(24),
+    Row::Is(Fact::NextWanted(Some(1))),
+    Row::Ticks(1),
+    Row::Is(Fact::NextWanted(None)),
+    Row::Marker(2, Some(9)),
+    Row::Is(Fact::NextWanted(Some(30))),
+    Row::Down(2),
+    Row::Is(Fact::NextWanted(None)),
+];
+
+const COUNTED: [Row; 14] = [
+    Row::Assign(48, Ok(1)),
+    Row::Assign(49, Ok(2)),
+    Row::Assign(50, Ok(1)),
+    Row::Is(Fact::Load(1, 2)),
+    Row::Is(Fact::Load(2, 1)),
+    Row::Is(Fact::Load(65, 0)),
+    Row::Move(48, 2, Ok(())),
+    Row::Marker(1, Some(1)),
+    Row::Is(Fact::Load(1, 2)),
+    Row::Response(1, 1, 1),
+    Row::Is(Fact::Load(1, 1)),
+    Row::Down(1),
+    Row::Is(Fact::Load(1, 0)),
+    Row::Is(Fact::Load(2, 1)),
+];
+
+const WANTED: Assignment = Assignment::Wanted {
+    port: 1,
+    preferred: Some(65),
+};
+
+const ONE_CHAIN: [Row; 42] = [
+    Row::Assign(0, Ok(1)),
+    Row::Assign(1, Ok(65)),
+    Row::Assign(2, Ok(1)),
+    Row::Assign(3, Ok(65)),
+    Row::Is(Fact::Load(1, 2)),
+    Row::Is(Fact::Load(65, 2)),
+    Row::Move(0, 65, Ok(())),
+    Row::Is(Fact::State(0, WANTED)),
+    Row::Marker(65, None),
+    Row::Marker(1, Some(1)),
+    Row::Is(Fact::State(1, Assignment::On(65))),
+    Row::Is(Fact::State(2, Assignment::On(1))),
+    Row::Is(Fact::FlushingSince(0, 0)),
+    // what is On port 65 becomes Wanted, and what is On port 1 does not (both are in chain 1)
+    Row::Leave(65),
+    Row::Is(Fact::State(2, Assignment::On(1))),
+    Row::Ticks(1),
+    Row::Is(Fact::FlushingSince(0, 1)),
+    Row::Response(65, 1, 0),
+    Row::Marker(65, Some(2)),
+    Row::Response(1, 2, 0),
+    Row::Is(Fact::Load(1, 2)),
+    Row::Is(Fact::Load(65, 2)),
+    Row::Ticks(28),
+    Row::Is(Fact::FlushingSince(0, 29)),
+    Row::Ticks(1),
+    Row::Is(Fact::State(0, WANTED)),
+    Row::Response(65, 2, 2),
+    Row::Is(Fact::State(0, WANTED)),
+    Row::Assign(1, Ok(65)),
+    Row::Down(65),
+    Row::Is(Fact::Load(65, 0)),
+    Row::Is(Fact::Load(1, 2)),
+    Row::Force(2, Ok(())),
+    Row::Is(Fact::Load(1, 1)),
+    Row::Assign(3, Ok(65)),
+    Row::Down(1),
+    Row::Is(Fact::Load(1, 0)),
+    Row::Is(Fact::Load(65, 1)),
+    Row::Assign(0, Ok(65)),
+    Row::Is(Fact::Load(65, 2)),
+    Row::Clear,
+    Row::Is(Fact::Load(65, 0)),
+];
+
+const NEIGHBOURS: [Row; 16] = [
+    Row::Assign(0, Ok(1)),
+    Row::Assign(2, Ok(1)),
+    Row::Assign(4, Ok(1)),
+    Row::Assign(6, Ok(1)),
+    // from the middle of the chain, then from each end
+    Row::Force(2, Ok(())),
+    Row::Is(Fact::Load(1, 3)),
+    Row::Force(6, Ok(())),
+    Row::Is(Fact::Load(1, 2)),
+    Row::Force(0, Ok(())),
+    Row::Is(Fact::Load(1, 1)),
+    Row::Leave(1),
+    Row::Is(Fact::State(
+        4,
+        Assignment::Wanted {
+            port: 1,
+            preferred: None,
+        },
+    )),
+    Row::Is(Fact::State(2, Assignment::Free { preferred: None })),
+    Row::Marker(1, Some(1)),
+    Row::Response(1, 1, 1),
+    Row::Is(Fact::Load(1, 0)),
+];
+
+const LAST_IDENTIFIER: [Row; 9] = [
+    Row::Assign(48, Ok(1)),
+    Row::Assign(50, Ok(1)),
+    Row::Move(48, 2, Ok(())),
+    Row::Marker(1, Some(4294967295)),
+    Row::Move(50, 2, Err(DistFault::MarkersSpent)),
+    Row::Response(1, 4294967295, 1),
+    Row::Move(256, 2, Err(DistFault::NotAssigned)),
+    Row::Leave(1),
+    Row::Marker(1, None),
+];
+
+const REFUSALS: [Row; 14] = [
+    // no such conversation, or a free one, whatever the port is
+    Row::Assign(256, Err(DistFault::NotAssigned)),
+    Row::Move(256, 3, Err(DistFault::NotAssigned)),
+    Row::Move(48, 3, Err(DistFault::NotAssigned)),
+    Row::Force(256, Err(DistFault::NotAssigned)),
+    Row::Force(48, Err(DistFault::NotAssigned)),
+    // Held, before the port is looked at
+    Row::Assign(48, Ok(1)),
+    Row::Assign(50, Ok(1)),
+    Row::Move(48, 2, Ok(())),
+    Row::Move(48, 3, Err(DistFault::Held)),
+    Row::Marker(1, Some(4294967295)),
+    Row::Move(48, 1, Err(DistFault::Held)),
+    // no identifier is left; NotDistributing and SamePort come before MarkersSpent
+    Row::Move(50, 3, Err(DistFault::NotDistributing)),
+    Row::Move(50, 1, Err(DistFault::SamePort)),
+    Row::Move(50, 2, Err(DistFault::MarkersSpent)),
+];
+
+const PREFERENCES: [Row; 22] = [
+    // `down` keeps the preferred port, which is used once
+    Row::Assign(48, Ok(1)),
+    Row::Move(48, 2, Ok(())),
+    Row::Down(1),
+    Row::Is(Fact::State(48, FREE_FOR_2)),
+    Row::Assign(48, Ok(2)),
+    Row::Is(Fact::State(48, Assignment::On(2))),
+    Row::Force(48, Ok(())),
+    Row::Is(Fact::State(48, FREE)),
+    // `force` keeps the preferred port of a conversation that waits
+    Row::Assign(48, Ok(1)),
+    Row::Move(48, 2, Ok(())),
+    Row::Marker(1, Some(7)),
+    Row::Force(48, Ok(())),
+    Row::Is(Fact::State(48, FREE_FOR_2)),
+    Row::Response(1, 7, 0),
+    // a port that only stops distributing frees nothing
+    Row::Assign(50, Ok(1)),
+    Row::Leave(1),
+    Row::Assign(50, Err(DistFault::Held)),
+    Row::Clear,
+    Row::Is(Fact::State(48, FREE)),
+    Row::Assign(50, Ok(1)),
+    Row::Leave(1),
+    Row::Marker(1, Some(7)),
+];
+
+const LINK_DOWN: [Row; 7] = [
+    Row::Assign(48, Ok(1)),
+    Row::Assign(50, Ok(1)),
+    Row::Move(50, 2, Ok(())),
+    Row::Marker(1, Some(7)),
+    Row::Down(1),
+    Row::Is(Fact::State(48, FREE)),
+    Row::Is(Fact::State(50, FREE_FOR_2)),
+];
+
+/// A name, the first identifier of a marker, the ports that distribute, and rows.
+type Case = (&'static str, u32, [u16; 2], &'static [Row]);
+
+const CASES: [Case; 9] = [
+    ("moved", 1, [1, 2], &MOVED),
+    ("next wanted", 7, [1, 2], &NEXT_WANTED),
+    ("counted", 1, [1, 2], &COUNTED),
+    ("one chain", 1, [1, 65], &ONE_CHAIN),
+    ("neighbours", 1, [1, 2], &NEIGHBOURS),
+    ("last identifier", 4294967295, [1, 2], &LAST_IDENTIFIER),
+    ("refusals", 4294967295, [1, 2], &REFUSALS),
+    ("preferences", 7, [1, 2], &PREFERENCES),
+    ("link down", 7, [1, 2], &LINK_DOWN),
+];
 
 #[test]
-fn the_next_marker_is_wanted_after_the_soonest_wait(rt: HostRuntime) -> Result<(), NoMemory> {
-    const ROWS: [Row; 23] = [
-        Row::Is(Fact::NextWanted(None)),
-        Row::Assign(48, Ok(1)),
-        Row::Assign(49, Ok(2)),
-        Row::Move(48, 2, Ok(())),
-        Row::Is(Fact::NextWanted(None)),
-        Row::Marker(1, Some(7)),
-        Row::Is(Fact::NextWanted(Some(30))),
-        Row::Ticks(12),
-        Row::Is(Fact::NextWanted(Some(18))),
-        Row::Move(49, 1, Ok(())),
-        Row::Marker(2, Some(8)),
-        Row::Is(Fact::NextWanted(Some(18))),
-        Row::Ticks(5),
-        Row::Response(1, 7, 1),
-        Row::Is(Fact::NextWanted(Some(25))),
-        Row::Ticks(24),
-        Row::Is(Fact::NextWanted(Some(1))),
-        Row::Ticks(1),
-        Row::Is(Fact::NextWanted(None)),
-        Row::Marker(2, Some(9)),
-        Row::Is(Fact::NextWanted(Some(30))),
-        Row::Down(2),
-        Row::Is(Fact::NextWanted(None)),
-    ];
-    plays(&rt, rt.alloc(), 7, [1, 2], &ROWS)
-}
-
-#[test]
-fn ports_are_counted(rt: HostRuntime) -> Result<(), NoMemory> {
-    const ROWS: [Row; 14] = [
-        Row::Assign(48, Ok(1)),
-        Row::Assign(49, Ok(2)),
-        Row::Assign(50, Ok(1)),
-        Row::Is(Fact::Load(1, 2)),
-        Row::Is(Fact::Load(2, 1)),
-        Row::Is(Fact::Load(65, 0)),
-        Row::Move(48, 2, Ok(())),
-        Row::Marker(1, Some(1)),
-        Row::Is(Fact::Load(1, 2)),
-        Row::Response(1, 1, 1),
-        Row::Is(Fact::Load(1, 1)),
-        Row::Down(1),
-        Row::Is(Fact::Load(1, 0)),
-        Row::Is(Fact::Load(2, 1)),
-    ];
-    plays(&rt, rt.alloc(), 1, [1, 2], &ROWS)
-}
-
-#[test]
-fn ports_of_one_chain_stay_apart(rt: HostRuntime) -> Result<(), NoMemory> {
-    const WANTED: Assignment = Assignment::Wanted {
-        port: 1,
-        preferred: Some(65),
-    };
-    const ROWS: [Row; 42] = [
-        Row::Assign(0, Ok(1)),
-        Row::Assign(1, Ok(65)),
-        Row::Assign(2, Ok(1)),
-        Row::Assign(3, Ok(65)),
-        Row::Is(Fact::Load(1, 2)),
-        Row::Is(Fact::Load(65, 2)),
-        Row::Move(0, 65, Ok(())),
-        Row::Is(Fact::State(0, WANTED)),
-        Row::Marker(65, None),
-        Row::Marker(1, Some(1)),
-        Row::Is(Fact::State(1, Assignment::On(65))),
-        Row::Is(Fact::State(2, Assignment::On(1))),
-        Row::Is(Fact::FlushingSince(0, 0)),
-        // what is On port 65 becomes Wanted, and what is On port 1 does not (both are in chain 1)
-        Row::Leave(65),
-        Row::Is(Fact::State(2, Assignment::On(1))),
-        Row::Ticks(1),
-        Row::Is(Fact::FlushingSince(0, 1)),
-        Row::Response(65, 1, 0),
-        Row::Marker(65, Some(2)),
-        Row::Response(1, 2, 0),
-        Row::Is(Fact::Load(1, 2)),
-        Row::Is(Fact::Load(65, 2)),
-        Row::Ticks(28),
-        Row::Is(Fact::FlushingSince(0, 29)),
-        Row::Ticks(1),
-        Row::Is(Fact::State(0, WANTED)),
-        Row::Response(65, 2, 2),
-        Row::Is(Fact::State(0, WANTED)),
-        Row::Assign(1, Ok(65)),
-        Row::Down(65),
-        Row::Is(Fact::Load(65, 0)),
-        Row::Is(Fact::Load(1, 2)),
-        Row::Force(2, Ok(())),
-        Row::Is(Fact::Load(1, 1)),
-        Row::Assign(3, Ok(65)),
-        Row::Down(1),
-        Row::Is(Fact::Load(1, 0)),
-        Row::Is(Fact::Load(65, 1)),
-        Row::Assign(0, Ok(65)),
-        Row::Is(Fact::Load(65, 2)),
-        Row::Clear,
-        Row::Is(Fact::Load(65, 0)),
-    ];
-    plays(&rt, rt.alloc(), 1, [1, 65], &ROWS)
-}
-
-#[test]
-fn a_chain_keeps_the_neighbours_of_one_that_leaves(rt: HostRuntime) -> Result<(), NoMemory> {
-    const ROWS: [Row; 16] = [
-        Row::Assign(0, Ok(1)),
-        Row::Assign(2, Ok(1)),
-        Row::Assign(4, Ok(1)),
-        Row::Assign(6, Ok(1)),
-        // from the middle of the chain, then from each end
-        Row::Force(2, Ok(())),
-        Row::Is(Fact::Load(1, 3)),
-        Row::Force(6, Ok(())),
-        Row::Is(Fact::Load(1, 2)),
-        Row::Force(0, Ok(())),
-        Row::Is(Fact::Load(1, 1)),
-        Row::Leave(1),
-        Row::Is(Fact::State(
-            4,
-            Assignment::Wanted {
-                port: 1,
-                preferred: None,
-            },
-        )),
-        Row::Is(Fact::State(2, Assignment::Free { preferred: None })),
-        Row::Marker(1, Some(1)),
-        Row::Response(1, 1, 1),
-        Row::Is(Fact::Load(1, 0)),
-    ];
-    plays(&rt, rt.alloc(), 1, [1, 2], &ROWS)
-}
-
-#[test]
-fn identifiers_end_at_the_greatest(rt: HostRuntime) -> Result<(), NoMemory> {
-    const ROWS: [Row; 9] = [
-        Row::Assign(48, Ok(1)),
-        Row::Assign(50, Ok(1)),
-        Row::Move(48, 2, Ok(())),
-        Row::Marker(1, Some(4294967295)),
-        Row::Move(50, 2, Err(DistFault::MarkersSpent)),
-        Row::Response(1, 4294967295, 1),
-        Row::Move(256, 2, Err(DistFault::NotAssigned)),
-        Row::Leave(1),
-        Row::Marker(1, None),
-    ];
-    plays(&rt, rt.alloc(), 4294967295, [1, 2], &ROWS)
-}
-
-#[test]
-fn refusals_come_in_order(rt: HostRuntime) -> Result<(), NoMemory> {
-    const ROWS: [Row; 14] = [
-        // no such conversation, or a free one, whatever the port is
-        Row::Assign(256, Err(DistFault::NotAssigned)),
-        Row::Move(256, 3, Err(DistFault::NotAssigned)),
-        Row::Move(48, 3, Err(DistFault::NotAssigned)),
-        Row::Force(256, Err(DistFault::NotAssigned)),
-        Row::Force(48, Err(DistFault::NotAssigned)),
-        // Held, before the port is looked at
-        Row::Assign(48, Ok(1)),
-        Row::Assign(50, Ok(1)),
-        Row::Move(48, 2, Ok(())),
-        Row::Move(48, 3, Err(DistFault::Held)),
-        Row::Marker(1, Some(4294967295)),
-        Row::Move(48, 1, Err(DistFault::Held)),
-        // no identifier is left; NotDistributing and SamePort come before MarkersSpent
-        Row::Move(50, 3, Err(DistFault::NotDistributing)),
-        Row::Move(50, 1, Err(DistFault::SamePort)),
-        Row::Move(50, 2, Err(DistFault::MarkersSpent)),
-    ];
-    plays(&rt, rt.alloc(), 4294967295, [1, 2], &ROWS)
-}
-
-#[test]
-fn preferences_are_kept_and_used_once(rt: HostRuntime) -> Result<(), NoMemory> {
-    const ROWS: [Row; 22] = [
-        // `down` keeps the preferred port, which is used once
-        Row::Assign(48, Ok(1)),
-        Row::Move(48, 2, Ok(())),
-        Row::Down(1),
-        Row::Is(Fact::State(48, FREE_FOR_2)),
-        Row::Assign(48, Ok(2)),
-        Row::Is(Fact::State(48, Assignment::On(2))),
-        Row::Force(48, Ok(())),
-        Row::Is(Fact::State(48, FREE)),
-        // `force` keeps the preferred port of a conversation that waits
-        Row::Assign(48, Ok(1)),
-        Row::Move(48, 2, Ok(())),
-        Row::Marker(1, Some(7)),
-        Row::Force(48, Ok(())),
-        Row::Is(Fact::State(48, FREE_FOR_2)),
-        Row::Response(1, 7, 0),
-        // a port that only stops distributing frees nothing
-        Row::Assign(50, Ok(1)),
-        Row::Leave(1),
-        Row::Assign(50, Err(DistFault::Held)),
-        Row::Clear,
-        Row::Is(Fact::State(48, FREE)),
-        Row::Assign(50, Ok(1)),
-        Row::Leave(1),
-        Row::Marker(1, Some(7)),
-    ];
-    plays(&rt, rt.alloc(), 7, [1, 2], &ROWS)
-}
-
-#[test]
-fn a_link_that_goes_down_frees_what_is_on_it(rt: HostRuntime) -> Result<(), NoMemory> {
-    const ROWS: [Row; 7] = [
-        Row::Assign(48, Ok(1)),
-        Row::Assign(50, Ok(1)),
-        Row::Move(50, 2, Ok(())),
-        Row::Marker(1, Some(7)),
-        Row::Down(1),
-        Row::Is(Fact::State(48, FREE)),
-        Row::Is(Fact::State(50, FREE_FOR_2)),
-    ];
-    plays(&rt, rt.alloc(), 7, [1, 2], &ROWS)
+fn conversations_are_assigned_moved_and_freed(rt: HostRuntime) -> Result<(), NoMemory> {
+    for (case, first, ports, rows) in CASES {
+        plays(&rt, rt.alloc(), (case, first), ports, rows)?;
+    }
+    Ok(())
 }
 
 /// The last of 64 aggregators with 4096 conversations each.
-#[test]
-fn aggregators_with_4096_conversations_keep_them_apart(rt: HostRuntime) -> Result<(), NoMemory> {
-    const ROWS: [Put<'static>; 19] = [
-        (1, &[1, 2], Row::Assign(4095, Ok(2))),
-        (1, &[1, 2], Row::Assign(304, Ok(1))),
-        (64, &[3], Row::Assign(4095, Ok(3))),
-        // neither the numbers modulo 256 nor the next aggregator
-        (1, &[], Row::Is(Fact::State(48, FREE))),
-        (1, &[], Row::Is(Fact::State(255, FREE))),
-        (2, &[], Row::Is(Fact::State(0, FREE))),
-        (1, &[], Row::Is(Fact::Load(1, 1))),
-        (1, &[], Row::Is(Fact::Load(2, 1))),
-        (1, &[], Row::Is(Fact::Load(3, 1))),
-        // a move behind a marker, in the last slot
-        (64, &[3, 4], Row::Move(4095, 4, Ok(()))),
-        (64, &[3, 4], Row::Marker(3, Some(7))),
-        (64, &[3, 4], Row::Response(3, 7, 1)),
-        (64, &[3, 4], Row::Assign(4095, Ok(4))),
-        (1, &[], Row::Is(Fact::State(4095, Assignment::On(2)))),
-        (1, &[], Row::Clear),
-        (1, &[], Row::Is(Fact::Load(2, 0))),
-        (64, &[], Row::Is(Fact::State(4095, FREE))),
-        (1, &[], Row::Is(Fact::Conversations(4096))),
-        (1, &[], Row::Is(Fact::NextMarker(Some(7)))),
-    ];
-    plays_apart(&rt, rt.alloc(), 64, Count::With4096, 7, &ROWS)
-}
+const APART: [Put<'static>; 19] = [
+    (1, &[1, 2], Row::Assign(4095, Ok(2))),
+    (1, &[1, 2], Row::Assign(304, Ok(1))),
+    (64, &[3], Row::Assign(4095, Ok(3))),
+    // neither the numbers modulo 256 nor the next aggregator
+    (1, &[], Row::Is(Fact::State(48, FREE))),
+    (1, &[], Row::Is(Fact::State(255, FREE))),
+    (2, &[], Row::Is(Fact::State(0, FREE))),
+    (1, &[], Row::Is(Fact::Load(1, 1))),
+    (1, &[], Row::Is(Fact::Load(2, 1))),
+    (1, &[], Row::Is(Fact::Load(3, 1))),
+    // a move behind a marker, in the last slot
+    (64, &[3, 4], Row::Move(4095, 4, Ok(()))),
+    (64, &[3, 4], Row::Marker(3, Some(7))),
+    (64, &[3, 4], Row::Response(3, 7, 1)),
+    (64, &[3, 4], Row::Assign(4095, Ok(4))),
+    (1, &[], Row::Is(Fact::State(4095, Assignment::On(2)))),
+    (1, &[], Row::Clear),
+    (1, &[], Row::Is(Fact::Load(2, 0))),
+    (64, &[], Row::Is(Fact::State(4095, FREE))),
+    (1, &[], Row::Is(Fact::Conversations(4096))),
+    (1, &[], Row::Is(Fact::NextMarker(Some(7)))),
+];
 
 /// There is no conversation with this number.
 fn beyond<'a>(conv: u16) -> [Put<'a>; 5] {
@@ -481,7 +465,7 @@ fn end_at(
     rows.push((3, &[1], Row::Assign(0, Err(DistFault::NotAssigned))))?;
     rows.push((1, &[], Row::Is(Fact::Conversations(last.saturating_add(1)))))?;
     rows.push((1, &[], Row::Is(Fact::Load(1, 1))))?;
-    plays_apart(rt, alloc, 2, count, 1, &rows)
+    plays_apart(rt, alloc, 2, count, ("the end", 1), &rows)
 }
 
 #[test]
@@ -496,15 +480,11 @@ fn conversations_end_at_their_count(rt: HostRuntime) -> Result<(), NoMemory> {
     )
 }
 
-#[test]
-fn new_makes_256_conversations(rt: HostRuntime) -> Result<(), NoMemory> {
-    const ROWS: [Put<'static>; 3] = [
-        (1, &[], Row::Is(Fact::Conversations(256))),
-        (1, &[1, 2], Row::Assign(255, Ok(2))),
-        (1, &[1, 2], Row::Assign(256, Err(DistFault::NotAssigned))),
-    ];
-    plays_apart(&rt, rt.alloc(), 1, Count::ByNew, 1, &ROWS)
-}
+const BY_NEW: [Put<'static>; 3] = [
+    (1, &[], Row::Is(Fact::Conversations(256))),
+    (1, &[1, 2], Row::Assign(255, Ok(2))),
+    (1, &[1, 2], Row::Assign(256, Err(DistFault::NotAssigned))),
+];
 
 /// The port of ports 3, 5 and 67 at the index that is the conversation's number modulo 3.
 fn port_of(conv: u16) -> u16 {
@@ -559,7 +539,7 @@ fn all_assigned(alloc: Global) -> Result<Vec<Put<'static>>, NoMemory> {
 #[test]
 fn all_4096_conversations_are_on_their_ports(rt: HostRuntime) -> Result<(), NoMemory> {
     let rows = all_assigned(rt.alloc())?;
-    plays_apart(&rt, rt.alloc(), 3, Count::With4096, 1, &rows)
+    plays_apart(&rt, rt.alloc(), 3, Count::With4096, ("all", 1), &rows)
 }
 
 /// 64 ports with the numbers from 1000 on.
@@ -592,22 +572,31 @@ fn ports_are_picked_by_their_place(rt: HostRuntime) -> Result<(), NoMemory> {
         (2, &[], Row::Is(Fact::IsConversation(255, true))),
         (0, &[], Row::Is(Fact::IsConversation(0, false))),
     ];
-    plays_apart(&rt, rt.alloc(), 2, Count::ByNew, 1, &rows)
+    plays_apart(&rt, rt.alloc(), 2, Count::ByNew, ("by place", 1), &rows)
 }
 
+const NO_MORE: [Put<'static>; 6] = [
+    (1, &[1, 2], Row::Assign(48, Ok(1))),
+    // NotDistributing comes before SamePort
+    (1, &[2], Row::Move(48, 1, Err(DistFault::NotDistributing))),
+    (1, &[1, 2], Row::Move(48, 2, Ok(()))),
+    (1, &[], Row::Force(48, Ok(()))),
+    // the free conversation prefers port 2, which does not distribute
+    (1, &[], Row::Is(Fact::Preferred(48, Some(2)))),
+    (1, &[3, 4, 5], Row::Assign(48, Ok(3))),
+];
+
 #[test]
-fn a_port_that_distributes_no_more(rt: HostRuntime) -> Result<(), NoMemory> {
-    const ROWS: [Put<'static>; 6] = [
-        (1, &[1, 2], Row::Assign(48, Ok(1))),
-        // NotDistributing comes before SamePort
-        (1, &[2], Row::Move(48, 1, Err(DistFault::NotDistributing))),
-        (1, &[1, 2], Row::Move(48, 2, Ok(()))),
-        (1, &[], Row::Force(48, Ok(()))),
-        // the free conversation prefers port 2, which does not distribute
-        (1, &[], Row::Is(Fact::Preferred(48, Some(2)))),
-        (1, &[3, 4, 5], Row::Assign(48, Ok(3))),
+fn aggregators_keep_their_conversations_apart(rt: HostRuntime) -> Result<(), NoMemory> {
+    let cases: [(&str, u16, Count, u32, &[Put<'_>]); 3] = [
+        ("4096 apart", 64, Count::With4096, 7, &APART),
+        ("by new", 1, Count::ByNew, 1, &BY_NEW),
+        ("no more", 1, Count::ByNew, 1, &NO_MORE),
     ];
-    plays_apart(&rt, rt.alloc(), 1, Count::ByNew, 1, &ROWS)
+    for (case, aggregators, count, first, rows) in cases {
+        plays_apart(&rt, rt.alloc(), aggregators, count, (case, first), rows)?;
+    }
+    Ok(())
 }
 
 /// A conversation's number among this many ports, and its place.
@@ -625,43 +614,5 @@ fn places_are_numbers_modulo_the_count(rt: HostRuntime) {
     for (row, (conv, count, place)) in PLACES.iter().enumerate() {
         same_in_row(&rt, row, &by_number(*conv, *count), place);
     }
-}
-
-/// The faults, and the number and the text of each.
-const FAULTS: [(DistFault, u8, &str); 6] = [
-    (DistFault::Held, 1, "the conversation is Wanted or Flushing"),
-    (
-        DistFault::NoneDistributing,
-        2,
-        "the conversation is Free, and no port distributes in its aggregator",
-    ),
-    (
-        DistFault::NotDistributing,
-        3,
-        "the port to move to does not distribute in the aggregator",
-    ),
-    (
-        DistFault::SamePort,
-        4,
-        "the port to move to is the one that the conversation is on",
-    ),
-    (
-        DistFault::NotAssigned,
-        5,
-        "there is no such conversation, or the one that is to be moved or forced is Free",
-    ),
-    (
-        DistFault::MarkersSpent,
-        6,
-        "no identifier is left, since 4294967295 was sent",
-    ),
-];
-
-#[test]
-fn refusals_have_numbers_and_texts(rt: HostRuntime) -> Result<(), AllocError> {
-    for (fault, number, text) in &FAULTS {
-        same(&rt, *text, &fault.number(), number);
-        prints(&rt, rt.alloc(), fault, *text)?;
-    }
-    Ok(())
+    same(&rt, "number", &DistFault::MarkersSpent.number(), &6);
 }

@@ -231,24 +231,17 @@ fn states_are_read_and_written_by_name(rt: HostRuntime) {
 }
 
 #[test]
-fn a_port_is_not_selected_at_first(rt: HostRuntime) {
-    let first = Choice::Selected(AggId(1));
-    holds(&rt, "not SELECTED at first", Choice::default() != first);
-}
-
-#[test]
-fn numbers_print_as_decimal(rt: HostRuntime) -> Result<(), AllocError> {
-    prints(&rt, rt.alloc(), &Key(65535), "65535")?;
-    prints(&rt, rt.alloc(), &AggId(1), "1")
-}
-
-#[test]
-fn words_are_cut_at_single_spaces(rt: HostRuntime) -> Result<(), AllocError> {
+fn words_numbers_and_octets_are_read_and_printed(rt: HostRuntime) -> Result<(), AllocError> {
     let words = words_of(rt.alloc(), "tick  1\t2 ")?;
     same(&rt, "count", &words.len(), &4);
     for (place, wanted) in ["tick", "", "1\t2", ""].iter().enumerate() {
         same_in_row(&rt, place, &words.get(place), &Some(wanted));
     }
+    prints(&rt, rt.alloc(), &Key(65535), "65535")?;
+    prints(&rt, rt.alloc(), &AggId(1), "1")?;
+    prints(&rt, rt.alloc(), &OctetText(0x0b), "0b")?;
+    let first = Choice::Selected(AggId(1));
+    holds(&rt, "not SELECTED at first", Choice::default() != first);
     Ok(())
 }
 
@@ -273,9 +266,4 @@ fn numbers_are_decimal_digits(rt: HostRuntime) {
     let past = decimal_u32("4294967296");
     same(&rt, "past the greatest", &past, &None);
     same(&rt, "plus sign", &decimal_u32("+1"), &None);
-}
-
-#[test]
-fn octets_print_as_two_digits(rt: HostRuntime) -> Result<(), AllocError> {
-    prints(&rt, rt.alloc(), &OctetText(0x0b), "0b")
 }

@@ -3,7 +3,7 @@ mod modes;
 ghost use Rattle.std.specs.Prelude.{◌≡◌, ◌∷◌, []};
 ghost use Rattle.portmachines.specs.Window.{KeepsWindow, within_eleven};
 
-use crate::comparing::same_in_row;
+use crate::comparing::{Place, same_in_case};
 use bitflags::Flags;
 use lagtypes::{AggId, Choice, Key, Party, PortId, State, SystemId};
 use portmachines::{
@@ -168,23 +168,23 @@ fn read(port: &Port, fact: Fact) -> Fact {
 }
 
 /// Makes a call that returns something, and compares the result with what the step says; or else looks at a variable.
-fn answers(rt: &impl Abort, place: usize, port: &mut Port, step: Step) {
+fn answers(rt: &impl Abort, place: Place<'_>, port: &mut Port, step: Step) {
     match step {
-        Step::Quiet(ticks) => same_in_row(rt, place, &quiet(port, ticks), &ticks),
-        Step::Mux(ready, rows) => same_in_row(rt, place, &port.mux(ready), &rows),
-        Step::Asks(ready, asked) => same_in_row(rt, place, &asks(port, ready), &asked),
+        Step::Quiet(ticks) => same_in_case(rt, place, &quiet(port, ticks), &ticks),
+        Step::Mux(ready, rows) => same_in_case(rt, place, &port.mux(ready), &rows),
+        Step::Asks(ready, asked) => same_in_case(rt, place, &asks(port, ready), &asked),
         Step::Sends(state) => {
             let sent = port.transmit(0).map(|pdu| pdu.actor.state.bits());
-            same_in_row(rt, place, &sent, &state);
+            same_in_case(rt, place, &sent, &state);
         }
-        Step::SendsAll(delay, pdu) => same_in_row(rt, place, &port.transmit(delay), &Some(pdu)),
-        Step::Is(fact) => same_in_row(rt, place, &read(port, fact), &fact),
+        Step::SendsAll(delay, pdu) => same_in_case(rt, place, &port.transmit(delay), &Some(pdu)),
+        Step::Is(fact) => same_in_case(rt, place, &read(port, fact), &fact),
         _ => {}
     }
 }
 
 /// Does a step.
-fn does(rt: &impl Abort, place: usize, port: &mut Port, step: Step) {
+fn does(rt: &impl Abort, place: Place<'_>, port: &mut Port, step: Step) {
     match step {
         Step::Link(enabled) => port.set_link(enabled),
         Step::Periodic => port.periodic(),
@@ -204,118 +204,98 @@ fn does(rt: &impl Abort, place: usize, port: &mut Port, step: Step) {
     }
 }
 
-fn walk(rt: &impl Abort, mut port: Port, steps: &[Step]) {
+fn walk(rt: &impl Abort, case: &str, mut port: Port, steps: &[Step]) {
     for (place, step) in steps.iter().enumerate() {
-        does(rt, place, &mut port, *step);
+        does(rt, (case, place), &mut port, *step);
     }
 }
 
-#[test]
-fn an_active_port_alone(rt: HostRuntime) {
-    const STEPS: [Step; 17] = [
-        Step::Periodic,
-        Step::Link(true),
-        Step::Periodic,
-        Step::Run(9),
-        Step::Sends(None),
-        Step::Run(1),
-        Step::Sends(Some(0xc7)),
-        Step::Run(20),
-        Step::Is(Fact::Receive(ReceiveState::Defaulted)),
-        Step::Is(Fact::State(0x47)),
-        Step::Select(Choice::Selected(AggId(1))),
-        Step::Mux(true, 3),
-        Step::Is(Fact::State(0x7f)),
-        Step::Select(Choice::Unselected),
-        Step::Mux(false, 2),
-        Step::Mux(false, 0),
-        Step::Is(Fact::State(0x47)),
-    ];
-    walk(&rt, port(true, true), &STEPS);
-}
+const ALONE: [Step; 17] = [
+    Step::Periodic,
+    Step::Link(true),
+    Step::Periodic,
+    Step::Run(9),
+    Step::Sends(None),
+    Step::Run(1),
+    Step::Sends(Some(0xc7)),
+    Step::Run(20),
+    Step::Is(Fact::Receive(ReceiveState::Defaulted)),
+    Step::Is(Fact::State(0x47)),
+    Step::Select(Choice::Selected(AggId(1))),
+    Step::Mux(true, 3),
+    Step::Is(Fact::State(0x7f)),
+    Step::Select(Choice::Unselected),
+    Step::Mux(false, 2),
+    Step::Mux(false, 0),
+    Step::Is(Fact::State(0x47)),
+];
 
-#[test]
-fn a_passive_port_waits_for_a_partner(rt: HostRuntime) {
-    const STEPS: [Step; 9] = [
-        Step::Link(true),
-        Step::Periodic,
-        Step::Run(10),
-        Step::Is(Fact::PeriodicIn(PeriodicState::NoPeriodic)),
-        Step::Sends(None),
-        Step::Take(0x07),
-        Step::Periodic,
-        Step::Is(Fact::PeriodicIn(PeriodicState::Fast)),
-        Step::Sends(Some(0x06)),
-    ];
-    walk(&rt, port(false, true), &STEPS);
-}
+const PASSIVE: [Step; 9] = [
+    Step::Link(true),
+    Step::Periodic,
+    Step::Run(10),
+    Step::Is(Fact::PeriodicIn(PeriodicState::NoPeriodic)),
+    Step::Sends(None),
+    Step::Take(0x07),
+    Step::Periodic,
+    Step::Is(Fact::PeriodicIn(PeriodicState::Fast)),
+    Step::Sends(Some(0x06)),
+];
 
-#[test]
-fn long_timeouts(rt: HostRuntime) {
-    const STEPS: [Step; 24] = [
-        Step::Take(0x05),
-        Step::Is(Fact::Receive(ReceiveState::PortDisabled)),
-        Step::Link(true),
-        Step::Take(0x05),
-        Step::Select(Choice::Selected(AggId(1))),
-        Step::Periodic,
-        Step::Is(Fact::PeriodicIn(PeriodicState::Slow)),
-        Step::Sends(Some(0x05)),
-        Step::Quiet(299),
-        Step::Run(1),
-        Step::Sends(Some(0x05)),
-        Step::Run(599),
-        Step::Is(Fact::Receive(ReceiveState::Current)),
-        Step::Is(Fact::State(0x05)),
-        Step::Run(1),
-        Step::Is(Fact::Receive(ReceiveState::Expired)),
-        Step::Is(Fact::State(0x85)),
-        Step::Run(29),
-        Step::Is(Fact::Receive(ReceiveState::Expired)),
-        Step::Is(Fact::Chosen(Choice::Selected(AggId(1)))),
-        Step::Run(1),
-        Step::Is(Fact::Receive(ReceiveState::Defaulted)),
-        Step::Is(Fact::Chosen(Choice::Unselected)),
-        Step::Is(Fact::State(0x45)),
-    ];
-    walk(&rt, port(true, false), &STEPS);
-}
+const LONG: [Step; 24] = [
+    Step::Take(0x05),
+    Step::Is(Fact::Receive(ReceiveState::PortDisabled)),
+    Step::Link(true),
+    Step::Take(0x05),
+    Step::Select(Choice::Selected(AggId(1))),
+    Step::Periodic,
+    Step::Is(Fact::PeriodicIn(PeriodicState::Slow)),
+    Step::Sends(Some(0x05)),
+    Step::Quiet(299),
+    Step::Run(1),
+    Step::Sends(Some(0x05)),
+    Step::Run(599),
+    Step::Is(Fact::Receive(ReceiveState::Current)),
+    Step::Is(Fact::State(0x05)),
+    Step::Run(1),
+    Step::Is(Fact::Receive(ReceiveState::Expired)),
+    Step::Is(Fact::State(0x85)),
+    Step::Run(29),
+    Step::Is(Fact::Receive(ReceiveState::Expired)),
+    Step::Is(Fact::Chosen(Choice::Selected(AggId(1)))),
+    Step::Run(1),
+    Step::Is(Fact::Receive(ReceiveState::Defaulted)),
+    Step::Is(Fact::Chosen(Choice::Unselected)),
+    Step::Is(Fact::State(0x45)),
+];
 
-#[test]
-fn a_full_window(rt: HostRuntime) {
-    const STEPS: [Step; 14] = [
-        Step::Periodic,
-        Step::Link(true),
-        Step::Take(0x07),
-        Step::Sends(Some(0x07)),
-        Step::Take(0x07),
-        Step::Sends(Some(0x07)),
-        Step::Take(0x07),
-        Step::Sends(Some(0x07)),
-        Step::Take(0x07),
-        Step::Sends(None),
-        Step::Is(Fact::Ntt(true)),
-        Step::Quiet(10),
-        Step::Run(1),
-        Step::Sends(Some(0x07)),
-    ];
-    walk(&rt, port(true, true), &STEPS);
-}
+const FULL: [Step; 14] = [
+    Step::Periodic,
+    Step::Link(true),
+    Step::Take(0x07),
+    Step::Sends(Some(0x07)),
+    Step::Take(0x07),
+    Step::Sends(Some(0x07)),
+    Step::Take(0x07),
+    Step::Sends(Some(0x07)),
+    Step::Take(0x07),
+    Step::Sends(None),
+    Step::Is(Fact::Ntt(true)),
+    Step::Quiet(10),
+    Step::Run(1),
+    Step::Sends(Some(0x07)),
+];
 
-#[test]
-fn attached_is_synchronized_and_passes_no_frames(rt: HostRuntime) {
-    const STEPS: [Step; 8] = [
-        Step::Link(true),
-        Step::Take(0x07),
-        Step::Select(Choice::Selected(AggId(1))),
-        Step::Mux(true, 2),
-        Step::Is(Fact::State(0x0f)),
-        Step::Select(Choice::Unselected),
-        Step::Mux(true, 1),
-        Step::Is(Fact::State(0x07)),
-    ];
-    walk(&rt, port(true, true), &STEPS);
-}
+const ATTACHED: [Step; 8] = [
+    Step::Link(true),
+    Step::Take(0x07),
+    Step::Select(Choice::Selected(AggId(1))),
+    Step::Mux(true, 2),
+    Step::Is(Fact::State(0x0f)),
+    Step::Select(Choice::Unselected),
+    Step::Mux(true, 1),
+    Step::Is(Fact::State(0x07)),
+];
 
 #[test]
 fn a_new_port(rt: HostRuntime) {
@@ -339,7 +319,7 @@ fn a_new_port(rt: HostRuntime) {
         Step::Is(Fact::Ntt(false)),
         Step::Is(Fact::Partner(zero(0))),
     ];
-    walk(&rt, port(true, true), &steps);
+    walk(&rt, "a new port", port(true, true), &steps);
 }
 
 /// A port whose link came up ten ticks ago.
@@ -352,7 +332,7 @@ fn port_after_a_second() -> Port {
 const SELECTED: Choice = Choice::Selected(AggId(1));
 
 #[test]
-fn the_readers_of_a_port(rt: HostRuntime) {
+fn readers_and_another_party(rt: HostRuntime) {
     let due = Lacpdu {
         actor: end(1, 0xc7),
         partner: zero(2),
@@ -369,11 +349,7 @@ fn the_readers_of_a_port(rt: HostRuntime) {
         Step::Is(Fact::State(0xc7)),
         Step::Is(Fact::Chosen(SELECTED)),
     ];
-    walk(&rt, port_after_a_second(), &steps);
-}
-
-#[test]
-fn another_party_starts_the_machines_again(rt: HostRuntime) {
+    walk(&rt, "the readers of a port", port_after_a_second(), &steps);
     let steps = [
         Step::Sends(Some(0xc7)),
         Step::Run(2),
@@ -388,34 +364,12 @@ fn another_party_starts_the_machines_again(rt: HostRuntime) {
         Step::Is(Fact::MuxIn(MuxState::Detached)),
         Step::Is(Fact::Distributes(false)),
     ];
-    walk(&rt, port_after_a_second(), &steps);
-}
-
-#[test]
-fn each_timer_counts_by_itself(rt: HostRuntime) {
-    let steps = [
-        Step::Select(SELECTED),
-        Step::Mux(false, 1),
-        Step::Is(Fact::CurrentWhile(30)),
-        Step::Is(Fact::PeriodicTimer(10)),
-        Step::Is(Fact::WaitWhile(20)),
-        // the link is up as before
-        Step::Link(true),
-        Step::Is(Fact::CurrentWhile(30)),
-        Step::Is(Fact::PeriodicTimer(10)),
-        Step::Is(Fact::WaitWhile(20)),
-        Step::Tick,
-        Step::Is(Fact::CurrentWhile(29)),
-        Step::Is(Fact::PeriodicTimer(9)),
-        Step::Is(Fact::WaitWhile(19)),
-        // on defaults
-        Step::Run(29),
-        Step::Is(Fact::CurrentWhile(0)),
-        Step::Is(Fact::PeriodicTimer(300)),
-        Step::Is(Fact::WaitWhile(0)),
-        Step::Is(Fact::Partner(zero(0x08))),
-    ];
-    walk(&rt, quiet_port(true, true), &steps);
+    walk(
+        &rt,
+        "another party starts the machines again",
+        port_after_a_second(),
+        &steps,
+    );
 }
 
 /// A party in which no two parameters are equal.
@@ -472,13 +426,7 @@ fn each_field_of_an_lacpdu_has_its_source(rt: HostRuntime) {
         Step::Periodic,
         Step::SendsAll(28, due),
     ];
-    walk(&rt, port, &steps);
-}
-
-#[test]
-fn the_laws_are_called(_rt: HostRuntime) {
-    window_holds();
-    each_call_has_one_effect();
+    walk(&rt, "each field of an lacpdu has its source", port, &steps);
 }
 
 /// An LACPDU of system 2 with this Actor_State and this Partner information.
@@ -516,7 +464,12 @@ fn what_is_told_of_the_port_is_compared(rt: HostRuntime) {
     ];
     for (told, ntt) in &rows {
         let steps = [Step::Told(0x07, *told), Step::Is(Fact::Ntt(*ntt))];
-        walk(&rt, quiet_port(true, true), &steps);
+        walk(
+            &rt,
+            "what is told of the port is compared",
+            quiet_port(true, true),
+            &steps,
+        );
     }
 }
 
@@ -526,7 +479,7 @@ fn records(rt: &impl Abort, active: bool, actor: u8, told: Info, recorded: u8) {
         Step::Told(actor, told),
         Step::Is(Fact::PartnerState(recorded)),
     ];
-    walk(rt, quiet_port(active, true), &steps);
+    walk(rt, "records", quiet_port(active, true), &steps);
 }
 
 #[test]
@@ -548,26 +501,6 @@ fn what_is_recorded_of_synchronization(rt: HostRuntime) {
     records(&rt, true, 0xf5, end(1, 0x07), 0xf5);
 }
 
-#[test]
-fn each_mux_row_but_the_first_asks(rt: HostRuntime) {
-    let steps = [
-        Step::Told(0x05, end(1, 0x07)),
-        Step::Select(SELECTED),
-        // to WAITING
-        Step::Asks(false, false),
-        Step::Select(Choice::Unselected),
-        // from WAITING to DETACHED
-        Step::Asks(false, true),
-        Step::Select(SELECTED),
-        // to ATTACHED
-        Step::Asks(true, true),
-        Step::Select(Choice::Unselected),
-        // from ATTACHED to DETACHED
-        Step::Asks(false, true),
-    ];
-    walk(&rt, quiet_port(true, true), &steps);
-}
-
 const STANDBY: Choice = Choice::Standby(AggId(1));
 
 /// A port that is in this state becomes STANDBY: this many rows fire, and it comes to WAITING.
@@ -580,7 +513,7 @@ fn becomes_standby(rt: &impl Abort, port: Port, from: MuxState, rows: u8) {
         Step::Is(Fact::Carries(0)),
         Step::Is(Fact::Chosen(STANDBY)),
     ];
-    walk(rt, port, &steps);
+    walk(rt, "becomes standby", port, &steps);
 }
 
 /// A port that has heard this Actor_State.
@@ -611,30 +544,26 @@ fn a_port_on_standby_waits(rt: HostRuntime) {
 }
 
 /// A STANDBY port waits for wait_while as a SELECTED one does, and stays in WAITING until it is SELECTED.
-#[test]
-fn a_port_on_standby_is_promoted(rt: HostRuntime) {
-    const STEPS: [Step; 15] = [
-        Step::Select(STANDBY),
-        Step::Mux(false, 1),
-        Step::Is(Fact::WaitWhile(20)),
-        Step::Run(20),
-        Step::Is(Fact::Waited(true)),
-        // no row fires while it is STANDBY
-        Step::Mux(true, 0),
-        Step::Select(SELECTED),
-        // nor while it is not Ready
-        Step::Mux(false, 0),
-        Step::Mux(true, 1),
-        Step::Is(Fact::MuxIn(MuxState::Attached)),
-        Step::Select(STANDBY),
-        // by way of DETACHED
-        Step::Asks(true, true),
-        Step::Select(Choice::Unselected),
-        Step::Mux(true, 1),
-        Step::Is(Fact::MuxIn(MuxState::Detached)),
-    ];
-    walk(&rt, hearing_port(0x07), &STEPS);
-}
+const PROMOTED: [Step; 15] = [
+    Step::Select(STANDBY),
+    Step::Mux(false, 1),
+    Step::Is(Fact::WaitWhile(20)),
+    Step::Run(20),
+    Step::Is(Fact::Waited(true)),
+    // no row fires while it is STANDBY
+    Step::Mux(true, 0),
+    Step::Select(SELECTED),
+    // nor while it is not Ready
+    Step::Mux(false, 0),
+    Step::Mux(true, 1),
+    Step::Is(Fact::MuxIn(MuxState::Attached)),
+    Step::Select(STANDBY),
+    // by way of DETACHED
+    Step::Asks(true, true),
+    Step::Select(Choice::Unselected),
+    Step::Mux(true, 1),
+    Step::Is(Fact::MuxIn(MuxState::Detached)),
+];
 
 /// The information six times, each time with another one of its six parameters changed.
 fn with_one_changed(end: Info) -> [Info; 6] {
@@ -648,18 +577,6 @@ fn with_one_changed(end: Info) -> [Info; 6] {
     ends
 }
 
-#[test]
-fn each_parameter_of_the_port_is_compared(rt: HostRuntime) {
-    for told in &with_one_changed(end(1, 0x07)) {
-        let steps = [
-            Step::Told(0x0d, *told),
-            Step::Is(Fact::Ntt(true)),
-            Step::Is(Fact::PartnerState(0x05)),
-        ];
-        walk(&rt, quiet_port(true, true), &steps);
-    }
-}
-
 /// A SELECTED port stays so while its partner says the same of itself, and becomes UNSELECTED when it says this.
 fn notices(rt: &impl Abort, actor: Info) {
     let steps = [
@@ -670,28 +587,95 @@ fn notices(rt: &impl Abort, actor: Info) {
         Step::Is(Fact::Chosen(Choice::Unselected)),
         Step::Is(Fact::Partner(actor)),
     ];
-    walk(rt, hearing_port(0x07), &steps);
+    walk(rt, "notices", hearing_port(0x07), &steps);
 }
 
 #[test]
-fn each_parameter_of_the_partner_is_compared(rt: HostRuntime) {
+fn each_parameter_of_both_ends_is_compared(rt: HostRuntime) {
+    for told in &with_one_changed(end(1, 0x07)) {
+        let steps = [
+            Step::Told(0x0d, *told),
+            Step::Is(Fact::Ntt(true)),
+            Step::Is(Fact::PartnerState(0x05)),
+        ];
+        walk(
+            &rt,
+            "each parameter of the port is compared",
+            quiet_port(true, true),
+            &steps,
+        );
+    }
     for actor in &with_one_changed(end(2, 0x07)) {
         notices(&rt, *actor);
     }
 }
 
 #[test]
-fn what_is_asked_stays_asked(rt: HostRuntime) {
+fn timers_count_and_what_is_asked_stays_asked(rt: HostRuntime) {
+    let steps = [
+        Step::Select(SELECTED),
+        Step::Mux(false, 1),
+        Step::Is(Fact::CurrentWhile(30)),
+        Step::Is(Fact::PeriodicTimer(10)),
+        Step::Is(Fact::WaitWhile(20)),
+        // the link is up as before
+        Step::Link(true),
+        Step::Is(Fact::CurrentWhile(30)),
+        Step::Is(Fact::PeriodicTimer(10)),
+        Step::Is(Fact::WaitWhile(20)),
+        Step::Tick,
+        Step::Is(Fact::CurrentWhile(29)),
+        Step::Is(Fact::PeriodicTimer(9)),
+        Step::Is(Fact::WaitWhile(19)),
+        // on defaults
+        Step::Run(29),
+        Step::Is(Fact::CurrentWhile(0)),
+        Step::Is(Fact::PeriodicTimer(300)),
+        Step::Is(Fact::WaitWhile(0)),
+        Step::Is(Fact::Partner(zero(0x08))),
+    ];
+    walk(
+        &rt,
+        "each timer counts by itself",
+        quiet_port(true, true),
+        &steps,
+    );
     let steps = [
         Step::Told(0x07, end(1, 0x06)),
         Step::Told(0x07, end(1, 0x07)),
         Step::Is(Fact::Ntt(true)),
     ];
-    walk(&rt, quiet_port(true, true), &steps);
+    walk(
+        &rt,
+        "what is asked stays asked",
+        quiet_port(true, true),
+        &steps,
+    );
 }
 
 #[test]
-fn a_start_while_the_link_is_down(rt: HostRuntime) {
+fn mux_rows_ask_and_a_start_while_the_link_is_down(rt: HostRuntime) {
+    let steps = [
+        Step::Told(0x05, end(1, 0x07)),
+        Step::Select(SELECTED),
+        // to WAITING
+        Step::Asks(false, false),
+        Step::Select(Choice::Unselected),
+        // from WAITING to DETACHED
+        Step::Asks(false, true),
+        Step::Select(SELECTED),
+        // to ATTACHED
+        Step::Asks(true, true),
+        Step::Select(Choice::Unselected),
+        // from ATTACHED to DETACHED
+        Step::Asks(false, true),
+    ];
+    walk(
+        &rt,
+        "each mux row but the first asks",
+        quiet_port(true, true),
+        &steps,
+    );
     let mut other = party(8);
     other.port.priority = 9;
     other.aggregatable = false;
@@ -707,7 +691,12 @@ fn a_start_while_the_link_is_down(rt: HostRuntime) {
         Step::Is(Fact::Partner(zero(0))),
         Step::Is(Fact::PeriodicTimer(10)),
     ];
-    walk(&rt, hearing_port(0x0d), &steps);
+    walk(
+        &rt,
+        "a start while the link is down",
+        hearing_port(0x0d),
+        &steps,
+    );
 }
 
 /// A port hears this Actor_State, and this many ticks later it is SELECTED and its link goes down; then the partner has
@@ -726,7 +715,7 @@ fn goes_down(rt: &impl Abort, actor: u8, ticks: u16, recorded: u8) {
         // its mux machine goes on, to ATTACHED
         Step::Mux(true, 2),
     ];
-    walk(rt, hearing_port(actor), &steps);
+    walk(rt, "goes down", hearing_port(actor), &steps);
 }
 
 #[test]
@@ -737,17 +726,29 @@ fn a_link_that_goes_down(rt: HostRuntime) {
     goes_down(&rt, 0x0f, 60, 0x00);
 }
 
+const AGES: [Step; 6] = [
+    Step::Take(0x07),
+    Step::Sends(Some(0x07)),
+    Step::Run(3),
+    Step::Take(0x07),
+    Step::Sends(Some(0x07)),
+    Step::Is(Fact::Ages(2, Some(3), Some(0))),
+];
+
 #[test]
-fn ages_stand_in_their_order(rt: HostRuntime) {
-    const STEPS: [Step; 6] = [
-        Step::Take(0x07),
-        Step::Sends(Some(0x07)),
-        Step::Run(3),
-        Step::Take(0x07),
-        Step::Sends(Some(0x07)),
-        Step::Is(Fact::Ages(2, Some(3), Some(0))),
+fn ports_walk_through_their_states(rt: HostRuntime) {
+    let cases: [(&str, Port, &[Step]); 7] = [
+        ("alone", port(true, true), &ALONE),
+        ("passive", port(false, true), &PASSIVE),
+        ("long timeouts", port(true, false), &LONG),
+        ("a full window", port(true, true), &FULL),
+        ("attached", port(true, true), &ATTACHED),
+        ("promoted", hearing_port(0x07), &PROMOTED),
+        ("ages", quiet_port(true, true), &AGES),
     ];
-    walk(&rt, quiet_port(true, true), &STEPS);
+    for (case, port, steps) in cases {
+        walk(&rt, case, port, steps);
+    }
 }
 
 /// Eleven ticks that begin with tick 0 end with tick 10.
@@ -759,6 +760,8 @@ fn values_of_the_window()
 {}
 
 #[test]
-fn eleven_ticks_are_counted(_rt: HostRuntime) {
+fn the_laws_are_called_and_eleven_ticks_counted(_rt: HostRuntime) {
+    window_holds();
+    each_call_has_one_effect();
     values_of_the_window();
 }

@@ -169,88 +169,6 @@ fn chooses_with(
     Ok(())
 }
 
-/// The highest number of an aggregator is 65535.
-#[test]
-fn keys_beyond_the_last_number_are_left_out(rt: HostRuntime) -> Result<(), NoMemory> {
-    chooses_with(&rt, rt.alloc(), 65_534, Some(AggId(65_535)))?;
-    chooses_with(&rt, rt.alloc(), 65_535, None)
-}
-
-#[test]
-fn tells_which_port_is_eligible(rt: HostRuntime) {
-    let eligible = view(1, B);
-    let with = |stage: Stage, choice: Choice| PortView {
-        stage,
-        choice,
-        ..eligible
-    };
-    let down = PortView {
-        enabled: false,
-        ..eligible
-    };
-    let unsettled = PortView {
-        settled: false,
-        ..eligible
-    };
-    let mut other_priority = view(1, A);
-    other_priority.partner.system.priority = 1;
-    let rows = [
-        (eligible, true),
-        (down, false),
-        (unsettled, false),
-        (
-            with(Stage::Waiting { expired: true }, Choice::Unselected),
-            false,
-        ),
-        (with(Stage::Joined, Choice::Unselected), false),
-        (with(Stage::Detached, selected(1)), false),
-        (with(Stage::Detached, standby(1)), false),
-        (view(1, A), false),
-        (other_priority, true),
-    ];
-    for (place, (view, want)) in rows.iter().enumerate() {
-        same_in_row(&rt, place, &view.is_eligible(), want);
-    }
-}
-
-#[test]
-fn tells_which_port_has_waited(rt: HostRuntime) {
-    let rows = [
-        (Stage::Detached, false),
-        (Stage::Waiting { expired: false }, false),
-        (Stage::Waiting { expired: true }, true),
-        (Stage::Joined, false),
-    ];
-    for (place, (stage, want)) in rows.iter().enumerate() {
-        let mut view = view(1, B);
-        view.stage = *stage;
-        same_in_row(&rt, place, &view.has_waited(), want);
-    }
-}
-
-#[test]
-fn is_ready_where_all_that_wait_have_waited(rt: HostRuntime) -> Result<(), NoMemory> {
-    let aggregators = aggregators(rt.alloc())?;
-    let waited = Stage::Waiting { expired: true };
-    let waits = Stage::Waiting { expired: false };
-    let rows = [
-        (members(1, waited, waited), 1, true),
-        (members(1, waited, waits), 1, false),
-        (members(1, waited, Stage::Detached), 1, false),
-        (members(1, Stage::Joined, waited), 1, true),
-        (members(1, Stage::Joined, Stage::Joined), 1, false),
-        (members(1, waited, waited), 2, false),
-        (members(0, waited, waited), 0, false),
-        (members(4, waited, waited), 4, false),
-        (members(3, waited, waited), 3, true),
-    ];
-    for (place, (views, agg, want)) in rows.iter().enumerate() {
-        let ready = aggregators.ready(views, AggId(*agg));
-        same_in_row(&rt, place, &ready, want);
-    }
-    Ok(())
-}
-
 fn standby(agg: u16) -> Choice {
     Choice::Standby(AggId(agg))
 }
@@ -326,7 +244,10 @@ fn tells_room_and_the_next_standby_port(rt: HostRuntime) -> Result<(), NoMemory>
 }
 
 #[test]
-fn new_makes_aggregators_without_a_limit(rt: HostRuntime) -> Result<(), NoMemory> {
+fn aggregators_have_numbers_and_no_limit_at_first(rt: HostRuntime) -> Result<(), NoMemory> {
+    // The highest number of an aggregator is 65535.
+    chooses_with(&rt, rt.alloc(), 65_534, Some(AggId(65_535)))?;
+    chooses_with(&rt, rt.alloc(), 65_535, None)?;
     let aggregators = aggregators(rt.alloc())?;
     same(&rt, "max_links", &aggregators.max_links(), &None);
     same(&rt, "count", &aggregators.count(), &3);
@@ -365,8 +286,14 @@ fn a_standby_port_occupies_its_aggregator(rt: HostRuntime) -> Result<(), NoMemor
 }
 
 #[test]
-fn a_standby_port_is_no_member(rt: HostRuntime) -> Result<(), NoMemory> {
+fn members_are_listed_without_standby_ports(rt: HostRuntime) -> Result<(), NoMemory> {
     let aggregators = aggregators(rt.alloc())?;
+    lists(&rt, &aggregators, 1, 1, &[5, 9]);
+    lists(&rt, &aggregators, 2, 2, &[5, 9]);
+    lists(&rt, &aggregators, 1, 2, &[]);
+    lists(&rt, &aggregators, 0, 0, &[]);
+    lists(&rt, &aggregators, 4, 4, &[]);
+    lists(&rt, &aggregators, 3, 3, &[5, 9]);
     let views = member_and_standby();
     assert!(rt; are_views(&views));
     let found = aggregators.members(&views, AggId(1));
@@ -376,10 +303,65 @@ fn a_standby_port_is_no_member(rt: HostRuntime) -> Result<(), NoMemory> {
 }
 
 #[test]
-fn ready_looks_at_no_standby_port(rt: HostRuntime) -> Result<(), NoMemory> {
+fn tells_which_port_is_eligible(rt: HostRuntime) {
+    let eligible = view(1, B);
+    let with = |stage: Stage, choice: Choice| PortView {
+        stage,
+        choice,
+        ..eligible
+    };
+    let down = PortView {
+        enabled: false,
+        ..eligible
+    };
+    let unsettled = PortView {
+        settled: false,
+        ..eligible
+    };
+    let mut other_priority = view(1, A);
+    other_priority.partner.system.priority = 1;
+    let rows = [
+        (eligible, true),
+        (down, false),
+        (unsettled, false),
+        (
+            with(Stage::Waiting { expired: true }, Choice::Unselected),
+            false,
+        ),
+        (with(Stage::Joined, Choice::Unselected), false),
+        (with(Stage::Detached, selected(1)), false),
+        (with(Stage::Detached, standby(1)), false),
+        (view(1, A), false),
+        (other_priority, true),
+    ];
+    for (place, (view, want)) in rows.iter().enumerate() {
+        same_in_row(&rt, place, &view.is_eligible(), want);
+    }
+}
+
+#[test]
+fn is_ready_where_all_members_that_wait_have_waited(rt: HostRuntime) -> Result<(), NoMemory> {
     let aggregators = aggregators(rt.alloc())?;
     let waited = Stage::Waiting { expired: true };
-    let mut views = members(1, waited, Stage::Waiting { expired: false });
+    let waits = Stage::Waiting { expired: false };
+    let rows = [
+        (members(1, waited, waited), 1, true),
+        (members(1, waited, waits), 1, false),
+        (members(1, waited, Stage::Detached), 1, false),
+        (members(1, Stage::Joined, waited), 1, true),
+        (members(1, Stage::Joined, Stage::Joined), 1, false),
+        (members(1, waited, waited), 2, false),
+        (members(0, waited, waited), 0, false),
+        (members(4, waited, waited), 4, false),
+        (members(3, waited, waited), 3, true),
+    ];
+    for (place, (views, agg, want)) in rows.iter().enumerate() {
+        let ready = aggregators.ready(views, AggId(*agg));
+        same_in_row(&rt, place, &ready, want);
+    }
+    let mut views = members(1, waited, waits);
+    same(&rt, "has waited", &views[0].has_waited(), &true);
+    same(&rt, "waits", &views[1].has_waited(), &false);
     let as_member = aggregators.ready(&views, AggId(1));
     same(&rt, "as a member", &as_member, &false);
     views[1].choice = standby(1);
@@ -400,42 +382,4 @@ fn lists(rt: &impl Abort, aggregators: &Aggregators, given: u16, asked: u16, wan
     assert!(rt; are_views(&views));
     let found = aggregators.members(&views, AggId(asked));
     same(rt, "members", &found.as_slice(), &want);
-}
-
-#[test]
-fn lists_members(rt: HostRuntime) -> Result<(), NoMemory> {
-    let aggregators = aggregators(rt.alloc())?;
-    lists(&rt, &aggregators, 1, 1, &[5, 9]);
-    lists(&rt, &aggregators, 2, 2, &[5, 9]);
-    lists(&rt, &aggregators, 1, 2, &[]);
-    lists(&rt, &aggregators, 0, 0, &[]);
-    lists(&rt, &aggregators, 4, 4, &[]);
-    lists(&rt, &aggregators, 3, 3, &[5, 9]);
-    Ok(())
-}
-
-/// Views of ports 1, 2 and so on.
-fn ascending<const N: usize>() -> [PortView; N] {
-    let mut views = [view(0, B); N];
-    let mut number: u16 = 0;
-    for view in views.iter_mut() {
-        number = number.wrapping_add(1);
-        view.number = number;
-    }
-    views
-}
-
-#[test]
-fn tells_what_can_be_views(rt: HostRuntime) {
-    let rows: [(&[PortView], bool); 6] = [
-        (&[], true),
-        (&ascending::<64>(), true),
-        (&ascending::<65>(), false),
-        (&[view(1, B), view(2, C)], true),
-        (&[view(2, B), view(2, C)], false),
-        (&[view(2, B), view(1, C)], false),
-    ];
-    for (place, (views, want)) in rows.iter().enumerate() {
-        same_in_row(&rt, place, &are_views(*views), want);
-    }
 }

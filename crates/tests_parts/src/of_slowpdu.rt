@@ -164,8 +164,31 @@ fn changed<const N: usize>(octets: [u8; N], changes: &[(usize, u8)]) -> [u8; N] 
     all
 }
 
+/// This many of the first octets are refused as too few.
+fn is_short(rt: &impl Abort, payload: &[u8], have: usize) {
+    let short = WireFault::Short { have };
+    same(rt, "decode", &decode(first(payload, have)), &Err(short));
+    same(rt, "number", &short.number(), &1);
+}
+
 #[test]
-fn payloads_are_refused_for_the_first_cause(rt: HostRuntime) {
+fn payloads_are_short_whatever_stands_there(rt: HostRuntime) {
+    is_short(&rt, &lacpdu_payload(), 0);
+    is_short(&rt, &lacpdu_payload(), 109);
+    let mut bad_length = lacpdu_payload();
+    put_octets(&mut bad_length, 3, &[19]);
+    is_short(&rt, &[3; 110], 109);
+    is_short(&rt, &bad_length, 109);
+}
+
+/// What refusals print.
+const REFUSALS: &str = "fewer than 110 octets: 109
+octet 0 names neither LACP (1) nor the Marker protocol (2): 3
+the length field at 43 is wrong: 15
+octet 2 of a Marker PDU is neither 1 nor 2: 255";
+
+#[test]
+fn payloads_are_refused_for_the_first_cause_and_say_it(rt: HostRuntime) -> Result<(), AllocError> {
     let lacpdu = lacpdu_payload();
     let marker = marker_payload();
     let bad_length = |at, found| WireFault::BadLength { at, found };
@@ -182,62 +205,16 @@ fn payloads_are_refused_for_the_first_cause(rt: HostRuntime) {
         same_in_row(&rt, place, &answer, &Err(*fault));
         same_in_row(&rt, place, &fault.number(), number);
     }
-}
-
-/// This many of the first octets are refused as too few.
-fn is_short(rt: &impl Abort, payload: &[u8], have: usize) {
-    let short = WireFault::Short { have };
-    same(rt, "decode", &decode(first(payload, have)), &Err(short));
-    same(rt, "number", &short.number(), &1);
-}
-
-#[test]
-fn payloads_of_fewer_octets_are_short(rt: HostRuntime) {
-    is_short(&rt, &lacpdu_payload(), 0);
-    is_short(&rt, &lacpdu_payload(), 109);
-}
-
-#[test]
-fn a_short_payload_is_short_whatever_stands_there(rt: HostRuntime) {
-    let mut bad_length = lacpdu_payload();
-    put_octets(&mut bad_length, 3, &[19]);
-    is_short(&rt, &[3; 110], 109);
-    is_short(&rt, &bad_length, 109);
-}
-
-/// Refusals, and what they print.
-const REFUSALS: [(WireFault, &str); 4] = [
-    (WireFault::Short { have: 109 }, "fewer than 110 octets: 109"),
-    (
+    let faults = [
+        WireFault::Short { have: 109 },
         WireFault::OtherSubtype(3),
-        "octet 0 names neither LACP (1) nor the Marker protocol (2): 3",
-    ),
-    (
         WireFault::BadLength { at: 43, found: 15 },
-        "the length field at 43 is wrong: 15",
-    ),
-    (
         WireFault::MarkerTlv(255),
-        "octet 2 of a Marker PDU is neither 1 nor 2: 255",
-    ),
-];
-
-#[test]
-fn refusals_say_what_stands_there(rt: HostRuntime) -> Result<(), AllocError> {
-    for (fault, text) in &REFUSALS {
-        prints(&rt, rt.alloc(), fault, *text)?;
+    ];
+    for (fault, text) in faults.iter().zip(REFUSALS.lines()) {
+        prints(&rt, rt.alloc(), fault, text)?;
     }
     Ok(())
-}
-
-#[test]
-fn pdus_are_written_as_they_are_read(rt: HostRuntime) {
-    same(&rt, "the LACPDU", &lacpdu().encode(), &lacpdu_payload());
-    same(&rt, "the marker", &marker().encode(), &marker_payload());
-    let read = Pdu::Lacpdu(lacpdu());
-    same(&rt, "read back", &encode_then_decode(&read), &Ok(read));
-    let read = Pdu::Marker(marker());
-    same(&rt, "read back", &encode_then_decode(&read), &Ok(read));
 }
 
 #[test]
@@ -265,7 +242,13 @@ fn parties_are_what_an_end_names(rt: HostRuntime) {
 }
 
 #[test]
-fn markers_are_answered_once(rt: HostRuntime) {
+fn pdus_are_written_as_read_and_markers_answered_once(rt: HostRuntime) {
+    same(&rt, "the LACPDU", &lacpdu().encode(), &lacpdu_payload());
+    same(&rt, "the marker", &marker().encode(), &marker_payload());
+    let read = Pdu::Lacpdu(lacpdu());
+    same(&rt, "read back", &encode_then_decode(&read), &Ok(read));
+    let read = Pdu::Marker(marker());
+    same(&rt, "read back", &encode_then_decode(&read), &Ok(read));
     let response = Marker {
         kind: MarkerKind::Response,
         ..marker()
@@ -331,8 +314,13 @@ fn each_field(first: u8) -> Info {
     }
 }
 
+/// A response in which no two fields are equal.
+const EACH_FIELD_OF_A_MARKER: [u8; 16] = [
+    2, 1, 2, 16, 0x40, 0x41, 0x42, 0x43, 0x44, 0x45, 0x46, 0x47, 0x48, 0x49, 0x4a, 0x4b,
+];
+
 #[test]
-fn each_field_has_its_place(rt: HostRuntime) {
+fn each_field_of_both_pdus_has_its_place(rt: HostRuntime) {
     let mut payload = [0; 110];
     put_octets(&mut payload, 0, &EACH_FIELD);
     let said = Lacpdu {
@@ -342,15 +330,6 @@ fn each_field_has_its_place(rt: HostRuntime) {
     };
     same(&rt, "decode", &decode(&payload), &Ok(Pdu::Lacpdu(said)));
     same(&rt, "encode", &said.encode(), &payload);
-}
-
-/// A response in which no two fields are equal.
-const EACH_FIELD_OF_A_MARKER: [u8; 16] = [
-    2, 1, 2, 16, 0x40, 0x41, 0x42, 0x43, 0x44, 0x45, 0x46, 0x47, 0x48, 0x49, 0x4a, 0x4b,
-];
-
-#[test]
-fn each_field_of_a_marker_has_its_place(rt: HostRuntime) {
     let mut payload = [0; 110];
     put_octets(&mut payload, 0, &EACH_FIELD_OF_A_MARKER);
     let said = Marker {

@@ -12,16 +12,8 @@ use std::test::Fail;
 /// All ports are active.
 const ACTIVE: &str = r#"
 system = [
-    { mac = "02-00-00-00-00-01", aggregators = [7, 9, 7], port = [
-        { number = 11, key = 7, short = false },
-        { number = 12, key = 9, short = false },
-        { number = 13, key = 7, short = false },
-    ] },
-    { mac = "02-00-00-00-00-02", aggregators = [6, 5, 5], port = [
-        { number = 21, key = 5, short = true },
-        { number = 22, key = 6, short = true },
-        { number = 23, key = 5, short = true },
-    ] },
+    { mac = "02-00-00-00-00-01", aggregators = [7, 9, 7], port = [{ number = 11, key = 7, short = false }, { number = 12, key = 9, short = false }, { number = 13, key = 7, short = false }] },
+    { mac = "02-00-00-00-00-02", aggregators = [6, 5, 5], port = [{ number = 21, key = 5, short = true }, { number = 22, key = 6, short = true }, { number = 23, key = 5, short = true }] },
 ]
 cable = [{ ends = [11, 23] }, { ends = [12, 22] }, { ends = [13, 21] }]
 "#;
@@ -29,16 +21,8 @@ cable = [{ ends = [11, 23] }, { ends = [12, 22] }, { ends = [13, 21] }]
 /// One end of each cable is passive.
 const HALF_PASSIVE: &str = r#"
 system = [
-    { mac = "02-00-00-00-00-01", aggregators = [7, 9, 7], port = [
-        { number = 11, key = 7, short = false },
-        { number = 12, key = 9, active = false, short = false },
-        { number = 13, key = 7, active = false, short = false },
-    ] },
-    { mac = "02-00-00-00-00-02", aggregators = [6, 5, 5], port = [
-        { number = 21, key = 5, short = true },
-        { number = 22, key = 6, short = true },
-        { number = 23, key = 5, active = false, short = true },
-    ] },
+    { mac = "02-00-00-00-00-01", aggregators = [7, 9, 7], port = [{ number = 11, key = 7, short = false }, { number = 12, key = 9, active = false, short = false }, { number = 13, key = 7, active = false, short = false }] },
+    { mac = "02-00-00-00-00-02", aggregators = [6, 5, 5], port = [{ number = 21, key = 5, short = true }, { number = 22, key = 6, short = true }, { number = 23, key = 5, active = false, short = true }] },
 ]
 cable = [{ ends = [11, 23] }, { ends = [12, 22] }, { ends = [13, 21] }]
 "#;

@@ -6,13 +6,8 @@ use std::alloc::Global;
 use std::process::Abort;
 use std::test::Fail;
 
-/// Events of one cable, of which those of `first` are played before those of `rest`.
-#[derive(Clone, Copy)]
-struct Row {
-    setting: Setting,
-    first: EventLines,
-    rest: EventLines,
-}
+/// The tables of a script, and the events of its cable, of which the first are played before the rest.
+type Row = (Setting, EventLines, EventLines);
 
 /// One cable comes up between ports with Short Timeout (6.4.13, 6.4.15).
 const ONE_CABLE: &str = "sense 1 1 => Sensed(true)
@@ -38,43 +33,44 @@ deliver 1 2 => Took
 ";
 
 /// Both links are up, and nothing was sent.
-const STARTED_ROW: Row = Row {
-    setting: ONE_LONG,
-    first: "sense 1 1 => Sensed(true)
+const STARTED_ROW: Row = (
+    ONE_LONG,
+    "sense 1 1 => Sensed(true)
 sense 1 2 => Sensed(true)
 ",
-    rest: "",
-};
+    "",
+);
 
 /// Both ends run on defaults, and an LACPDU is on the cable.
-const ON_DEFAULTS_ROW: Row = Row {
-    setting: ONE_SHORT,
-    first: "sense 1 1 => Sensed(true)
+const ON_DEFAULTS_ROW: Row = (
+    ONE_SHORT,
+    "sense 1 1 => Sensed(true)
 sense 1 2 => Sensed(true)
 tick 1 60 => Ticked
 tick 2 60 => Ticked
 emit 1 1 => lacpdu 7f
 ",
-    rest: "",
-};
+    "",
+);
 
 /// The cable is cut and joined again. System 1 alone learns both.
-const MENDED_ROW: Row = Row {
-    setting: ONE_SHORT,
-    first: ONE_CABLE,
-    rest: "cut 1 => Cut
+const MENDED_ROW: Row = (
+    ONE_SHORT,
+    ONE_CABLE,
+    "cut 1 => Cut
 sense 1 1 => Sensed(false)
 join 1 => Joined
 sense 1 1 => Sensed(true)
 ",
-};
+);
 
 /// Plays a row and this many healthy rounds. Then the cable agrees, and both ends distribute. The number is no constant here: the
 /// prover would unfold each of these rounds.
-fn comes_up(rt: &impl Abort, alloc: Global, row: &Row, rounds: u16) -> Result<(), WorldFault> {
-    let mut world = world_of(rt, alloc, row.setting, modulo, modulo)?;
-    plays_lines(rt, alloc, &mut world, row.setting, row.first)?;
-    plays_lines(rt, alloc, &mut world, row.setting, row.rest)?;
+fn comes_up(rt: &impl Abort, alloc: Global, row: Row, rounds: u16) -> Result<(), WorldFault> {
+    let (setting, first, rest) = row;
+    let mut world = world_of(rt, alloc, setting, modulo, modulo)?;
+    plays_lines(rt, alloc, &mut world, setting, first)?;
+    plays_lines(rt, alloc, &mut world, setting, rest)?;
     plays_rounds(rt, &mut world, rounds);
     agree(rt, &world, 1);
     for number in [1, 2] {
@@ -90,15 +86,15 @@ fn comes_up(rt: &impl Abort, alloc: Global, row: &Row, rounds: u16) -> Result<()
 
 #[test]
 fn a_link_comes_up_in_356_healthy_rounds(rt: HostRuntime) -> Result<(), Fail> {
-    comes_up(&rt, rt.alloc(), &STARTED_ROW, 356)?;
-    comes_up(&rt, rt.alloc(), &ON_DEFAULTS_ROW, 356)?;
-    comes_up(&rt, rt.alloc(), &MENDED_ROW, 356)?;
+    comes_up(&rt, rt.alloc(), STARTED_ROW, 356)?;
+    comes_up(&rt, rt.alloc(), ON_DEFAULTS_ROW, 356)?;
+    comes_up(&rt, rt.alloc(), MENDED_ROW, 356)?;
     Ok(())
 }
 
 #[test]
 fn a_link_stays_up_in_more_healthy_rounds(rt: HostRuntime) -> Result<(), Fail> {
-    comes_up(&rt, rt.alloc(), &STARTED_ROW, 353)?;
-    comes_up(&rt, rt.alloc(), &MENDED_ROW, 662)?;
+    comes_up(&rt, rt.alloc(), STARTED_ROW, 353)?;
+    comes_up(&rt, rt.alloc(), MENDED_ROW, 662)?;
     Ok(())
 }

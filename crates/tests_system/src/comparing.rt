@@ -22,3 +22,16 @@ pub(crate) fn same_at<T: Debug + PartialEq>(
 pub(crate) fn same_in_row<T: Debug + PartialEq>(rt: &impl Abort, row: usize, came: &T, wanted: &T) {
     assert_eq!(rt; *came, *wanted, "row {row}");
 }
+
+/// The case of a row, and the row's number there.
+pub(crate) type Place<'a> = (&'a str, usize);
+
+/// Fails unless the value of a row of a case is the expected one.
+pub(crate) fn same_in_case<T: Debug + PartialEq>(
+    rt: &impl Abort,
+    (case, row): Place<'_>,
+    came: &T,
+    wanted: &T,
+) {
+    assert_eq!(rt; *came, *wanted, "{case}: row {row}");
+}

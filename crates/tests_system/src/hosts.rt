@@ -2,12 +2,9 @@
 mod adopting;
 mod answering;
 mod balance;
-mod carrying;
+mod calls;
 mod holding;
-mod leaving;
 mod observing;
-mod offering;
 mod playing;
-mod probing;
 mod resuming;
 mod telling;

@@ -50,13 +50,13 @@ const PORT_1_OF_2: Frame = Frame {
     fault: "system 2 port 1",
 };
 
-pub(crate) const CABLE_1: Frame = Frame {
+const CABLE_1: Frame = Frame {
     before: "cable = [{",
     behind: "}]\nsystem = [{mac = \"02-00-00-00-00-01\", aggregators = [1], port = [{number = 1, key = 1}]}, {mac = \"02-00-00-00-00-02\", aggregators = [1], port = [{number = 65535, key = 1}]}]",
     fault: "cable 1",
 };
 
-pub(crate) const CABLE_2: Frame = Frame {
+const CABLE_2: Frame = Frame {
     before: "cable = [{ends = [1, 65535]}, {",
     behind: "}]\nsystem = [{mac = \"02-00-00-00-00-01\", aggregators = [1], port = [{number = 1, key = 1}, {number = 2, key = 1}]}, {mac = \"02-00-00-00-00-02\", aggregators = [1], port = [{number = 1, key = 1}, {number = 65535, key = 1}]}]",
     fault: "cable 2",
@@ -74,11 +74,29 @@ const ENTRY_2: Frame = Frame {
     fault: "event 2",
 };
 
+/// Two systems without a fault, after the text of a row.
+pub(crate) const SYSTEMS: Frame = Frame {
+    before: "",
+    behind: "\nsystem = [{mac = \"02-00-00-00-00-01\", aggregators = [1], port = [{number = 1, key = 1}]}, {mac = \"02-00-00-00-00-02\", aggregators = [1], port = [{number = 1, key = 1}]}]",
+    fault: "",
+};
+
+/// Two systems with the same identifier, after the text of a row.
+const EQUAL_SYSTEMS: Frame = Frame {
+    before: "",
+    behind: "\nsystem = [{mac = \"02-00-00-00-00-01\", aggregators = [1], port = [{number = 1, key = 1}]}, {mac = \"02-00-00-00-00-01\", aggregators = [1], port = [{number = 2, key = 2}]}]",
+    fault: "",
+};
+
 /// The first keys of a system, before those of a row.
 pub(crate) const MAC: &str = "mac = \"02-00-00-00-00-0f\", ";
 
 /// The first keys of a system, and its aggregators.
-pub(crate) const AGGREGATORS: &str = "mac = \"02-00-00-00-00-0f\", aggregators = [1], ";
+const AGGREGATORS: &str = "mac = \"02-00-00-00-00-0f\", aggregators = [1], ";
+
+/// The same, and its ports.
+const WITH_PORT: &str =
+    "mac = \"02-00-00-00-00-0f\", aggregators = [1], port = [{number = 1, key = 1}], ";
 
 /// The outcome of reading a text: `read`, or the text of the fault.
 pub(crate) fn outcome(alloc: Global, text: &str) -> Result<String, AllocError> {
@@ -120,7 +138,7 @@ pub(crate) fn parts(line: &str) -> (&str, &str) {
 }
 
 /// Each line, a text and its outcome with an arrow between them, is so.
-pub(crate) fn have_outcomes(
+fn have_outcomes(
     rt: &impl Abort,
     alloc: Global,
     frame: &Frame,
@@ -131,33 +149,6 @@ pub(crate) fn have_outcomes(
         has_outcome(rt, alloc, frame, given, parts(line))?;
     }
     Ok(())
-}
-
-/// Each line is so for either system.
-fn have_outcomes_in_systems(
-    rt: &impl Abort,
-    alloc: Global,
-    given: &str,
-    lines: &str,
-) -> Result<(), AllocError> {
-    have_outcomes(rt, alloc, &SYSTEM_1, given, lines)?;
-    have_outcomes(rt, alloc, &SYSTEM_2, given, lines)
-}
-
-/// Each line is so for either cable.
-pub(crate) fn have_outcomes_in_cables(
-    rt: &impl Abort,
-    alloc: Global,
-    lines: &str,
-) -> Result<(), AllocError> {
-    have_outcomes(rt, alloc, &CABLE_1, "", lines)?;
-    have_outcomes(rt, alloc, &CABLE_2, "", lines)
-}
-
-/// Each line is so for either entry.
-fn have_outcomes_in_entries(rt: &impl Abort, alloc: Global, lines: &str) -> Result<(), AllocError> {
-    have_outcomes(rt, alloc, &ENTRY_1, "", lines)?;
-    have_outcomes(rt, alloc, &ENTRY_2, "", lines)
 }
 
 /// Texts of whole scripts.
@@ -177,11 +168,6 @@ system = [1, {}] => system
 cable = 1;events = 1 => system
 cable = 1;system = [{}, {}] => system 1: mac
 system = [{a = 1}, {a = 1}] => system 1: extra key"#;
-
-#[test]
-fn tops_are_refused(rt: HostRuntime) -> Result<(), AllocError> {
-    have_outcomes(&rt, rt.alloc(), &TOP, "", TOPS)
-}
 
 /// The first keys of a system.
 const FIRST_KEYS: &str = r#" => : mac
@@ -207,11 +193,6 @@ mac = "02-00-00-00-00-0g" => : mac
 mac = "02-00-00-00-00-+1" => : mac
 mac = " 02-00-00-00-00-01" => : mac
 max_delay = 65536 => : mac"#;
-
-#[test]
-fn systems_are_refused(rt: HostRuntime) -> Result<(), AllocError> {
-    have_outcomes_in_systems(&rt, rt.alloc(), "", FIRST_KEYS)
-}
 
 /// The keys after the MAC address of a system.
 const LATER_KEYS: &str = r#"max_delay = -1 => : max_delay
@@ -241,11 +222,6 @@ aggregators = [1], port = [{number = 0, key = 1}] => : port number 1
 aggregators = [1], port = [{number = 7, key = 1}, {number = 7, key = 1}] => : port number 2
 aggregators = [1], port = [{number = 7, key = 1}, {number = 8, key = 1}, {number = 1, key = 1}] => : port number 3"#;
 
-#[test]
-fn later_keys_of_systems_are_refused(rt: HostRuntime) -> Result<(), AllocError> {
-    have_outcomes_in_systems(&rt, rt.alloc(), MAC, LATER_KEYS)
-}
-
 /// Limits of links and counts of conversations whose kind is wrong.
 const LINKS_AND_COUNTS: &str = r#"max_links = -1 => : max_links
 max_links = 65536 => : max_links
@@ -266,14 +242,6 @@ max-links = 1 => : extra key
 conversation = 256 => : extra key
 Conversations = 256 => : extra key"#;
 
-/// The keys between the aggregators and the ports of a system.
-#[test]
-fn limits_of_links_and_counts_of_conversations_are_refused(
-    rt: HostRuntime,
-) -> Result<(), AllocError> {
-    have_outcomes_in_systems(&rt, rt.alloc(), AGGREGATORS, LINKS_AND_COUNTS)
-}
-
 /// Limits of links and counts of conversations that are numbers.
 const OTHER_LINKS_AND_COUNTS: &str = r#"max_links = 0 => : max links
 max_links = 65 => : max links
@@ -287,13 +255,6 @@ max_links = 64, conversations = 4097 => : conversation count
 conversations = 65535 => : conversation count
 max_links = 1, conversations = 4096 => read
 conversations = 256, max_links = 64 => read"#;
-
-#[test]
-fn other_limits_of_links_and_counts_are_refused(rt: HostRuntime) -> Result<(), AllocError> {
-    let alloc = rt.alloc();
-    let given = format!(in alloc; "{AGGREGATORS}port = [{{number = 1, key = 1}}], ")?;
-    have_outcomes_in_systems(&rt, alloc, given.as_str(), OTHER_LINKS_AND_COUNTS)
-}
 
 /// The keys of a port.
 const PORTS: &str = r#"a = 1 => : extra key
@@ -313,14 +274,6 @@ number = 2, key = {}, aggregatable = 1 => : key
 number = 2, key = 1, aggregatable = 1, active = 1 => : aggregatable
 number = 2, key = 1, active = "true", short = 1 => : active
 number = 2, key = 1, short = 0 => : short"#;
-
-#[test]
-fn ports_are_refused(rt: HostRuntime) -> Result<(), AllocError> {
-    let alloc = rt.alloc();
-    have_outcomes(&rt, alloc, &PORT_1_OF_1, "", PORTS)?;
-    have_outcomes(&rt, alloc, &PORT_2_OF_1, "", PORTS)?;
-    have_outcomes(&rt, alloc, &PORT_1_OF_2, "", PORTS)
-}
 
 /// The keys of a cable.
 const CABLES: &str = r#"a = 1 => : extra key
@@ -342,13 +295,6 @@ const TAKEN: &str = r#"ends = [2, 1] => read
 ends = [1, 1] => : end
 ends = [2, 65535] => : end
 ends = [1, 65535] => : end"#;
-
-#[test]
-fn cables_are_refused(rt: HostRuntime) -> Result<(), AllocError> {
-    let alloc = rt.alloc();
-    have_outcomes_in_cables(&rt, alloc, CABLES)?;
-    have_outcomes(&rt, alloc, &CABLE_2, "", TAKEN)
-}
 
 /// Entries that are no event, ticks, and what is sent.
 const ENTRIES: &str = r#" => : word
@@ -381,11 +327,6 @@ emit 1 1 1 => : count
 emit 3 x => : system
 emit 2 65536 => : number"#;
 
-#[test]
-fn entries_are_refused(rt: HostRuntime) -> Result<(), AllocError> {
-    have_outcomes_in_entries(&rt, rt.alloc(), ENTRIES)
-}
-
 /// Entries that name a cable.
 const ENTRIES_OF_CABLES: &str = r#"deliver 1 => : count
 deliver 2 3 => : cable
@@ -416,11 +357,6 @@ sense 2 1 => : cable
 sense 2 3 => : cable
 sense 1 3 => : system
 sense 1 => : count"#;
-
-#[test]
-fn entries_of_cables_are_refused(rt: HostRuntime) -> Result<(), AllocError> {
-    have_outcomes_in_entries(&rt, rt.alloc(), ENTRIES_OF_CABLES)
-}
 
 /// Entries that name a system.
 const ENTRIES_OF_SYSTEMS: &str = r#"restart => : count
@@ -458,11 +394,6 @@ force 3 65536 1 => : system
 force 1 65536 1 => : number
 force 1 1 65536 => : number"#;
 
-#[test]
-fn entries_of_systems_are_refused(rt: HostRuntime) -> Result<(), AllocError> {
-    have_outcomes_in_entries(&rt, rt.alloc(), ENTRIES_OF_SYSTEMS)
-}
-
 /// Smallest and greatest values of a system.
 const SYSTEM_EDGES: &str =
     r#"priority = 0, max_delay = 0, first_marker = 0, port = [{number = 1, key = 1}] => read
@@ -488,11 +419,92 @@ offer 1 65535  => read
 move 1 65535 65535 65535 => read
 force 1 65535 65535 => read"#;
 
+/// Limits of a cable.
+const LIMITS: &str = r#"limit = 1 => : ends
+limit = 0 => : ends
+ends = [2], limit = 0 => : ends
+ends = [2, 1], limit = 0, a = 1 => : extra key
+ends = [2, 1], limit = 1, limits = 1 => : extra key
+ends = [2, 1], Limit = 1 => : extra key
+ends = [2, 1], limit = 0 => : limit
+ends = [2, 1], limit = -1 => : limit
+ends = [2, 1], limit = 65536 => : limit
+ends = [2, 1], limit = 4294967297 => : limit
+ends = [2, 1], limit = "8" => : limit
+ends = [2, 1], limit = 8.0 => : limit
+ends = [2, 1], limit = true => : limit
+ends = [2, 1], limit = [8, 8] => : limit
+ends = [0, 1], limit = 0 => : limit
+ends = [0, 1], limit = 8 => : end"#;
+
+/// Limits that are read.
+const LIMITS_READ: &str = r#"ends = [2, 1], limit = 1 => read
+ends = [2, 1], limit = 65535 => read
+limit = 8, ends = [2, 1] => read"#;
+
+/// Cables and events of two systems.
+const ORDER: &str = r#" => read
+cable = [];events = [] => read
+cable = 1;events = 1 => cable
+cable = {ends = [1, 1]} => cable
+cable = [{}, 1] => cable
+cable = [{}];events = 1 => cable 1: ends
+events = 1 => events
+events = "tick 1 1" => events
+events = ["", 1] => events
+events = [["tick 1 1"]] => events
+events = ["cut 1"] => event 1: cable
+cable = [{ends = [7, 7]}];events = ["cut 1", ""] => event 2: word
+cable = [{ends = [7, 7]}];events = ["cut 1"] => cable 1: end
+cable = [{ends = [1, 1]}, {ends = [1, 1]}] => cable 2: end"#;
+
+/// Cables and events of two systems with the same identifier.
+const ORDER_OF_EQUAL: &str = r#" => two systems with one identifier
+cable = [{ends = [7, 7]}] => two systems with one identifier
+events = [""] => event 1: word"#;
+
+/// The texts around lines, what is before each, and lines of texts and their outcomes.
+type Texts = (&'static Frame<'static>, &'static str, &'static str);
+
+const TEXTS: [Texts; 32] = [
+    (&TOP, "", TOPS),
+    (&SYSTEM_1, "", FIRST_KEYS),
+    (&SYSTEM_1, MAC, LATER_KEYS),
+    (&SYSTEM_1, AGGREGATORS, LINKS_AND_COUNTS),
+    (&SYSTEM_1, WITH_PORT, OTHER_LINKS_AND_COUNTS),
+    (&SYSTEM_1, AGGREGATORS, SYSTEM_EDGES),
+    (&SYSTEM_2, "", FIRST_KEYS),
+    (&SYSTEM_2, MAC, LATER_KEYS),
+    (&SYSTEM_2, AGGREGATORS, LINKS_AND_COUNTS),
+    (&SYSTEM_2, WITH_PORT, OTHER_LINKS_AND_COUNTS),
+    (&SYSTEM_2, AGGREGATORS, SYSTEM_EDGES),
+    (&SYSTEM_1, MAC, KEY_EDGES),
+    (&PORT_1_OF_1, "", PORTS),
+    (&PORT_2_OF_1, "", PORTS),
+    (&PORT_1_OF_2, "", PORTS),
+    (&PORT_2_OF_1, "", PORT_EDGES),
+    (&CABLE_1, "", CABLES),
+    (&CABLE_1, "", LIMITS),
+    (&CABLE_2, "", CABLES),
+    (&CABLE_2, "", LIMITS),
+    (&CABLE_2, "", TAKEN),
+    (&CABLE_2, "", LIMITS_READ),
+    (&ENTRY_1, "", ENTRIES),
+    (&ENTRY_1, "", ENTRIES_OF_CABLES),
+    (&ENTRY_1, "", ENTRIES_OF_SYSTEMS),
+    (&ENTRY_1, "", ENTRY_EDGES),
+    (&ENTRY_2, "", ENTRIES),
+    (&ENTRY_2, "", ENTRIES_OF_CABLES),
+    (&ENTRY_2, "", ENTRIES_OF_SYSTEMS),
+    (&ENTRY_2, "", ENTRY_EDGES),
+    (&SYSTEMS, "", ORDER),
+    (&EQUAL_SYSTEMS, "", ORDER_OF_EQUAL),
+];
+
 #[test]
-fn smallest_and_greatest_are_read(rt: HostRuntime) -> Result<(), AllocError> {
-    let alloc = rt.alloc();
-    have_outcomes_in_systems(&rt, alloc, AGGREGATORS, SYSTEM_EDGES)?;
-    have_outcomes(&rt, alloc, &SYSTEM_1, MAC, KEY_EDGES)?;
-    have_outcomes(&rt, alloc, &PORT_2_OF_1, "", PORT_EDGES)?;
-    have_outcomes_in_entries(&rt, alloc, ENTRY_EDGES)
+fn texts_are_read_or_refused(rt: HostRuntime) -> Result<(), AllocError> {
+    for (frame, given, lines) in TEXTS {
+        have_outcomes(&rt, rt.alloc(), frame, given, lines)?;
+    }
+    Ok(())
 }

@@ -1,12 +1,9 @@
-mod beside;
-mod calls_of_hosts;
 mod configurations;
 mod conversations;
 mod driven;
 mod forced;
 mod frames;
 mod hostile;
-mod load;
 mod memory;
 mod most_links;
 mod plan;
@@ -15,12 +12,11 @@ mod standby;
 mod statuses;
 mod truncated;
 mod waiting;
-mod wide;
 
 ghost use Rattle.std.specs.Prelude.{◌≡◌, ◌<◌};
 ghost use Rattle.distributor.specs.Calls.{PicksIndexes};
 
-use crate::comparing::same_in_row;
+use crate::comparing::{Place, same_in_case};
 use crate::systems::plan::{host_call_of, plan_of};
 use bitflags::Flags;
 use dataplane::{adopt, offer_conversation_in_active_aggregator};
@@ -346,29 +342,79 @@ pub(crate) fn config(alloc: Global, numbers: &[u16], count: usize) -> Result<Con
     })
 }
 
+/// What a system of a case is configured with.
+#[derive(Clone, Copy)]
+struct Given<'a> {
+    ports: &'a [u16],
+    aggregators: usize,
+    first_marker: u32,
+    conversations: u16,
+    max_links: Option<u16>,
+    active: bool,
+    short: bool,
+    /// The ports have the priorities of their ranks.
+    ranked: bool,
+}
+
+const ONE: Given<'static> = Given {
+    ports: &[1],
+    aggregators: 1,
+    first_marker: 1,
+    conversations: 256,
+    max_links: None,
+    active: true,
+    short: true,
+    ranked: false,
+};
+
+const TWO: Given<'static> = Given {
+    ports: &[1, 2],
+    aggregators: 2,
+    ..ONE
+};
+
+/// A name, a configuration, and lists of rows.
+type Case<'a> = (&'a str, Given<'a>, &'a [&'a [Row<'a>]]);
+
+/// System 1 as it is given.
+fn configured(alloc: Global, given: &Given<'_>) -> Result<Config, NoMemory> {
+    let mut made = config(alloc, given.ports, given.aggregators)?;
+    made.first_marker = given.first_marker;
+    made.conversations = given.conversations;
+    made.max_links = given.max_links;
+    for port in made.ports.iter_mut() {
+        port.active = given.active;
+        port.short = given.short;
+        if given.ranked {
+            port.priority = rank(port.number);
+        }
+    }
+    Ok(made)
+}
+
 /// Compares the choice, the timers or the status of a port with what a row expects.
 fn tells_port<F: Fn(u16, usize) -> usize + Drop>(
     rt: &impl Abort,
     system: &System<F>,
-    place: usize,
+    place: Place<'_>,
     row: Row<'_>,
 ) {
     match row {
-        Row::Shows(port, seen) => same_in_row(rt, place, &look(system, port), &seen),
-        Row::Chosen(port, choice) => same_in_row(rt, place, &system.choice(port), &Some(choice)),
+        Row::Shows(port, seen) => same_in_case(rt, place, &look(system, port), &seen),
+        Row::Chosen(port, choice) => same_in_case(rt, place, &system.choice(port), &Some(choice)),
         Row::Status(port, status) => {
-            same_in_row(rt, place, &system.port_status(port), &Some(status));
+            same_in_case(rt, place, &system.port_status(port), &Some(status));
         }
         Row::Timers(port, current_while, wait_while, ntt) => {
-            same_in_row(rt, place, &system.current_while(port), &Some(current_while));
-            same_in_row(rt, place, &system.wait_while(port), &Some(wait_while));
-            same_in_row(rt, place, &system.ntt(port), &Some(ntt));
+            same_in_case(rt, place, &system.current_while(port), &Some(current_while));
+            same_in_case(rt, place, &system.wait_while(port), &Some(wait_while));
+            same_in_case(rt, place, &system.ntt(port), &Some(ntt));
         }
-        Row::Mux(port, state) => same_in_row(rt, place, &system.mux_state(port), &Some(state)),
-        Row::Defaulted(port, is) => same_in_row(rt, place, &system.defaulted(port), &Some(is)),
-        Row::Due(port, is) => same_in_row(rt, place, &system.is_due(port), &Some(is)),
-        Row::Held(port, held) => same_in_row(rt, place, &system.held(port), &held),
-        Row::Load(port, load) => same_in_row(rt, place, &system.load(port), &load),
+        Row::Mux(port, state) => same_in_case(rt, place, &system.mux_state(port), &Some(state)),
+        Row::Defaulted(port, is) => same_in_case(rt, place, &system.defaulted(port), &Some(is)),
+        Row::Due(port, is) => same_in_case(rt, place, &system.is_due(port), &Some(is)),
+        Row::Held(port, held) => same_in_case(rt, place, &system.held(port), &held),
+        Row::Load(port, load) => same_in_case(rt, place, &system.load(port), &load),
         _ => {}
     }
 }
@@ -377,7 +423,7 @@ fn tells_port<F: Fn(u16, usize) -> usize + Drop>(
 fn tells_conversation<F: Fn(u16, usize) -> usize + Drop>(
     rt: &impl Abort,
     system: &System<F>,
-    place: usize,
+    place: Place<'_>,
     row: Row<'_>,
 ) {
     let (agg, conv, state) = match row {
@@ -389,32 +435,32 @@ fn tells_conversation<F: Fn(u16, usize) -> usize + Drop>(
         _ => return,
     };
     let found = system.conversation_state(AggId(agg), conv);
-    same_in_row(rt, place, &found, &state);
+    same_in_case(rt, place, &found, &state);
 }
 
 /// Compares what the readers of a system return with what a row expects.
 fn tells<F: Fn(u16, usize) -> usize + Drop>(
     rt: &impl Abort,
     system: &System<F>,
-    place: usize,
+    place: Place<'_>,
     row: Row<'_>,
 ) {
     match row {
         Row::Distributing(agg, ports) => {
             let came = system.distributing(AggId(agg));
-            same_in_row(rt, place, &came.as_slice(), &ports);
+            same_in_case(rt, place, &came.as_slice(), &ports);
         }
         Row::Conversation(octets, conv) => {
-            same_in_row(rt, place, &system.conversation(octets), &conv);
+            same_in_case(rt, place, &system.conversation(octets), &conv);
         }
         Row::Conversing(..) | Row::Wanted(..) | Row::Free(..) => {
             tells_conversation(rt, system, place, row);
         }
-        Row::Next(id) => same_in_row(rt, place, &system.next_marker(), &id),
-        Row::Waits(ticks) => same_in_row(rt, place, &system.ticks_until_due(), &ticks),
+        Row::Next(id) => same_in_case(rt, place, &system.next_marker(), &id),
+        Row::Waits(ticks) => same_in_case(rt, place, &system.ticks_until_due(), &ticks),
         Row::Has(ports, aggregators) => {
-            same_in_row(rt, place, &system.ports().as_slice(), &ports);
-            same_in_row(rt, place, &system.aggregators(), &aggregators);
+            same_in_case(rt, place, &system.ports().as_slice(), &ports);
+            same_in_case(rt, place, &system.aggregators(), &aggregators);
         }
         _ => tells_port(rt, system, place, row),
     }
@@ -424,7 +470,7 @@ fn tells<F: Fn(u16, usize) -> usize + Drop>(
 fn sets<F: Fn(u16, usize) -> usize + Drop>(
     rt: &impl Abort,
     system: &mut System<F>,
-    place: usize,
+    place: Place<'_>,
     row: Row<'_>,
 )
     ensures { system.new.algorithm ≡ system.old.algorithm }
@@ -432,15 +478,15 @@ fn sets<F: Fn(u16, usize) -> usize + Drop>(
     match row {
         Row::Holds(port, held, answer) => {
             let came = system.hold_port(port, held);
-            same_in_row(rt, place, &came, &answer);
-            same_in_row(rt, place, &system.is_held(port).is_some(), &answer.is_ok());
-            same_in_row(rt, place, &system.is_held(port).unwrap_or(held), &held);
+            same_in_case(rt, place, &came, &answer);
+            same_in_case(rt, place, &system.is_held(port).is_some(), &answer.is_ok());
+            same_in_case(rt, place, &system.is_held(port).unwrap_or(held), &held);
         }
         Row::Mode(port, active, short, answer) => {
-            same_in_row(rt, place, &system.set_mode(port, active, short), &answer);
+            same_in_case(rt, place, &system.set_mode(port, active, short), &answer);
         }
         Row::Limit(max_links, answer) => {
-            same_in_row(rt, place, &system.set_max_links(max_links), &answer);
+            same_in_case(rt, place, &system.set_max_links(max_links), &answer);
         }
         Row::Delay(max_delay) => system.set_max_delay(max_delay),
         _ => {}
@@ -461,7 +507,7 @@ fn calls<F: Fn(u16, usize) -> usize + Drop>(
     rt: &impl Abort,
     alloc: Global,
     system: &mut System<F>,
-    place: usize,
+    place: Place<'_>,
     row: Row<'_>,
 ) -> Result<(), SystemFault>
     requires usable { PicksIndexes (F.pre system.old.algorithm) (F.post system.old.algorithm) }
@@ -469,13 +515,13 @@ fn calls<F: Fn(u16, usize) -> usize + Drop>(
 {
     match host_call_of(row) {
         Some((call, reply)) => {
-            same_in_row(rt, place, &system.host_call(&call), &reply);
+            same_in_case(rt, place, &system.host_call(&call), &reply);
             Ok(())
         }
         None => {
             let plan = plan_of(alloc, row)?;
             let replies = system.drive(alloc, &plan.calls)?;
-            same_in_row(rt, place, &replies.as_slice(), &plan.replies.as_slice());
+            same_in_case(rt, place, &replies.as_slice(), &plan.replies.as_slice());
             Ok(())
         }
     }
@@ -486,7 +532,7 @@ fn carries<F: Fn(u16, usize) -> usize + Drop>(
     rt: &impl Abort,
     alloc: Global,
     system: &mut System<F>,
-    place: usize,
+    place: Place<'_>,
     row: Row<'_>,
 ) -> Result<(), SystemFault>
     requires usable { PicksIndexes (F.pre system.old.algorithm) (F.post system.old.algorithm) }
@@ -495,12 +541,12 @@ fn carries<F: Fn(u16, usize) -> usize + Drop>(
     match row {
         Row::OffersInActiveAggregator(agg, conv, answer) => {
             let came = offer_conversation_in_active_aggregator(system, AggId(agg), conv);
-            same_in_row(rt, place, &came, &answer);
+            same_in_case(rt, place, &came, &answer);
             Ok(())
         }
         Row::Adopts(agg, conv, port, answer) => {
             let came = adopt(system, AggId(agg), conv, port);
-            same_in_row(rt, place, &came, &answer);
+            same_in_case(rt, place, &came, &answer);
             Ok(())
         }
         _ => calls(rt, alloc, system, place, row),
@@ -512,7 +558,7 @@ fn step<F: Fn(u16, usize) -> usize + Drop>(
     rt: &impl Abort,
     alloc: Global,
     system: &mut System<F>,
-    place: usize,
+    place: Place<'_>,
     row: Row<'_>,
 ) -> Result<(), SystemFault>
     requires usable { PicksIndexes (F.pre system.old.algorithm) (F.post system.old.algorithm) }
@@ -521,59 +567,47 @@ fn step<F: Fn(u16, usize) -> usize + Drop>(
     let before = look(system, kept_port(row));
     carries(rt, alloc, system, place, row)?;
     sets(rt, system, place, row);
-    same_in_row(rt, place, &look(system, kept_port(row)), &before);
+    same_in_case(rt, place, &look(system, kept_port(row)), &before);
     tells(rt, system, place, row);
     Ok(())
 }
 
-/// Plays rows on a system, one after another.
+/// Plays the rows of a case on a system, one after another.
 pub(crate) fn play<F: Fn(u16, usize) -> usize + Drop>(
     rt: &impl Abort,
     alloc: Global,
     system: &mut System<F>,
+    case: &str,
     rows: &[Row<'_>],
 ) -> Result<(), SystemFault>
     requires usable { PicksIndexes (F.pre system.old.algorithm) (F.post system.old.algorithm) }
     ensures { system.new.algorithm ≡ system.old.algorithm }
 {
     for (place, row) in rows.iter().enumerate() {
-        step(rt, alloc, system, place, *row)?;
+        step(rt, alloc, system, (case, place), *row)?;
     }
     Ok(())
 }
 
-/// Plays rows on a new system.
+/// Plays the rows of a case on a new system.
 pub(crate) fn plays(
     rt: &impl Abort,
     alloc: Global,
     given: Config,
+    case: &str,
     rows: &[Row<'_>],
 ) -> Result<(), SystemFault> {
     let mut system = System::new(alloc, given, modulo)?;
-    play(rt, alloc, &mut system, rows)
+    play(rt, alloc, &mut system, case, rows)
 }
 
-/// Plays lists of rows, one after another.
-fn plays_lists(
-    rt: &impl Abort,
-    alloc: Global,
-    given: Config,
-    lists: &[&[Row<'_>]],
-) -> Result<(), SystemFault> {
-    let rows = joined(alloc, lists)?;
-    plays(rt, alloc, given, &rows)
-}
-
-/// Plays lists of rows on system 1 with these ports, and this many aggregators.
-fn plays_with(
-    rt: &impl Abort,
-    alloc: Global,
-    numbers: &[u16],
-    count: usize,
-    lists: &[&[Row<'_>]],
-) -> Result<(), SystemFault> {
-    let given = config(alloc, numbers, count)?;
-    plays_lists(rt, alloc, given, lists)
+/// Plays the lists of each case on a new system, one after another.
+fn plays_cases(rt: &impl Abort, alloc: Global, cases: &[Case<'_>]) -> Result<(), SystemFault> {
+    for (case, given, lists) in cases {
+        let rows = joined(alloc, *lists)?;
+        plays(rt, alloc, configured(alloc, given)?, *case, &rows)?;
+    }
+    Ok(())
 }
 
 /// Lists of rows, one after another.

@@ -150,13 +150,9 @@ fn marker_answered(rt: &(impl Abort + AllocGlobal), mac: &str, source: &str) -> 
 }
 
 #[test]
-fn a_marker_is_answered(rt: HostRuntime) -> Result<(), Fail> {
+fn markers_are_answered_and_other_frames_are_not(rt: HostRuntime) -> Result<(), Fail> {
     marker_answered(&rt, "020000000002", "020000000002")?;
-    marker_answered(&rt, "02ABCDEF0002", "02abcdef0002")
-}
-
-#[test]
-fn other_frames_are_not_answered(rt: HostRuntime) -> Result<(), Fail> {
+    marker_answered(&rt, "02ABCDEF0002", "02abcdef0002")?;
     for (words, text) in FRAMES {
         let frame = joined(rt.alloc(), words)?;
         replies_with(&rt, ("020000000002", frame.as_str()), false, text)?;
@@ -164,29 +160,15 @@ fn other_frames_are_not_answered(rt: HostRuntime) -> Result<(), Fail> {
     Ok(())
 }
 
-/// Neither a payload nor a frame is these digits.
-fn not_hex(rt: &(impl Abort + AllocGlobal), hex: &str) {
-    let wanted = (hex, Err(ToolFault::NotHex));
-    same(rt, "decode", &(hex, shown(rt.alloc(), hex)), &wanted);
-    let said = replied(rt.alloc(), "020000000002", hex);
-    same(rt, "respond", &(hex, said), &wanted);
-}
-
+/// A frame that is not hexadecimal either is looked at behind the address.
 #[test]
-fn words_that_are_not_hexadecimal(rt: HostRuntime) {
+fn words_that_are_not_hexadecimal_or_no_address(rt: HostRuntime) {
     for hex in ["0", "010", "zz", "0g", "01 1", "0x01", "é1"] {
-        not_hex(&rt, hex);
+        let wanted = Err(ToolFault::NotHex);
+        same(&rt, hex, &shown(rt.alloc(), hex), &wanted);
+        let said = replied(rt.alloc(), "020000000002", hex);
+        same(&rt, hex, &said, &wanted);
     }
-}
-
-/// The frame is not hexadecimal either, but the address is checked first.
-fn not_mac(rt: &(impl Abort + AllocGlobal), mac: &str) {
-    let said = replied(rt.alloc(), mac, "zz");
-    same(rt, mac, &said, &Err(ToolFault::NotMac));
-}
-
-#[test]
-fn words_that_are_no_address(rt: HostRuntime) {
     for mac in [
         "",
         "02000000000",
@@ -194,7 +176,8 @@ fn words_that_are_no_address(rt: HostRuntime) {
         "02000000000002",
         "02000000000g",
     ] {
-        not_mac(&rt, mac);
+        let said = replied(rt.alloc(), mac, "zz");
+        same(&rt, mac, &said, &Err(ToolFault::NotMac));
     }
 }
 
@@ -223,17 +206,12 @@ fn shown_into(rt: &(impl Abort + AllocGlobal), hex: &str, room: usize, errs: boo
 }
 
 #[test]
-fn a_sink_that_fails_at_each_octet(rt: HostRuntime) -> Result<(), Fail> {
+fn a_text_and_an_answer_into_a_sink_that_fails(rt: HostRuntime) -> Result<(), Fail> {
     let hex = joined(rt.alloc(), LACPDU)?;
     for room in 0..=ACTIVE_SHORT.len() {
         shown_into(&rt, hex.as_str(), room, false);
         shown_into(&rt, hex.as_str(), room, true);
     }
-    Ok(())
-}
-
-#[test]
-fn an_answer_into_a_sink_that_fails(rt: HostRuntime) {
     let text = b"no answer runt\n";
     for (room, expected) in [(14, Err(ToolFault::Write)), (15, Ok(false))] {
         let mut sink = sink_of(rt.alloc(), room, false);
@@ -242,4 +220,5 @@ fn an_answer_into_a_sink_that_fails(rt: HostRuntime) {
         let taken = sink.into_inner().taken;
         same_octets(&rt, "octets of room", room, taken.as_slice(), &text[..room]);
     }
+    Ok(())
 }

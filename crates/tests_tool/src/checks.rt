@@ -175,11 +175,7 @@ fn a_file_of_frames(rt: HostRuntime) -> Result<(), Fail> {
     says(&rt, b"", &[], 0)?;
     // No line has a digit; one carriage return at the end of a line is dropped.
     let verdicts = ["runt", "runt", "not hex", "runt"];
-    says(&rt, b"\n\r\n\r\r\n\r", &verdicts, 4)
-}
-
-#[test]
-fn a_file_of_a_thousand_lines(rt: HostRuntime) -> Result<(), Fail> {
+    says(&rt, b"\n\r\n\r\r\n\r", &verdicts, 4)?;
     let file = joined(rt.alloc(), "00\n*1000")?;
     says(&rt, file.as_bytes(), &["runt"; 1_000], 1_000)
 }
@@ -195,23 +191,14 @@ const LENGTHS: [(Words, &str, &str); 7] = [
     ("0*65472 0*66", "\n", "too long"),
 ];
 
-/// This is said of a line, and a frame behind it is read as one.
-fn says_of_long(
-    rt: &(impl Abort + AllocGlobal),
-    words: Words,
-    end: &str,
-    verdict: &str,
-) -> Result<(), Fail> {
-    let line = joined(rt.alloc(), words)?;
-    let lines = format!(in rt.alloc(); "{line}{end}{DATA}")?;
-    let faults = u64::from(verdict != "data");
-    says(rt, lines.as_bytes(), &[verdict, "data"], faults)
-}
-
+/// A frame behind each line is read as one.
 #[test]
 fn a_line_of_each_length_around_the_limit(rt: HostRuntime) -> Result<(), Fail> {
     for (words, end, verdict) in LENGTHS {
-        says_of_long(&rt, words, end, verdict)?;
+        let line = joined(rt.alloc(), words)?;
+        let lines = format!(in rt.alloc(); "{line}{end}{DATA}")?;
+        let faults = u64::from(verdict != "data");
+        says(&rt, lines.as_bytes(), &[verdict, "data"], faults)?;
     }
     Ok(())
 }

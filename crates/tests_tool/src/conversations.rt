@@ -62,25 +62,20 @@ fn ends_in(
 }
 
 /// The keys of both systems, and the end of the report.
-const REPORTS: [(&str, &str, &str); 4] = [
+const REPORTS: [(&str, &str, &str); 6] = [
     (MANY, "", FAR_APART),
     (MANY, MANY, FAR_APART),
     (MANY, "conversations = 256, ", LAST),
     ("", MANY, BY_SENDER),
+    // a limit that no port exceeds
+    ("max_links = 2, ", "max_links = 2, ", MOVE),
+    ("max_links = 64, ", "max_links = 64, ", MOVE),
 ];
 
 #[test]
 fn flows_have_the_numbers_of_their_sender(rt: HostRuntime) -> Result<(), Fail> {
     for (one, two, text) in REPORTS {
         ends_in(&rt, (one, two), text)?;
-    }
-    Ok(())
-}
-
-#[test]
-fn a_limit_that_no_port_exceeds_changes_nothing(rt: HostRuntime) -> Result<(), Fail> {
-    for limit in ["max_links = 2, ", "max_links = 64, "] {
-        ends_in(&rt, (limit, limit), MOVE)?;
     }
     Ok(())
 }

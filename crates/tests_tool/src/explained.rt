@@ -83,14 +83,6 @@ const FAILURES: [(ErrorKind, &str); 3] = [
     (ErrorKind::IsADirectory, "a b: is a folder"),
 ];
 
-#[test]
-fn files_that_fail(rt: HostRuntime) -> Result<(), Fail> {
-    for (kind, text) in FAILURES {
-        unread(&rt, &Failing(kind), "a b", text)?;
-    }
-    Ok(())
-}
-
 /// Files, and why they cannot be read.
 const UNREAD: [(&str, &str); 4] = [
     ("-", "standard input: reading failed"),
@@ -101,6 +93,9 @@ const UNREAD: [(&str, &str); 4] = [
 
 #[test]
 fn files_that_cannot_be_read(rt: HostRuntime) -> Result<(), Fail> {
+    for (kind, text) in FAILURES {
+        unread(&rt, &Failing(kind), "a b", text)?;
+    }
     for (file, text) in UNREAD {
         unread(&rt, &rt, file, text)?;
     }
@@ -120,77 +115,47 @@ const NOT_UTF8: [(&str, &[u8], &str); 5] = [
     ("a.toml", b"abc", "a.toml:1:4: octet 4 is not UTF-8"),
 ];
 
-#[test]
-fn octets_that_are_not_utf8(rt: HostRuntime) -> Result<(), Fail> {
-    for (file, before, text) in NOT_UTF8 {
-        let said = utf8_text(rt.alloc(), file, before)?;
-        same_text(&rt, file, said.as_str(), text);
-    }
-    Ok(())
-}
-
 /// Words, and why they are not an even number of hexadecimal digits.
-const NOT_HEXADECIMAL: [(&str, &str); 5] = [
-    ("zz", "HEX: character 1 'z' is no hexadecimal digit"),
-    ("00fFg0", "HEX: character 5 'g' is no hexadecimal digit"),
-    ("01 1", "HEX: character 3 ' ' is no hexadecimal digit"),
-    (
-        "a\u{fc}:",
-        "HEX: character 2 '\u{fc}' is no hexadecimal digit",
-    ),
-    ("010", "HEX: 3 hexadecimal digits: wanted is an even number"),
-];
+const NOT_HEXADECIMAL: &str = "zz => HEX: character 1 'z' is no hexadecimal digit
+00fFg0 => HEX: character 5 'g' is no hexadecimal digit
+01 1 => HEX: character 3 ' ' is no hexadecimal digit
+a\u{fc}: => HEX: character 2 '\u{fc}' is no hexadecimal digit
+010 => HEX: 3 hexadecimal digits: wanted is an even number";
 
 /// Words, and why they are no MAC addresses.
-const NO_ADDRESSES: [(&str, &str); 5] = [
-    (
-        "02:00:00:00:00:01",
-        "MAC: character 3 ':' is no hexadecimal digit",
-    ),
-    (
-        "02000000000O",
-        "MAC: character 12 'O' is no hexadecimal digit",
-    ),
-    ("02000000001", "MAC: 11 hexadecimal digits: wanted are 12"),
-    ("0200000000001", "MAC: 13 hexadecimal digits: wanted are 12"),
-    ("", "MAC: 0 hexadecimal digits: wanted are 12"),
-];
-
-#[test]
-fn words_that_are_not_hexadecimal_or_no_address(rt: HostRuntime) -> Result<(), Fail> {
-    for (name, wanted, words) in [
-        ("HEX", "is an even number", NOT_HEXADECIMAL),
-        ("MAC", "are 12", NO_ADDRESSES),
-    ] {
-        for (word, text) in words {
-            let said = digits_text(rt.alloc(), name, word, wanted)?;
-            same_text(&rt, word, said.as_str(), text);
-        }
-    }
-    Ok(())
-}
+const NO_ADDRESSES: &str = "02:00:00:00:00:01 => MAC: character 3 ':' is no hexadecimal digit
+02000000000O => MAC: character 12 'O' is no hexadecimal digit
+02000000001 => MAC: 11 hexadecimal digits: wanted are 12
+0200000000001 => MAC: 13 hexadecimal digits: wanted are 12
+ => MAC: 0 hexadecimal digits: wanted are 12";
 
 /// A script whose third entry names no event.
 const NO_EVENT: &str = "events = [\"tick 1 1\", \"tick 2 1\", \"tic 1 10\"]\n";
 
-/// Files with such a script, and what is said of it.
-const REFUSED: [(&str, &str); 2] = [
-    (
-        "lag.toml",
-        "lag.toml: event 3 \"tic 1 10\": no event has this name; did you mean tick?",
-    ),
-    (
-        "-",
-        "standard input: event 3 \"tic 1 10\": no event has this name; did you mean tick?",
-    ),
-];
+/// What is said of it behind the name of the file.
+const NO_EVENT_TEXT: &str = ": event 3 \"tic 1 10\": no event has this name; did you mean tick?";
 
 #[test]
-fn scripts_that_are_refused(rt: HostRuntime) -> Result<(), Fail> {
-    let fault = ScriptFault::Entry(3, EntryFault::Word);
-    for (file, text) in REFUSED {
-        let said = script_text(rt.alloc(), file, NO_EVENT, fault)?;
+fn texts_of_what_is_refused(rt: HostRuntime) -> Result<(), Fail> {
+    for (file, before, text) in NOT_UTF8 {
+        let said = utf8_text(rt.alloc(), file, before)?;
         same_text(&rt, file, said.as_str(), text);
+    }
+    for (name, wanted, words) in [
+        ("HEX", "is an even number", NOT_HEXADECIMAL),
+        ("MAC", "are 12", NO_ADDRESSES),
+    ] {
+        for line in words.lines() {
+            let (word, text) = line.split_once(" => ").unwrap_or((line, ""));
+            let said = digits_text(rt.alloc(), name, word, wanted)?;
+            same_text(&rt, word, said.as_str(), text);
+        }
+    }
+    let fault = ScriptFault::Entry(3, EntryFault::Word);
+    for (file, name) in [("lag.toml", "lag.toml"), ("-", "standard input")] {
+        let said = script_text(rt.alloc(), file, NO_EVENT, fault)?;
+        let text = format!(in rt.alloc(); "{name}{NO_EVENT_TEXT}")?;
+        same_text(&rt, file, said.as_str(), text.as_str());
     }
     Ok(())
 }

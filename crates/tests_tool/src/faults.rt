@@ -1,21 +1,7 @@
-use crate::comparing::{same, same_at};
-use crate::telling::told;
+use crate::comparing::{same, told};
 use lagtool_jobs::{FaultText, ToolFault, status_of};
 use lagworld::ScriptFault;
 use std::test::Fail;
-
-#[test]
-fn statuses(rt: HostRuntime) {
-    let rows = [
-        (Ok(true), 0),
-        (Ok(false), 1),
-        (Err(ToolFault::Write), 2),
-        (Err(ToolFault::NotHex), 2),
-    ];
-    for (row, (ended, status)) in rows.iter().enumerate() {
-        same_at(&rt, "status of row", row, &status_of(ended), status);
-    }
-}
 
 /// A fault, its number, its text, and its message where the file is called `a b`.
 const FAULTS: [(ToolFault, u8, &str, &str); 5] = [
@@ -27,20 +13,16 @@ const FAULTS: [(ToolFault, u8, &str, &str); 5] = [
 ];
 
 #[test]
-fn faults_have_numbers_and_texts(rt: HostRuntime) -> Result<(), Fail> {
+fn faults_have_numbers_texts_and_a_status(rt: HostRuntime) -> Result<(), Fail> {
     for (fault, number, text, said) in FAULTS {
         same(&rt, text, &fault.number(), &number);
+        same(&rt, text, &status_of(&Err(fault)), &2);
         told(&rt, fault, text)?;
         told(&rt, FaultText { fault, file: "a b" }, said)?;
     }
-    Ok(())
-}
-
-#[test]
-fn want_of_memory_is_no_fault_of_a_script(rt: HostRuntime) {
+    same(&rt, "accepted", &status_of(&Ok(true)), &0);
+    same(&rt, "not accepted", &status_of(&Ok(false)), &1);
     let memory = ToolFault::from(ScriptFault::NoMemory);
     same(&rt, "memory", &memory, &ToolFault::NoMemory);
-    let script = ToolFault::from(ScriptFault::NotToml);
-    let wanted = ToolFault::Script(ScriptFault::NotToml);
-    same(&rt, "script", &script, &wanted);
+    Ok(())
 }

@@ -4,8 +4,6 @@
 #![tactic(auto)]
 
 #[cfg(test)]
-mod algorithm;
-#[cfg(test)]
 mod answers;
 #[cfg(test)]
 mod checks;
@@ -27,8 +25,6 @@ mod replays;
 mod slow;
 #[cfg(test)]
 mod streams;
-#[cfg(test)]
-mod telling;
 #[cfg(test)]
 mod texts;
 #[cfg(test)]

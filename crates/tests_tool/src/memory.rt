@@ -1,6 +1,6 @@
-use crate::algorithm::by_number;
 use crate::checks::{four_lines, whole};
 use crate::comparing::{same, same_octets};
+use crate::pieces::by_number;
 use crate::replays::{BOTH_UP, MOVE, TWO_CABLES, TWO_PORTS, script_and_report};
 use lagstreams::{Sink, Source};
 use lagtool_jobs::{ToolFault, check, replay};
@@ -44,8 +44,9 @@ fn replays(rt: &impl Abort, alloc: Global) -> Result<bool, ToolFault> {
 
 /// Fails if an allocation is refused.
 #[test]
-fn memory_for_a_check_is_granted(rt: HostRuntime) {
+fn memory_for_a_check_and_a_replay_is_granted(rt: HostRuntime) {
     same(&rt, "whole", &checks(&rt, rt.alloc()), &Ok(true));
+    same(&rt, "whole", &replays(&rt, rt.alloc()), &Ok(true));
 }
 
 /// Passes whichever allocation is refused.
@@ -54,12 +55,6 @@ fn refused_memory_cuts_a_check(rt: HostRuntime) {
     if let Err(fault) = checks(&rt, rt.alloc()) {
         same(&rt, "fault", &fault, &ToolFault::NoMemory);
     }
-}
-
-/// Fails if an allocation is refused.
-#[test]
-fn memory_for_a_replay_is_granted(rt: HostRuntime) {
-    same(&rt, "whole", &replays(&rt, rt.alloc()), &Ok(true));
 }
 
 /// Passes whichever allocation is refused.

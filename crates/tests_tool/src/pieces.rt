@@ -1,4 +1,5 @@
-//! Texts that are made of pieces.
+//! Texts that are made of pieces, and the algorithm.
+ghost use Rattle.std.specs.Prelude.{◌<◌};
 
 use lagtypes::{decimal_u16, words_of};
 use std::alloc::{AllocError, Global};
@@ -48,4 +49,11 @@ pub(crate) fn one_text(alloc: Global, texts: &[&str]) -> Result<String, AllocErr
         one.push_str(*text)?;
     }
     Ok(one)
+}
+
+/// The algorithm of `lagtool`. A function of another crate cannot be handed over itself.
+pub(crate) fn by_number(conversation: u16, count: usize) -> usize
+    ensures { 0 < count → result < count }
+{
+    distributor::by_number(conversation, count)
 }

@@ -1,8 +1,6 @@
-use crate::algorithm::by_number;
-use crate::comparing::{same, same_at, same_octets, same_text};
-use crate::pieces::one_text;
+use crate::comparing::{same, same_at, same_octets, same_text, told};
+use crate::pieces::{by_number, one_text};
 use crate::slow::sink_of;
-use crate::telling::told;
 use crate::wrong_answers::report;
 use lagstreams::Sink;
 use lagtool_jobs::{
@@ -145,21 +143,6 @@ fn refuses(
     told(rt, FaultText { fault, file: "a" }, said)
 }
 
-#[test]
-fn one_cable(rt: HostRuntime) -> Result<(), Fail> {
-    for limit in ["", "limit = 8\n"] {
-        reports(&rt, &[ALONE, ONE_CABLE, limit], &[ALONE_TEXT])?;
-        reports(&rt, &[UP, ONE_CABLE, limit], &[UP_TEXT])?;
-    }
-    Ok(())
-}
-
-#[test]
-fn a_conversation_moves(rt: HostRuntime) -> Result<(), Fail> {
-    plays(&rt, &[BOTH_UP, MOVE], &[TWO_PORTS, TWO_CABLES])?;
-    plays(&rt, &[BOTH_UP, MOVE], &[TWO_PORTS, LIMIT_8])
-}
-
 /// Two systems with an aggregator and a port of each of two keys, and cables of unlike limits.
 const TWO_KEYS: &str = r#"
 system = [
@@ -185,11 +168,6 @@ flow 1/2/255 sent 3 collected 0 1
 flow 2/1/55 sent 2 collected 0 forced
 ";
 
-#[test]
-fn flows_of_both_systems(rt: HostRuntime) -> Result<(), Fail> {
-    plays(&rt, &[BOTH_UP, BOTH_WAYS], &[TWO_KEYS])
-}
-
 /// A conversation is forced, and a later frame of it arrives before an earlier one.
 const FORCE: &str = "offer 1 1 0200000000200200000000100800 -> port 1 serial 0 sent
 move 1 1 48 2 -> moved
@@ -203,7 +181,11 @@ flow 1/1/48 sent 2 collected 1 0 forced
 ";
 
 #[test]
-fn a_forced_conversation_overtakes(rt: HostRuntime) -> Result<(), Fail> {
+fn conversations_of_both_systems(rt: HostRuntime) -> Result<(), Fail> {
+    for cables in [TWO_CABLES, LIMIT_8] {
+        plays(&rt, &[BOTH_UP, MOVE], &[TWO_PORTS, cables])?;
+    }
+    plays(&rt, &[BOTH_UP, BOTH_WAYS], &[TWO_KEYS])?;
     plays(&rt, &[BOTH_UP, FORCE], &[TWO_PORTS, TWO_CABLES])
 }
 
@@ -241,11 +223,6 @@ const OTHERS_TEXT: &str = "1 tick 1 10 -> ticked
 cable 1 agreement not-both
 ";
 
-#[test]
-fn other_entries(rt: HostRuntime) -> Result<(), Fail> {
-    reports(&rt, &[OTHERS, ONE_CABLE], &[OTHERS_TEXT])
-}
-
 /// A thousand entries, and their report.
 fn a_thousand(alloc: Global) -> Result<(String, String), AllocError> {
     let mut events = String::from_str(alloc, "events = [\n")?;
@@ -258,7 +235,12 @@ fn a_thousand(alloc: Global) -> Result<(String, String), AllocError> {
 }
 
 #[test]
-fn a_thousand_entries(rt: HostRuntime) -> Result<(), Fail> {
+fn entries_of_one_cable(rt: HostRuntime) -> Result<(), Fail> {
+    for limit in ["", "limit = 8\n"] {
+        reports(&rt, &[ALONE, ONE_CABLE, limit], &[ALONE_TEXT])?;
+        reports(&rt, &[UP, ONE_CABLE, limit], &[UP_TEXT])?;
+    }
+    reports(&rt, &[OTHERS, ONE_CABLE], &[OTHERS_TEXT])?;
     let (events, text) = a_thousand(rt.alloc())?;
     reports(
         &rt,

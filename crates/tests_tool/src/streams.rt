@@ -1,12 +1,11 @@
 ghost use Rattle.std.specs.Prelude.{◌≡◌, false};
 
-use crate::algorithm::by_number;
 use crate::checks::{FILE, Piecewise};
 use crate::comparing::{same, same_at};
+use crate::pieces::by_number;
 use crate::replays::{BOTH_UP, MOVE, TWO_CABLES, TWO_PORTS, script_and_report};
-use crate::telling::told;
 use lagstreams::{Sink, Source};
-use lagtool_jobs::{FaultText, ToolFault, check, replay};
+use lagtool_jobs::{ToolFault, check, replay};
 use std::alloc::Global;
 use std::io;
 use std::io::Write;
@@ -152,13 +151,4 @@ fn one_write_of_a_replay(rt: HostRuntime) -> Result<(), Fail> {
         same(&rt, "writes", &writes, &report.len().div_ceil(64));
     }
     Ok(())
-}
-
-#[test]
-fn a_failed_stream_is_told(rt: HostRuntime) -> Result<(), Fail> {
-    let file = "FILE";
-    let fault = ToolFault::Read;
-    told(&rt, FaultText { fault, file }, "cannot read FILE")?;
-    let fault = ToolFault::Write;
-    told(&rt, FaultText { fault, file }, "cannot write")
 }

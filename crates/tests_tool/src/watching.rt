@@ -1,6 +1,6 @@
-use crate::algorithm::by_number;
 use crate::checks::whole;
 use crate::comparing::{same, same_octets, same_text};
+use crate::pieces::by_number;
 use lagstreams::{Sink, Source};
 use lagtool_jobs::{ONE_CABLE, Progress, UP, UP_TEXT, Watch, check_watched, replay_watched};
 use std::alloc::Global;

@@ -116,14 +116,6 @@ fn mistakes_in_payloads() -> [Mistake; 14] {
     ]
 }
 
-#[test]
-fn another_text_of_a_payload_is_found(rt: HostRuntime) -> Result<(), Fail> {
-    for mistake in mistakes_in_payloads() {
-        is_found(&rt, mistake)?;
-    }
-    Ok(())
-}
-
 const OTHER: &[Pieces] = &[SUBTYPE_3];
 
 const TAKEN: &[Pieces] = &[LACPDU];
@@ -131,22 +123,14 @@ const TAKEN: &[Pieces] = &[LACPDU];
 /// The LACPDU is taken and changes the port; the payload behind it is ignored.
 const TAKEN_AND_OTHER: &[Pieces] = &[LACPDU, SUBTYPE_3];
 
-#[test]
-fn a_frame_that_is_not_ignored_is_found(rt: HostRuntime) -> Result<(), Fail> {
-    for mistake in [
+/// Other causes, other answers to frames, and other reports.
+fn mistakes_in_frames_and_reports() -> [Mistake; 13] {
+    let other = WireFault::OtherSubtype(3);
+    [
         (5, 1, ignores(OTHER, WireFault::OtherSubtype(4))),
         (5, 1, ignores(OTHER, WireFault::OtherSubtype(1))),
-        (5, 1, ignores(TAKEN, WireFault::OtherSubtype(3))),
-        (5, 1, ignores(TAKEN_AND_OTHER, WireFault::OtherSubtype(3))),
-    ] {
-        is_found(&rt, mistake)?;
-    }
-    Ok(())
-}
-
-#[test]
-fn another_answer_to_a_frame_is_found(rt: HostRuntime) -> Result<(), Fail> {
-    for mistake in [
+        (5, 1, ignores(TAKEN, other)),
+        (5, 1, ignores(TAKEN_AND_OTHER, other)),
         (6, 0, replies(MARKER_FRAME, true, RESPONSE_FRAME)),
         (
             6,
@@ -160,20 +144,19 @@ fn another_answer_to_a_frame_is_found(rt: HostRuntime) -> Result<(), Fail> {
         ),
         (7, 1, replies(DATA_FRAME, false, &[("no answer runt\n", 1)])),
         (7, 1, replies(DATA_FRAME, true, &[("no answer data\n", 1)])),
-    ] {
-        is_found(&rt, mistake)?;
-    }
-    Ok(())
-}
-
-#[test]
-fn another_report_is_found(rt: HostRuntime) -> Result<(), Fail> {
-    for mistake in [
         (9, 0, replays(ALONE, UP_TEXT)),
         (10, 0, replays(UP, ALONE_TEXT)),
         (10, 0, replays(UP, "")),
         (10, 0, replays("events = [\"cut 0\"]\n", "")),
-    ] {
+    ]
+}
+
+#[test]
+fn each_mistake_in_a_vector_is_found(rt: HostRuntime) -> Result<(), Fail> {
+    for mistake in mistakes_in_payloads() {
+        is_found(&rt, mistake)?;
+    }
+    for mistake in mistakes_in_frames_and_reports() {
         is_found(&rt, mistake)?;
     }
     Ok(())

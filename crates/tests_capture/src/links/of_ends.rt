@@ -3,34 +3,6 @@ use findings::{Findings, LinkEnd, MOST_ENDS, Rule, What};
 use slowpdu::{Marker, MarkerKind, WireFault};
 use std::process::Abort;
 
-/// Each has one frame of system A.
-#[test]
-fn a_frame_is_not_as_the_standard_has_it(rt: HostRuntime) {
-    let frame = at(0, a_to_b(FAST, FAST));
-    let mut other = frame;
-    other.version = 2;
-    shows(&rt, &[frame, other], 1000, &[(6, 2)]);
-    let mut other = frame;
-    other.length = 123;
-    shows(&rt, &[frame, other], 1000, &[(7, 2)]);
-    other.length = 128;
-    shows(&rt, &[frame, other], 1000, &[]);
-    let mut other = frame;
-    other.reserved = true;
-    shows(&rt, &[frame, other, other], 1000, &[(8, 2)]);
-    let mut other = frame;
-    other.destination = Some([0x01, 0x80, 0xc2, 0, 0, 3]);
-    shows(&rt, &[frame, other], 1000, &[(9, 2)]);
-    other.destination = None;
-    shows(&rt, &[frame, other], 1000, &[]);
-    let mut other = frame;
-    other.tags = 1;
-    shows(&rt, &[frame, other], 1000, &[(10, 2)]);
-    let mut other = frame;
-    other.other_types = true;
-    shows(&rt, &[frame, other], 1000, &[(24, 2)]);
-}
-
 // 6.4.2.2: the source is the individual address of the port; the first bit of a group's address on the wire is 1.
 #[test]
 fn a_source_is_no_individual_address(rt: HostRuntime) {
@@ -54,9 +26,33 @@ fn a_source_is_no_individual_address(rt: HostRuntime) {
     }
 }
 
-/// Each frame of one end breaks another rule.
 #[test]
-fn each_rule_of_a_frame_has_its_own_first_frame(rt: HostRuntime) {
+fn frames_are_not_as_the_standard_has_them(rt: HostRuntime) {
+    // Each has one frame of system A.
+    let frame = at(0, a_to_b(FAST, FAST));
+    let mut other = frame;
+    other.version = 2;
+    shows(&rt, &[frame, other], 1000, &[(6, 2)]);
+    let mut other = frame;
+    other.length = 123;
+    shows(&rt, &[frame, other], 1000, &[(7, 2)]);
+    other.length = 128;
+    shows(&rt, &[frame, other], 1000, &[]);
+    let mut other = frame;
+    other.reserved = true;
+    shows(&rt, &[frame, other, other], 1000, &[(8, 2)]);
+    let mut other = frame;
+    other.destination = Some([0x01, 0x80, 0xc2, 0, 0, 3]);
+    shows(&rt, &[frame, other], 1000, &[(9, 2)]);
+    other.destination = None;
+    shows(&rt, &[frame, other], 1000, &[]);
+    let mut other = frame;
+    other.tags = 1;
+    shows(&rt, &[frame, other], 1000, &[(10, 2)]);
+    let mut other = frame;
+    other.other_types = true;
+    shows(&rt, &[frame, other], 1000, &[(24, 2)]);
+    // Each frame of one end breaks another rule.
     let said = a_to_b(UP, UP);
     let mut frames = each_at([0, 1000, 2000, 3000, 4000, 5000, 6000], said);
     frames[0].tags = 2;

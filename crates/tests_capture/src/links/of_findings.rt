@@ -3,80 +3,25 @@ use slowpdu::Info;
 use std::process::Abort;
 
 #[test]
-fn a_healthy_link_shows_nothing(rt: HostRuntime) {
-    let frames = [
-        at(0, a_to_b(FAST, FAST)),
-        at(500, b_to_a(FAST, FAST)),
-        at(1000, a_to_b(FAST, FAST)),
-        at(1500, b_to_a(FAST, FAST)),
-        at(2000, a_to_b(FAST, FAST)),
-        at(2500, b_to_a(FAST, FAST)),
-    ];
-    shows(&rt, &frames, 4000, &[]);
-}
-
-// 6.4.16: no more than three LACPDUs in any Fast_Periodic_Time, a second.
-#[test]
-fn a_fourth_lacpdu_in_any_second_is_found_once(rt: HostRuntime) {
-    let said = a_to_b(FAST, FAST);
-    // within two whole seconds, two in each
-    let across = each_at([600, 900, 1200, 1500], said);
-    shows(&rt, &across, 2000, &[(1, 4)]);
-    // the fourth comes a second after the first
-    let apart = each_at([0, 300, 600, 1000], said);
-    shows(&rt, &apart, 2000, &[]);
-    // the fifth is one too many as well
-    let more = each_at([0, 300, 600, 999, 1100], said);
-    shows(&rt, &more, 2000, &[(1, 4)]);
-    // in a merged capture they stand out of order
-    let merged = each_at([900, 300, 600, 1200], said);
-    shows(&rt, &merged, 2000, &[(1, 4)]);
-    let apart = each_at([900, 300, 0, 1000], said);
-    shows(&rt, &apart, 2000, &[]);
-}
-
-// 6.4.13: no end sends LACPDUs periodically.
-#[test]
-fn both_ends_are_passive(rt: HostRuntime) {
+fn ends_are_passive_individual_or_lose_synchronization(rt: HostRuntime) {
+    // 6.4.13: no end sends LACPDUs periodically.
     let frames = [at(0, a_to_b(0x3c, 0x3c)), at(500, b_to_a(0x3c, 0x3c))];
     shows(&rt, &frames, 200_000, &[(5, 1), (5, 2)]);
     let frames = [at(0, a_to_b(0x3c, UP)), at(500, b_to_a(UP, 0x3c))];
     shows(&rt, &frames, 1000, &[]);
     // Of a Defaulted end's partner nothing is known.
     shows(&rt, &[at(0, a_to_b(0x44, 0x00))], 1000, &[]);
-}
-
-// 6.4.15: the port leaves its aggregator.
-#[test]
-fn synchronization_is_lost(rt: HostRuntime) {
+    // 6.3.5: the Aggregation bit of one end is 0.
+    let frames = [at(0, a_to_b(0x39, UP)), at(500, b_to_a(UP, 0x39))];
+    shows(&rt, &frames, 1000, &[(14, 1)]);
+    let frames = [at(0, a_to_b(0x39, 0x39)), at(500, b_to_a(0x39, 0x39))];
+    shows(&rt, &frames, 1000, &[]);
+    // 6.4.15: the port leaves its aggregator.
     let up = a_to_b(FAST, FAST);
     let down = a_to_b(0x07, FAST);
-    shows(
-        &rt,
-        &[at(0, up), at(1000, down), at(2000, down)],
-        3000,
-        &[(13, 2)],
-    );
+    let frames = [at(0, up), at(1000, down), at(2000, down)];
+    shows(&rt, &frames, 3000, &[(13, 2)]);
     shows(&rt, &[at(0, down), at(1000, up), at(2000, up)], 3000, &[]);
-}
-
-// 6.4.15: the Mux machine of one end is in ATTACHED, and goes on to COLLECTING once the partner is synchronized.
-#[test]
-fn an_end_is_attached_and_its_partner_is_not_synchronized(rt: HostRuntime) {
-    let said = a_to_b(0x0d, 0x05);
-    let frames = each_at([0, 3000, 6000, 6001], said);
-    shows(&rt, &frames, 7000, &[(22, 4)]);
-    shows(&rt, &frames[..3], 7000, &[]);
-    let between = at(3000, a_to_b(0x0d, 0x0d));
-    let frames = [at(0, said), between, at(6000, said), at(12_000, said)];
-    shows(&rt, &frames, 13_000, &[]);
-    let collects = a_to_b(0x1d, 0x05);
-    shows(&rt, &[at(0, collects), at(7000, collects)], 8000, &[]);
-    let apart = a_to_b(0x05, 0x05);
-    shows(&rt, &[at(0, apart), at(7000, apart)], 8000, &[]);
-    // Without a partner it is Defaulted for too long, and no more.
-    let alone = a_to_b(0x4d, 0x00);
-    shows(&rt, &[at(0, alone), at(6001, alone)], 7000, &[(12, 2)]);
 }
 
 // 6.4.12: current information expires for the second time.
@@ -96,15 +41,6 @@ fn an_end_is_expired_again_and_again(rt: HostRuntime) {
     ];
     shows(&rt, &frames, 7000, &[(23, 6)]);
     shows(&rt, &frames[..5], 7000, &[]);
-}
-
-// 6.3.5: the Aggregation bit of one end is 0.
-#[test]
-fn one_end_is_individual(rt: HostRuntime) {
-    let frames = [at(0, a_to_b(0x39, UP)), at(500, b_to_a(UP, 0x39))];
-    shows(&rt, &frames, 1000, &[(14, 1)]);
-    let frames = [at(0, a_to_b(0x39, 0x39)), at(500, b_to_a(0x39, 0x39))];
-    shows(&rt, &frames, 1000, &[]);
 }
 
 // 6.4.4, 6.4.15: the port waits for 2 seconds, give or take 0.25, before it is attached to its aggregator.
@@ -140,9 +76,24 @@ fn an_end_is_synchronized_too_soon(rt: HostRuntime) {
     shows(&rt, &[at(0, other), at(1000, alone)], 3000, &[]);
 }
 
-// 6.4.15: frames that are distributed are collected.
 #[test]
-fn frames_are_distributed_that_nobody_collects(rt: HostRuntime) {
+fn a_partner_is_not_synchronized_or_does_not_collect(rt: HostRuntime) {
+    // 6.4.15: the Mux machine of one end is in ATTACHED, and goes on to COLLECTING once the partner is synchronized.
+    let said = a_to_b(0x0d, 0x05);
+    let frames = each_at([0, 3000, 6000, 6001], said);
+    shows(&rt, &frames, 7000, &[(22, 4)]);
+    shows(&rt, &frames[..3], 7000, &[]);
+    let between = at(3000, a_to_b(0x0d, 0x0d));
+    let frames = [at(0, said), between, at(6000, said), at(12_000, said)];
+    shows(&rt, &frames, 13_000, &[]);
+    let collects = a_to_b(0x1d, 0x05);
+    shows(&rt, &[at(0, collects), at(7000, collects)], 8000, &[]);
+    let apart = a_to_b(0x05, 0x05);
+    shows(&rt, &[at(0, apart), at(7000, apart)], 8000, &[]);
+    // Without a partner it is Defaulted for too long, and no more.
+    let alone = a_to_b(0x4d, 0x00);
+    shows(&rt, &[at(0, alone), at(6001, alone)], 7000, &[(12, 2)]);
+    // 6.4.15: frames that are distributed are collected.
     let said = a_to_b(UP, 0x0d);
     let frames = each_at([0, 1000, 2000, 3000, 3001], said);
     shows(&rt, &frames, 4000, &[(17, 5)]);
@@ -155,9 +106,9 @@ fn frames_are_distributed_that_nobody_collects(rt: HostRuntime) {
     shows(&rt, &frames, 5000, &[]);
 }
 
-// A step back is told, and no time is judged over it.
 #[test]
-fn a_clock_that_steps_back_shows_this_alone(rt: HostRuntime) {
+fn a_clock_steps_back_and_directions_stand_apart(rt: HostRuntime) {
+    // A step back is told, and no time is judged over it.
     let said = a_to_b(FAST, FAST);
     let fourth = each_at([5000, 6000, 7000, 1000], said);
     shows(&rt, &fourth, 1500, &[(28, 4)]);
@@ -172,11 +123,7 @@ fn a_clock_that_steps_back_shows_this_alone(rt: HostRuntime) {
     shows(&rt, &[at(5000, said), at(4000, said)], 5000, &[]);
     let (back, again) = (at(3999, said), at(2000, said));
     shows(&rt, &[at(5000, said), back, again], 5000, &[(28, 2)]);
-}
-
-// The frames of one direction stand behind those of the other: B hears A, and responds.
-#[test]
-fn directions_one_behind_the_other_are_not_judged_by_their_order(rt: HostRuntime) {
+    // The frames of one direction stand behind those of the other: B hears A, and responds.
     let (said, answer) = (a_to_b(FAST, FAST), b_to_a(FAST, FAST));
     let frames = [
         at(0, said),
@@ -191,7 +138,32 @@ fn directions_one_behind_the_other_are_not_judged_by_their_order(rt: HostRuntime
 }
 
 #[test]
-fn a_frame_without_a_time_shows_no_rule_of_time(rt: HostRuntime) {
+fn frames_of_a_healthy_link_or_too_many(rt: HostRuntime) {
+    let frames = [
+        at(0, a_to_b(FAST, FAST)),
+        at(500, b_to_a(FAST, FAST)),
+        at(1000, a_to_b(FAST, FAST)),
+        at(1500, b_to_a(FAST, FAST)),
+        at(2000, a_to_b(FAST, FAST)),
+        at(2500, b_to_a(FAST, FAST)),
+    ];
+    shows(&rt, &frames, 4000, &[]);
+    // 6.4.16: no more than three LACPDUs in any Fast_Periodic_Time, a second.
+    let said = a_to_b(FAST, FAST);
+    // within two whole seconds, two in each
+    let across = each_at([600, 900, 1200, 1500], said);
+    shows(&rt, &across, 2000, &[(1, 4)]);
+    // the fourth comes a second after the first
+    let apart = each_at([0, 300, 600, 1000], said);
+    shows(&rt, &apart, 2000, &[]);
+    // the fifth is one too many as well
+    let more = each_at([0, 300, 600, 999, 1100], said);
+    shows(&rt, &more, 2000, &[(1, 4)]);
+    // in a merged capture they stand out of order
+    let merged = each_at([900, 300, 600, 1200], said);
+    shows(&rt, &merged, 2000, &[(1, 4)]);
+    let apart = each_at([900, 300, 0, 1000], said);
+    shows(&rt, &apart, 2000, &[]);
     let mut said = at(0, a_to_b(FAST, FAST));
     said.nanoseconds = 0;
     shows(&rt, &[said, said, said, said], 200_000, &[]);

@@ -20,33 +20,6 @@ fn keyed(said: Said, number: u16, keys: (u16, u16)) -> Said {
     other
 }
 
-// 6.3.6: a LAG ID has the keys of both systems.
-#[test]
-fn keys_differ_within_a_pair_of_systems(rt: HostRuntime) {
-    let second = |from: Info, to: Info, keys: (u16, u16)| {
-        on(1, at(400, keyed(said_by(from, to), 2, keys)))
-    };
-    let first = at(0, a_to_b(FAST, FAST));
-    let again = at(1000, a_to_b(FAST, FAST));
-    let third = at(2000, a_to_b(FAST, FAST));
-    let (a, b, c) = (info(A, FAST), info(B, FAST), info(C, FAST));
-    let frames = |other: SlowFrame| [first, other, again, third];
-    shows(&rt, &frames(second(a, b, (2, 1))), 3000, &[(15, 4)]);
-    shows(&rt, &frames(second(a, b, (1, 2))), 3000, &[(15, 4)]);
-    shows(&rt, &frames(second(a, b, (1, 1))), 3000, &[]);
-    shows(&rt, &frames(second(a, c, (2, 2))), 3000, &[]);
-    // The first LACPDU of the two may have been on its way.
-    shows(&rt, &frames(second(a, b, (2, 1)))[..3], 3000, &[]);
-    // The other link was heard 90 seconds before, and longer ago.
-    let slow = |milliseconds: u64| at(milliseconds, a_to_b(UP, UP));
-    let other = second(info(A, UP), info(B, UP), (2, 1));
-    let answer = at(400, b_to_a(UP, UP));
-    let frames = [slow(0), answer, other, slow(90_000), slow(90_400)];
-    shows(&rt, &frames, 90_400, &[(15, 5)]);
-    let frames = [slow(0), answer, other, slow(90_000), slow(90_401)];
-    shows(&rt, &frames, 90_400, &[]);
-}
-
 // 6.3.6: two groups of A lead to two groups of B, one to one: the keys of their links differ at both ends.
 #[test]
 fn two_bundles_are_between_two_systems(rt: HostRuntime) {
@@ -76,24 +49,9 @@ fn two_bundles_are_between_two_systems(rt: HostRuntime) {
     shows(&rt, &frames((10, 20), (20, 10)), 3000, &expected);
 }
 
-// What an end has said before counts no more.
 #[test]
-fn a_key_that_is_set_right_is_no_fault(rt: HostRuntime) {
-    let frames = [
-        link(0, 1, (1, 1)),
-        link(100, 2, (1, 2)),
-        link(1000, 1, (1, 1)),
-        link(1100, 2, (1, 1)),
-        link(2000, 1, (1, 1)),
-        link(2100, 2, (1, 1)),
-        link(3000, 1, (1, 1)),
-    ];
-    shows(&rt, &frames, 3500, &[]);
-}
-
-// 6.3.6: both links of two systems carry, each in an aggregator of its own, since B gives them the keys 1 and 2.
-#[test]
-fn two_links_carry_in_two_groups(rt: HostRuntime) {
+fn keys_of_two_links_are_judged_by_their_latest(rt: HostRuntime) {
+    // 6.3.6: both links of two systems carry, each in an aggregator of its own, since B gives them the keys 1 and 2.
     let (first, answer) = (a_to_b(FAST, FAST), b_to_a(FAST, FAST));
     let (second, reply) = (keyed(first, 2, (1, 2)), keyed(answer, 2, (2, 1)));
     let other = |milliseconds: u64, said: Said| on(1, at(milliseconds, said));
@@ -113,12 +71,46 @@ fn two_links_carry_in_two_groups(rt: HostRuntime) {
     ];
     let expected = [(15, 9), (15, 10), (15, 11), (15, 12)];
     shows(&rt, &frames, 2500, &expected);
+    // What an end has said before counts no more.
+    let frames = [
+        link(0, 1, (1, 1)),
+        link(100, 2, (1, 2)),
+        link(1000, 1, (1, 1)),
+        link(1100, 2, (1, 1)),
+        link(2000, 1, (1, 1)),
+        link(2100, 2, (1, 1)),
+        link(3000, 1, (1, 1)),
+    ];
+    shows(&rt, &frames, 3500, &[]);
 }
 
-// 6.3.6: the frames of one interface stand behind those of the other, as `mergecap -a` writes them: no time is judged between
-// the two.
 #[test]
-fn keys_are_not_judged_where_one_link_stands_behind_the_other(rt: HostRuntime) {
+fn keys_differ_within_a_pair_of_systems_at_one_time(rt: HostRuntime) {
+    // 6.3.6: a LAG ID has the keys of both systems.
+    let second = |from: Info, to: Info, keys: (u16, u16)| {
+        on(1, at(400, keyed(said_by(from, to), 2, keys)))
+    };
+    let first = at(0, a_to_b(FAST, FAST));
+    let again = at(1000, a_to_b(FAST, FAST));
+    let third = at(2000, a_to_b(FAST, FAST));
+    let (a, b, c) = (info(A, FAST), info(B, FAST), info(C, FAST));
+    let frames = |other: SlowFrame| [first, other, again, third];
+    shows(&rt, &frames(second(a, b, (2, 1))), 3000, &[(15, 4)]);
+    shows(&rt, &frames(second(a, b, (1, 2))), 3000, &[(15, 4)]);
+    shows(&rt, &frames(second(a, b, (1, 1))), 3000, &[]);
+    shows(&rt, &frames(second(a, c, (2, 2))), 3000, &[]);
+    // The first LACPDU of the two may have been on its way.
+    shows(&rt, &frames(second(a, b, (2, 1)))[..3], 3000, &[]);
+    // The other link was heard 90 seconds before, and longer ago.
+    let slow = |milliseconds: u64| at(milliseconds, a_to_b(UP, UP));
+    let other = second(info(A, UP), info(B, UP), (2, 1));
+    let answer = at(400, b_to_a(UP, UP));
+    let frames = [slow(0), answer, other, slow(90_000), slow(90_400)];
+    shows(&rt, &frames, 90_400, &[(15, 5)]);
+    let frames = [slow(0), answer, other, slow(90_000), slow(90_401)];
+    shows(&rt, &frames, 90_400, &[]);
+    // 6.3.6: the frames of one interface stand behind those of the other, as `mergecap -a` writes them: no time is judged between
+    // the two.
     let said = a_to_b(UP, UP);
     let other = keyed(said, 2, (2, 1));
     let second = |milliseconds: u64| on(1, at(milliseconds, other));

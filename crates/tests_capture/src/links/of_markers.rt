@@ -25,33 +25,6 @@ fn answered(milliseconds: u64, id: u32) -> SlowFrame {
     marker(milliseconds, MarkerKind::Response, B, id)
 }
 
-// 6.5.4: a response has the port, the system and the transaction of the marker.
-#[test]
-fn a_marker_waits_for_its_response(rt: HostRuntime) {
-    shows(&rt, &[asked(0, 7), answered(100, 7)], 10_000, &[]);
-    shows(&rt, &[asked(0, 7), answered(3000, 7)], 10_000, &[]);
-    shows(&rt, &[asked(0, 7), answered(3001, 7)], 10_000, &[(19, 1)]);
-    shows(&rt, &[asked(0, 7)], 3000, &[]);
-    shows(&rt, &[asked(0, 7)], 3001, &[(19, 1)]);
-    shows(&rt, &[asked(0, 7), answered(100, 8)], 10_000, &[(19, 1)]);
-    let elsewhere = on(1, answered(100, 7));
-    shows(&rt, &[asked(0, 7), elsewhere], 10_000, &[(19, 1)]);
-}
-
-#[test]
-fn the_first_marker_that_waits_too_long_is_found(rt: HostRuntime) {
-    let frames = [
-        asked(0, 1),
-        answered(1, 1),
-        asked(1000, 2),
-        asked(5000, 3),
-        answered(5001, 3),
-    ];
-    shows(&rt, &frames, 20_000, &[(19, 3)]);
-    let frames = [asked(0, 1), asked(4000, 2), asked(8000, 3)];
-    shows(&rt, &frames, 20_000, &[(19, 1)]);
-}
-
 /// An LACPDU of B, behind which it responds.
 fn b_says() -> SlowFrame {
     at(0, b_to_a(UP, UP))
@@ -93,9 +66,18 @@ fn of_port_2(mut frame: SlowFrame) -> SlowFrame {
     frame
 }
 
-// 6.5.4: markers of two links are under way at once on one interface, as at a mirror of both.
+/// What B says, and then markers 1, 2 and so on.
+fn says_and_waits<const N: usize>() -> [SlowFrame; N] {
+    let mut frames = [b_says(); N];
+    for (id, frame) in (1u32..).zip(frames.iter_mut().skip(1)) {
+        *frame = asked(u64::from(id).wrapping_mul(10), id);
+    }
+    frames
+}
+
 #[test]
-fn markers_of_two_links_are_answered(rt: HostRuntime) {
+fn markers_of_two_links_and_more_than_eight(rt: HostRuntime) {
+    // 6.5.4: markers of two links are under way at once on one interface, as at a mirror of both.
     let says = b_says();
     let (first, second) = (asked(100, 7), of_port_2(asked(110, 3)));
     let (to_first, to_second) = (answered(200, 7), of_port_2(answered(210, 3)));
@@ -111,20 +93,7 @@ fn markers_of_two_links_are_answered(rt: HostRuntime) {
     // The first port's number in a response to the second one.
     let frames = [says, first, second, answered(200, 3)];
     shows(&rt, &frames, 1000, &[(20, 4)]);
-}
-
-/// What B says, and then markers 1, 2 and so on.
-fn says_and_waits<const N: usize>() -> [SlowFrame; N] {
-    let mut frames = [b_says(); N];
-    for (id, frame) in (1u32..).zip(frames.iter_mut().skip(1)) {
-        *frame = asked(u64::from(id).wrapping_mul(10), id);
-    }
-    frames
-}
-
-// A marker beyond eight that wait finds no place: no response is judged from then on.
-#[test]
-fn of_more_than_eight_markers_nothing_is_said(rt: HostRuntime) {
+    // A marker beyond eight that wait finds no place: no response is judged from then on.
     let (answer, other) = (answered(200, 1), answered(210, 99));
     let mut frames = says_and_waits::<11>();
     frames[9] = answer;
@@ -137,7 +106,26 @@ fn of_more_than_eight_markers_nothing_is_said(rt: HostRuntime) {
 }
 
 #[test]
-fn a_response_that_comes_late_is_found(rt: HostRuntime) {
+fn markers_wait_for_their_response(rt: HostRuntime) {
+    // 6.5.4: a response has the port, the system and the transaction of the marker.
+    shows(&rt, &[asked(0, 7), answered(100, 7)], 10_000, &[]);
+    shows(&rt, &[asked(0, 7), answered(3000, 7)], 10_000, &[]);
+    shows(&rt, &[asked(0, 7), answered(3001, 7)], 10_000, &[(19, 1)]);
+    shows(&rt, &[asked(0, 7)], 3000, &[]);
+    shows(&rt, &[asked(0, 7)], 3001, &[(19, 1)]);
+    shows(&rt, &[asked(0, 7), answered(100, 8)], 10_000, &[(19, 1)]);
+    let elsewhere = on(1, answered(100, 7));
+    shows(&rt, &[asked(0, 7), elsewhere], 10_000, &[(19, 1)]);
+    let frames = [
+        asked(0, 1),
+        answered(1, 1),
+        asked(1000, 2),
+        asked(5000, 3),
+        answered(5001, 3),
+    ];
+    shows(&rt, &frames, 20_000, &[(19, 3)]);
+    let frames = [asked(0, 1), asked(4000, 2), asked(8000, 3)];
+    shows(&rt, &frames, 20_000, &[(19, 1)]);
     let says = b_says();
     shows(&rt, &[says, asked(100, 7), answered(3100, 7)], 4000, &[]);
     // The marker has waited for too long, and its response is late.

@@ -32,9 +32,9 @@ fn who_answers_is_not_who_is_named(rt: HostRuntime) {
     shows(&rt, &frames, 3000, &[]);
 }
 
-// B changes its key from 1 to 2 and says so.
 #[test]
-fn the_latest_answer_counts(rt: HostRuntime) {
+fn the_latest_answer_counts_for_90_seconds(rt: HostRuntime) {
+    // B changes its key from 1 to 2 and says so.
     let said = a_to_b(FAST, FAST);
     let answer = b_to_a(FAST, FAST);
     let mut other_said = said;
@@ -55,33 +55,7 @@ fn the_latest_answer_counts(rt: HostRuntime) {
     // one LACPDU was on its way
     shows(&rt, &frames(said, other_said), 3000, &[]);
     shows(&rt, &frames(said, said), 3000, &[(4, 5)]);
-}
-
-// A is cabled to C, which answers at once.
-#[test]
-fn a_link_that_is_cabled_anew_shows_nothing(rt: HostRuntime) {
-    let mut said = a_to_b(FAST, FAST);
-    said.partner = info(C, FAST);
-    let mut answer = b_to_a(FAST, FAST);
-    answer.actor = info(C, FAST);
-    let frames = |third: u64| {
-        [
-            at(0, a_to_b(FAST, FAST)),
-            at(500, b_to_a(FAST, FAST)),
-            at(third, said),
-            at(1850, answer),
-            at(2600, said),
-            at(3500, said),
-        ]
-    };
-    shows(&rt, &frames(1750), 3500, &[]);
-    // It is synchronized with C too soon.
-    shows(&rt, &frames(1000), 3500, &[(27, 3)]);
-}
-
-// 6.4.4: Long_Timeout_Time is 90 seconds. B answers 500 milliseconds after the beginning and is not heard any more.
-#[test]
-fn an_answer_counts_for_90_seconds(rt: HostRuntime) {
+    // 6.4.4: Long_Timeout_Time is 90 seconds. B answers 500 milliseconds after the beginning and is not heard any more.
     let named = a_to_b(UP, UP);
     let mut said = named;
     said.partner = info(C, UP);
@@ -132,7 +106,25 @@ fn the_partner_is_the_end_that_answers(rt: HostRuntime) {
 }
 
 #[test]
-fn two_links_in_one_capture_are_not_mixed(rt: HostRuntime) {
+fn links_cabled_anew_or_in_one_capture_are_not_mixed(rt: HostRuntime) {
+    // A is cabled to C, which answers at once.
+    let mut said = a_to_b(FAST, FAST);
+    said.partner = info(C, FAST);
+    let mut answer = b_to_a(FAST, FAST);
+    answer.actor = info(C, FAST);
+    let frames = |third: u64| {
+        [
+            at(0, a_to_b(FAST, FAST)),
+            at(500, b_to_a(FAST, FAST)),
+            at(third, said),
+            at(1850, answer),
+            at(2600, said),
+            at(3500, said),
+        ]
+    };
+    shows(&rt, &frames(1750), 3500, &[]);
+    // It is synchronized with C too soon.
+    shows(&rt, &frames(1000), 3500, &[(27, 3)]);
     let of = |system: u8, partner: u8| said_by(info(system, FAST), info(partner, FAST));
     let frames = [
         at(0, of(A, B)),
@@ -290,12 +282,8 @@ fn two_actors_are_on_one_segment(rt: HostRuntime) {
     let mut rival = a_to_b(FAST, FAST);
     rival.actor = info(C, FAST);
     let said = a_to_b(FAST, FAST);
-    shows(
-        &rt,
-        &[at(0, said), at(500, rival), at(1000, said)],
-        2000,
-        &[(16, 3)],
-    );
+    let frames = [at(0, said), at(500, rival), at(1000, said)];
+    shows(&rt, &frames, 2000, &[(16, 3)]);
     // on another interface, or long ago
     let elsewhere = on(1, at(500, rival));
     shows(&rt, &[at(0, said), elsewhere, at(1000, said)], 2000, &[]);

@@ -16,9 +16,9 @@ fn a_to_a(port: u16, partner: u16) -> Said {
     said
 }
 
-// 6.3.2: a System Identifier is of one system. Two ports of A are on one cable.
 #[test]
-fn two_ports_of_one_system_are_on_one_cable(rt: HostRuntime) {
+fn ports_of_one_system_hear_each_other_or_themselves(rt: HostRuntime) {
+    // 6.3.2: a System Identifier is of one system. Two ports of A are on one cable.
     let frames = [
         at(0, a_to_a(1, 2)),
         at(500, a_to_a(2, 1)),
@@ -39,11 +39,7 @@ fn two_ports_of_one_system_are_on_one_cable(rt: HostRuntime) {
         at(2500, two),
     ];
     shows(&rt, &frames, 3000, &[(30, 1), (30, 2)]);
-}
-
-// A port that hears what it sends names itself once it does. No other end is heard on its interface.
-#[test]
-fn a_port_hears_itself(rt: HostRuntime) {
+    // A port that hears what it sends names itself once it does. No other end is heard on its interface.
     let nobody = said_by(info(A, 0x47), Info::default());
     let itself = a_to_a(1, 1);
     let frames = [
@@ -104,9 +100,9 @@ fn two_machines_have_one_system_identifier(rt: HostRuntime) {
     shows(&rt, &alike, 2000, &expected);
 }
 
-// 6.3.2: a System Identifier is a priority and a MAC address.
 #[test]
-fn systems_with_one_address_are_two(rt: HostRuntime) {
+fn systems_are_told_apart_by_priority_and_address(rt: HostRuntime) {
+    // 6.3.2: a System Identifier is a priority and a MAC address.
     let frames = |said: Said| [at(0, said), at(1000, said)];
     let mut said = a_to_a(1, 2);
     said.partner.system.priority = 1;
@@ -115,22 +111,14 @@ fn systems_with_one_address_are_two(rt: HostRuntime) {
     said.actor.system.priority = 1;
     shows(&rt, &frames(said), 2000, &[]);
     shows(&rt, &frames(a_to_b(FAST, FAST)), 2000, &[]);
-}
-
-// What a Defaulted or Expired end names is not what it hears.
-#[test]
-fn an_end_without_current_information_names_its_own_system(rt: HostRuntime) {
+    // What a Defaulted or Expired end names is not what it hears.
     for state in [0x47, 0x87, 0xc7] {
         let mut said = a_to_a(1, 2);
         said.actor.state = info(A, state).state;
         let frames: [SlowFrame; 2] = [at(0, said), at(1000, said)];
         shows(&rt, &frames, 2000, &[]);
     }
-}
-
-// Of the Actor's state only Defaulted and Expired count, of the Partner's nothing.
-#[test]
-fn other_bits_do_not_matter(rt: HostRuntime) {
+    // Of the Actor's state only Defaulted and Expired count, of the Partner's nothing.
     for (own, seen) in [(0x00, 0xc1), (FAST, 0xff)] {
         let mut said = a_to_a(1, 2);
         said.actor.state = info(A, own).state;

@@ -1,45 +1,44 @@
 use crate::of_portmachines::{Fact, Step, end, port_after_a_second, quiet_port, walk};
 use portmachines::PeriodicState;
 
-#[test]
-fn another_mode_is_told_to_the_partner(rt: HostRuntime) {
-    const STEPS: [Step; 19] = [
-        Step::Sends(Some(0xc7)),
-        // active and short, as before
-        Step::Mode(true, true),
-        Step::Is(Fact::Ntt(false)),
-        Step::Mode(true, false),
-        Step::Is(Fact::Ntt(true)),
-        Step::Is(Fact::CurrentWhile(20)),
-        Step::Sends(Some(0xc5)),
-        Step::Mode(false, false),
-        Step::Sends(Some(0xc4)),
-        // three were sent
-        Step::Mode(false, true),
-        Step::Sends(None),
-        Step::Is(Fact::State(0xc6)),
-        // the next LACPDU starts current_while with the time that is set
-        Step::Mode(false, false),
-        Step::Take(0x05),
-        Step::Is(Fact::CurrentWhile(900)),
-        Step::Mode(false, true),
-        Step::Is(Fact::CurrentWhile(900)),
-        Step::Take(0x05),
-        Step::Is(Fact::CurrentWhile(30)),
-    ];
-    walk(&rt, port_after_a_second(), &STEPS);
-}
+const MODES: [Step; 19] = [
+    Step::Sends(Some(0xc7)),
+    // active and short, as before
+    Step::Mode(true, true),
+    Step::Is(Fact::Ntt(false)),
+    Step::Mode(true, false),
+    Step::Is(Fact::Ntt(true)),
+    Step::Is(Fact::CurrentWhile(20)),
+    Step::Sends(Some(0xc5)),
+    Step::Mode(false, false),
+    Step::Sends(Some(0xc4)),
+    // three were sent
+    Step::Mode(false, true),
+    Step::Sends(None),
+    Step::Is(Fact::State(0xc6)),
+    // the next LACPDU starts current_while with the time that is set
+    Step::Mode(false, false),
+    Step::Take(0x05),
+    Step::Is(Fact::CurrentWhile(900)),
+    Step::Mode(false, true),
+    Step::Is(Fact::CurrentWhile(900)),
+    Step::Take(0x05),
+    Step::Is(Fact::CurrentWhile(30)),
+];
 
 #[test]
-fn timers_by_whose_timeout(rt: HostRuntime) {
+fn modes_are_told_and_timers_run_by_whose_timeout(rt: HostRuntime) {
+    walk(&rt, "modes", port_after_a_second(), &MODES);
     let known = end(1, 0x07);
     walk(
         &rt,
+        "modes",
         quiet_port(true, true),
         &[Step::Told(0x05, known), Step::Is(Fact::CurrentWhile(30))],
     );
     walk(
         &rt,
+        "modes",
         quiet_port(true, false),
         &[Step::Told(0x07, known), Step::Is(Fact::CurrentWhile(900))],
     );
@@ -52,5 +51,5 @@ fn timers_by_whose_timeout(rt: HostRuntime) {
         Step::Is(Fact::PeriodicIn(PeriodicState::Fast)),
         Step::Is(Fact::PeriodicTimer(10)),
     ];
-    walk(&rt, quiet_port(true, true), &steps);
+    walk(&rt, "modes", quiet_port(true, true), &steps);
 }

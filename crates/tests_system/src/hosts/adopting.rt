@@ -1,4 +1,4 @@
-use crate::hosts::playing::{config, plays, told};
+use crate::hosts::playing::{config, told};
 use crate::hosts::resuming::saved;
 use crate::systems::{Row, modulo, play};
 use dataplane::resume;
@@ -29,38 +29,7 @@ fn conversations_go_back_to_the_ports_of_the_chip(rt: HostRuntime) -> Result<(),
     let alloc = rt.alloc();
     let ports = [saved(3, 300), saved(7, 300)];
     let mut system = resume(alloc, config(alloc, 70)?, modulo, &ports)?;
-    play(&rt, alloc, &mut system, &[told(3), told(7)])?;
-    play(&rt, alloc, &mut system, &ROWS)?;
-    Ok(())
-}
-
-#[test]
-fn what_is_not_adopted_stays(rt: HostRuntime) -> Result<(), Fail> {
-    const ROWS: [Row<'static>; 20] = [
-        Row::Adopts(3, 999, 4, Err(SystemFault::NoAggregator)),
-        Row::Adopts(0, 14, 7, Err(SystemFault::NoAggregator)),
-        Row::Adopts(1, 999, 4, Err(SystemFault::NoPort)),
-        Row::Adopts(1, 256, 9, Err(SystemFault::NotAssigned)),
-        // the link of port 9 is down; port 7 distributes in aggregator 1
-        Row::Adopts(1, 14, 9, Err(SystemFault::NotDistributing)),
-        Row::Adopts(2, 14, 7, Err(SystemFault::NotDistributing)),
-        Row::Free(1, 14, None),
-        // a conversation that waits, and one that then prefers 7
-        Row::OffersConversation(1, 14, Ok(3)),
-        Row::Moves(1, 14, 7, Ok(())),
-        Row::Adopts(1, 14, 3, Err(SystemFault::Held)),
-        Row::Adopts(1, 14, 7, Err(SystemFault::Held)),
-        Row::ForcesPort(3, Ok(1)),
-        Row::Adopts(1, 14, 3, Ok(())),
-        Row::Conversing(1, 14, Some(Assignment::On(3))),
-        // the last identifier is used up
-        Row::Moves(1, 14, 7, Ok(())),
-        Row::Marks(3, 4_294_967_295),
-        Row::Next(None),
-        Row::Adopts(1, 15, 9, Err(SystemFault::NotDistributing)),
-        Row::Adopts(1, 15, 7, Err(SystemFault::MarkersSpent)),
-        Row::Free(1, 15, None),
-    ];
-    plays(&rt, rt.alloc(), 4_294_967_295, &ROWS)?;
+    play(&rt, alloc, &mut system, "told", &[told(3), told(7)])?;
+    play(&rt, alloc, &mut system, "adopted", &ROWS)?;
     Ok(())
 }

@@ -154,8 +154,8 @@ fn a_probe_asks_and_a_response_answers(rt: HostRuntime) -> Result<(), Fail> {
 }
 
 #[test]
-fn a_response_to_another_marker_does_not_answer(rt: HostRuntime) -> Result<(), Fail> {
-    const ROWS: [Row; 18] = [
+fn a_response_answers_its_marker_until_a_restart(rt: HostRuntime) -> Result<(), Fail> {
+    const ROWS: [Row; 21] = [
         Row::Link(3, true),
         Row::Link(7, true),
         // to no marker yet
@@ -177,18 +177,6 @@ fn a_response_to_another_marker_does_not_answer(rt: HostRuntime) -> Result<(), F
         Row::Responds(3, 1, 3, 72),
         Row::Noted(3, 2, "answered"),
         Row::Noted(7, 1, "asked"),
-    ];
-    plays(&rt, rt.alloc(), &ROWS)
-}
-
-#[test]
-fn a_restart_forgets(rt: HostRuntime) -> Result<(), Fail> {
-    const ROWS: [Row; 8] = [
-        Row::Link(3, true),
-        Row::Link(7, true),
-        Row::Probes(3),
-        Row::Probes(7),
-        Row::Responds(7, 1, 7, 71),
         Row::Restarts,
         Row::Noted(3, 0, "never-asked"),
         Row::Noted(7, 0, "never-asked"),
@@ -213,9 +201,9 @@ fn a_sent_marker_asks_and_an_lacpdu_does_not(rt: HostRuntime) -> Result<(), Fail
     let alloc = rt.alloc();
     let mut system = System::new(alloc, config(alloc, 70)?, modulo)?;
     let mut notes = Answering::nobody_asked();
-    play(&rt, alloc, &mut system, &come_up()[..4])?;
+    play(&rt, alloc, &mut system, "come up", &come_up()[..4])?;
     steps(&rt, alloc, &mut system, &mut notes, &FIRST)?;
-    play(&rt, alloc, &mut system, &MOVED)?;
+    play(&rt, alloc, &mut system, "moved", &MOVED)?;
     steps(&rt, alloc, &mut system, &mut notes, &THEN)
 }
 

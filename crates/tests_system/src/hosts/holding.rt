@@ -16,7 +16,7 @@ enum Row {
     Clear(u16, usize),
 }
 
-/// Fails unless a handle is put into a conversation, or is handed back for this reason.
+/// Fails unless a handle is put into a conversation, or is handed back for this reason, which is told before.
 fn puts(
     rt: &impl Abort,
     held: &mut Holding<u32>,
@@ -28,6 +28,13 @@ fn puts(
         Some(reason) => Err((reason, handle)),
         None => Ok(()),
     };
+    same_at(
+        rt,
+        "the reason",
+        place,
+        &held.refusal(conversation),
+        &refusal,
+    );
     same_in_row(rt, place, &held.put(conversation, handle), &wanted);
 }
 
@@ -150,25 +157,6 @@ fn what_is_on_a_port_leaves_in_order_and_what_is_not_stays(rt: HostRuntime) -> R
     Ok(())
 }
 
-/// Why a handle would be handed back by conversations 0, 1 and 2.
-fn refuses(rt: &impl Abort, held: &Holding<u32>, wanted: [Option<Refusal>; 3]) {
-    let refusals = [held.refusal(0), held.refusal(1), held.refusal(2)];
-    same(rt, "refusal", &refusals, &wanted);
-}
-
-#[test]
-fn reasons_are_told_before_a_handle_is_put(rt: HostRuntime) -> Result<(), Fail> {
-    let mut held = Holding::new(rt.alloc(), 2, 1, 1)?;
-    let beyond = Some(Refusal::NoConversation);
-    refuses(&rt, &held, [None, None, beyond]);
-    puts(&rt, &mut held, 0, (0, 1), None);
-    let (one, all) = (Some(Refusal::ConversationFull), Some(Refusal::AllFull));
-    refuses(&rt, &held, [one, all, beyond]);
-    let mut none: Holding<u32> = Holding::new(rt.alloc(), 1, 1, 0)?;
-    puts(&rt, &mut none, 1, (0, 1), one);
-    Ok(())
-}
-
 /// A queue of three places is full: a handle comes back, and the first of those in it leaves.
 fn turns(rt: &impl Abort, held: &mut Holding<u32>, handle: u32) {
     let place = handle as usize;
@@ -222,5 +210,7 @@ fn a_conversation_has_no_more_places_than_may_wait_in_all(rt: HostRuntime) -> Re
     plays(&rt, &mut held, &ROWS, (0, 0, 3, 0, 2));
     let mut none: Holding<u32> = Holding::new(rt.alloc(), 300, 0, usize::MAX)?;
     puts(&rt, &mut none, 0, (299, 1), FULL);
+    let mut none: Holding<u32> = Holding::new(rt.alloc(), 1, 1, 0)?;
+    puts(&rt, &mut none, 1, (0, 1), Some(Refusal::ConversationFull));
     Ok(())
 }

@@ -46,14 +46,19 @@ pub(crate) fn come_up() -> [Row<'static>; 6] {
     ]
 }
 
-/// Plays rows on a new system whose ports 3 and 7 distribute in aggregator 1.
-pub(crate) fn plays(
+/// A name, the first marker, and rows.
+pub(crate) type Case<'a> = (&'a str, u32, &'a [Row<'a>]);
+
+/// Plays the rows of each case on a new system whose ports 3 and 7 distribute in aggregator 1.
+pub(crate) fn plays_cases(
     rt: &impl Abort,
     alloc: Global,
-    first_marker: u32,
-    rows: &[Row<'_>],
+    cases: &[Case<'_>],
 ) -> Result<(), SystemFault> {
-    let mut system = System::new(alloc, config(alloc, first_marker)?, modulo)?;
-    play(rt, alloc, &mut system, &come_up())?;
-    play(rt, alloc, &mut system, rows)
+    for (case, first_marker, rows) in cases {
+        let mut system = System::new(alloc, config(alloc, *first_marker)?, modulo)?;
+        play(rt, alloc, &mut system, *case, &come_up())?;
+        play(rt, alloc, &mut system, *case, *rows)?;
+    }
+    Ok(())
 }

@@ -74,8 +74,8 @@ fn saved_ports_distribute_at_once(rt: HostRuntime) -> Result<(), Fail> {
     let ports = [saved(3, 899), saved(7, 0)];
     let mut system = resume(alloc, config(alloc, 70)?, modulo, &ports)?;
     same(&rt, "distributes", &system.distributes(7), &Some(true));
-    play(&rt, alloc, &mut system, &[told(3), told(7)])?;
-    play(&rt, alloc, &mut system, &ROWS)?;
+    play(&rt, alloc, &mut system, "told", &[told(3), told(7)])?;
+    play(&rt, alloc, &mut system, "resumed", &ROWS)?;
     Ok(())
 }
 
@@ -101,21 +101,22 @@ fn what_changed_meanwhile_is_refused(rt: HostRuntime) -> Result<(), Fail> {
         // a marker; a length that is wrong
         ([altered(3, 14, 2), saved(7, 0)], PORT_3),
         ([altered(3, 17, 19), saved(7, 0)], PORT_3),
+        // there are two aggregators; one group is in one aggregator
+        ([of_system(3, 1, 0, 0x42), of_system(7, 3, 0, 0x99)], PORT_7),
+        ([of_system(3, 2, 0, 0x42), of_system(7, 1, 0, 0x42)], PORT_3),
+        ([of_system(3, 0, 0, 0x42), of_system(7, 3, 0, 0x42)], PORT_7),
     ];
     for (row, (ports, why)) in rows.iter().enumerate() {
         refused(&rt, alloc, row, ports, *why)?;
     }
-    Ok(())
-}
-
-#[test]
-fn a_configuration_is_refused_as_by_new(rt: HostRuntime) -> Result<(), Fail> {
-    let alloc = rt.alloc();
+    let ports = [of_system(3, 0, 0, 0x42), of_system(7, 0, 0, 0x42)];
+    let made = resume(alloc, config(alloc, 70)?, modulo, &ports);
+    same(&rt, "any aggregator", &made.is_ok(), &true);
     let mut config = config(alloc, 70)?;
     config.conversations = 100;
     let made = resume(alloc, config, modulo, &[saved(3, 0)]);
     let why = ResumeFault::New(SystemFault::BadConfig(BadConfig::Conversations));
-    same(&rt, "the reason", &made.err(), &Some(why));
+    same(&rt, "the configuration", &made.err(), &Some(why));
     Ok(())
 }
 
@@ -149,8 +150,13 @@ fn is_new<F: Fn(u16, usize) -> usize + Drop>(
 ) {
     same(rt, "is_up", &system.is_up(port), &Some(false));
     same(rt, "the readers", &look(system, port), &look(fresh, port));
-    same(rt, "current_while", &system.current_while(port), &Some(0));
-    same(rt, "wait_while", &system.wait_while(port), &Some(0));
+}
+
+/// The same configuration without its last port.
+fn of_two_ports(alloc: Global) -> Result<Config, NoMemory> {
+    let mut config = config(alloc, 70)?;
+    let _last = config.ports.pop();
+    Ok(config)
 }
 
 #[test]
@@ -169,41 +175,11 @@ fn ports_come_back_into_their_aggregators(rt: HostRuntime) -> Result<(), Fail> {
         let other = if row == 2 { 3 } else { 9 };
         is_new(&rt, &system, &fresh, other);
     }
-    Ok(())
-}
-
-/// The same configuration without its last port.
-fn of_two_ports(alloc: Global) -> Result<Config, NoMemory> {
-    let mut config = config(alloc, 70)?;
-    let _last = config.ports.pop();
-    Ok(config)
-}
-
-#[test]
-fn the_second_port_of_a_group_takes_the_empty_aggregator(rt: HostRuntime) -> Result<(), Fail> {
-    let alloc = rt.alloc();
+    // the second port of a group takes the empty aggregator
     let ports = [of_system(3, 2, 0, 0x99), of_system(7, 2, 600, 0x99)];
     let mut system = resume(alloc, of_two_ports(alloc)?, modulo, &ports)?;
     are_back(&rt, &system, &ports);
     let came = adopt(&mut system, AggId(2), 14, 3);
     same(&rt, "adopted in 2", &came, &Ok(()));
-    Ok(())
-}
-
-#[test]
-fn a_port_that_was_in_no_such_aggregator_is_refused(rt: HostRuntime) -> Result<(), Fail> {
-    let alloc = rt.alloc();
-    let rows = [
-        // there are two; one group is in one aggregator
-        ([of_system(3, 1, 0, 0x42), of_system(7, 3, 0, 0x99)], 7),
-        ([of_system(3, 2, 0, 0x42), of_system(7, 1, 0, 0x42)], 3),
-        ([of_system(3, 0, 0, 0x42), of_system(7, 3, 0, 0x42)], 7),
-    ];
-    for (row, (ports, port)) in rows.iter().enumerate() {
-        refused(&rt, alloc, row, ports, ResumeFault::NotDistributing(*port))?;
-    }
-    let ports = [of_system(3, 0, 0, 0x42), of_system(7, 0, 0, 0x42)];
-    let made = resume(alloc, config(alloc, 70)?, modulo, &ports);
-    same(&rt, "any aggregator", &made.is_ok(), &true);
     Ok(())
 }

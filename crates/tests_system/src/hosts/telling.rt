@@ -34,16 +34,22 @@ fn each_conversation_tells_its_port_at_once(rt: HostRuntime) -> Result<(), Syste
     ];
     let alloc = rt.alloc();
     let mut system = System::new(alloc, config(alloc, 5)?, modulo)?;
-    play(&rt, alloc, &mut system, &come_up())?;
+    play(&rt, alloc, &mut system, "come up", &come_up())?;
     let mut ports = [0; 256];
     let mut changed = [true; 256];
     let told = [(255, 0, false)];
     tells_ports(&rt, &system, &mut ports, &mut changed, (1, Ok(0)), &told);
-    play(&rt, alloc, &mut system, &ROWS)?;
+    play(&rt, alloc, &mut system, "offered", &ROWS)?;
     let told = [(0, 3, true), (1, 0, false), (101, 7, true), (255, 7, true)];
     tells_ports(&rt, &system, &mut ports, &mut changed, (1, Ok(3)), &told);
     // a conversation that waits has no port, and what it prefers is none either
-    play(&rt, alloc, &mut system, &[Row::Moves(1, 101, 3, Ok(()))])?;
+    play(
+        &rt,
+        alloc,
+        &mut system,
+        "moved",
+        &[Row::Moves(1, 101, 3, Ok(()))],
+    )?;
     let told = [(0, 3, false), (101, 0, true), (255, 7, false)];
     tells_ports(&rt, &system, &mut ports, &mut changed, (1, Ok(1)), &told);
     let told = [(0, 3, false), (101, 0, false), (255, 7, false)];
@@ -61,8 +67,8 @@ fn rows_are_told_as_far_as_both_lists_go(rt: HostRuntime) -> Result<(), SystemFa
     ];
     let alloc = rt.alloc();
     let mut system = System::new(alloc, config(alloc, 5)?, modulo)?;
-    play(&rt, alloc, &mut system, &come_up())?;
-    play(&rt, alloc, &mut system, &ROWS)?;
+    play(&rt, alloc, &mut system, "come up", &come_up())?;
+    play(&rt, alloc, &mut system, "offered", &ROWS)?;
     let mut ports = [19; 4];
     let mut changed = [true; 3];
     let told = [(0, 0, true), (1, 0, true), (2, 3, true)];
@@ -137,14 +143,14 @@ fn what_a_call_sets_free_is_told(rt: HostRuntime) -> Result<(), SystemFault> {
     const ANSWERS: [Row<'static>; 2] = [Row::Marks(3, 5), Row::Releases(3, Response(3, 1, 5), 1)];
     let alloc = rt.alloc();
     let mut system = System::new(alloc, config(alloc, 5)?, modulo)?;
-    play(&rt, alloc, &mut system, &come_up())?;
+    play(&rt, alloc, &mut system, "come up", &come_up())?;
     let mut busy = [false; 256];
     let mut freed = [true; 256];
-    play(&rt, alloc, &mut system, &WAITING)?;
+    play(&rt, alloc, &mut system, "waiting", &WAITING)?;
     tells_released(&rt, &system, &mut busy, &mut freed, (1, Ok(0)), &MOVED);
-    play(&rt, alloc, &mut system, &ANSWERS)?;
+    play(&rt, alloc, &mut system, "answers", &ANSWERS)?;
     tells_released(&rt, &system, &mut busy, &mut freed, (1, Ok(1)), &ANSWERED);
-    play(&rt, alloc, &mut system, &[Row::Link(7, false)])?;
+    play(&rt, alloc, &mut system, "down", &[Row::Link(7, false)])?;
     tells_released(&rt, &system, &mut busy, &mut freed, (1, Ok(2)), &DOWN);
     let told = [(40, true, false)];
     tells_released(&rt, &system, &mut busy, &mut freed, (1, Ok(0)), &told);

@@ -1,38 +1,8 @@
 use crate::comparing::same;
-use crate::scripts::{CABLE_2, have_outcomes, have_outcomes_in_cables, parts};
+use crate::scripts::parts;
 use lagscript::{ScriptFault, read_plan, read_script};
 use std::alloc::{AllocError, Global};
 use std::process::Abort;
-
-/// The keys of a cable.
-const LIMITS: &str = r#"limit = 1 => : ends
-limit = 0 => : ends
-ends = [2], limit = 0 => : ends
-ends = [2, 1], limit = 0, a = 1 => : extra key
-ends = [2, 1], limit = 1, limits = 1 => : extra key
-ends = [2, 1], Limit = 1 => : extra key
-ends = [2, 1], limit = 0 => : limit
-ends = [2, 1], limit = -1 => : limit
-ends = [2, 1], limit = 65536 => : limit
-ends = [2, 1], limit = 4294967297 => : limit
-ends = [2, 1], limit = "8" => : limit
-ends = [2, 1], limit = 8.0 => : limit
-ends = [2, 1], limit = true => : limit
-ends = [2, 1], limit = [8, 8] => : limit
-ends = [0, 1], limit = 0 => : limit
-ends = [0, 1], limit = 8 => : end"#;
-
-/// The keys of a cable that are read.
-const LIMITS_READ: &str = r#"ends = [2, 1], limit = 1 => read
-ends = [2, 1], limit = 65535 => read
-limit = 8, ends = [2, 1] => read"#;
-
-#[test]
-fn limits_are_refused(rt: HostRuntime) -> Result<(), AllocError> {
-    let alloc = rt.alloc();
-    have_outcomes_in_cables(&rt, alloc, LIMITS)?;
-    have_outcomes(&rt, alloc, &CABLE_2, "", LIMITS_READ)
-}
 
 /// Three ports in each system, and three cables between them.
 const THREE: &str =

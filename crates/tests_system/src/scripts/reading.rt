@@ -1,22 +1,8 @@
 use crate::comparing::same;
-use crate::scripts::{ENTRY_1, Frame, MAC, SYSTEM_1, have_outcomes, outcome, parts};
+use crate::scripts::{ENTRY_1, MAC, SYSTEM_1, SYSTEMS, outcome, parts};
 use lagscript::read_script;
 use std::alloc::{AllocError, Global};
 use std::process::Abort;
-
-/// Two systems without a fault, after the text of a row.
-const SYSTEMS: Frame = Frame {
-    before: "",
-    behind: "\nsystem = [{mac = \"02-00-00-00-00-01\", aggregators = [1], port = [{number = 1, key = 1}]}, {mac = \"02-00-00-00-00-02\", aggregators = [1], port = [{number = 1, key = 1}]}]",
-    fault: "",
-};
-
-/// Two systems with the same identifier, after the text of a row.
-const EQUAL_SYSTEMS: Frame = Frame {
-    before: "",
-    behind: "\nsystem = [{mac = \"02-00-00-00-00-01\", aggregators = [1], port = [{number = 1, key = 1}]}, {mac = \"02-00-00-00-00-01\", aggregators = [1], port = [{number = 2, key = 2}]}]",
-    fault: "",
-};
 
 const TWO_CABLES: &str = r#"
 system = [
@@ -127,33 +113,6 @@ fn entries_are_read(rt: HostRuntime) -> Result<(), AllocError> {
     Ok(())
 }
 
-/// Cables and events of two systems.
-const ORDER: &str = r#" => read
-cable = [];events = [] => read
-cable = 1;events = 1 => cable
-cable = {ends = [1, 1]} => cable
-cable = [{}, 1] => cable
-cable = [{}];events = 1 => cable 1: ends
-events = 1 => events
-events = "tick 1 1" => events
-events = ["", 1] => events
-events = [["tick 1 1"]] => events
-events = ["cut 1"] => event 1: cable
-cable = [{ends = [7, 7]}];events = ["cut 1", ""] => event 2: word
-cable = [{ends = [7, 7]}];events = ["cut 1"] => cable 1: end
-cable = [{ends = [1, 1]}, {ends = [1, 1]}] => cable 2: end"#;
-
-/// Cables and events of two systems with the same identifier.
-const ORDER_OF_EQUAL: &str = r#" => two systems with one identifier
-cable = [{ends = [7, 7]}] => two systems with one identifier
-events = [""] => event 1: word"#;
-
-#[test]
-fn faults_come_in_order(rt: HostRuntime) -> Result<(), AllocError> {
-    have_outcomes(&rt, rt.alloc(), &SYSTEMS, "", ORDER)?;
-    have_outcomes(&rt, rt.alloc(), &EQUAL_SYSTEMS, "", ORDER_OF_EQUAL)
-}
-
 /// This text, repeated this many times, between two others.
 fn repeated(
     alloc: Global,
@@ -171,26 +130,6 @@ fn repeated(
     Ok(all)
 }
 
-/// The outcome of reading a system with this many aggregators.
-fn with_aggregators(alloc: Global, count: usize) -> Result<String, AllocError> {
-    let (before, behind) = (SYSTEM_1.before, SYSTEM_1.behind);
-    let start = format!(in alloc;
-        "{before}{MAC}port = [{{number = 1, key = 1}}], aggregators = ["
-    )?;
-    let end = format!(in alloc; "]{behind}")?;
-    outcome(
-        alloc,
-        repeated(alloc, start.as_str(), "1,", count, end.as_str())?.as_str(),
-    )
-}
-
-/// A text has this outcome.
-fn comes_to(rt: &impl Abort, alloc: Global, text: &str, wanted: &str) -> Result<(), AllocError> {
-    let came = outcome(alloc, text)?;
-    same(rt, "outcome", &came.as_str(), &wanted);
-    Ok(())
-}
-
 /// This text, repeated this many times between two others, has this outcome.
 fn repeated_comes_to(
     rt: &impl Abort,
@@ -200,17 +139,22 @@ fn repeated_comes_to(
     wanted: &str,
 ) -> Result<(), AllocError> {
     let all = repeated(alloc, before, text, count, behind)?;
-    comes_to(rt, alloc, all.as_str(), wanted)
+    let came = outcome(alloc, all.as_str())?;
+    same(rt, text, &came.as_str(), &wanted);
+    Ok(())
 }
 
 #[test]
 fn aggregators_have_a_limit(rt: HostRuntime) -> Result<(), AllocError> {
     let alloc = rt.alloc();
-    let most = with_aggregators(alloc, 64)?;
-    same(&rt, "64", &most.as_str(), &"read");
-    let more = with_aggregators(alloc, 65)?;
-    same(&rt, "65", &more.as_str(), &"system 1: aggregator count");
-    Ok(())
+    let (before, behind) = (SYSTEM_1.before, SYSTEM_1.behind);
+    let start = format!(in alloc;
+        "{before}{MAC}port = [{{number = 1, key = 1}}], aggregators = ["
+    )?;
+    let end = format!(in alloc; "]{behind}")?;
+    let texts = (start.as_str(), "1,", end.as_str());
+    repeated_comes_to(&rt, alloc, texts, 64, "read")?;
+    repeated_comes_to(&rt, alloc, texts, 65, "system 1: aggregator count")
 }
 
 /// How many events are read to their end: the most that a script may have.
@@ -240,35 +184,33 @@ fn events_have_a_limit(rt: HostRuntime) -> Result<(), AllocError> {
 }
 
 #[test]
-fn a_megabyte_of_brackets_is_no_toml(rt: HostRuntime) -> Result<(), AllocError> {
+fn long_and_hostile_texts_end_with_a_fault(rt: HostRuntime) -> Result<(), AllocError> {
     let alloc = rt.alloc();
-    let brackets = ("events = ", "[", "");
-    repeated_comes_to(&rt, alloc, brackets, 1 << 20, "not toml")?;
-    let tables = ("system = ", "{a=", "");
-    repeated_comes_to(&rt, alloc, tables, 1 << 20, "not toml")
-}
-
-#[test]
-fn long_words_end_with_a_fault(rt: HostRuntime) -> Result<(), AllocError> {
-    let alloc = rt.alloc();
-    repeated_comes_to(&rt, alloc, ("", "k", " = 1"), 1 << 16, "extra key")?;
     let end = format!(in alloc; "\"]{}", SYSTEMS.behind)?;
-    let entry = ("events = [\"tick 1 ", "1", end.as_str());
-    repeated_comes_to(&rt, alloc, entry, 1 << 16, "event 1: number")?;
-    let zeros = ("events = [\"tick 1 ", "0", end.as_str());
-    repeated_comes_to(&rt, alloc, zeros, 1 << 16, "event 1: number")?;
-    let spaces = ("events = [\"tick", " ", end.as_str());
-    repeated_comes_to(&rt, alloc, spaces, 1 << 16, "event 1: count")
-}
-
-#[test]
-fn hostile_texts_end_with_a_fault(rt: HostRuntime) -> Result<(), AllocError> {
-    let alloc = rt.alloc();
-    repeated_comes_to(&rt, alloc, ("", "[[system]]\n", ""), 1000, "system")?;
-    let marked = format!(in alloc; "\u{feff}{TWO_CABLES}")?;
-    comes_to(&rt, alloc, marked.as_str(), "read")?;
-    let marked_twice = format!(in alloc; "\u{feff}\u{feff}{TWO_CABLES}")?;
-    comes_to(&rt, alloc, marked_twice.as_str(), "not toml")?;
-    comes_to(&rt, alloc, "a.b.c.d.e.f = 1", "extra key")?;
-    comes_to(&rt, alloc, "\0", "not toml")
+    let end = end.as_str();
+    let rows = [
+        (("events = ", "[", ""), 1 << 20, "not toml"),
+        (("system = ", "{a=", ""), 1 << 20, "not toml"),
+        (("", "k", " = 1"), 1 << 16, "extra key"),
+        (
+            ("events = [\"tick 1 ", "1", end),
+            1 << 16,
+            "event 1: number",
+        ),
+        (
+            ("events = [\"tick 1 ", "0", end),
+            1 << 16,
+            "event 1: number",
+        ),
+        (("events = [\"tick", " ", end), 1 << 16, "event 1: count"),
+        (("", "[[system]]\n", ""), 1000, "system"),
+        (("", "\u{feff}", TWO_CABLES), 1, "read"),
+        (("", "\u{feff}", TWO_CABLES), 2, "not toml"),
+        (("", "a.b.c.d.e.f = 1", ""), 1, "extra key"),
+        (("", "\0", ""), 1, "not toml"),
+    ];
+    for (texts, count, wanted) in rows {
+        repeated_comes_to(&rt, alloc, texts, count, wanted)?;
+    }
+    Ok(())
 }

@@ -28,13 +28,13 @@ fn the_most_ports_and_aggregators(rt: HostRuntime) -> Result<(), SystemFault> {
     let given = config(rt.alloc(), &most, 64)?;
     let rows = [Row::Chosen(64, Choice::Unselected), Row::Has(&most, 64)];
     assert_eq!(rt; given.refusal(), None);
-    plays(&rt, rt.alloc(), given, &rows)
+    plays(&rt, rt.alloc(), given, "the most", &rows)
 }
 
 /// A configuration is refused for this reason, by `refusal` and by `new`.
 fn is_refused(rt: &impl Abort, alloc: Global, given: Config, reason: BadConfig) {
     same(rt, "refusal", &given.refusal(), &Some(reason));
-    let refused = plays(rt, alloc, given, &[]).err();
+    let refused = plays(rt, alloc, given, "refused", &[]).err();
     same(rt, "new", &refused, &Some(SystemFault::BadConfig(reason)));
 }
 
@@ -84,36 +84,24 @@ fn counted(
     Ok(given)
 }
 
+/// A configuration in which the limit and the count are refused too is refused for the first reason.
 #[test]
-fn other_counts_of_conversations_are_refused_last(rt: HostRuntime) -> Result<(), SystemFault> {
+fn other_limits_and_counts_are_refused_last(rt: HostRuntime) -> Result<(), SystemFault> {
     for conversations in &[0, 1, 255, 257, 4095, 4097, 65535] {
         let given = counted(rt.alloc(), &[1, 2], None, *conversations)?;
         is_refused(&rt, rt.alloc(), given, BadConfig::Conversations);
     }
-    Ok(())
-}
-
-#[test]
-fn other_limits_of_links_are_refused(rt: HostRuntime) -> Result<(), SystemFault> {
     for limit in &[0, 65, 65535] {
         let given = counted(rt.alloc(), &[1, 2], Some(*limit), 256)?;
         is_refused(&rt, rt.alloc(), given, BadConfig::MaxLinks);
     }
-    for limit in &[1, 64] {
-        let given = counted(rt.alloc(), &[1, 2], Some(*limit), 256)?;
-        same(&rt, "refusal", &given.refusal(), &None);
-    }
-    Ok(())
-}
-
-/// A configuration in which the limit and the count are refused too is refused for the first reason.
-#[test]
-fn limits_and_counts_are_refused_last(rt: HostRuntime) -> Result<(), SystemFault> {
-    let rows: [(&[u16], u16, u16, Option<BadConfig>); 4] = [
+    let rows: [(&[u16], u16, u16, Option<BadConfig>); 6] = [
         (&[1, 1], 0, 0, Some(BadConfig::PortNumber(2))),
         (&[1, 2], 65, 257, Some(BadConfig::MaxLinks)),
         (&[1, 2], 3, 257, Some(BadConfig::Conversations)),
         (&[1, 2], 3, 4096, None),
+        (&[1, 2], 1, 256, None),
+        (&[1, 2], 64, 256, None),
     ];
     for (place, (numbers, limit, conversations, reason)) in rows.iter().enumerate() {
         let given = counted(rt.alloc(), *numbers, Some(*limit), *conversations)?;
@@ -123,25 +111,20 @@ fn limits_and_counts_are_refused_last(rt: HostRuntime) -> Result<(), SystemFault
 }
 
 /// The reasons to refuse a configuration, in the order of their numbers, from 1 on.
-const REASONS: [(BadConfig, &str); 5] = [
-    (BadConfig::Ports, "the configuration has not 1 to 64 ports"),
-    (
-        BadConfig::Aggregators,
-        "the configuration has not 1 to 64 aggregators",
-    ),
-    (
-        BadConfig::PortNumber(7),
-        "the port at place 7 has the number 0 or one that is not above the number before it",
-    ),
-    (
-        BadConfig::MaxLinks,
-        "the limit of links of an aggregator is not 1 to 64",
-    ),
-    (
-        BadConfig::Conversations,
-        "the configuration has neither 256 nor 4096 conversations",
-    ),
+const REASONS: [BadConfig; 5] = [
+    BadConfig::Ports,
+    BadConfig::Aggregators,
+    BadConfig::PortNumber(7),
+    BadConfig::MaxLinks,
+    BadConfig::Conversations,
 ];
+
+/// Their texts.
+const REASON_TEXTS: &str = "the configuration has not 1 to 64 ports
+the configuration has not 1 to 64 aggregators
+the port at place 7 has the number 0 or one that is not above the number before it
+the limit of links of an aggregator is not 1 to 64
+the configuration has neither 256 nor 4096 conversations";
 
 /// A reason has this number; and it, and the fault that it is the reason of, print this text.
 fn tells_reason(
@@ -151,91 +134,21 @@ fn tells_reason(
     number: u8,
     text: &str,
 ) -> Result<(), AllocError> {
-    same(rt, text, &reason.number(), &number);
-    let alone = format!(in alloc; "{reason}")?;
-    same(rt, "the reason", &alone.as_str(), &text);
-    prints(rt, alloc, SystemFault::BadConfig(reason), text)
-}
-
-fn prints(
-    rt: &impl Abort,
-    alloc: Global,
-    fault: SystemFault,
-    text: &str,
-) -> Result<(), AllocError> {
-    let printed = format!(in alloc; "{fault}")?;
-    same(rt, "the fault", &printed.as_str(), &text);
+    let fault = SystemFault::BadConfig(reason);
+    same(rt, text, &(reason.number(), fault.number()), &(number, 11));
+    let printed = format!(in alloc; "{reason} {fault}")?;
+    let wanted = format!(in alloc; "{text} {text}")?;
+    same(rt, "the texts", &printed, &wanted);
     Ok(())
 }
 
 #[test]
 fn reasons_have_numbers_and_texts(rt: HostRuntime) -> Result<(), AllocError> {
     let mut number = 0u8;
-    for (reason, text) in &REASONS {
+    for (reason, text) in REASONS.iter().zip(REASON_TEXTS.lines()) {
         number = number.saturating_add(1);
-        tells_reason(&rt, rt.alloc(), *reason, number, *text)?;
+        tells_reason(&rt, rt.alloc(), *reason, number, text)?;
     }
-    Ok(())
-}
-
-/// The faults of a system, in the order of their numbers, from 1 on.
-const FAULTS: [(SystemFault, &str); 12] = [
-    (SystemFault::NoPort, "the system has no port of this number"),
-    (
-        SystemFault::NoAggregator,
-        "the system has no such aggregator",
-    ),
-    (
-        SystemFault::FrameLength,
-        "an offered frame has not 14 to 1518 octets",
-    ),
-    (
-        SystemFault::SlowFrame,
-        "an offered frame is one of the slow protocols",
-    ),
-    (SystemFault::Held, "the conversation is Wanted or Flushing"),
-    (
-        SystemFault::NoneDistributing,
-        "the conversation is free, and no port distributes in the aggregator",
-    ),
-    (
-        SystemFault::NotDistributing,
-        "the port to move to does not distribute in the aggregator",
-    ),
-    (
-        SystemFault::SamePort,
-        "the port to move to is the one that the conversation is on",
-    ),
-    (
-        SystemFault::NotAssigned,
-        "the conversation is free, or there is no such conversation",
-    ),
-    (SystemFault::MarkersSpent, "no marker identifier is left"),
-    (
-        SystemFault::BadConfig(BadConfig::Ports),
-        "the configuration has not 1 to 64 ports",
-    ),
-    (SystemFault::NoMemory, "out of memory"),
-];
-
-/// What is refused with the next number that no status of the C library has, and its text.
-const LATER: (SystemFault, u8, &str) = (
-    SystemFault::OverLimit,
-    24,
-    "an aggregator has more links than this limit",
-);
-
-#[test]
-fn refusals_have_numbers_and_texts(rt: HostRuntime) -> Result<(), AllocError> {
-    let mut number = 0u8;
-    for (fault, text) in &FAULTS {
-        number = number.saturating_add(1);
-        same(&rt, *text, &fault.number(), &number);
-        prints(&rt, rt.alloc(), *fault, *text)?;
-    }
-    let (fault, number, text) = LATER;
-    same(&rt, text, &fault.number(), &number);
-    prints(&rt, rt.alloc(), fault, text)?;
     Ok(())
 }
 

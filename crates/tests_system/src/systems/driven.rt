@@ -2,8 +2,11 @@ ghost use Rattle.distributor.specs.Calls.{PicksIndexes};
 
 use crate::comparing::same;
 use crate::systems::plan::{Plan, plan_of_all};
-use crate::systems::{DATA, PortFacts, Response, Row, Side, config, joined, look, modulo};
-use lagsystem::{AggId, Received, System, SystemFault};
+use crate::systems::{
+    DATA, PortFacts, Response, Row, Side, config, joined, look, mac, modulo, play,
+};
+use lagsystem::{AggId, Call, HostCall, HostReply, Received, Reply, System, SystemFault};
+use slowpdu::frame;
 use std::alloc::Global;
 use std::process::Abort;
 
@@ -55,7 +58,7 @@ fn is_driven(rt: &impl Abort, alloc: Global, lists: &[&[Row<'_>]]) -> Result<(),
 }
 
 #[test]
-fn every_kind_of_call(rt: HostRuntime) -> Result<(), SystemFault> {
+fn every_kind_of_call_and_a_thousand(rt: HostRuntime) -> Result<(), SystemFault> {
     const ROWS: [Row<'static>; 16] = [
         Row::Links(&[1, 2]),
         Row::Takes(1, Side::Of(2, 1, 1, 0x0d), Side::Of(1, 1, 1, 0x07)),
@@ -74,16 +77,49 @@ fn every_kind_of_call(rt: HostRuntime) -> Result<(), SystemFault> {
         Row::Restart,
         Row::Silent(1),
     ];
-    is_driven(&rt, rt.alloc(), &[&ROWS])
+    const THOUSAND: [Row<'static>; 3] = [Row::Link(1, true), Row::Ticks(1000), Row::Silent(2)];
+    is_driven(&rt, rt.alloc(), &[&ROWS])?;
+    is_driven(&rt, rt.alloc(), &[])?;
+    is_driven(&rt, rt.alloc(), &[&THOUSAND])
 }
 
-#[test]
-fn no_call_has_no_reply(rt: HostRuntime) -> Result<(), SystemFault> {
-    is_driven(&rt, rt.alloc(), &[])
-}
+/// Ports 1 and 2 come to distribute in aggregator 1. What is Wanted on port 1 goes behind the marker of a probe.
+const PROBED: [Row<'static>; 11] = [
+    Row::Links(&[1, 2]),
+    Row::Joins(2, &[1, 2]),
+    Row::Ticks(20),
+    Row::OffersConversation(1, 48, Ok(1)),
+    Row::OffersConversation(1, 49, Ok(2)),
+    Row::OffersConversation(1, 256, Err(SystemFault::NotAssigned)),
+    Row::Leaves(1, 48, Ok(())),
+    Row::Leaves(1, 48, Err(SystemFault::Held)),
+    Row::OffersConversation(1, 48, Err(SystemFault::Held)),
+    Row::Rests(1, 48, Err(SystemFault::Held)),
+    Row::Probes(1, Ok(Some(1))),
+];
+
+/// After the response to that marker.
+const FREE: [Row<'static>; 10] = [
+    Row::OffersConversation(1, 48, Ok(1)),
+    Row::Probes(3, Err(SystemFault::NoPort)),
+    Row::Rests(1, 48, Ok(())),
+    Row::Rests(1, 48, Err(SystemFault::NotAssigned)),
+    Row::Leaves(1, 49, Ok(())),
+    Row::ForcesPort(1, Ok(0)),
+    Row::ForcesPort(2, Ok(1)),
+    Row::ForcesPort(2, Ok(0)),
+    Row::ForcesPort(3, Err(SystemFault::NoPort)),
+    Row::OffersConversation(1, 49, Ok(2)),
+];
 
 #[test]
-fn a_thousand_calls(rt: HostRuntime) -> Result<(), SystemFault> {
-    const ROWS: [Row<'static>; 3] = [Row::Link(1, true), Row::Ticks(1000), Row::Silent(2)];
-    is_driven(&rt, rt.alloc(), &[&ROWS])
+fn each_kind_of_host_call(rt: HostRuntime) -> Result<(), SystemFault> {
+    let alloc = rt.alloc();
+    let mut system = System::new(alloc, config(alloc, &[1, 2], 2)?, modulo)?;
+    play(&rt, alloc, &mut system, "probed", &PROBED)?;
+    let response = frame(mac(9), &Response(1, 1, 1).marker().encode());
+    let call = HostCall::Call(Call::Receive(1, Vec::from_slice(alloc, &response)?));
+    let reply = HostReply::Call(Reply::Receive(Ok(Received::Released(1))));
+    same(&rt, "the response", &system.host_call(&call), &reply);
+    play(&rt, alloc, &mut system, "free", &FREE)
 }

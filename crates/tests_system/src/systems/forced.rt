@@ -1,6 +1,5 @@
-use crate::systems::{DATA, LAST, Row, Side, config, plays_lists};
-use lagsystem::{Assignment, Config, NoMemory, SystemFault};
-use std::alloc::Global;
+use crate::systems::{Case, DATA, Given, LAST, Row, Side, TWO, plays_cases};
+use lagsystem::{Assignment, SystemFault};
 
 /// A data frame of conversation 0.
 const FIRST: [u8; 14] = [2, 0, 0, 0, 0, 0x10, 2, 0, 0, 0, 0, 0x10, 8, 0];
@@ -16,15 +15,6 @@ const LAST_BUT_ONE: [u8; 14] = [2, 0, 0, 0, 0, 0xa4, 2, 0, 0, 0, 0, 0x5a, 8, 0];
 
 /// A data frame of conversation 304, if there are 4096 of them.
 const WIDE: [u8; 14] = [2, 0, 0, 0, 1, 0x20, 2, 0, 0, 0, 0, 0x10, 8, 0];
-
-/// System 1 with ports 1, 2 and 3, which have Long Timeout, and two aggregators.
-fn three_ports(alloc: Global) -> Result<Config, NoMemory> {
-    let mut given = config(alloc, &[1, 2, 3], 2)?;
-    for port in given.ports.iter_mut() {
-        port.short = false;
-    }
-    Ok(given)
-}
 
 /// Ports 1 and 2 come to distribute in aggregator 1, and port 3 in aggregator 2.
 const ALL_UP: [Row<'static>; 7] = [
@@ -142,39 +132,53 @@ const GOES_ON: [Row<'static>; 17] = [
     Row::ForcesPort(2, Ok(0)),
 ];
 
+/// The conversation has a number above those of 256 conversations.
+const ABOVE_255: [Row<'static>; 8] = [
+    Row::Offers(1, &WIDE, Ok(1)),
+    Row::ForcesPort(1, Ok(0)),
+    Row::Moves(1, 304, 2, Ok(())),
+    Row::Wanted(1, 304, 1, Some(2)),
+    Row::ForcesPort(2, Ok(0)),
+    Row::ForcesPort(1, Ok(1)),
+    Row::Free(1, 304, Some(2)),
+    Row::Offers(1, &WIDE, Ok(2)),
+];
+
+const THREE_LONG: Given<'static> = Given {
+    ports: &[1, 2, 3],
+    short: false,
+    ..TWO
+};
+
+const THREE_MANY_LONG: Given<'static> = Given {
+    conversations: 4096,
+    ports: &[1, 2, 3],
+    short: false,
+    ..TWO
+};
+
+const CASES: [Case<'static>; 2] = [
+    (
+        "what waits",
+        THREE_LONG,
+        &[
+            &ALL_UP,
+            &HELD_IN_THE_FIRST,
+            &HELD_IN_THE_SECOND,
+            &ON_PORT_1,
+            &ELSEWHERE,
+            &NO_SUCH_PORT,
+            &ON_PORT_1,
+            &ELSEWHERE,
+            &FORCED,
+            &ELSEWHERE,
+            &GOES_ON,
+        ],
+    ),
+    ("above 255", THREE_MANY_LONG, &[&ALL_UP, &ABOVE_255]),
+];
+
 #[test]
 fn what_waits_on_a_port_is_forced(rt: HostRuntime) -> Result<(), SystemFault> {
-    let lists: [&[Row<'_>]; 11] = [
-        &ALL_UP,
-        &HELD_IN_THE_FIRST,
-        &HELD_IN_THE_SECOND,
-        &ON_PORT_1,
-        &ELSEWHERE,
-        &NO_SUCH_PORT,
-        &ON_PORT_1,
-        &ELSEWHERE,
-        &FORCED,
-        &ELSEWHERE,
-        &GOES_ON,
-    ];
-    let given = three_ports(rt.alloc())?;
-    plays_lists(&rt, rt.alloc(), given, &lists)
-}
-
-/// The conversation has a number above those of 256 conversations.
-#[test]
-fn a_conversation_above_255_is_forced(rt: HostRuntime) -> Result<(), SystemFault> {
-    const ROWS: [Row<'static>; 8] = [
-        Row::Offers(1, &WIDE, Ok(1)),
-        Row::ForcesPort(1, Ok(0)),
-        Row::Moves(1, 304, 2, Ok(())),
-        Row::Wanted(1, 304, 1, Some(2)),
-        Row::ForcesPort(2, Ok(0)),
-        Row::ForcesPort(1, Ok(1)),
-        Row::Free(1, 304, Some(2)),
-        Row::Offers(1, &WIDE, Ok(2)),
-    ];
-    let mut given = three_ports(rt.alloc())?;
-    given.conversations = 4096;
-    plays_lists(&rt, rt.alloc(), given, &[&ALL_UP, &ROWS])
+    plays_cases(&rt, rt.alloc(), &CASES)
 }

@@ -1,6 +1,6 @@
 use crate::systems::{
-    DATA, PortFacts, Row, Side, config, end, lacpdu, mac, no_partner, plays, plays_with,
-    port_without_partner,
+    Case, DATA, Given, ONE, PortFacts, Row, Side, TWO, config, end, lacpdu, mac, no_partner, plays,
+    plays_cases, port_without_partner,
 };
 use bitflags::Flags;
 use lagsystem::{
@@ -70,60 +70,44 @@ const ANEW: [Row<'static>; 4] = [
 #[test]
 fn three_answers_then_the_window_then_a_restart(rt: HostRuntime) -> Result<(), SystemFault> {
     let fresh = [Row::Shows(1, port_without_partner(1))];
-    plays_with(
-        &rt,
-        rt.alloc(),
-        &[1],
-        1,
-        &[&fresh, &THREE_ANSWERS, &fresh, &ANEW],
-    )
+    let lists: [&[Row<'_>]; 4] = [&fresh, &THREE_ANSWERS, &fresh, &ANEW];
+    plays_cases(&rt, rt.alloc(), &[("three answers", ONE, &lists)])
 }
 
 /// Two ports come up in aggregator 1; then the partner of port 1 has another key.
-pub(crate) fn other_key() -> [Row<'static>; 15] {
-    [
-        Row::Links(&[1, 2]),
-        Row::Hears(1, &DATA, Received::Dropped),
-        Row::Takes(1, Side::Of(2, 1, 1, 0x0d), Side::Of(1, 1, 1, 0x07)),
-        Row::Takes(2, Side::Of(2, 2, 1, 0x0d), Side::Of(1, 2, 1, 0x07)),
-        Row::Ticks(19),
-        Row::Distributing(1, &[]),
-        Row::Hears(1, &DATA, Received::Dropped),
-        Row::Ticks(1),
-        Row::Distributing(1, &[1, 2]),
-        Row::Hears(1, &DATA, Received::Up(AggId(1))),
-        Row::Takes(1, Side::Of(2, 1, 2, 0x0d), Side::Of(1, 1, 1, 0x07)),
-        Row::Distributing(1, &[2]),
-        Row::Distributing(2, &[]),
-        Row::Chosen(1, Choice::Selected(AggId(2))),
-        Row::Mux(1, MuxState::Waiting),
-    ]
-}
+pub(crate) const OTHER_KEY: [Row<'static>; 15] = [
+    Row::Links(&[1, 2]),
+    Row::Hears(1, &DATA, Received::Dropped),
+    Row::Takes(1, Side::Of(2, 1, 1, 0x0d), Side::Of(1, 1, 1, 0x07)),
+    Row::Takes(2, Side::Of(2, 2, 1, 0x0d), Side::Of(1, 2, 1, 0x07)),
+    Row::Ticks(19),
+    Row::Distributing(1, &[]),
+    Row::Hears(1, &DATA, Received::Dropped),
+    Row::Ticks(1),
+    Row::Distributing(1, &[1, 2]),
+    Row::Hears(1, &DATA, Received::Up(AggId(1))),
+    Row::Takes(1, Side::Of(2, 1, 2, 0x0d), Side::Of(1, 1, 1, 0x07)),
+    Row::Distributing(1, &[2]),
+    Row::Distributing(2, &[]),
+    Row::Chosen(1, Choice::Selected(AggId(2))),
+    Row::Mux(1, MuxState::Waiting),
+];
 
-#[test]
-fn another_key_of_the_partner(rt: HostRuntime) -> Result<(), SystemFault> {
-    plays_with(&rt, rt.alloc(), &[1, 2], 2, &[&other_key()])
-}
-
-#[test]
-fn an_lacpdu_of_the_own_system(rt: HostRuntime) -> Result<(), SystemFault> {
-    const ROWS: [Row<'static>; 13] = [
-        Row::Link(1, true),
-        Row::Takes(1, Side::Of(1, 1, 1, 0x07), Side::Nobody(0)),
-        Row::Ticks(29),
-        Row::Chosen(1, Choice::Unselected),
-        Row::Distributing(1, &[]),
-        Row::Ticks(30),
-        Row::Defaulted(1, false),
-        Row::Ticks(1),
-        Row::Defaulted(1, true),
-        Row::Ticks(19),
-        Row::Distributing(1, &[]),
-        Row::Ticks(1),
-        Row::Distributing(1, &[1]),
-    ];
-    plays_with(&rt, rt.alloc(), &[1], 1, &[&ROWS])
-}
+const OWN_LACPDU: [Row<'static>; 13] = [
+    Row::Link(1, true),
+    Row::Takes(1, Side::Of(1, 1, 1, 0x07), Side::Nobody(0)),
+    Row::Ticks(29),
+    Row::Chosen(1, Choice::Unselected),
+    Row::Distributing(1, &[]),
+    Row::Ticks(30),
+    Row::Defaulted(1, false),
+    Row::Ticks(1),
+    Row::Defaulted(1, true),
+    Row::Ticks(19),
+    Row::Distributing(1, &[]),
+    Row::Ticks(1),
+    Row::Distributing(1, &[1]),
+];
 
 #[test]
 fn frames_that_change_nothing(rt: HostRuntime) -> Result<(), SystemFault> {
@@ -139,7 +123,13 @@ fn frames_that_change_nothing(rt: HostRuntime) -> Result<(), SystemFault> {
         Row::Keeps(2, &marker, Received::Respond(response)),
         Row::Keeps(2, &response, Received::Released(0)),
     ];
-    plays_with(&rt, rt.alloc(), &[2], 1, &[&rows])
+    plays(
+        &rt,
+        rt.alloc(),
+        config(rt.alloc(), &[2], 1)?,
+        "frames",
+        &rows,
+    )
 }
 
 #[test]
@@ -186,7 +176,13 @@ fn a_port_is_given_another_key(rt: HostRuntime) -> Result<(), SystemFault> {
         Row::Shows(1, again),
         Row::Sends(1, Side::Of(1, 1, 2, 0xc7), Side::Nobody(0x02)),
     ];
-    plays_with(&rt, rt.alloc(), &[1], 1, &[&rows])
+    plays(
+        &rt,
+        rt.alloc(),
+        config(rt.alloc(), &[1], 1)?,
+        "another key",
+        &rows,
+    )
 }
 
 #[test]
@@ -202,24 +198,38 @@ fn a_port_that_is_not_there(rt: HostRuntime) -> Result<(), SystemFault> {
         Row::Has(&[1, 3], 1),
         Row::Distributing(2, &[]),
     ];
-    plays_with(&rt, rt.alloc(), &[1, 3], 1, &[&rows])
+    plays(
+        &rt,
+        rt.alloc(),
+        config(rt.alloc(), &[1, 3], 1)?,
+        "not there",
+        &rows,
+    )
 }
 
 /// A passive port without a partner: its periodic machine stays in NO_PERIODIC, in which NTT is clear.
+const NO_PERIODIC: [Row<'static>; 7] = [
+    Row::Link(1, true),
+    Row::Quiet(1, 49),
+    Row::Distributing(1, &[]),
+    Row::Quiet(1, 1),
+    Row::Distributing(1, &[1]),
+    Row::Due(1, false),
+    Row::Quiet(1, 20),
+];
+
+const PASSIVE: Given<'static> = Given {
+    active: false,
+    ..ONE
+};
+
+const CASES: [Case<'static>; 3] = [
+    ("another key", TWO, &[&OTHER_KEY]),
+    ("own system", ONE, &[&OWN_LACPDU]),
+    ("no periodic", PASSIVE, &[&NO_PERIODIC]),
+];
+
 #[test]
-fn a_port_in_no_periodic_sends_nothing(rt: HostRuntime) -> Result<(), SystemFault> {
-    const ROWS: [Row<'static>; 7] = [
-        Row::Link(1, true),
-        Row::Quiet(1, 49),
-        Row::Distributing(1, &[]),
-        Row::Quiet(1, 1),
-        Row::Distributing(1, &[1]),
-        Row::Due(1, false),
-        Row::Quiet(1, 20),
-    ];
-    let mut given = config(rt.alloc(), &[1], 1)?;
-    for port in given.ports.iter_mut() {
-        port.active = false;
-    }
-    plays(&rt, rt.alloc(), given, &ROWS)
+fn frames_of_the_own_system_and_none(rt: HostRuntime) -> Result<(), SystemFault> {
+    plays_cases(&rt, rt.alloc(), &CASES)
 }

@@ -1,5 +1,5 @@
 use crate::comparing::{same, same_in_row};
-use crate::systems::conversations::coming_up;
+use crate::systems::conversations::COMING_UP;
 use crate::systems::frames::response_frame;
 use crate::systems::plan::{Plan, plan_of_all};
 use crate::systems::{DATA, PortFacts, Row, config, joined, look, modulo};
@@ -68,7 +68,7 @@ fn waiting(alloc: Global) -> Result<Plan, NoMemory> {
         Row::Moves(1, 48, 2, Ok(())),
         Row::Marks(1, 4_294_967_295),
     ];
-    plan_of_all(alloc, &joined(alloc, &[&coming_up(), &ROWS])?)
+    plan_of_all(alloc, &joined(alloc, &[&COMING_UP, &ROWS])?)
 }
 
 /// A beginning of the response changes nothing that the readers return.

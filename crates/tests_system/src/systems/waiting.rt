@@ -1,5 +1,5 @@
-use crate::systems::{DATA, Row, Side, plays_with};
-use lagsystem::SystemFault;
+use crate::systems::{Case, DATA, Given, ONE, Row, Side, config, joined, plays, plays_cases};
+use lagsystem::{MuxState, PortStatus, SystemFault};
 
 /// A port with Short Timeout, whose partner has Long Timeout, comes up: its periodic timer, then wait_while, then
 /// current_while runs out first.
@@ -66,16 +66,6 @@ const THREE_ARE_SENT: [Row<'static>; 20] = [
     SENT,
 ];
 
-#[test]
-fn the_first_timer_of_a_port_is_told(rt: HostRuntime) -> Result<(), SystemFault> {
-    plays_with(&rt, rt.alloc(), &[1], 1, &[&ONE_COMES_UP])
-}
-
-#[test]
-fn room_in_the_window_is_told(rt: HostRuntime) -> Result<(), SystemFault> {
-    plays_with(&rt, rt.alloc(), &[1], 1, &[&THREE_ARE_SENT])
-}
-
 /// Two ports of one aggregator distribute, and hear their peer again.
 const BOTH_DISTRIBUTE: [Row<'static>; 14] = [
     Row::Links(&[1, 2]),
@@ -126,13 +116,79 @@ const A_MARKER_IS_LOST: [Row<'static>; 25] = [
     Row::Waits(None),
 ];
 
-#[test]
-fn the_wait_for_a_response_is_told(rt: HostRuntime) -> Result<(), SystemFault> {
-    plays_with(
-        &rt,
-        rt.alloc(),
-        &[1, 2],
-        1,
+const PAIR: Given<'static> = Given {
+    ports: &[1, 2],
+    ..ONE
+};
+
+const CASES: [Case<'static>; 3] = [
+    ("one comes up", ONE, &[&ONE_COMES_UP]),
+    ("the window", ONE, &[&THREE_ARE_SENT]),
+    (
+        "a marker is lost",
+        PAIR,
         &[&BOTH_DISTRIBUTE, &A_MARKER_IS_LOST],
-    )
+    ),
+];
+
+#[test]
+fn the_first_timer_is_told(rt: HostRuntime) -> Result<(), SystemFault> {
+    plays_cases(&rt, rt.alloc(), &CASES)
+}
+
+/// Port 2 hears one of two ports of the partner, in turn, as on a wire with a hub: this one.
+const PORT_TWO_HEARS_PORT_2: Row<'static> = Row::Takes(
+    2,
+    Side::Of(2, 2, 1, 0x0d),
+    Side::Of(1, 2, 1, 0x07),
+);
+
+/// Or the other one.
+const PORT_TWO_HEARS_PORT_3: Row<'static> = Row::Takes(
+    2,
+    Side::Of(2, 3, 1, 0x0d),
+    Side::Of(1, 2, 1, 0x07),
+);
+
+/// Port 1 is served as well as a port can be.
+const PORT_ONE_IS_SERVED: Row<'static> = Row::Joins(2, &[1]);
+
+const STARTS: [Row<'static>; 3] = [Row::Link(1, true), Row::Link(2, true), PORT_ONE_IS_SERVED];
+
+/// Port 2 begins to wait anew, 19 ticks after it did before.
+const STARVES: [Row<'static>; 9] = [
+    PORT_ONE_IS_SERVED,
+    PORT_TWO_HEARS_PORT_2,
+    Row::Ticks(19),
+    Row::Mux(1, MuxState::Waiting),
+    PORT_ONE_IS_SERVED,
+    PORT_TWO_HEARS_PORT_3,
+    Row::Ticks(19),
+    Row::Status(1, PortStatus::WaitingForMembers),
+    Row::Distributing(1, &[]),
+];
+
+/// Port 2 rests for 20 ticks; then it goes on, and port 1 stays.
+const COMES_UP: [Row<'static>; 10] = [
+    PORT_ONE_IS_SERVED,
+    PORT_TWO_HEARS_PORT_2,
+    Row::Ticks(19),
+    Row::Distributing(1, &[]),
+    Row::Ticks(1),
+    Row::Distributing(1, &[1, 2]),
+    PORT_ONE_IS_SERVED,
+    PORT_TWO_HEARS_PORT_3,
+    Row::Ticks(19),
+    Row::Distributing(1, &[1]),
+];
+
+#[test]
+fn a_port_waits_for_another_that_begins_anew_for_ever(rt: HostRuntime) -> Result<(), SystemFault> {
+    let mut rows = joined(rt.alloc(), &[&STARTS])?;
+    for _ in 0..8 {
+        rows.extend_from_slice(&STARVES)?;
+    }
+    rows.extend_from_slice(&COMES_UP)?;
+    let given = config(rt.alloc(), &[1, 2], 1)?;
+    plays(&rt, rt.alloc(), given, "one that begins anew", &rows)
 }
