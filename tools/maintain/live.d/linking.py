@@ -188,11 +188,6 @@ def build_kernel(folder: str, libraries: Sequence[str]) -> str:
     return build(os.path.join(folder, "programs"), sources, [*libraries, *linked], *words)
 
 
-def build_threads(folder: str, libraries: Sequence[str]) -> str:
-    """Builds the threads that call handles; answers the path of the program."""
-    return build(os.path.join(folder, "threads"), [f"{MAINTAIN}/live.d/threads.c"], libraries, *STRICT, "-g", "-pthread")
-
-
 def build_minimal(folder: str, libraries: Sequence[str]) -> str:
     """Builds the example of one port, with ASan and UBSan; answers its path."""
     return build(os.path.join(folder, "minimal"), [os.path.join(EXAMPLES, "minimal.c")], libraries, *STRICT, *SANITIZED)
