@@ -88,7 +88,7 @@ def log_of(name: str) -> str:
     return os.path.join(LOGS, name.replace("/", "-"))
 
 
-# The parts that run, for the processes that are forked from this one.
+# What runs parts, for them and for the processes that are forked from this one.
 RUNNING: list[Running] = []
 
 
@@ -106,10 +106,8 @@ def beside(name: str) -> Told:
 
 
 class Part(pytest.Item):
-    running: Running
-
     def runtest(self) -> None:
-        told = self.running.told(self.name)
+        told = RUNNING[0].told(self.name)
         if told.failed:
             pytest.fail("\n".join(told.failed), pytrace=False)
         if told.skipped:
@@ -117,12 +115,9 @@ class Part(pytest.Item):
 
 
 class Parts(pytest.File):
-    running: Running
-
     def collect(self) -> Iterator[Part]:
-        for name in self.running.parts:
+        for name in RUNNING[0].parts:
             made: Part = Part.from_parent(self, name=name)
-            made.running = self.running
             yield made
 
 
@@ -148,7 +143,6 @@ class Running:
 
     def pytest_collect_file(self, file_path: Path, parent: pytest.Collector) -> Parts:
         made: Parts = Parts.from_parent(parent, path=file_path)
-        made.running = self
         return made
 
     def pytest_runtestloop(self, session: pytest.Session) -> None:
@@ -173,7 +167,6 @@ class Running:
             items.sort(key=lambda it: it.name in self.alone)
             os.makedirs(LOGS, exist_ok=True)
             sys.stdout.flush()
-            RUNNING[:] = [self]
             self.pool = ProcessPoolExecutor(self.jobs, multiprocessing.get_context("fork"))
             self.waits = {it.name: self.pool.submit(beside, it.name) for it in items if it.name not in self.alone}
 
@@ -201,6 +194,7 @@ def run_parts(parts: Mapping[str, Callable[[T], object]], prepare: Callable[[lis
     """Runs the parts that words name, or all, with what `prepare` makes of their names; prints what `after` makes of their answers, and the last line. Answers
     the status."""
     running = Running(parts, prepare, chosen, jobs, alone)
+    RUNNING[:] = [running]
     own = ["-q", "-s", "-rN", "--tb=no", "--noconftest", "-c", os.devnull, f"--rootdir={TOP}", "-o", f"cache_dir={LOGS}/pytest"]
     try:
         status = pytest.main([*own, os.path.realpath(sys.argv[0]), *words], plugins=[running])
