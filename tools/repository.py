@@ -96,6 +96,14 @@ def kernel_programs(name: str = "programs", sources: str = "kernel") -> str:
     return os.path.join(daemon, "out")
 
 
+def with_pytest() -> str:
+    """A Python that has pytest."""
+    for name in filter(None, (os.environ.get("PYTHON"), sys.executable, "/usr/bin/python3")):
+        if shutil.which(name) and not subprocess.run([name, "-c", "import pytest"], capture_output=True).returncode:
+            return name
+    raise Missing("no Python here has pytest (Debian: python3-pytest); PYTHON may name one")
+
+
 def runtime() -> str:
     """The C part of the toolchain, with which the C library is linked."""
     return os.path.join(kit(), "c", "liblibc_c.a")

@@ -176,7 +176,7 @@ def fast_requeued(programs: Programs) -> None:
         check(changes() == before, "its carrier stays on meanwhile", before, changes(), ours.printed())
         check_order(run_flows(programs, 3, every(1, 2, move_all(ours))), "by the kernel on both links again", ours.text())
         passed = [port["data"]["passed_on"] for port in ours.told()["ports"]]
-        check(min(passed) > 0, f"the kernel passed on {passed}", ours.text())
+        check(min(passed) > 0 and ours.printed().count(line) == 1, f"the kernel passed on {passed}", ours.text(), ours.printed())
         ours.ends("the daemon")
         check(inside(OURS, "ethtool", "-l", "a0").stdout == had, "it has the queues back that it had before the daemon", had)
 

@@ -16,14 +16,11 @@ from functools import partial
 from threading import Event, Thread, Timer
 from typing import Callable, Iterator, Sequence
 
-from beside import print_rows, switch_ends
-from booted import BOOTS, Machine
-from bonds import (COMES_BACK, COMES_UP, DEVICE, DIRECT, FLIGHT, FLOWS, LATE, MIDDLE, RATE, End, Outcome, Programs, ask_gro, cables, check_none_lost,
+from bonds import (COMES_BACK, COMES_UP, DEVICE, DIRECT, FLOWS, LATE, MIDDLE, RATE, End, Outcome, Programs, ask_gro, cables, check_none_lost,
                    check_order, late, lay_direct, move_all, run_flows, wait_for_links)
-from checking import Failed, Skipped, check, found, within
-from daemon import ENDS, SYSTEM, Daemon, Part
+from checking import Failed, check, found, within
+from daemon import ENDS, SYSTEM, Daemon
 from linking import want_systemd
-from openvswitch import OpenVSwitch
 from repository import read_text
 from spaces import OURS, THEIRS, inside, ip
 
@@ -475,99 +472,5 @@ def handover_old_kernel(programs: Programs) -> None:
         check(carrier == "0", "an old kernel: there is no carrier where the peer is gone", carrier, kept.text())
 
 
-BUNDLE = f"[Bundle]\nkey=23\nsystem=32768,{SYSTEM}\ncarry={DEVICE}\nflight={FLIGHT}\n%s[Port a0]\n[Port a1]\n"
-
-
-@contextlib.contextmanager
-def unit(programs: Programs, words: str) -> Iterator[tuple[Machine, End]]:
-    """Our daemon as a unit of systemd, and its peer."""
-    folder = os.path.join(programs.folder, f"unit{len(words)}")
-    os.mkdir(folder)
-    with cables(programs, ()):
-        for name in "a0", "a1":
-            inside(OURS, "sh", "-c", f"echo 1 > /sys/class/net/{name}/queues/rx-0/rps_cpus")
-        machine = Machine(Part(programs.daemon, folder), BUNDLE % words)
-        theirs = End(programs, THEIRS)
-        try:
-            if not within(BOOTS, lambda: inside(OURS, "ip", "link", "set", DEVICE, "up").returncode == 0):
-                raise Skipped(f"systemd does not run the unit here: {machine.told()[-1500:]}")
-            if not within(BOOTS, lambda: machine.property("StatusText") == "up, 2 of 2 links carry" and theirs.links() == DIRECT):
-                raise Failed(f"{words}: both links of the unit carry", machine.told())
-            yield machine, theirs
-        finally:
-            theirs.kill()
-            machine.process.send_signal(signal.SIGKILL)
-            machine.close()
-
-
-def unit_of(programs: Programs, name: str, words: str) -> None:
-    with unit(programs, words) as (machine, theirs):
-        before = seen(theirs), device_number()
-        events = (("restarted", ("restart", "lagd@uplink"), 0), ("killed", ("kill", "--signal=SIGKILL", "lagd@uplink"), IN_HAND))
-        for what, command, most in events:
-            main = machine.main()
-            outcome = flows_through(programs, partial(machine.run, "systemctl", *command), SLOW_RATE)
-            text = f"{name}, {what} under systemd"
-            check_order(outcome, text, machine.told())
-            unseen = (seen(theirs), device_number()) == before and machine.main() != main
-            if outcome.waited >= LATE and (outcome.lost() > most or not unseen):
-                print(f"inconclusive: {text}: {outcome.lost()} frames are lost; systemd and daemons waited {outcome.waited:.1f} s for a processor", flush=True)
-                within(BOOTS, lambda: theirs.links() == DIRECT)
-                before = seen(theirs), device_number()
-                continue
-            check(outcome.lost() <= most, f"{text}: {outcome.lost()} frames are lost, {most} at most", outcome, machine.told())
-            if "fast" in words:
-                passed = found(r"conversations of the kernel: (\d+)", machine.tells("lagd", "--status"))
-                check(int(passed) >= FLOWS // 2, f"{text}: the kernel passes {passed} conversations on", machine.told())
-            check(unseen, f"{text}: the peer saw nothing, and {DEVICE} is the same device", machine.told())
-        machine.run("systemctl", "stop", "lagd@uplink")
-        check(within(ENDS, lambda: theirs.links() == 0 and device_number() == ""), f"{name}, stopped: the peer is told, and the device goes", machine.told())
-
-
-def handover_unit(programs: Programs) -> None:
-    """The unit under systemd itself is restarted, killed and stopped."""
-    unit_of(programs, "plain", "")
-    unit_of(programs, "fast", "fast=yes\n")
-
-
-HEADINGS = ("way", "frames", "lost", "overtaken", "longest gap, ms")
-
-
-def row(name: str, outcome: Outcome) -> list[str]:
-    """A row of the table. Where the device went, none of its frames came again."""
-    gap = f"{outcome.gap_ms:,}" if "stopped and started" not in name or "Open" in name else "to the end"
-    return [name, *(f"{count:,}" for count in (outcome.sent, outcome.lost(), outcome.overtaken)), gap]
-
-
-def measure(programs: Programs, name: str, words: Sequence[str]) -> list[list[str]]:
-    """The rows of one way, by how its daemon ends."""
-    with managed(programs, words) as (ours, _):
-        events = {"handed over": lambda: ours.again(signal.SIGUSR1), f"killed, and started after {RESTARTS} s": lambda: ours.again(signal.SIGKILL, RESTARTS),
-                  "stopped and started": lambda: ours.again(signal.SIGTERM)}
-        return [row(f"lagd {name}, {what}", flows_through(programs, event)) for what, event in events.items()]
-
-
-def start_again(end: OpenVSwitch) -> None:
-    """Its switch ends, and is started again; its database runs on."""
-    switch = end.running.pop()
-    switch.terminate()
-    switch.wait(ENDS)
-    end.launch("ovs-vswitchd", f"--unixctl={end.folder}/switch.ctl", f"unix:{end.folder}/db.sock")
-    within(ENDS, lambda: inside(OURS, "ip", "link", "set", "br0", "txqueuelen", "4096", "up").returncode == 0)
-
-
-def print_restarts(programs: Programs) -> None:
-    rows = [cells for name, words in WAYS.items() for cells in measure(programs, name, words)]
-    try:
-        with switch_ends(programs, ()) as (_, ends):
-            outcome = run_flows(programs, 8, [(1.5, lambda: start_again(ends[1]))], devices=("br0", "br0"))
-            rows.append(row(f"Open vSwitch {ends[0].version()}, stopped and started, at the receiving end", outcome))
-    except Skipped as why:
-        print(f"skipped: Open vSwitch: {why}", flush=True)
-    print(f"{FLOWS} flows, {RATE:,} frames a second, two pairs of interfaces; the daemon of the sending end")
-    print_rows(HEADINGS, rows)
-    check(all(cells[2] == "0" for cells in rows if "handed over" in cells[0]), "a daemon that hands over loses no frame")
-
-
 PARTS = {it.__name__: it for it in (handover_plain, handover_offload, handover_fast, handover_alone, handover_changes, handover_released, killed_in_moves,
-                                   handover_elsewhere, handover_anew, handover_foreign, handover_old_kernel, handover_unit, handed_twice)}
+                                   handover_elsewhere, handover_anew, handover_foreign, handover_old_kernel, handed_twice)}

@@ -164,20 +164,6 @@ def fast_queues(programs: Programs) -> None:
         check(within(FOLLOWS, lambda: "its data may go by the kernel" in ours.printed()), "one that holds none has a line", ours.printed())
         time.sleep(1)
         check_alive(programs, ours, "with pfifo")
-        set_queue("a1", "pfifo_fast")
-        line = "a1: its data stays with the daemon: its queueing discipline is neither noqueue, bfifo nor pfifo"
-        check(within(FOLLOWS, lambda: line in ours.printed()), "a member that gets pfifo_fast is left to the daemon", ours.printed())
-        before = [port["data"]["passed_on"] for port in ours.told()["ports"]]
-        check_order(run_flows(programs, 3, [(1, move_all(ours))]), "by the kernel on one link, by the daemon on the other", ours.text())
-        passed = [port["data"]["passed_on"] - count for port, count in zip(ours.told()["ports"], before)]
-        check(passed[0] > 0 and passed[1] == 0, f"the kernel passed on {passed}", ours.text())
-        before_last = ours.printed().count("a1: its data stays")
-        inside(OURS, "tc", "qdisc", "del", "dev", "a1", "root")
-        time.sleep(1)
-        run_flows(programs, 3, [(0.5, move_all(ours)), (1.5, move_all(ours))])
-        passed_on = ours.told()["ports"][1]["data"]["passed_on"] - before[1]
-        check(passed_on > 0 and ours.printed().count("a1: its data stays") == before_last, f"with its usual one it passes on {passed_on:,} frames",
-              ours.text(), ours.printed())
 
 
 def mtu_of(device: str) -> str:

@@ -8,6 +8,8 @@ import time
 from typing import Any, Callable
 
 counted = {"passed": 0, "failed": 0}
+# What each check that failed says.
+failures: list[str] = []
 
 
 class Failed(Exception):
@@ -22,6 +24,8 @@ def check(holds: object, what: str, *told: object) -> None:
     """Counts a check; what is told beside it is printed where it fails."""
     counted["passed" if holds else "failed"] += 1
     lines = [] if holds else [str(text).strip() for text in told if str(text).strip()]
+    if not holds:
+        failures.append("\n  ".join([what, *lines]))
     print(f"{'passed' if holds else 'FAILED'}: {what}", *lines, sep="\n  ", flush=True)
 
 

@@ -445,22 +445,6 @@ def limit(part: Part) -> None:
     check(within(COMES_UP, lambda: ours.distributes("a1") and theirs.distributes("b1")), "it takes over", ours.text())
 
 
-def not_root(part: Part) -> None:
-    """A daemon with the capability for raw sockets alone, and a folder that it may write."""
-    words = ["setpriv", "--reuid", NOBODY, "--regid", NOBODY, "--clear-groups", "--inh-caps=-all,+net_raw", "--ambient-caps=-all,+net_raw"]
-    if inside(OURS, *words, "true").returncode:
-        raise Skipped("no command setpriv (Debian: util-linux)")
-    os.chmod(part.folder, 0o755)
-    part.folder = os.path.join(part.folder, "not-root")
-    os.makedirs(os.path.join(part.folder, "run"))
-    os.chown(os.path.join(part.folder, "run"), int(NOBODY), int(NOBODY))
-    ours = part.ours(before=words)
-    part.folder = os.path.dirname(part.folder)
-    both_up(ours, part.theirs(), "not as root, both links distribute")
-    found = [it.getsockopt(socket.SOL_SOCKET, socket.SO_PRIORITY) for it in sockets_of(ours.process.pid)]
-    check(found == [CONTROL, CONTROL], "its frames have the priority of control frames, too", found)
-
-
 def before_data(part: Part) -> None:
     """Its frames have the priority of control frames, and go into the first of three queues."""
     daemon = part.ours("a0")
@@ -475,24 +459,6 @@ def before_data(part: Part) -> None:
     told = inside(OURS, "tc", "-s", "class", "show", "dev", "a0").stdout
     sent = [int(count) for count in re.findall(r"Sent \d+ bytes (\d+) pkt", told)]
     check(len(sent) == 3 and sent[0] >= 2, "they go before data", told)
-
-
-def bond(part: Part) -> None:
-    command("modprobe", "bonding")
-    made = command("ip", "-n", THEIRS, "link", "add", "bond0", "type", "bond", "mode", "802.3ad", "miimon", "100", "lacp_rate", "fast")
-    if made.returncode:
-        raise Skipped(f"no bonding driver: {made.stderr.strip()}")
-    for place in (0, 1):
-        ip(THEIRS, "link", "set", f"b{place}", "down")
-        ip(THEIRS, "link", "set", f"b{place}", "master", "bond0")
-    ip(THEIRS, "link", "set", "bond0", "up")
-    daemon = part.ours()
-    check(within(COMES_UP, lambda: daemon.distributes("a0", "a1")), "bonding: both links come to distribute", daemon.text())
-    view = inside(THEIRS, "cat", "/proc/net/bonding/bond0").stdout.lower()
-    check(f"system mac address: {SYSTEM}" in view, "the driver names our system", view)
-    check(re.search(rf"details partner lacp pdu:.*?oper key: {KEY}\b", view, re.S), "the driver names our key", view)
-    check(re.search(r"number of ports: 2", view), "the driver has both links in one aggregator", view)
-    follow_link(daemon, "b1")
 
 
 PARTS = {
@@ -510,7 +476,5 @@ PARTS = {
     "lines that nobody reads": full_pipe,
     "options of ports": options,
     "a limit of links": limit,
-    "a daemon that is not root": not_root,
     "queues by priority": before_data,
-    "a daemon and the bonding driver": bond,
 }

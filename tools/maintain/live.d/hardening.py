@@ -342,14 +342,6 @@ def false_socket(part: Part) -> None:
     check(told.stdout == "\\x1b]0;x\\x07\\x9b31m\n", "what a false daemon says is only shown", repr(told.stdout), told.stderr)
 
 
-def two_folders(part: Part) -> None:
-    """A second daemon with another folder does not take an interface that one has."""
-    part.alone()
-    ended = inside(OURS, "timeout", "3", part.program, "--folder", os.path.join(part.folder, "other"), "9", f"32768,{OTHER}", "a0")
-    wanted = f"another lagd has the interface, one of user 0: a0"
-    check(ended.returncode == 1 and wanted in ended.stderr, "a second daemon with another folder is refused", ended.returncode, ended.stderr)
-
-
 def other_names(part: Part) -> None:
     """An interface by one of its alternative names."""
     made = inside(OURS, "ip", "link", "property", "add", "dev", "a0", "altname", "thefirstinterfacebyitslongname")
@@ -395,7 +387,6 @@ PARTS = {
     "folders of others": folders,
     "FIFOs in the folder": fifos,
     "a false daemon": false_socket,
-    "two folders": two_folders,
     "alternative names": other_names,
     "one interface by two names": name_twice,
     "a log that may not grow": full_log,

@@ -15,9 +15,9 @@ from typing import Callable, Mapping, Sequence
 
 from checking import Skipped, check, command, within
 from daemon import ENDS, KEY, OTHER, SYSTEM, Daemon, Part
-from daemons import COMES_UP, GOES_DOWN, NOBODY, STRANGER, both_up, pair_up
+from daemons import COMES_UP, CONTROL, GOES_DOWN, NOBODY, STRANGER, both_up, pair_up
 from repository import TOP, daemon_words, read_text, write_text
-from spaces import OURS, THEIRS, Wire, flap, inside, ip, make_pair
+from spaces import OURS, THEIRS, Wire, flap, inside, ip, make_pair, sockets_of
 
 UNIT = os.path.join(TOP, "lagd", "lagd@.service")
 # Where the journal listens, and a line that it gets.
@@ -667,6 +667,8 @@ def unit(part: Part) -> None:
     part.folder = os.path.join(part.folder, "theirs")
     os.mkdir(part.folder)
     both_up(ours, part.theirs(), "with the rights of the unit both links distribute")
+    found = [it.getsockopt(socket.SOL_SOCKET, socket.SO_PRIORITY) for it in sockets_of(ours.process.pid)]
+    check(found == [CONTROL, CONTROL], "its frames have the priority of control frames, too", found)
     ours.ends("the daemon")
     shutil.rmtree(run)  # what the daemons of other parts have is root's
 

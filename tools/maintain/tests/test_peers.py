@@ -1,31 +1,61 @@
-"""tools/maintain/peers: a peer that there is not, and a trial that does not run to its end."""
+"""tools/maintain/peers and tools/maintain/system_tests.py: parts that are chosen, skipped, and that do not run to their end."""
 
 from __future__ import annotations
 
+import signal
 import subprocess
 import sys
+import time
+from pathlib import Path
 
 import pytest
 
 import loading
-from repository import Missing
 
 peers = loading.program("peers")
+system_tests = peers.system_tests
+# A tool of three parts, of which one fails.
+TOOL = """
+import sys, time
+sys.path[:0] = [{maintain!r}, {maintain!r} + "/live.d", {maintain!r} + "/.."]
+import system_tests
+from checking import Skipped, check
+from repository import run
+
+def skips(shared):
+    raise Skipped("it is not installed")
+
+def waits(shared):
+    try:
+        print("it waits", flush=True)
+        time.sleep(60)
+    finally:
+        print("it is done", flush=True)
+
+parts = {{"good": lambda shared: check(shared, "it holds"), "bad one": lambda shared: check(not shared, "it holds not"), "skips": skips, "waits": waits}}
+
+def main():
+    words = system_tests.reads(__doc__, parts).parse_known_args()[1]
+    jobs = int(words.pop(0)) if words and words[0].isdigit() else 1
+    return system_tests.run_parts(parts, lambda names: True, words, chosen=lambda names: names or list(parts)[:3], jobs=jobs)
+
+run(main)
+"""
 
 
 @pytest.fixture
-def counted(monkeypatch: pytest.MonkeyPatch) -> dict[str, int]:
-    """The counts of checks, from 0 in each test."""
-    for name in ("passed", "failed"):
-        monkeypatch.setitem(peers.counted, name, 0)
-    counts: dict[str, int] = peers.counted
-    return counts
+def tool(tmp_path: Path, monkeypatch: pytest.MonkeyPatch) -> Path:
+    monkeypatch.delenv("PYTEST_ADDOPTS", raising=False)
+    path = tmp_path / "tried"
+    path.write_text(TOOL.format(maintain=loading.MAINTAIN))
+    return path
 
 
-def test_a_peer_that_there_is_not_is_refused(monkeypatch: pytest.MonkeyPatch) -> None:
-    monkeypatch.setattr(sys, "argv", ["peers", "teamd", "nobody"])
-    with pytest.raises(Missing, match="no peer nobody: openvswitch, testpmd, teamd, bonding"):
-        peers.read_words()
+def ran(tool: Path, *words: str) -> tuple[int, list[str]]:
+    """How the tool ends, and the lines of its parts with its last one."""
+    ended = subprocess.run([sys.executable, tool, *words], capture_output=True, text=True, timeout=50)
+    lines = ended.stdout.splitlines()
+    return ended.returncode, [it for it in lines[:-1] if it.startswith(("passed: ", "FAILED: ", "skipped: "))] + lines[-1:]
 
 
 def test_each_flow_is_a_frame_of_its_own() -> None:
@@ -33,21 +63,37 @@ def test_each_flow_is_a_frame_of_its_own() -> None:
     assert len(set(frames)) == len(frames) == 64 and {it[12:14] for it in frames} == {b"\x08\x00"}
 
 
-def test_a_peer_that_cannot_be_had_is_skipped(counted: dict[str, int], capsys: pytest.CaptureFixture[str]) -> None:
-    def trial() -> list[str]:
-        raise peers.Skipped("it is not installed")
+@pytest.mark.parametrize("jobs", [(), ("2",)])
+def test_parts_are_chosen_repeated_and_told_of(tool: Path, tmp_path: Path, jobs: tuple[str, ...]) -> None:
+    skipped, failed = "skipped: skips: it is not installed", "FAILED: it holds not"
+    assert ran(tool, "--list") == (0, ["waits"])
+    assert ran(tool, *jobs, f"--junitxml={tmp_path}/junit.xml") == (1, ["passed: it holds", failed, skipped, "1 passed, 1 failed"])
+    assert 'errors="0" failures="1" skipped="1" tests="3"' in (tmp_path / "junit.xml").read_text()
+    assert ran(tool, *jobs, "--lf") == (1, [failed, "0 passed, 1 failed"])
+    assert ran(tool, *jobs, "skips", "good", "-k", "not waits") == (0, [skipped, "passed: it holds", "1 passed, 0 failed"])
+    assert ran(tool, *jobs, "-x", "bad one", "good") == (1, [failed, "0 passed, 1 failed"])
+    assert ran(tool, "nobody")[0] == ran(tool, "--nothing")[0] == 2
 
-    assert peers.attempt("teamd", trial) is None
-    assert capsys.readouterr().out == "skipped: teamd: it is not installed\n"
-    assert counted == {"passed": 0, "failed": 0}
+
+@pytest.mark.parametrize("number", [signal.SIGTERM, signal.SIGINT])
+def test_a_signal_ends_a_part_by_what_it_does_at_its_end(tool: Path, number: signal.Signals) -> None:
+    with subprocess.Popen([sys.executable, tool, "waits", "good"], stdout=subprocess.PIPE, text=True) as process:
+        assert process.stdout and [process.stdout.readline() for _ in range(2)] == ["waits:\n", "it waits\n"]
+        began = time.monotonic()
+        process.send_signal(number)
+        told = process.stdout.read()
+    assert time.monotonic() - began < 30 and "it is done" in told and "it holds" not in told and process.returncode == 128 + number
 
 
 @pytest.mark.parametrize(
-    "why", [peers.Failed("its link stays down", "0 LACPDUs"), KeyError("port"), ValueError("no number"), subprocess.SubprocessError("ended")]
+    "why", [peers.system_tests.Failed("its link stays down", "0 LACPDUs"), KeyError("port"), ValueError("no number"), subprocess.SubprocessError("ended")]
 )
-def test_a_trial_that_does_not_run_to_its_end_fails(counted: dict[str, int], why: Exception) -> None:
-    def trial() -> list[str]:
+def test_a_trial_that_does_not_run_to_its_end_fails(monkeypatch: pytest.MonkeyPatch, why: Exception) -> None:
+    for name in ("passed", "failed"):
+        monkeypatch.setitem(system_tests.counted, name, 0)
+
+    def trial(_: object) -> list[str]:
         raise why
 
-    assert peers.attempt("teamd", trial) is None
-    assert counted == {"passed": 0, "failed": 1}
+    told = system_tests.attempt("teamd", trial, None)
+    assert len(told.failed) == 1 and told.answer is None and system_tests.counted == {"passed": 0, "failed": 1}
